@@ -1,0 +1,227 @@
+-- Why no sum over a ledger leaves its type.
+use Rattle.std.proofs.Common.{◌≡◌, ℕ, suc, ◌+◌, ◌*◌, ◌≤◌, ◌<◌, Bool, true, false, List, [], ◌∷◌, ◌++◌, length, arith, refl, ap, sym, subst, ◌∙◌, length-append, Option, Some, None}
+use Rattle.std.specs.Prelude.{not, ◌-◌, ◌^◌, zero, slice_get, map, fold, ◌==◌, ◌&&◌, if◌then◌else◌}
+use Rattle.std.specs.List.{filter_map, cons_option, range_with_len}
+use Rattle.std.proofs.Common.{ℤ, pos, ◌+ℤ◌, ◌-ℤ◌, to_z, of_z, w64, FitsSigned}
+use Rattle.std.proofs.lemmas.Int.{ints}
+use Rattle.std.proofs.lemmas.Bool.{and_parts, leb-true}
+use Rattle.std.proofs.lemmas.List.Sums.{sum_by-le-sum_by, sum_by_push, length-filter, count_by-le-length, fold-append}
+use Rattle.std.proofs.lemmas.List.{length-map}
+use Rattle.std.proofs.lemmas.List.FromFn.{map-range_with_len_more}
+use Rattle.std.proofs.lemmas.Option.{slice_get-map, slice_get_within}
+use Rattle.std.specs.Option.{option_map}
+use Rattle.pvp_types.proofs.Lists.{flat_map-range_with_len_more}
+use Rattle.pvp_types.specs.declared.setup.Setup.{Setup}
+use Rattle.pvp_types.specs.declared.command.Cmd.{Cmd}
+use Rattle.pvp_types.specs.declared.command.PayOrder.{PayOrder}
+use Rattle.pvp_types.specs.declared.command.Reply.{Reply}
+use Rattle.pvp_types.specs.declared.command.Reply.TheVariants.{No}
+use Rattle.pvp_types.specs.declared.command.Reason.TheVariants.{NotYours, UnknownMember, UnknownCurrency, BadAmount}
+use Rattle.pvp_types.specs.declared.command.Cmd.TheVariants.{Fund, PayOut, Paid}
+use Rattle.pvp_book.specs.declared.entry.Entry.{Entry}
+use Rattle.pvp_book.specs.Ledger.{Ledger, IsLedger, most_amount, most_total, IsWithin, amount_of, total, node_of, paid_in_to, paid_out_of, pay_ins, pay_outs, order_by, orders, open_orders, has_payment, balance, sum_of_balances, outstanding_in, outstanding_from}
+use Rattle.pvp_book.specs.Answer.{answer, answer_to, on_fund, on_pay_out, has_currency, has_member, is_member_number, is_refusal, is_amount}
+
+at_most : (b : Bool) (n : ℕ) → (if b then n else 0) ≤ n
+at_most true n = omega arith
+at_most false n = omega arith
+
+paid_in_to-le : (m c : ℕ) (cmd : Cmd) → paid_in_to m c cmd ≤ amount_of cmd
+paid_in_to-le m c (Fund ccy pay member amt) = at_most ((member == m) && (ccy == c)) amt
+paid_in_to-le m c (PayOut ccy amt) = omega arith
+paid_in_to-le m c (Paid ccy out) = omega arith
+
+paid_out_of-le : (m c client : ℕ) (cmd : Cmd) → paid_out_of m c client cmd ≤ amount_of cmd
+paid_out_of-le m c client (Fund ccy pay member amt) = omega arith
+paid_out_of-le m c client (PayOut ccy amt) = at_most ((client == m) && (ccy == c)) amt
+paid_out_of-le m c client (Paid ccy out) = omega arith
+
+pub total-le : (held : Ledger) → IsLedger held → total held.entries ≤ most_total
+total-le held is =
+    let few : held.applied ≤ 65535 = is.few in
+    let small : total held.entries ≤ held.applied * 1000000000000 = is.small in
+    omega arith
+
+pub pay_ins-le : (entries : List Entry) (m c : ℕ) → total entries ≤ most_total → pay_ins entries m c ≤ most_total
+pay_ins-le entries m c small =
+    let part = sum_by-le-sum_by (λ (e : Entry). paid_in_to m c e.cmd) (λ e. amount_of e.cmd) entries (λ e. paid_in_to-le m c e.cmd) in
+    omega arith
+
+pub pay_outs-le : (entries : List Entry) (m c : ℕ) → total entries ≤ most_total → pay_outs entries m c ≤ most_total
+pay_outs-le entries m c small =
+    let part = sum_by-le-sum_by (λ (e : Entry). paid_out_of m c e.client e.cmd) (λ e. amount_of e.cmd) entries (λ e. paid_out_of-le m c e.client e.cmd) in
+    omega arith
+
+length-cons_option-le : {Y : Type 0} (o : Option Y) (ys : List Y) → length (cons_option o ys) ≤ length ys + 1
+length-cons_option-le None ys = omega arith
+length-cons_option-le (Some y) ys = omega arith
+
+length-filter_map-le : {X Y : Type 0} (f : X → Option Y) (xs : List X) → length (filter_map f xs) ≤ length xs
+length-filter_map-le f [] = omega arith
+length-filter_map-le f (x ∷ xs) =
+    let rest = length-filter_map-le f xs in
+    let one = length-cons_option-le (f x) (filter_map f xs) in
+    omega arith
+
+pub orders-few : (held : Ledger) → IsLedger held → (c : ℕ) → length (orders held.entries c) ≤ held.applied
+orders-few held is c =
+    let fewer : length held.entries ≤ held.applied = is.fewer in
+    let part = length-filter_map-le (λ (e : Entry). order_by c e.client e.cmd e.reply) held.entries in
+    omega arith
+
+amount-small : (amt : ℕ) → is_amount amt ≡ true → amt ≤ most_amount
+amount-small amt e = leb-true _ _ (and_parts _ _ e).1
+
+fund-small : (setup : Setup) (entries : List Entry) (client c pay member amt : ℕ)
+    → is_refusal (on_fund setup entries client c pay member amt) ≡ false → amt ≤ most_amount
+fund-small setup entries client c pay member amt e =
+    amount-small amt (cases (client == node_of c) (has_currency setup c && has_member setup member) (is_amount amt) _ e)
+  where
+    cases : (yours known small : Bool) (rest : Reply)
+        → is_refusal (if not yours then No NotYours else if not known then No UnknownMember else if not small then No BadAmount else rest) ≡ false
+        → small ≡ true
+    cases true true true rest e = refl
+    cases true true false rest e = absurd (cc)
+    cases true false small rest e = absurd (cc)
+    cases false known small rest e = absurd (cc)
+
+pay_out-small : (setup : Setup) (entries : List Entry) (client c amt : ℕ)
+    → is_refusal (on_pay_out setup entries client c amt) ≡ false → amt ≤ most_amount
+pay_out-small setup entries client c amt e =
+    amount-small amt (cases (is_member_number client) (has_member setup client) (has_currency setup c) (is_amount amt) _ e)
+  where
+    cases : (yours member currency small : Bool) (rest : Reply)
+        → is_refusal (if not yours then No NotYours else if not member then No UnknownMember else if not currency then No UnknownCurrency else if not small then No BadAmount else rest) ≡ false
+        → small ≡ true
+    cases true true true true rest e = refl
+    cases true true true false rest e = absurd (cc)
+    cases true true false small rest e = absurd (cc)
+    cases true false currency small rest e = absurd (cc)
+    cases false member currency small rest e = absurd (cc)
+
+-- a command that is not refused names no greater amount
+accepted-small : (setup : Setup) (entries : List Entry) (client : ℕ) (cmd : Cmd)
+    → is_refusal (answer setup entries client cmd) ≡ false → amount_of cmd ≤ most_amount
+unfolding answer
+accepted-small setup entries client (Fund ccy pay member amt) e = fund-small setup entries client ccy pay member amt e
+accepted-small setup entries client (PayOut ccy amt) e = pay_out-small setup entries client ccy amt e
+accepted-small setup entries client (Paid ccy out) e = omega arith
+
+-- a refusal keeps a ledger
+pub IsLedger-refused : (held : Ledger) → IsLedger held → held.applied < 65535
+    → IsLedger (record { setup = held.setup; entries = held.entries; applied = held.applied + 1 })
+IsLedger-refused held is room =
+    let small : total held.entries ≤ held.applied * 1000000000000 = is.small in
+    let fewer : length held.entries ≤ held.applied = is.fewer in
+    record { valid = is.valid; few = omega arith; small = omega arith; fewer = omega arith }
+
+-- and so does an entry
+pub IsLedger-accepted : (held : Ledger) (client : ℕ) (cmd : Cmd) (reply : Reply) → IsLedger held → held.applied < 65535
+    → reply ≡ answer_to held client cmd → is_refusal reply ≡ false
+    → IsLedger (record { setup = held.setup; entries = held.entries ++ record { client = client; cmd = cmd; reply = reply } ∷ []; applied = held.applied + 1 })
+IsLedger-accepted held client cmd reply is room answered accepted =
+    let amount : amount_of cmd ≤ 1000000000000 = accepted-small held.setup held.entries client cmd (ap is_refusal (sym answered) ∙ accepted) in
+    let small : total held.entries ≤ held.applied * 1000000000000 = is.small in
+    let fewer : length held.entries ≤ held.applied = is.fewer in
+    let pushed = sum_by_push (λ (e : Entry). amount_of e.cmd) held.entries (record { client = client; cmd = cmd; reply = reply }) in
+    record { valid = is.valid; few = omega arith; small = omega arith; fewer = simp length-append (omega arith) }
+
+-- a difference of small numbers is the same in the type
+pub difference : (a b : ℕ) → a ≤ most_total → b ≤ most_total → to_z w64 (of_z w64 (to_z w64 a -ℤ to_z w64 b)) ≡ pos a -ℤ pos b
+difference a b small_a small_b = omega (arith, ints)
+
+pub difference-fits : (a b : ℕ) → a ≤ most_total → b ≤ most_total → FitsSigned w64 (to_z w64 a -ℤ to_z w64 b)
+difference-fits a b small_a small_b = omega (arith, ints)
+
+-- and it is small
+pub difference-small : (a b : ℕ) → a ≤ most_total → b ≤ most_total → IsWithin most_total (pos a -ℤ pos b)
+difference-small a b small_a small_b = record { above = omega (arith, ints); below = omega (arith, ints) }
+
+-- one more small number
+sum-more : (n : ℕ) (so_far more : ℤ) → n < 64 → IsWithin (n * most_total) so_far → IsWithin most_total more
+    → (to_z w64 (of_z w64 (so_far +ℤ to_z w64 (of_z w64 more))) ≡ so_far +ℤ more) × IsWithin ((n + 1) * most_total) (so_far +ℤ more)
+sum-more n so_far more few small one =
+    let above = small.above in
+    let below = small.below in
+    let above_one = one.above in
+    let below_one = one.below in
+    (omega (arith, ints), record { above = omega (arith, ints); below = omega (arith, ints) })
+
+-- the next member's balance
+sum_of_balances-more : (entries : List Entry) (n c : ℕ)
+    → sum_of_balances (n + 1) entries c ≡ sum_of_balances n entries c +ℤ balance entries (n + 1) c
+sum_of_balances-more entries n c =
+    ap (fold ◌+ℤ◌ (pos 0)) (map-range_with_len_more (λ m. balance entries m c) 1 n (n + 1) (omega arith))
+    ∙ fold-append ◌+ℤ◌ (pos 0) (map (λ m. balance entries m c) (range_with_len 1 n)) (balance entries (n + 1) c ∷ [])
+
+-- what is added up so far, and that it is small
+pub record IsSum (entries : List Entry) (n c : ℕ) (sum : ℤ) : Type 0 where
+  pub so_far : sum ≡ sum_of_balances n entries c
+  pub small : IsWithin (n * most_total) sum
+
+pub IsSum-more : (entries : List Entry) (n c : ℕ) (sum more : ℤ) → n < 64 → IsSum entries n c sum
+    → more ≡ balance entries (n + 1) c → IsWithin most_total more
+    → IsSum entries (n + 1) c (to_z w64 (of_z w64 (sum +ℤ to_z w64 (of_z w64 more))))
+IsSum-more entries n c sum more few is value small =
+    let step = sum-more n sum more few is.small small in
+    record {
+      so_far = step.0 ∙ ap (λ s. s +ℤ more) is.so_far ∙ ap (λ m. sum_of_balances n entries c +ℤ m) value ∙ sym (sum_of_balances-more entries n c);
+      small = subst (IsWithin ((n + 1) * most_total)) (sym step.0) step.1;
+    }
+
+pub length-open-le : (entries : List Entry) (c : ℕ) → length (open_orders entries c) ≤ length entries
+length-open-le entries c =
+    let made = length-filter_map-le (λ (e : Entry). order_by c e.client e.cmd e.reply) entries in
+    let unpaid = length-filter (λ (order : PayOrder). not (has_payment entries c order.out)) (orders entries c) in
+    let part = count_by-le-length (λ (order : PayOrder). not (has_payment entries c order.out)) (orders entries c) in
+    omega arith
+
+pub open-fits : (entries : List Entry) (c : ℕ) → length entries ≤ 65535 → 0 + length (open_orders entries c) < 2 ^ 64
+open-fits entries c few = let part = length-open-le entries c in omega arith
+
+slice_get-left : {X : Type 0} (xs ys : List X) (i : ℕ) → i < length xs → slice_get (xs ++ ys) i ≡ slice_get xs i
+slice_get-left [] ys i h = absurd (omega arith)
+slice_get-left (x ∷ xs) ys zero h = refl
+slice_get-left (x ∷ xs) ys (suc i) h = slice_get-left xs ys i (omega arith)
+
+slice_get-right : {X : Type 0} (xs ys : List X) (i : ℕ) → length xs ≤ i → slice_get (xs ++ ys) i ≡ slice_get ys (i - length xs)
+slice_get-right [] ys i h = ap (slice_get ys) (omega arith)
+slice_get-right (x ∷ xs) ys zero h = absurd (omega arith)
+slice_get-right (x ∷ xs) ys (suc i) h = slice_get-right xs ys i (omega arith) ∙ ap (slice_get ys) (omega arith)
+
+-- an order of the first of the currencies
+pub outstanding-here : (entries : List Entry) (c n at : ℕ) (order : PayOrder) → 0 < n
+    → slice_get (open_orders entries c) at ≡ Some order
+    → slice_get (outstanding_from c n entries) at ≡ Some (node_of c, order)
+outstanding-here entries c zero at order some found = absurd (omega arith)
+outstanding-here entries c (suc n) at order some found =
+    let mapped = slice_get-map (λ (o : PayOrder). (node_of c, o)) (open_orders entries c) at
+    ∙ ap (option_map (λ (o : PayOrder). (node_of c, o))) found in
+    let within = slice_get_within (outstanding_in entries c) at (node_of c, order) mapped in
+    slice_get-left (outstanding_in entries c) (outstanding_from (c + 1) n entries) at within ∙ mapped
+
+-- an order of a later one
+pub outstanding-later : (entries : List Entry) (c n at : ℕ) → 0 < n → length (open_orders entries c) ≤ at
+    → slice_get (outstanding_from c n entries) at ≡ slice_get (outstanding_from (c + 1) (n - 1) entries) (at - length (open_orders entries c))
+outstanding-later entries c zero at some past = absurd (omega arith)
+outstanding-later entries c (suc n) at some past =
+    let same : length (outstanding_in entries c) ≡ length (open_orders entries c) =
+    length-map (open_orders entries c) (λ (o : PayOrder). (node_of c, o)) in
+    slice_get-right (outstanding_in entries c) (outstanding_from (c + 1) n entries) at (omega (arith, same))
+    ∙ ap (λ l. slice_get (outstanding_from (c + 1) n entries) (at - l)) same
+    ∙ ap (λ m. slice_get (outstanding_from (c + 1) m entries) (at - length (open_orders entries c))) (omega arith)
+
+-- no item stands at a place past the end alone
+pub past-end : {X : Type 0} (xs : List X) (i : ℕ) → slice_get xs i ≡ None → length xs ≤ i
+past-end [] i e = omega arith
+past-end (x ∷ xs) zero e = absurd (cc)
+past-end (x ∷ xs) (suc i) e = let rest = past-end xs i e in omega arith
+
+-- the orders of one more currency
+pub length-outstanding-more : (entries : List Entry) (n : ℕ)
+    → length (outstanding_from 0 (n + 1) entries) ≡ length (outstanding_from 0 n entries) + length (open_orders entries n)
+length-outstanding-more entries n =
+    let same : length (outstanding_in entries n) ≡ length (open_orders entries n) =
+    length-map (open_orders entries n) (λ (o : PayOrder). (node_of n, o)) in
+    let both = length-append (outstanding_from 0 n entries) (outstanding_in entries n) in
+    ap length (flat_map-range_with_len_more (outstanding_in entries) n) ∙ omega (arith, same, both)

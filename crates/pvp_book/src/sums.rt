@@ -1,0 +1,144 @@
+ghost use Rattle.std.specs.Prelude.{◌≡◌, ◌<◌, ◌≤◌, ◌^◌, length, sum_by};
+ghost use Rattle.std.specs.List.{list_any};
+ghost use Rattle.pvp_book.specs.Ledger.{node_of, balance, sum_of_balances, total, most_total, IsWithin, paid_in_to, paid_out_of, pay_ins, pay_outs, is_pay_in, has_pay_in, order_by, orders, is_payment, has_payment, open_orders};
+ghost use Rattle.pvp_book.specs.Answer.{has_order};
+
+use crate::entry::Entry;
+use pvp_types::{Cmd, PayOrder, Reply};
+
+/// The client number of a currency's node, less the currency's.
+const NODES: u16 = 101;
+
+/// The client number of a currency's node.
+pub fn node_of(c: u8) -> u16
+    ensures { result ≡ node_of c }
+{
+    NODES + u16::from(c)
+}
+
+/// What an entry pays in to a member in a currency.
+fn paid_in_to(entry: &Entry, m: u16, c: u8) -> u64
+    ensures { result ≡ paid_in_to m c entry.now.cmd }
+{
+    match entry.cmd {
+        Cmd::Fund {
+            ccy,
+            member,
+            amt,
+            ..
+        } if member == m && ccy == c => amt,
+        _ => 0,
+    }
+}
+
+/// What an entry pays out of a member in a currency.
+fn paid_out_of(entry: &Entry, m: u16, c: u8) -> u64
+    ensures { result ≡ paid_out_of m c entry.now.client entry.now.cmd }
+{
+    match entry.cmd {
+        Cmd::PayOut { ccy, amt } if entry.client == m && ccy == c => amt,
+        _ => 0,
+    }
+}
+
+/// The sum of a member's pay-ins in a currency.
+pub fn pay_ins(entries: &[Entry], m: u16, c: u8) -> u64
+    requires { pay_ins entries.now m c < 2 ^ 64 }
+    ensures { result ≡ pay_ins entries.now m c }
+{
+    entries.iter().map(|e| paid_in_to(e, m, c)).sum()
+}
+
+/// The sum of a member's pay-outs in a currency.
+pub fn pay_outs(entries: &[Entry], m: u16, c: u8) -> u64
+    requires { pay_outs entries.now m c < 2 ^ 64 }
+    ensures { result ≡ pay_outs entries.now m c }
+{
+    entries.iter().map(|e| paid_out_of(e, m, c)).sum()
+}
+
+/// A member's balance in a currency, in minor units.
+pub fn balance(entries: &[Entry], m: u16, c: u8) -> i64
+    requires { total entries.now ≤ most_total }
+    ensures value { result ≡ balance entries.now m c }
+    ensures small { IsWithin most_total result }
+{
+    pay_ins(entries, m, c) as i64 - pay_outs(entries, m, c) as i64
+}
+
+/// The sum of the balances of the first members in a currency, in minor units.
+pub fn sum_of_balances(entries: &[Entry], members: u16, c: u8) -> i64
+    requires small { total entries.now ≤ most_total }
+    requires few { members ≤ 64 }
+    ensures { result ≡ sum_of_balances members entries.now c }
+{
+    let mut sum = 0;
+    for m in 0..members {
+        sum += balance(entries, m + 1, c);
+    }
+    sum
+}
+
+/// Whether a currency's pay-in of this number is in the book.
+pub fn has_pay_in(entries: &[Entry], c: u8, k: u32) -> bool
+    ensures { result ≡ has_pay_in entries.now c k }
+{
+    entries.iter().any(|e| is_pay_in(e, c, k))
+}
+
+fn is_pay_in(entry: &Entry, c: u8, k: u32) -> bool
+    ensures { result ≡ is_pay_in c k entry.now.cmd }
+{
+    match entry.cmd {
+        Cmd::Fund { ccy, pay, .. } => ccy == c && pay == k,
+        _ => false,
+    }
+}
+
+/// Whether a currency's order of this number is paid.
+pub fn has_payment(entries: &[Entry], c: u8, n: u32) -> bool
+    ensures { result ≡ has_payment entries.now c n }
+{
+    entries.iter().any(|e| is_payment(e, c, n))
+}
+
+fn is_payment(entry: &Entry, c: u8, n: u32) -> bool
+    ensures { result ≡ is_payment c n entry.now.cmd }
+{
+    match entry.cmd {
+        Cmd::Paid { ccy, out } => ccy == c && out == n,
+        _ => false,
+    }
+}
+
+/// The order that an entry made in a currency.
+pub fn order_by(entry: &Entry, c: u8) -> Option<PayOrder>
+    ensures { result ≡ order_by c entry.now.client entry.now.cmd entry.now.reply }
+{
+    match (entry.cmd, entry.reply) {
+        (Cmd::PayOut { ccy, amt }, Reply::Order(out)) if ccy == c => Some(PayOrder {
+            ccy,
+            out,
+            member: entry.client,
+            amt,
+        }),
+        _ => None,
+    }
+}
+
+/// How many orders a currency has.
+pub fn order_count(entries: &[Entry], c: u8) -> usize
+    ensures { result ≡ length (orders entries.now c) }
+{
+    entries.iter().filter_map(|e| order_by(e, c)).count()
+}
+
+/// Whether a currency has an order of this number.
+pub fn has_order(entries: &[Entry], c: u8, n: u32) -> bool
+    ensures { result ≡ has_order entries.now c n }
+{
+    entries
+        .iter()
+        .filter_map(|e| order_by(e, c))
+        .any(|order| order.out == n)
+}
