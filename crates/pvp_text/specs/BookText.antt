@@ -1,0 +1,94 @@
+-- The printed text of a book. Every line ends with LF.
+use Rattle.std.specs.Prelude.{ℕ, ◌+◌, List, [], ◌∷◌, ◌++◌, length, codes, decimal, ◌≡◌, ◌≤◌, Option, Result, Ok, Err, IsOk}
+use Rattle.std.specs.Fmt.{signed_decimal}
+use Rattle.std.specs.List.{flat_map, range_with_len, enumerate_from}
+use Rattle.pvp_types.specs.declared.setup.Setup.{Setup}
+use Rattle.pvp_types.specs.declared.setup.Member.{Member}
+use Rattle.pvp_types.specs.declared.command.Cmd.{Cmd}
+use Rattle.pvp_types.specs.Reply.{reply_text}
+use Rattle.pvp_book.specs.Ledger.{Ledger, opening, balance, figure, outstanding}
+use Rattle.pvp_book.specs.Answer.{answer_to, after}
+use Rattle.std.specs.Global.{Vec}
+use Rattle.std.specs.Io.KnownBytes.{Appends}
+use Rattle.pvp_text.specs.declared.book.RunFault.{RunFault}
+use Rattle.pvp_text.specs.declared.book.RunFault.TheVariants as RunFaults
+use Rattle.pvp_text.specs.declared.script.Line.{Line}
+use Rattle.pvp_text.specs.declared.script.LineFault.{LineFault}
+use Rattle.pvp_text.specs.declared.script.Statement.{Statement}
+use Rattle.pvp_text.specs.declared.script.Statement.TheVariants.{Do, Print}
+
+-- a space and a balance, for each currency
+abbrev pub balances_text : Ledger → ℕ → ℕ → List ℕ
+balances_text held m currencies =
+    flat_map (λ c. 32 ∷ signed_decimal (balance held.entries m c)) (range_with_len 0 currencies)
+
+-- a member's name and balances
+abbrev pub member_line : Ledger → ℕ × Member → List ℕ
+member_line held (m, member) = member.name ++ balances_text held m (length held.setup.currencies) ++ codes "\n"
+
+abbrev pub member_lines : Ledger → List ℕ
+member_lines held = flat_map (member_line held) (enumerate_from 1 held.setup.members)
+
+-- how many pairs are unmatched, matched, settled and rescinded: no command makes a pair yet
+abbrev pub pairs_line : List ℕ
+pairs_line = codes "pairs 0 0 0 0\n"
+
+-- a space and the bank's figure, for each currency
+abbrev pub figures_text : Ledger → ℕ → List ℕ
+figures_text held currencies = flat_map (λ c. 32 ∷ signed_decimal (figure held.setup held.entries c)) (range_with_len 0 currencies)
+
+abbrev pub figure_line : Ledger → List ℕ
+figure_line held = codes "figure" ++ figures_text held (length held.setup.currencies) ++ codes "\n"
+
+-- how many orders are not paid
+abbrev pub open_line : Ledger → List ℕ
+open_line held = codes "open " ++ decimal (length (outstanding held.setup held.entries)) ++ codes "\n"
+
+-- what `print` writes
+abbrev pub block : Ledger → List ℕ
+block held = member_lines held ++ pairs_line ++ figure_line held ++ open_line held
+
+-- what `do` writes: the row's number, counted over all that were applied, and the answer
+abbrev pub answer_line : Ledger → ℕ → Cmd → List ℕ
+answer_line held client cmd = decimal (held.applied + 1) ++ codes " " ++ reply_text (answer_to held client cmd) ++ codes "\n"
+
+-- what a line of a script writes
+abbrev pub statement_text : Ledger → Statement → List ℕ
+statement_text held (Do client cmd) = answer_line held client cmd
+statement_text held Print = block held
+
+-- what is held after it
+abbrev pub after_statement : Ledger → Statement → Ledger
+after_statement held (Do client cmd) = after held client cmd
+after_statement held Print = held
+
+-- what the lines of a script write, one after another
+abbrev pub text_of : Ledger → List Line → List ℕ
+text_of held [] = []
+text_of held (line ∷ lines) = statement_text held line.statement ++ text_of (after_statement held line.statement) lines
+
+-- what the lines of a script write on a book of their own
+abbrev pub book_text : Setup → List Line → List ℕ
+book_text setup lines = text_of (opening setup) lines
+
+-- what ends a run of lines early
+abbrev pub IsLateFault : RunFault → Type 0
+IsLateFault RunFaults.NoMemory = Unit {0}
+IsLateFault RunFaults.Output = Unit {0}
+IsLateFault (RunFaults.Line fault) = ⊥
+
+-- How a run over what reading a script gave ends: a faulty line is told before anything is written, and
+-- the writer's fault comes after a script without one.
+abbrev pub RunEnds : {W : Type 0} → (W → Option (List ℕ)) → Setup → Result (List Line) LineFault → Result (Unit {0}) RunFault → W → W → Type 0
+RunEnds contents setup (Ok lines) (Ok _) old new = Appends (contents old) (contents new) (book_text setup lines)
+RunEnds contents setup (Err fault) (Ok _) old new = ⊥
+RunEnds contents setup read (Err (RunFaults.Line fault)) old new = (read ≡ Err fault) × (new ≡ old)
+RunEnds contents setup read (Err RunFaults.Output) old new = IsOk read
+RunEnds contents setup read (Err RunFaults.NoMemory) old new = Unit {0}
+
+-- what a script was read as: its lines, of which there are not too many for one book
+abbrev pub ReadEnds : Result (Vec Line) RunFault → Result (List Line) LineFault → Type 0
+ReadEnds (Ok lines) read = (read ≡ Ok lines.items) × (length lines.items ≤ 65535)
+ReadEnds (Err (RunFaults.Line fault)) read = read ≡ Err fault
+ReadEnds (Err RunFaults.NoMemory) read = Unit {0}
+ReadEnds (Err RunFaults.Output) read = ⊥

@@ -1,0 +1,5 @@
+pub mod SetupText
+pub mod ScriptWords
+pub mod ScriptFields
+pub mod Script
+pub mod BookText

@@ -1,0 +1,118 @@
+-- What a script says.
+use Rattle.std.specs.Prelude.{◌≡◌, ◌≢◌, ℕ, ◌+◌, ◌^◌, ◌==◌, ◌&&◌, ◌||◌, Bool, true, not, List, [], ◌∷◌, length, slice_index, Option, Some, None, option_map, Result, Ok, Err, codes, bytes_eq, nat_lt, nat_le, if◌then◌else◌}
+use Rattle.std.specs.Global.{Vec}
+use Rattle.std.specs.List.{list_all, cons_option}
+use Rattle.pvp_types.specs.declared.command.Cmd.TheVariants.{Fund, PayOut, Paid}
+use Rattle.pvp_types.specs.declared.setup.Setup.{Setup}
+use Rattle.pvp_text.specs.declared.script.Kind.{Kind}
+use Rattle.pvp_text.specs.declared.script.Kind.TheVariants.{Book}
+use Rattle.pvp_text.specs.declared.script.Line.{Line}
+use Rattle.pvp_text.specs.declared.script.LineCode.{LineCode}
+use Rattle.pvp_text.specs.declared.script.LineCode.TheVariants.{Byte, UnknownWord, WordCount, LineLength, LineCount, NoMemory}
+use Rattle.pvp_text.specs.declared.script.LineFault.{LineFault}
+use Rattle.pvp_text.specs.declared.script.Statement.{Statement}
+use Rattle.pvp_text.specs.declared.script.Statement.TheVariants.{Do, Print}
+use Rattle.pvp_text.specs.ScriptFields.{◌>>=◌, number_at, reference_at, client_of, member_of, currency_of}
+use Rattle.pvp_text.specs.ScriptWords.{is_empty, lines, words}
+
+-- `do WHO fund CCY PAY MEMBER AMT`. A malformed number comes before an unknown name, so first each word
+-- is read, and then the names are looked up.
+unfoldable pub fund_at : Setup → List ℕ → List (List ℕ) → Result Statement LineCode
+fund_at setup who (ccy ∷ pay ∷ member ∷ amt ∷ []) = do
+  who ← reference_at (2 ^ 16) who
+  ccy ← reference_at (2 ^ 8) ccy
+  pay ← number_at (2 ^ 32) pay
+  member ← reference_at (2 ^ 16) member
+  amt ← number_at (2 ^ 64) amt
+  client ← client_of setup who
+  ccy ← currency_of setup ccy
+  member ← member_of setup member
+  Ok (Do client (Fund ccy pay member amt))
+fund_at setup who _ = Err WordCount
+
+-- `do WHO payout CCY AMT`
+unfoldable pub payout_at : Setup → List ℕ → List (List ℕ) → Result Statement LineCode
+payout_at setup who (ccy ∷ amt ∷ []) = do
+  who ← reference_at (2 ^ 16) who
+  ccy ← reference_at (2 ^ 8) ccy
+  amt ← number_at (2 ^ 64) amt
+  client ← client_of setup who
+  ccy ← currency_of setup ccy
+  Ok (Do client (PayOut ccy amt))
+payout_at setup who _ = Err WordCount
+
+-- `do WHO paid CCY OUT`
+unfoldable pub paid_at : Setup → List ℕ → List (List ℕ) → Result Statement LineCode
+paid_at setup who (ccy ∷ out ∷ []) = do
+  who ← reference_at (2 ^ 16) who
+  ccy ← reference_at (2 ^ 8) ccy
+  out ← number_at (2 ^ 32) out
+  client ← client_of setup who
+  ccy ← currency_of setup ccy
+  Ok (Do client (Paid ccy out))
+paid_at setup who _ = Err WordCount
+
+-- `do WHO`, the command's word and its fields
+unfoldable pub do_at : Setup → List (List ℕ) → Result Statement LineCode
+do_at setup (who ∷ command ∷ fields) =
+    if bytes_eq command (codes "fund") then fund_at setup who fields
+    else if bytes_eq command (codes "payout") then payout_at setup who fields
+    else if bytes_eq command (codes "paid") then paid_at setup who fields
+    else Err UnknownWord
+do_at setup _ = Err WordCount
+
+-- `print`
+abbrev pub print_at : List (List ℕ) → Result Statement LineCode
+print_at [] = Ok Print
+print_at (_ ∷ _) = Err WordCount
+
+-- the kinds that have `print`
+abbrev pub prints : Kind → Bool
+prints Book = true
+
+-- what the words of a line say
+unfoldable pub statement_at : Kind → Setup → List (List ℕ) → Result Statement LineCode
+statement_at kind setup [] = Err UnknownWord
+statement_at kind setup (first ∷ rest) =
+    if bytes_eq first (codes "do") then do_at setup rest
+    else if prints kind && bytes_eq first (codes "print") then print_at rest
+    else Err UnknownWord
+
+-- a comment, whose first byte is `#`, or a line without words
+abbrev pub is_skipped : List ℕ → Bool
+is_skipped line = (slice_index line 0 == 35) || is_empty (words line)
+
+abbrev pub is_printable : ℕ → Bool
+is_printable b = nat_le 32 b && nat_le b 126
+
+-- what a line says, or nothing where it is skipped
+unfoldable pub line_at : Kind → Setup → List ℕ → Result (Option Statement) LineCode
+line_at kind setup line =
+    if is_skipped line then Ok None
+    else if nat_lt 256 (length line) then Err LineLength
+    else if not (list_all is_printable line) then Err Byte
+    else (statement_at kind setup (words line) >>= λ statement. Ok (Some statement))
+
+-- what a line says, or its number and what is wrong with it
+abbrev pub of_line : {A : Type 0} → ℕ → Result A LineCode → Result A LineFault
+of_line number (Ok x) = Ok x
+of_line number (Err code) = Err (record { line = number; code = code })
+
+-- the lines that are not skipped, of those from a number on; else the first fault
+unfoldable pub lines_at : Kind → Setup → ℕ → List (List ℕ) → Result (List Line) LineFault
+lines_at kind setup number [] = Ok []
+lines_at kind setup number (line ∷ rest) = do
+  said ← of_line number (line_at kind setup line)
+  others ← lines_at kind setup (number + 1) rest
+  Ok (cons_option (option_map (λ statement. record { number = number; statement = statement }) said) others)
+
+-- all of a script, which has at most 65535 lines
+unfoldable pub script_at : Kind → Setup → List ℕ → Result (List Line) LineFault
+script_at kind setup bytes =
+    if nat_lt 65535 (length (lines bytes)) then Err (record { line = 65536; code = LineCount })
+    else lines_at kind setup 1 (lines bytes)
+
+-- What was returned is what reading gives, unless memory ran out.
+abbrev pub Gives : Result (Vec Line) LineFault → Result (List Line) LineFault → Type 0
+Gives (Ok found) read = read ≡ Ok found.items
+Gives (Err fault) read = fault.code ≢ NoMemory → read ≡ Err fault
