@@ -1,0 +1,85 @@
+-- The parts of a book's text, one part more.
+use Rattle.std.proofs.Common.{◌≡◌, ℕ, ◌+◌, ◌<◌, List, [], ◌∷◌, ◌++◌, zero, suc, length, take, get_or, append_assoc, add-one, drop, drop-cons, length-drop, subst, ◌≤◌, Option, Some, None, ap, sym, ◌∙◌, arith}
+use Rattle.std.specs.Fmt.{signed_decimal}
+use Rattle.std.specs.List.{flat_map, enumerate_from}
+use Rattle.std.proofs.Common.{ℤ, to_z, of_z, w64, FitsSigned}
+use Rattle.std.proofs.lemmas.Int.{to_z-of_z}
+use Rattle.std.proofs.lemmas.List.{append-nil}
+use Rattle.pvp_types.specs.declared.setup.Member.{Member}
+use Rattle.pvp_types.proofs.Lists.{flat_map-range_with_len_more}
+use Rattle.pvp_book.specs.Ledger.{Ledger, balance, figure}
+use Rattle.std.specs.Io.KnownBytes.{Appends}
+use Rattle.pvp_text.specs.declared.script.Line.{Line}
+use Rattle.pvp_text.specs.declared.script.Statement.{Statement}
+use Rattle.pvp_text.specs.declared.script.Statement.TheVariants.{Do, Print}
+use Rattle.pvp_text.specs.BookText.{balances_text, figures_text, member_line, statement_text, after_statement, text_of}
+
+pub balances_text-more : (held : Ledger) (m n : ℕ)
+    → balances_text held m (n + 1) ≡ balances_text held m n ++ (32 ∷ signed_decimal (balance held.entries m n))
+balances_text-more held m n = flat_map-range_with_len_more (λ c. 32 ∷ signed_decimal (balance held.entries m c)) n
+
+pub figures_text-more : (held : Ledger) (n : ℕ)
+    → figures_text held (n + 1) ≡ figures_text held n ++ (32 ∷ signed_decimal (figure held.setup held.entries n))
+figures_text-more held n = flat_map-range_with_len_more (λ c. 32 ∷ signed_decimal (figure held.setup held.entries c)) n
+
+-- a number that is printed is the number that the book gave
+pub shown : (given z : ℤ) → FitsSigned w64 given → given ≡ z → to_z w64 (of_z w64 given) ≡ z
+shown given z fits e = to_z-of_z w64 given fits ∙ e
+
+-- what was appended to a text that was appended
+pub appended : (new old first so_far piece all : List ℕ) → new ≡ old ++ piece → old ≡ first ++ so_far → all ≡ so_far ++ piece → new ≡ first ++ all
+appended new old first so_far piece all e before whole =
+    e ∙ ap (λ t. t ++ piece) before ∙ append_assoc first so_far piece ∙ ap (λ t. first ++ t) (sym whole)
+
+-- the next member's line
+pub member_lines-more : (held : Ledger) (members : List Member) (n : ℕ) (d : Member) → n < length members
+    → flat_map (member_line held) (enumerate_from 1 (take (n + 1) members))
+    ≡ flat_map (member_line held) (enumerate_from 1 (take n members)) ++ member_line held (n + 1, get_or members n d)
+member_lines-more held members n d within =
+    ap (λ k. flat_map (member_line held) (enumerate_from 1 (take k members))) (add-one n)
+    ∙ from 1 members n within
+    ∙ ap (λ m. flat_map (member_line held) (enumerate_from 1 (take n members)) ++ member_line held (m, get_or members n d)) (omega arith)
+  where
+    from : (a : ℕ) (ms : List Member) (k : ℕ) → k < length ms
+        → flat_map (member_line held) (enumerate_from a (take (suc k) ms))
+        ≡ flat_map (member_line held) (enumerate_from a (take k ms)) ++ member_line held (a + k, get_or ms k d)
+    from a [] k h = absurd (omega arith)
+    from a (m ∷ ms) zero h = append-nil (member_line held (a, m)) ∙ ap (λ j. member_line held (j, m)) (omega arith)
+    from a (m ∷ ms) (suc k) h =
+        ap (λ t. member_line held (a, m) ++ t) (from (a + 1) ms k (omega arith))
+        ∙ sym (append_assoc (member_line held (a, m)) (flat_map (member_line held) (enumerate_from (a + 1) (take k ms))) (member_line held (a + 1 + k, get_or ms k d)))
+        ∙ ap (λ j. (member_line held (a, m) ++ flat_map (member_line held) (enumerate_from (a + 1) (take k ms))) ++ member_line held (j, get_or ms k d)) (omega arith)
+
+Appends-append : (old mid end : Option (List ℕ)) (xs ys : List ℕ) → Appends old mid xs → Appends mid end ys → Appends old end (xs ++ ys)
+Appends-append None mid end xs ys first second = tt
+Appends-append (Some a) None end xs ys first second = absurd first
+Appends-append (Some a) (Some b) None xs ys first second = absurd second
+Appends-append (Some a) (Some b) (Some c) xs ys first second = second ∙ ap (λ t. t ++ ys) first ∙ append_assoc a xs ys
+
+-- one line, and then those after it
+pub text_of-next : (old mid end : Option (List ℕ)) (held next : Ledger) (lines : List Line) (i : ℕ) (d : Line) (text : List ℕ) → i < length lines
+    → Appends old mid text → text ≡ statement_text held (get_or lines i d).statement → next ≡ after_statement held (get_or lines i d).statement
+    → Appends mid end (text_of next (drop (i + 1) lines)) → Appends old end (text_of held (drop i lines))
+text_of-next old mid end held next lines i d text within written printed after rest =
+    let front : drop i lines ≡ get_or lines i d ∷ drop (i + 1) lines =
+    drop-cons lines i d within ∙ ap (λ k. get_or lines i d ∷ drop k lines) (sym (add-one i)) in
+    subst (λ ls. Appends old end (text_of held ls)) (sym front)
+    (Appends-append old mid end (statement_text held (get_or lines i d).statement) (text_of (after_statement held (get_or lines i d).statement) (drop (i + 1) lines))
+    (subst (Appends old mid) printed written)
+    (subst (λ h. Appends mid end (text_of h (drop (i + 1) lines))) after rest))
+
+-- what is appended to nothing
+pub alone : (text new blank piece : List ℕ) → text ≡ new → new ≡ blank ++ piece → blank ≡ [] → text ≡ piece
+alone text new blank piece e appended nothing = e ∙ appended ∙ ap (λ b. b ++ piece) nothing
+
+applied-after : (held : Ledger) (statement : Statement) → (after_statement held statement).applied ≤ held.applied + 1
+applied-after held (Do client cmd) = omega arith
+applied-after held Print = omega arith
+
+pub room-next : (held next : Ledger) (lines : List Line) (i : ℕ) (statement : Statement) → i < length lines
+    → held.applied + length (drop i lines) ≤ 65535 → next ≡ after_statement held statement
+    → next.applied + length (drop (i + 1) lines) ≤ 65535
+room-next held next lines i statement within room after =
+    let more = applied-after held statement in
+    let same = ap (λ (h : Ledger). h.applied) after in
+    omega (arith, length-drop i lines, length-drop (i + 1) lines)

@@ -1,0 +1,9 @@
+pub mod SetupTextFaults
+pub mod SetupTextItems
+pub mod SetupTextWorked
+pub mod ScriptLength
+pub mod ScriptNumbers
+pub mod ScriptReading
+pub mod ScriptRows
+pub mod ScriptSplitting
+pub mod BookTextLemmas

@@ -1,0 +1,172 @@
+//! A script run on one book, and what it prints.
+
+ghost use Rattle.std.specs.Prelude.{◌≡◌, ◌+◌, ◌<◌, ◌≤◌, ◌++◌, length, string_bytes, OnOk, IfErr};
+ghost use Rattle.std.specs.Io.KnownBytes.{Appends};
+ghost use Rattle.pvp_types.specs.Setup.{IsValid};
+ghost use Rattle.pvp_text.specs.declared.book.RunFault.TheVariants.{NoMemory, Output};
+ghost use Rattle.pvp_text.specs.declared.script.Kind.TheVariants as kinds;
+ghost use Rattle.pvp_text.specs.Script.{script_at};
+ghost use Rattle.pvp_text.specs.BookText.{balances_text, figures_text, member_line, member_lines, block, statement_text, after_statement, text_of, IsLateFault, RunEnds, ReadEnds};
+
+use crate::script::{Kind, Line, LineCode, LineFault, Statement, read_script};
+use pvp_book::Book;
+use pvp_types::{Member, Setup};
+use std::alloc::{AllocError, Global};
+use std::io::Write;
+
+/// Why a script was not run to its end.
+#[derive(Clone, Copy, Debug, PartialEq, Eq)]
+pub enum RunFault {
+    /// The script's first faulty line. Nothing was run or written.
+    Line(LineFault),
+    /// Memory was refused.
+    NoMemory,
+    /// The writer failed.
+    Output,
+}
+
+impl From<AllocError> for RunFault {
+    ghost from_gives = { λ _ fault. fault ≡ NoMemory };
+
+    fn from(_refused: AllocError) -> RunFault {
+        RunFault::NoMemory
+    }
+}
+
+/// Runs a script on a book of its own, and writes what its lines print.
+///
+/// The script is read whole first, so that a faulty line writes nothing. How much of the text was
+/// written where the writer fails, or memory is refused, is not said.
+pub fn run_book<W: Write>(
+    alloc: Global,
+    setup: &Setup,
+    script: &[u8],
+    writer: &mut W,
+) -> Result<(), RunFault>
+    requires { IsValid setup.now }
+    ensures { RunEnds W.contents setup.now (script_at kinds.Book setup.now script.now) result writer.old writer.new }
+{
+    let lines = read_lines(alloc, setup, script)?;
+    let mut book = Book::fresh(alloc, setup)?;
+    run_lines(alloc, &mut book, lines.as_slice(), writer)
+}
+
+/// The lines of a script.
+fn read_lines(alloc: Global, setup: &Setup, script: &[u8]) -> Result<Vec<Line>, RunFault>
+    ensures { ReadEnds result (script_at kinds.Book setup.now script.now) }
+{
+    match read_script(alloc, setup, Kind::Book, script) {
+        Ok(lines) => Ok(lines),
+        Err(fault) if fault.code == LineCode::NoMemory => Err(RunFault::NoMemory),
+        Err(fault) => Err(RunFault::Line(fault)),
+    }
+}
+
+/// Runs lines on a book, and writes what they print.
+fn run_lines<W: Write>(
+    alloc: Global,
+    book: &mut Book,
+    lines: &[Line],
+    writer: &mut W,
+) -> Result<(), RunFault>
+    requires { book.old.applied + length lines.now ≤ 65535 }
+    ensures written { OnOk result (Appends (W.contents writer.old) (W.contents writer.new) (text_of book.old lines.now)) }
+    ensures fault { IfErr result IsLateFault }
+{
+    let mut text = String::new(alloc);
+    for line in lines {
+        text.clear();
+        push_statement(&mut text, book, line.statement)?;
+        write_text(writer, text.as_str())?;
+    }
+    Ok(())
+}
+
+/// Writes a text.
+fn write_text<W: Write>(writer: &mut W, text: &str) -> Result<(), RunFault>
+    ensures written { OnOk result (Appends (W.contents writer.old) (W.contents writer.new) text.now) }
+    ensures fault { IfErr result (λ fault. fault ≡ Output) }
+{
+    match writer.write_all(text.as_bytes()) {
+        Ok(()) => Ok(()),
+        Err(_) => Err(RunFault::Output),
+    }
+}
+
+/// Runs one line on a book, and appends what it prints.
+fn push_statement(
+    text: &mut String,
+    book: &mut Book,
+    statement: Statement,
+) -> Result<(), AllocError>
+    requires { book.old.applied < 65535 }
+    ensures printed { OnOk result (string_bytes text.new ≡ string_bytes text.old ++ statement_text book.old statement) }
+    ensures after { OnOk result (book.new ≡ after_statement book.old statement) }
+{
+    match statement {
+        Statement::Do { client, cmd } => {
+            let reply = book.apply(client, cmd)?;
+            let row = book.applied();
+            write!(text, "{row} {reply}\n")
+        }
+        Statement::Print => push_block(text, book),
+    }
+}
+
+/// Appends what `print` writes.
+fn push_block(text: &mut String, book: &Book) -> Result<(), AllocError>
+    ensures { OnOk result (string_bytes text.new ≡ string_bytes text.old ++ block book.now) }
+{
+    push_members(text, book)?;
+    text.push_str("pairs 0 0 0 0\n")?;
+    text.push_str("figure")?;
+    push_figures(text, book)?;
+    text.push_str("\nopen ")?;
+    let orders = book.open_count();
+    write!(text, "{orders}\n")
+}
+
+/// Appends a line for each member, with its name and balances.
+fn push_members(text: &mut String, book: &Book) -> Result<(), AllocError>
+    ensures { OnOk result (string_bytes text.new ≡ string_bytes text.old ++ member_lines book.now) }
+{
+    for (place, member) in book.setup().members.as_slice().iter().enumerate() {
+        push_member(text, book, place as u16 + 1, member)?;
+    }
+    Ok(())
+}
+
+/// Appends a member's name and balances.
+fn push_member(text: &mut String, book: &Book, m: u16, member: &Member) -> Result<(), AllocError>
+    ensures { OnOk result (string_bytes text.new ≡ string_bytes text.old ++ member_line book.now (m, member.now)) }
+{
+    text.push_str(member.name.as_str())?;
+    push_balances(text, book, m)?;
+    text.push_str("\n")
+}
+
+/// Appends a member's balance in each currency.
+fn push_balances(text: &mut String, book: &Book, m: u16) -> Result<(), AllocError>
+    ensures { OnOk result (string_bytes text.new
+        ≡ string_bytes text.old ++ balances_text book.now m (length book.now.setup.currencies)) }
+{
+    let currencies = book.setup().currency_count();
+    for c in 0..currencies {
+        let balance = book.balance(m, c);
+        write!(text, " {balance}")?;
+    }
+    Ok(())
+}
+
+/// Appends the bank's figure in each currency.
+fn push_figures(text: &mut String, book: &Book) -> Result<(), AllocError>
+    ensures { OnOk result (string_bytes text.new
+        ≡ string_bytes text.old ++ figures_text book.now (length book.now.setup.currencies)) }
+{
+    let currencies = book.setup().currency_count();
+    for c in 0..currencies {
+        let figure = book.figure(c);
+        write!(text, " {figure}")?;
+    }
+    Ok(())
+}

@@ -1,0 +1,182 @@
+//! Scripts: texts whose lines each ask for one thing.
+//!
+//! A line ends with LF, which the last may lack, so after an LF at the end no further line begins.
+//! Lines are counted from 1. A line whose first byte is `#` and one without words are skipped, but
+//! counted. Words are parted by one or more spaces.
+//!
+//! ```text
+//! do WHO fund CCY PAY MEMBER AMT
+//! do WHO payout CCY AMT
+//! do WHO paid CCY OUT
+//! print
+//! ```
+//!
+//! A number is decimal digits without a leading zero, but for `0` itself: of 64 bits for AMT, and of 32
+//! otherwise. WHO is `OP` for the operator, a member's name or a currency's code for its node, MEMBER a
+//! member's name and CCY a currency's code. Each of the three may be `@` and its number instead, up to
+//! 65535 for a client or a member and up to 255 for a currency, in the setup or not.
+ghost use Rattle.std.specs.Prelude.{◌≡◌, ◌≤◌, length};
+ghost use Rattle.pvp_text.specs.Script.{Gives, script_at, lines_at, of_line, prints};
+ghost use Rattle.pvp_text.specs.ScriptWords.{lines};
+ghost use Rattle.pvp_text.specs.declared.script.LineCode.TheVariants.{NoMemory};
+
+mod fields;
+mod forms;
+#[cfg(test)]
+mod tests;
+mod words;
+
+use crate::script::forms::read_line;
+use crate::script::words::next_line;
+use pvp_types::{Cmd, Setup};
+use std::alloc::{AllocFailed, Global};
+use std::fmt;
+
+/// What a script is run on, which decides what lines it may have.
+#[derive(Clone, Copy, Debug, PartialEq, Eq)]
+pub enum Kind {
+    /// One book: `do` and `print`.
+    Book,
+}
+
+impl Kind {
+    /// Whether a script of this kind may have `print`.
+    fn prints(self) -> bool
+        ensures { result ≡ prints self }
+    {
+        match self {
+            Kind::Book => true,
+        }
+    }
+}
+
+/// What one line asks for.
+#[derive(Clone, Copy, Debug, PartialEq, Eq)]
+pub enum Statement {
+    /// A client's command.
+    Do { client: u16, cmd: Cmd },
+    /// To print the book.
+    Print,
+}
+
+/// A line that asks for something, and its number.
+#[derive(Clone, Copy, Debug, PartialEq, Eq)]
+pub struct Line {
+    pub number: u32,
+    pub statement: Statement,
+}
+
+/// What is wrong with a line.
+#[derive(Clone, Copy, Debug, PartialEq, Eq)]
+pub enum LineCode {
+    /// L1: a byte is outside 32..=126.
+    Byte,
+    /// L2: the first word, or a command's, is unknown or not of this kind.
+    UnknownWord,
+    /// L3: the line has more or fewer words than its form.
+    WordCount,
+    /// L4: a number is malformed or too large for its field.
+    Number,
+    /// L5: no client, member or currency has this name.
+    UnknownName,
+    /// L6: the line is longer than 256 bytes.
+    LineLength,
+    /// L7: the script has more than 65,535 lines.
+    LineCount,
+    /// L8: memory ran out.
+    NoMemory,
+}
+
+/// Writes the code as `L1` to `L8`.
+impl fmt::Display for LineCode {
+    fn fmt<W: fmt::Write>(&self, f: &mut fmt::Formatter<W>) -> fmt::Result {
+        f.write_str(match self {
+            LineCode::Byte => "L1",
+            LineCode::UnknownWord => "L2",
+            LineCode::WordCount => "L3",
+            LineCode::Number => "L4",
+            LineCode::UnknownName => "L5",
+            LineCode::LineLength => "L6",
+            LineCode::LineCount => "L7",
+            LineCode::NoMemory => "L8",
+        })
+    }
+}
+
+/// The line that could not be read, and why.
+#[derive(Clone, Copy, Debug, PartialEq, Eq)]
+pub struct LineFault {
+    pub line: u32,
+    pub code: LineCode,
+}
+
+/// L8, at the line that memory had no room for.
+impl From<AllocFailed<Line>> for LineFault {
+    ghost from_gives = { λ refused fault. fault ≡ record { line = refused.value.number; code = NoMemory } };
+
+    fn from(refused: AllocFailed<Line>) -> LineFault {
+        LineFault {
+            line: refused.value.number,
+            code: LineCode::NoMemory,
+        }
+    }
+}
+
+/// How many lines a script may have.
+const LINES: usize = 65_535;
+
+/// The lines of a script that are not skipped, in their order. An `Err` tells L7 and line 65,536 where
+/// there are too many lines, and else the first faulty line and the first of its faults in the order
+/// L6, L1, L2, L3, L4, L5. Where memory runs out, L8 may stand in place of any of these answers.
+#[tactic(auto, unfolding(crate::specs::Script::script_at))]
+pub fn read_script(
+    alloc: Global,
+    setup: &Setup,
+    kind: Kind,
+    bytes: &[u8],
+) -> Result<Vec<Line>, LineFault>
+    ensures { Gives result (script_at kind setup.now bytes.now) }
+{
+    if count_lines(bytes) > LINES {
+        return Err(LineFault {
+            line: LINES as u32 + 1,
+            code: LineCode::LineCount,
+        });
+    }
+    read_lines(alloc, setup, kind, bytes)
+}
+
+fn count_lines(text: &[u8]) -> usize
+    ensures { result ≡ length (lines text.now) }
+{
+    let mut count = 0;
+    let mut rest = text;
+    while let Some((_, after)) = next_line(rest) {
+        count += 1;
+        rest = after;
+    }
+    count
+}
+
+fn read_lines(alloc: Global, setup: &Setup, kind: Kind, text: &[u8]) -> Result<Vec<Line>, LineFault>
+    requires { length (lines text.now) ≤ 65535 }
+    ensures { Gives result (lines_at kind setup.now 1 (lines text.now)) }
+{
+    let mut found = Vec::new(alloc);
+    let mut number = 1;
+    let mut rest = text;
+    while let Some((line, after)) = next_line(rest) {
+        if let Some(statement) = of_line(number, read_line(kind, setup, line))? {
+            found.push(Line { number, statement })?;
+        }
+        number += 1;
+        rest = after;
+    }
+    Ok(found)
+}
+
+fn of_line<T>(line: u32, said: Result<T, LineCode>) -> Result<T, LineFault>
+    ensures { result ≡ of_line line said }
+{
+    said.map_err(|code| LineFault { line, code })
+}

@@ -1,0 +1,155 @@
+//! The forms of lines. Each is a function that takes the words after those that tell the form, first
+//! counts them, then reads their numbers and last looks up their names, since of several faults the
+//! one that comes first in this order is told.
+ghost use Rattle.std.specs.Prelude.{◌≡◌, ◌∷◌};
+ghost use Rattle.std.specs.List.{list_all};
+ghost use Rattle.pvp_text.specs.Script.{fund_at, payout_at, paid_at, do_at, print_at, statement_at, line_at, is_printable};
+ghost use Rattle.pvp_text.specs.ScriptWords.{words};
+
+use crate::script::fields::{
+    amount, client_of, client_reference, currency_of, currency_reference, member_of, number,
+};
+use crate::script::words::{end, is, next_word, word};
+use crate::script::{Kind, LineCode, Statement};
+use pvp_types::{Cmd, Setup};
+
+/// How many bytes a line may have.
+const LINE_BYTES: usize = 256;
+
+/// What a line says; `None` where it is skipped.
+#[tactic(auto, unfolding(crate::specs::Script::line_at))]
+pub fn read_line(kind: Kind, setup: &Setup, line: &[u8]) -> Result<Option<Statement>, LineCode>
+    ensures { result ≡ line_at kind setup.now line.now }
+{
+    let Some((first, rest)) = next_word(line) else {
+        return Ok(None);
+    };
+    if line[0] == b'#' {
+        return Ok(None);
+    }
+    if line.len() > LINE_BYTES {
+        return Err(LineCode::LineLength);
+    }
+    if !are_printable(line) {
+        return Err(LineCode::Byte);
+    }
+    Ok(Some(read_statement(kind, setup, first, rest)?))
+}
+
+fn are_printable(line: &[u8]) -> bool
+    ensures { result ≡ list_all is_printable line.now }
+{
+    line.iter().all(|b| (32..=126).contains(b))
+}
+
+/// What the words of a line say: its first word, and those after it.
+#[tactic(auto, unfolding(crate::specs::Script::statement_at))]
+fn read_statement(
+    kind: Kind,
+    setup: &Setup,
+    first: &[u8],
+    rest: &[u8],
+) -> Result<Statement, LineCode>
+    ensures { result ≡ statement_at kind setup.now (first.now ∷ words rest.now) }
+{
+    if is(first, "do") {
+        read_command(setup, rest)
+    } else if kind.prints() && is(first, "print") {
+        print(rest)
+    } else {
+        Err(LineCode::UnknownWord)
+    }
+}
+
+/// `print`
+fn print(rest: &[u8]) -> Result<Statement, LineCode>
+    ensures { result ≡ print_at (words rest.now) }
+{
+    end(rest)?;
+    Ok(Statement::Print)
+}
+
+/// `do WHO COMMAND ..`
+#[tactic(auto, unfolding(crate::specs::Script::do_at))]
+fn read_command(setup: &Setup, rest: &[u8]) -> Result<Statement, LineCode>
+    ensures { result ≡ do_at setup.now (words rest.now) }
+{
+    let (who, rest) = word(rest)?;
+    let (command, fields) = word(rest)?;
+    if is(command, "fund") {
+        fund(setup, who, fields)
+    } else if is(command, "payout") {
+        payout(setup, who, fields)
+    } else if is(command, "paid") {
+        paid(setup, who, fields)
+    } else {
+        Err(LineCode::UnknownWord)
+    }
+}
+
+/// `do WHO fund CCY PAY MEMBER AMT`
+#[tactic(auto, unfolding(crate::specs::Script::fund_at))]
+fn fund(setup: &Setup, who: &[u8], fields: &[u8]) -> Result<Statement, LineCode>
+    ensures { result ≡ fund_at setup.now who.now (words fields.now) }
+{
+    let (ccy, rest) = word(fields)?;
+    let (pay, rest) = word(rest)?;
+    let (member, rest) = word(rest)?;
+    let (amt, rest) = word(rest)?;
+    end(rest)?;
+    let who = client_reference(who)?;
+    let ccy = currency_reference(ccy)?;
+    let pay = number(pay)?;
+    let member = client_reference(member)?;
+    let amt = amount(amt)?;
+    let client = client_of(setup, who)?;
+    let ccy = currency_of(setup, ccy)?;
+    let member = member_of(setup, member)?;
+    Ok(Statement::Do {
+        client,
+        cmd: Cmd::Fund {
+            ccy,
+            pay,
+            member,
+            amt,
+        },
+    })
+}
+
+/// `do WHO payout CCY AMT`
+#[tactic(auto, unfolding(crate::specs::Script::payout_at))]
+fn payout(setup: &Setup, who: &[u8], fields: &[u8]) -> Result<Statement, LineCode>
+    ensures { result ≡ payout_at setup.now who.now (words fields.now) }
+{
+    let (ccy, rest) = word(fields)?;
+    let (amt, rest) = word(rest)?;
+    end(rest)?;
+    let who = client_reference(who)?;
+    let ccy = currency_reference(ccy)?;
+    let amt = amount(amt)?;
+    let client = client_of(setup, who)?;
+    let ccy = currency_of(setup, ccy)?;
+    Ok(Statement::Do {
+        client,
+        cmd: Cmd::PayOut { ccy, amt },
+    })
+}
+
+/// `do WHO paid CCY OUT`
+#[tactic(auto, unfolding(crate::specs::Script::paid_at))]
+fn paid(setup: &Setup, who: &[u8], fields: &[u8]) -> Result<Statement, LineCode>
+    ensures { result ≡ paid_at setup.now who.now (words fields.now) }
+{
+    let (ccy, rest) = word(fields)?;
+    let (out, rest) = word(rest)?;
+    end(rest)?;
+    let who = client_reference(who)?;
+    let ccy = currency_reference(ccy)?;
+    let out = number(out)?;
+    let client = client_of(setup, who)?;
+    let ccy = currency_of(setup, ccy)?;
+    Ok(Statement::Do {
+        client,
+        cmd: Cmd::Paid { ccy, out },
+    })
+}
