@@ -1,0 +1,100 @@
+//! The whole program, over its words, its files and its two outputs.
+
+ghost use Rattle.std.specs.Prelude.{◌≡◌, OnOk, IfSome};
+ghost use Rattle.pvpsim.specs.Request.{CheckWrites, BookWrites};
+
+use crate::fault::Fault;
+use crate::files::Files;
+use crate::request::{Request, parse};
+use clap::error::ErrorKind;
+use pvp_text::{read_setup, run_book};
+use std::alloc::Global;
+use std::convert::AsStr;
+use std::io::Write;
+
+/// The status of a run that ended as it should.
+const DONE: u8 = 0;
+
+/// The status of a run that a fault ended, which is told in one line.
+const FAULT: u8 = 1;
+
+/// The status of words that ask for nothing that the program does.
+const NO_FORM: u8 = 2;
+
+/// Does what the words ask for, and answers the status of the program: 0, or 1 for a fault, or 2
+/// for words of no form. Faults and help go to `err`, all else to `out`.
+pub fn command<S: AsStr, F: Files, O: Write, E: Write>(
+    alloc: Global,
+    words: &[S],
+    files: &F,
+    out: &mut O,
+    err: &mut E,
+) -> u8 {
+    let told = match parse(alloc, words) {
+        Ok(Some(request)) => run(alloc, request, files, out),
+        Ok(None) => return NO_FORM,
+        Err(refusal) => {
+            if refusal.kind() != ErrorKind::OutOfMemory {
+                let _ = write!(err, "{refusal}");
+                return NO_FORM;
+            }
+            Err(Fault::NoMemory)
+        }
+    };
+    match told {
+        Ok(()) => DONE,
+        Err(fault) => {
+            let _ = write!(err, "{fault}\n");
+            FAULT
+        }
+    }
+}
+
+/// Does what was asked for: the setup first, then the script, and the first fault ends it.
+fn run<F: Files, O: Write>(
+    alloc: Global,
+    request: Request<'_>,
+    files: &F,
+    out: &mut O,
+) -> Result<(), Fault> {
+    match request {
+        Request::Check { setup } => check(alloc, files, setup, out),
+        Request::Book { setup, script } => book(alloc, files, setup, script, out),
+    }
+}
+
+/// Tells that a setup meets the rules.
+fn check<F: Files, O: Write>(
+    alloc: Global,
+    files: &F,
+    setup: &str,
+    out: &mut O,
+) -> Result<(), Fault>
+    ensures { OnOk result (IfSome (F.known files.now setup.now) (λ bytes.
+        CheckWrites bytes (O.contents out.old) (O.contents out.new))) }
+{
+    let bytes = files.read(alloc, setup)?;
+    read_setup(alloc, bytes.as_slice())?;
+    match out.write_all(b"setup ok\n") {
+        Ok(()) => Ok(()),
+        Err(_) => Err(Fault::Output),
+    }
+}
+
+/// Runs a script on one book.
+fn book<F: Files, O: Write>(
+    alloc: Global,
+    files: &F,
+    setup: &str,
+    script: &str,
+    out: &mut O,
+) -> Result<(), Fault>
+    ensures { OnOk result (IfSome (F.known files.now setup.now) (λ setup_bytes. IfSome (F.known files.now script.now) (λ script_bytes.
+        BookWrites setup_bytes script_bytes (O.contents out.old) (O.contents out.new)))) }
+{
+    let setup = files.read(alloc, setup)?;
+    let setup = read_setup(alloc, setup.as_slice())?;
+    let script = files.read(alloc, script)?;
+    run_book(alloc, &setup, script.as_slice(), out)?;
+    Ok(())
+}

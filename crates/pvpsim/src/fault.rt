@@ -1,0 +1,50 @@
+//! What ends a run of the program, as it is told on standard error.
+
+use crate::files::FileFault;
+use pvp_text::{LineCode, RunFault, TextFault};
+use thiserror::Error;
+
+#[derive(Clone, Copy, Debug, PartialEq, Eq, Error)]
+pub enum Fault {
+    #[error("fault {0}")]
+    Setup(TextFault),
+    #[error("fault line {line} {code}")]
+    Line { line: u32, code: LineCode },
+    #[error("fault file")]
+    File,
+    #[error("fault output")]
+    Output,
+    #[error("fault memory")]
+    NoMemory,
+}
+
+impl From<TextFault> for Fault {
+    fn from(fault: TextFault) -> Fault {
+        match fault {
+            TextFault::NoMemory => Fault::NoMemory,
+            _ => Fault::Setup(fault),
+        }
+    }
+}
+
+impl From<RunFault> for Fault {
+    fn from(fault: RunFault) -> Fault {
+        match fault {
+            RunFault::Line(at) => Fault::Line {
+                line: at.line,
+                code: at.code,
+            },
+            RunFault::NoMemory => Fault::NoMemory,
+            RunFault::Output => Fault::Output,
+        }
+    }
+}
+
+impl From<FileFault> for Fault {
+    fn from(fault: FileFault) -> Fault {
+        match fault {
+            FileFault::Unread => Fault::File,
+            FileFault::NoMemory => Fault::NoMemory,
+        }
+    }
+}
