@@ -17,9 +17,9 @@ fn main(rt: HostRuntime) -> ExitCode {
     let words: Vec<String> = match env::args(&rt) {
         Ok(words) => match words.collect(alloc) {
             Ok(words) => words,
-            Err(_) => return ExitCode::from(1),
+            Err(_) => return no_memory(&rt),
         },
-        Err(_) => return ExitCode::from(1),
+        Err(_) => return no_memory(&rt),
     };
     let files = Disk { rt: &rt };
     let status = command::command(
@@ -30,4 +30,10 @@ fn main(rt: HostRuntime) -> ExitCode {
         &mut rt.stderr(),
     );
     ExitCode::from(status)
+}
+
+/// Tells that there is no memory for the words.
+fn no_memory(rt: &impl Eprint) -> ExitCode {
+    let _ = rt.eprintln("fault memory");
+    ExitCode::from(1)
 }
