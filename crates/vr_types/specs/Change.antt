@@ -1,0 +1,127 @@
+-- View change, by section 4.2 of 'Viewstamped Replication Revisited' (MIT-CSAIL-TR-2012-021), whose steps are named.
+use Rattle.std.specs.Prelude.{ℕ, ◌+◌, ◌==◌, ◌&&◌, Bool, true, not, nat_lt, nat_le, List, [], ◌∷◌, ◌++◌, count_by, if◌then◌else◌}
+use Rattle.vr_types.specs.declared.event.Status.TheVariants.{Change}
+use Rattle.vr_types.specs.declared.event.Why.TheVariants.{Status, View, NotPrimary, Known, Stale}
+use Rattle.vr_types.specs.declared.message.EnvelopeOf.{EnvelopeOf}
+use Rattle.vr_types.specs.declared.message.MsgOf.TheVariants.{StartViewChange, DoViewChange, StartView}
+use Rattle.vr_types.specs.declared.row.RowOf.{RowOf}
+use Rattle.vr_types.specs.Group.{sites, others, primary, mail, to_all}
+use Rattle.vr_types.specs.Site.{Site, Vote, nothing, is_normal, is_change, is_recovering, has_start, has_vote}
+use Rattle.vr_types.specs.Choice.{Choice}
+use Rattle.vr_types.specs.Step.{Step, does, drops, with_saved, normal_in, begins_with_executed, takes_log, executes_and_answers}
+
+-- a site in the middle of a rule, and what it sends to sites by then
+pub record Part (C R O : Type 0) : Type 0 where
+  pub site : Site C
+  pub sent : List (EnvelopeOf C R O)
+
+-- The site takes part in the change to view w (step 1). It saves w, gives up what it collected, and tells all. Its log, what it executed and its last normal view stay. This project's own: the view is saved before anyone hears of it.
+abbrev pub starts_view : {C R O : Type 0} → ℕ → ℕ → ℕ → Site C → Part C R O
+starts_view f me w x = record {
+  site = with_saved w (record x { status = Change; view = w; collected = nothing });
+  sent = to_all f me (StartViewChange w);
+}
+
+-- a later view is started
+abbrev pub starts_later_view : {C R O : Type 0} → ℕ → ℕ → ℕ → Site C → Part C R O
+starts_later_view f me w x = if nat_lt x.view w then starts_view f me w x else record { site = x; sent = [] }
+
+-- who sent STARTVIEWCHANGE is kept once
+abbrev pub with_start : {C : Type 0} → ℕ → Site C → Site C
+with_start from x =
+    if has_start x.collected.starts from then x
+    else record x { collected = record (x.collected) { starts = x.collected.starts ++ from ∷ [] } }
+
+-- the first DOVIEWCHANGE of each site is kept
+abbrev pub with_vote : {C : Type 0} → Vote C → Site C → Site C
+with_vote vote x =
+    if has_vote x.collected.votes vote.from then x
+    else record x { collected = record (x.collected) { votes = x.collected.votes ++ vote ∷ [] } }
+
+-- its own DOVIEWCHANGE is made
+abbrev pub with_voted : {C : Type 0} → Site C → Site C
+with_voted x = record x { collected = record (x.collected) { voted = true } }
+
+-- the site's own vote for its view
+abbrev pub own_vote : {C : Type 0} → ℕ → Site C → Vote C
+own_vote me x = record { from = me; last_normal = x.last_normal; done = x.done; log = x.log }
+
+-- the site's own DOVIEWCHANGE, to the primary of its view
+abbrev pub sends_vote : {C R O : Type 0} → ℕ → ℕ → Site C → List (EnvelopeOf C R O)
+sends_vote f me x = mail me (primary f x.view) (DoViewChange x.view x.last_normal x.done x.log) ∷ []
+
+-- f different others have sent STARTVIEWCHANGE, and its own DOVIEWCHANGE isn't made yet
+abbrev pub is_to_vote : {C : Type 0} → ℕ → ℕ → Site C → Bool
+is_to_vote f me x = nat_le f (count_by (has_start x.collected.starts) (others f me)) && not x.collected.voted
+
+-- The site's own DOVIEWCHANGE (step 2): it goes to the primary of the view, or is kept here where this site is that.
+abbrev pub votes_where_due : {C R O : Type 0} → ℕ → ℕ → Part C R O → Part C R O
+votes_where_due f me part =
+    let x = part.site in
+    if not (is_to_vote f me x) then part
+    else if primary f x.view == me then record { site = with_vote (own_vote me x) (with_voted x); sent = part.sent }
+    else record { site = with_voted x; sent = part.sent ++ sends_vote f me x }
+
+-- the primary of a view that changes has the DOVIEWCHANGEs of f+1 different sites, its own among them
+abbrev pub is_to_open : {C : Type 0} → ℕ → ℕ → Site C → Bool
+is_to_open f me x =
+    is_change x.status && ((primary f x.view == me)
+    && (has_vote x.collected.votes me && nat_lt f (count_by (has_vote x.collected.votes) (sites f))))
+
+-- The view is opened with the picked log (steps 3 and 4): the site is normal in it, executes to the largest commit-number, and tells all; then the clients are answered.
+abbrev pub opened_with : {C R O : Type 0} → ℕ → ℕ → List (RowOf C) → ℕ → Part C R O → Step C R O
+opened_with {C} {R} {O} f me log k part =
+    let opened = executes_and_answers {R = R} {O = O} k (normal_in part.site.view log part.site) in
+    record opened { sent = part.sent ++ to_all f me (StartView opened.site.view opened.site.done opened.site.log) }
+
+-- Where the view can be opened, it is. This project's own: a picked log that does not begin with what the site executed is dropped with its message; x is the site as the message found it.
+abbrev pub opens_where_due : {C R O : Type 0} → Choice C → ℕ → ℕ → Site C → Part C R O → Step C R O
+opens_where_due choose f me x part =
+    let votes = part.site.collected.votes in
+    let log = (choose.pick votes).log in
+    if not (is_to_open f me part.site) then does part.site part.sent
+    else if not (begins_with_executed choose.same part.site log) then drops x Stale
+    else opened_with f me log (choose.most_done votes) part
+
+-- STARTVIEWCHANGE (steps 1 and 2)
+unfoldable pub on_start_view_change : {C R O : Type 0} → Choice C → ℕ → ℕ → Site C → ℕ → ℕ → Step C R O
+on_start_view_change choose f me x from w =
+    if is_recovering x.status then drops x Status
+    else if nat_lt w x.view then drops x View
+    else if is_normal x.status && (w == x.view) then drops x Status
+    else (
+    let started = starts_later_view f me w x in
+    let kept = record started { site = with_start from started.site } in
+    opens_where_due choose f me x (votes_where_due f me kept))
+
+-- DOVIEWCHANGE (steps 1 and 3)
+unfoldable pub on_do_view_change : {C R O : Type 0} → Choice C → ℕ → ℕ → Site C → ℕ → Vote C → Step C R O
+on_do_view_change choose f me x w vote =
+    if is_recovering x.status then drops x Status
+    else if nat_lt w x.view then drops x View
+    else if not (primary f w == me) then drops x NotPrimary
+    else if is_normal x.status && (w == x.view) then drops x Status
+    else (
+    let started = starts_later_view f me w x in
+    opens_where_due choose f me x (record started { site = with_vote vote started.site }))
+
+-- STARTVIEW (step 5)
+unfoldable pub on_start_view : {C R O : Type 0} → Choice C → ℕ → ℕ → Site C → ℕ → ℕ → ℕ → List (RowOf C) → Step C R O
+on_start_view choose f me x from w k log =
+    if not (primary f w == from) then drops x NotPrimary
+    else if is_recovering x.status then drops x Status
+    else if nat_lt w x.view then drops x View
+    else if is_normal x.status && (w == x.view) then drops x Known
+    else takes_log choose f me x w k log
+
+-- Timer (step 1): the next view is started. A view at its greatest is refused before.
+unfoldable pub on_timer : {C R O : Type 0} → ℕ → ℕ → Site C → Step C R O
+on_timer f me x =
+    if is_recovering x.status then drops x Status
+    else (let started = starts_view f me (x.view + 1) x in does started.site started.sent)
+
+-- Beat of a site in change: it says again what it has said of its view.
+unfoldable pub beats_in_change : {C R O : Type 0} → ℕ → ℕ → Site C → Step C R O
+beats_in_change f me x =
+    does x (to_all f me (StartViewChange x.view)
+    ++ (if x.collected.voted && not (primary f x.view == me) then sends_vote f me x else []))

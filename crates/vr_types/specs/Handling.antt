@@ -1,0 +1,122 @@
+-- The step of a site, whole: what it does with any event.
+use Rattle.std.specs.Prelude.{◌≡◌, ℕ, ◌-◌, ◌==◌, ◌&&◌, ◌⊎◌, ◌++◌, Bool, true, false, not, List, [], map, slice_get, filter_map, Option, Some, None, option_map, if◌then◌else◌}
+use Rattle.vr_types.specs.declared.event.EventOf.{EventOf}
+use Rattle.vr_types.specs.declared.event.EventOf.TheVariants.{Deliver, Timer, Beat, Crash, Restart}
+use Rattle.vr_types.specs.declared.event.SiteFault.{SiteFault}
+use Rattle.vr_types.specs.declared.event.SiteFault.TheVariants.{NotUp, AlreadyUp, ViewsSpent, BootsSpent, NotMine}
+use Rattle.vr_types.specs.declared.event.Status as status
+use Rattle.vr_types.specs.declared.event.Status.TheVariants.{Normal, Change, Recovering, Down}
+use Rattle.vr_types.specs.declared.event.Why.{Why}
+use Rattle.vr_types.specs.declared.machine.Machine.{Ghosts}
+use Rattle.vr_types.specs.declared.message.EnvelopeOf.{EnvelopeOf}
+use Rattle.vr_types.specs.declared.message.MsgOf.{MsgOf}
+use Rattle.vr_types.specs.declared.message.MsgOf.TheVariants.{Request, Prepare, PrepareOk, Commit, StartViewChange, DoViewChange, StartView, GetState, NewState, Recovery, RecoveryResponse, Reply, PayOrder}
+use Rattle.vr_types.specs.Execution.{held_after, answer_at}
+use Rattle.vr_types.specs.Group.{actor_of, site_of, is_mine}
+use Rattle.vr_types.specs.Site.{Site, is_recovering, is_down, over, executed_rows}
+use Rattle.vr_types.specs.Choice.{Choice}
+use Rattle.vr_types.specs.Step.{Step, Ending, Handled, Dropped, Refused, refuses}
+use Rattle.vr_types.specs.Normal.{on_request, on_prepare, on_prepare_ok, on_commit, beats_normal}
+use Rattle.vr_types.specs.Change.{on_start_view_change, on_do_view_change, on_start_view, on_timer, beats_in_change}
+use Rattle.vr_types.specs.Transfer.{on_get_state, on_new_state}
+use Rattle.vr_types.specs.Recovery.{on_recovery, on_recovery_response, beats_recovering, on_crash, on_restart}
+
+-- the greatest view, and the greatest count of restarts
+abbrev pub max_number : ℕ
+max_number = 4294967295
+
+-- why an event is refused, which comes before all else
+abbrev pub refusal : {C R O : Type 0} → ℕ → ℕ → Site C → EventOf C R O → Option SiteFault
+refusal f me x (Deliver envelope) =
+    if is_down x.status then Some NotUp
+    else if not (is_mine f me envelope) then Some NotMine
+    else None
+refusal f me x Timer =
+    if is_down x.status then Some NotUp
+    else if not (is_recovering x.status) && (x.view == max_number) then Some ViewsSpent
+    else None
+refusal f me x Beat = if is_down x.status then Some NotUp else None
+refusal f me x Crash = if is_down x.status then Some NotUp else None
+refusal f me x Restart =
+    if not (is_down x.status) then Some AlreadyUp
+    else if x.cell.boots == max_number then Some BootsSpent
+    else None
+
+-- a message of an actor that may send it; to the rules a client is its actor's number, and a site its own
+abbrev pub on_message : {C R O : Type 0} → Choice C → ℕ → ℕ → Site C → ℕ → MsgOf C R O → Step C R O
+on_message choose f me x actor (Request number cmd) = on_request f me x (record { client = actor; number = number; cmd = cmd })
+on_message choose f me x actor (Prepare w place k row) = on_prepare f me x (site_of actor) w place k row
+on_message choose f me x actor (PrepareOk w place) = on_prepare_ok choose f me x (site_of actor) w place
+on_message choose f me x actor (Commit w k) = on_commit f me x (site_of actor) w k
+on_message choose f me x actor (StartViewChange w) = on_start_view_change choose f me x (site_of actor) w
+on_message choose f me x actor (DoViewChange w last_normal k log) =
+    on_do_view_change choose f me x w (record { from = site_of actor; last_normal = last_normal; done = k; log = log })
+on_message choose f me x actor (StartView w k log) = on_start_view choose f me x (site_of actor) w k log
+on_message choose f me x actor (GetState w base) = on_get_state f me x (site_of actor) w base
+on_message choose f me x actor (NewState w base k rows) = on_new_state choose f me x (site_of actor) w base k rows
+on_message choose f me x actor (Recovery nonce) = on_recovery f me x (site_of actor) nonce
+on_message choose f me x actor (RecoveryResponse w nonce state) =
+    on_recovery_response choose x nonce (record { from = site_of actor; view = w; state = state })
+on_message choose f me x actor (Reply view number reply) = refuses x NotMine
+on_message choose f me x actor (PayOrder order) = refuses x NotMine
+
+-- a beat, by the site's status
+abbrev pub on_beat : {C R O : Type 0} → ℕ → ℕ → Site C → status.Status → Step C R O
+on_beat f me x Normal = beats_normal f me x
+on_beat f me x Change = beats_in_change f me x
+on_beat f me x Recovering = beats_recovering f me x
+on_beat f me x Down = refuses x NotUp
+
+-- an event that is not refused
+abbrev pub on_event : {C R O : Type 0} → Choice C → ℕ → ℕ → Site C → EventOf C R O → Step C R O
+on_event choose f me x (Deliver envelope) = on_message choose f me x envelope.from envelope.msg
+on_event choose f me x Timer = on_timer f me x
+on_event choose f me x Beat = on_beat f me x x.status
+on_event choose f me x Crash = on_crash x
+on_event choose f me x Restart = on_restart f me x
+
+abbrev pub refused_or : {C R O : Type 0} → Site C → Option SiteFault → Step C R O → Step C R O
+refused_or x (Some fault) step = refuses x fault
+refused_or x None step = step
+
+-- THE SITE STEP: what site `me` of 2f+1 does with an event, where `choose` makes the right choices.
+abbrev pub site_step : {C R O : Type 0} → Choice C → ℕ → ℕ → Site C → EventOf C R O → Step C R O
+site_step choose f me x event = refused_or x (refusal f me x event) (on_event choose f me x event)
+
+abbrev pub is_refused : Ending → Bool
+is_refused Handled = false
+is_refused (Dropped why) = false
+is_refused (Refused fault) = true
+
+-- why an event was dropped
+abbrev pub dropped_as : Ending → Option Why
+dropped_as Handled = None
+dropped_as (Dropped why) = Some why
+dropped_as (Refused fault) = None
+
+-- A fall in place of a step that is not refused: nothing is sent, and the site is down over a cell that is old or as the step saves it.
+pub record IsFall {C R O : Type 0} (x : Site C) (step : Step C R O) (y : Site C) : Type 0 where
+  pub allowed : is_refused step.ending ≡ false
+  pub down : (y ≡ over x.cell Down) ⊎ (y ≡ over step.site.cell Down)
+
+-- what a running site's machine holds
+abbrev pub machine_of : {H C R O S : Type 0} → Ghosts H C R O S → H → Site C → H
+machine_of m start x = held_after m start (executed_rows x)
+
+-- REPLY of the site's view to the client of the row at a place
+abbrev pub reply_to : {H C R O S : Type 0} → Ghosts H C R O S → H → ℕ → Site C → ℕ → Option (EnvelopeOf C R O)
+reply_to m start me x place =
+    option_map
+    (λ row. record { from = actor_of me; to = row.client; msg = Reply x.view row.number (answer_at m start x.log place row) })
+    (slice_get x.log (place - 1))
+
+-- PAYORDER of an open order to its client
+abbrev pub order_to : {C R O : Type 0} → ℕ → ℕ × O → EnvelopeOf C R O
+order_to me due = record { from = actor_of me; to = due.0; msg = PayOrder due.1 }
+
+-- the envelopes of a step, in order: to sites, the answers, the open orders
+abbrev pub envelopes : {H C R O S : Type 0} → Ghosts H C R O S → H → ℕ → Step C R O → List (EnvelopeOf C R O)
+envelopes m start me step =
+    step.sent
+    ++ filter_map (reply_to m start me step.site) step.replies
+    ++ (if step.orders then map (order_to me) (m.orders (machine_of m start step.site)) else [])

@@ -1,0 +1,14 @@
+pub mod Cell
+pub mod Change
+pub mod Choice
+pub mod Execution
+pub mod Group
+pub mod Handling
+pub mod MemoryCell
+pub mod Normal
+pub mod Recovery
+pub mod Rows
+pub mod Saved
+pub mod Site
+pub mod Step
+pub mod Transfer

@@ -1,0 +1,125 @@
+ghost use Rattle.std.specs.Prelude.{◌≡◌, ℕ, ◌-◌, ◌⊎◌, ◌==◌, if◌then◌else◌, OnOk, OnErr, IsOk, IsErr, IsTrue, ◌↔◌, Some, None};
+ghost use Rattle.vr_types.specs.declared.cell.Boot.{Boot};
+ghost use Rattle.vr_types.specs.Cell.{HasRisen};
+ghost use Rattle.vr_types.specs.MemoryCell.{held_by, faults_of, saves_before_fault, keeps_at_fault, fault_after_save, IsReliable};
+
+/// What outlives a crash: how often the site was restarted, and the greatest view that it has spoken of.
+#[derive(Clone, Copy, Debug, PartialEq, Eq)]
+pub struct Boot {
+    pub boots: u32,
+    pub view: u32,
+}
+
+/// A save failed. The cell holds the old value or the new one.
+#[derive(Clone, Copy, Debug, PartialEq, Eq)]
+pub struct CellFault;
+
+/// A cell that outlives a crash.
+pub trait BootCell: Drop {
+    /// What the cell holds.
+    ghost held: { Self → Boot };
+
+    /// How many saves have failed.
+    ghost faults: { Self → ℕ };
+
+    /// Holds of a cell no save of which fails.
+    ghost is_reliable: { Self → Type 0 };
+
+    fn load(&self) -> Boot
+        ensures { result ≡ held self.now };
+
+    /// A save that fails leaves the old value or the new one.
+    fn save(&mut self, boot: Boot) -> Result<(), CellFault>
+        ensures ok { OnOk result (held self.new ≡ boot) }
+        ensures err { OnErr result ((held self.new ≡ held self.old) ⊎ (held self.new ≡ boot)) }
+        ensures cause { OnErr result (HasRisen (faults self.old) (faults self.new)) }
+        ensures reliable { is_reliable self.old → IsOk result × is_reliable self.new };
+
+    /// How many saves have failed.
+    fn failures(&self) -> u64
+        ensures { result ≡ faults self.now };
+}
+
+/// A cell in memory, of which at most one save fails.
+#[derive(Drop)]
+pub struct MemCell {
+    boot: Boot,
+    /// Where a save is left to fail, how many come before it.
+    before_fault: Option<u64>,
+    /// Whether the save that fails leaves the new value.
+    keeps: bool,
+    failures: u64,
+}
+
+impl MemCell {
+    /// A cell no save of which fails.
+    pub fn new() -> Self
+        ensures held { held_by result ≡ record { boots = 0; view = 0 } }
+        ensures reliable { IsReliable result }
+    {
+        MemCell::failing(0, false)
+    }
+
+    /// A cell of which the save of this number fails, counted from 1, and no other: at 0 none does. The save that
+    /// fails leaves the new value where `keep`.
+    pub fn failing(at: u64, keep: bool) -> Self
+        ensures held { held_by result ≡ record { boots = 0; view = 0 } }
+        ensures before_fault { saves_before_fault result ≡ (if at == 0 then None else Some (at - 1)) }
+        ensures keeps { IsTrue (keeps_at_fault result) ↔ IsTrue keep }
+    {
+        MemCell {
+            boot: Boot { boots: 0, view: 0 },
+            before_fault: at.checked_sub(1),
+            keeps: keep,
+            failures: 0,
+        }
+    }
+}
+
+impl BootCell for MemCell {
+    ghost held = { held_by };
+
+    ghost faults = { faults_of };
+
+    ghost is_reliable = { IsReliable };
+
+    fn load(&self) -> Boot {
+        self.boot
+    }
+
+    fn save(&mut self, boot: Boot) -> Result<(), CellFault>
+        ensures ok { OnOk result (held_by self.new ≡ boot) }
+        ensures err { OnErr result ((held_by self.new ≡ held_by self.old) ⊎ (held_by self.new ≡ boot)) }
+        ensures cause { OnErr result (HasRisen (faults_of self.old) (faults_of self.new)) }
+        ensures reliable { IsReliable self.old → IsOk result × IsReliable self.new }
+        // Which save fails, and what it leaves.
+        ensures before_fault { saves_before_fault self.new ≡ fault_after_save (saves_before_fault self.old) }
+        ensures fails { IsErr result ↔ (saves_before_fault self.old ≡ Some 0) }
+        ensures kept { OnErr result (held_by self.new ≡ (if keeps_at_fault self.old then boot else held_by self.old)) }
+        ensures keeps { keeps_at_fault self.new ≡ keeps_at_fault self.old }
+    {
+        match self.before_fault {
+            Some(0) => {
+                self.before_fault = None;
+                self.failures = self.failures.saturating_add(1);
+                if self.keeps {
+                    self.boot = boot;
+                }
+                Err(CellFault)
+            }
+            Some(left) => {
+                self.before_fault = Some(left - 1);
+                self.boot = boot;
+                Ok(())
+            }
+            None => {
+                self.boot = boot;
+                Ok(())
+            }
+        }
+    }
+
+    fn failures(&self) -> u64 {
+        self.failures
+    }
+}
