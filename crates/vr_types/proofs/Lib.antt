@@ -1,0 +1,10 @@
+pub mod Choosing
+pub mod ChoosingPick
+pub mod ChoosingPlace
+pub mod ChoosingRight
+pub mod ChoosingState
+mod Runs
+pub mod Saving
+mod WorkedRuns
+mod WorkedSteps
+mod WrongRule
