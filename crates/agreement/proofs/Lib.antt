@@ -1,0 +1,42 @@
+-- lists, counts and tests
+mod Beginnings
+mod Members
+mod Quorums
+mod Tests
+mod Put
+-- what holds at every moment: the history, and each invariant
+mod Histories
+mod Votes
+mod Vouched
+mod Standing
+mod Elections
+mod Invariant
+-- it stays true, and chosen rows begin every later view
+mod Later
+mod Keeps
+mod Prior
+mod Rises
+-- the moves that steps are made of
+mod Moves
+mod Parts
+mod Prepares
+mod Opens
+mod Takes
+-- the rules, the steps, and the worlds that a legal list reaches
+mod NormalRules
+mod TransferRules
+mod ChangeRules
+mod RecoveryRules
+mod Events
+mod Replies
+mod Reached
+-- the laws
+mod Agreeing
+pub mod Laws
+pub mod Unique
+-- nothing is invented
+mod KeptRows
+mod Rows
+pub mod Asked
+-- a legal list, computed
+mod Worked
