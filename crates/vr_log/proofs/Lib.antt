@@ -1,0 +1,4 @@
+pub mod KeptLemmas
+pub mod Others
+pub mod OutcomeLemmas
+pub mod Rows

@@ -1,0 +1,56 @@
+-- The site that a running site's parts show.
+use Rattle.std.specs.Prelude.{◌≡◌, ℕ, ◌+◌, ◌*◌, true, List, [], length, map, nat_le, slice_index, Result, MatchResult}
+use Rattle.std.specs.declared.alloc.AllocError.{AllocError}
+use Rattle.vr_types.specs.declared.cell.Boot.{Boot}
+use Rattle.vr_types.specs.declared.event.OutcomeOf.{OutcomeOf}
+use Rattle.vr_types.specs.declared.machine.Machine.{Ghosts}
+use Rattle.vr_types.specs.Site.{Ack, Vote, Site, is_running}
+use Rattle.vr_types.specs.Choice.{has_acknowledged}
+use Rattle.vr_types.specs.Step.{Step, Handled}
+use Rattle.vr_types.specs.Handling.{envelopes}
+use Rattle.vr_log.specs.declared.running.VoteOf.{VoteOf}
+use Rattle.vr_log.specs.declared.running.Running.{Running}
+use Rattle.vr_log.specs.Kept.{IsKept}
+use Rattle.vr_log.specs.Outcomes.{ended}
+
+-- a kept vote
+abbrev pub vote_of : {C : Type 0} → VoteOf C → Vote C
+vote_of vote = record { from = vote.from; last_normal = vote.last_normal; done = vote.done; log = vote.log }
+
+-- One number a site sums up the acknowledgements that came: site j has acknowledged the first n rows exactly where n is at most its number.
+abbrev pub SumUp : List ℕ → List Ack → Type 0
+SumUp acked acks = (j n : ℕ) → has_acknowledged acks n j ≡ nat_le n (slice_index acked j)
+
+-- the site that runs so, over this cell, where these acknowledgements came
+abbrev pub site_of : {H C R O S : Type 0} → Running H C R O S → List Ack → Boot → Site C
+site_of r acks cell = record {
+  status = r.status;
+  view = r.view;
+  last_normal = r.last_normal;
+  log = r.kept.log;
+  done = r.kept.done;
+  collected = record { acks = acks; starts = r.starts.items; voted = r.voted; votes = map vote_of r.votes.items; responses = [] };
+  cell = cell;
+}
+
+-- what runs is kept from this start, has a number for each of 2f+1 sites, and is normal or in change
+pub record IsSound {H C R O S : Type 0} (m : Ghosts H C R O S) (start : H) (f : ℕ) (r : Running H C R O S) : Type 0 where
+  pub kept : IsKept m start r.kept
+  pub sites : length r.acked.items ≡ 2 * f + 1
+  pub up : is_running r.status ≡ true
+
+-- the same, where these acknowledgements came
+pub record IsRunning {H C R O S : Type 0} (m : Ghosts H C R O S) (start : H) (f : ℕ) (r : Running H C R O S) (acks : List Ack) : Type 0 where
+  pub sound : IsSound m start f r
+  pub summed : SumUp r.acked.items acks
+
+-- What was done is the step: what runs shows the site after it, and the outcome is the step's.
+pub record Meets {H C R O S : Type 0} (m : Ghosts H C R O S) (start : H) (f me : ℕ) (r : Running H C R O S) (out : OutcomeOf C R O) (step : Step C R O) : Type 0 where
+  pub running : IsRunning m start f r step.site.collected.acks
+  pub site : step.site ≡ site_of r step.site.collected.acks step.site.cell
+  pub sent : out.sent.items ≡ envelopes m start me step
+  pub ending : step.ending ≡ ended out.dropped
+
+-- What was done is the step; or a growth was refused, which comes only where the event is handled.
+abbrev pub Follows : {H C R O S : Type 0} → Ghosts H C R O S → H → ℕ → ℕ → Running H C R O S → Result (OutcomeOf C R O) AllocError → Step C R O → Type 0
+Follows m start f me r result step = MatchResult result (λ out. Meets m start f me r out step) (λ _. step.ending ≡ Handled)

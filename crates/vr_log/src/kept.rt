@@ -1,0 +1,87 @@
+ghost use Rattle.std.specs.Prelude.{◌≡◌, ◌+◌, ◌<◌, ◌++◌, ◌∷◌, [], Some, slice_get, filter_map, IfOk, OnOk, length, max, min};
+
+use crate::clients::Clients;
+use crate::log::Log;
+use std::alloc::{AllocError, Global};
+use vr_types::{MAX_ROWS, Machine, Row};
+
+/// What a client is told of its request.
+#[derive(Clone, Copy, Debug, PartialEq, Eq)]
+pub struct AnswerOf<R> {
+    pub client: u16,
+    pub number: u32,
+    pub reply: R,
+}
+
+/// An answer of a machine.
+pub type Answer<M> = AnswerOf<<M as Machine>::Reply>;
+
+/// The log, what the clients were told, the machine, and how many rows of the log went into it.
+#[derive(Drop)]
+pub struct Kept<M: Machine> {
+    pub log: Log<M>,
+    pub clients: Clients<M>,
+    pub machine: M,
+    pub done: u16,
+}
+
+impl<M: Machine> Kept<M> {
+    ghost use Rattle.vr_types.specs.Step.{places_between};
+    ghost use Rattle.vr_log.specs.Kept.{IsKept, IsReady, answer_to};
+
+    /// Puts a row at the log's end. After an `Err` this may only be dropped.
+    pub fn append(&mut self, row: Row<M>) -> Result<(), AllocError>
+        requires { length self.old.log < MAX_ROWS }
+        ensures log { OnOk result (self.new.log ≡ self.old.log ++ row ∷ []) }
+        ensures done { self.new.done ≡ self.old.done }
+        ensures machine { self.new.machine ≡ self.old.machine }
+        ensures kept { OnOk result ((start : M) → IsKept M.Machine start self.old → IsKept M.Machine start self.new) }
+    {
+        self.clients.note(row.client, row.number)?;
+        self.log.push(row)?;
+        Ok(())
+    }
+
+    /// Executes the rows up to this place, as far as the log goes, and gives their answers in order.
+    /// After an `Err` this may only be dropped.
+    pub fn execute(&mut self, alloc: Global, upto: u16) -> Result<Vec<Answer<M>>, AllocError>
+        requires { IsReady M.Machine self.old }
+        ensures done { OnOk result (self.new.done ≡ max self.old.done (min upto (length self.old.log))) }
+        ensures log { self.new.log ≡ self.old.log }
+        ensures ready { OnOk result (IsReady M.Machine self.new) }
+        ensures kept { OnOk result ((start : M) → IsKept M.Machine start self.old → IsKept M.Machine start self.new) }
+        ensures answers { IfOk result (λ answers. (start : M) → IsKept M.Machine start self.old →
+            answers.items ≡ filter_map (answer_to M.Machine start self.old.log) (places_between self.old.done self.new.done)) }
+    {
+        let mut answers = Vec::new(alloc);
+        let end = (upto as usize).min(self.log.len());
+        while (self.done as usize) < end {
+            let row = self.log.row(self.done as usize);
+            let answer = self.execute_next(row)?;
+            answers.push(answer)?;
+        }
+        Ok(answers)
+    }
+
+    /// Executes the next row. After an `Err` this may only be dropped.
+    fn execute_next(&mut self, row: Row<M>) -> Result<Answer<M>, AllocError>
+        requires row { slice_get self.old.log self.old.done ≡ Some row }
+        requires ready { IsReady M.Machine self.old }
+        ensures done { OnOk result (self.new.done ≡ self.old.done + 1) }
+        ensures log { self.new.log ≡ self.old.log }
+        ensures ready { OnOk result (IsReady M.Machine self.new) }
+        ensures kept { OnOk result ((start : M) → IsKept M.Machine start self.old → IsKept M.Machine start self.new) }
+        ensures answer { IfOk result (λ answer. (start : M) → IsKept M.Machine start self.old →
+            answer_to M.Machine start self.old.log (self.old.done + 1) ≡ Some answer) }
+    {
+        let _len = self.log.len();
+        let reply = self.machine.apply(row.client, row.cmd)?;
+        self.clients.answered(row.client, row.number, reply)?;
+        self.done += 1;
+        Ok(AnswerOf {
+            client: row.client,
+            number: row.number,
+            reply,
+        })
+    }
+}

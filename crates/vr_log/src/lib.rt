@@ -1,0 +1,14 @@
+//! What a running site keeps: its log, what it told its clients, its machine, and what it collects; and the outcomes
+//! that every rule of a site is made of.
+#![tactic(auto)]
+
+pub mod clients;
+pub mod kept;
+pub mod log;
+pub mod running;
+pub mod send;
+
+pub use clients::{Clients, ClientsOf};
+pub use kept::{Answer, AnswerOf, Kept};
+pub use log::{Log, LogOf};
+pub use running::{Running, VoteOf};

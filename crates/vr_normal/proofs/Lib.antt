@@ -1,0 +1,4 @@
+mod Again
+mod BeatLemmas
+mod Cases
+mod Supports

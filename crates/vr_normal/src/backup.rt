@@ -1,0 +1,154 @@
+ghost use Rattle.std.specs.Prelude.{◌≡◌, ◌+◌, ◌==◌, ◌||◌, ◌++◌, ◌∷◌, [], nat_lt, length, IfOk, OnOk, List, if◌then◌else◌};
+ghost use Rattle.vr_types.specs.Group.{primary, mail};
+ghost use Rattle.vr_types.specs.declared.cell.Boot.{Boot};
+ghost use Rattle.vr_types.specs.Normal.{on_prepare, on_commit, prepares};
+ghost use Rattle.vr_types.specs.Site.{Ack, is_change};
+ghost use Rattle.vr_types.specs.Step.{asks_state};
+ghost use Rattle.vr_log.specs.Kept.{IsKept, IsReady};
+ghost use Rattle.vr_log.specs.Outcomes.{Sends};
+ghost use Rattle.vr_log.specs.Running.{IsSound, IsRunning, Follows, site_of};
+
+use std::alloc::{AllocError, Global};
+use vr_log::send::{changes_view, dropped, mail_to, primary_of, sends_one, silent};
+use vr_log::{Kept, Running};
+use vr_types::{Config, Machine, MsgOf, Outcome, OutcomeOf, Row, Status, Why};
+
+/// PREPARE: the next row goes into the log, rows that are committed are executed, and the primary is told.
+pub fn prepare<M: Machine>(
+    alloc: Global,
+    config: Config,
+    running: &mut Running<M>,
+    from: u16,
+    view: u32,
+    place: u16,
+    done: u16,
+    row: Row<M>,
+) -> Result<Outcome<M>, AllocError>
+    requires { IsReady M.Machine running.old.kept }
+    ensures sound { OnOk result ((start : M) → IsSound M.Machine start config.f running.old → IsSound M.Machine start config.f running.new) }
+    ensures status { running.new.status ≡ running.old.status }
+    ensures view { running.new.view ≡ running.old.view }
+    ensures step { (start : M) (acks : List Ack) (cell : Boot) → IsRunning M.Machine start config.f running.old acks →
+        Follows M.Machine start config.f config.me running.new result (on_prepare config.f config.me (site_of running.old acks cell) from view place done row) }
+{
+    if primary_of(config, view) != from {
+        return Ok(dropped(alloc, Why::NotPrimary));
+    }
+    if view < running.view {
+        return Ok(dropped(alloc, Why::View));
+    }
+    if lags(running.status, running.view, view) {
+        return ask_state(alloc, config, view, running.kept.done);
+    }
+    take_row(alloc, config, running, place, done, row)
+}
+
+/// COMMIT: rows that are committed are executed.
+pub fn commit<M: Machine>(
+    alloc: Global,
+    config: Config,
+    running: &mut Running<M>,
+    from: u16,
+    view: u32,
+    done: u16,
+) -> Result<Outcome<M>, AllocError>
+    requires { IsReady M.Machine running.old.kept }
+    ensures sound { OnOk result ((start : M) → IsSound M.Machine start config.f running.old → IsSound M.Machine start config.f running.new) }
+    ensures status { running.new.status ≡ running.old.status }
+    ensures view { running.new.view ≡ running.old.view }
+    ensures step { (start : M) (acks : List Ack) (cell : Boot) → IsRunning M.Machine start config.f running.old acks →
+        Follows M.Machine start config.f config.me running.new result (on_commit config.f config.me (site_of running.old acks cell) from view done) }
+{
+    if primary_of(config, view) != from {
+        return Ok(dropped(alloc, Why::NotPrimary));
+    }
+    if view < running.view {
+        return Ok(dropped(alloc, Why::View));
+    }
+    if lags(running.status, running.view, view) {
+        return ask_state(alloc, config, view, running.kept.done);
+    }
+    let len = running.kept.log.len() as u16;
+    let _ = running.kept.execute(alloc, done)?;
+    if len < done {
+        ask_state(alloc, config, running.view, len)
+    } else {
+        Ok(silent(alloc))
+    }
+}
+
+/// Takes the row where its place is the next one, executes what is committed, and acknowledges the log. Where a row
+/// before it is missing, the state is asked for in place of that.
+fn take_row<M: Machine>(
+    alloc: Global,
+    config: Config,
+    running: &mut Running<M>,
+    place: u16,
+    done: u16,
+    row: Row<M>,
+) -> Result<Outcome<M>, AllocError>
+    requires { IsReady M.Machine running.old.kept }
+    ensures sound { OnOk result ((start : M) → IsSound M.Machine start config.f running.old → IsSound M.Machine start config.f running.new) }
+    ensures status { running.new.status ≡ running.old.status }
+    ensures view { running.new.view ≡ running.old.view }
+    ensures step { (start : M) (acks : List Ack) (cell : Boot) → IsRunning M.Machine start config.f running.old acks →
+        Follows M.Machine start config.f config.me running.new result (prepares config.f config.me (site_of running.old acks cell) place done row) }
+{
+    let len = running.kept.log.len();
+    append_next(&mut running.kept, place, row)?;
+    let _ = running.kept.execute(alloc, done)?;
+    if len + 1 < place as usize {
+        ask_state(alloc, config, running.view, len as u16)
+    } else {
+        acknowledge_log(alloc, config, running.view, running.kept.log.len() as u16)
+    }
+}
+
+/// Puts the row at the log's end where its place is the next one. After an `Err` this may only be dropped.
+fn append_next<M: Machine>(kept: &mut Kept<M>, place: u16, row: Row<M>) -> Result<(), AllocError>
+    requires { IsReady M.Machine kept.old }
+    ensures log { OnOk result (kept.new.log ≡ (if place == length kept.old.log + 1 then kept.old.log ++ row ∷ [] else kept.old.log)) }
+    ensures done { kept.new.done ≡ kept.old.done }
+    ensures ready { OnOk result (IsReady M.Machine kept.new) }
+    ensures kept { OnOk result ((start : M) → IsKept M.Machine start kept.old → IsKept M.Machine start kept.new) }
+{
+    if place as usize != kept.log.len() + 1 {
+        return Ok(());
+    }
+    kept.append(row)?;
+    Ok(())
+}
+
+/// Whether a message of a view has to do with more than the site knows: of a later view, or of the one that the site
+/// changes to.
+fn lags(status: Status, view: u32, other: u32) -> bool
+    ensures { result ≡ (nat_lt view other || is_change status) }
+{
+    view < other || changes_view(status)
+}
+
+/// GETSTATE for the rows after the first ones, to the primary of a view.
+fn ask_state<C: Drop, R: Drop, O: Drop>(
+    alloc: Global,
+    config: Config,
+    view: u32,
+    base: u16,
+) -> Result<OutcomeOf<C, R, O>, AllocError>
+    ensures { IfOk result (λ out. Sends out (asks_state config.f config.me view base)) }
+{
+    let msg = MsgOf::GetState { view, base };
+    sends_one(alloc, mail_to(config, primary_of(config, view), msg))
+}
+
+/// PREPAREOK for the first rows, to the primary of a view.
+fn acknowledge_log<C: Drop, R: Drop, O: Drop>(
+    alloc: Global,
+    config: Config,
+    view: u32,
+    place: u16,
+) -> Result<OutcomeOf<C, R, O>, AllocError>
+    ensures { IfOk result (λ out. Sends out (mail config.me (primary config.f view) (MsgOf.PrepareOk view place) ∷ [])) }
+{
+    let msg = MsgOf::PrepareOk { view, place };
+    sends_one(alloc, mail_to(config, primary_of(config, view), msg))
+}

@@ -1,0 +1,124 @@
+ghost use Rattle.std.specs.Prelude.{◌≡◌, ◌+◌, ◌*◌, ◌≤◌, IsTrue, IfOk, OnOk, List, length, map};
+ghost use Rattle.vr_types.specs.declared.cell.Boot.{Boot};
+ghost use Rattle.vr_types.specs.Choice.{Choice, IsRight, IsLargest};
+ghost use Rattle.vr_types.specs.Normal.{on_prepare_ok, with_ack};
+ghost use Rattle.vr_types.specs.Site.{Ack};
+ghost use Rattle.vr_types.specs.Step.{executes_and_answers};
+ghost use Rattle.vr_log.specs.Kept.{IsReady, reply_mail};
+ghost use Rattle.vr_log.specs.Running.{IsSound, IsRunning, Follows, site_of};
+ghost use Rattle.vr_normal.specs.Support.{has_support};
+
+use std::alloc::{AllocError, Global};
+use vr_log::send::{dropped, mail_to_client, primary_of, runs_normally};
+use vr_log::{AnswerOf, Running};
+use vr_types::{Config, EnvelopeOf, Machine, MsgOf, Outcome, OutcomeOf, Why};
+
+/// PREPAREOK: what f different other sites have acknowledged is executed, and its clients are answered.
+pub fn prepare_ok<M: Machine>(
+    alloc: Global,
+    config: Config,
+    running: &mut Running<M>,
+    from: u16,
+    view: u32,
+    place: u16,
+) -> Result<Outcome<M>, AllocError>
+    requires ready { IsReady M.Machine running.old.kept }
+    requires sites { length running.old.acked.items ≡ 2 * config.f + 1 }
+    requires from { from ≤ 2 * config.f }
+    ensures sound { OnOk result ((start : M) → IsSound M.Machine start config.f running.old → IsSound M.Machine start config.f running.new) }
+    ensures status { running.new.status ≡ running.old.status }
+    ensures view { running.new.view ≡ running.old.view }
+    ensures step { (choose : Choice M.Cmd) (start : M) (acks : List Ack) (cell : Boot) → IsRight config.f choose → IsRunning M.Machine start config.f running.old acks →
+        Follows M.Machine start config.f config.me running.new result (on_prepare_ok choose config.f config.me (site_of running.old acks cell) from view place) }
+{
+    if !runs_normally(running.status) {
+        return Ok(dropped(alloc, Why::Status));
+    }
+    if view != running.view {
+        return Ok(dropped(alloc, Why::View));
+    }
+    if primary_of(config, running.view) != config.me {
+        return Ok(dropped(alloc, Why::NotPrimary));
+    }
+    acknowledge(alloc, config, running, from, place)
+}
+
+/// Notes a site's acknowledgement, executes up to the commit place, and answers the clients.
+fn acknowledge<M: Machine>(
+    alloc: Global,
+    config: Config,
+    running: &mut Running<M>,
+    from: u16,
+    place: u16,
+) -> Result<Outcome<M>, AllocError>
+    requires ready { IsReady M.Machine running.old.kept }
+    requires sites { length running.old.acked.items ≡ 2 * config.f + 1 }
+    requires from { from ≤ 2 * config.f }
+    ensures sound { OnOk result ((start : M) → IsSound M.Machine start config.f running.old → IsSound M.Machine start config.f running.new) }
+    ensures status { running.new.status ≡ running.old.status }
+    ensures view { running.new.view ≡ running.old.view }
+    ensures step { (choose : Choice M.Cmd) (start : M) (acks : List Ack) (cell : Boot) → IsRight config.f choose → IsRunning M.Machine start config.f running.old acks →
+        Follows M.Machine start config.f config.me running.new result (
+        let y = with_ack from place (site_of running.old acks cell) in
+        executes_and_answers (choose.commit_place config.me y.collected.acks) y) }
+{
+    let len = running.kept.log.len() as u16;
+    let before = running.acked[from as usize];
+    running.acked[from as usize] = before.max(place.min(len));
+    let upto = commit_place(config, running.acked.as_slice());
+    let answers = running.kept.execute(alloc, upto)?;
+    let sent = replies_of(alloc, config, running.view, answers.as_slice())?;
+    Ok(OutcomeOf {
+        sent,
+        dropped: None,
+    })
+}
+
+/// The largest place that f different other sites have acknowledged: one of the places that a site named, or 0.
+fn commit_place(config: Config, acked: &[u16]) -> u16
+    requires { length acked.now ≡ 2 * config.f + 1 }
+    ensures { IsLargest (λ n. IsTrue (has_support config.f config.me acked.now n)) result }
+{
+    let mut place: u16 = 0;
+    for candidate in acked {
+        if *candidate > place && is_supported(config, acked, *candidate) {
+            place = *candidate;
+        }
+    }
+    place
+}
+
+/// Whether f different other sites have acknowledged this place.
+fn is_supported(config: Config, acked: &[u16], place: u16) -> bool
+    requires { length acked.now ≡ 2 * config.f + 1 }
+    ensures { result ≡ has_support config.f config.me acked.now place }
+{
+    let mut count: u16 = 0;
+    for site in 0..2 * config.f + 1 {
+        if site != config.me && place <= acked[site as usize] {
+            count += 1;
+        }
+    }
+    config.f <= count
+}
+
+/// The replies of a view to these answers, in order.
+fn replies_of<C: Drop, R: Copy, O: Drop>(
+    alloc: Global,
+    config: Config,
+    view: u32,
+    answers: &[AnswerOf<R>],
+) -> Result<Vec<EnvelopeOf<C, R, O>>, AllocError>
+    ensures { IfOk result (λ sent. sent.items ≡ map (reply_mail config.me view) answers.now) }
+{
+    let mut sent = Vec::new(alloc);
+    for answer in answers {
+        let reply = MsgOf::Reply {
+            view,
+            number: answer.number,
+            reply: answer.reply,
+        };
+        sent.push(mail_to_client(config, answer.client, reply))?;
+    }
+    Ok(sent)
+}
