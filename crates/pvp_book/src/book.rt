@@ -1,8 +1,9 @@
 ghost use Rattle.std.specs.Prelude.{◌≡◌, ◌<◌, ◌≤◌, length, slice_get, IfOk, OnOk};
 ghost use Rattle.pvp_book.specs.Answer.{is_amount, is_refusal};
 
-use crate::entry::{Entry, PairState};
+use crate::entry::Entry;
 use crate::open::{self, OpenOrders};
+use crate::pair::PairState;
 use crate::sums::{self, node_of};
 use pvp_types::{Cmd, PayOrder, Reason, Reply, Setup};
 use std::alloc::{AllocError, Global};

@@ -4,10 +4,12 @@
 pub mod book;
 pub mod entry;
 pub mod open;
+pub mod pair;
 mod sums;
 #[cfg(test)]
 mod tests;
 
 pub use book::Book;
-pub use entry::{Entry, PairState};
+pub use entry::Entry;
 pub use open::OpenOrders;
+pub use pair::{Pair, PairState};
