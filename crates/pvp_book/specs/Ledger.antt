@@ -13,7 +13,7 @@ use Rattle.pvp_book.specs.declared.entry.Entry.{Entry}
 use Rattle.pvp_book.specs.declared.pair.Pair.{Pair}
 use Rattle.pvp_book.specs.declared.pair.PairState.{PairState}
 use Rattle.pvp_book.specs.declared.pair.PairState.TheVariants.{Unmatched, Matched, Settled, Rescinded}
-use Rattle.pvp_book.specs.Accounts.{balance_with}
+use Rattle.pvp_book.specs.Accounts.{received, given, balance_with}
 use Rattle.pvp_book.specs.Pairs.{pairs, matched, pair_of, has_reference, is_matched, is_rescinded}
 use Rattle.pvp_book.specs.Settlement.{candidates, settled}
 
@@ -139,6 +139,11 @@ pub record IsWithin (most : ℕ) (z : ℤ) : Type 0 where
 -- What is settled and what may still be settled are together no more than what is matched, however pairs are counted.
 pub record IsWithinMatched (settled offered matched : List Pair) : Type 0 where
   pub sums : (f : Pair → ℕ) → sum_by f settled + sum_by f offered ≤ sum_by f matched
+
+-- what any member received and gave in any currency is small
+pub record IsSmall (entries : List Entry) (settled : List Pair) : Type 0 where
+  pub received : (m c : ℕ) → received entries settled m c ≤ most_total
+  pub given : (m c : ℕ) → given entries settled m c ≤ most_total
 
 -- what holds of every ledger, so that no sum leaves its type
 pub record IsLedger (held : Ledger) : Type 0 where

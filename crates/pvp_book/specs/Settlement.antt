@@ -5,7 +5,7 @@ use Rattle.pvp_types.specs.declared.command.Cmd.{Cmd}
 use Rattle.pvp_types.specs.declared.command.Cmd.TheVariants.{Settle}
 use Rattle.pvp_book.specs.declared.entry.Entry.{Entry}
 use Rattle.pvp_book.specs.declared.pair.Pair.{Pair}
-use Rattle.pvp_book.specs.Pairs.{matched, has_reference, is_rescinded}
+use Rattle.pvp_book.specs.Pairs.{matched, has_reference, both_have_asked}
 use Rattle.pvp_book.specs.Limits.{passes, balances_with}
 
 -- both members pass their tests, where these pairs are settled
@@ -14,9 +14,9 @@ both_pass setup entries settled p =
     passes setup p.first (balances_with setup entries settled p.first)
     && passes setup p.second (balances_with setup entries settled p.second)
 
--- the matched pairs that are neither settled nor rescinded, in the order in which they were matched
+-- the matched pairs that are neither settled nor taken back by both sides, in the order in which they were matched
 abbrev pub candidates : List Entry → List Pair → List Pair
-candidates entries settled = filter (λ p. not (has_reference settled p.reference) && not (is_rescinded entries p)) (matched entries)
+candidates entries settled = filter (λ p. not (has_reference settled p.reference) && not (both_have_asked entries p)) (matched entries)
 
 -- What a walk over some candidates takes, after some pairs are settled: a candidate is taken where fewer than `most`
 -- earlier ones were, and both its members pass with the earlier ones and this one settled.

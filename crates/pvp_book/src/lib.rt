@@ -3,11 +3,13 @@
 
 pub mod book;
 pub mod entry;
+mod limits;
 pub mod open;
 pub mod pair;
 mod sums;
 #[cfg(test)]
 mod tests;
+mod walk;
 
 pub use book::Book;
 pub use entry::Entry;
