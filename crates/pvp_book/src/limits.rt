@@ -1,5 +1,5 @@
 //! The three tests of a member.
-ghost use Rattle.std.specs.Prelude.{◌≡◌, ◌<◌, ◌≤◌, ◌^◌, length, map, sum_by, take, All};
+ghost use Rattle.std.specs.Prelude.{◌≡◌, ◌<◌, ◌≤◌, ◌^◌, ◌*◌, length, map, sum_by, take, All};
 ghost use Rattle.std.specs.List.{zip, range_with_len};
 ghost use Rattle.pvp_types.specs.Setup.{IsValid};
 ghost use Rattle.pvp_book.specs.Accounts.{balance_with};
@@ -60,9 +60,12 @@ fn worth(currencies: &[Currency], balances: &[i64]) -> u128
     requires { sum_by worth_of (zip currencies.now balances.now) < 2 ^ 128 }
     ensures { result ≡ sum_by worth_of (zip currencies.now balances.now) }
 {
-    match (currencies, balances) {
-        ([c, cs @ ..], [b, bs @ ..]) => worth_of(c, *b) + worth(cs, bs),
-        _ => 0,
+    match currencies {
+        [] => 0,
+        [c, cs @ ..] => match balances {
+            [] => 0,
+            [b, bs @ ..] => worth_of(c, *b) + worth(cs, bs),
+        },
     }
 }
 
@@ -70,9 +73,12 @@ fn debt(currencies: &[Currency], balances: &[i64]) -> u128
     requires { sum_by debt_of (zip currencies.now balances.now) < 2 ^ 128 }
     ensures { result ≡ sum_by debt_of (zip currencies.now balances.now) }
 {
-    match (currencies, balances) {
-        ([c, cs @ ..], [b, bs @ ..]) => debt_of(c, *b) + debt(cs, bs),
-        _ => 0,
+    match currencies {
+        [] => 0,
+        [c, cs @ ..] => match balances {
+            [] => 0,
+            [b, bs @ ..] => debt_of(c, *b) + debt(cs, bs),
+        },
     }
 }
 
@@ -80,9 +86,12 @@ fn shortage(currencies: &[Currency], balances: &[i64]) -> u128
     requires { sum_by shortage_of (zip currencies.now balances.now) < 2 ^ 128 }
     ensures { result ≡ sum_by shortage_of (zip currencies.now balances.now) }
 {
-    match (currencies, balances) {
-        ([c, cs @ ..], [b, bs @ ..]) => shortage_of(c, *b) + shortage(cs, bs),
-        _ => 0,
+    match currencies {
+        [] => 0,
+        [c, cs @ ..] => match balances {
+            [] => 0,
+            [b, bs @ ..] => shortage_of(c, *b) + shortage(cs, bs),
+        },
     }
 }
 
@@ -94,4 +103,42 @@ fn is_within_short(short: &[u64], balances: &[i64]) -> bool
         .iter()
         .zip(balances)
         .all(|(limit, balance)| below(*balance) <= *limit)
+}
+
+/// The three tests of a member on its balances by currency.
+fn meets_limits(currencies: &[Currency], member: &Member, balances: &[i64]) -> bool
+    requires worth { sum_by worth_of (zip currencies.now balances.now) < 2 ^ 128 }
+    requires debt { sum_by debt_of (zip currencies.now balances.now) < 2 ^ 128 }
+    requires shortage { sum_by shortage_of (zip currencies.now balances.now) < 2 ^ 128 }
+    ensures { result ≡ meets_limits currencies.now member.now balances.now }
+{
+    debt(currencies, balances) <= worth(currencies, balances)
+        && is_within_short(member.short.as_slice(), balances)
+        && shortage(currencies, balances) <= u128::from(member.aggregate)
+}
+
+/// Whether the member of a number passes its tests with these balances.
+pub fn passes(setup: &Setup, m: u16, balances: &[i64]) -> bool
+    requires valid { IsValid setup.now }
+    requires small { All (IsWithin (2 * most_total)) balances.now }
+    ensures { result ≡ passes setup.now m balances.now }
+{
+    match setup.members.get(usize::from(m).saturating_sub(1)) {
+        Some(member) => meets_limits(setup.currencies.as_slice(), member, balances),
+        None => false,
+    }
+}
+
+/// A member's balances in the first currencies, where some pairs are settled.
+pub fn balances(entries: &[Entry], settled: &[Pair], m: u16, currencies: u8) -> [i64; 8]
+    requires small { IsSmall entries.now settled.now }
+    requires few { currencies ≤ 8 }
+    ensures value { take currencies result ≡ map (λ c. balance_with entries.now settled.now m c) (range_with_len 0 currencies) }
+    ensures small { All (IsWithin most_total) (take currencies result) }
+{
+    let mut balances = [0; MOST_CURRENCIES];
+    for c in 0..currencies {
+        balances[usize::from(c)] = sums::balance(entries, settled, m, c);
+    }
+    balances
 }
