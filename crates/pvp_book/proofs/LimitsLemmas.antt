@@ -8,7 +8,8 @@ use Rattle.std.proofs.lemmas.Bool.{and_parts, leb-true}
 use Rattle.std.proofs.lemmas.List.Sums.{sum_by-cons}
 use Rattle.std.proofs.lemmas.List.{take_more_set, length-set}
 use Rattle.std.proofs.lemmas.List.FromFn.{map-range_with_len_more}
-use Rattle.std.proofs.lemmas.List.Elements.{All-head, All-tail, All-weaker, All-same, All-push}
+use Rattle.std.proofs.lemmas.List.Elements.{All-head, All-tail, All-weaker, All-same, All-push, All-set}
+use Rattle.std.proofs.Math.Seq.{take-set-lt}
 use Rattle.pvp_types.specs.declared.setup.Setup.{Setup}
 use Rattle.pvp_types.specs.declared.setup.Currency.{Currency}
 use Rattle.pvp_types.specs.declared.setup.SetupFault.{SetupFault}
@@ -18,7 +19,7 @@ use Rattle.pvp_book.specs.declared.entry.Entry.{Entry}
 use Rattle.pvp_book.specs.declared.pair.Pair.{Pair}
 use Rattle.pvp_book.specs.Accounts.{balance_with}
 use Rattle.pvp_book.specs.Limits.{above, below, worth_of, debt_of, shortage_of}
-use Rattle.pvp_book.specs.Ledger.{most_total, IsWithin}
+use Rattle.pvp_book.specs.Ledger.{most_amount, most_total, IsWithin}
 
 passed : (b : Bool) (x : SetupFault) (o : Option SetupFault) → cond (not b) (Some x) o ≡ None → (b ≡ true) × (o ≡ None)
 passed true x o e = (cc, e)
@@ -148,4 +149,31 @@ AreBalances-more entries settled m n at bs b few here is value small =
       value = written ∙ ap (λ xs. xs ++ b ∷ []) is.value ∙ ap (λ x. map (λ c. balance_with entries settled m c) (range_with_len 0 n) ++ x ∷ []) value
       ∙ sym (map-range_with_len_more (λ c. balance_with entries settled m c) 0 n n (omega arith));
       small = All-same (IsWithin most_total) _ _ written (All-push (IsWithin most_total) (take n bs) b is.small small);
+    }
+
+-- the balance of one currency once an amount is paid out
+paid : (r : ℤ) (amt : ℕ) → IsWithin most_total r → amt ≤ most_amount
+    → (to_z w64 (of_z w64 (to_z w64 (of_z w64 r) -ℤ to_z w64 amt)) ≡ r -ℤ pos amt) × IsWithin (2 * most_total) (r -ℤ pos amt)
+paid r amt small few =
+    let low = small.above in
+    let high = small.below in
+    (omega (arith, ints), record { above = omega (arith, ints); below = omega (arith, ints) })
+
+-- and all of them
+pub record ArePaid (entries : List Entry) (settled : List Pair) (m n c amt : ℕ) (bs : List ℤ) : Type 0 where
+  pub value : bs ≡ slice_set (map (λ d. balance_with entries settled m d) (range_with_len 0 n)) c (balance_with entries settled m c -ℤ pos amt)
+  pub small : All (IsWithin (2 * most_total)) bs
+
+pub ArePaid-from : (entries : List Entry) (settled : List Pair) (m n c amt at : ℕ) (bs : List ℤ) (r : ℤ) → c < n → at ≡ c
+    → take n bs ≡ map (λ d. balance_with entries settled m d) (range_with_len 0 n) → All (IsWithin most_total) (take n bs)
+    → r ≡ balance_with entries settled m c → IsWithin most_total r → amt ≤ most_amount
+    → ArePaid entries settled m n c amt (take n (slice_set bs at (to_z w64 (of_z w64 (to_z w64 (of_z w64 r) -ℤ to_z w64 amt)))))
+ArePaid-from entries settled m n c amt at bs r known here value small is fits few =
+    let both = paid r amt fits few in
+    let written : take n (slice_set bs at (to_z w64 (of_z w64 (to_z w64 (of_z w64 r) -ℤ to_z w64 amt)))) ≡ slice_set (take n bs) c (r -ℤ pos amt) =
+    ap (λ i. take n (slice_set bs i (to_z w64 (of_z w64 (to_z w64 (of_z w64 r) -ℤ to_z w64 amt))))) here
+    ∙ ap (λ x. take n (slice_set bs c x)) both.0 ∙ take-set-lt n bs c (r -ℤ pos amt) known in
+    record {
+      value = written ∙ ap (λ xs. slice_set xs c (r -ℤ pos amt)) value ∙ ap (λ x. slice_set (map (λ d. balance_with entries settled m d) (range_with_len 0 n)) c (x -ℤ pos amt)) is;
+      small = All-same (IsWithin (2 * most_total)) _ _ written (All-set (IsWithin (2 * most_total)) (take n bs) c (r -ℤ pos amt) both.1 (all-doubled (take n bs) small));
     }

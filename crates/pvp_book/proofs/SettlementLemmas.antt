@@ -15,7 +15,7 @@ use Rattle.pvp_book.specs.Pairs.{matched_by, matched, has_reference, has_asked, 
 use Rattle.pvp_book.specs.Settlement.{both_pass, candidates, pass, taken_by, settled_after, settled}
 use Rattle.pvp_book.specs.Ledger.{IsWithinMatched}
 
-append-nil : {X : Type 0} (xs : List X) → xs ++ [] ≡ xs
+pub append-nil : {X : Type 0} (xs : List X) → xs ++ [] ≡ xs
 append-nil [] = refl
 append-nil (x ∷ xs) = ap (λ ys. x ∷ ys) (append-nil xs)
 
