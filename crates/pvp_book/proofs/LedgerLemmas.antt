@@ -1,6 +1,6 @@
 -- Why no sum over a ledger leaves its type.
 use Rattle.std.proofs.Common.{◌≡◌, ℕ, suc, ◌+◌, ◌*◌, ◌≤◌, ◌<◌, Bool, true, false, List, [], ◌∷◌, ◌++◌, length, arith, refl, ap, sym, subst, ◌∙◌, length-append, Option, Some, None}
-use Rattle.std.specs.Prelude.{not, sum_by, ◌-◌, ◌^◌, zero, slice_get, map, fold, ◌==◌, ◌&&◌, if◌then◌else◌}
+use Rattle.std.specs.Prelude.{not, sum_by, ◌-◌, ◌^◌, zero, slice_get, map, filter, fold, ◌==◌, ◌&&◌, if◌then◌else◌}
 use Rattle.std.specs.List.{filter_map, cons_option, range_with_len}
 use Rattle.std.proofs.Common.{ℤ, pos, ◌+ℤ◌, ◌-ℤ◌, to_z, of_z, w64, FitsSigned}
 use Rattle.std.proofs.lemmas.Int.{ints}
@@ -21,9 +21,10 @@ use Rattle.pvp_types.specs.declared.command.Cmd.TheVariants.{Instruct, Rescind, 
 use Rattle.pvp_book.specs.declared.entry.Entry.{Entry}
 use Rattle.pvp_book.specs.declared.pair.Pair.{Pair}
 use Rattle.pvp_book.specs.Accounts.{paid_in_to, paid_out_of, pay_ins, pay_outs, bought, sold, balance_with}
-use Rattle.pvp_book.specs.Pairs.{matched_by, matched}
+use Rattle.pvp_book.specs.declared.pair.PairState.{PairState}
+use Rattle.pvp_book.specs.Pairs.{opened_by, pairs, matched_by, matched}
 use Rattle.pvp_book.specs.Settlement.{candidates, settled}
-use Rattle.pvp_book.specs.Ledger.{Ledger, IsLedger, IsWithinMatched, IsSmall, most_amount, most_total, IsWithin, amount_of, total, node_of, order_by, orders, open_orders, has_payment, sum_of_balances, outstanding_in, outstanding_from}
+use Rattle.pvp_book.specs.Ledger.{Ledger, IsLedger, IsWithinMatched, IsSmall, most_amount, most_total, IsWithin, amount_of, total, node_of, order_by, orders, open_orders, has_payment, state_with, is_state, sum_of_balances, outstanding_in, outstanding_from}
 use Rattle.pvp_book.specs.Answer.{answer, answer_to, on_instruct, on_fund, on_pay_out, has_currency, has_member, is_member_number, is_refusal, is_amount}
 use Rattle.pvp_book.proofs.SettlementLemmas.{at_most, settled-push, IsWithinMatched-push}
 
@@ -89,9 +90,9 @@ all-taken-le (e ∷ es) m c =
 pub IsSmall-within : (entries : List Entry) (done rest : List Pair) → IsWithinMatched done rest (matched entries) → total entries ≤ most_total
     → IsSmall entries done
 IsSmall-within entries done rest within small = record {
-    received = λ m c. let all = all-brought-le entries m c in let part = within.sums (bought m c) in omega arith;
-    given = λ m c. let all = all-taken-le entries m c in let part = within.sums (sold m c) in omega arith;
-  }
+  received = λ m c. let all = all-brought-le entries m c in let part = within.sums (bought m c) in omega arith;
+  given = λ m c. let all = all-taken-le entries m c in let part = within.sums (sold m c) in omega arith;
+}
 
 pub total-small : (held : Ledger) → IsLedger held → total held.entries ≤ most_total
 total-small held is =
@@ -117,6 +118,15 @@ pub orders-few : (held : Ledger) → IsLedger held → (c : ℕ) → length (ord
 orders-few held is c =
     let fewer : length held.entries ≤ held.applied = is.fewer in
     let part = length-filter_map-le (λ (e : Entry). order_by c e.client e.cmd e.reply) held.entries in
+    omega arith
+
+pub pairs-few : (held : Ledger) → IsLedger held → (done : List Pair) (state : PairState)
+    → length (filter (λ p. is_state (state_with held.entries done p) state) (pairs held.entries)) ≤ held.applied
+pairs-few held is done state =
+    let fewer : length held.entries ≤ held.applied = is.fewer in
+    let part = length-filter_map-le (λ (e : Entry). opened_by e.client e.cmd e.reply) held.entries in
+    let same = length-filter (λ p. is_state (state_with held.entries done p) state) (pairs held.entries) in
+    let some = count_by-le-length (λ p. is_state (state_with held.entries done p) state) (pairs held.entries) in
     omega arith
 
 amount-small : (amt : ℕ) → is_amount amt ≡ true → amt ≤ most_amount
@@ -203,7 +213,7 @@ IsLedger-accepted held client cmd reply is room answered accepted =
       small = omega arith;
       fewer = simp length-append (omega arith);
       within = subst (λ done. IsWithinMatched done (candidates (held.entries ++ entry ∷ []) done) (matched (held.entries ++ entry ∷ [])))
-      (sym (settled-push held.setup held.entries entry)) (IsWithinMatched-push held.setup held.entries (settled held.setup held.entries) entry is.within);
+          (sym (settled-push held.setup held.entries entry)) (IsWithinMatched-push held.setup held.entries (settled held.setup held.entries) entry is.within);
     }
 
 -- a difference of small numbers is the same in the type

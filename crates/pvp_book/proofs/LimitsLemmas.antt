@@ -147,7 +147,7 @@ AreBalances-more entries settled m n at bs b few here is value small =
     record {
       places = length-set bs at (to_z w64 (of_z w64 b)) ∙ is.places;
       value = written ∙ ap (λ xs. xs ++ b ∷ []) is.value ∙ ap (λ x. map (λ c. balance_with entries settled m c) (range_with_len 0 n) ++ x ∷ []) value
-      ∙ sym (map-range_with_len_more (λ c. balance_with entries settled m c) 0 n n (omega arith));
+          ∙ sym (map-range_with_len_more (λ c. balance_with entries settled m c) 0 n n (omega arith));
       small = All-same (IsWithin most_total) _ _ written (All-push (IsWithin most_total) (take n bs) b is.small small);
     }
 

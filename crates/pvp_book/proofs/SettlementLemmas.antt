@@ -1,7 +1,7 @@
 -- What is settled after one more entry, and that it is no more than what was matched.
-use Rattle.std.proofs.Common.{◌≡◌, ℕ, suc, zero, ◌+◌, ◌*◌, ◌-◌, ◌≤◌, ◌<◌, Bool, true, false, List, [], ◌∷◌, ◌++◌, length, arith, refl, ap, sym, subst, ◌∙◌, Option, Some, None, append_assoc, filter, cond, eq-eqb}
+use Rattle.std.proofs.Common.{◌≡◌, ℕ, ◌+◌, ◌-◌, ◌≤◌, Bool, true, false, List, [], ◌∷◌, ◌++◌, arith, refl, ap, sym, ◌∙◌, append_assoc, filter, cond, eq-eqb}
 use Rattle.std.specs.Prelude.{not, sum_by, if◌then◌else◌, ◌&&◌, ◌||◌, ◌==◌, nat_lt}
-use Rattle.std.specs.List.{list_any, filter_map, cons_option}
+use Rattle.std.specs.List.{cons_option}
 use Rattle.std.proofs.lemmas.List.Sums.{sum_by-cons, sum_by-append}
 use Rattle.std.proofs.lemmas.List.Elements.{filter-append, filter_map-append}
 use Rattle.std.proofs.lemmas.List.Folds.{list_any-append}
@@ -153,7 +153,7 @@ sum-filter-filter f q r s (p ∷ ps) both =
 -- what is offered and not taken
 taken-within : (setup : Setup) (entries : List Entry) (done : List Pair) (cmd : Cmd) (f : Pair → ℕ)
     → let taken = taken_by setup entries done cmd in
-      sum_by f taken + sum_by f (without taken (candidates entries done)) ≤ sum_by f (candidates entries done)
+    sum_by f taken + sum_by f (without taken (candidates entries done)) ≤ sum_by f (candidates entries done)
 unfolding taken_by without
 taken-within setup entries done (Settle most) f = pass-within setup entries done most (candidates entries done) f
 taken-within setup entries done (Instruct reference other sell sell_amt buy buy_amt) f = let part = sum-filter-part f (λ _. true) (candidates entries done) in omega arith
@@ -192,21 +192,22 @@ pub IsWithinMatched-push : (setup : Setup) (entries : List Entry) (done : List P
     → IsWithinMatched done (candidates entries done) (matched entries)
     → IsWithinMatched (done ++ taken_by setup entries done e.cmd) (candidates (entries ++ e ∷ []) (done ++ taken_by setup entries done e.cmd)) (matched (entries ++ e ∷ []))
 unfolding without
-IsWithinMatched-push setup entries done e is = record { sums = λ f.
-    let new = cons_option (matched_by e.client e.cmd e.reply) [] in
-    let taken = taken_by setup entries done e.cmd in
-    let keeps = λ (p : Pair). not (has_reference (done ++ taken) p.reference) && not (both_have_asked (entries ++ e ∷ []) p) in
-    let kept = λ (p : Pair). not (has_reference done p.reference) && not (both_have_asked entries p) in
-    let more : matched (entries ++ e ∷ []) ≡ matched entries ++ new = filter_map-append (λ (x : Entry). matched_by x.client x.cmd x.reply) entries (e ∷ []) in
-    let split : sum_by f (filter keeps (matched (entries ++ e ∷ []))) ≡ sum_by f (filter keeps (matched entries)) + sum_by f (filter keeps new) =
-    ap (λ ps. sum_by f (filter keeps ps)) more ∙ ap (sum_by f) (filter-append keeps (matched entries) new) ∙ sum_by-append f (filter keeps (matched entries)) (filter keeps new) in
-    let all : sum_by f (matched (entries ++ e ∷ [])) ≡ sum_by f (matched entries) + sum_by f new = ap (sum_by f) more ∙ sum_by-append f (matched entries) new in
-    let here = sum-filter-part f keeps new in
-    let old = sum-filter-filter f keeps kept (λ p. not (has_reference taken p.reference)) (matched entries) (λ p h. still-offered entries e done taken p h) in
-    let part = taken-within setup entries done e.cmd f in
-    let before = is.sums f in
-    let now = sum_by-append f done taken in
-    omega arith
+IsWithinMatched-push setup entries done e is = record {
+  sums = λ f.
+      let new = cons_option (matched_by e.client e.cmd e.reply) [] in
+      let taken = taken_by setup entries done e.cmd in
+      let keeps = λ (p : Pair). not (has_reference (done ++ taken) p.reference) && not (both_have_asked (entries ++ e ∷ []) p) in
+      let kept = λ (p : Pair). not (has_reference done p.reference) && not (both_have_asked entries p) in
+      let more : matched (entries ++ e ∷ []) ≡ matched entries ++ new = filter_map-append (λ (x : Entry). matched_by x.client x.cmd x.reply) entries (e ∷ []) in
+      let split : sum_by f (filter keeps (matched (entries ++ e ∷ []))) ≡ sum_by f (filter keeps (matched entries)) + sum_by f (filter keeps new) =
+      ap (λ ps. sum_by f (filter keeps ps)) more ∙ ap (sum_by f) (filter-append keeps (matched entries) new) ∙ sum_by-append f (filter keeps (matched entries)) (filter keeps new) in
+      let all : sum_by f (matched (entries ++ e ∷ [])) ≡ sum_by f (matched entries) + sum_by f new = ap (sum_by f) more ∙ sum_by-append f (matched entries) new in
+      let here = sum-filter-part f keeps new in
+      let old = sum-filter-filter f keeps kept (λ p. not (has_reference taken p.reference)) (matched entries) (λ p h. still-offered entries e done taken p h) in
+      let part = taken-within setup entries done e.cmd f in
+      let before = is.sums f in
+      let now = sum_by-append f done taken in
+      omega arith;
 }
 
 pub IsWithinMatched-nil : IsWithinMatched [] (candidates [] []) (matched [])

@@ -1,8 +1,8 @@
 -- The walk step by step.
-use Rattle.std.proofs.Common.{◌≡◌, ℕ, suc, zero, ◌+◌, ◌-◌, ◌≤◌, ◌<◌, Bool, true, false, List, [], ◌∷◌, ◌++◌, length, arith, refl, ap, sym, subst, ◌∙◌, append_assoc, take, drop, get_or, add-one, drop-cons, length-append, cond, sum_by}
+use Rattle.std.proofs.Common.{◌≡◌, ℕ, suc, zero, ◌+◌, ◌-◌, ◌≤◌, ◌<◌, true, false, List, [], ◌∷◌, ◌++◌, length, arith, refl, ap, sym, subst, ◌∙◌, append_assoc, take, drop, get_or, add-one, drop-cons, length-append}
 use Rattle.std.specs.Prelude.{if◌then◌else◌, ◌&&◌, nat_lt}
 use Rattle.std.proofs.lemmas.List.Sums.{sum_by-append, sum_by-cons}
-use Rattle.std.proofs.lemmas.Bool.{lt-ltb, le-ltb}
+use Rattle.std.proofs.lemmas.Bool.{lt-ltb}
 use Rattle.pvp_types.specs.declared.setup.Setup.{Setup}
 use Rattle.pvp_book.specs.declared.entry.Entry.{Entry}
 use Rattle.pvp_book.specs.declared.pair.Pair.{Pair}
@@ -23,11 +23,11 @@ pub record IsWalked (setup : Setup) (entries : List Entry) (start offered matche
 pub IsWalked-start : (setup : Setup) (entries : List Entry) (start offered matched : List Pair) (most : ℕ) → IsWithinMatched start offered matched
     → IsWalked setup entries start offered matched most 0 0 start
 IsWalked-start setup entries start offered matched most within = record {
-    taken = ap (λ n. start ++ pass setup entries start n offered) (omega arith);
-    front = whole start;
-    counted = omega arith;
-    within = within;
-  }
+  taken = ap (λ n. start ++ pass setup entries start n offered) (omega arith);
+  front = whole start;
+  counted = omega arith;
+  within = within;
+}
   where
     whole : (xs : List Pair) → take (length xs) xs ≡ xs
     whole [] = refl
@@ -35,20 +35,22 @@ IsWalked-start setup entries start offered matched most within = record {
 
 -- one pair more is settled: it was offered
 pub IsWithinMatched-more : (now rest matched : List Pair) (p : Pair) → IsWithinMatched now (p ∷ rest) matched → IsWithinMatched (now ++ p ∷ []) rest matched
-IsWithinMatched-more now rest matched p is = record { sums = λ f.
-    let before = is.sums f in
-    let offered = sum_by-cons f p rest in
-    let settled = sum_by-append f now (p ∷ []) in
-    let one = sum_by-cons f p [] in
-    omega arith
+IsWithinMatched-more now rest matched p is = record {
+  sums = λ f.
+      let before = is.sums f in
+      let offered = sum_by-cons f p rest in
+      let settled = sum_by-append f now (p ∷ []) in
+      let one = sum_by-cons f p [] in
+      omega arith;
 }
 
 -- one pair fewer is offered
 pub IsWithinMatched-fewer : (now rest matched : List Pair) (p : Pair) → IsWithinMatched now (p ∷ rest) matched → IsWithinMatched now rest matched
-IsWithinMatched-fewer now rest matched p is = record { sums = λ f.
-    let before = is.sums f in
-    let offered = sum_by-cons f p rest in
-    omega arith
+IsWithinMatched-fewer now rest matched p is = record {
+  sums = λ f.
+      let before = is.sums f in
+      let offered = sum_by-cons f p rest in
+      omega arith;
 }
 
 take-more : (xs ys : List Pair) (n : ℕ) → n ≤ length xs → take n (xs ++ ys) ≡ take n xs
@@ -75,8 +77,8 @@ module _ (setup : Setup) (entries : List Entry) (start offered matched : List Pa
       ∙ ap (λ b. if b then p ∷ pass setup entries (now ++ p ∷ []) (most - count - 1) (drop (i + 1) offered) else pass setup entries now (most - count) (drop (i + 1) offered)) passed in
       record {
         taken = ap (λ n. (now ++ p ∷ []) ++ pass setup entries (now ++ p ∷ []) n (drop (i + 1) offered)) left
-        ∙ append_assoc now (p ∷ []) (pass setup entries (now ++ p ∷ []) (most - count - 1) (drop (i + 1) offered))
-        ∙ ap (λ ps. now ++ ps) (sym step) ∙ next here (most - count) is ∙ is.taken;
+            ∙ append_assoc now (p ∷ []) (pass setup entries (now ++ p ∷ []) (most - count - 1) (drop (i + 1) offered))
+            ∙ ap (λ ps. now ++ ps) (sym step) ∙ next here (most - count) is ∙ is.taken;
         front = take-more now (p ∷ []) (length start) (omega arith) ∙ is.front;
         counted = simp length-append (omega arith);
         within = IsWithinMatched-more now (drop (i + 1) offered) matched p (subst (λ ps. IsWithinMatched now ps matched) here is.within);
@@ -108,7 +110,7 @@ pub IsSmall-more : (setup : Setup) (entries : List Entry) (start offered : List 
 IsSmall-more setup entries start offered most i count now p within small is =
     IsSmall-within entries (now ++ get_or offered i p ∷ []) (drop (i + 1) offered)
     (IsWithinMatched-more now (drop (i + 1) offered) (matched entries) (get_or offered i p)
-      (subst (λ ps. IsWithinMatched now ps (matched entries)) (offered-here offered i p within) is.within)) small
+    (subst (λ ps. IsWithinMatched now ps (matched entries)) (offered-here offered i p within) is.within)) small
 
 drop-all : (xs : List Pair) (n : ℕ) → length xs ≤ n → drop n xs ≡ []
 drop-all [] zero h = refl

@@ -124,6 +124,11 @@ module _ (setup : Setup) (entries : List Entry) (client : ℕ) where
   answer (PayOut ccy amt) = on_pay_out ccy amt
   answer (Paid ccy out) = on_paid ccy out
 
+-- the operator's word to settle
+abbrev pub is_walk : ℕ → Cmd → Bool
+is_walk client (Settle most) = client == 0
+is_walk client _ = false
+
 abbrev pub is_refusal : Reply → Bool
 is_refusal (No reason) = true
 is_refusal _ = false

@@ -28,7 +28,11 @@ fn above(balance: i64) -> u64
 fn below(balance: i64) -> u64
     ensures { result ≡ below balance }
 {
-    if balance < 0 { balance.unsigned_abs() } else { 0 }
+    if balance < 0 {
+        balance.unsigned_abs()
+    } else {
+        0
+    }
 }
 
 /// The worth of what a member has in a currency, less the haircut.

@@ -1,5 +1,5 @@
-ghost use Rattle.std.specs.Prelude.{◌≡◌, ◌&&◌, not, OnOk, IfOk};
-ghost use Rattle.pvp_book.specs.Pairs.{opened_by, matched_by, matched, has_reference, is_matched, is_rescission, has_asked, both_have_asked, is_rescinded};
+ghost use Rattle.std.specs.Prelude.{◌≡◌, ◌&&◌, not, filter, length, IfOk};
+ghost use Rattle.pvp_book.specs.Pairs.{opened_by, pairs, matched_by, has_reference, is_matched, is_rescission, has_asked, both_have_asked, is_rescinded};
 ghost use Rattle.pvp_book.specs.Settlement.{candidates};
 ghost use Rattle.pvp_book.specs.Ledger.{state_with, is_state};
 
@@ -192,4 +192,15 @@ pub fn candidates(
         .filter_map(|e| matched_by(e))
         .filter(|p| may_settle(entries, settled, p))
         .collect(alloc)
+}
+
+/// How many pairs have come so far and no further, where some are settled.
+pub fn count_in(entries: &[Entry], settled: &[Pair], state: PairState) -> usize
+    ensures { result ≡ length (filter (λ p. is_state (state_with entries.now settled.now p) state) (pairs entries.now)) }
+{
+    entries
+        .iter()
+        .filter_map(|e| opened_by(e))
+        .filter(|p| state_of(entries, settled, p).is(state))
+        .count()
 }

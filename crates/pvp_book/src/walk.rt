@@ -8,9 +8,8 @@ ghost use Rattle.pvp_book.specs.Ledger.{most_amount, most_total, total, IsSmall,
 ghost use Rattle.pvp_book.specs.Answer.{balances_less};
 
 use crate::entry::Entry;
-use crate::limits;
 use crate::pair::Pair;
-use crate::sums;
+use crate::{limits, sums};
 use pvp_types::Setup;
 use std::alloc::AllocError;
 

@@ -1,9 +1,9 @@
-use Rattle.std.proofs.Common.{◌≡◌, ◌<◌, ◌*◌, length, take, ◌-ℤ◌, to_z, of_z, w64, sym, subst, ap, ◌∙◌, map, pos, All}
+use Rattle.std.proofs.Common.{◌<◌, ◌*◌, take, ◌-ℤ◌, to_z, of_z, w64, sym, subst, ap, ◌∙◌, map, pos, All}
 use Rattle.std.specs.List.{slice_set, range_with_len}
 use Rattle.pvp_book.specs.Accounts.{balance_with}
 use Rattle.pvp_book.specs.Limits.{passes}
 use Rattle.pvp_book.specs.Ledger.{IsWithin, most_total}
-use Rattle.pvp_book.proofs.LimitsLemmas.{ArePaid, ArePaid-from}
+use Rattle.pvp_book.proofs.LimitsLemmas.{ArePaid-from}
 use Rattle.pvp_book.proofs.walk.passes_after.Goals as goal
 
 pub passes-requires-clause-small : goal.passes-requires-clause-small
