@@ -5,3 +5,4 @@ pub mod Settlement
 pub mod Ledger
 pub mod Answer
 pub mod Open
+pub mod Laws
