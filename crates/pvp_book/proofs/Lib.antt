@@ -3,4 +3,11 @@ pub mod LedgerLemmas
 pub mod LimitsLemmas
 pub mod WalkLemmas
 pub mod BookLemmas
+pub mod Reached
+pub mod Counts
+pub mod OrderLemmas
+pub mod StandingLemmas
+pub mod FigureLemmas
+pub mod PassLemmas
+pub mod LegLemmas
 pub mod WorkedRows

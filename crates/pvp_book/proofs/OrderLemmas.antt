@@ -1,7 +1,7 @@
 -- Pay-ins count once, orders are numbered, and payments follow them.
-use Rattle.std.proofs.Common.{◌≡◌, ℕ, suc, zero, ◌+◌, ◌≤◌, Bool, true, false, cond, List, [], ◌∷◌, ◌++◌, length, map, arith, refl, ap, sym, subst, ◌∙◌, Option, Some, None, count_by, ◌⊎◌, inl, inr, length-append, eqb-true}
+use Rattle.std.proofs.Common.{◌≡◌, ℕ, ◌+◌, ◌≤◌, Bool, true, false, List, [], ◌∷◌, ◌++◌, length, map, arith, refl, ap, sym, subst, ◌∙◌, Some, None, count_by, ◌⊎◌, inl, inr, length-append, eqb-true}
 use Rattle.std.specs.Prelude.{not, ◌&&◌, ◌==◌, if◌then◌else◌, pos, int_lt}
-use Rattle.std.specs.List.{filter_map, cons_option, range_with_len, list_any}
+use Rattle.std.specs.List.{cons_option, range_with_len}
 use Rattle.std.proofs.lemmas.Bool.{and_parts}
 use Rattle.std.proofs.lemmas.List.Elements.{filter_map-append}
 use Rattle.std.proofs.lemmas.List.FromFn.{map-range_with_len_more}
@@ -9,7 +9,6 @@ use Rattle.pvp_types.specs.declared.setup.Setup.{Setup}
 use Rattle.pvp_types.specs.declared.command.Cmd.{Cmd}
 use Rattle.pvp_types.specs.declared.command.Cmd.TheVariants.{Instruct, Rescind, Fund, Settle, PayOut, Paid}
 use Rattle.pvp_types.specs.declared.command.PayOrder.{PayOrder}
-use Rattle.pvp_types.specs.declared.command.Reply.{Reply}
 use Rattle.pvp_types.specs.declared.command.Reply.TheVariants.{Done, Order, No}
 use Rattle.pvp_types.specs.declared.command.Reason.TheVariants.{NotYours, UnknownMember, UnknownCurrency, BadAmount, UnknownReference, Repeated, Short, TestFails, BankShort}
 use Rattle.pvp_book.specs.declared.entry.Entry.{Entry}
@@ -29,7 +28,7 @@ fund-new setup entries client c pay member amt e =
   where
     by : (yours known small none there : Bool)
         → is_refusal (if not yours then No NotYours else if not known then No UnknownMember else if not small then No BadAmount
-          else if none then No UnknownReference else if there then No Repeated else Done) ≡ false
+        else if none then No UnknownReference else if there then No Repeated else Done) ≡ false
         → there ≡ false
     by true true true false false e = refl
     by true true true false true e = absurd (cc e)
@@ -46,7 +45,7 @@ paid-known setup entries client c out e =
   where
     by : (yours known made paid : Bool)
         → is_refusal (if not yours then No NotYours else if not known then No UnknownMember else if not made then No UnknownReference
-          else if paid then No Repeated else Done) ≡ false
+        else if paid then No Repeated else Done) ≡ false
         → (made ≡ true) × (paid ≡ false)
     by true true true false e = (refl, refl)
     by true true true true e = absurd (cc e)
@@ -63,9 +62,9 @@ pay_out-order setup entries client c amt e =
   where
     by : (yours member currency small short passing bare : Bool) (n : ℕ)
         → is_refusal (if not yours then No NotYours else if not member then No UnknownMember else if not currency then No UnknownCurrency else if not small then No BadAmount
-          else if short then No Short else if not passing then No TestFails else if bare then No BankShort else Order n) ≡ false
+        else if short then No Short else if not passing then No TestFails else if bare then No BankShort else Order n) ≡ false
         → (if not yours then No NotYours else if not member then No UnknownMember else if not currency then No UnknownCurrency else if not small then No BadAmount
-          else if short then No Short else if not passing then No TestFails else if bare then No BankShort else Order n) ≡ Order n
+        else if short then No Short else if not passing then No TestFails else if bare then No BankShort else Order n) ≡ Order n
     by true true true true false true false n e = refl
     by true true true true false true true n e = absurd (cc e)
     by true true true true false false bare n e = absurd (cc e)
@@ -106,7 +105,7 @@ pub pay_ins-once : (setup : Setup) (history : List Row) → PayInsOnce (book_of 
 pay_ins-once setup history =
     reached setup PayInsOnce (λ c k. omega arith)
     (λ entries client cmd held accepted c k.
-      count-push (λ (e : Entry). is_pay_in c k e.cmd) entries (entry_of setup entries client cmd) (held c k) (λ is. pay_in-new setup entries client cmd c k accepted is))
+    count-push (λ (e : Entry). is_pay_in c k e.cmd) entries (entry_of setup entries client cmd) (held c k) (λ is. pay_in-new setup entries client cmd c k accepted is))
     history
 
 map-same : (xs : List ℕ) → map (λ x. x) xs ≡ xs
@@ -138,6 +137,7 @@ numbered-nil os is = outs-append os [] ∙ nil (map (λ (o : PayOrder). o.out) o
     nil : (xs : List ℕ) → xs ++ [] ≡ xs
     nil [] = refl
     nil (x ∷ xs) = ap (λ ys. x ∷ ys) (nil xs)
+
     same : (xs : List PayOrder) → length xs ≡ length (xs ++ [])
     same xs = simp length-append (omega arith)
 
@@ -163,8 +163,8 @@ unfolding IsNumbered
 numbered setup c history =
     reached setup (λ entries. IsNumbered (orders entries c)) start
     (λ entries client cmd held accepted.
-      subst IsNumbered (sym (filter_map-append (λ (e : Entry). order_by c e.client e.cmd e.reply) entries (entry_of setup entries client cmd ∷ [])))
-      (numbered-more setup entries client cmd c accepted held))
+    subst IsNumbered (sym (filter_map-append (λ (e : Entry). order_by c e.client e.cmd e.reply) entries (entry_of setup entries client cmd ∷ [])))
+    (numbered-more setup entries client cmd c accepted held))
     history
   where
     start : IsNumbered []
@@ -197,9 +197,9 @@ follows setup c history =
 pub are-ordered : (setup : Setup) (c : ℕ) (history : List Row) → AreOrdered (book_of setup history) c
 unfolding IsNumbered Follows
 are-ordered setup c history = record {
-    numbered = numbered setup c history;
-    once = λ n. reached setup (λ entries. count_by (λ (e : Entry). is_payment c n e.cmd) entries ≤ 1) (omega arith)
-    (λ entries client cmd held accepted.
+  numbered = numbered setup c history;
+  once = λ n. reached setup (λ entries. count_by (λ (e : Entry). is_payment c n e.cmd) entries ≤ 1) (omega arith)
+      (λ entries client cmd held accepted.
       count-push (λ (e : Entry). is_payment c n e.cmd) entries (entry_of setup entries client cmd) held (λ is. (payment-new setup entries client cmd c n accepted is).1)) history;
-    after = follows setup c history;
-  }
+  after = follows setup c history;
+}

@@ -1,8 +1,8 @@
 -- What is settled was instructed by both sides, once, and is not taken back.
-use Rattle.std.proofs.Common.{◌≡◌, ◌≢◌, ℕ, suc, zero, ◌+◌, ◌≤◌, Bool, true, false, cond, List, [], ◌∷◌, ◌++◌, length, arith, refl, ap, sym, subst, ◌∙◌, Option, Some, None, count_by, filter, find, sum_by, All, eqb-true, append_assoc, ◌⊎◌, inl, inr, eq-eqb}
+use Rattle.std.proofs.Common.{◌≡◌, ℕ, ◌≤◌, Bool, true, false, List, [], ◌∷◌, ◌++◌, arith, refl, ap, sym, subst, ◌∙◌, Option, Some, None, count_by, find, eqb-true, append_assoc, ◌⊎◌, inl, inr}
 use Rattle.std.specs.Prelude.{not, ◌&&◌, ◌||◌, ◌==◌, if◌then◌else◌, nat_lt, ◌-◌}
-use Rattle.std.specs.List.{filter_map, cons_option, list_any, AllByRecursion}
-use Rattle.std.proofs.lemmas.Bool.{and_parts, not-true, eqb-false, ne_eqb, or_from, and_left, and_right}
+use Rattle.std.specs.List.{cons_option, AllByRecursion}
+use Rattle.std.proofs.lemmas.Bool.{and_parts, not-true, eqb-false, ne_eqb}
 use Rattle.std.proofs.lemmas.List.Elements.{filter_map-append}
 use Rattle.std.proofs.lemmas.List.Folds.{list_any-append}
 use Rattle.pvp_types.specs.declared.setup.Setup.{Setup}
@@ -13,19 +13,18 @@ use Rattle.pvp_types.specs.declared.command.Reply.TheVariants.{Done, Matched, Se
 use Rattle.pvp_types.specs.declared.command.Reason.TheVariants.{NotYours, UnknownMember, UnknownCurrency, BadAmount, UnknownReference, Repeated, Mismatch, Late}
 use Rattle.pvp_book.specs.declared.entry.Entry.{Entry}
 use Rattle.pvp_book.specs.declared.pair.Pair.{Pair}
-use Rattle.pvp_book.specs.declared.pair.PairState.{PairState}
 use Rattle.pvp_book.specs.declared.pair.PairState.TheVariants as state
 use Rattle.pvp_book.specs.Pairs.{opened_by, matched_by, pairs, matched, pair_of, has_reference, is_matched, is_rescission, has_asked, both_have_asked, is_rescinded}
 use Rattle.pvp_book.specs.Settlement.{both_pass, candidates, pass, taken_by, settled_after, settled}
 use Rattle.pvp_book.specs.Ledger.{IsWithinMatched, state_with, state_of, is_state}
 use Rattle.pvp_book.specs.Answer.{Row, answer, is_refusal, on_instruct, on_mirror, on_rescind, on_pair, is_mirror, is_side, has_member, has_currency, is_amount, is_member_number, book_of}
-use Rattle.pvp_book.specs.Laws.{IsExchange, IsStanding}
-use Rattle.pvp_book.proofs.SettlementLemmas.{append-nil, settled-push, IsWithinMatched-push, IsWithinMatched-nil, same-self, taken_by-other}
+use Rattle.pvp_book.specs.Laws.{IsExchange}
+use Rattle.pvp_book.proofs.SettlementLemmas.{append-nil, settled-push, IsWithinMatched-push, IsWithinMatched-nil, same-self}
 use Rattle.pvp_book.proofs.Reached.{entry_of, reached}
 use Rattle.pvp_book.proofs.Counts.{each-append, each-left, each-weaker, each-both, each-filter, each-passes, each-false, count-push, find-append, find-passes}
 
 -- what a walk takes was offered
-each-pass : (P : Pair → Type 0) (setup : Setup) (entries : List Entry) (done : List Pair) (most : ℕ) (offered : List Pair)
+pub each-pass : (P : Pair → Type 0) (setup : Setup) (entries : List Entry) (done : List Pair) (most : ℕ) (offered : List Pair)
     → AllByRecursion P offered → AllByRecursion P (pass setup entries done most offered)
 unfolding pass
 each-pass P setup entries done most [] all = tt
@@ -68,9 +67,10 @@ each-settled P setup entries all = each-settled-after P setup [] [] entries tt a
 -- each pair's reference is among the pairs' references
 pub each-among : (ps : List Pair) → AllByRecursion (λ p. has_reference ps p.reference ≡ true) ps
 each-among [] = tt
-each-among (p ∷ ps) =
-    (ap (λ b. b || has_reference ps p.reference) (same-self p.reference),
-      each-weaker (λ q. has_reference ps q.reference ≡ true) (λ q. has_reference (p ∷ ps) q.reference ≡ true) ps (λ q there. by (p.reference == q.reference) (has_reference ps q.reference) there) (each-among ps))
+each-among (p ∷ ps) = (
+  ap (λ b. b || has_reference ps p.reference) (same-self p.reference),
+  each-weaker (λ q. has_reference ps q.reference ≡ true) (λ q. has_reference (p ∷ ps) q.reference ≡ true) ps (λ q there. by (p.reference == q.reference) (has_reference ps q.reference) there) (each-among ps),
+)
   where
     by : (a b : Bool) → b ≡ true → (a || b) ≡ true
     by true b there = refl
@@ -112,7 +112,7 @@ matches setup entries client reference other sell sell_amt buy buy_amt e =
   where
     by : (yours a b c d f g small none : Bool) (rest : Reply)
         → (if not yours then No NotYours else if not (a && (b && not c)) then No UnknownMember else if not (d && (f && not g)) then No UnknownCurrency
-          else if not small then No BadAmount else if none then No UnknownReference else rest) ≡ Matched
+        else if not small then No BadAmount else if none then No UnknownReference else rest) ≡ Matched
         → (a ≡ true) × (b ≡ true) × (c ≡ false) × (g ≡ false) × (rest ≡ Matched)
     by false a b c d f g small none rest e = absurd (cc e)
     by true false b c d f g small none rest e = absurd (cc e)
@@ -220,6 +220,7 @@ late-free setup entries client reference accepted =
         tests false there back e = absurd (cc e)
         tests true true back e = absurd (cc e)
         tests true false back e = refl
+
     by : (yours member : Bool) (pair : Option Pair) → pair_of entries reference ≡ pair
         → is_refusal (if not yours then No NotYours else if not member then No UnknownMember else on_pair setup entries client pair) ≡ false
         → has_reference (settled setup entries) reference ≡ false
@@ -264,6 +265,7 @@ asked-stays entries e p other kept =
     none true false false e = refl
     none false false true e = refl
     none false false false e = refl
+
     one : (client : ℕ) → has_asked (entries ++ e ∷ []) client p.reference ≡ has_asked entries client p.reference
     one client =
         list_any-append (λ (x : Entry). (x.client == client) && is_rescission p.reference x.cmd) entries (e ∷ [])
@@ -295,6 +297,7 @@ matched-part setup entries client cmd is = by (newly-matched setup entries clien
     longer : AllByRecursion (λ p. pair_of (entries ++ entry_of setup entries client cmd ∷ []) p.reference ≡ Some p) (matched entries)
     longer = each-weaker (λ p. pair_of entries p.reference ≡ Some p) (λ p. pair_of (entries ++ entry_of setup entries client cmd ∷ []) p.reference ≡ Some p) (matched entries)
         (λ p known. known-longer entries (entry_of setup entries client cmd) p known) is.known
+
     by : (matched_by client cmd (answer setup entries client cmd) ≡ None) ⊎ NewPair setup entries (matched_by client cmd (answer setup entries client cmd))
         → MatchedPart setup entries (entries ++ entry_of setup entries client cmd ∷ []) (matched entries ++ cons_option (matched_by client cmd (answer setup entries client cmd)) [])
     by (inl none) =
@@ -305,16 +308,16 @@ matched-part setup entries client cmd is = by (newly-matched setup entries clien
         (record {
           exchange = each-append (IsExchange setup) (matched entries) (new.pair ∷ []) is.exchange (new.exchange, tt);
           known = each-append (λ p. pair_of (entries ++ entry_of setup entries client cmd ∷ []) p.reference ≡ Some p) (matched entries) (new.pair ∷ []) longer
-          (known-longer entries (entry_of setup entries client cmd) new.pair new.known, tt);
+              (known-longer entries (entry_of setup entries client cmd) new.pair new.known, tt);
           once = λ r. count-push (λ (p : Pair). p.reference == r) (matched entries) new.pair (is.once r)
-          (λ same. ap (λ n. has_reference (matched entries) n) (sym (eqb-true new.pair.reference r same)) ∙ new.fresh);
+              (λ same. ap (λ n. has_reference (matched entries) n) (sym (eqb-true new.pair.reference r same)) ∙ new.fresh);
         })
 
 IsSound-nil : (setup : Setup) → IsSound setup []
 unfolding settled settled_after
 IsSound-nil setup = record { exchange = tt; known = tt; once = λ r. omega arith; within = IsWithinMatched-nil; kept = tt }
 
-IsSound-push : (setup : Setup) (entries : List Entry) (client : ℕ) (cmd : Cmd) → IsSound setup entries → is_refusal (answer setup entries client cmd) ≡ false
+pub IsSound-push : (setup : Setup) (entries : List Entry) (client : ℕ) (cmd : Cmd) → IsSound setup entries → is_refusal (answer setup entries client cmd) ≡ false
     → IsSound setup (entries ++ entry_of setup entries client cmd ∷ [])
 IsSound-push setup entries client cmd is accepted =
     let e = entry_of setup entries client cmd in
@@ -332,10 +335,10 @@ IsSound-push setup entries client cmd is accepted =
       known = part.known;
       once = part.once;
       within = subst (λ now. IsWithinMatched now (candidates (entries ++ e ∷ []) now) (matched (entries ++ e ∷ []))) (sym (settled-push setup entries e))
-      (IsWithinMatched-push setup entries done e is.within);
+          (IsWithinMatched-push setup entries done e is.within);
       kept = subst (AllByRecursion (λ p. both_have_asked (entries ++ e ∷ []) p ≡ false)) (sym (settled-push setup entries e))
-      (each-both (λ p. is_rescission p.reference cmd ≡ false) (λ p. both_have_asked entries p ≡ false) (λ p. both_have_asked (entries ++ e ∷ []) p ≡ false) (done ++ taken)
-        (λ p other asked. asked-stays entries e p other asked) others kept);
+          (each-both (λ p. is_rescission p.reference cmd ≡ false) (λ p. both_have_asked entries p ≡ false) (λ p. both_have_asked (entries ++ e ∷ []) p ≡ false) (done ++ taken)
+          (λ p other asked. asked-stays entries e p other asked) others kept);
     }
 
 pub sound : (setup : Setup) (history : List Row) → IsSound setup (book_of setup history)

@@ -3,6 +3,7 @@
 
 pub mod book;
 pub mod entry;
+pub mod laws;
 mod limits;
 pub mod open;
 pub mod pair;
