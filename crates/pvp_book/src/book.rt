@@ -29,7 +29,7 @@ pub struct Book {
     pairs: IndexMap<u32, Pair>,
     /// The settled pairs, in the order in which they were settled.
     settled: Vec<Pair>,
-    applied: u32,
+    applied: u16,
 }
 
 impl Model for Book {
@@ -83,7 +83,7 @@ impl Book {
     pub fn applied(&self) -> u32
         ensures { result ≡ self.now.applied }
     {
-        self.applied
+        u32::from(self.applied)
     }
 
     /// A member's balance in a currency, in minor units.
