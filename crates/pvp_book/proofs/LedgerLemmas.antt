@@ -1,11 +1,11 @@
 -- Why no sum over a ledger leaves its type.
 use Rattle.std.proofs.Common.{◌≡◌, ℕ, suc, ◌+◌, ◌*◌, ◌≤◌, ◌<◌, Bool, true, false, List, [], ◌∷◌, ◌++◌, length, arith, refl, ap, sym, subst, ◌∙◌, length-append, Option, Some, None}
-use Rattle.std.specs.Prelude.{not, ◌-◌, ◌^◌, zero, slice_get, map, fold, ◌==◌, ◌&&◌, if◌then◌else◌}
+use Rattle.std.specs.Prelude.{not, sum_by, ◌-◌, ◌^◌, zero, slice_get, map, filter, fold, ◌==◌, ◌&&◌, if◌then◌else◌}
 use Rattle.std.specs.List.{filter_map, cons_option, range_with_len}
 use Rattle.std.proofs.Common.{ℤ, pos, ◌+ℤ◌, ◌-ℤ◌, to_z, of_z, w64, FitsSigned}
 use Rattle.std.proofs.lemmas.Int.{ints}
 use Rattle.std.proofs.lemmas.Bool.{and_parts, leb-true}
-use Rattle.std.proofs.lemmas.List.Sums.{sum_by-le-sum_by, sum_by_push, length-filter, count_by-le-length, fold-append}
+use Rattle.std.proofs.lemmas.List.Sums.{sum_by-cons, sum_by_push, length-filter, count_by-le-length, fold-append}
 use Rattle.std.proofs.lemmas.List.{length-map}
 use Rattle.std.proofs.lemmas.List.FromFn.{map-range_with_len_more}
 use Rattle.std.proofs.lemmas.Option.{slice_get-map, slice_get_within}
@@ -15,42 +15,93 @@ use Rattle.pvp_types.specs.declared.setup.Setup.{Setup}
 use Rattle.pvp_types.specs.declared.command.Cmd.{Cmd}
 use Rattle.pvp_types.specs.declared.command.PayOrder.{PayOrder}
 use Rattle.pvp_types.specs.declared.command.Reply.{Reply}
-use Rattle.pvp_types.specs.declared.command.Reply.TheVariants.{No}
+use Rattle.pvp_types.specs.declared.command.Reply.TheVariants.{Done, Matched, Settled, Order, No}
 use Rattle.pvp_types.specs.declared.command.Reason.TheVariants.{NotYours, UnknownMember, UnknownCurrency, BadAmount}
-use Rattle.pvp_types.specs.declared.command.Cmd.TheVariants.{Fund, PayOut, Paid}
+use Rattle.pvp_types.specs.declared.command.Cmd.TheVariants.{Instruct, Rescind, Fund, Settle, PayOut, Paid}
 use Rattle.pvp_book.specs.declared.entry.Entry.{Entry}
-use Rattle.pvp_book.specs.Ledger.{Ledger, IsLedger, most_amount, most_total, IsWithin, amount_of, total, node_of, paid_in_to, paid_out_of, pay_ins, pay_outs, order_by, orders, open_orders, has_payment, balance, sum_of_balances, outstanding_in, outstanding_from}
-use Rattle.pvp_book.specs.Answer.{answer, answer_to, on_fund, on_pay_out, has_currency, has_member, is_member_number, is_refusal, is_amount}
+use Rattle.pvp_book.specs.declared.pair.Pair.{Pair}
+use Rattle.pvp_book.specs.Accounts.{paid_in_to, paid_out_of, pay_ins, pay_outs, bought, sold, balance_with}
+use Rattle.pvp_book.specs.declared.pair.PairState.{PairState}
+use Rattle.pvp_book.specs.Pairs.{opened_by, pairs, matched_by, matched}
+use Rattle.pvp_book.specs.Settlement.{candidates, settled}
+use Rattle.pvp_book.specs.Ledger.{Ledger, IsLedger, IsWithinMatched, IsSmall, most_amount, most_total, IsWithin, amount_of, total, node_of, order_by, orders, open_orders, has_payment, state_with, is_state, sum_of_balances, outstanding_in, outstanding_from}
+use Rattle.pvp_book.specs.Answer.{answer, answer_to, on_instruct, on_fund, on_pay_out, has_currency, has_member, is_member_number, is_refusal, is_amount}
+use Rattle.pvp_book.proofs.SettlementLemmas.{at_most, settled-push, IsWithinMatched-push}
 
-at_most : (b : Bool) (n : ℕ) → (if b then n else 0) ≤ n
-at_most true n = omega arith
-at_most false n = omega arith
+sum-cons_option : (f : Pair → ℕ) (o : Option Pair) (ps : List Pair) → sum_by f (cons_option o ps) ≡ sum_by f (cons_option o []) + sum_by f ps
+sum-cons_option f None ps = omega arith
+sum-cons_option f (Some p) ps = let more = sum_by-cons f p ps in let one = sum_by-cons f p [] in omega arith
 
-paid_in_to-le : (m c : ℕ) (cmd : Cmd) → paid_in_to m c cmd ≤ amount_of cmd
-paid_in_to-le m c (Fund ccy pay member amt) = at_most ((member == m) && (ccy == c)) amt
-paid_in_to-le m c (PayOut ccy amt) = omega arith
-paid_in_to-le m c (Paid ccy out) = omega arith
+-- what an entry brings a member, by a pay-in or by the pair that it matches, is no more than it names
+brought-le : (m c client : ℕ) (cmd : Cmd) (reply : Reply)
+    → paid_in_to m c cmd + sum_by (bought m c) (cons_option (matched_by client cmd reply) []) ≤ amount_of cmd
+brought-le m c client (Instruct reference other sell sell_amt buy buy_amt) Matched =
+    let first = at_most ((other == m) && (sell == c)) sell_amt in
+    let second = at_most ((client == m) && (buy == c)) buy_amt in
+    omega arith
+brought-le m c client (Instruct reference other sell sell_amt buy buy_amt) Done = omega arith
+brought-le m c client (Instruct reference other sell sell_amt buy buy_amt) (Settled n) = omega arith
+brought-le m c client (Instruct reference other sell sell_amt buy buy_amt) (Order n) = omega arith
+brought-le m c client (Instruct reference other sell sell_amt buy buy_amt) (No reason) = omega arith
+brought-le m c client (Rescind reference) reply = omega arith
+brought-le m c client (Fund ccy pay member amt) reply = let here = at_most ((member == m) && (ccy == c)) amt in omega arith
+brought-le m c client (Settle most) reply = omega arith
+brought-le m c client (PayOut ccy amt) reply = omega arith
+brought-le m c client (Paid ccy out) reply = omega arith
 
-paid_out_of-le : (m c client : ℕ) (cmd : Cmd) → paid_out_of m c client cmd ≤ amount_of cmd
-paid_out_of-le m c client (Fund ccy pay member amt) = omega arith
-paid_out_of-le m c client (PayOut ccy amt) = at_most ((client == m) && (ccy == c)) amt
-paid_out_of-le m c client (Paid ccy out) = omega arith
+taken-le : (m c client : ℕ) (cmd : Cmd) (reply : Reply)
+    → paid_out_of m c client cmd + sum_by (sold m c) (cons_option (matched_by client cmd reply) []) ≤ amount_of cmd
+taken-le m c client (Instruct reference other sell sell_amt buy buy_amt) Matched =
+    let first = at_most ((other == m) && (buy == c)) buy_amt in
+    let second = at_most ((client == m) && (sell == c)) sell_amt in
+    omega arith
+taken-le m c client (Instruct reference other sell sell_amt buy buy_amt) Done = omega arith
+taken-le m c client (Instruct reference other sell sell_amt buy buy_amt) (Settled n) = omega arith
+taken-le m c client (Instruct reference other sell sell_amt buy buy_amt) (Order n) = omega arith
+taken-le m c client (Instruct reference other sell sell_amt buy buy_amt) (No reason) = omega arith
+taken-le m c client (Rescind reference) reply = omega arith
+taken-le m c client (Fund ccy pay member amt) reply = omega arith
+taken-le m c client (Settle most) reply = omega arith
+taken-le m c client (PayOut ccy amt) reply = let here = at_most ((client == m) && (ccy == c)) amt in omega arith
+taken-le m c client (Paid ccy out) reply = omega arith
 
-pub total-le : (held : Ledger) → IsLedger held → total held.entries ≤ most_total
-total-le held is =
+-- all pay-ins and all matched pairs together bring a member no more than the entries name
+all-brought-le : (entries : List Entry) (m c : ℕ) → pay_ins entries m c + sum_by (bought m c) (matched entries) ≤ total entries
+all-brought-le [] m c = omega arith
+all-brought-le (e ∷ es) m c =
+    let rest = all-brought-le es m c in
+    let here = brought-le m c e.client e.cmd e.reply in
+    let paid = sum_by-cons (λ (x : Entry). paid_in_to m c x.cmd) e es in
+    let pairs = sum-cons_option (bought m c) (matched_by e.client e.cmd e.reply) (matched es) in
+    let all = sum_by-cons (λ (x : Entry). amount_of x.cmd) e es in
+    omega arith
+
+all-taken-le : (entries : List Entry) (m c : ℕ) → pay_outs entries m c + sum_by (sold m c) (matched entries) ≤ total entries
+all-taken-le [] m c = omega arith
+all-taken-le (e ∷ es) m c =
+    let rest = all-taken-le es m c in
+    let here = taken-le m c e.client e.cmd e.reply in
+    let paid = sum_by-cons (λ (x : Entry). paid_out_of m c x.client x.cmd) e es in
+    let pairs = sum-cons_option (sold m c) (matched_by e.client e.cmd e.reply) (matched es) in
+    let all = sum_by-cons (λ (x : Entry). amount_of x.cmd) e es in
+    omega arith
+
+-- so where what is settled is within what is matched, no member received or gave more
+pub IsSmall-within : (entries : List Entry) (done rest : List Pair) → IsWithinMatched done rest (matched entries) → total entries ≤ most_total
+    → IsSmall entries done
+IsSmall-within entries done rest within small = record {
+  received = λ m c. let all = all-brought-le entries m c in let part = within.sums (bought m c) in omega arith;
+  given = λ m c. let all = all-taken-le entries m c in let part = within.sums (sold m c) in omega arith;
+}
+
+pub total-small : (held : Ledger) → IsLedger held → total held.entries ≤ most_total
+total-small held is =
+    let small : total held.entries ≤ held.applied * 2000000000000 = is.small in
     let few : held.applied ≤ 65535 = is.few in
-    let small : total held.entries ≤ held.applied * 1000000000000 = is.small in
     omega arith
 
-pub pay_ins-le : (entries : List Entry) (m c : ℕ) → total entries ≤ most_total → pay_ins entries m c ≤ most_total
-pay_ins-le entries m c small =
-    let part = sum_by-le-sum_by (λ (e : Entry). paid_in_to m c e.cmd) (λ e. amount_of e.cmd) entries (λ e. paid_in_to-le m c e.cmd) in
-    omega arith
-
-pub pay_outs-le : (entries : List Entry) (m c : ℕ) → total entries ≤ most_total → pay_outs entries m c ≤ most_total
-pay_outs-le entries m c small =
-    let part = sum_by-le-sum_by (λ (e : Entry). paid_out_of m c e.client e.cmd) (λ e. amount_of e.cmd) entries (λ e. paid_out_of-le m c e.client e.cmd) in
-    omega arith
+pub IsSmall-ledger : (held : Ledger) → IsLedger held → IsSmall held.entries (settled held.setup held.entries)
+IsSmall-ledger held is = IsSmall-within held.entries (settled held.setup held.entries) (candidates held.entries (settled held.setup held.entries)) is.within (total-small held is)
 
 length-cons_option-le : {Y : Type 0} (o : Option Y) (ys : List Y) → length (cons_option o ys) ≤ length ys + 1
 length-cons_option-le None ys = omega arith
@@ -67,6 +118,15 @@ pub orders-few : (held : Ledger) → IsLedger held → (c : ℕ) → length (ord
 orders-few held is c =
     let fewer : length held.entries ≤ held.applied = is.fewer in
     let part = length-filter_map-le (λ (e : Entry). order_by c e.client e.cmd e.reply) held.entries in
+    omega arith
+
+pub pairs-few : (held : Ledger) → IsLedger held → (done : List Pair) (state : PairState)
+    → length (filter (λ p. is_state (state_with held.entries done p) state) (pairs held.entries)) ≤ held.applied
+pairs-few held is done state =
+    let fewer : length held.entries ≤ held.applied = is.fewer in
+    let part = length-filter_map-le (λ (e : Entry). opened_by e.client e.cmd e.reply) held.entries in
+    let same = length-filter (λ p. is_state (state_with held.entries done p) state) (pairs held.entries) in
+    let some = count_by-le-length (λ p. is_state (state_with held.entries done p) state) (pairs held.entries) in
     omega arith
 
 amount-small : (amt : ℕ) → is_amount amt ≡ true → amt ≤ most_amount
@@ -99,32 +159,62 @@ pay_out-small setup entries client c amt e =
     cases true false currency small rest e = absurd (cc)
     cases false member currency small rest e = absurd (cc)
 
--- a command that is not refused names no greater amount
+instruct-small : (setup : Setup) (entries : List Entry) (client reference other sell sell_amt buy buy_amt : ℕ)
+    → is_refusal (on_instruct setup entries client reference other sell sell_amt buy buy_amt) ≡ false → (is_amount sell_amt && is_amount buy_amt) ≡ true
+instruct-small setup entries client reference other sell sell_amt buy buy_amt e =
+    cases (is_member_number client) (has_member setup client && (has_member setup other && not (other == client)))
+    (has_currency setup sell && (has_currency setup buy && not (sell == buy))) (is_amount sell_amt && is_amount buy_amt) _ e
+  where
+    cases : (yours member currency small : Bool) (rest : Reply)
+        → is_refusal (if not yours then No NotYours else if not member then No UnknownMember else if not currency then No UnknownCurrency else if not small then No BadAmount else rest) ≡ false
+        → small ≡ true
+    cases true true true true rest e = refl
+    cases true true true false rest e = absurd (cc)
+    cases true true false small rest e = absurd (cc)
+    cases true false currency small rest e = absurd (cc)
+    cases false member currency small rest e = absurd (cc)
+
+-- a command that is not refused names no greater amounts
 accepted-small : (setup : Setup) (entries : List Entry) (client : ℕ) (cmd : Cmd)
-    → is_refusal (answer setup entries client cmd) ≡ false → amount_of cmd ≤ most_amount
+    → is_refusal (answer setup entries client cmd) ≡ false → amount_of cmd ≤ 2 * most_amount
 unfolding answer
-accepted-small setup entries client (Fund ccy pay member amt) e = fund-small setup entries client ccy pay member amt e
-accepted-small setup entries client (PayOut ccy amt) e = pay_out-small setup entries client ccy amt e
+accepted-small setup entries client (Instruct reference other sell sell_amt buy buy_amt) e =
+    let both = and_parts _ _ (instruct-small setup entries client reference other sell sell_amt buy buy_amt e) in
+    let first = amount-small sell_amt both.0 in
+    let second = amount-small buy_amt both.1 in
+    omega arith
+accepted-small setup entries client (Rescind reference) e = omega arith
+accepted-small setup entries client (Fund ccy pay member amt) e = let one = fund-small setup entries client ccy pay member amt e in omega arith
+accepted-small setup entries client (Settle most) e = omega arith
+accepted-small setup entries client (PayOut ccy amt) e = let one = pay_out-small setup entries client ccy amt e in omega arith
 accepted-small setup entries client (Paid ccy out) e = omega arith
 
 -- a refusal keeps a ledger
 pub IsLedger-refused : (held : Ledger) → IsLedger held → held.applied < 65535
     → IsLedger (record { setup = held.setup; entries = held.entries; applied = held.applied + 1 })
 IsLedger-refused held is room =
-    let small : total held.entries ≤ held.applied * 1000000000000 = is.small in
+    let small : total held.entries ≤ held.applied * 2000000000000 = is.small in
     let fewer : length held.entries ≤ held.applied = is.fewer in
-    record { valid = is.valid; few = omega arith; small = omega arith; fewer = omega arith }
+    record { valid = is.valid; few = omega arith; small = omega arith; fewer = omega arith; within = is.within }
 
 -- and so does an entry
 pub IsLedger-accepted : (held : Ledger) (client : ℕ) (cmd : Cmd) (reply : Reply) → IsLedger held → held.applied < 65535
     → reply ≡ answer_to held client cmd → is_refusal reply ≡ false
     → IsLedger (record { setup = held.setup; entries = held.entries ++ record { client = client; cmd = cmd; reply = reply } ∷ []; applied = held.applied + 1 })
 IsLedger-accepted held client cmd reply is room answered accepted =
-    let amount : amount_of cmd ≤ 1000000000000 = accepted-small held.setup held.entries client cmd (ap is_refusal (sym answered) ∙ accepted) in
-    let small : total held.entries ≤ held.applied * 1000000000000 = is.small in
+    let entry : Entry = record { client = client; cmd = cmd; reply = reply } in
+    let amount : amount_of cmd ≤ 2000000000000 = accepted-small held.setup held.entries client cmd (ap is_refusal (sym answered) ∙ accepted) in
+    let small : total held.entries ≤ held.applied * 2000000000000 = is.small in
     let fewer : length held.entries ≤ held.applied = is.fewer in
-    let pushed = sum_by_push (λ (e : Entry). amount_of e.cmd) held.entries (record { client = client; cmd = cmd; reply = reply }) in
-    record { valid = is.valid; few = omega arith; small = omega arith; fewer = simp length-append (omega arith) }
+    let pushed = sum_by_push (λ (e : Entry). amount_of e.cmd) held.entries entry in
+    record {
+      valid = is.valid;
+      few = omega arith;
+      small = omega arith;
+      fewer = simp length-append (omega arith);
+      within = subst (λ done. IsWithinMatched done (candidates (held.entries ++ entry ∷ []) done) (matched (held.entries ++ entry ∷ [])))
+          (sym (settled-push held.setup held.entries entry)) (IsWithinMatched-push held.setup held.entries (settled held.setup held.entries) entry is.within);
+    }
 
 -- a difference of small numbers is the same in the type
 pub difference : (a b : ℕ) → a ≤ most_total → b ≤ most_total → to_z w64 (of_z w64 (to_z w64 a -ℤ to_z w64 b)) ≡ pos a -ℤ pos b
@@ -148,24 +238,24 @@ sum-more n so_far more few small one =
     (omega (arith, ints), record { above = omega (arith, ints); below = omega (arith, ints) })
 
 -- the next member's balance
-sum_of_balances-more : (entries : List Entry) (n c : ℕ)
-    → sum_of_balances (n + 1) entries c ≡ sum_of_balances n entries c +ℤ balance entries (n + 1) c
-sum_of_balances-more entries n c =
-    ap (fold ◌+ℤ◌ (pos 0)) (map-range_with_len_more (λ m. balance entries m c) 1 n (n + 1) (omega arith))
-    ∙ fold-append ◌+ℤ◌ (pos 0) (map (λ m. balance entries m c) (range_with_len 1 n)) (balance entries (n + 1) c ∷ [])
+pub sum_of_balances-more : (entries : List Entry) (done : List Pair) (n c : ℕ)
+    → sum_of_balances (n + 1) entries done c ≡ sum_of_balances n entries done c +ℤ balance_with entries done (n + 1) c
+sum_of_balances-more entries done n c =
+    ap (fold ◌+ℤ◌ (pos 0)) (map-range_with_len_more (λ m. balance_with entries done m c) 1 n (n + 1) (omega arith))
+    ∙ fold-append ◌+ℤ◌ (pos 0) (map (λ m. balance_with entries done m c) (range_with_len 1 n)) (balance_with entries done (n + 1) c ∷ [])
 
 -- what is added up so far, and that it is small
-pub record IsSum (entries : List Entry) (n c : ℕ) (sum : ℤ) : Type 0 where
-  pub so_far : sum ≡ sum_of_balances n entries c
+pub record IsSum (entries : List Entry) (done : List Pair) (n c : ℕ) (sum : ℤ) : Type 0 where
+  pub so_far : sum ≡ sum_of_balances n entries done c
   pub small : IsWithin (n * most_total) sum
 
-pub IsSum-more : (entries : List Entry) (n c : ℕ) (sum more : ℤ) → n < 64 → IsSum entries n c sum
-    → more ≡ balance entries (n + 1) c → IsWithin most_total more
-    → IsSum entries (n + 1) c (to_z w64 (of_z w64 (sum +ℤ to_z w64 (of_z w64 more))))
-IsSum-more entries n c sum more few is value small =
+pub IsSum-more : (entries : List Entry) (done : List Pair) (n c : ℕ) (sum more : ℤ) → n < 64 → IsSum entries done n c sum
+    → more ≡ balance_with entries done (n + 1) c → IsWithin most_total more
+    → IsSum entries done (n + 1) c (to_z w64 (of_z w64 (sum +ℤ to_z w64 (of_z w64 more))))
+IsSum-more entries done n c sum more few is value small =
     let step = sum-more n sum more few is.small small in
     record {
-      so_far = step.0 ∙ ap (λ s. s +ℤ more) is.so_far ∙ ap (λ m. sum_of_balances n entries c +ℤ m) value ∙ sym (sum_of_balances-more entries n c);
+      so_far = step.0 ∙ ap (λ s. s +ℤ more) is.so_far ∙ ap (λ m. sum_of_balances n entries done c +ℤ m) value ∙ sym (sum_of_balances-more entries done n c);
       small = subst (IsWithin ((n + 1) * most_total)) (sym step.0) step.1;
     }
 

@@ -1,2 +1,13 @@
+pub mod SettlementLemmas
 pub mod LedgerLemmas
+pub mod LimitsLemmas
+pub mod WalkLemmas
+pub mod BookLemmas
+pub mod Reached
+pub mod Counts
+pub mod OrderLemmas
+pub mod StandingLemmas
+pub mod FigureLemmas
+pub mod PassLemmas
+pub mod LegLemmas
 pub mod WorkedRows

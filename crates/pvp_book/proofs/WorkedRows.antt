@@ -1,12 +1,14 @@
 -- Worked scripts, computed with the definitions.
-use Rattle.std.proofs.Common.{◌≡◌, ℕ, List, [], ◌∷◌, refl, codes, pos}
+use Rattle.std.proofs.Common.{◌≡◌, ℕ, List, [], ◌∷◌, ◌++◌, refl, codes, pos, negsuc}
 use Rattle.pvp_types.specs.declared.setup.Setup.{Setup}
 use Rattle.pvp_types.specs.declared.setup.Member.{Member}
-use Rattle.pvp_types.specs.declared.command.Cmd.TheVariants.{Fund, PayOut, Paid}
+use Rattle.pvp_types.specs.declared.command.Cmd.{Cmd}
+use Rattle.pvp_types.specs.declared.command.Cmd.TheVariants.{Instruct, Rescind, Fund, Settle, PayOut, Paid}
 use Rattle.pvp_types.specs.declared.command.Reply.{Reply}
-use Rattle.pvp_types.specs.declared.command.Reply.TheVariants.{Done, Order, No}
-use Rattle.pvp_types.specs.declared.command.Reason.TheVariants.{NotYours, UnknownMember, UnknownCurrency, BadAmount, Repeated, UnknownReference, Short}
+use Rattle.pvp_types.specs.declared.command.Reply.TheVariants.{Done, Matched, Settled, Order, No}
+use Rattle.pvp_types.specs.declared.command.Reason.TheVariants.{NotYours, UnknownMember, UnknownCurrency, BadAmount, Repeated, Mismatch, UnknownReference, Late, Short, BankShort}
 use Rattle.pvp_types.specs.Setup.{IsValid, meets}
+use Rattle.pvp_book.specs.Settlement.{both_pass, pass, taken_by, settled_after, settled}
 use Rattle.pvp_book.specs.Ledger.{Ledger, opening, balance, figure, outstanding}
 use Rattle.pvp_book.specs.Answer.{Row, answer, answer_to, after, book_of}
 
@@ -41,12 +43,12 @@ pays_out =
     ∷ record { client = 102; number = 2; cmd = Paid 1 1 } ∷ []
 
 pays_out_is_answered : answers (opening worked) pays_out ≡ Done ∷ Order 1 ∷ Done ∷ []
-unfolding answers worked member pays_out answer
+unfolding answers worked member pays_out answer both_pass pass taken_by settled_after settled
 pays_out_is_answered = refl
 
-pays_out_leaves : (balance (book_of worked pays_out) 1 1 ≡ pos 1000) × (figure worked (book_of worked pays_out) 1 ≡ pos 1000)
+pays_out_leaves : (balance worked (book_of worked pays_out) 1 1 ≡ pos 1000) × (figure worked (book_of worked pays_out) 1 ≡ pos 1000)
     × (outstanding worked (book_of worked pays_out) ≡ [])
-unfolding worked member pays_out answer
+unfolding worked member pays_out answer both_pass pass taken_by settled_after settled
 pays_out_leaves = (refl, refl, refl)
 
 -- each check in its order
@@ -64,5 +66,111 @@ refused =
 
 refused_is_answered : answers (opening worked) refused
     ≡ No NotYours ∷ No UnknownMember ∷ No UnknownCurrency ∷ No BadAmount ∷ No UnknownReference ∷ Done ∷ No Repeated ∷ No Short ∷ No UnknownReference ∷ []
-unfolding answers worked member refused answer
+unfolding answers worked member refused answer both_pass pass taken_by settled_after settled
 refused_is_answered = refl
+
+-- a client's command; the definitions read no number
+row : ℕ → Cmd → Row
+row client cmd = record { client = client; number = 1; cmd = cmd }
+
+-- ALFA has USD 1200 and BETA some EUR; they agree on USD 1100 for EUR 1000, and a walk follows
+exchange : ℕ → List Row
+exchange eur =
+    row 102 (Fund 1 1 1 1200)
+    ∷ row 101 (Fund 0 1 2 eur)
+    ∷ row 1 (Instruct 1 2 1 1100 0 1000)
+    ∷ row 2 (Instruct 1 1 0 1000 1 1100)
+    ∷ row 0 (Settle 10) ∷ []
+
+-- with EUR 47 BETA's account would have a negative value
+one_short : answers (opening worked) (exchange 47) ≡ Done ∷ Done ∷ Done ∷ Matched ∷ Settled 0 ∷ []
+unfolding answers worked member row exchange answer both_pass pass taken_by settled_after settled
+one_short = refl
+
+-- with EUR 48 both legs are posted
+just_enough : answers (opening worked) (exchange 48) ≡ Done ∷ Done ∷ Done ∷ Matched ∷ Settled 1 ∷ []
+unfolding answers worked member row exchange answer both_pass pass taken_by settled_after settled
+just_enough = refl
+
+just_enough_leaves :
+    let entries = book_of worked (exchange 48) in
+    (balance worked entries 1 0 ≡ pos 1000) × (balance worked entries 1 1 ≡ pos 100) × (balance worked entries 2 0 ≡ negsuc 951)
+    × (balance worked entries 2 1 ≡ pos 1100) × (figure worked entries 0 ≡ pos 48) × (figure worked entries 1 ≡ pos 1200)
+unfolding worked member row exchange answer both_pass pass taken_by settled_after settled
+just_enough_leaves = (refl, refl, refl, refl, refl, refl)
+
+-- the limit of JPY is met to the unit
+short_limit : ℕ → List Row
+short_limit jpy =
+    row 102 (Fund 1 1 1 1200)
+    ∷ row 1 (Instruct 2 2 1 1200 2 jpy)
+    ∷ row 2 (Instruct 2 1 2 jpy 1 1200)
+    ∷ row 0 (Settle 1) ∷ []
+
+short_limit_is_met : answers (opening worked) (short_limit 100000) ≡ Done ∷ Done ∷ Matched ∷ Settled 1 ∷ []
+unfolding answers worked member row short_limit answer both_pass pass taken_by settled_after settled
+short_limit_is_met = refl
+
+short_limit_is_passed : answers (opening worked) (short_limit 100001) ≡ Done ∷ Done ∷ Matched ∷ Settled 0 ∷ []
+unfolding answers worked member row short_limit answer both_pass pass taken_by settled_after settled
+short_limit_is_passed = refl
+
+-- the second side's words are not the mirror of the first's, and then they are
+mirrored : answers (opening worked)
+    (row 1 (Instruct 3 2 1 10 0 9) ∷ row 2 (Instruct 3 1 0 9 1 11) ∷ row 2 (Instruct 3 1 0 9 1 10) ∷ row 1 (Instruct 3 2 1 10 0 9) ∷ [])
+    ≡ Done ∷ No Mismatch ∷ Matched ∷ No Repeated ∷ []
+unfolding answers worked member row answer both_pass pass taken_by settled_after settled
+mirrored = refl
+
+-- a matched pair, which its sides then take back
+rescinded : List Row → List Row
+rescinded rest =
+    row 102 (Fund 1 1 1 10)
+    ∷ row 101 (Fund 0 1 2 9)
+    ∷ row 1 (Instruct 3 2 1 10 0 9)
+    ∷ row 2 (Instruct 3 1 0 9 1 10)
+    ∷ row 1 (Rescind 3) ∷ rest
+
+-- one side alone does not keep it from settling
+one_side_asks : answers (opening worked) (rescinded (row 0 (Settle 9) ∷ row 2 (Rescind 3) ∷ []))
+    ≡ Done ∷ Done ∷ Done ∷ Matched ∷ Done ∷ Settled 1 ∷ No Late ∷ []
+unfolding answers worked member row rescinded answer both_pass pass taken_by settled_after settled
+one_side_asks = refl
+
+both_sides_ask : answers (opening worked) (rescinded (row 2 (Rescind 3) ∷ row 0 (Settle 9) ∷ row 1 (Rescind 3) ∷ []))
+    ≡ Done ∷ Done ∷ Done ∷ Matched ∷ Done ∷ Done ∷ Settled 0 ∷ No Late ∷ []
+unfolding answers worked member row rescinded answer both_pass pass taken_by settled_after settled
+both_sides_ask = refl
+
+-- the bank pays out no more than it holds
+bank_is_short : answers (opening worked) (exchange 48 ++ row 1 (PayOut 0 1000) ∷ row 1 (PayOut 0 48) ∷ row 101 (Paid 0 1) ∷ row 101 (Paid 0 1) ∷ [])
+    ≡ Done ∷ Done ∷ Done ∷ Matched ∷ Settled 1 ∷ No BankShort ∷ Order 1 ∷ Done ∷ No Repeated ∷ []
+unfolding answers worked member row exchange answer both_pass pass taken_by settled_after settled
+bank_is_short = refl
+
+-- two pairs, of which the second meets the aggregate limit to the unit or passes it
+aggregate_limit : ℕ → List Row
+aggregate_limit jpy =
+    row 102 (Fund 1 1 1 2000)
+    ∷ row 102 (Fund 1 2 2 1000)
+    ∷ row 1 (Instruct 1 2 1 1000 0 1000)
+    ∷ row 2 (Instruct 1 1 0 1000 1 1000)
+    ∷ row 1 (Instruct 2 2 1 1000 2 jpy)
+    ∷ row 2 (Instruct 2 1 2 jpy 1 1000)
+    ∷ row 0 (Settle 9) ∷ []
+
+aggregate_limit_is_passed : answers (opening worked) (aggregate_limit 40001) ≡ Done ∷ Done ∷ Done ∷ Matched ∷ Done ∷ Matched ∷ Settled 1 ∷ []
+unfolding answers worked member row aggregate_limit answer both_pass pass taken_by settled_after settled
+aggregate_limit_is_passed = refl
+
+aggregate_limit_is_met : answers (opening worked) (aggregate_limit 40000) ≡ Done ∷ Done ∷ Done ∷ Matched ∷ Done ∷ Matched ∷ Settled 2 ∷ []
+unfolding answers worked member row aggregate_limit answer both_pass pass taken_by settled_after settled
+aggregate_limit_is_met = refl
+
+-- one walk meets each pair once: the second pair lets the first pass, but only in the next walk
+one_walk : answers (opening worked)
+    (row 102 (Fund 1 1 1 1200) ∷ row 101 (Fund 0 1 2 47) ∷ row 1 (Instruct 1 2 1 1100 0 1000) ∷ row 2 (Instruct 1 1 0 1000 1 1100)
+    ∷ row 1 (Instruct 2 2 1 100 2 1) ∷ row 2 (Instruct 2 1 2 1 1 100) ∷ row 0 (Settle 10) ∷ row 0 (Settle 10) ∷ [])
+    ≡ Done ∷ Done ∷ Done ∷ Matched ∷ Done ∷ Matched ∷ Settled 1 ∷ Settled 1 ∷ []
+unfolding answers worked member row answer both_pass pass taken_by settled_after settled
+one_walk = refl

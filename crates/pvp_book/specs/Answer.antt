@@ -1,15 +1,21 @@
 -- What a command is answered, and what the book then holds.
-use Rattle.std.specs.Prelude.{ℕ, ◌+◌, ◌==◌, ◌&&◌, Bool, true, false, not, if◌then◌else◌, nat_lt, List, [], ◌∷◌, ◌++◌, length, pos, int_lt}
+use Rattle.std.specs.Prelude.{ℕ, ◌+◌, ◌-ℤ◌, ◌==◌, ◌&&◌, ◌||◌, Bool, true, false, not, if◌then◌else◌, nat_lt, List, [], ◌∷◌, ◌++◌, length, Option, Some, None, ℤ, pos, int_lt, slice_set}
 use Rattle.std.specs.List.{list_any}
 use Rattle.pvp_types.specs.declared.setup.Setup.{Setup}
 use Rattle.pvp_types.specs.declared.command.Cmd.{Cmd}
-use Rattle.pvp_types.specs.declared.command.Cmd.TheVariants.{Fund, PayOut, Paid}
+use Rattle.pvp_types.specs.declared.command.Cmd.TheVariants.{Instruct, Rescind, Fund, Settle, PayOut, Paid}
 use Rattle.pvp_types.specs.declared.command.Reply.{Reply}
-use Rattle.pvp_types.specs.declared.command.Reply.TheVariants.{Done, Order, No}
-use Rattle.pvp_types.specs.declared.command.Reason.TheVariants.{NotYours, UnknownMember, UnknownCurrency, BadAmount, Repeated, UnknownReference, Short}
+use Rattle.pvp_types.specs.declared.command.Reply.TheVariants.{Done, Matched, Settled, Order, No}
+use Rattle.pvp_types.specs.declared.command.Reason.TheVariants.{NotYours, UnknownMember, UnknownCurrency, BadAmount, Repeated, Mismatch, UnknownReference, Late, Short, TestFails, BankShort}
 use Rattle.pvp_types.specs.Setup.{is_between}
 use Rattle.pvp_book.specs.declared.entry.Entry.{Entry}
-use Rattle.pvp_book.specs.Ledger.{Ledger, opening, most_amount, node_of, balance, has_pay_in, orders, has_payment}
+use Rattle.pvp_book.specs.declared.pair.Pair.{Pair}
+use Rattle.pvp_book.specs.declared.pair.PairState.TheVariants.{Unmatched}
+use Rattle.pvp_book.specs.Accounts.{balance_with}
+use Rattle.pvp_book.specs.Pairs.{pair_of, has_reference, is_matched, is_rescinded}
+use Rattle.pvp_book.specs.Limits.{passes, balances_with}
+use Rattle.pvp_book.specs.Settlement.{candidates, pass, settled}
+use Rattle.pvp_book.specs.Ledger.{Ledger, opening, most_amount, node_of, balance, figure, state_of, is_state, has_pay_in, orders, has_payment}
 
 -- members are numbered from 1
 abbrev pub has_member : Setup → ℕ → Bool
@@ -30,8 +36,53 @@ is_amount amt = is_between 1 most_amount amt
 abbrev pub has_order : List Entry → ℕ → ℕ → Bool
 has_order entries c out = list_any (λ order. order.out == out) (orders entries c)
 
+-- an instruction whose words are the exact mirror of a pair's, from the pair's second side
+abbrev pub is_mirror : Pair → ℕ → ℕ → ℕ → ℕ → ℕ → ℕ → Bool
+is_mirror p client other sell sell_amt buy buy_amt =
+    (p.first == other) && ((p.second == client) && ((p.sell == buy) && ((p.sell_amt == buy_amt) && ((p.buy == sell) && (p.buy_amt == sell_amt)))))
+
+-- a side of a pair: the first, or where it is matched the second
+abbrev pub is_side : List Entry → Pair → ℕ → Bool
+is_side entries p client = (client == p.first) || ((client == p.second) && is_matched entries p)
+
+-- a member's balances once an amount of a currency is paid out
+abbrev pub balances_less : Setup → List Entry → List Pair → ℕ → ℕ → ℕ → List ℤ
+balances_less setup entries settled m c amt =
+    slice_set (balances_with setup entries settled m) c (balance_with entries settled m c -ℤ pos amt)
+
 -- Each command's checks in their order: the first that fails is the answer.
 module _ (setup : Setup) (entries : List Entry) (client : ℕ) where
+  -- an instruction under a reference that has a pair, or has none
+  abbrev pub on_mirror : Option Pair → ℕ → ℕ → ℕ → ℕ → ℕ → Reply
+  on_mirror None other sell sell_amt buy buy_amt = Done
+  on_mirror (Some p) other sell sell_amt buy buy_amt =
+      if (client == p.first) || not (is_state (state_of setup entries p) Unmatched) then No Repeated
+      else if not (is_mirror p client other sell sell_amt buy buy_amt) then No Mismatch
+      else Matched
+
+  abbrev pub on_instruct : ℕ → ℕ → ℕ → ℕ → ℕ → ℕ → Reply
+  on_instruct reference other sell sell_amt buy buy_amt =
+      if not (is_member_number client) then No NotYours
+      else if not (has_member setup client && (has_member setup other && not (other == client))) then No UnknownMember
+      else if not (has_currency setup sell && (has_currency setup buy && not (sell == buy))) then No UnknownCurrency
+      else if not (is_amount sell_amt && is_amount buy_amt) then No BadAmount
+      else if reference == 0 then No UnknownReference
+      else on_mirror (pair_of entries reference) other sell sell_amt buy buy_amt
+
+  -- a rescission of a reference that has a pair, or has none
+  abbrev pub on_pair : Option Pair → Reply
+  on_pair None = No UnknownReference
+  on_pair (Some p) =
+      if not (is_side entries p client) then No NotYours
+      else if has_reference (settled setup entries) p.reference || is_rescinded entries p then No Late
+      else Done
+
+  abbrev pub on_rescind : ℕ → Reply
+  on_rescind reference =
+      if not (is_member_number client) then No NotYours
+      else if not (has_member setup client) then No UnknownMember
+      else on_pair (pair_of entries reference)
+
   abbrev pub on_fund : ℕ → ℕ → ℕ → ℕ → Reply
   on_fund c pay member amt =
       if not (client == node_of c) then No NotYours
@@ -41,13 +92,20 @@ module _ (setup : Setup) (entries : List Entry) (client : ℕ) where
       else if has_pay_in entries c pay then No Repeated
       else Done
 
+  abbrev pub on_settle : ℕ → Reply
+  on_settle most =
+      if not (client == 0) then No NotYours
+      else Settled (length (pass setup entries (settled setup entries) most (candidates entries (settled setup entries))))
+
   abbrev pub on_pay_out : ℕ → ℕ → Reply
   on_pay_out c amt =
       if not (is_member_number client) then No NotYours
       else if not (has_member setup client) then No UnknownMember
       else if not (has_currency setup c) then No UnknownCurrency
       else if not (is_amount amt) then No BadAmount
-      else if int_lt (balance entries client c) (pos amt) then No Short
+      else if int_lt (balance setup entries client c) (pos amt) then No Short
+      else if not (passes setup client (balances_less setup entries (settled setup entries) client c amt)) then No TestFails
+      else if int_lt (figure setup entries c) (pos amt) then No BankShort
       else Order (length (orders entries c) + 1)
 
   abbrev pub on_paid : ℕ → ℕ → Reply
@@ -59,14 +117,21 @@ module _ (setup : Setup) (entries : List Entry) (client : ℕ) where
       else Done
 
   unfoldable pub answer : Cmd → Reply
+  answer (Instruct reference other sell sell_amt buy buy_amt) = on_instruct reference other sell sell_amt buy buy_amt
+  answer (Rescind reference) = on_rescind reference
   answer (Fund ccy pay member amt) = on_fund ccy pay member amt
+  answer (Settle most) = on_settle most
   answer (PayOut ccy amt) = on_pay_out ccy amt
   answer (Paid ccy out) = on_paid ccy out
 
+-- the operator's word to settle
+abbrev pub is_walk : ℕ → Cmd → Bool
+is_walk client (Settle most) = client == 0
+is_walk client _ = false
+
 abbrev pub is_refusal : Reply → Bool
 is_refusal (No reason) = true
-is_refusal Done = false
-is_refusal (Order out) = false
+is_refusal _ = false
 
 -- the entries with a command, where it was not refused
 abbrev pub with_entry : List Entry → ℕ → Cmd → Reply → List Entry

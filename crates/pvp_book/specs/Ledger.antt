@@ -1,14 +1,21 @@
--- What a book holds, and what it says of members, currencies and orders: sums and filters over its entries.
-use Rattle.std.specs.Prelude.{ℕ, ◌+◌, ◌*◌, ◌^◌, ◌≤◌, ◌==◌, ◌&&◌, Bool, false, not, if◌then◌else◌, List, [], length, map, filter, fold, sum_by, Option, Some, None, ℤ, pos, ◌+ℤ◌, ◌-ℤ◌, ◌≤ℤ◌, neg_ℤ}
+-- What a book holds, and what it says of members, currencies, orders and pairs: sums and filters over its entries.
+use Rattle.std.specs.Prelude.{◌≡◌, ℕ, ◌+◌, ◌*◌, ◌^◌, ◌≤◌, ◌==◌, ◌&&◌, Bool, true, false, not, if◌then◌else◌, List, [], length, map, filter, fold, sum_by, Option, Some, None, ℤ, pos, ◌+ℤ◌, ◌≤ℤ◌, neg_ℤ}
 use Rattle.std.specs.List.{list_any, filter_map, flat_map, range_with_len}
+use Rattle.std.specs.Option.{option_map}
 use Rattle.pvp_types.specs.declared.setup.Setup.{Setup}
 use Rattle.pvp_types.specs.declared.command.Cmd.{Cmd}
-use Rattle.pvp_types.specs.declared.command.Cmd.TheVariants.{Fund, PayOut, Paid}
+use Rattle.pvp_types.specs.declared.command.Cmd.TheVariants.{Instruct, Fund, PayOut, Paid}
 use Rattle.pvp_types.specs.declared.command.Reply.{Reply}
 use Rattle.pvp_types.specs.declared.command.Reply.TheVariants.{Order}
 use Rattle.pvp_types.specs.declared.command.PayOrder.{PayOrder}
 use Rattle.pvp_types.specs.Setup.{IsValid}
 use Rattle.pvp_book.specs.declared.entry.Entry.{Entry}
+use Rattle.pvp_book.specs.declared.pair.Pair.{Pair}
+use Rattle.pvp_book.specs.declared.pair.PairState.{PairState}
+use Rattle.pvp_book.specs.declared.pair.PairState.TheVariants.{Unmatched, Matched, Settled, Rescinded}
+use Rattle.pvp_book.specs.Accounts.{received, given, balance_with}
+use Rattle.pvp_book.specs.Pairs.{pairs, matched, pair_of, has_reference, is_matched, is_rescinded}
+use Rattle.pvp_book.specs.Settlement.{candidates, settled}
 
 -- the setup, the commands that were not refused, and how many commands came
 pub record Ledger : Type 0 where
@@ -24,43 +31,22 @@ opening setup = record { setup = setup; entries = []; applied = 0 }
 abbrev pub most_amount : ℕ
 most_amount = 10 ^ 12
 
--- what a command pays in to a member in a currency
-abbrev pub paid_in_to : ℕ → ℕ → Cmd → ℕ
-paid_in_to m c (Fund ccy pay member amt) = if (member == m) && (ccy == c) then amt else 0
-paid_in_to m c (PayOut ccy amt) = 0
-paid_in_to m c (Paid ccy out) = 0
+-- a member's pay-ins minus its pay-outs, plus what it bought by the settled pairs minus what it sold
+abbrev pub balance : Setup → List Entry → ℕ → ℕ → ℤ
+balance setup entries m c = balance_with entries (settled setup entries) m c
 
--- what a client's command pays out of a member in a currency
-abbrev pub paid_out_of : ℕ → ℕ → ℕ → Cmd → ℕ
-paid_out_of m c client (PayOut ccy amt) = if (client == m) && (ccy == c) then amt else 0
-paid_out_of m c client (Fund ccy pay member amt) = 0
-paid_out_of m c client (Paid ccy out) = 0
-
--- the sum of a member's pay-ins in a currency
-abbrev pub pay_ins : List Entry → ℕ → ℕ → ℕ
-pay_ins entries m c = sum_by (λ e. paid_in_to m c e.cmd) entries
-
--- the sum of a member's pay-outs in a currency
-abbrev pub pay_outs : List Entry → ℕ → ℕ → ℕ
-pay_outs entries m c = sum_by (λ e. paid_out_of m c e.client e.cmd) entries
-
--- a member's pay-ins minus its pay-outs
-abbrev pub balance : List Entry → ℕ → ℕ → ℤ
-balance entries m c = pos (pay_ins entries m c) -ℤ pos (pay_outs entries m c)
-
--- the balances of the first n members in a currency, added up
-abbrev pub sum_of_balances : ℕ → List Entry → ℕ → ℤ
-sum_of_balances n entries c = fold ◌+ℤ◌ (pos 0) (map (λ m. balance entries m c) (range_with_len 1 n))
+-- the balances of the first n members in a currency, added up, where some pairs are settled
+abbrev pub sum_of_balances : ℕ → List Entry → List Pair → ℕ → ℤ
+sum_of_balances n entries settled c = fold ◌+ℤ◌ (pos 0) (map (λ m. balance_with entries settled m c) (range_with_len 1 n))
 
 -- the bank's figure in a currency: the sum of all members' balances
 abbrev pub figure : Setup → List Entry → ℕ → ℤ
-figure setup entries c = sum_of_balances (length setup.members) entries c
+figure setup entries c = sum_of_balances (length setup.members) entries (settled setup entries) c
 
 -- a pay-in's number in a currency
 abbrev pub is_pay_in : ℕ → ℕ → Cmd → Bool
 is_pay_in c k (Fund ccy pay member amt) = (ccy == c) && (pay == k)
-is_pay_in c k (PayOut ccy amt) = false
-is_pay_in c k (Paid ccy out) = false
+is_pay_in c k _ = false
 
 -- a currency's pay-in of this number is in the book
 abbrev pub has_pay_in : List Entry → ℕ → ℕ → Bool
@@ -79,8 +65,7 @@ orders entries c = filter_map (λ e. order_by c e.client e.cmd e.reply) entries
 -- the node's word that it paid a currency's order
 abbrev pub is_payment : ℕ → ℕ → Cmd → Bool
 is_payment c n (Paid ccy out) = (ccy == c) && (out == n)
-is_payment c n (Fund ccy pay member amt) = false
-is_payment c n (PayOut ccy amt) = false
+is_payment c n _ = false
 
 abbrev pub has_payment : List Entry → ℕ → ℕ → Bool
 has_payment entries c n = list_any (λ e. is_payment c n e.cmd) entries
@@ -105,28 +90,71 @@ outstanding_from c n entries = flat_map (outstanding_in entries) (range_with_len
 abbrev pub outstanding : Setup → List Entry → List (ℕ × PayOrder)
 outstanding setup entries = outstanding_from 0 (length setup.currencies) entries
 
--- the amount that a command names, 0 for none
+-- how far a pair has come, where some pairs are settled
+abbrev pub state_with : List Entry → List Pair → Pair → PairState
+state_with entries settled p =
+    if has_reference settled p.reference then Settled
+    else if is_rescinded entries p then Rescinded
+    else if is_matched entries p then Matched
+    else Unmatched
+
+abbrev pub state_of : Setup → List Entry → Pair → PairState
+state_of setup entries p = state_with entries (settled setup entries) p
+
+-- how far the pair of a reference has come
+abbrev pub pair_state : Setup → List Entry → ℕ → Option PairState
+pair_state setup entries reference = option_map (state_of setup entries) (pair_of entries reference)
+
+abbrev pub is_state : PairState → PairState → Bool
+is_state Unmatched Unmatched = true
+is_state Matched Matched = true
+is_state Settled Settled = true
+is_state Rescinded Rescinded = true
+is_state _ _ = false
+
+-- the pairs that have come so far
+abbrev pub pairs_in : Setup → List Entry → PairState → List Pair
+pairs_in setup entries state = filter (λ p. is_state (state_of setup entries p) state) (pairs entries)
+
+-- the amounts that a command names, added up
 abbrev pub amount_of : Cmd → ℕ
+amount_of (Instruct reference other sell sell_amt buy buy_amt) = sell_amt + buy_amt
 amount_of (Fund ccy pay member amt) = amt
 amount_of (PayOut ccy amt) = amt
-amount_of (Paid ccy out) = 0
+amount_of _ = 0
 
 -- all amounts of the entries
 abbrev pub total : List Entry → ℕ
 total entries = sum_by (λ e. amount_of e.cmd) entries
 
--- what all amounts of 65,535 entries come to at most
+-- what all amounts of 65,535 entries come to at most: an entry names two
 abbrev pub most_total : ℕ
-most_total = 65535 * most_amount
+most_total = 65535 * (2 * most_amount)
 
 -- no further from 0 than a number
 pub record IsWithin (most : ℕ) (z : ℤ) : Type 0 where
   pub above : neg_ℤ (pos most) ≤ℤ z
   pub below : z ≤ℤ pos most
 
+-- What is settled and what may still be settled are together no more than what is matched, however pairs are counted.
+pub record IsWithinMatched (settled offered matched : List Pair) : Type 0 where
+  pub sums : (f : Pair → ℕ) → sum_by f settled + sum_by f offered ≤ sum_by f matched
+
+-- what any member received and gave in any currency is small
+pub record IsSmall (entries : List Entry) (settled : List Pair) : Type 0 where
+  pub received : (m c : ℕ) → received entries settled m c ≤ most_total
+  pub given : (m c : ℕ) → given entries settled m c ≤ most_total
+
 -- what holds of every ledger, so that no sum leaves its type
 pub record IsLedger (held : Ledger) : Type 0 where
   pub valid : IsValid held.setup
   pub few : held.applied ≤ 65535
-  pub small : total held.entries ≤ held.applied * most_amount
+  pub small : total held.entries ≤ held.applied * (2 * most_amount)
   pub fewer : length held.entries ≤ held.applied
+  pub within : IsWithinMatched (settled held.setup held.entries) (candidates held.entries (settled held.setup held.entries)) (matched held.entries)
+
+-- what a book keeps beside its entries: the pairs by reference, and the settled ones
+pub record IsKept (held : Ledger) (kept : List (ℕ × Pair)) (posted : List Pair) : Type 0 where
+  pub ledger : IsLedger held
+  pub pairs : kept ≡ map (λ p. (p.reference, p)) (pairs held.entries)
+  pub settled : posted ≡ settled held.setup held.entries

@@ -1,9 +1,12 @@
-ghost use Rattle.std.specs.Prelude.{◌≡◌, ◌<◌, ◌≤◌, length, slice_get, IfOk, OnOk};
-ghost use Rattle.pvp_book.specs.Answer.{is_amount, is_refusal};
+ghost use Rattle.std.specs.Prelude.{◌≡◌, ◌<◌, ◌≤◌, ◌+◌, ◌++◌, ◌∷◌, [], true, false, ◌||◌, length, slice_get, IfOk, OnOk};
+ghost use Rattle.pvp_book.specs.Answer.{is_amount, is_refusal, is_mirror};
 
-use crate::entry::{Entry, PairState};
+use crate::entry::Entry;
 use crate::open::{self, OpenOrders};
+use crate::pair::{self, Pair, PairState};
 use crate::sums::{self, node_of};
+use crate::walk;
+use indexmap::IndexMap;
 use pvp_types::{Cmd, PayOrder, Reason, Reply, Setup};
 use std::alloc::{AllocError, Global};
 use std::marker::Model;
@@ -14,29 +17,40 @@ const MOST_AMOUNT: u64 = 1_000_000_000_000;
 /// The most members that a bank has.
 const MOST_MEMBERS: u16 = 64;
 
+/// The operator's client number.
+const OPERATOR: u16 = 0;
+
 /// The book of a bank: the commands that it accepted, over which every balance is a sum.
 #[derive(Debug, Drop)]
 pub struct Book {
     setup: Setup,
     entries: Vec<Entry>,
+    /// All pairs by reference, in the order in which they were first seen.
+    pairs: IndexMap<u32, Pair>,
+    /// The settled pairs, in the order in which they were settled.
+    settled: Vec<Pair>,
     applied: u32,
 }
 
 impl Model for Book {
-    ghost use Rattle.pvp_book.specs.Ledger.{Ledger, IsLedger};
+    ghost use Rattle.pvp_book.specs.Ledger.{Ledger, IsKept};
 
     ghost Value = { Ledger };
 
     ghost view = { λ b. record { setup = b.setup; entries = b.entries.items; applied = b.applied } };
 
-    ghost invariant = { λ b. IsLedger (record { setup = b.setup; entries = b.entries.items; applied = b.applied }) };
+    ghost invariant = { λ b. IsKept (record { setup = b.setup; entries = b.entries.items; applied = b.applied }) b.pairs.entries b.settled.items };
 }
 
 impl Book {
     ghost use Rattle.pvp_types.specs.Setup.{IsValid};
-    ghost use Rattle.pvp_book.specs.Ledger.{opening, balance, figure, open_orders, orders, has_pay_in, outstanding};
+    ghost use Rattle.pvp_types.specs.declared.command.Cmd.TheVariants.{Settle};
+    ghost use Rattle.pvp_book.specs.Pairs.{pair_of, has_reference, is_rescinded};
+    ghost use Rattle.pvp_book.specs.Limits.{passes};
+    ghost use Rattle.pvp_book.specs.Settlement.{settled};
+    ghost use Rattle.pvp_book.specs.Ledger.{opening, balance, figure, open_orders, orders, has_pay_in, outstanding, state_of, pair_state, pairs_in};
     ghost use Rattle.pvp_book.specs.Open.{orders_left};
-    ghost use Rattle.pvp_book.specs.Answer.{answer_to, after, on_fund, on_pay_out, on_paid, has_member, has_currency};
+    ghost use Rattle.pvp_book.specs.Answer.{answer_to, after, is_walk, balances_less, is_side, on_instruct, on_mirror, on_rescind, on_pair, on_fund, on_pay_out, on_paid, has_member, has_currency};
 
     /// An empty book.
     pub fn fresh(alloc: Global, setup: &Setup) -> Result<Self, AllocError>
@@ -46,6 +60,8 @@ impl Book {
         Ok(Book {
             setup: setup.copy()?,
             entries: Vec::new(alloc),
+            pairs: IndexMap::new(alloc),
+            settled: Vec::new(alloc),
             applied: 0,
         })
     }
@@ -57,14 +73,10 @@ impl Book {
         ensures answer { IfOk result (λ reply. reply ≡ answer_to self.old client cmd) }
         ensures after { OnOk result (self.new ≡ after self.old client cmd) }
     {
-        let reply = self.answer(client, cmd);
-        if is_refusal(reply) {
-            self.applied += 1;
-            return Ok(reply);
+        match cmd {
+            Cmd::Settle { most } if client == OPERATOR => self.settle(most),
+            _ => self.note(client, cmd),
         }
-        self.entries.push(Entry { client, cmd, reply })?;
-        self.applied += 1;
-        Ok(reply)
     }
 
     /// How many commands were applied.
@@ -76,9 +88,9 @@ impl Book {
 
     /// A member's balance in a currency, in minor units.
     pub fn balance(&self, m: u16, c: u8) -> i64
-        ensures { result ≡ balance self.now.entries m c }
+        ensures { result ≡ balance self.now.setup self.now.entries m c }
     {
-        sums::balance(self.entries.as_slice(), m, c)
+        sums::balance(self.entries.as_slice(), self.settled.as_slice(), m, c)
     }
 
     /// The bank's figure in a currency: the sum of all members' balances, in minor units.
@@ -86,7 +98,7 @@ impl Book {
         ensures { result ≡ figure self.now.setup self.now.entries c }
     {
         let members = self.setup.member_count();
-        sums::sum_of_balances(self.entries.as_slice(), members, c)
+        sums::sum_of_balances(self.entries.as_slice(), self.settled.as_slice(), members, c)
     }
 
     /// The outstanding order at a place, by currency, then number, and the client number of its
@@ -121,11 +133,32 @@ impl Book {
         sums::order_count(self.entries.as_slice(), c) as u32
     }
 
-    /// How many pairs are in a state. No command makes a pair yet.
-    pub fn pairs(&self, _state: PairState) -> u32
-        ensures { result ≡ 0 }
+    /// How far the pair of a reference has come; `None` where there is none.
+    pub fn pair(&self, reference: u32) -> Option<PairState>
+        ensures { result ≡ pair_state self.now.setup self.now.entries reference }
     {
-        0
+        let pair = self.pair_of(reference)?;
+        Some(self.state_of(&pair))
+    }
+
+    /// How many pairs have come so far and no further.
+    pub fn pairs(&self, state: PairState) -> u32
+        ensures { result ≡ length (pairs_in self.now.setup self.now.entries state) }
+    {
+        let entries = self.entries.as_slice();
+        pair::count_in(entries, self.settled.as_slice(), state) as u32
+    }
+
+    fn pair_of(&self, reference: u32) -> Option<Pair>
+        ensures { result ≡ pair_of self.now.entries reference }
+    {
+        self.pairs.get(&reference).copied()
+    }
+
+    fn state_of(&self, pair: &Pair) -> PairState
+        ensures { result ≡ state_of self.now.setup self.now.entries pair.now }
+    {
+        pair::state_of(self.entries.as_slice(), self.settled.as_slice(), pair)
     }
 
     /// What the bank was set up with.
@@ -143,20 +176,192 @@ impl Book {
         sums::has_pay_in(self.entries.as_slice(), c, k)
     }
 
+    /// Walks over the matched pairs, at the operator's word.
+    fn settle(&mut self, most: u32) -> Result<Reply, AllocError>
+        requires { self.old.applied < 65535 }
+        ensures answer { IfOk result (λ reply. reply ≡ answer_to self.old 0 (Settle most)) }
+        ensures after { OnOk result (self.new ≡ after self.old 0 (Settle most)) }
+    {
+        let alloc = *self.entries.allocator();
+        let entries = self.entries.as_slice();
+        let offered = pair::candidates(alloc, entries, self.settled.as_slice())?;
+        self.entries.reserve(1)?;
+        let count = walk::settle(
+            &self.setup,
+            self.entries.as_slice(),
+            &mut self.settled,
+            offered.as_slice(),
+            most,
+        )?;
+        let reply = Reply::Settled(count);
+        self.entries.push(Entry {
+            client: OPERATOR,
+            cmd: Cmd::Settle { most },
+            reply,
+        })?;
+        self.applied += 1;
+        Ok(reply)
+    }
+
+    /// Answers a command that settles nothing.
+    fn note(&mut self, client: u16, cmd: Cmd) -> Result<Reply, AllocError>
+        requires room { self.old.applied < 65535 }
+        requires other { is_walk client cmd ≡ false }
+        ensures answer { IfOk result (λ reply. reply ≡ answer_to self.old client cmd) }
+        ensures after { OnOk result (self.new ≡ after self.old client cmd) }
+    {
+        let reply = self.answer(client, cmd);
+        if is_refusal(reply) {
+            self.applied += 1;
+            return Ok(reply);
+        }
+        self.keep(Entry { client, cmd, reply })?;
+        Ok(reply)
+    }
+
+    /// Keeps a command that was answered.
+    fn keep(&mut self, entry: Entry) -> Result<(), AllocError>
+        requires room { self.old.applied < 65535 }
+        requires other { is_walk entry.client entry.cmd ≡ false }
+        requires answered { entry.reply ≡ answer_to self.old entry.client entry.cmd }
+        requires accepted { is_refusal entry.reply ≡ false }
+        ensures { OnOk result (self.new ≡ record self.old { entries = self.old.entries ++ entry ∷ []; applied = self.old.applied + 1 }) }
+    {
+        self.entries.reserve(1)?;
+        if let Some(pair) = pair::opened_by(&entry) {
+            self.pairs.insert(pair.reference, pair)?;
+        }
+        self.entries.push(entry)?;
+        self.applied += 1;
+        Ok(())
+    }
+
     #[tactic(auto, unfolding(crate::specs::Answer::answer))]
     fn answer(&self, client: u16, cmd: Cmd) -> Reply
+        requires { is_walk client cmd ≡ false }
         ensures { result ≡ answer_to self.now client cmd }
     {
         match cmd {
+            Cmd::Instruct {
+                reference,
+                other,
+                sell,
+                sell_amt,
+                buy,
+                buy_amt,
+            } => {
+                let pair = Pair {
+                    reference,
+                    first: client,
+                    second: other,
+                    sell,
+                    sell_amt,
+                    buy,
+                    buy_amt,
+                };
+                self.on_instruct(&pair)
+            }
+            Cmd::Rescind { reference } => self.on_rescind(client, reference),
             Cmd::Fund {
                 ccy,
                 pay,
                 member,
                 amt,
             } => self.on_fund(client, ccy, pay, member, amt),
+            Cmd::Settle { .. } => Reply::No(Reason::NotYours),
             Cmd::PayOut { ccy, amt } => self.on_pay_out(client, ccy, amt),
             Cmd::Paid { ccy, out } => self.on_paid(client, ccy, out),
         }
+    }
+
+    /// Answers an instruction, given as the pair that it would open.
+    fn on_instruct(&self, asked: &Pair) -> Reply
+        ensures { result ≡ on_instruct self.now.setup self.now.entries asked.now.first asked.now.reference asked.now.second asked.now.sell asked.now.sell_amt asked.now.buy asked.now.buy_amt }
+    {
+        let other = asked.second;
+        if !(1..=MOST_MEMBERS).contains(&asked.first) {
+            Reply::No(Reason::NotYours)
+        } else if !(self.has_member(asked.first)
+            && self.has_member(other)
+            && other != asked.first)
+        {
+            Reply::No(Reason::UnknownMember)
+        } else if !(self.has_currency(asked.sell)
+            && self.has_currency(asked.buy)
+            && asked.sell != asked.buy)
+        {
+            Reply::No(Reason::UnknownCurrency)
+        } else if !(is_amount(asked.sell_amt) && is_amount(asked.buy_amt)) {
+            Reply::No(Reason::BadAmount)
+        } else if asked.reference == 0 {
+            Reply::No(Reason::UnknownReference)
+        } else {
+            self.on_mirror(self.pair_of(asked.reference), asked)
+        }
+    }
+
+    /// Answers an instruction under a reference that has a pair, or has none.
+    fn on_mirror(&self, pair: Option<Pair>, asked: &Pair) -> Reply
+        ensures { result ≡ on_mirror self.now.setup self.now.entries asked.now.first pair asked.now.second asked.now.sell asked.now.sell_amt asked.now.buy asked.now.buy_amt }
+    {
+        match pair {
+            None => Reply::Done,
+            Some(pair) => {
+                if asked.first == pair.first || !self.state_of(&pair).is(PairState::Unmatched) {
+                    Reply::No(Reason::Repeated)
+                } else if !is_mirror(&pair, asked) {
+                    Reply::No(Reason::Mismatch)
+                } else {
+                    Reply::Matched
+                }
+            }
+        }
+    }
+
+    fn on_rescind(&self, client: u16, reference: u32) -> Reply
+        ensures { result ≡ on_rescind self.now.setup self.now.entries client reference }
+    {
+        if !(1..=MOST_MEMBERS).contains(&client) {
+            Reply::No(Reason::NotYours)
+        } else if !self.has_member(client) {
+            Reply::No(Reason::UnknownMember)
+        } else {
+            self.on_pair(client, self.pair_of(reference))
+        }
+    }
+
+    /// Answers a rescission of a reference that has a pair, or has none.
+    fn on_pair(&self, client: u16, pair: Option<Pair>) -> Reply
+        ensures { result ≡ on_pair self.now.setup self.now.entries client pair }
+    {
+        match pair {
+            None => Reply::No(Reason::UnknownReference),
+            Some(pair) => {
+                if !self.is_side(&pair, client) {
+                    Reply::No(Reason::NotYours)
+                } else if self.is_late(&pair) {
+                    Reply::No(Reason::Late)
+                } else {
+                    Reply::Done
+                }
+            }
+        }
+    }
+
+    /// Whether a client is a side of a pair: the first, or where it is matched the second.
+    fn is_side(&self, pair: &Pair, client: u16) -> bool
+        ensures { result ≡ is_side self.now.entries pair.now client }
+    {
+        client == pair.first
+            || (client == pair.second && pair::is_matched(self.entries.as_slice(), pair))
+    }
+
+    /// Whether a pair is settled or rescinded.
+    fn is_late(&self, pair: &Pair) -> bool
+        ensures { result ≡ (has_reference (settled self.now.setup self.now.entries) pair.now.reference || is_rescinded self.now.entries pair.now) }
+    {
+        pair::has_reference(self.settled.as_slice(), pair.reference)
+            || pair::is_rescinded(self.entries.as_slice(), pair)
     }
 
     fn on_fund(&self, client: u16, c: u8, pay: u32, member: u16, amt: u64) -> Reply
@@ -190,9 +395,29 @@ impl Book {
             Reply::No(Reason::BadAmount)
         } else if self.balance(client, c) < amt as i64 {
             Reply::No(Reason::Short)
+        } else if !self.passes_after(client, c, amt) {
+            Reply::No(Reason::TestFails)
+        } else if self.figure(c) < amt as i64 {
+            Reply::No(Reason::BankShort)
         } else {
             Reply::Order(self.orders(c) + 1)
         }
+    }
+
+    /// Whether a member still passes its tests once an amount of a currency is paid out.
+    fn passes_after(&self, m: u16, c: u8, amt: u64) -> bool
+        requires known { has_currency self.now.setup c ≡ true }
+        requires amount { is_amount amt ≡ true }
+        ensures { result ≡ passes self.now.setup m (balances_less self.now.setup self.now.entries (settled self.now.setup self.now.entries) m c amt) }
+    {
+        walk::passes_after(
+            &self.setup,
+            self.entries.as_slice(),
+            self.settled.as_slice(),
+            m,
+            c,
+            amt,
+        )
     }
 
     fn on_paid(&self, client: u16, c: u8, out: u32) -> Reply
@@ -229,6 +454,18 @@ fn is_refusal(reply: Reply) -> bool
     ensures { result ≡ is_refusal reply }
 {
     matches!(reply, Reply::No(_))
+}
+
+/// Whether an instruction, given as the pair that it would open, is the exact mirror of a pair's.
+fn is_mirror(pair: &Pair, asked: &Pair) -> bool
+    ensures { result ≡ is_mirror pair.now asked.now.first asked.now.second asked.now.sell asked.now.sell_amt asked.now.buy asked.now.buy_amt }
+{
+    pair.first == asked.second
+        && pair.second == asked.first
+        && pair.sell == asked.buy
+        && pair.sell_amt == asked.buy_amt
+        && pair.buy == asked.sell
+        && pair.buy_amt == asked.sell_amt
 }
 
 fn is_amount(amt: u64) -> bool

@@ -3,11 +3,16 @@
 
 pub mod book;
 pub mod entry;
+pub mod laws;
+mod limits;
 pub mod open;
+pub mod pair;
 mod sums;
 #[cfg(test)]
 mod tests;
+mod walk;
 
 pub use book::Book;
-pub use entry::{Entry, PairState};
+pub use entry::Entry;
 pub use open::OpenOrders;
+pub use pair::{Pair, PairState};

@@ -1,9 +1,11 @@
-ghost use Rattle.std.specs.Prelude.{◌≡◌, ◌<◌, ◌≤◌, ◌^◌, length, sum_by};
+ghost use Rattle.std.specs.Prelude.{◌≡◌, ◌<◌, ◌≤◌, ◌^◌, length, sum_by, if◌then◌else◌};
 ghost use Rattle.std.specs.List.{list_any};
-ghost use Rattle.pvp_book.specs.Ledger.{node_of, balance, sum_of_balances, total, most_total, IsWithin, paid_in_to, paid_out_of, pay_ins, pay_outs, is_pay_in, has_pay_in, order_by, orders, is_payment, has_payment, open_orders};
+ghost use Rattle.pvp_book.specs.Accounts.{paid_in_to, paid_out_of, pay_ins, pay_outs, bought, sold, received, given, balance_with};
+ghost use Rattle.pvp_book.specs.Ledger.{node_of, sum_of_balances, most_total, IsWithin, IsSmall, is_pay_in, has_pay_in, order_by, orders, is_payment, has_payment, open_orders};
 ghost use Rattle.pvp_book.specs.Answer.{has_order};
 
 use crate::entry::Entry;
+use crate::pair::Pair;
 use pvp_types::{Cmd, PayOrder, Reply};
 
 /// The client number of a currency's node, less the currency's.
@@ -57,24 +59,92 @@ pub fn pay_outs(entries: &[Entry], m: u16, c: u8) -> u64
     entries.iter().map(|e| paid_out_of(e, m, c)).sum()
 }
 
-/// A member's balance in a currency, in minor units.
-pub fn balance(entries: &[Entry], m: u16, c: u8) -> i64
-    requires { total entries.now ≤ most_total }
-    ensures value { result ≡ balance entries.now m c }
-    ensures small { IsWithin most_total result }
+/// What a member buys in a currency by a pair.
+fn bought(pair: &Pair, m: u16, c: u8) -> u64
+    requires { bought m c pair.now < 2 ^ 64 }
+    ensures { result ≡ bought m c pair.now }
 {
-    pay_ins(entries, m, c) as i64 - pay_outs(entries, m, c) as i64
+    let by_first = part(pair.first == m && pair.buy == c, pair.buy_amt);
+    let by_second = part(pair.second == m && pair.sell == c, pair.sell_amt);
+    by_first + by_second
 }
 
-/// The sum of the balances of the first members in a currency, in minor units.
-pub fn sum_of_balances(entries: &[Entry], members: u16, c: u8) -> i64
-    requires small { total entries.now ≤ most_total }
+/// What a member sells in a currency by a pair.
+fn sold(pair: &Pair, m: u16, c: u8) -> u64
+    requires { sold m c pair.now < 2 ^ 64 }
+    ensures { result ≡ sold m c pair.now }
+{
+    let by_first = part(pair.first == m && pair.sell == c, pair.sell_amt);
+    let by_second = part(pair.second == m && pair.buy == c, pair.buy_amt);
+    by_first + by_second
+}
+
+/// An amount where it counts, else 0.
+fn part(counts: bool, amt: u64) -> u64
+    ensures { result ≡ (if counts then amt else 0) }
+{
+    if counts { amt } else { 0 }
+}
+
+/// What a member bought in a currency by some pairs.
+fn all_bought(pairs: &[Pair], m: u16, c: u8) -> u64
+    requires { sum_by (bought m c) pairs.now < 2 ^ 64 }
+    ensures { result ≡ sum_by (bought m c) pairs.now }
+{
+    let mut sum = 0;
+    for pair in pairs {
+        sum += bought(pair, m, c);
+    }
+    sum
+}
+
+/// What a member sold in a currency by some pairs.
+fn all_sold(pairs: &[Pair], m: u16, c: u8) -> u64
+    requires { sum_by (sold m c) pairs.now < 2 ^ 64 }
+    ensures { result ≡ sum_by (sold m c) pairs.now }
+{
+    let mut sum = 0;
+    for pair in pairs {
+        sum += sold(pair, m, c);
+    }
+    sum
+}
+
+/// What came to a member in a currency, where some pairs are settled.
+fn received(entries: &[Entry], settled: &[Pair], m: u16, c: u8) -> u64
+    requires { received entries.now settled.now m c < 2 ^ 64 }
+    ensures { result ≡ received entries.now settled.now m c }
+{
+    pay_ins(entries, m, c) + all_bought(settled, m, c)
+}
+
+/// What went from a member in a currency, where some pairs are settled.
+fn given(entries: &[Entry], settled: &[Pair], m: u16, c: u8) -> u64
+    requires { given entries.now settled.now m c < 2 ^ 64 }
+    ensures { result ≡ given entries.now settled.now m c }
+{
+    pay_outs(entries, m, c) + all_sold(settled, m, c)
+}
+
+/// A member's balance in a currency, in minor units, where some pairs are settled.
+pub fn balance(entries: &[Entry], settled: &[Pair], m: u16, c: u8) -> i64
+    requires { IsSmall entries.now settled.now }
+    ensures value { result ≡ balance_with entries.now settled.now m c }
+    ensures small { IsWithin most_total result }
+{
+    received(entries, settled, m, c) as i64 - given(entries, settled, m, c) as i64
+}
+
+/// The sum of the balances of the first members in a currency, in minor units, where some pairs are
+/// settled.
+pub fn sum_of_balances(entries: &[Entry], settled: &[Pair], members: u16, c: u8) -> i64
+    requires small { IsSmall entries.now settled.now }
     requires few { members ≤ 64 }
-    ensures { result ≡ sum_of_balances members entries.now c }
+    ensures { result ≡ sum_of_balances members entries.now settled.now c }
 {
     let mut sum = 0;
     for m in 0..members {
-        sum += balance(entries, m + 1, c);
+        sum += balance(entries, settled, m + 1, c);
     }
     sum
 }

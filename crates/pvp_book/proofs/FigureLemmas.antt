@@ -1,0 +1,398 @@
+-- Legs and figures: what settled pairs bring is what they take.
+use Rattle.std.proofs.Common.{◌≡◌, ℕ, suc, zero, ◌+◌, ◌≤◌, ◌<◌, Bool, true, false, cond, List, [], ◌∷◌, ◌++◌, length, map, fold, arith, refl, ap, sym, subst, ◌∙◌, sum_by, ℤ, pos, ◌+ℤ◌, ◌-ℤ◌, ◌≤ℤ◌, neg_ℤ, add-one, eqb-true, ◌⊎◌, inl, inr}
+use Rattle.std.specs.Prelude.{not, ◌&&◌, ◌==◌, if◌then◌else◌, int_lt}
+use Rattle.std.specs.List.{flat_map, AllByRecursion}
+use Rattle.std.proofs.lemmas.Int.{ints}
+use Rattle.std.proofs.lemmas.Bool.{and_parts, leb-true, ne_eqb, eq-eqb, cases_eq}
+use Rattle.std.proofs.lemmas.List.Sums.{sum_by-cons, sum_by-append, fold-append}
+use Rattle.std.proofs.lemmas.List.Elements.{filter-append}
+use Rattle.pvp_types.specs.declared.setup.Setup.{Setup}
+use Rattle.pvp_types.specs.declared.command.Cmd.{Cmd}
+use Rattle.pvp_types.specs.declared.command.Cmd.TheVariants.{Instruct, Rescind, Fund, Settle, PayOut, Paid}
+use Rattle.pvp_types.specs.declared.command.Reply.TheVariants.{Done, Order, No}
+use Rattle.pvp_types.specs.declared.command.Reason.TheVariants.{NotYours, UnknownMember, UnknownCurrency, BadAmount, UnknownReference, Repeated, Short, TestFails, BankShort}
+use Rattle.pvp_book.specs.declared.entry.Entry.{Entry}
+use Rattle.pvp_book.specs.declared.pair.Pair.{Pair}
+use Rattle.pvp_book.specs.Accounts.{paid_in_to, paid_out_of, pay_ins, pay_outs, bought, sold, received, given, balance_with}
+use Rattle.pvp_book.specs.Limits.{passes}
+use Rattle.pvp_book.specs.Settlement.{settled}
+use Rattle.pvp_book.specs.Ledger.{node_of, has_pay_in, orders, balance, figure, sum_of_balances}
+use Rattle.pvp_book.specs.Answer.{Row, answer, is_refusal, on_fund, on_pay_out, has_member, has_currency, is_amount, is_member_number, balances_less, book_of}
+use Rattle.pvp_book.specs.Laws.{Leg, legs, legs_at, sum_of_legs, IsExchange, IsEven, funded, paid_out, funds, all_paid_out, IsCovered}
+use Rattle.pvp_book.proofs.LedgerLemmas.{sum_of_balances-more}
+use Rattle.pvp_book.proofs.Reached.{entry_of, reached}
+use Rattle.pvp_book.proofs.Counts.{each-append}
+use Rattle.pvp_book.proofs.StandingLemmas.{IsSound, IsSound-push, sound, each-settled}
+
+legs-append : (xs ys : List Leg) → sum_of_legs (xs ++ ys) ≡ sum_of_legs xs +ℤ sum_of_legs ys
+legs-append xs ys =
+    ap (fold ◌+ℤ◌ (pos 0)) (maps xs ys) ∙ fold-append ◌+ℤ◌ (pos 0) (amounts xs) (amounts ys) ∙ folded (fold ◌+ℤ◌ (pos 0) (amounts xs)) (amounts ys)
+  where
+    amounts : List Leg → List ℤ
+    amounts some = map (λ (leg : Leg). leg.amt) some
+
+    maps : (xs ys : List Leg) → map (λ (leg : Leg). leg.amt) (xs ++ ys) ≡ map (λ (leg : Leg). leg.amt) xs ++ map (λ (leg : Leg). leg.amt) ys
+    maps [] ys = refl
+    maps (x ∷ xs) ys = ap (λ zs. x.amt ∷ zs) (maps xs ys)
+
+    folded : (a : ℤ) (zs : List ℤ) → fold ◌+ℤ◌ a zs ≡ a +ℤ fold ◌+ℤ◌ (pos 0) zs
+    folded a [] = omega (arith, ints)
+    folded a (z ∷ zs) =
+        let left = folded (a +ℤ z) zs in
+        let right = folded (pos 0 +ℤ z) zs in
+        omega (arith, ints)
+
+-- a pair's legs at a member and a currency are what the member buys there less what it sells
+legs-of-pair : (m c : ℕ) (p : Pair) → sum_of_legs (legs_at m c (legs p)) ≡ pos (bought m c p) -ℤ pos (sold m c p)
+legs-of-pair m c p = by (p.first == m) (p.second == m) (p.sell == c) (p.buy == c)
+  where
+    one : (b : Bool) (leg : Leg) (some : List Leg) → sum_of_legs (cond b (leg ∷ some) some) ≡ (if b then leg.amt else pos 0) +ℤ sum_of_legs some
+    one true leg some = legs-append (leg ∷ []) some ∙ ap (λ z. z +ℤ sum_of_legs some) (omega (arith, ints))
+    one false leg some = omega (arith, ints)
+
+    by : (first second sell buy : Bool)
+        → sum_of_legs (cond (first && sell) (record { member = p.first; ccy = p.sell; amt = neg_ℤ (pos p.sell_amt) }
+        ∷ cond (second && sell) (record { member = p.second; ccy = p.sell; amt = pos p.sell_amt }
+        ∷ cond (second && buy) (record { member = p.second; ccy = p.buy; amt = neg_ℤ (pos p.buy_amt) }
+        ∷ cond (first && buy) (record { member = p.first; ccy = p.buy; amt = pos p.buy_amt } ∷ []) [])
+        (cond (first && buy) (record { member = p.first; ccy = p.buy; amt = pos p.buy_amt } ∷ []) []))
+        (cond (second && buy) (record { member = p.second; ccy = p.buy; amt = neg_ℤ (pos p.buy_amt) }
+        ∷ cond (first && buy) (record { member = p.first; ccy = p.buy; amt = pos p.buy_amt } ∷ []) [])
+        (cond (first && buy) (record { member = p.first; ccy = p.buy; amt = pos p.buy_amt } ∷ []) [])))
+        (cond (second && sell) (record { member = p.second; ccy = p.sell; amt = pos p.sell_amt }
+        ∷ cond (second && buy) (record { member = p.second; ccy = p.buy; amt = neg_ℤ (pos p.buy_amt) }
+        ∷ cond (first && buy) (record { member = p.first; ccy = p.buy; amt = pos p.buy_amt } ∷ []) [])
+        (cond (first && buy) (record { member = p.first; ccy = p.buy; amt = pos p.buy_amt } ∷ []) []))
+        (cond (second && buy) (record { member = p.second; ccy = p.buy; amt = neg_ℤ (pos p.buy_amt) }
+        ∷ cond (first && buy) (record { member = p.first; ccy = p.buy; amt = pos p.buy_amt } ∷ []) [])
+        (cond (first && buy) (record { member = p.first; ccy = p.buy; amt = pos p.buy_amt } ∷ []) []))))
+        ≡ pos ((if first && buy then p.buy_amt else 0) + (if second && sell then p.sell_amt else 0))
+        -ℤ pos ((if first && sell then p.sell_amt else 0) + (if second && buy then p.buy_amt else 0))
+    by true true true true = omega (arith, ints)
+    by true true true false = omega (arith, ints)
+    by true true false true = omega (arith, ints)
+    by true true false false = omega (arith, ints)
+    by true false true true = omega (arith, ints)
+    by true false true false = omega (arith, ints)
+    by true false false true = omega (arith, ints)
+    by true false false false = omega (arith, ints)
+    by false true true true = omega (arith, ints)
+    by false true true false = omega (arith, ints)
+    by false true false true = omega (arith, ints)
+    by false true false false = omega (arith, ints)
+    by false false true true = omega (arith, ints)
+    by false false true false = omega (arith, ints)
+    by false false false true = omega (arith, ints)
+    by false false false false = omega (arith, ints)
+
+-- and so for all legs of some pairs
+pub legs-of-pairs : (m c : ℕ) (ps : List Pair)
+    → sum_of_legs (legs_at m c (flat_map legs ps)) ≡ pos (sum_by (bought m c) ps) -ℤ pos (sum_by (sold m c) ps)
+legs-of-pairs m c [] = omega (arith, ints)
+legs-of-pairs m c (p ∷ ps) =
+    let split = filter-append (λ (leg : Leg). (leg.member == m) && (leg.ccy == c)) (legs p) (flat_map legs ps) in
+    let both = ap sum_of_legs split ∙ legs-append (legs_at m c (legs p)) (legs_at m c (flat_map legs ps)) in
+    let here = legs-of-pair m c p in
+    let rest = legs-of-pairs m c ps in
+    let came = sum_by-cons (bought m c) p ps in
+    let went = sum_by-cons (sold m c) p ps in
+    both ∙ omega (arith, ints, here, rest, came, went)
+
+-- the sum of a function at 1, 2, .. n
+upto : (ℕ → ℕ) → ℕ → ℕ
+upto f zero = 0
+upto f (suc n) = upto f n + f (suc n)
+
+upto-add : (f g : ℕ → ℕ) (n : ℕ) → upto (λ m. f m + g m) n ≡ upto f n + upto g n
+unfolding upto
+upto-add f g zero = refl
+upto-add f g (suc n) = let rest = upto-add f g n in omega arith
+
+upto-none : (n : ℕ) → upto (λ _. 0) n ≡ 0
+unfolding upto
+upto-none zero = refl
+upto-none (suc n) = let rest = upto-none n in omega arith
+
+upto-same : (f g : ℕ → ℕ) (n : ℕ) → ((m : ℕ) → f m ≡ g m) → upto f n ≡ upto g n
+unfolding upto
+upto-same f g zero same = refl
+upto-same f g (suc n) same = let rest = upto-same f g n same in let here = same (suc n) in omega arith
+
+-- an amount that stands at one number
+pick-past : (k amt : ℕ) (b : Bool) (n : ℕ) → n < k → upto (λ m. if (k == m) && b then amt else 0) n ≡ 0
+unfolding upto
+pick-past k amt b zero past = refl
+pick-past k amt b (suc n) past =
+    let rest = pick-past k amt b n (omega arith) in
+    let here = ap (λ e. if e && b then amt else 0) (ne_eqb k (suc n) (λ same. absurd (omega arith))) in
+    omega arith
+
+pick : (k amt : ℕ) (b : Bool) (n : ℕ) → 1 ≤ k → k ≤ n → upto (λ m. if (k == m) && b then amt else 0) n ≡ (if b then amt else 0)
+unfolding upto
+pick k amt b zero low high = absurd (omega arith)
+pick k amt b (suc n) low high = by (cases_eq (suc n) k) (λ within. pick k amt b n low within)
+  where
+    by : (suc n ≡ k) ⊎ (suc n ≡ k → ⊥) → (k ≤ n → upto (λ m. if (k == m) && b then amt else 0) n ≡ (if b then amt else 0))
+        → upto (λ m. if (k == m) && b then amt else 0) n + (if (k == suc n) && b then amt else 0) ≡ (if b then amt else 0)
+    by (inl last) more =
+        let before = pick-past k amt b n (omega arith) in
+        let here = ap (λ e. if e && b then amt else 0) (eq-eqb k (suc n) (sym last)) in
+        omega arith
+    by (inr other) more =
+        let past = ap (λ e. if e && b then amt else 0) (ne_eqb k (suc n) (λ same. other (sym same))) in
+        let before = more (omega (arith, other)) in
+        omega arith
+
+is-member : (setup : Setup) (m : ℕ) → has_member setup m ≡ true → (1 ≤ m) × (m ≤ length setup.members)
+is-member setup m is = let both = and_parts _ _ is in (leb-true 1 m both.0, leb-true m (length setup.members) both.1)
+
+-- what all members buy by a pair is what they sell
+even-pair : (setup : Setup) (c : ℕ) (p : Pair) → IsExchange setup p → upto (λ m. bought m c p) (length setup.members) ≡ upto (λ m. sold m c p) (length setup.members)
+even-pair setup c p is =
+    let n = length setup.members in
+    let first = is-member setup p.first is.first in
+    let second = is-member setup p.second is.second in
+    let buys = upto-add (λ m. if (p.first == m) && (p.buy == c) then p.buy_amt else 0) (λ m. if (p.second == m) && (p.sell == c) then p.sell_amt else 0) n in
+    let sells = upto-add (λ m. if (p.first == m) && (p.sell == c) then p.sell_amt else 0) (λ m. if (p.second == m) && (p.buy == c) then p.buy_amt else 0) n in
+    let first_buys = pick p.first p.buy_amt (p.buy == c) n first.0 first.1 in
+    let second_buys = pick p.second p.sell_amt (p.sell == c) n second.0 second.1 in
+    let first_sells = pick p.first p.sell_amt (p.sell == c) n first.0 first.1 in
+    let second_sells = pick p.second p.buy_amt (p.buy == c) n second.0 second.1 in
+    omega arith
+
+-- sums in either order
+upto-sum : {X : Type 0} (f : ℕ → X → ℕ) (xs : List X) (n : ℕ) → upto (λ m. sum_by (f m) xs) n ≡ sum_by (λ x. upto (λ m. f m x) n) xs
+upto-sum f [] n = upto-none n
+upto-sum f (x ∷ xs) n =
+    let each = upto-same (λ m. sum_by (f m) (x ∷ xs)) (λ m. f m x + sum_by (f m) xs) n (λ m. sum_by-cons (f m) x xs) in
+    let both = upto-add (λ m. f m x) (λ m. sum_by (f m) xs) n in
+    let rest = upto-sum f xs n in
+    let all = sum_by-cons (λ y. upto (λ m. f m y) n) x xs in
+    omega arith
+
+even-pairs : (setup : Setup) (c : ℕ) (ps : List Pair) → AllByRecursion (IsExchange setup) ps
+    → upto (λ m. sum_by (bought m c) ps) (length setup.members) ≡ upto (λ m. sum_by (sold m c) ps) (length setup.members)
+even-pairs setup c ps all =
+    upto-sum (λ m p. bought m c p) ps (length setup.members) ∙ each ps all ∙ sym (upto-sum (λ m p. sold m c p) ps (length setup.members))
+  where
+    each : (qs : List Pair) → AllByRecursion (IsExchange setup) qs
+        → sum_by (λ p. upto (λ m. bought m c p) (length setup.members)) qs ≡ sum_by (λ p. upto (λ m. sold m c p) (length setup.members)) qs
+    each [] all = refl
+    each (q ∷ qs) all =
+        let here = even-pair setup c q all.0 in
+        let rest = each qs all.1 in
+        let left = sum_by-cons (λ p. upto (λ m. bought m c p) (length setup.members)) q qs in
+        let right = sum_by-cons (λ p. upto (λ m. sold m c p) (length setup.members)) q qs in
+        omega arith
+
+-- a pay-in is for a member, and a pay-out is one's
+IsOfMember : Setup → Entry → Type 0
+IsOfMember setup e = (c : ℕ) → (upto (λ m. paid_in_to m c e.cmd) (length setup.members) ≡ funded c e.cmd)
+    × (upto (λ m. paid_out_of m c e.client e.cmd) (length setup.members) ≡ paid_out c e.cmd)
+
+all-funds : (setup : Setup) (c : ℕ) (entries : List Entry) → AllByRecursion (IsOfMember setup) entries
+    → (upto (λ m. pay_ins entries m c) (length setup.members) ≡ funds entries c) × (upto (λ m. pay_outs entries m c) (length setup.members) ≡ all_paid_out entries c)
+unfolding IsOfMember
+all-funds setup c entries all = (
+  upto-sum (λ m (e : Entry). paid_in_to m c e.cmd) entries (length setup.members) ∙ (each entries all).0,
+  upto-sum (λ m (e : Entry). paid_out_of m c e.client e.cmd) entries (length setup.members) ∙ (each entries all).1,
+)
+  where
+    each : (es : List Entry) → AllByRecursion (IsOfMember setup) es
+        → (sum_by (λ (e : Entry). upto (λ m. paid_in_to m c e.cmd) (length setup.members)) es ≡ funds es c)
+        × (sum_by (λ (e : Entry). upto (λ m. paid_out_of m c e.client e.cmd) (length setup.members)) es ≡ all_paid_out es c)
+    each [] all = (refl, refl)
+    each (e ∷ es) all =
+        let here = all.0 c in
+        let rest = each es all.1 in
+        let ins = sum_by-cons (λ (x : Entry). upto (λ m. paid_in_to m c x.cmd) (length setup.members)) e es in
+        let outs = sum_by-cons (λ (x : Entry). upto (λ m. paid_out_of m c x.client x.cmd) (length setup.members)) e es in
+        let all_ins = sum_by-cons (λ (x : Entry). funded c x.cmd) e es in
+        let all_outs = sum_by-cons (λ (x : Entry). paid_out c x.cmd) e es in
+        let first = here.0 in
+        let second = here.1 in
+        let rest_ins = rest.0 in
+        let rest_outs = rest.1 in
+        (omega arith, omega arith)
+
+-- the balances of the first members, added up
+balances-upto : (entries : List Entry) (done : List Pair) (c n : ℕ)
+    → sum_of_balances n entries done c ≡ pos (upto (λ m. received entries done m c) n) -ℤ pos (upto (λ m. given entries done m c) n)
+unfolding upto
+balances-upto entries done c zero = refl
+balances-upto entries done c (suc n) =
+    let rest = balances-upto entries done c n in
+    let more = sum_of_balances-more entries done n c in
+    ap (λ k. sum_of_balances k entries done c) (sym (add-one n)) ∙ more ∙ ap (λ z. z +ℤ balance_with entries done (n + 1) c) rest
+    ∙ ap (λ k. (pos (upto (λ m. received entries done m c) n) -ℤ pos (upto (λ m. given entries done m c) n)) +ℤ balance_with entries done k c) (add-one n)
+    ∙ joined (upto (λ m. received entries done m c) n) (upto (λ m. given entries done m c) n) (received entries done (suc n) c) (given entries done (suc n) c)
+  where
+    joined : (a b x y : ℕ) → (pos a -ℤ pos b) +ℤ (pos x -ℤ pos y) ≡ pos (a + x) -ℤ pos (b + y)
+    joined a b x y = omega (arith, ints)
+
+-- the figure is what was paid in less what was paid out
+figure-is : (setup : Setup) (entries : List Entry) (c : ℕ) → AllByRecursion (IsExchange setup) (settled setup entries) → AllByRecursion (IsOfMember setup) entries
+    → figure setup entries c ≡ pos (funds entries c) -ℤ pos (all_paid_out entries c)
+figure-is setup entries c pairs_are all =
+    let n = length setup.members in
+    let done = settled setup entries in
+    let ins = upto-add (λ m. pay_ins entries m c) (λ m. sum_by (bought m c) done) n in
+    let outs = upto-add (λ m. pay_outs entries m c) (λ m. sum_by (sold m c) done) n in
+    let even = even-pairs setup c done pairs_are in
+    let sums = all-funds setup c entries all in
+    let funds_are = sums.0 in
+    let outs_are = sums.1 in
+    balances-upto entries done c n
+    ∙ difference (upto (λ m. received entries done m c) n) (upto (λ m. given entries done m c) n) (funds entries c) (all_paid_out entries c)
+    (upto (λ m. sum_by (bought m c) done) n) (omega arith) (omega arith)
+  where
+    difference : (a b x y z : ℕ) → a ≡ x + z → b ≡ y + z → pos a -ℤ pos b ≡ pos x -ℤ pos y
+    difference a b x y z left right = omega (arith, ints)
+
+fund-member : (setup : Setup) (entries : List Entry) (client c pay member amt : ℕ)
+    → is_refusal (on_fund setup entries client c pay member amt) ≡ false → has_member setup member ≡ true
+fund-member setup entries client c pay member amt e =
+    by (client == node_of c) (has_currency setup c) (has_member setup member) (is_amount amt) (pay == 0) (has_pay_in entries c pay) e
+  where
+    by : (yours currency known small none there : Bool)
+        → is_refusal (if not yours then No NotYours else if not (currency && known) then No UnknownMember else if not small then No BadAmount
+        else if none then No UnknownReference else if there then No Repeated else Done) ≡ false
+        → known ≡ true
+    by false currency known small none there e = absurd (cc e)
+    by true false known small none there e = absurd (cc e)
+    by true true false small none there e = absurd (cc e)
+    by true true true small none there e = refl
+
+-- a pay-out is a member's, and no more than the figure
+pay_out-member : (setup : Setup) (entries : List Entry) (client c amt : ℕ)
+    → is_refusal (on_pay_out setup entries client c amt) ≡ false → (has_member setup client ≡ true) × (int_lt (figure setup entries c) (pos amt) ≡ false)
+pay_out-member setup entries client c amt e =
+    by (is_member_number client) (has_member setup client) (has_currency setup c) (is_amount amt) (int_lt (balance setup entries client c) (pos amt))
+    (passes setup client (balances_less setup entries (settled setup entries) client c amt)) (int_lt (figure setup entries c) (pos amt)) (length (orders entries c) + 1) e
+  where
+    by : (yours member currency small short passing bare : Bool) (n : ℕ)
+        → is_refusal (if not yours then No NotYours else if not member then No UnknownMember else if not currency then No UnknownCurrency else if not small then No BadAmount
+        else if short then No Short else if not passing then No TestFails else if bare then No BankShort else Order n) ≡ false
+        → (member ≡ true) × (bare ≡ false)
+    by true true true true false true false n e = (refl, refl)
+    by true true true true false true true n e = absurd (cc e)
+    by true true true true false false bare n e = absurd (cc e)
+    by true true true true true passing bare n e = absurd (cc e)
+    by true true true false short passing bare n e = absurd (cc e)
+    by true true false small short passing bare n e = absurd (cc e)
+    by true false currency small short passing bare n e = absurd (cc e)
+    by false member currency small short passing bare n e = absurd (cc e)
+
+of-member : (setup : Setup) (entries : List Entry) (client : ℕ) (cmd : Cmd) → is_refusal (answer setup entries client cmd) ≡ false
+    → IsOfMember setup (entry_of setup entries client cmd)
+unfolding answer IsOfMember
+of-member setup entries client (Fund ccy pay member amt) accepted c =
+    let known = is-member setup member (fund-member setup entries client ccy pay member amt accepted) in
+    (pick member amt (ccy == c) (length setup.members) known.0 known.1, upto-none (length setup.members))
+of-member setup entries client (PayOut ccy amt) accepted c =
+    let known = is-member setup client (pay_out-member setup entries client ccy amt accepted).0 in
+    (upto-none (length setup.members), pick client amt (ccy == c) (length setup.members) known.0 known.1)
+of-member setup entries client (Instruct reference other sell sell_amt buy buy_amt) accepted c = (upto-none (length setup.members), upto-none (length setup.members))
+of-member setup entries client (Rescind reference) accepted c = (upto-none (length setup.members), upto-none (length setup.members))
+of-member setup entries client (Settle most) accepted c = (upto-none (length setup.members), upto-none (length setup.members))
+of-member setup entries client (Paid ccy out) accepted c = (upto-none (length setup.members), upto-none (length setup.members))
+
+of-members : (setup : Setup) (history : List Row) → AllByRecursion (IsOfMember setup) (book_of setup history)
+of-members setup history =
+    reached setup (AllByRecursion (IsOfMember setup)) tt
+    (λ entries client cmd held accepted. each-append (IsOfMember setup) entries (entry_of setup entries client cmd ∷ []) held (of-member setup entries client cmd accepted, tt)) history
+
+-- what a command pays out is covered by what is left
+covers : (setup : Setup) (entries : List Entry) (client : ℕ) (cmd : Cmd) (c : ℕ) → is_refusal (answer setup entries client cmd) ≡ false
+    → ((d : ℕ) → figure setup entries d ≡ pos (funds entries d) -ℤ pos (all_paid_out entries d))
+    → all_paid_out entries c ≤ funds entries c → all_paid_out entries c + paid_out c cmd ≤ funds entries c + funded c cmd
+unfolding answer
+covers setup entries client (PayOut ccy amt) c accepted figures held = by (ccy == c) refl
+  where
+    bound : ccy ≡ c → all_paid_out entries c + amt ≤ funds entries c
+    bound same =
+        let enough = (pay_out-member setup entries client ccy amt accepted).1 in
+        let here = ap (λ d. int_lt (figure setup entries d) (pos amt)) (sym same) ∙ enough in
+        difference (funds entries c) (all_paid_out entries c) amt (ap (λ z. int_lt z (pos amt)) (sym (figures c)) ∙ here)
+      where
+        difference : (x y z : ℕ) → int_lt (pos x -ℤ pos y) (pos z) ≡ false → y + z ≤ x
+        difference x y z e = grind (arith, ints)
+
+    by : (b : Bool) → (ccy == c) ≡ b → all_paid_out entries c + (if b then amt else 0) ≤ funds entries c + 0
+    by true same = let enough = bound (eqb-true ccy c same) in omega arith
+    by false other = omega arith
+covers setup entries client (Fund ccy pay member amt) c accepted figures held = omega arith
+covers setup entries client (Instruct reference other sell sell_amt buy buy_amt) c accepted figures held = omega arith
+covers setup entries client (Rescind reference) c accepted figures held = omega arith
+covers setup entries client (Settle most) c accepted figures held = omega arith
+covers setup entries client (Paid ccy out) c accepted figures held = omega arith
+
+record IsCoveredSoFar (setup : Setup) (entries : List Entry) : Type 0 where
+  sums : IsSound setup entries
+  members : AllByRecursion (IsOfMember setup) entries
+  covered : (c : ℕ) → all_paid_out entries c ≤ funds entries c
+
+covered-step : (setup : Setup) (entries : List Entry) (client : ℕ) (cmd : Cmd) → IsCoveredSoFar setup entries → is_refusal (answer setup entries client cmd) ≡ false
+    → (c : ℕ) → all_paid_out (entries ++ entry_of setup entries client cmd ∷ []) c ≤ funds (entries ++ entry_of setup entries client cmd ∷ []) c
+covered-step setup entries client cmd held accepted c =
+    let e = entry_of setup entries client cmd in
+    let here = covers setup entries client cmd c accepted
+    (λ d. figure-is setup entries d (each-settled (IsExchange setup) setup entries held.sums.exchange) held.members) (held.covered c) in
+    let ins = sum_by-append (λ (x : Entry). funded c x.cmd) entries (e ∷ []) in
+    let outs = sum_by-append (λ (x : Entry). paid_out c x.cmd) entries (e ∷ []) in
+    let one_in = sum_by-cons (λ (x : Entry). funded c x.cmd) e [] in
+    let one_out = sum_by-cons (λ (x : Entry). paid_out c x.cmd) e [] in
+    omega arith
+
+covered-so-far : (setup : Setup) (history : List Row) → IsCoveredSoFar setup (book_of setup history)
+covered-so-far setup history =
+    reached setup (IsCoveredSoFar setup)
+    (record { sums = sound setup []; members = tt; covered = λ c. omega arith })
+    (λ entries client cmd held accepted. record {
+      sums = IsSound-push setup entries client cmd held.sums accepted;
+      members = each-append (IsOfMember setup) entries (entry_of setup entries client cmd ∷ []) held.members (of-member setup entries client cmd accepted, tt);
+      covered = covered-step setup entries client cmd held accepted;
+    }) history
+
+pub is-covered : (setup : Setup) (c : ℕ) (history : List Row) → IsCovered setup (book_of setup history) c
+is-covered setup c history =
+    let entries = book_of setup history in
+    let held = covered-so-far setup history in
+    let is = figure-is setup entries c (each-settled (IsExchange setup) setup entries held.sums.exchange) held.members in
+    record { difference = is; covered = subst (λ z. pos 0 ≤ℤ z) (sym is) (positive (funds entries c) (all_paid_out entries c) (held.covered c)) }
+  where
+    positive : (x y : ℕ) → y ≤ x → pos 0 ≤ℤ (pos x -ℤ pos y)
+    positive x y h = omega (arith, ints)
+
+-- a pair's legs in each of its currencies
+pub even-legs : (setup : Setup) (p : Pair) → IsExchange setup p → IsEven p
+even-legs setup p is = record {
+  sell = ap (λ b. length (those p.sell b (p.buy == p.sell))) (eq-eqb p.sell p.sell refl)
+      ∙ ap (λ b. length (those p.sell true b)) (ne_eqb p.buy p.sell (λ e. is.currencies (sym e)));
+  buy = ap (λ b. length (those p.buy b (p.buy == p.buy))) (ne_eqb p.sell p.buy is.currencies) ∙ ap (λ b. length (those p.buy false b)) (eq-eqb p.buy p.buy refl);
+  zero = λ c. by c (p.sell == c) (p.buy == c);
+}
+  where
+    those : ℕ → Bool → Bool → List Leg
+    those c sell buy =
+        cond sell (record { member = p.first; ccy = p.sell; amt = neg_ℤ (pos p.sell_amt) }
+        ∷ cond sell (record { member = p.second; ccy = p.sell; amt = pos p.sell_amt }
+        ∷ cond buy (record { member = p.second; ccy = p.buy; amt = neg_ℤ (pos p.buy_amt) }
+        ∷ cond buy (record { member = p.first; ccy = p.buy; amt = pos p.buy_amt } ∷ []) [])
+        (cond buy (record { member = p.first; ccy = p.buy; amt = pos p.buy_amt } ∷ []) []))
+        (cond buy (record { member = p.second; ccy = p.buy; amt = neg_ℤ (pos p.buy_amt) }
+        ∷ cond buy (record { member = p.first; ccy = p.buy; amt = pos p.buy_amt } ∷ []) [])
+        (cond buy (record { member = p.first; ccy = p.buy; amt = pos p.buy_amt } ∷ []) [])))
+        (cond sell (record { member = p.second; ccy = p.sell; amt = pos p.sell_amt }
+        ∷ cond buy (record { member = p.second; ccy = p.buy; amt = neg_ℤ (pos p.buy_amt) }
+        ∷ cond buy (record { member = p.first; ccy = p.buy; amt = pos p.buy_amt } ∷ []) [])
+        (cond buy (record { member = p.first; ccy = p.buy; amt = pos p.buy_amt } ∷ []) []))
+        (cond buy (record { member = p.second; ccy = p.buy; amt = neg_ℤ (pos p.buy_amt) }
+        ∷ cond buy (record { member = p.first; ccy = p.buy; amt = pos p.buy_amt } ∷ []) [])
+        (cond buy (record { member = p.first; ccy = p.buy; amt = pos p.buy_amt } ∷ []) [])))
+
+    by : (c : ℕ) (sell buy : Bool) → sum_of_legs (those c sell buy) ≡ pos 0
+    by c true true = omega (arith, ints)
+    by c true false = omega (arith, ints)
+    by c false true = omega (arith, ints)
+    by c false false = refl
