@@ -15,8 +15,8 @@ use Rattle.pvp_text.specs.declared.script.Statement.TheVariants.{Do, Print}
 use Rattle.pvp_text.specs.BookText.{balances_text, figures_text, member_line, statement_text, after_statement, text_of}
 
 pub balances_text-more : (held : Ledger) (m n : ℕ)
-    → balances_text held m (n + 1) ≡ balances_text held m n ++ (32 ∷ signed_decimal (balance held.entries m n))
-balances_text-more held m n = flat_map-range_with_len_more (λ c. 32 ∷ signed_decimal (balance held.entries m c)) n
+    → balances_text held m (n + 1) ≡ balances_text held m n ++ (32 ∷ signed_decimal (balance held.setup held.entries m n))
+balances_text-more held m n = flat_map-range_with_len_more (λ c. 32 ∷ signed_decimal (balance held.setup held.entries m c)) n
 
 pub figures_text-more : (held : Ledger) (n : ℕ)
     → figures_text held (n + 1) ≡ figures_text held n ++ (32 ∷ signed_decimal (figure held.setup held.entries n))

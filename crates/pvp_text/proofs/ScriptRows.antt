@@ -1,7 +1,7 @@
 -- What worked scripts say.
 use Rattle.std.proofs.Common.{◌≡◌, ℕ, List, [], ◌∷◌, ◌++◌, Result, Ok, Err, refl}
 use Rattle.std.specs.Prelude.{codes}
-use Rattle.pvp_types.specs.declared.command.Cmd.TheVariants.{Fund, PayOut, Paid}
+use Rattle.pvp_types.specs.declared.command.Cmd.TheVariants.{Instruct, Rescind, Fund, Settle, PayOut, Paid}
 use Rattle.pvp_types.specs.declared.setup.Currency.{Currency}
 use Rattle.pvp_types.specs.declared.setup.Member.{Member}
 use Rattle.pvp_types.specs.declared.setup.Setup.{Setup}
@@ -12,7 +12,7 @@ use Rattle.pvp_text.specs.declared.script.LineCode.TheVariants.{Byte, UnknownWor
 use Rattle.pvp_text.specs.declared.script.LineFault.{LineFault}
 use Rattle.pvp_text.specs.declared.script.Statement.{Statement}
 use Rattle.pvp_text.specs.declared.script.Statement.TheVariants.{Do, Print}
-use Rattle.pvp_text.specs.Script.{fund_at, payout_at, paid_at, do_at, statement_at, line_at, lines_at, script_at}
+use Rattle.pvp_text.specs.Script.{instruct_at, rescind_at, settle_at, fund_at, payout_at, paid_at, do_at, statement_at, line_at, lines_at, script_at}
 
 abbrev currency : List ℕ → Currency
 currency code = record { code = code; rate = 1; haircut = 0 }
@@ -38,6 +38,12 @@ paid_out : script_at Book setup (codes "do USD fund USD 1 ALFA 1200" ++ lf ++ co
     ≡ Ok (at 1 (Do 102 (Fund 1 1 1 1200)) ∷ at 2 (Do 1 (PayOut 1 200)) ∷ at 3 (Do 102 (Paid 1 1)) ∷ at 4 Print ∷ [])
 unfolding script_at lines_at line_at statement_at do_at fund_at payout_at paid_at
 paid_out = refl
+
+settled : script_at Book setup (codes "do ALFA instruct 1 BETA USD 1100 EUR 1000" ++ lf ++ codes "do BETA instruct 1 @1 EUR 1000 @1 1100" ++ lf
+    ++ codes "do OP settle 10" ++ lf ++ codes "do ALFA rescind 1" ++ lf)
+    ≡ Ok (at 1 (Do 1 (Instruct 1 2 1 1100 0 1000)) ∷ at 2 (Do 2 (Instruct 1 1 0 1000 1 1100)) ∷ at 3 (Do 0 (Settle 10)) ∷ at 4 (Do 1 (Rescind 1)) ∷ [])
+unfolding script_at lines_at line_at statement_at do_at instruct_at rescind_at settle_at
+settled = refl
 
 refused_by_the_book : script_at Book setup (codes "do BETA fund USD 1 ALFA 5" ++ lf ++ codes "do USD fund USD 1 @3 5" ++ lf ++ codes "do ALFA payout @3 1" ++ lf
     ++ codes "do USD fund USD 1 ALFA 1000000000001" ++ lf ++ codes "do USD fund USD 0 ALFA 5" ++ lf ++ codes "do USD fund USD 1 ALFA 1000000000000" ++ lf
@@ -71,7 +77,7 @@ tab : one (codes "do ALFA" ++ 9 ∷ codes "payout USD 1") ≡ fault Byte
 unfolding script_at lines_at line_at
 tab = refl
 
-unknown_command : one (codes "do ALFA instruct 1 BETA USD 1 EUR 1") ≡ fault UnknownWord
+unknown_command : one (codes "do ALFA transfer 1 BETA USD 1") ≡ fault UnknownWord
 unfolding script_at lines_at line_at statement_at do_at
 unknown_command = refl
 
@@ -83,6 +89,28 @@ number_before_name = refl
 too_large_a_number : one (codes "do @65536 payout USD 1") ≡ fault Number
 unfolding script_at lines_at line_at statement_at do_at payout_at
 too_large_a_number = refl
+
+-- of an instruction's words too, whichever comes first
+amount_before_name : one (codes "do ALFA instruct 1 CARL USD 1 EUR 01") ≡ fault Number
+unfolding script_at lines_at line_at statement_at do_at instruct_at
+amount_before_name = refl
+
+-- the operator is no other side
+operator_is_no_side : one (codes "do ALFA instruct 1 OP USD 1 EUR 1") ≡ fault UnknownName
+unfolding script_at lines_at line_at statement_at do_at instruct_at
+operator_is_no_side = refl
+
+instruction_lacks_a_word : one (codes "do ALFA instruct 1 BETA USD 1 EUR") ≡ fault WordCount
+unfolding script_at lines_at line_at statement_at do_at instruct_at
+instruction_lacks_a_word = refl
+
+reference_too_large : one (codes "do ALFA rescind 4294967296") ≡ fault Number
+unfolding script_at lines_at line_at statement_at do_at rescind_at
+reference_too_large = refl
+
+negative_count : one (codes "do OP settle -1") ≡ fault Number
+unfolding script_at lines_at line_at statement_at do_at settle_at
+negative_count = refl
 
 operator_is_no_member : one (codes "do USD fund USD 1 OP 5") ≡ fault UnknownName
 unfolding script_at lines_at line_at statement_at do_at fund_at

@@ -6,7 +6,8 @@ use Rattle.pvp_types.specs.declared.setup.Setup.{Setup}
 use Rattle.pvp_types.specs.declared.setup.Member.{Member}
 use Rattle.pvp_types.specs.declared.command.Cmd.{Cmd}
 use Rattle.pvp_types.specs.Reply.{reply_text}
-use Rattle.pvp_book.specs.Ledger.{Ledger, opening, balance, figure, outstanding}
+use Rattle.pvp_book.specs.Ledger.{Ledger, opening, balance, figure, outstanding, pairs_in}
+use Rattle.pvp_book.specs.declared.pair.PairState.TheVariants.{Unmatched, Matched, Settled, Rescinded}
 use Rattle.pvp_book.specs.Answer.{answer_to, after}
 use Rattle.std.specs.Global.{Vec}
 use Rattle.std.specs.Io.KnownBytes.{Appends}
@@ -20,7 +21,7 @@ use Rattle.pvp_text.specs.declared.script.Statement.TheVariants.{Do, Print}
 -- a space and a balance, for each currency
 abbrev pub balances_text : Ledger → ℕ → ℕ → List ℕ
 balances_text held m currencies =
-    flat_map (λ c. 32 ∷ signed_decimal (balance held.entries m c)) (range_with_len 0 currencies)
+    flat_map (λ c. 32 ∷ signed_decimal (balance held.setup held.entries m c)) (range_with_len 0 currencies)
 
 -- a member's name and balances
 abbrev pub member_line : Ledger → ℕ × Member → List ℕ
@@ -29,9 +30,12 @@ member_line held (m, member) = member.name ++ balances_text held m (length held.
 abbrev pub member_lines : Ledger → List ℕ
 member_lines held = flat_map (member_line held) (enumerate_from 1 held.setup.members)
 
--- how many pairs are unmatched, matched, settled and rescinded: no command makes a pair yet
-abbrev pub pairs_line : List ℕ
-pairs_line = codes "pairs 0 0 0 0\n"
+-- a space and how many pairs are in a state, for each state
+abbrev pub counts_text : Ledger → List ℕ
+counts_text held = flat_map (λ state. 32 ∷ decimal (length (pairs_in held.setup held.entries state))) (Unmatched ∷ Matched ∷ Settled ∷ Rescinded ∷ [])
+
+abbrev pub pairs_line : Ledger → List ℕ
+pairs_line held = codes "pairs" ++ counts_text held ++ codes "\n"
 
 -- a space and the bank's figure, for each currency
 abbrev pub figures_text : Ledger → ℕ → List ℕ
@@ -46,7 +50,7 @@ open_line held = codes "open " ++ decimal (length (outstanding held.setup held.e
 
 -- what `print` writes
 abbrev pub block : Ledger → List ℕ
-block held = member_lines held ++ pairs_line ++ figure_line held ++ open_line held
+block held = member_lines held ++ pairs_line held ++ figure_line held ++ open_line held
 
 -- what `do` writes: the row's number, counted over all that were applied, and the answer
 abbrev pub answer_line : Ledger → ℕ → Cmd → List ℕ

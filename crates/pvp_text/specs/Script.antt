@@ -2,7 +2,7 @@
 use Rattle.std.specs.Prelude.{◌≡◌, ◌≢◌, ℕ, ◌+◌, ◌^◌, ◌==◌, ◌&&◌, ◌||◌, Bool, true, not, List, [], ◌∷◌, length, slice_index, Option, Some, None, option_map, Result, Ok, Err, codes, bytes_eq, nat_lt, nat_le, if◌then◌else◌}
 use Rattle.std.specs.Global.{Vec}
 use Rattle.std.specs.List.{list_all, cons_option}
-use Rattle.pvp_types.specs.declared.command.Cmd.TheVariants.{Fund, PayOut, Paid}
+use Rattle.pvp_types.specs.declared.command.Cmd.TheVariants.{Instruct, Rescind, Fund, Settle, PayOut, Paid}
 use Rattle.pvp_types.specs.declared.setup.Setup.{Setup}
 use Rattle.pvp_text.specs.declared.script.Kind.{Kind}
 use Rattle.pvp_text.specs.declared.script.Kind.TheVariants.{Book}
@@ -15,8 +15,45 @@ use Rattle.pvp_text.specs.declared.script.Statement.TheVariants.{Do, Print}
 use Rattle.pvp_text.specs.ScriptFields.{◌>>=◌, number_at, reference_at, client_of, member_of, currency_of}
 use Rattle.pvp_text.specs.ScriptWords.{is_empty, lines, words}
 
--- `do WHO fund CCY PAY MEMBER AMT`. A malformed number comes before an unknown name, so first each word
--- is read, and then the names are looked up.
+-- Of each form a malformed number comes before an unknown name, so first each word is read, and then the
+-- names are looked up.
+
+-- `do WHO instruct REF OTHER SELL AMT BUY AMT`
+unfoldable pub instruct_at : Setup → List ℕ → List (List ℕ) → Result Statement LineCode
+instruct_at setup who (reference ∷ other ∷ sell ∷ sell_amt ∷ buy ∷ buy_amt ∷ []) = do
+  who ← reference_at (2 ^ 16) who
+  reference ← number_at (2 ^ 32) reference
+  other ← reference_at (2 ^ 16) other
+  sell ← reference_at (2 ^ 8) sell
+  sell_amt ← number_at (2 ^ 64) sell_amt
+  buy ← reference_at (2 ^ 8) buy
+  buy_amt ← number_at (2 ^ 64) buy_amt
+  client ← client_of setup who
+  other ← member_of setup other
+  sell ← currency_of setup sell
+  buy ← currency_of setup buy
+  Ok (Do client (Instruct reference other sell sell_amt buy buy_amt))
+instruct_at setup who _ = Err WordCount
+
+-- `do WHO rescind REF`
+unfoldable pub rescind_at : Setup → List ℕ → List (List ℕ) → Result Statement LineCode
+rescind_at setup who (reference ∷ []) = do
+  who ← reference_at (2 ^ 16) who
+  reference ← number_at (2 ^ 32) reference
+  client ← client_of setup who
+  Ok (Do client (Rescind reference))
+rescind_at setup who _ = Err WordCount
+
+-- `do WHO settle MOST`
+unfoldable pub settle_at : Setup → List ℕ → List (List ℕ) → Result Statement LineCode
+settle_at setup who (most ∷ []) = do
+  who ← reference_at (2 ^ 16) who
+  most ← number_at (2 ^ 32) most
+  client ← client_of setup who
+  Ok (Do client (Settle most))
+settle_at setup who _ = Err WordCount
+
+-- `do WHO fund CCY PAY MEMBER AMT`
 unfoldable pub fund_at : Setup → List ℕ → List (List ℕ) → Result Statement LineCode
 fund_at setup who (ccy ∷ pay ∷ member ∷ amt ∷ []) = do
   who ← reference_at (2 ^ 16) who
@@ -55,7 +92,10 @@ paid_at setup who _ = Err WordCount
 -- `do WHO`, the command's word and its fields
 unfoldable pub do_at : Setup → List (List ℕ) → Result Statement LineCode
 do_at setup (who ∷ command ∷ fields) =
-    if bytes_eq command (codes "fund") then fund_at setup who fields
+    if bytes_eq command (codes "instruct") then instruct_at setup who fields
+    else if bytes_eq command (codes "rescind") then rescind_at setup who fields
+    else if bytes_eq command (codes "settle") then settle_at setup who fields
+    else if bytes_eq command (codes "fund") then fund_at setup who fields
     else if bytes_eq command (codes "payout") then payout_at setup who fields
     else if bytes_eq command (codes "paid") then paid_at setup who fields
     else Err UnknownWord

@@ -1,15 +1,16 @@
 //! A script run on one book, and what it prints.
 
-ghost use Rattle.std.specs.Prelude.{◌≡◌, ◌+◌, ◌<◌, ◌≤◌, ◌++◌, length, string_bytes, OnOk, IfErr};
+ghost use Rattle.std.specs.Prelude.{◌≡◌, ◌+◌, ◌<◌, ◌≤◌, ◌++◌, ◌∷◌, length, decimal, string_bytes, OnOk, IfErr};
+ghost use Rattle.pvp_book.specs.Ledger.{pairs_in};
 ghost use Rattle.std.specs.Io.KnownBytes.{Appends};
 ghost use Rattle.pvp_types.specs.Setup.{IsValid};
 ghost use Rattle.pvp_text.specs.declared.book.RunFault.TheVariants.{NoMemory, Output};
 ghost use Rattle.pvp_text.specs.declared.script.Kind.TheVariants as kinds;
 ghost use Rattle.pvp_text.specs.Script.{script_at};
-ghost use Rattle.pvp_text.specs.BookText.{balances_text, figures_text, member_line, member_lines, block, statement_text, after_statement, text_of, IsLateFault, RunEnds, ReadEnds};
+ghost use Rattle.pvp_text.specs.BookText.{balances_text, counts_text, figures_text, member_line, member_lines, block, statement_text, after_statement, text_of, IsLateFault, RunEnds, ReadEnds};
 
 use crate::script::{Kind, Line, LineCode, LineFault, Statement, read_script};
-use pvp_book::Book;
+use pvp_book::{Book, PairState};
 use pvp_types::{Member, Setup};
 use std::alloc::{AllocError, Global};
 use std::io::Write;
@@ -118,12 +119,32 @@ fn push_block(text: &mut String, book: &Book) -> Result<(), AllocError>
     ensures { OnOk result (string_bytes text.new ≡ string_bytes text.old ++ block book.now) }
 {
     push_members(text, book)?;
-    text.push_str("pairs 0 0 0 0\n")?;
-    text.push_str("figure")?;
+    text.push_str("pairs")?;
+    push_counts(text, book)?;
+    text.push_str("\nfigure")?;
     push_figures(text, book)?;
     text.push_str("\nopen ")?;
     let orders = book.open_count();
     write!(text, "{orders}\n")
+}
+
+/// Appends how many pairs are in each state.
+fn push_counts(text: &mut String, book: &Book) -> Result<(), AllocError>
+    ensures { OnOk result (string_bytes text.new ≡ string_bytes text.old ++ counts_text book.now) }
+{
+    push_count(text, book, PairState::Unmatched)?;
+    push_count(text, book, PairState::Matched)?;
+    push_count(text, book, PairState::Settled)?;
+    push_count(text, book, PairState::Rescinded)
+}
+
+/// Appends how many pairs are in a state.
+fn push_count(text: &mut String, book: &Book, state: PairState) -> Result<(), AllocError>
+    ensures { OnOk result (string_bytes text.new
+        ≡ string_bytes text.old ++ 32 ∷ decimal (length (pairs_in book.now.setup book.now.entries state))) }
+{
+    let count = book.pairs(state);
+    write!(text, " {count}")
 }
 
 /// Appends a line for each member, with its name and balances.

@@ -5,6 +5,9 @@
 //! counted. Words are parted by one or more spaces.
 //!
 //! ```text
+//! do WHO instruct REF OTHER SELL AMT BUY AMT
+//! do WHO rescind REF
+//! do WHO settle MOST
 //! do WHO fund CCY PAY MEMBER AMT
 //! do WHO payout CCY AMT
 //! do WHO paid CCY OUT
@@ -12,9 +15,9 @@
 //! ```
 //!
 //! A number is decimal digits without a leading zero, but for `0` itself: of 64 bits for AMT, and of 32
-//! otherwise. WHO is `OP` for the operator, a member's name or a currency's code for its node, MEMBER a
-//! member's name and CCY a currency's code. Each of the three may be `@` and its number instead, up to
-//! 65535 for a client or a member and up to 255 for a currency, in the setup or not.
+//! otherwise. WHO is `OP` for the operator, a member's name or a currency's code for its node, MEMBER and
+//! OTHER a member's name, and CCY, SELL and BUY a currency's code. Each of them may be `@` and its number
+//! instead, up to 65535 for a client or a member and up to 255 for a currency, in the setup or not.
 ghost use Rattle.std.specs.Prelude.{◌≡◌, ◌≤◌, length};
 ghost use Rattle.pvp_text.specs.Script.{Gives, script_at, lines_at, of_line, prints};
 ghost use Rattle.pvp_text.specs.ScriptWords.{lines};

@@ -18,6 +18,10 @@ const SETUP: &str = "{\"sites\":3,
 /// Four sites in place of three, and no members.
 const FOUR_SITES: &str = "{\"sites\":4,\"currencies\":[],\"members\":[]}";
 
+/// Two currencies of one code.
+const TWO_DOLLARS: &str =
+    "{\"sites\":3,\"currencies\":[{\"code\":\"USD\",\"rate\":1,\"haircut\":0},{\"code\":\"USD\",\"rate\":1,\"haircut\":0}],\"members\":[]}";
+
 /// A setup file and a script file; any other name is of no file, but one.
 #[derive(Drop)]
 struct TwoFiles<'a> {
@@ -126,6 +130,56 @@ do USD paid USD 1";
 }
 
 #[test]
+fn prints_a_settlement(rt: HostRuntime) -> Result<(), Fail> {
+    let script = "do USD fund USD 1 ALFA 1200
+do EUR fund EUR 1 BETA 48
+do ALFA instruct 1 BETA USD 1100 EUR 1000
+do BETA instruct 1 ALFA EUR 1000 USD 1100
+do OP settle 10
+print
+";
+    let printed = "1 done
+2 done
+3 done
+4 matched
+5 settled 1
+ALFA 1000 100 0
+BETA -952 1100 0
+pairs 0 0 1 0
+figure 48 1200 0
+open 0
+";
+    runs_book(&rt, SETUP, script, 0, printed, "")
+}
+
+#[test]
+fn prints_pairs_in_each_state(rt: HostRuntime) -> Result<(), Fail> {
+    let script = "do ALFA instruct 3 BETA USD 10 EUR 9
+do BETA instruct 3 ALFA EUR 9 USD 11
+do ALFA instruct 4 BETA USD 10 EUR 9
+do BETA instruct 4 ALFA EUR 9 USD 10
+do ALFA instruct 5 BETA USD 10 EUR 9
+do ALFA rescind 5
+do OP settle 0
+print
+";
+    let printed = "1 done
+2 no B6
+3 done
+4 matched
+5 done
+6 done
+7 settled 0
+ALFA 0 0 0
+BETA 0 0 0
+pairs 1 1 0 1
+figure 0 0 0
+open 0
+";
+    runs_book(&rt, SETUP, script, 0, printed, "")
+}
+
+#[test]
 fn tells_a_fault_and_prints_nothing(rt: HostRuntime) -> Result<(), Fail> {
     let cases = [
         (SETUP, "do ALFA payout USD 01", "fault line 1 L4\n"),
@@ -138,6 +192,7 @@ fn tells_a_fault_and_prints_nothing(rt: HostRuntime) -> Result<(), Fail> {
             "fault line 4 L2\n",
         ),
         (FOUR_SITES, "print", "fault setup K1\n"),
+        (TWO_DOLLARS, "print", "fault setup K3\n"),
         ("{\"sites\":3", "print", "fault json J1\n"),
         ("{\"sites\":3}", "print", "fault json J2\n"),
     ];

@@ -3,7 +3,7 @@
 //! one that comes first in this order is told.
 ghost use Rattle.std.specs.Prelude.{◌≡◌, ◌∷◌};
 ghost use Rattle.std.specs.List.{list_all};
-ghost use Rattle.pvp_text.specs.Script.{fund_at, payout_at, paid_at, do_at, print_at, statement_at, line_at, is_printable};
+ghost use Rattle.pvp_text.specs.Script.{instruct_at, rescind_at, settle_at, fund_at, payout_at, paid_at, do_at, print_at, statement_at, line_at, is_printable};
 ghost use Rattle.pvp_text.specs.ScriptWords.{words};
 
 use crate::script::fields::{
@@ -76,7 +76,13 @@ fn read_command(setup: &Setup, rest: &[u8]) -> Result<Statement, LineCode>
 {
     let (who, rest) = word(rest)?;
     let (command, fields) = word(rest)?;
-    if is(command, "fund") {
+    if is(command, "instruct") {
+        instruct(setup, who, fields)
+    } else if is(command, "rescind") {
+        rescind(setup, who, fields)
+    } else if is(command, "settle") {
+        settle(setup, who, fields)
+    } else if is(command, "fund") {
         fund(setup, who, fields)
     } else if is(command, "payout") {
         payout(setup, who, fields)
@@ -85,6 +91,74 @@ fn read_command(setup: &Setup, rest: &[u8]) -> Result<Statement, LineCode>
     } else {
         Err(LineCode::UnknownWord)
     }
+}
+
+/// `do WHO instruct REF OTHER SELL AMT BUY AMT`
+#[tactic(auto, unfolding(crate::specs::Script::instruct_at))]
+fn instruct(setup: &Setup, who: &[u8], fields: &[u8]) -> Result<Statement, LineCode>
+    ensures { result ≡ instruct_at setup.now who.now (words fields.now) }
+{
+    let (reference, rest) = word(fields)?;
+    let (other, rest) = word(rest)?;
+    let (sell, rest) = word(rest)?;
+    let (sell_amt, rest) = word(rest)?;
+    let (buy, rest) = word(rest)?;
+    let (buy_amt, rest) = word(rest)?;
+    end(rest)?;
+    let who = client_reference(who)?;
+    let reference = number(reference)?;
+    let other = client_reference(other)?;
+    let sell = currency_reference(sell)?;
+    let sell_amt = amount(sell_amt)?;
+    let buy = currency_reference(buy)?;
+    let buy_amt = amount(buy_amt)?;
+    let client = client_of(setup, who)?;
+    let other = member_of(setup, other)?;
+    let sell = currency_of(setup, sell)?;
+    let buy = currency_of(setup, buy)?;
+    Ok(Statement::Do {
+        client,
+        cmd: Cmd::Instruct {
+            reference,
+            other,
+            sell,
+            sell_amt,
+            buy,
+            buy_amt,
+        },
+    })
+}
+
+/// `do WHO rescind REF`
+#[tactic(auto, unfolding(crate::specs::Script::rescind_at))]
+fn rescind(setup: &Setup, who: &[u8], fields: &[u8]) -> Result<Statement, LineCode>
+    ensures { result ≡ rescind_at setup.now who.now (words fields.now) }
+{
+    let (reference, rest) = word(fields)?;
+    end(rest)?;
+    let who = client_reference(who)?;
+    let reference = number(reference)?;
+    let client = client_of(setup, who)?;
+    Ok(Statement::Do {
+        client,
+        cmd: Cmd::Rescind { reference },
+    })
+}
+
+/// `do WHO settle MOST`
+#[tactic(auto, unfolding(crate::specs::Script::settle_at))]
+fn settle(setup: &Setup, who: &[u8], fields: &[u8]) -> Result<Statement, LineCode>
+    ensures { result ≡ settle_at setup.now who.now (words fields.now) }
+{
+    let (most, rest) = word(fields)?;
+    end(rest)?;
+    let who = client_reference(who)?;
+    let most = number(most)?;
+    let client = client_of(setup, who)?;
+    Ok(Statement::Do {
+        client,
+        cmd: Cmd::Settle { most },
+    })
 }
 
 /// `do WHO fund CCY PAY MEMBER AMT`

@@ -84,6 +84,38 @@ fn reads_each_form(rt: HostRuntime) -> Result<(), Fail> {
 }
 
 #[test]
+fn reads_the_forms_of_pairs(rt: HostRuntime) -> Result<(), Fail> {
+    let setup = setup(rt.alloc())?;
+    let script = "do ALFA instruct 7 BETA USD 1100 @0 18446744073709551615\ndo @2 rescind 4294967295\ndo OP settle 0";
+    let lines = read_script(rt.alloc(), &setup, Kind::Book, script.as_bytes())?;
+    let instruct = Cmd::Instruct {
+        reference: 7,
+        other: 2,
+        sell: 1,
+        sell_amt: 1100,
+        buy: 0,
+        buy_amt: u64::MAX,
+    };
+    let rescind = Cmd::Rescind {
+        reference: u32::MAX,
+    };
+    let said = [
+        (1, instruct),
+        (2, rescind),
+        (0, Cmd::Settle { most: 0 }),
+    ];
+    assert_eq!(rt; lines.len(), said.len());
+    for (line, (client, cmd)) in lines.iter().zip(&said) {
+        let statement = Statement::Do {
+            client: *client,
+            cmd: *cmd,
+        };
+        assert_eq!(rt; line.statement, statement);
+    }
+    Ok(())
+}
+
+#[test]
 fn tells_the_faulty_line(rt: HostRuntime) -> Result<(), Fail> {
     let setup = setup(rt.alloc())?;
     for (script, line, code) in [
@@ -91,7 +123,11 @@ fn tells_the_faulty_line(rt: HostRuntime) -> Result<(), Fail> {
         ("print x", 1, "L3"),
         ("do CARL payout USD 1", 1, "L5"),
         ("do ALFA\tpayout USD 1", 1, "L1"),
-        ("do ALFA instruct 1 BETA USD 1 EUR 1", 1, "L2"),
+        ("do ALFA transfer 1 BETA USD 1", 1, "L2"),
+        ("do ALFA instruct 1 BETA USD 1 EUR", 1, "L3"),
+        ("do ALFA instruct 1 CARL USD 1 EUR 01", 1, "L4"),
+        ("do ALFA instruct 1 BETA USD 1 GBP 1", 1, "L5"),
+        ("do OP settle -1", 1, "L4"),
         ("print\n# a comment\n\nprint\ndo ALFA\nprint x", 5, "L3"),
         ("do @65536 payout USD 1", 1, "L4"),
         ("do CARL payout USD 01", 1, "L4"),
