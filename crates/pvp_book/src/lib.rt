@@ -3,6 +3,7 @@
 
 pub mod book;
 pub mod entry;
+pub mod machine;
 pub mod open;
 mod sums;
 #[cfg(test)]
