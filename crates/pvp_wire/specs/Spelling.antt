@@ -1,5 +1,5 @@
 -- How a stamped envelope is spelled in bytes. All numbers are big-endian.
-use Rattle.std.specs.Prelude.{ℕ, ◌+◌, ◌≡◌, ◌==◌, ◌&&◌, ◌||◌, Bool, true, IsTrue, nat_le, List, [], ◌∷◌, ◌++◌, length, Option, Some, None}
+use Rattle.std.specs.Prelude.{ℕ, ◌+◌, ◌==◌, ◌&&◌, ◌||◌, Bool, nat_le, List, [], ◌∷◌, ◌++◌, length, Option, Some, None}
 use Rattle.std.specs.List.{flat_map, list_all}
 use Rattle.byteorder.specs.Endian.{big_bytes}
 use Rattle.pvp_types.specs.declared.command.Cmd.{Cmd}
@@ -14,7 +14,6 @@ use Rattle.vr_types.specs.declared.message.MsgOf.TheVariants.{Request, Prepare, 
 use Rattle.vr_types.specs.declared.message.StateOf.{StateOf}
 use Rattle.vr_types.specs.declared.row.RowOf.{RowOf}
 use Rattle.vr_types.specs.Group.{is_client}
-use Rattle.pvp_wire.specs.declared.stamped.Stamp.{Stamp}
 use Rattle.pvp_wire.specs.declared.stamped.Stamped.{Stamped}
 
 -- the bank's messages

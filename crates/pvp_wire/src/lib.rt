@@ -1,10 +1,13 @@
 //! What actors say to each other over a stream of bytes: stamped envelopes, each in a frame of its own.
 #![tactic(auto)]
 
+pub mod reading;
 pub mod fault;
 mod fields;
+mod messages;
 mod rows;
 pub mod stamped;
 
+pub use reading::decode;
 pub use fault::WireFault;
 pub use stamped::{Message, Stamp, Stamped};
