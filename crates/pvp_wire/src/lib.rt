@@ -7,7 +7,11 @@ mod fields;
 mod messages;
 mod rows;
 pub mod stamped;
+mod admitted;
+pub mod writing;
 
 pub use reading::decode;
 pub use fault::WireFault;
 pub use stamped::{Message, Stamp, Stamped};
+pub use admitted::wireable;
+pub use writing::encode;
