@@ -1,3 +1,4 @@
 pub mod Formats
 pub mod Loop
 pub mod Numbers
+pub mod Parts
