@@ -2,3 +2,4 @@ pub mod Formats
 pub mod Loop
 pub mod Numbers
 pub mod Parts
+pub mod MessageFormats

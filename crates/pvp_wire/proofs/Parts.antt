@@ -17,7 +17,7 @@ use Rattle.pvp_wire.specs.Reading.{◌>>=◌, Reads, number_at, listed_at, instr
 use Rattle.pvp_wire.proofs.Formats.{IsBytes, Takes, Takes-then, TakesBy, IsFormat, bind_ok, wanted_ok, ok_is, takes1, takes2, takes3, takes4, takes6, again1, again2, again3, again4, again6}
 use Rattle.pvp_wire.proofs.Numbers.{number_format}
 
-IsBytes-rest : (b : ℕ) (bytes : List ℕ) → IsBytes (b ∷ bytes) → IsBytes bytes
+pub IsBytes-rest : (b : ℕ) (bytes : List ℕ) → IsBytes (b ∷ bytes) → IsBytes bytes
 IsBytes-rest b bytes h i = h (suc i)
 
 -- a tag in front
@@ -36,16 +36,16 @@ record IsTagged (tag : ℕ) (cmd : Cmd) : Type 0 where
 finish : (tag : ℕ) (bytes : List ℕ) (cmd : Cmd) (rest : List ℕ) → Takes bytes (fields cmd) rest × IsTagged tag cmd → Takes (tag ∷ bytes) (command cmd) rest × CommandFits cmd
 finish tag bytes cmd rest t = (subst (λ (x : List ℕ). Takes (tag ∷ bytes) x rest) (sym t.1.text) (tagged tag bytes (fields cmd) rest t.0), t.1.fits)
 
-n1 : IsFormat (number 1) (Fits 1) (number_at 1)
+pub n1 : IsFormat (number 1) (Fits 1) (number_at 1)
 n1 = number_format 1
 
-n2 : IsFormat (number 2) (Fits 2) (number_at 2)
+pub n2 : IsFormat (number 2) (Fits 2) (number_at 2)
 n2 = number_format 2
 
-n4 : IsFormat (number 4) (Fits 4) (number_at 4)
+pub n4 : IsFormat (number 4) (Fits 4) (number_at 4)
 n4 = number_format 4
 
-n8 : IsFormat (number 8) (Fits 8) (number_at 8)
+pub n8 : IsFormat (number 8) (Fits 8) (number_at 8)
 n8 = number_format 8
 
 instruct-takes : TakesBy fields (IsTagged 1) instruct_at
@@ -66,10 +66,10 @@ rescind-takes = takes1 n4 Rescind fields (IsTagged 2) (λ a. refl) (λ a ha. rec
 settle-takes : TakesBy fields (IsTagged 4) (λ bytes. number_at 4 bytes >>= λ most. Ok (Settle most.0, most.1))
 settle-takes = takes1 n4 Settle fields (IsTagged 4) (λ a. refl) (λ a ha. record { fits = ha; text = refl })
 
-abbrev refused : {A : Type 0} → Reads A
+abbrev pub refused : {A : Type 0} → Reads A
 refused = Err Field
 
-never : {A : Type 0} (x : A × List ℕ) → refused ≡ Ok x → ⊥
+pub never : {A : Type 0} (x : A × List ℕ) → refused ≡ Ok x → ⊥
 never x e = absurd cc
 
 off : (n k : ℕ) → k < n → (n == k) ≡ false
@@ -243,11 +243,11 @@ row_format = record {
   again = λ r rest h. again3 (listed_format is_client) n4 command_format make_row r.client r.number r.cmd rest (h.0.0, h.1) h.0.1 h.0.2;
 }
 
-both : (a b : Bool) → a ≡ true → b ≡ true → (a && b) ≡ true
+pub both : (a b : Bool) → a ≡ true → b ≡ true → (a && b) ≡ true
 both true b ha hb = hb
 both false b ha hb = absurd cc
 
-parted : (a b : Bool) → (a && b) ≡ true → (a ≡ true) × (b ≡ true)
+pub parted : (a b : Bool) → (a && b) ≡ true → (a ≡ true) × (b ≡ true)
 parted true b h = (refl, h)
 parted false b h = absurd cc
 
