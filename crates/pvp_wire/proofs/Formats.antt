@@ -1,5 +1,5 @@
 -- What it is for a reader to be right: what it takes is spelled so, and what is spelled so it reads again. Readers one after the other are right where each is.
-use Rattle.std.proofs.Common.{◌≡◌, ℕ, ◌+◌, ◌<◌, Bool, true, false, cond, List, ◌++◌, get_or, take, drop, Result, Ok, Err, refl, sym, ap, subst, ◌∙◌, append_assoc, arith, inl, inr}
+use Rattle.std.proofs.Common.{◌≡◌, ℕ, ◌+◌, ◌<◌, Bool, true, false, cond, not, List, ◌++◌, get_or, take, drop, Result, Ok, Err, refl, sym, ap, subst, ◌∙◌, append_assoc, arith, inl, inr}
 use Rattle.std.proofs.lemmas.Bool.{cases_lt}
 use Rattle.std.proofs.lemmas.List.{length-take, get_or-drop, get_or-take, get_or_past}
 use Rattle.pvp_wire.specs.declared.fault.WireFault.{WireFault}
@@ -32,6 +32,15 @@ guard_ok false d x y e = (refl, cc)
 pub wanted_ok : {A : Type 0} (b : Bool) (d : WireFault) (x y : A) → cond b (Ok x) (Err d) ≡ Ok y → (b ≡ true) × (x ≡ y)
 wanted_ok true d x y e = (refl, cc)
 wanted_ok false d x y e = absurd cc
+
+-- a test that did not fail, before another step
+pub guarded : {A : Type 0} (b : Bool) (d : WireFault) (r : Result A WireFault) (y : A) → cond b (Err d) r ≡ Ok y → (b ≡ false) × (r ≡ Ok y)
+guarded true d r y e = absurd cc
+guarded false d r y e = (refl, e)
+
+pub not-false : (b : Bool) → not b ≡ false → b ≡ true
+not-false true e = refl
+not-false false e = absurd cc
 
 abbrev done : {A : Type 0} → A → Result A WireFault
 done x = Ok x

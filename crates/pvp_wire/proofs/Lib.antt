@@ -3,3 +3,5 @@ pub mod Loop
 pub mod Numbers
 pub mod Parts
 pub mod MessageFormats
+pub mod Lengths
+pub mod Frames
