@@ -9,8 +9,8 @@ use Rattle.pvp_wire.specs.declared.fault.WireFault.{WireFault}
 use Rattle.pvp_wire.specs.declared.fault.WireFault.TheVariants.{Short, TooLong, Version, Kind, Length}
 use Rattle.pvp_wire.specs.declared.stamped.Stamp.{Stamp}
 use Rattle.pvp_wire.specs.declared.stamped.Stamped.{Stamped}
-use Rattle.pvp_wire.specs.Spelling.{number, kind, body, stamp, head, spelling, rows_of, has_client, is_actor, is_wireable, BankMsg}
-use Rattle.pvp_wire.specs.Fits.{Fits, StampFits, StampedFits}
+use Rattle.pvp_wire.specs.Spelling.{number, kind, body, stamp, head, spelling, rows_of, has_client, is_actor, BankMsg}
+use Rattle.pvp_wire.specs.Fits.{Fits, StampFits, IsSpelled}
 use Rattle.pvp_wire.specs.Reading.{◌>>=◌, number_at, stamp_at, envelope_at, all_read, counted_at, frame_at, most_length}
 use Rattle.pvp_wire.proofs.Formats.{IsBytes, IsBytes-drop, IsBytes-take, TakesBy, IsFormat, bind_ok, guard_ok, guarded, wanted_ok, not-false, takes3, again3}
 use Rattle.pvp_wire.proofs.Numbers.{length-number}
@@ -38,12 +38,7 @@ make_stamped s to msg = record { stamp = s; envelope = record { from = s.actor; 
 abbrev inside : Stamped → List ℕ
 inside s = stamp s.stamp ++ number 2 s.envelope.to ++ body s.envelope.msg
 
--- what has a spelling
-pub record IsSpelled (s : Stamped) : Type 0 where
-  pub fits : StampedFits s
-  pub wireable : is_wireable s ≡ true
-
--- the same, part by part
+-- what has a spelling, part by part
 record Parts (k : ℕ) (s : Stamped) : Type 0 where
   stamp : IsStamp s.stamp
   to : Fits 2 s.envelope.to × (is_actor s.envelope.to ≡ true)

@@ -5,3 +5,4 @@ pub mod Parts
 pub mod MessageFormats
 pub mod Lengths
 pub mod Frames
+pub mod Streams

@@ -1,5 +1,5 @@
 -- What fits its fields: each number fits the bytes that it has.
-use Rattle.std.specs.Prelude.{ℕ, ◌^◌, ◌<◌, List, [], ◌∷◌, length, Option, Some, None}
+use Rattle.std.specs.Prelude.{◌≡◌, ℕ, ◌^◌, ◌<◌, true, slice_index, List, [], ◌∷◌, length, Option, Some, None}
 use Rattle.pvp_types.specs.declared.command.Cmd.{Cmd}
 use Rattle.pvp_types.specs.declared.command.Cmd.TheVariants.{Instruct, Rescind, Fund, Settle, PayOut, Paid}
 use Rattle.pvp_types.specs.declared.command.PayOrder as orders
@@ -9,7 +9,7 @@ use Rattle.vr_types.specs.declared.message.MsgOf.TheVariants.{Request, Prepare, 
 use Rattle.vr_types.specs.declared.message.StateOf.{StateOf}
 use Rattle.pvp_wire.specs.declared.stamped.Stamp.{Stamp}
 use Rattle.pvp_wire.specs.declared.stamped.Stamped.{Stamped}
-use Rattle.pvp_wire.specs.Spelling.{BankMsg, BankRow}
+use Rattle.pvp_wire.specs.Spelling.{BankMsg, BankRow, is_wireable}
 
 -- a number fits so many bytes
 abbrev pub Fits : ℕ → ℕ → Type 0
@@ -68,3 +68,12 @@ StampFits s = Fits 2 s.actor × Fits 8 s.clock × Fits 4 s.index
 
 abbrev pub StampedFits : Stamped → Type 0
 StampedFits s = StampFits s.stamp × Fits 2 s.envelope.to × MessageFits s.envelope.msg
+
+-- a list of bytes
+abbrev pub IsBytes : List ℕ → Type 0
+IsBytes bytes = (i : ℕ) → slice_index bytes i < 256
+
+-- what has a spelling: it fits, and its actors and the clients of its rows are such
+pub record IsSpelled (s : Stamped) : Type 0 where
+  pub fits : StampedFits s
+  pub wireable : is_wireable s ≡ true

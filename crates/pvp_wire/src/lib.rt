@@ -3,6 +3,7 @@
 
 pub mod reading;
 pub mod fault;
+pub mod feeder;
 mod fields;
 mod messages;
 mod rows;
@@ -12,6 +13,7 @@ pub mod writing;
 
 pub use reading::decode;
 pub use fault::WireFault;
+pub use feeder::Feeder;
 pub use stamped::{Message, Stamp, Stamped};
 pub use admitted::wireable;
 pub use writing::encode;
