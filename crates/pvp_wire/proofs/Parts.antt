@@ -1,6 +1,9 @@
 -- Commands, answers, orders and rows: what is taken is spelled so, and what is spelled so is read again.
-use Rattle.std.proofs.Common.{◌≡◌, ℕ, zero, suc, ◌<◌, ◌==◌, Bool, true, false, ◌&&◌, List, [], ◌∷◌, ◌++◌, length, drop, Ok, Err, refl, sym, ap, subst, if◌then◌else◌, append_assoc, arith}
+use Rattle.std.proofs.Common.{◌≡◌, ℕ, zero, suc, ◌+◌, ◌<◌, ◌==◌, Bool, true, false, ◌&&◌, List, [], ◌∷◌, ◌++◌, length, get_or, take, drop, Ok, Err, refl, sym, ap, ◌∙◌, subst, if◌then◌else◌, append_assoc, arith}
 use Rattle.std.specs.List.{flat_map, list_all}
+use Rattle.std.proofs.Math.Seq.{take-suc}
+use Rattle.std.proofs.lemmas.Grind.{flat_map-append}
+use Rattle.std.proofs.lemmas.List.{append-nil}
 use Rattle.std.proofs.lemmas.Bool.{ne_eqb}
 use Rattle.pvp_types.specs.declared.command.Cmd.{Cmd}
 use Rattle.pvp_types.specs.declared.command.Cmd.TheVariants.{Instruct, Rescind, Fund, Settle, PayOut, Paid}
@@ -290,3 +293,20 @@ rows_format = record {
       (subst (λ (k : ℕ). Takes bytes (number 2 k ++ flat_map row log) rest) (sym u.1.1) whole, ((subst (λ (k : ℕ). Fits 2 k) (sym u.1.1) t.1, u.1.0.0), u.1.0.1));
   again = λ log rest h. rw (append_assoc (number 2 (length log)) (flat_map row log) rest, n2.again (length log) (flat_map row log ++ rest) h.0.0) (more-again log rest (h.0.1, h.1));
 }
+
+-- ---- one more row
+
+each_suc : (log : List BankRow) (j : ℕ) (d : BankRow) → j < length log → EachFits (take j log) → RowFits (get_or log j d) → EachFits (take (suc j) log)
+each_suc [] j d lt h r = absurd (omega arith)
+each_suc (x ∷ log) zero d lt h r = (r, tt)
+each_suc (x ∷ log) (suc j) d lt h r = (h.0, each_suc log j d (omega arith) h.1 r)
+
+pub each_more : (log : List BankRow) (j : ℕ) (d : BankRow) → j < length log → EachFits (take j log) → RowFits (get_or log j d) → EachFits (take (j + 1) log)
+each_more log j d lt h r =
+    let k : suc j ≡ j + 1 = omega arith in
+    subst (λ (i : ℕ). EachFits (take i log)) k (each_suc log j d lt h r)
+
+pub flat_more : (log : List BankRow) (j : ℕ) (d : BankRow) → j < length log → flat_map row (take (j + 1) log) ≡ flat_map row (take j log) ++ row (get_or log j d)
+flat_more log j d lt =
+    let k : j + 1 ≡ suc j = omega arith in
+    ap (λ (i : ℕ). flat_map row (take i log)) k ∙ ap (flat_map row) (take-suc log j d lt) ∙ flat_map-append row (take j log) (get_or log j d ∷ []) ∙ ap (λ (x : List ℕ). flat_map row (take j log) ++ x) (append-nil (row (get_or log j d)))

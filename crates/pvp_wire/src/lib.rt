@@ -5,6 +5,7 @@ pub mod reading;
 pub mod fault;
 pub mod feeder;
 mod fields;
+pub mod laws;
 mod messages;
 mod rows;
 pub mod stamped;

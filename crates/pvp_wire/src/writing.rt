@@ -2,6 +2,7 @@
 ghost use Rattle.std.specs.Prelude.{◌≡◌, ◌+◌, ◌*◌, ◌≤◌, ◌++◌, ◌∷◌, [], true, OnOk, length};
 ghost use Rattle.std.specs.Io.KnownBytes.{Appends};
 ghost use Rattle.pvp_wire.specs.Spelling as spell;
+ghost use Rattle.pvp_wire.specs.Fits.{Fits, CommandFits, ReplyFits, OrderFits, RowFits, RowsFit, StateFits, MessageFits, StampFits, IsSpelled};
 
 use crate::stamped::{Message, Stamp, Stamped};
 use byteorder::{BigEndian, ByteOrder};
@@ -15,7 +16,9 @@ use vr_types::{MsgOf, RowOf, RowsOf, StateOf};
 /// An `Err` is the writer's, or says that memory was refused; how much was written then is not said.
 pub fn encode<W: Write>(alloc: Global, stamped: &Stamped, writer: &mut W) -> io::Result<()>
     requires { spell.is_wireable stamped.now ≡ true }
-    ensures { OnOk result (Appends (W.contents writer.old) (W.contents writer.new) (spell.spelling stamped.now)) }
+    ensures written { OnOk result (Appends (W.contents writer.old) (W.contents writer.new) (spell.spelling stamped.now)) }
+    // So `decode` reads it again.
+    ensures spelled { OnOk result (IsSpelled stamped.now) }
 {
     let mut body = Vec::new(alloc);
     push_body(&mut body, &stamped.envelope.msg)?;
@@ -28,7 +31,8 @@ pub fn encode<W: Write>(alloc: Global, stamped: &Stamped, writer: &mut W) -> io:
 /// The length of a frame whose body has so many bytes, and its head.
 fn push_head(out: &mut Vec<u8>, stamped: &Stamped, body: u32) -> Result<(), AllocError>
     requires { body ≤ 4194304 }
-    ensures { OnOk result (out.new.items ≡ out.old.items ++ spell.number 4 (18 + body) ++ spell.head stamped.now) }
+    ensures bytes { OnOk result (out.new.items ≡ out.old.items ++ spell.number 4 (18 + body) ++ spell.head stamped.now) }
+    ensures fits { OnOk result (StampFits stamped.now.stamp × Fits 2 stamped.now.envelope.to) }
 {
     push_u32(out, 18 + body)?;
     push_kind(out, &stamped.envelope.msg)?;
@@ -45,7 +49,8 @@ fn push_kind(out: &mut Vec<u8>, msg: &Message) -> Result<(), AllocError>
 }
 
 fn push_stamp(out: &mut Vec<u8>, stamp: Stamp) -> Result<(), AllocError>
-    ensures { OnOk result (out.new.items ≡ out.old.items ++ spell.stamp stamp) }
+    ensures bytes { OnOk result (out.new.items ≡ out.old.items ++ spell.stamp stamp) }
+    ensures fits { OnOk result (StampFits stamp) }
 {
     push_u16(out, stamp.actor)?;
     push_u64(out, stamp.clock)?;
@@ -104,6 +109,7 @@ fn push_tag(out: &mut Vec<u8>, tag: u8) -> Result<(), AllocError>
 fn push_command(out: &mut Vec<u8>, cmd: Cmd) -> Result<(), AllocError>
     ensures bytes { OnOk result (out.new.items ≡ out.old.items ++ spell.command cmd) }
     ensures len { OnOk result (length out.new.items ≤ length out.old.items + 28) }
+    ensures fits { OnOk result (CommandFits cmd) }
 {
     match cmd {
         Cmd::Instruct {
@@ -200,6 +206,7 @@ fn reason_number(reason: Reason) -> u8
 fn push_reply(out: &mut Vec<u8>, reply: Reply) -> Result<(), AllocError>
     ensures bytes { OnOk result (out.new.items ≡ out.old.items ++ spell.reply reply) }
     ensures len { OnOk result (length out.new.items ≤ length out.old.items + 5) }
+    ensures fits { OnOk result (ReplyFits reply) }
 {
     match reply {
         Reply::Done => push_tag(out, 1),
@@ -217,6 +224,7 @@ fn push_reply(out: &mut Vec<u8>, reply: Reply) -> Result<(), AllocError>
 fn push_order(out: &mut Vec<u8>, order: PayOrder) -> Result<(), AllocError>
     ensures bytes { OnOk result (out.new.items ≡ out.old.items ++ spell.order order) }
     ensures len { OnOk result (length out.new.items ≡ length out.old.items + 15) }
+    ensures fits { OnOk result (OrderFits order) }
 {
     push_payment(out, order.ccy, order.out, order.member, order.amt)
 }
@@ -224,6 +232,7 @@ fn push_order(out: &mut Vec<u8>, order: PayOrder) -> Result<(), AllocError>
 fn push_row(out: &mut Vec<u8>, row: &RowOf<Cmd>) -> Result<(), AllocError>
     ensures bytes { OnOk result (out.new.items ≡ out.old.items ++ spell.row row.now) }
     ensures len { OnOk result (length out.new.items ≤ length out.old.items + 34) }
+    ensures fits { OnOk result (RowFits row.now) }
 {
     push_u16(out, row.client)?;
     push_u32(out, row.number)?;
@@ -234,6 +243,7 @@ fn push_row(out: &mut Vec<u8>, row: &RowOf<Cmd>) -> Result<(), AllocError>
 fn push_rows(out: &mut Vec<u8>, rows: &RowsOf<Cmd>) -> Result<(), AllocError>
     ensures bytes { OnOk result (out.new.items ≡ out.old.items ++ spell.rows rows.now) }
     ensures len { OnOk result (length out.new.items ≤ length out.old.items + 2228192) }
+    ensures fits { OnOk result (RowsFit rows.now) }
 {
     push_u16(out, rows.len() as u16)?;
     for row in rows.as_slice() {
@@ -246,6 +256,7 @@ fn push_rows(out: &mut Vec<u8>, rows: &RowsOf<Cmd>) -> Result<(), AllocError>
 fn push_state(out: &mut Vec<u8>, state: &Option<StateOf<Cmd>>) -> Result<(), AllocError>
     ensures bytes { OnOk result (out.new.items ≡ out.old.items ++ spell.state state.now) }
     ensures len { OnOk result (length out.new.items ≤ length out.old.items + 2228195) }
+    ensures fits { OnOk result (StateFits state.now) }
 {
     match state {
         None => push_tag(out, 0),
@@ -291,6 +302,7 @@ fn push_view_and_place(out: &mut Vec<u8>, view: u32, place: u16) -> Result<(), A
 fn push_body(out: &mut Vec<u8>, msg: &Message) -> Result<(), AllocError>
     ensures bytes { OnOk result (out.new.items ≡ out.old.items ++ spell.body msg.now) }
     ensures len { OnOk result (length out.new.items ≤ length out.old.items + 2228203) }
+    ensures fits { OnOk result (MessageFits msg.now) }
 {
     match msg {
         MsgOf::Request { number, cmd } => {
