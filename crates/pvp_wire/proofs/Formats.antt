@@ -159,4 +159,3 @@ pub again6 : {A B C D E F Z : Type 0} {sa : A → List ℕ} {fa : A → Type 0} 
     → reads6 ra rb rc rd re rf make ((sa a ++ sb b ++ sc c ++ sd d ++ se e ++ sf f) ++ rest) ≡ Ok (make a b c d e f, rest)
 again6 {A} {B} {C} {D} {E} {F} {Z} {sa} {fa} {ra} {sb} {fb} {rb} {sc} {fc} {rc} {sd} {fd} {rd} {se} {fe} {re} {sf} {ff} {rf} pa pb pc pd pe pf make a b c d e f rest ha hb hc hd he hf =
     ap (reads6 ra rb rc rd re rf make) (append_assoc (sa a ++ sb b ++ sc c ++ sd d ++ se e) (sf f) rest ∙ append_assoc (sa a ++ sb b ++ sc c ++ sd d) (se e) (sf f ++ rest) ∙ append_assoc (sa a ++ sb b ++ sc c) (sd d) (se e ++ (sf f ++ rest)) ∙ append_assoc (sa a ++ sb b) (sc c) (sd d ++ (se e ++ (sf f ++ rest))) ∙ append_assoc (sa a) (sb b) (sc c ++ (sd d ++ (se e ++ (sf f ++ rest))))) ∙ rw (pa.again a (sb b ++ (sc c ++ (sd d ++ (se e ++ (sf f ++ rest))))) ha, pb.again b (sc c ++ (sd d ++ (se e ++ (sf f ++ rest)))) hb, pc.again c (sd d ++ (se e ++ (sf f ++ rest))) hc, pd.again d (se e ++ (sf f ++ rest)) hd, pe.again e (sf f ++ rest) he, pf.again f rest hf) refl
-

@@ -6,3 +6,4 @@ pub mod MessageFormats
 pub mod Lengths
 pub mod Frames
 pub mod Streams
+pub mod WorkedFrames

@@ -64,9 +64,10 @@ number_format n = record {
       let g = guard_ok (nat_lt (length bytes) n) Length (big_number n bytes, drop n bytes) (x, rest) e in
       let long : n ≤ length bytes = ltb-false _ _ g.0 in
       let x-is : big_number n bytes ≡ x = ap (λ (p : ℕ × List ℕ). p.0) g.1 in
-      let rest-is : drop n bytes ≡ rest = ap (λ (p : ℕ × List ℕ). p.1) g.1 in
-      (record { parts = rw (← x-is, back n bytes long fits, ← rest-is) (sym (take-append-drop n bytes)); rest_fits = rw (← rest-is) (IsBytes-drop n bytes fits) },
-      rw (← x-is) (big_from-lt 0 n bytes fits));
+      let rest-is : drop n bytes ≡ rest = ap (λ (p : ℕ × List ℕ). p.1) g.1 in (
+        record { parts = rw (← x-is, back n bytes long fits, ← rest-is) (sym (take-append-drop n bytes)); rest_fits = rw (← rest-is) (IsBytes-drop n bytes fits) },
+        rw (← x-is) (big_from-lt 0 n bytes fits),
+      );
   again = λ x rest lt.
       let len = length-bytes_high_first n x in
       let long : nat_lt (length (big_bytes n x ++ rest)) n ≡ false = le-ltb _ _ (omega (arith, length-append (big_bytes n x) rest, len)) in

@@ -4,9 +4,7 @@ ghost use Rattle.pvp_wire.specs.Reading.{Finds, Gives, request_at, prepare_at, d
 ghost use Rattle.pvp_wire.specs.Spelling.{rows_of};
 
 use crate::fault::WireFault;
-use crate::fields::{
-    command_at, order_at, reply_at, row_at, u16_at, u32_at, view_and_place_at,
-};
+use crate::fields::{command_at, order_at, reply_at, row_at, u16_at, u32_at, view_and_place_at};
 use crate::rows::{option_at, rows_at};
 use crate::stamped::Message;
 use std::alloc::Global;

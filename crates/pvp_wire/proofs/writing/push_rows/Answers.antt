@@ -15,6 +15,8 @@ loop-row-preserved c =
     let lt = (rw c.as_slice-row-items.ensures.value at c.loop-row-test.true) in
     let fits = (rw c.as_slice-row-items.ensures.value at c.in_ok-push_row.ensures.fits) in
     let grown = (rw c.as_slice-row-items.ensures.value at c.in_ok-push_row.ensures.bytes) in
-    let front = c.args.out.now.items ++ number 2 (length rows) in
-    (grown ∙ ap (λ (x : List ℕ). x ++ row (get_or rows j no_row)) c.loop-row.invariant.0 ∙ append_assoc front (flat_map row (take j rows)) (row (get_or rows j no_row)) ∙ ap (λ (x : List ℕ). front ++ x) (sym (flat_more rows j no_row lt)),
-    each_more rows j no_row lt c.loop-row.invariant.1 fits, omega (arith, c.in_ok-push_row.ensures.len, c.loop-row.invariant.2))
+    let front = c.args.out.now.items ++ number 2 (length rows) in (
+      grown ∙ ap (λ (x : List ℕ). x ++ row (get_or rows j no_row)) c.loop-row.invariant.0 ∙ append_assoc front (flat_map row (take j rows)) (row (get_or rows j no_row)) ∙ ap (λ (x : List ℕ). front ++ x) (sym (flat_more rows j no_row lt)),
+      each_more rows j no_row lt c.loop-row.invariant.1 fits,
+      omega (arith, c.in_ok-push_row.ensures.len, c.loop-row.invariant.2),
+    )
