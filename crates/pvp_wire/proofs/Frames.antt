@@ -1,0 +1,224 @@
+-- Frames: what is taken is spelled so, and what is spelled so is read again, whatever follows it.
+use Rattle.std.proofs.Common.{◌≡◌, ℕ, suc, ◌+◌, ◌<◌, ◌≤◌, ◌^◌, ◌==◌, ◌&&◌, true, false, not, nat_lt, nat_le, List, [], ◌∷◌, ◌++◌, length, take, drop, Result, Ok, Err, refl, sym, ap, subst, ◌∙◌, if◌then◌else◌, append_assoc, arith}
+use Rattle.std.specs.List.{list_all}
+use Rattle.std.proofs.lemmas.Bool.{ltb-false, le-ltb, le-leb, leb-true, eq-eqb, eqb-true}
+use Rattle.std.proofs.lemmas.List.{append-nil, take_at, take-append-drop, length-append, length-take}
+use Rattle.byteorder.specs.Endian.{big_number}
+use Rattle.vr_types.specs.declared.message.MsgOf.TheVariants.{Request, Prepare, PrepareOk, Commit, StartViewChange, DoViewChange, StartView, GetState, NewState, Recovery, RecoveryResponse, Reply, PayOrder}
+use Rattle.pvp_wire.specs.declared.fault.WireFault.{WireFault}
+use Rattle.pvp_wire.specs.declared.fault.WireFault.TheVariants.{Short, TooLong, Version, Kind, Length}
+use Rattle.pvp_wire.specs.declared.stamped.Stamp.{Stamp}
+use Rattle.pvp_wire.specs.declared.stamped.Stamped.{Stamped}
+use Rattle.pvp_wire.specs.Spelling.{number, kind, body, stamp, head, spelling, rows_of, has_client, is_actor, BankMsg}
+use Rattle.pvp_wire.specs.Fits.{Fits, StampFits, IsSpelled}
+use Rattle.pvp_wire.specs.Reading.{◌>>=◌, number_at, stamp_at, envelope_at, all_read, counted_at, frame_at, most_length}
+use Rattle.pvp_wire.proofs.Formats.{IsBytes, IsBytes-drop, IsBytes-take, TakesBy, IsFormat, bind_ok, guard_ok, guarded, wanted_ok, not-false, takes3, again3}
+use Rattle.pvp_wire.proofs.Numbers.{length-number}
+use Rattle.pvp_wire.proofs.Parts.{n4, n8, both, parted, listed_format}
+use Rattle.pvp_wire.proofs.MessageFormats.{IsOfKind, message_format}
+use Rattle.pvp_wire.proofs.Lengths.{length-head, body-short}
+
+abbrev make_stamp : ℕ → ℕ → ℕ → Stamp
+make_stamp actor clock index = record { actor = actor; clock = clock; index = index }
+
+abbrev IsStamp : Stamp → Type 0
+IsStamp s = StampFits s × (is_actor s.actor ≡ true)
+
+stamp_format : IsFormat stamp IsStamp stamp_at
+unfolding stamp_at
+stamp_format = record {
+  takes = takes3 (listed_format is_actor) n8 n4 make_stamp stamp IsStamp (λ a b c. refl) (λ a b c ha hb hc. ((ha.0, hb, hc), ha.1));
+  again = λ s rest h. again3 (listed_format is_actor) n8 n4 make_stamp s.actor s.clock s.index rest (h.0.0, h.1) h.0.1 h.0.2;
+}
+
+abbrev make_stamped : Stamp → ℕ → BankMsg → Stamped
+make_stamped s to msg = record { stamp = s; envelope = record { from = s.actor; to = to; msg = msg } }
+
+-- what stands after the version and the kind
+abbrev inside : Stamped → List ℕ
+inside s = stamp s.stamp ++ number 2 s.envelope.to ++ body s.envelope.msg
+
+-- what has a spelling, part by part
+record Parts (k : ℕ) (s : Stamped) : Type 0 where
+  stamp : IsStamp s.stamp
+  to : Fits 2 s.envelope.to × (is_actor s.envelope.to ≡ true)
+  msg : IsOfKind k s.envelope.msg
+  from : s.envelope.from ≡ s.stamp.actor
+
+joined : (k : ℕ) (s : Stamped) → Parts k s → IsSpelled s
+joined k s p = record {
+  fits = (p.stamp.0, p.to.0, p.msg.0.0);
+  wireable = both (s.envelope.from == s.stamp.actor) (is_actor s.stamp.actor && (is_actor s.envelope.to && list_all has_client (rows_of s.envelope.msg)))
+      (eq-eqb s.envelope.from s.stamp.actor p.from) (both (is_actor s.stamp.actor) (is_actor s.envelope.to && list_all has_client (rows_of s.envelope.msg)) p.stamp.1 (both (is_actor s.envelope.to) (list_all has_client (rows_of s.envelope.msg)) p.to.1 p.msg.0.1));
+}
+
+part : (s : Stamped) → IsSpelled s → Parts (kind s.envelope.msg) s
+part s h =
+    let a = parted (s.envelope.from == s.stamp.actor) (is_actor s.stamp.actor && (is_actor s.envelope.to && list_all has_client (rows_of s.envelope.msg))) h.wireable in
+    let b = parted (is_actor s.stamp.actor) (is_actor s.envelope.to && list_all has_client (rows_of s.envelope.msg)) a.1 in
+    let c = parted (is_actor s.envelope.to) (list_all has_client (rows_of s.envelope.msg)) b.1 in
+    record { stamp = (h.fits.0, b.0); to = (h.fits.1, c.0); msg = ((h.fits.2, c.1), refl); from = eqb-true s.envelope.from s.stamp.actor a.0 }
+
+envelope-takes : (k : ℕ) → 1 ≤ k → k ≤ 13 → TakesBy inside (Parts k) (envelope_at k)
+unfolding envelope_at
+envelope-takes k low high = takes3 stamp_format (listed_format is_actor) (message_format k low high) make_stamped inside (Parts k) (λ a b c. refl) (λ a b c ha hb hc. record { stamp = ha; to = hb; msg = hc; from = refl })
+
+rebuilt : (s : Stamped) → s.envelope.from ≡ s.stamp.actor → make_stamped s.stamp s.envelope.to s.envelope.msg ≡ s
+rebuilt s e = ap (λ (from : ℕ). record { stamp = s.stamp; envelope = record { from = from; to = s.envelope.to; msg = s.envelope.msg } }) (sym e)
+
+kinds : (m : BankMsg) → (1 ≤ kind m) × (kind m ≤ 13)
+kinds (Request a b) = (omega arith, omega arith)
+kinds (Prepare a b c d) = (omega arith, omega arith)
+kinds (PrepareOk a b) = (omega arith, omega arith)
+kinds (Commit a b) = (omega arith, omega arith)
+kinds (StartViewChange a) = (omega arith, omega arith)
+kinds (DoViewChange a b c d) = (omega arith, omega arith)
+kinds (StartView a b c) = (omega arith, omega arith)
+kinds (GetState a b) = (omega arith, omega arith)
+kinds (NewState a b c d) = (omega arith, omega arith)
+kinds (Recovery a) = (omega arith, omega arith)
+kinds (RecoveryResponse a b c) = (omega arith, omega arith)
+kinds (Reply a b c) = (omega arith, omega arith)
+kinds (PayOrder a) = (omega arith, omega arith)
+
+envelope-again : (s : Stamped) (rest : List ℕ) → IsSpelled s → envelope_at (kind s.envelope.msg) (inside s ++ rest) ≡ Ok (s, rest)
+unfolding envelope_at
+envelope-again s rest h =
+    let p = part s h in
+    let b = kinds s.envelope.msg in
+    again3 stamp_format (listed_format is_actor) (message_format (kind s.envelope.msg) b.0 b.1) make_stamped s.stamp s.envelope.to s.envelope.msg rest p.stamp p.to p.msg
+    ∙ ap (λ (t : Stamped). Ok (t, rest)) (rebuilt s p.from)
+
+abbrev pair_done : Stamped × ℕ → Result (Stamped × ℕ) WireFault
+pair_done x = Ok x
+
+pair_is : (x y : Stamped × ℕ) → pair_done x ≡ pair_done y → x ≡ y
+pair_is x y e = cc
+
+number-parts : (bytes : List ℕ) (n : ℕ) (rest : List ℕ) → number_at 4 bytes ≡ Ok (n, rest) → (big_number 4 bytes ≡ n) × (drop 4 bytes ≡ rest)
+number-parts bytes n rest e =
+    let g = guard_ok (nat_lt (length bytes) 4) Length (big_number 4 bytes, drop 4 bytes) (n, rest) e in
+    (ap (λ (p : ℕ × List ℕ). p.0) g.1, ap (λ (p : ℕ × List ℕ). p.1) g.1)
+
+-- nothing is left
+all_read-ok : (x : Stamped × List ℕ) (s : Stamped) → all_read x ≡ Ok s → (x.0 ≡ s) × (length x.1 ≡ 0)
+all_read-ok x s e =
+    let g = wanted_ok (length x.1 == 0) Length x.0 s e in
+    (g.1, eqb-true (length x.1) 0 g.0)
+
+no_bytes : (bytes : List ℕ) → length bytes ≡ 0 → bytes ≡ []
+no_bytes [] e = refl
+no_bytes (b ∷ bytes) e = absurd (omega arith)
+
+-- what is read of the bytes that a length counts
+counted-takes : (bytes : List ℕ) (s : Stamped) → IsBytes bytes → counted_at bytes ≡ Ok s → (bytes ≡ head s ++ body s.envelope.msg) × IsSpelled s
+unfolding counted_at
+counted-takes [] s fits e = absurd cc
+counted-takes (version ∷ []) s fits e = absurd cc
+counted-takes (version ∷ k ∷ bytes) s fits e =
+    let v = guarded (not (version == 1)) Version (if not (nat_le 1 k && nat_le k 13) then Err Kind else (envelope_at k bytes >>= all_read)) s e in
+    let w = guarded (not (nat_le 1 k && nat_le k 13)) Kind (envelope_at k bytes >>= all_read) s v.1 in
+    let version-is : version ≡ 1 = eqb-true version 1 (not-false (version == 1) v.0) in
+    let bounds = parted (nat_le 1 k) (nat_le k 13) (not-false (nat_le 1 k && nat_le k 13) w.0) in
+    let low : 1 ≤ k = leb-true 1 k bounds.0 in
+    let high : k ≤ 13 = leb-true k 13 bounds.1 in
+    let m = bind_ok (envelope_at k bytes) all_read s w.1 in
+    let t = envelope-takes k low high bytes m.0.0 m.0.1 (λ i. fits (suc (suc i))) m.1 in
+    let a = all_read-ok m.0 s m.2 in
+    let text : bytes ≡ inside m.0.0 = t.0.parts ∙ ap (λ (x : List ℕ). inside m.0.0 ++ x) (no_bytes m.0.1 a.1) ∙ append-nil (inside m.0.0) in
+    let whole : version ∷ k ∷ bytes ≡ head m.0.0 ++ body m.0.0.envelope.msg =
+    ap (λ (n : ℕ). n ∷ k ∷ bytes) version-is ∙ ap (λ (n : ℕ). 1 ∷ n ∷ bytes) (sym t.1.msg.1) ∙ ap (λ (x : List ℕ). 1 ∷ kind m.0.0.envelope.msg ∷ x) text in
+    subst (λ (x : Stamped). (version ∷ k ∷ bytes ≡ head x ++ body x.envelope.msg) × IsSpelled x) a.0 (whole, joined k m.0.0 t.1)
+
+counted-again : (s : Stamped) → IsSpelled s → counted_at (head s ++ body s.envelope.msg) ≡ Ok s
+unfolding counted_at
+counted-again s h =
+    let b = kinds s.envelope.msg in
+    let known : (nat_le 1 (kind s.envelope.msg) && nat_le (kind s.envelope.msg) 13) ≡ true = both (nat_le 1 (kind s.envelope.msg)) (nat_le (kind s.envelope.msg) 13) (le-leb 1 (kind s.envelope.msg) b.0) (le-leb (kind s.envelope.msg) 13 b.1) in
+    let read : envelope_at (kind s.envelope.msg) (inside s) ≡ Ok (s, []) = ap (envelope_at (kind s.envelope.msg)) (sym (append-nil (inside s))) ∙ envelope-again s [] h in
+    rw (known, read) refl
+
+-- the tests of a frame, from the last to the first
+abbrev counted_in : List ℕ → ℕ → Result (Stamped × ℕ) WireFault
+counted_in bytes len = counted_at (take len (drop 4 bytes)) >>= λ s. Ok (s, 4 + len)
+
+abbrev whole_in : List ℕ → ℕ → Result (Stamped × ℕ) WireFault
+whole_in bytes len = if nat_lt (length bytes) (4 + len) then Err Short else counted_in bytes len
+
+abbrev long_in : List ℕ → ℕ → Result (Stamped × ℕ) WireFault
+long_in bytes len = if nat_lt len 18 then Err Length else whole_in bytes len
+
+abbrev bounded_in : List ℕ → ℕ → Result (Stamped × ℕ) WireFault
+bounded_in bytes len = if nat_lt most_length len then Err TooLong else long_in bytes len
+
+-- the length that stands in front
+first_number : (bytes : List ℕ) → 4 ≤ length bytes → IsBytes bytes → bytes ≡ number 4 (big_number 4 bytes) ++ drop 4 bytes
+first_number bytes long fits =
+    let read : number_at 4 bytes ≡ Ok (big_number 4 bytes, drop 4 bytes) = rw (le-ltb (length bytes) 4 long) refl in
+    (n4.takes bytes (big_number 4 bytes) (drop 4 bytes) fits read).0.parts
+
+-- a frame that was found
+pub record IsFound (bytes : List ℕ) (s : Stamped) (n : ℕ) : Type 0 where
+  pub text : take n bytes ≡ spelling s
+  pub size : n ≡ length (spelling s)
+  pub within : n ≤ length bytes
+  pub spelled : IsSpelled s
+
+found : (bytes : List ℕ) (len : ℕ) (s : Stamped) → bytes ≡ number 4 len ++ drop 4 bytes → 4 + len ≤ length bytes → take len (drop 4 bytes) ≡ head s ++ body s.envelope.msg → IsSpelled s → IsFound bytes s (4 + len)
+found bytes len s front long inner spelled =
+    let d = drop 4 bytes in
+    let number-len = length-number 4 len in
+    let rest-len : length d + 4 ≡ length bytes = omega (arith, ap length front, length-append (number 4 len) d, number-len) in
+    let inner-len : length (take len d) ≡ len = omega (arith, length-take len d, rest-len) in
+    let body-len : 18 + length (body s.envelope.msg) ≡ len = omega (arith, inner-len, ap length inner, length-append (head s) (body s.envelope.msg), length-head s) in
+    let text : spelling s ≡ number 4 len ++ take len d =
+    append_assoc (number 4 (18 + length (body s.envelope.msg))) (head s) (body s.envelope.msg)
+    ∙ ap (λ (n : ℕ). number 4 n ++ (head s ++ body s.envelope.msg)) body-len ∙ ap (λ (x : List ℕ). number 4 len ++ x) (sym inner) in
+    let size : length (number 4 len ++ take len d) ≡ 4 + len = omega (arith, length-append (number 4 len) (take len d), number-len, inner-len) in
+    let split : bytes ≡ (number 4 len ++ take len d) ++ drop len d =
+    front ∙ ap (λ (x : List ℕ). number 4 len ++ x) (sym (take-append-drop len d)) ∙ sym (append_assoc (number 4 len) (take len d) (drop len d)) in
+    record {
+      text = ap (take (4 + len)) split ∙ take_at (number 4 len ++ take len d) (drop len d) (4 + len) size ∙ sym text;
+      size = sym size ∙ ap length (sym text);
+      within = long;
+      spelled = spelled;
+    }
+
+pub frame-takes : (bytes : List ℕ) (s : Stamped) (n : ℕ) → IsBytes bytes → frame_at bytes ≡ Ok (s, n) → IsFound bytes s n
+unfolding frame_at
+frame-takes bytes s n fits e =
+    let len = big_number 4 bytes in
+    let a = guarded (nat_lt (length bytes) 4) Short (bounded_in bytes len) (s, n) e in
+    let b = guarded (nat_lt most_length len) TooLong (long_in bytes len) (s, n) a.1 in
+    let c = guarded (nat_lt len 18) Length (whole_in bytes len) (s, n) b.1 in
+    let d = guarded (nat_lt (length bytes) (4 + len)) Short (counted_in bytes len) (s, n) c.1 in
+    let m = bind_ok (counted_at (take len (drop 4 bytes))) (λ x. Ok (x, 4 + len)) (s, n) d.1 in
+    let t = counted-takes (take len (drop 4 bytes)) m.0 (IsBytes-take len (drop 4 bytes) (IsBytes-drop 4 bytes fits)) m.1 in
+    let f = found bytes len m.0 (first_number bytes (ltb-false (length bytes) 4 a.0) fits) (ltb-false (length bytes) (4 + len) d.0) t.0 t.1 in
+    let same = pair_is (m.0, 4 + len) (s, n) m.2 in
+    subst (λ (p : Stamped × ℕ). IsFound bytes p.0 p.1) same f
+
+pub frame-again : (s : Stamped) (rest : List ℕ) → IsSpelled s → frame_at (spelling s ++ rest) ≡ Ok (s, length (spelling s))
+unfolding frame_at
+frame-again s rest h =
+    let msg = s.envelope.msg in
+    let len = 18 + length (body msg) in
+    let inner = head s ++ body msg in
+    let bytes = spelling s ++ rest in
+    let short : length (body msg) ≤ 2228203 = body-short msg h.fits.2 in
+    let fits : len < 256 ^ 4 = omega (arith, short) in
+    let inner-len : length inner ≡ len = omega (arith, length-append (head s) (body msg), length-head s) in
+    let shape : bytes ≡ number 4 len ++ (inner ++ rest) =
+    ap (λ (x : List ℕ). x ++ rest) (append_assoc (number 4 len) (head s) (body msg)) ∙ append_assoc (number 4 len) inner rest in
+    let size : length (spelling s) ≡ 4 + len = ap length (append_assoc (number 4 len) (head s) (body msg)) ∙ (omega (arith, length-append (number 4 len) inner, length-number 4 len, inner-len)) in
+    let total : length bytes ≡ 4 + len + length rest = omega (arith, length-append (spelling s) rest, size) in
+    let read : number_at 4 (number 4 len ++ (inner ++ rest)) ≡ Ok (len, inner ++ rest) = n4.again len (inner ++ rest) fits in
+    let parts = number-parts (number 4 len ++ (inner ++ rest)) len (inner ++ rest) read in
+    let number-is : big_number 4 bytes ≡ len = ap (big_number 4) shape ∙ parts.0 in
+    let after : drop 4 bytes ≡ inner ++ rest = ap (drop 4) shape ∙ parts.1 in
+    let cut : take len (drop 4 bytes) ≡ inner = ap (take len) after ∙ take_at inner rest len inner-len in
+    let t1 : nat_lt (length bytes) 4 ≡ false = le-ltb (length bytes) 4 (omega arith) in
+    let t2 : nat_lt most_length len ≡ false = le-ltb most_length len (omega (arith, short)) in
+    let t3 : nat_lt len 18 ≡ false = le-ltb len 18 (omega arith) in
+    let t4 : nat_lt (length bytes) (4 + len) ≡ false = le-ltb (length bytes) (4 + len) (omega arith) in
+    rw (t1, number-is, t2, t3, t4, cut, counted-again s h, size) refl

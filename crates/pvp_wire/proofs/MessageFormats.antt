@@ -1,0 +1,177 @@
+-- Messages: what is taken is spelled so, and what is spelled so is read again.
+use Rattle.std.proofs.Common.{◌≡◌, ℕ, zero, suc, ◌<◌, ◌≤◌, ◌==◌, true, false, List, [], ◌∷◌, ◌++◌, drop, Option, Some, None, Ok, refl, sym, subst, if◌then◌else◌, arith}
+use Rattle.std.specs.List.{list_all}
+use Rattle.std.proofs.lemmas.Bool.{ne_eqb}
+use Rattle.pvp_types.specs.declared.command.Cmd.{Cmd}
+use Rattle.vr_types.specs.declared.message.MsgOf.TheVariants.{Request, Prepare, PrepareOk, Commit, StartViewChange, DoViewChange, StartView, GetState, NewState, Recovery, RecoveryResponse, Reply, PayOrder}
+use Rattle.vr_types.specs.declared.message.StateOf.{StateOf}
+use Rattle.pvp_wire.specs.Spelling.{number, kind, body, state, rows_of, rows_of_state, BankMsg, BankRow, has_client}
+use Rattle.pvp_wire.specs.Fits.{Fits, StateFits, MessageFits}
+use Rattle.pvp_wire.specs.Reading.{◌>>=◌, Reads, number_at, request_at, prepare_at, view_and_place_at, do_view_change_at, start_view_at, new_state_at, recovery_response_at, answer_at, order_at, state_at, option_at, message_at}
+use Rattle.pvp_wire.proofs.Formats.{Takes, TakesBy, IsFormat, ok_is, takes1, takes2, takes3, takes4, again1, again2, again3, again4}
+use Rattle.pvp_wire.proofs.Parts.{IsBytes-rest, tagged, refused, never, n2, n4, both, parted, command_format, reply_format, order_format, row_format, rows_format}
+
+-- ---- the state of a view
+
+abbrev make_state : ℕ → List BankRow → StateOf Cmd
+make_state k log = record { done = k; rows = log }
+
+-- a state that fits, its rows of clients
+abbrev pub IsState : Option (StateOf Cmd) → Type 0
+IsState s = StateFits s × (list_all has_client (rows_of_state s) ≡ true)
+
+abbrev spelled_state : StateOf Cmd → List ℕ
+spelled_state s = drop 1 (state (Some s))
+
+state-takes : TakesBy spelled_state (λ s. IsState (Some s)) state_at
+unfolding state_at
+state-takes = takes2 n2 rows_format make_state spelled_state (λ s. IsState (Some s)) (λ a b. refl) (λ a b ha hb. ((ha, hb.0), hb.1))
+
+state-again : (s : StateOf Cmd) (rest : List ℕ) → IsState (Some s) → state_at (spelled_state s ++ rest) ≡ Ok (s, rest)
+unfolding state_at
+state-again s rest h = again2 n2 rows_format make_state s.done s.rows rest h.0.0 (h.0.1, h.1)
+
+state_format : IsFormat spelled_state (λ s. IsState (Some s)) state_at
+state_format = record { takes = state-takes; again = state-again }
+
+some-takes : TakesBy (λ (o : Option (StateOf Cmd)). drop 1 (state o)) (λ o. IsState o × (state o ≡ 1 ∷ drop 1 (state o))) (λ bytes. state_at bytes >>= λ s. Ok (Some s.0, s.1))
+some-takes = takes1 state_format Some (λ o. drop 1 (state o)) (λ o. IsState o × (state o ≡ 1 ∷ drop 1 (state o))) (λ a. refl) (λ a ha. (ha, refl))
+
+abbrev bare_state : Option (StateOf Cmd) × List ℕ → Reads (Option (StateOf Cmd))
+bare_state x = Ok x
+
+off : (n k : ℕ) → k < n → (n == k) ≡ false
+off n k lt = ne_eqb n k (λ e. absurd (omega arith))
+
+never2 : {A : Type 0} (a b : Reads A) (flag : ℕ) (x : A × List ℕ) → 1 < flag → (if flag == 0 then a else if flag == 1 then b else refused) ≡ Ok x → ⊥
+never2 a b flag x above e = never x (rw (off flag 0 (omega arith), off flag 1 (omega arith)) at e)
+
+option-takes : TakesBy state IsState option_at
+unfolding option_at
+option-takes [] o rest fits e = absurd cc
+option-takes (zero ∷ bytes) o rest fits e =
+    subst (λ (p : Option (StateOf Cmd) × List ℕ). Takes (0 ∷ bytes) (state p.0) p.1 × IsState p.0) (ok_is (None, bytes) (o, rest) e) (record { parts = refl; rest_fits = IsBytes-rest 0 bytes fits }, (tt, refl))
+option-takes (suc zero ∷ bytes) o rest fits e =
+    let t = some-takes bytes o rest (IsBytes-rest 1 bytes fits) e in
+    (subst (λ (x : List ℕ). Takes (1 ∷ bytes) x rest) (sym t.1.1) (tagged 1 bytes (drop 1 (state o)) rest t.0), t.1.0)
+option-takes (suc (suc flag) ∷ bytes) o rest fits e = absurd (never2 _ _ (suc (suc flag)) (o, rest) (omega arith) e)
+
+option-again : (o : Option (StateOf Cmd)) (rest : List ℕ) → IsState o → option_at (state o ++ rest) ≡ Ok (o, rest)
+unfolding option_at
+option-again None rest h = refl
+option-again (Some s) rest h = again1 state_format Some s rest h
+
+option_format : IsFormat state IsState option_at
+option_format = record { takes = option-takes; again = option-again }
+
+-- ---- messages
+
+-- a view and a number of two bytes
+abbrev pair_text : ℕ × ℕ → List ℕ
+pair_text p = number 4 p.0 ++ number 2 p.1
+
+abbrev PairFits : ℕ × ℕ → Type 0
+PairFits p = Fits 4 p.0 × Fits 2 p.1
+
+abbrev make_pair : ℕ → ℕ → ℕ × ℕ
+make_pair a b = (a, b)
+
+pair_format : IsFormat pair_text PairFits view_and_place_at
+pair_format = record {
+  takes = takes2 n4 n2 make_pair pair_text PairFits (λ a b. refl) (λ a b ha hb. (ha, hb));
+  again = λ p rest h. again2 n4 n2 make_pair p.0 p.1 rest h.0 h.1;
+}
+
+-- a message that fits, its rows of clients
+abbrev pub IsMessage : BankMsg → Type 0
+IsMessage m = MessageFits m × (list_all has_client (rows_of m) ≡ true)
+
+-- the same, of a kind
+abbrev pub IsOfKind : ℕ → BankMsg → Type 0
+IsOfKind k m = IsMessage m × (kind m ≡ k)
+
+prepare-takes : TakesBy body (IsOfKind 2) prepare_at
+unfolding prepare_at
+prepare-takes = takes4 n4 n2 n2 row_format Prepare body (IsOfKind 2) (λ a b c d. refl) (λ a b c d ha hb hc hd. (((ha, hb, hc, hd.0), both (has_client d) true hd.1 refl), refl))
+
+request-takes : TakesBy body (IsOfKind 1) request_at
+unfolding request_at
+request-takes = takes2 n4 command_format Request body (IsOfKind 1) (λ a b. refl) (λ a b ha hb. (((ha, hb), refl), refl))
+
+do_view_change-takes : TakesBy body (IsOfKind 6) do_view_change_at
+unfolding do_view_change_at
+do_view_change-takes = takes4 n4 n4 n2 rows_format DoViewChange body (IsOfKind 6) (λ a b c d. refl) (λ a b c d ha hb hc hd. (((ha, hb, hc, hd.0), hd.1), refl))
+
+start_view-takes : TakesBy body (IsOfKind 7) start_view_at
+unfolding start_view_at
+start_view-takes = takes3 n4 n2 rows_format StartView body (IsOfKind 7) (λ a b c. refl) (λ a b c ha hb hc. (((ha, hb, hc.0), hc.1), refl))
+
+new_state-takes : TakesBy body (IsOfKind 9) new_state_at
+unfolding new_state_at
+new_state-takes = takes4 n4 n2 n2 rows_format NewState body (IsOfKind 9) (λ a b c d. refl) (λ a b c d ha hb hc hd. (((ha, hb, hc, hd.0), hd.1), refl))
+
+recovery_response-takes : TakesBy body (IsOfKind 11) recovery_response_at
+unfolding recovery_response_at
+recovery_response-takes = takes3 n4 n4 option_format RecoveryResponse body (IsOfKind 11) (λ a b c. refl) (λ a b c ha hb hc. (((ha, hb, hc.0), hc.1), refl))
+
+answer-takes : TakesBy body (IsOfKind 12) answer_at
+unfolding answer_at
+answer-takes = takes3 n4 n4 reply_format Reply body (IsOfKind 12) (λ a b c. refl) (λ a b c ha hb hc. (((ha, hb, hc), refl), refl))
+
+prepare_ok-takes : TakesBy body (IsOfKind 3) (λ bytes. view_and_place_at bytes >>= λ x. Ok (PrepareOk x.0.0 x.0.1, x.1))
+prepare_ok-takes = takes1 pair_format (λ p. PrepareOk p.0 p.1) body (IsOfKind 3) (λ p. refl) (λ p h. ((h, refl), refl))
+
+commit-takes : TakesBy body (IsOfKind 4) (λ bytes. view_and_place_at bytes >>= λ x. Ok (Commit x.0.0 x.0.1, x.1))
+commit-takes = takes1 pair_format (λ p. Commit p.0 p.1) body (IsOfKind 4) (λ p. refl) (λ p h. ((h, refl), refl))
+
+get_state-takes : TakesBy body (IsOfKind 8) (λ bytes. view_and_place_at bytes >>= λ x. Ok (GetState x.0.0 x.0.1, x.1))
+get_state-takes = takes1 pair_format (λ p. GetState p.0 p.1) body (IsOfKind 8) (λ p. refl) (λ p h. ((h, refl), refl))
+
+start_view_change-takes : TakesBy body (IsOfKind 5) (λ bytes. number_at 4 bytes >>= λ view. Ok (StartViewChange view.0, view.1))
+start_view_change-takes = takes1 n4 StartViewChange body (IsOfKind 5) (λ a. refl) (λ a h. ((h, refl), refl))
+
+recovery-takes : TakesBy body (IsOfKind 10) (λ bytes. number_at 4 bytes >>= λ nonce. Ok (Recovery nonce.0, nonce.1))
+recovery-takes = takes1 n4 Recovery body (IsOfKind 10) (λ a. refl) (λ a h. ((h, refl), refl))
+
+pay_order-takes : TakesBy body (IsOfKind 13) (λ bytes. order_at bytes >>= λ due. Ok (PayOrder due.0, due.1))
+pay_order-takes = takes1 order_format PayOrder body (IsOfKind 13) (λ a. refl) (λ a h. ((h, refl), refl))
+
+message-takes : (k : ℕ) → 1 ≤ k → k ≤ 13 → TakesBy body (IsOfKind k) (message_at k)
+unfolding message_at
+message-takes zero low high bytes m rest fits e = absurd (omega arith)
+message-takes (suc zero) low high bytes m rest fits e = request-takes bytes m rest fits e
+message-takes (suc (suc zero)) low high bytes m rest fits e = prepare-takes bytes m rest fits e
+message-takes (suc (suc (suc zero))) low high bytes m rest fits e = prepare_ok-takes bytes m rest fits e
+message-takes (suc (suc (suc (suc zero)))) low high bytes m rest fits e = commit-takes bytes m rest fits e
+message-takes (suc (suc (suc (suc (suc zero))))) low high bytes m rest fits e = start_view_change-takes bytes m rest fits e
+message-takes (suc (suc (suc (suc (suc (suc zero)))))) low high bytes m rest fits e = do_view_change-takes bytes m rest fits e
+message-takes (suc (suc (suc (suc (suc (suc (suc zero))))))) low high bytes m rest fits e = start_view-takes bytes m rest fits e
+message-takes (suc (suc (suc (suc (suc (suc (suc (suc zero)))))))) low high bytes m rest fits e = get_state-takes bytes m rest fits e
+message-takes (suc (suc (suc (suc (suc (suc (suc (suc (suc zero))))))))) low high bytes m rest fits e = new_state-takes bytes m rest fits e
+message-takes (suc (suc (suc (suc (suc (suc (suc (suc (suc (suc zero)))))))))) low high bytes m rest fits e = recovery-takes bytes m rest fits e
+message-takes (suc (suc (suc (suc (suc (suc (suc (suc (suc (suc (suc zero))))))))))) low high bytes m rest fits e = recovery_response-takes bytes m rest fits e
+message-takes (suc (suc (suc (suc (suc (suc (suc (suc (suc (suc (suc (suc zero)))))))))))) low high bytes m rest fits e = answer-takes bytes m rest fits e
+message-takes (suc (suc (suc (suc (suc (suc (suc (suc (suc (suc (suc (suc (suc zero))))))))))))) low high bytes m rest fits e = pay_order-takes bytes m rest fits e
+message-takes (suc (suc (suc (suc (suc (suc (suc (suc (suc (suc (suc (suc (suc (suc n)))))))))))))) low high bytes m rest fits e = absurd (omega arith)
+
+message-again : (m : BankMsg) (rest : List ℕ) → IsMessage m → message_at (kind m) (body m ++ rest) ≡ Ok (m, rest)
+unfolding message_at request_at prepare_at do_view_change_at start_view_at new_state_at recovery_response_at answer_at
+message-again (Request a b) rest h = again2 n4 command_format Request a b rest h.0.0 h.0.1
+message-again (Prepare a b c d) rest h = again4 n4 n2 n2 row_format Prepare a b c d rest h.0.0 h.0.1 h.0.2 (h.0.3, (parted (has_client d) true h.1).0)
+message-again (PrepareOk a b) rest h = again1 pair_format (λ p. PrepareOk p.0 p.1) (a, b) rest h.0
+message-again (Commit a b) rest h = again1 pair_format (λ p. Commit p.0 p.1) (a, b) rest h.0
+message-again (StartViewChange a) rest h = again1 n4 StartViewChange a rest h.0
+message-again (DoViewChange a b c d) rest h = again4 n4 n4 n2 rows_format DoViewChange a b c d rest h.0.0 h.0.1 h.0.2 (h.0.3, h.1)
+message-again (StartView a b c) rest h = again3 n4 n2 rows_format StartView a b c rest h.0.0 h.0.1 (h.0.2, h.1)
+message-again (GetState a b) rest h = again1 pair_format (λ p. GetState p.0 p.1) (a, b) rest h.0
+message-again (NewState a b c d) rest h = again4 n4 n2 n2 rows_format NewState a b c d rest h.0.0 h.0.1 h.0.2 (h.0.3, h.1)
+message-again (Recovery a) rest h = again1 n4 Recovery a rest h.0
+message-again (RecoveryResponse a b c) rest h = again3 n4 n4 option_format RecoveryResponse a b c rest h.0.0 h.0.1 (h.0.2, h.1)
+message-again (Reply a b c) rest h = again3 n4 n4 reply_format Reply a b c rest h.0.0 h.0.1 h.0.2
+message-again (PayOrder a) rest h = again1 order_format PayOrder a rest h.0
+
+pub message_format : (k : ℕ) → 1 ≤ k → k ≤ 13 → IsFormat body (IsOfKind k) (message_at k)
+message_format k low high = record {
+  takes = message-takes k low high;
+  again = λ m rest h. subst (λ (j : ℕ). message_at j (body m ++ rest) ≡ Ok (m, rest)) h.1 (message-again m rest h.0);
+}

@@ -1,0 +1,133 @@
+-- Frames one after the other at the front of a stream.
+use Rattle.std.proofs.Common.{◌≡◌, ◌⊎◌, inl, inr, ℕ, ◌+◌, ◌-◌, ◌<◌, ◌≤◌, List, [], ◌∷◌, ◌++◌, length, take, drop, Option, Some, None, Result, Ok, Err, refl, sym, ap, ◌∙◌, append_assoc, arith}
+use Rattle.std.specs.Prelude.{All}
+use Rattle.std.specs.List.{flat_map}
+use Rattle.std.proofs.lemmas.Grind.{flat_map-append}
+use Rattle.std.proofs.lemmas.List.{append-nil, drop-drop, length-append, length-drop, take-append-drop, take_all, drop_at}
+use Rattle.std.proofs.lemmas.List.Elements.{All-append, All-cons, All-nil, All-head, All-tail}
+use Rattle.std.specs.Global.{Vec}
+use Rattle.pvp_wire.specs.declared.fault.WireFault.{WireFault}
+use Rattle.pvp_wire.specs.declared.fault.WireFault.TheVariants.{Short, TooLong, Version, Kind, Field, Length, NoMemory}
+use Rattle.pvp_wire.specs.declared.stamped.Stamped.{Stamped}
+use Rattle.pvp_wire.specs.Spelling.{number, body, head, spelling}
+use Rattle.pvp_wire.specs.Fits.{IsBytes, IsSpelled}
+use Rattle.pvp_wire.specs.Reading.{frame_at}
+use Rattle.pvp_wire.specs.Feeding.{Fed, Call, Splits, IsTold, FeedsAt, AreFed, empty, answered, all_answered, taken_by, taken_at, all_taken, after_calls}
+use Rattle.pvp_wire.proofs.Formats.{IsBytes-drop}
+use Rattle.pvp_wire.proofs.Numbers.{length-number}
+use Rattle.pvp_wire.proofs.Lengths.{length-head}
+use Rattle.pvp_wire.proofs.Frames.{frame-takes, frame-again}
+
+-- a frame has bytes
+pub length-spelling : (s : Stamped) → length (spelling s) ≡ 22 + length (body s.envelope.msg)
+length-spelling s =
+    omega (arith, length-append (number 4 (18 + length (body s.envelope.msg)) ++ head s) (body s.envelope.msg), length-append (number 4 (18 + length (body s.envelope.msg))) (head s), length-number 4 (18 + length (body s.envelope.msg)), length-head s)
+
+-- one more frame is taken
+pub record TakesOne (bytes : List ℕ) (frames : List Stamped) (used : ℕ) (s : Stamped) (size : ℕ) : Type 0 where
+  pub within : used + size ≤ length bytes
+  pub some : 0 < size
+  pub splits : Splits bytes (frames ++ s ∷ []) (drop (used + size) bytes)
+
+pub takes_one : (bytes : List ℕ) (frames : List Stamped) (used : ℕ) (s : Stamped) (size : ℕ) → IsBytes bytes → used ≤ length bytes → Splits bytes frames (drop used bytes) → frame_at (take (length bytes - used) (drop used bytes)) ≡ Ok (s, size)
+    → TakesOne bytes frames used s size
+takes_one bytes frames used s size fits inside splits cut =
+    let e : frame_at (drop used bytes) ≡ Ok (s, size) = ap frame_at (sym (take_all (length bytes - used) (drop used bytes) (omega (arith, length-drop used bytes)))) ∙ cut in
+    let f = frame-takes (drop used bytes) s size (IsBytes-drop used bytes fits) e in
+    let rest = drop used bytes in
+    let next : drop size rest ≡ drop (used + size) bytes = drop-drop size used bytes in
+    let front : rest ≡ spelling s ++ drop (used + size) bytes = sym (take-append-drop size rest) ∙ ap (λ (x : List ℕ). x ++ drop size rest) f.text ∙ ap (λ (x : List ℕ). spelling s ++ x) next in
+    let one : flat_map spelling (frames ++ s ∷ []) ≡ flat_map spelling frames ++ spelling s =
+    flat_map-append spelling frames (s ∷ []) ∙ ap (λ (x : List ℕ). flat_map spelling frames ++ x) (append-nil (spelling s)) in
+    record {
+      within = omega (arith, f.within, length-drop used bytes);
+      some = omega (arith, f.size, length-spelling s);
+      splits = record {
+        whole = splits.whole ∙ ap (λ (x : List ℕ). flat_map spelling frames ++ x) front ∙ sym (append_assoc (flat_map spelling frames) (spelling s) (drop (used + size) bytes)) ∙ ap (λ (x : List ℕ). x ++ drop (used + size) bytes) (sym one);
+        each = All-append IsSpelled frames (s ∷ []) splits.each (All-cons IsSpelled s [] f.spelled (All-nil IsSpelled));
+      };
+    }
+
+abbrev read_as : Stamped × ℕ → Result (Stamped × ℕ) WireFault
+read_as x = Ok x
+
+read_is : (x y : Stamped × ℕ) → read_as x ≡ read_as y → x ≡ y
+read_is x y e = cc
+
+-- no spelling begins another
+pub one_frame : (a b : Stamped) (x y : List ℕ) → IsSpelled a → IsSpelled b → spelling a ++ x ≡ spelling b ++ y → (a ≡ b) × (x ≡ y)
+one_frame a b x y ha hb e =
+    let both = read_is (a, length (spelling a)) (b, length (spelling b)) (sym (frame-again a x ha) ∙ ap frame_at e ∙ frame-again b y hb) in
+    let same : a ≡ b = ap (λ (p : Stamped × ℕ). p.0) both in
+    let size : length (spelling b) ≡ length (spelling a) = ap (λ (p : Stamped × ℕ). p.1) (sym both) in
+    (same, sym (drop_at (spelling a) x (length (spelling a)) refl) ∙ ap (drop (length (spelling a))) e ∙ drop_at (spelling b) y (length (spelling a)) size)
+
+-- bytes without a frame in front begin with no spelling
+no_frame : (s : Stamped) (more rest : List ℕ) (fault : WireFault) → IsSpelled s → rest ≡ spelling s ++ more → frame_at rest ≡ Err fault → ⊥
+no_frame s more rest fault h e failed =
+    let both : read_as (s, length (spelling s)) ≡ Err fault = sym (frame-again s more h) ∙ ap frame_at (sym e) ∙ failed in
+    absurd cc
+
+-- a stream is split in one way
+pub one_split : (xs ys : List Stamped) (r q : List ℕ) (f g : WireFault) → All IsSpelled xs → All IsSpelled ys → flat_map spelling xs ++ r ≡ flat_map spelling ys ++ q → frame_at r ≡ Err f → frame_at q ≡ Err g
+    → (xs ≡ ys) × (r ≡ q)
+one_split [] [] r q f g hx hy e fr fq = (refl, e)
+one_split [] (y ∷ ys) r q f g hx hy e fr fq = absurd (no_frame y (flat_map spelling ys ++ q) r f (All-head IsSpelled y ys hy) (e ∙ append_assoc (spelling y) (flat_map spelling ys) q) fr)
+one_split (x ∷ xs) [] r q f g hx hy e fr fq = absurd (no_frame x (flat_map spelling xs ++ r) q g (All-head IsSpelled x xs hx) (sym e ∙ append_assoc (spelling x) (flat_map spelling xs) r) fq)
+one_split (x ∷ xs) (y ∷ ys) r q f g hx hy e fr fq =
+    let front = one_frame x y (flat_map spelling xs ++ r) (flat_map spelling ys ++ q) (All-head IsSpelled x xs hx) (All-head IsSpelled y ys hy)
+    (sym (append_assoc (spelling x) (flat_map spelling xs) r) ∙ e ∙ append_assoc (spelling y) (flat_map spelling ys) q) in
+    let rest = one_split xs ys r q f g (All-tail IsSpelled x xs hx) (All-tail IsSpelled y ys hy) front.1 fr fq in
+    (rw (front.0, rest.0) refl, rest.1)
+
+-- one call goes on with a split of what came before
+fed_once : (stream : List ℕ) (done : List Stamped) (fed : Fed) (call : Call) → Splits stream done fed.held → FeedsAt fed.fault fed call.piece call.answer call.after
+    → Splits (stream ++ taken_at fed.fault call.answer call.piece) (done ++ answered call.answer) call.after.held
+fed_once stream done fed call so_far feeds = go fed.fault call.answer feeds
+  where
+    same : call.after ≡ fed → Splits (stream ++ []) (done ++ []) call.after.held
+    same e = rw (append-nil stream, append-nil done, e) so_far
+
+    grown : call.after.held ≡ fed.held ++ call.piece → Splits (stream ++ call.piece) (done ++ []) call.after.held
+    grown e = record {
+      whole = ap (λ (x : List ℕ). x ++ call.piece) so_far.whole ∙ append_assoc (flat_map spelling done) fed.held call.piece ∙ rw (append-nil done, e) refl;
+      each = rw (append-nil done) so_far.each;
+    }
+
+    told : (fault : WireFault) → IsTold fed call.piece fault call.after ⊎ ((fault ≡ NoMemory) × (call.after ≡ fed)) → Splits (stream ++ taken_by (Err fault) call.piece) (done ++ []) call.after.held
+    told NoMemory (inl t) = absurd (t.is_of_the_stream refl)
+    told NoMemory (inr h) = same h.1
+    told Short (inl t) = grown t.held
+    told Short (inr h) = absurd (cc)
+    told TooLong (inl t) = grown t.held
+    told TooLong (inr h) = absurd (cc)
+    told Version (inl t) = grown t.held
+    told Version (inr h) = absurd (cc)
+    told Kind (inl t) = grown t.held
+    told Kind (inr h) = absurd (cc)
+    told Field (inl t) = grown t.held
+    told Field (inr h) = absurd (cc)
+    told Length (inl t) = grown t.held
+    told Length (inr h) = absurd (cc)
+
+    go : (fault : Option WireFault) (answer : Result (Vec Stamped) WireFault) → FeedsAt fault fed call.piece answer call.after
+        → Splits (stream ++ taken_at fault answer call.piece) (done ++ answered answer) call.after.held
+    go (Some fault) answer h = rw h.0 (same h.1)
+    go None (Ok frames) h = record {
+      whole = ap (λ (x : List ℕ). x ++ call.piece) so_far.whole ∙ append_assoc (flat_map spelling done) fed.held call.piece ∙ ap (λ (x : List ℕ). flat_map spelling done ++ x) h.0.whole
+          ∙ sym (append_assoc (flat_map spelling done) (flat_map spelling frames.items) call.after.held) ∙ ap (λ (x : List ℕ). x ++ call.after.held) (sym (flat_map-append spelling done frames.items));
+      each = All-append IsSpelled done frames.items so_far.each h.0.each;
+    }
+    go None (Err fault) h = told fault h
+
+-- calls go on so
+pub fed_all : (stream : List ℕ) (done : List Stamped) (fed : Fed) (calls : List Call) → Splits stream done fed.held → AreFed fed calls
+    → Splits (stream ++ all_taken fed calls) (done ++ all_answered calls) (after_calls fed calls).held
+fed_all stream done fed [] so_far h = rw (append-nil stream, append-nil done) so_far
+fed_all stream done fed (call ∷ calls) so_far h =
+    let one = fed_once stream done fed call so_far h.0 in
+    let all = fed_all (stream ++ taken_at fed.fault call.answer call.piece) (done ++ answered call.answer) call.after calls one h.1 in
+    rw (← append_assoc stream (taken_at fed.fault call.answer call.piece) (all_taken call.after calls), ← append_assoc done (answered call.answer) (all_answered calls)) all
+
+pub fed_pieces : (calls : List Call) → AreFed empty calls → Splits (all_taken empty calls) (all_answered calls) (after_calls empty calls).held
+fed_pieces calls h = fed_all [] [] empty calls (record { whole = refl; each = All-nil IsSpelled }) h

@@ -1,0 +1,122 @@
+-- Worked frames, computed with the definitions.
+use Rattle.std.proofs.Common.{◌≡◌, ℕ, List, [], ◌∷◌, ◌++◌, ◌+◌, take, drop, Result, Ok, Err, refl}
+use Rattle.pvp_types.specs.declared.command.Cmd.TheVariants.{Fund}
+use Rattle.pvp_types.specs.declared.command.Reason.TheVariants.{BankShort}
+use Rattle.pvp_types.specs.declared.command.Reply.TheVariants.{No}
+use Rattle.vr_types.specs.declared.message.MsgOf.TheVariants.{Request, Commit, Reply, PayOrder}
+use Rattle.pvp_wire.specs.declared.fault.WireFault.{WireFault}
+use Rattle.pvp_wire.specs.declared.fault.WireFault.TheVariants.{Short, TooLong, Version, Kind, Field, Length}
+use Rattle.pvp_wire.specs.declared.stamped.Stamped.{Stamped}
+use Rattle.pvp_wire.specs.Spelling.{BankMsg, spelling, number}
+use Rattle.pvp_wire.specs.Reading.{frame_at, counted_at, envelope_at, stamp_at, message_at, request_at, command_at, order_at, answer_at, reply_at}
+
+abbrev sent : ℕ → ℕ → ℕ → ℕ → BankMsg → Stamped
+sent from clock index to msg = record { stamp = record { actor = from; clock = clock; index = index }; envelope = record { from = from; to = to; msg = msg } }
+
+-- COMMIT of view 0, 1 row executed, from site 0 to site 1
+abbrev commit : Stamped
+commit = sent 200 5 0 201 (Commit 0 1)
+
+abbrev commit_bytes : List ℕ
+commit_bytes = 0 ∷ 0 ∷ 0 ∷ 24 ∷ 1 ∷ 4 ∷ 0 ∷ 200 ∷ 0 ∷ 0 ∷ 0 ∷ 0 ∷ 0 ∷ 0 ∷ 0 ∷ 5 ∷ 0 ∷ 0 ∷ 0 ∷ 0 ∷ 0 ∷ 201 ∷ 0 ∷ 0 ∷ 0 ∷ 0 ∷ 0 ∷ 1 ∷ []
+
+commit_is_spelled : spelling commit ≡ commit_bytes
+unfolding number
+commit_is_spelled = refl
+
+commit_is_read : frame_at commit_bytes ≡ Ok (commit, 28)
+unfolding frame_at counted_at envelope_at stamp_at message_at
+commit_is_read = refl
+
+-- REQUEST 1 of USD's node: its pay-in 1 brought 1200 for member 1
+abbrev request : Stamped
+request = sent 102 1 0 200 (Request 1 (Fund 1 1 1 1200))
+
+abbrev request_bytes : List ℕ
+request_bytes = 0 ∷ 0 ∷ 0 ∷ 38 ∷ 1 ∷ 1 ∷ 0 ∷ 102 ∷ 0 ∷ 0 ∷ 0 ∷ 0 ∷ 0 ∷ 0 ∷ 0 ∷ 1 ∷ 0 ∷ 0 ∷ 0 ∷ 0 ∷ 0 ∷ 200 ∷ 0 ∷ 0 ∷ 0 ∷ 1
+    ∷ 3 ∷ 1 ∷ 0 ∷ 0 ∷ 0 ∷ 1 ∷ 0 ∷ 1 ∷ 0 ∷ 0 ∷ 0 ∷ 0 ∷ 0 ∷ 0 ∷ 4 ∷ 176 ∷ []
+
+request_is_spelled : spelling request ≡ request_bytes
+unfolding number
+request_is_spelled = refl
+
+request_is_read : frame_at request_bytes ≡ Ok (request, 42)
+unfolding frame_at counted_at envelope_at stamp_at message_at request_at command_at
+request_is_read = refl
+
+-- PAYORDER 1 of USD: 200 for member 1, from site 0 to USD's node
+abbrev order : Stamped
+order = sent 200 7 2 102 (PayOrder (record { ccy = 1; out = 1; member = 1; amt = 200 }))
+
+abbrev order_bytes : List ℕ
+order_bytes = 0 ∷ 0 ∷ 0 ∷ 33 ∷ 1 ∷ 13 ∷ 0 ∷ 200 ∷ 0 ∷ 0 ∷ 0 ∷ 0 ∷ 0 ∷ 0 ∷ 0 ∷ 7 ∷ 0 ∷ 0 ∷ 0 ∷ 2 ∷ 0 ∷ 102 ∷ 1 ∷ 0 ∷ 0 ∷ 0 ∷ 1 ∷ 0 ∷ 1 ∷ 0 ∷ 0 ∷ 0 ∷ 0 ∷ 0 ∷ 0 ∷ 0 ∷ 200 ∷ []
+
+order_is_spelled : spelling order ≡ order_bytes
+unfolding number
+order_is_spelled = refl
+
+order_is_read : frame_at order_bytes ≡ Ok (order, 37)
+unfolding frame_at counted_at envelope_at stamp_at message_at order_at
+order_is_read = refl
+
+-- REPLY of view 0 to request 3 of member 1: refused, as the bank is short
+abbrev answer : Stamped
+answer = sent 200 7 0 1 (Reply 0 3 (No BankShort))
+
+abbrev answer_bytes : List ℕ
+answer_bytes = 0 ∷ 0 ∷ 0 ∷ 28 ∷ 1 ∷ 12 ∷ 0 ∷ 200 ∷ 0 ∷ 0 ∷ 0 ∷ 0 ∷ 0 ∷ 0 ∷ 0 ∷ 7 ∷ 0 ∷ 0 ∷ 0 ∷ 0 ∷ 0 ∷ 1 ∷ 0 ∷ 0 ∷ 0 ∷ 0 ∷ 0 ∷ 0 ∷ 0 ∷ 3 ∷ 5 ∷ 11 ∷ []
+
+answer_is_spelled : spelling answer ≡ answer_bytes
+unfolding number
+answer_is_spelled = refl
+
+answer_is_read : frame_at answer_bytes ≡ Ok (answer, 32)
+unfolding frame_at counted_at envelope_at stamp_at message_at answer_at reply_at
+answer_is_read = refl
+
+-- ---- faults
+
+-- the COMMIT with one of its bytes altered
+abbrev with_byte : ℕ → ℕ → List ℕ
+with_byte place byte = take place commit_bytes ++ byte ∷ drop (place + 1) commit_bytes
+
+another_version : frame_at (with_byte 4 2) ≡ Err Version
+unfolding frame_at counted_at
+another_version = refl
+
+no_kind : frame_at (with_byte 5 0) ≡ Err Kind
+unfolding frame_at counted_at
+no_kind = refl
+
+no_actor : frame_at (with_byte 7 99) ≡ Err Field
+unfolding frame_at counted_at envelope_at stamp_at
+no_actor = refl
+
+a_byte_more : frame_at (take 3 commit_bytes ++ 25 ∷ drop 4 commit_bytes ++ 0 ∷ []) ≡ Err Length
+unfolding frame_at counted_at envelope_at stamp_at message_at
+a_byte_more = refl
+
+-- the version is tested before the kind, and both before the fields
+version_first : frame_at (take 4 commit_bytes ++ 2 ∷ 0 ∷ 0 ∷ 99 ∷ drop 8 commit_bytes) ≡ Err Version
+unfolding frame_at counted_at
+version_first = refl
+
+kind_before_actor : frame_at (take 5 commit_bytes ++ 0 ∷ 0 ∷ 99 ∷ drop 8 commit_bytes) ≡ Err Kind
+unfolding frame_at counted_at
+kind_before_actor = refl
+
+a_front : frame_at (take 27 commit_bytes) ≡ Err Short
+unfolding frame_at
+a_front = refl
+
+longest : frame_at (0 ∷ 64 ∷ 0 ∷ 0 ∷ []) ≡ Err Short
+unfolding frame_at
+longest = refl
+
+too_long : frame_at (0 ∷ 64 ∷ 0 ∷ 1 ∷ []) ≡ Err TooLong
+unfolding frame_at
+too_long = refl
+
+too_short : frame_at (0 ∷ 0 ∷ 0 ∷ 17 ∷ []) ≡ Err Length
+unfolding frame_at
+too_short = refl

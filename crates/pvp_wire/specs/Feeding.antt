@@ -1,0 +1,109 @@
+-- What a feeder holds, and what it makes of a stream that comes in pieces.
+use Rattle.std.specs.Prelude.{◌≡◌, ◌≢◌, ◌⊎◌, ℕ, List, [], ◌∷◌, ◌++◌, All, Option, Some, None, Result, Ok, Err}
+use Rattle.std.specs.Global.{Vec}
+use Rattle.std.specs.List.{flat_map}
+use Rattle.pvp_wire.specs.declared.fault.WireFault.{WireFault}
+use Rattle.pvp_wire.specs.declared.fault.WireFault.TheVariants.{Short, TooLong, Version, Kind, Field, Length, NoMemory}
+use Rattle.pvp_wire.specs.declared.stamped.Stamped.{Stamped}
+use Rattle.pvp_wire.specs.Spelling.{spelling}
+use Rattle.pvp_wire.specs.Fits.{IsSpelled}
+use Rattle.pvp_wire.specs.Reading.{frame_at}
+
+-- the bytes that came after the last whole frame, and the fault that stands in front of them
+pub record Fed : Type 0 where
+  pub held : List ℕ
+  pub fault : Option WireFault
+
+-- the fault that no more of the stream can mend: any but that a frame is not whole
+abbrev pub lasting : WireFault → Option WireFault
+lasting Short = None
+lasting TooLong = Some TooLong
+lasting Version = Some Version
+lasting Kind = Some Kind
+lasting Field = Some Field
+lasting Length = Some Length
+lasting NoMemory = Some NoMemory
+
+-- a new feeder
+abbrev pub empty : Fed
+empty = record { held = []; fault = None }
+
+-- no fault stands there, and what is held is no whole frame; or one does
+abbrev pub IsAt : List ℕ → Option WireFault → Type 0
+IsAt held None = frame_at held ≡ Err Short
+IsAt held (Some fault) = (frame_at held ≡ Err fault) × (fault ≢ Short) × (fault ≢ NoMemory)
+
+abbrev pub IsFed : Fed → Type 0
+IsFed fed = IsAt fed.held fed.fault
+
+-- the stream is these frames, and then what is left
+pub record Splits (stream : List ℕ) (frames : List Stamped) (rest : List ℕ) : Type 0 where
+  pub whole : stream ≡ flat_map spelling frames ++ rest
+  pub each : All IsSpelled frames
+
+-- a fault in front
+pub record IsTold (old : Fed) (piece : List ℕ) (told : WireFault) (new : Fed) : Type 0 where
+  pub held : new.held ≡ old.held ++ piece
+  pub fault : new.fault ≡ Some told
+  pub waits_for_no_more : told ≢ Short
+  pub is_of_the_stream : told ≢ NoMemory
+
+-- What a feeder without a fault makes of a piece: the frames that are whole now are answered, and the rest is held. A fault behind them is told at the next call, one in front of all of them at once. Where memory is refused nothing changes.
+abbrev pub Takes : Fed → List ℕ → Result (Vec Stamped) WireFault → Fed → Type 0
+Takes old piece (Ok frames) new = Splits (old.held ++ piece) frames.items new.held × ((frames.items ≢ []) ⊎ (new.fault ≡ None))
+Takes old piece (Err fault) new = IsTold old piece fault new ⊎ ((fault ≡ NoMemory) × (new ≡ old))
+
+-- What a feeder makes of a piece: where a fault stands, it is told again, and the piece is not taken.
+abbrev pub FeedsAt : Option WireFault → Fed → List ℕ → Result (Vec Stamped) WireFault → Fed → Type 0
+FeedsAt None old piece result new = Takes old piece result new
+FeedsAt (Some fault) old piece result new = (result ≡ Err fault) × (new ≡ old)
+
+abbrev pub Feeds : Fed → List ℕ → Result (Vec Stamped) WireFault → Fed → Type 0
+Feeds old piece result new = FeedsAt old.fault old piece result new
+
+-- ---- a stream, piece by piece
+
+-- one call: the piece, what was answered, what the feeder then holds
+pub record Call : Type 0 where
+  pub piece : List ℕ
+  pub answer : Result (Vec Stamped) WireFault
+  pub after : Fed
+
+-- calls one after the other of a feeder that holds this at first
+abbrev pub AreFed : Fed → List Call → Type 0
+AreFed fed [] = Unit {0}
+AreFed fed (call ∷ calls) = Feeds fed call.piece call.answer call.after × AreFed call.after calls
+
+-- what is held after them
+abbrev pub after_calls : Fed → List Call → Fed
+after_calls fed [] = fed
+after_calls fed (call ∷ calls) = after_calls call.after calls
+
+-- the frames that were answered
+abbrev pub answered : Result (Vec Stamped) WireFault → List Stamped
+answered (Ok frames) = frames.items
+answered (Err fault) = []
+
+abbrev pub all_answered : List Call → List Stamped
+all_answered calls = flat_map (λ call. answered call.answer) calls
+
+-- a piece that an answer takes: all but where memory was refused
+abbrev pub taken_by : Result (Vec Stamped) WireFault → List ℕ → List ℕ
+taken_by (Ok frames) piece = piece
+taken_by (Err NoMemory) piece = []
+taken_by (Err Short) piece = piece
+taken_by (Err TooLong) piece = piece
+taken_by (Err Version) piece = piece
+taken_by (Err Kind) piece = piece
+taken_by (Err Field) piece = piece
+taken_by (Err Length) piece = piece
+
+-- the same of a feeder with this fault, which takes none
+abbrev pub taken_at : Option WireFault → Result (Vec Stamped) WireFault → List ℕ → List ℕ
+taken_at None answer piece = taken_by answer piece
+taken_at (Some fault) answer piece = []
+
+-- the pieces that were taken, joined
+abbrev pub all_taken : Fed → List Call → List ℕ
+all_taken fed [] = []
+all_taken fed (call ∷ calls) = taken_at fed.fault call.answer call.piece ++ all_taken call.after calls

@@ -1,0 +1,152 @@
+-- How a stamped envelope is spelled in bytes. All numbers are big-endian.
+use Rattle.std.specs.Prelude.{ℕ, ◌+◌, ◌==◌, ◌&&◌, ◌||◌, Bool, nat_le, List, [], ◌∷◌, ◌++◌, length, Option, Some, None}
+use Rattle.std.specs.List.{flat_map, list_all}
+use Rattle.byteorder.specs.Endian.{big_bytes}
+use Rattle.pvp_types.specs.declared.command.Cmd.{Cmd}
+use Rattle.pvp_types.specs.declared.command.Cmd.TheVariants.{Instruct, Rescind, Fund, Settle, PayOut, Paid}
+use Rattle.pvp_types.specs.declared.command.PayOrder as orders
+use Rattle.pvp_types.specs.declared.command.Reason.{Reason}
+use Rattle.pvp_types.specs.declared.command.Reason.TheVariants.{NotYours, UnknownMember, UnknownCurrency, BadAmount, Repeated, Mismatch, UnknownReference, Late, Short, TestFails, BankShort}
+use Rattle.pvp_types.specs.declared.command.Reply as replies
+use Rattle.pvp_types.specs.declared.command.Reply.TheVariants.{Done, Matched, Settled, Order, No}
+use Rattle.vr_types.specs.declared.message.MsgOf.{MsgOf}
+use Rattle.vr_types.specs.declared.message.MsgOf.TheVariants.{Request, Prepare, PrepareOk, Commit, StartViewChange, DoViewChange, StartView, GetState, NewState, Recovery, RecoveryResponse, Reply, PayOrder}
+use Rattle.vr_types.specs.declared.message.StateOf.{StateOf}
+use Rattle.vr_types.specs.declared.row.RowOf.{RowOf}
+use Rattle.vr_types.specs.Group.{is_client}
+use Rattle.pvp_wire.specs.declared.stamped.Stamp.{Stamp}
+use Rattle.pvp_wire.specs.declared.stamped.Stamped.{Stamped}
+
+-- a number in so many bytes, the highest first
+unfoldable pub number : ℕ → ℕ → List ℕ
+number n x = big_bytes n x
+
+-- the bank's messages
+abbrev pub BankMsg : Type 0
+BankMsg = MsgOf Cmd replies.Reply orders.PayOrder
+
+abbrev pub BankRow : Type 0
+BankRow = RowOf Cmd
+
+-- A command: its tag, then its fields.
+abbrev pub command : Cmd → List ℕ
+command (Instruct reference other sell sell_amt buy buy_amt) =
+    1 ∷ number 4 reference ++ number 2 other ++ number 1 sell ++ number 8 sell_amt ++ number 1 buy ++ number 8 buy_amt
+command (Rescind reference) = 2 ∷ number 4 reference
+command (Fund ccy pay member amt) = 3 ∷ number 1 ccy ++ number 4 pay ++ number 2 member ++ number 8 amt
+command (Settle most) = 4 ∷ number 4 most
+command (PayOut ccy amt) = 5 ∷ number 1 ccy ++ number 8 amt
+command (Paid ccy out) = 6 ∷ number 1 ccy ++ number 4 out
+
+-- the number of a reason's code, B1 to B11
+abbrev pub reason_number : Reason → ℕ
+reason_number NotYours = 1
+reason_number UnknownMember = 2
+reason_number UnknownCurrency = 3
+reason_number BadAmount = 4
+reason_number Repeated = 5
+reason_number Mismatch = 6
+reason_number UnknownReference = 7
+reason_number Late = 8
+reason_number Short = 9
+reason_number TestFails = 10
+reason_number BankShort = 11
+
+-- An answer: its tag, then its field.
+abbrev pub reply : replies.Reply → List ℕ
+reply Done = 1 ∷ []
+reply Matched = 2 ∷ []
+reply (Settled count) = 3 ∷ number 4 count
+reply (Order out) = 4 ∷ number 4 out
+reply (No reason) = 5 ∷ reason_number reason ∷ []
+
+abbrev pub order : orders.PayOrder → List ℕ
+order due = number 1 due.ccy ++ number 4 due.out ++ number 2 due.member ++ number 8 due.amt
+
+abbrev pub row : BankRow → List ℕ
+row r = number 2 r.client ++ number 4 r.number ++ command r.cmd
+
+-- their count, then the rows
+abbrev pub rows : List BankRow → List ℕ
+rows log = number 2 (length log) ++ flat_map row log
+
+-- 0, or 1 and the state
+abbrev pub state : Option (StateOf Cmd) → List ℕ
+state None = 0 ∷ []
+state (Some s) = 1 ∷ number 2 s.done ++ rows s.rows
+
+-- the kind of a message
+abbrev pub kind : BankMsg → ℕ
+kind (Request n cmd) = 1
+kind (Prepare view place k r) = 2
+kind (PrepareOk view place) = 3
+kind (Commit view k) = 4
+kind (StartViewChange view) = 5
+kind (DoViewChange view last_normal k log) = 6
+kind (StartView view k log) = 7
+kind (GetState view base) = 8
+kind (NewState view base k log) = 9
+kind (Recovery nonce) = 10
+kind (RecoveryResponse view nonce s) = 11
+kind (Reply view n answer) = 12
+kind (PayOrder due) = 13
+
+-- the fields of a message
+abbrev pub body : BankMsg → List ℕ
+body (Request n cmd) = number 4 n ++ command cmd
+body (Prepare view place k r) = number 4 view ++ number 2 place ++ number 2 k ++ row r
+body (PrepareOk view place) = number 4 view ++ number 2 place
+body (Commit view k) = number 4 view ++ number 2 k
+body (StartViewChange view) = number 4 view
+body (DoViewChange view last_normal k log) = number 4 view ++ number 4 last_normal ++ number 2 k ++ rows log
+body (StartView view k log) = number 4 view ++ number 2 k ++ rows log
+body (GetState view base) = number 4 view ++ number 2 base
+body (NewState view base k log) = number 4 view ++ number 2 base ++ number 2 k ++ rows log
+body (Recovery nonce) = number 4 nonce
+body (RecoveryResponse view nonce s) = number 4 view ++ number 4 nonce ++ state s
+body (Reply view n answer) = number 4 view ++ number 4 n ++ reply answer
+body (PayOrder due) = order due
+
+abbrev pub stamp : Stamp → List ℕ
+stamp s = number 2 s.actor ++ number 8 s.clock ++ number 4 s.index
+
+-- what stands between a frame's length and its message: version 1, the kind, the stamp, to whom it goes
+abbrev pub head : Stamped → List ℕ
+head s = 1 ∷ kind s.envelope.msg ∷ stamp s.stamp ++ number 2 s.envelope.to
+
+-- THE FRAME: the length of what follows, the head, the message
+abbrev pub spelling : Stamped → List ℕ
+spelling s = number 4 (18 + length (body s.envelope.msg)) ++ head s ++ body s.envelope.msg
+
+-- the numbers that actors may have: clients' and sites'
+abbrev pub is_actor : ℕ → Bool
+is_actor actor = is_client actor || (nat_le 200 actor && nat_le actor 206)
+
+abbrev pub has_client : BankRow → Bool
+has_client r = is_client r.client
+
+-- the rows that a message carries
+abbrev pub rows_of_state : Option (StateOf Cmd) → List BankRow
+rows_of_state None = []
+rows_of_state (Some s) = s.rows
+
+abbrev pub rows_of : BankMsg → List BankRow
+rows_of (Request n cmd) = []
+rows_of (Prepare view place k r) = r ∷ []
+rows_of (PrepareOk view place) = []
+rows_of (Commit view k) = []
+rows_of (StartViewChange view) = []
+rows_of (DoViewChange view last_normal k log) = log
+rows_of (StartView view k log) = log
+rows_of (GetState view base) = []
+rows_of (NewState view base k log) = log
+rows_of (Recovery nonce) = []
+rows_of (RecoveryResponse view nonce s) = rows_of_state s
+rows_of (Reply view n answer) = []
+rows_of (PayOrder due) = []
+
+-- An envelope that has a spelling: it is from the actor of its stamp, its actors are actors and its rows are of clients.
+abbrev pub is_wireable : Stamped → Bool
+is_wireable s =
+    (s.envelope.from == s.stamp.actor)
+    && (is_actor s.stamp.actor && (is_actor s.envelope.to && list_all has_client (rows_of s.envelope.msg)))

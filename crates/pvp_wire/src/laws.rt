@@ -1,0 +1,30 @@
+//! What holds of frames and streams: functions that do nothing, whose contracts say it.
+ghost use Rattle.std.specs.Prelude.{◌≡◌, ◌≤◌, ℕ, List, ◌++◌, All, Ok, Err, length, take};
+ghost use Rattle.std.specs.List.{flat_map};
+ghost use Rattle.pvp_wire.specs.declared.fault.WireFault.{WireFault};
+ghost use Rattle.pvp_wire.specs.declared.stamped.Stamped.{Stamped};
+ghost use Rattle.pvp_wire.specs.Spelling.{spelling};
+ghost use Rattle.pvp_wire.specs.Fits.{IsBytes, IsSpelled};
+ghost use Rattle.pvp_wire.specs.Reading.{frame_at};
+ghost use Rattle.pvp_wire.specs.Feeding.{Splits, Call, AreFed, empty, all_taken, all_answered, after_calls};
+
+/// What is read is spelled so, to the byte; what has a spelling is read again from it, whatever follows; and no
+/// spelling begins another.
+pub fn frames()
+    ensures read { (bytes : List ℕ) (stamped : Stamped) (size : ℕ) → IsBytes bytes → frame_at bytes ≡ Ok (stamped, size) →
+        (take size bytes ≡ spelling stamped) × (size ≡ length (spelling stamped)) × (size ≤ length bytes) × IsSpelled stamped }
+    ensures again { (stamped : Stamped) (rest : List ℕ) → IsSpelled stamped → frame_at (spelling stamped ++ rest) ≡ Ok (stamped, length (spelling stamped)) }
+    ensures one { (a b : Stamped) (x y : List ℕ) → IsSpelled a → IsSpelled b → spelling a ++ x ≡ spelling b ++ y → (a ≡ b) × (x ≡ y) }
+{}
+
+/// A stream that goes on with no frame is split into frames in one way alone.
+pub fn streams()
+    ensures { (stream : List ℕ) (a b : List Stamped) (x y : List ℕ) (f g : WireFault) → Splits stream a x → Splits stream b y → frame_at x ≡ Err f → frame_at y ≡ Err g →
+        (a ≡ b) × (x ≡ y) }
+{}
+
+/// After any calls of a new feeder the frames that it answered are those at the front of the pieces that it took,
+/// joined. What it holds is what is left.
+pub fn pieces()
+    ensures { (calls : List Call) → AreFed empty calls → Splits (all_taken empty calls) (all_answered calls) (after_calls empty calls).held }
+{}

@@ -1,0 +1,22 @@
+//! What actors say to each other over a stream of bytes: stamped envelopes, each in a frame of its own.
+#![tactic(auto)]
+
+mod admitted;
+pub mod fault;
+pub mod feeder;
+mod fields;
+pub mod laws;
+mod messages;
+pub mod reading;
+mod rows;
+pub mod stamped;
+#[cfg(test)]
+mod tests;
+pub mod writing;
+
+pub use admitted::wireable;
+pub use fault::WireFault;
+pub use feeder::Feeder;
+pub use reading::decode;
+pub use stamped::{Message, Stamp, Stamped};
+pub use writing::encode;

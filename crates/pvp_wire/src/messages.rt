@@ -1,0 +1,149 @@
+//! The fields of messages, one function a kind.
+ghost use Rattle.std.specs.Prelude.{◌≤◌};
+ghost use Rattle.pvp_wire.specs.Reading.{Finds, Gives, request_at, prepare_at, do_view_change_at, start_view_at, new_state_at, recovery_response_at, answer_at, message_at};
+ghost use Rattle.pvp_wire.specs.Spelling.{rows_of};
+
+use crate::fault::WireFault;
+use crate::fields::{command_at, order_at, reply_at, row_at, u16_at, u32_at, view_and_place_at};
+use crate::rows::{option_at, rows_at};
+use crate::stamped::Message;
+use std::alloc::Global;
+use vr_types::MsgOf;
+
+/// A message of a kind from 1 to 13.
+#[tactic(auto, unfolding(crate::specs::Reading::message_at))]
+pub fn message_at(alloc: Global, kind: u8, bytes: &[u8]) -> Result<(Message, &[u8]), WireFault>
+    requires { kind ≤ 13 }
+    ensures { Gives (λ y. rows_of y.0) (λ x. (x.0, x.1.now)) result (message_at kind bytes.now) }
+{
+    match kind {
+        1 => request_at(bytes),
+        2 => prepare_at(bytes),
+        3 => {
+            let ((view, place), rest) = view_and_place_at(bytes)?;
+            Ok((MsgOf::PrepareOk { view, place }, rest))
+        }
+        4 => {
+            let ((view, done), rest) = view_and_place_at(bytes)?;
+            Ok((MsgOf::Commit { view, done }, rest))
+        }
+        5 => {
+            let (view, rest) = u32_at(bytes)?;
+            Ok((MsgOf::StartViewChange { view }, rest))
+        }
+        6 => do_view_change_at(alloc, bytes),
+        7 => start_view_at(alloc, bytes),
+        8 => {
+            let ((view, base), rest) = view_and_place_at(bytes)?;
+            Ok((MsgOf::GetState { view, base }, rest))
+        }
+        9 => new_state_at(alloc, bytes),
+        10 => {
+            let (nonce, rest) = u32_at(bytes)?;
+            Ok((MsgOf::Recovery { nonce }, rest))
+        }
+        11 => recovery_response_at(alloc, bytes),
+        12 => answer_at(bytes),
+        _ => {
+            let (order, rest) = order_at(bytes)?;
+            Ok((MsgOf::PayOrder(order), rest))
+        }
+    }
+}
+
+#[tactic(auto, unfolding(crate::specs::Reading::request_at))]
+fn request_at(bytes: &[u8]) -> Result<(Message, &[u8]), WireFault>
+    ensures { Finds (λ x. (x.0, x.1.now)) result (request_at bytes.now) }
+{
+    let (number, rest) = u32_at(bytes)?;
+    let (cmd, rest) = command_at(rest)?;
+    Ok((MsgOf::Request { number, cmd }, rest))
+}
+
+#[tactic(auto, unfolding(crate::specs::Reading::prepare_at))]
+fn prepare_at(bytes: &[u8]) -> Result<(Message, &[u8]), WireFault>
+    ensures { Finds (λ x. (x.0, x.1.now)) result (prepare_at bytes.now) }
+{
+    let (view, rest) = u32_at(bytes)?;
+    let (place, rest) = u16_at(rest)?;
+    let (done, rest) = u16_at(rest)?;
+    let (row, rest) = row_at(rest)?;
+    let msg = MsgOf::Prepare {
+        view,
+        place,
+        done,
+        row,
+    };
+    Ok((msg, rest))
+}
+
+#[tactic(auto, unfolding(crate::specs::Reading::do_view_change_at))]
+fn do_view_change_at(alloc: Global, bytes: &[u8]) -> Result<(Message, &[u8]), WireFault>
+    ensures { Gives (λ y. rows_of y.0) (λ x. (x.0, x.1.now)) result (do_view_change_at bytes.now) }
+{
+    let (view, rest) = u32_at(bytes)?;
+    let (last_normal, rest) = u32_at(rest)?;
+    let (done, rest) = u16_at(rest)?;
+    let (rows, rest) = rows_at(alloc, rest)?;
+    let msg = MsgOf::DoViewChange {
+        view,
+        last_normal,
+        done,
+        rows,
+    };
+    Ok((msg, rest))
+}
+
+#[tactic(auto, unfolding(crate::specs::Reading::start_view_at))]
+fn start_view_at(alloc: Global, bytes: &[u8]) -> Result<(Message, &[u8]), WireFault>
+    ensures { Gives (λ y. rows_of y.0) (λ x. (x.0, x.1.now)) result (start_view_at bytes.now) }
+{
+    let (view, rest) = u32_at(bytes)?;
+    let (done, rest) = u16_at(rest)?;
+    let (rows, rest) = rows_at(alloc, rest)?;
+    Ok((MsgOf::StartView { view, done, rows }, rest))
+}
+
+#[tactic(auto, unfolding(crate::specs::Reading::new_state_at))]
+fn new_state_at(alloc: Global, bytes: &[u8]) -> Result<(Message, &[u8]), WireFault>
+    ensures { Gives (λ y. rows_of y.0) (λ x. (x.0, x.1.now)) result (new_state_at bytes.now) }
+{
+    let (view, rest) = u32_at(bytes)?;
+    let (base, rest) = u16_at(rest)?;
+    let (done, rest) = u16_at(rest)?;
+    let (rows, rest) = rows_at(alloc, rest)?;
+    let msg = MsgOf::NewState {
+        view,
+        base,
+        done,
+        rows,
+    };
+    Ok((msg, rest))
+}
+
+#[tactic(auto, unfolding(crate::specs::Reading::recovery_response_at))]
+fn recovery_response_at(alloc: Global, bytes: &[u8]) -> Result<(Message, &[u8]), WireFault>
+    ensures { Gives (λ y. rows_of y.0) (λ x. (x.0, x.1.now)) result (recovery_response_at bytes.now) }
+{
+    let (view, rest) = u32_at(bytes)?;
+    let (nonce, rest) = u32_at(rest)?;
+    let (state, rest) = option_at(alloc, rest)?;
+    Ok((MsgOf::RecoveryResponse { view, nonce, state }, rest))
+}
+
+#[tactic(auto, unfolding(crate::specs::Reading::answer_at))]
+fn answer_at(bytes: &[u8]) -> Result<(Message, &[u8]), WireFault>
+    ensures { Finds (λ x. (x.0, x.1.now)) result (answer_at bytes.now) }
+{
+    let (view, rest) = u32_at(bytes)?;
+    let (number, rest) = u32_at(rest)?;
+    let (reply, rest) = reply_at(rest)?;
+    Ok((
+        MsgOf::Reply {
+            view,
+            number,
+            reply,
+        },
+        rest,
+    ))
+}

@@ -1,0 +1,83 @@
+//! Frames: their length, version and kind, and the envelope in them.
+ghost use Rattle.pvp_wire.specs.Reading.{Gives, envelope_at, counted_at, frame_at};
+ghost use Rattle.pvp_wire.specs.Spelling.{rows_of};
+ghost use Rattle.std.specs.Prelude.{◌≤◌};
+
+use crate::fault::WireFault;
+use crate::fields::{actor_at, stamp_at};
+use crate::messages::message_at;
+use crate::stamped::Stamped;
+use byteorder::{BigEndian, ByteOrder};
+use std::alloc::Global;
+use vr_types::EnvelopeOf;
+
+/// The longest frame, after its length.
+const MOST_LENGTH: usize = 4_194_304;
+
+/// The shortest frame, after its length: one without a body.
+const LEAST_LENGTH: usize = 18;
+
+/// Reads the frame at the front of the bytes: the stamped envelope that it spells, and how many bytes it takes.
+///
+/// Of several faults the first is told: F1 fewer than 4 bytes; F2 a length above 4,194,304; F6 a length below 18; F1
+/// fewer bytes than the length says; F3 the version; F4 the kind; then the fields in their order, F6 where the
+/// frame's end cuts one off and F5 where it has a value that it may not have; F6 bytes after the body. F7 comes
+/// only where memory for a row was refused; a frame without rows takes none.
+#[tactic(auto, unfolding(crate::specs::Reading::frame_at))]
+pub fn decode(alloc: Global, bytes: &[u8]) -> Result<(Stamped, usize), WireFault>
+    ensures { Gives (λ y. rows_of y.0.envelope.msg) (λ x. x) result (frame_at bytes.now) }
+{
+    if bytes.len() < 4 {
+        return Err(WireFault::Short);
+    }
+    let length = BigEndian::read_u32(bytes) as usize;
+    if length > MOST_LENGTH {
+        return Err(WireFault::TooLong);
+    }
+    if length < LEAST_LENGTH {
+        return Err(WireFault::Length);
+    }
+    if bytes.len() < 4 + length {
+        return Err(WireFault::Short);
+    }
+    let stamped = counted_at(alloc, &bytes[4..4 + length])?;
+    Ok((stamped, 4 + length))
+}
+
+/// The envelope in the bytes that a frame's length counts.
+#[tactic(auto, unfolding(crate::specs::Reading::counted_at))]
+fn counted_at(alloc: Global, bytes: &[u8]) -> Result<Stamped, WireFault>
+    ensures { Gives (λ y. rows_of y.envelope.msg) (λ x. x) result (counted_at bytes.now) }
+{
+    let [version, kind, rest @ ..] = bytes else {
+        return Err(WireFault::Length);
+    };
+    if *version != 1 {
+        return Err(WireFault::Version);
+    }
+    if !(1..=13).contains(kind) {
+        return Err(WireFault::Kind);
+    }
+    let (stamped, rest) = envelope_at(alloc, *kind, rest)?;
+    if !rest.is_empty() {
+        return Err(WireFault::Length);
+    }
+    Ok(stamped)
+}
+
+/// The stamp, to whom the envelope goes, and its message.
+#[tactic(auto, unfolding(crate::specs::Reading::envelope_at))]
+fn envelope_at(alloc: Global, kind: u8, bytes: &[u8]) -> Result<(Stamped, &[u8]), WireFault>
+    requires { kind ≤ 13 }
+    ensures { Gives (λ y. rows_of y.0.envelope.msg) (λ x. (x.0, x.1.now)) result (envelope_at kind bytes.now) }
+{
+    let (stamp, rest) = stamp_at(bytes)?;
+    let (to, rest) = actor_at(rest)?;
+    let (msg, rest) = message_at(alloc, kind, rest)?;
+    let envelope = EnvelopeOf {
+        from: stamp.actor,
+        to,
+        msg,
+    };
+    Ok((Stamped { stamp, envelope }, rest))
+}

@@ -1,0 +1,151 @@
+//! Times the feeder: how long a stream of frames takes in pieces of several sizes, and one of twice its length. With no
+//! words it does nothing.
+#![tactic(auto)]
+
+use pvp_types::Cmd;
+use pvp_wire::{Feeder, Stamp, Stamped, encode, wireable};
+use std::alloc::{AllocError, Global};
+use std::env;
+use std::fmt;
+use std::io;
+use std::process::ExitCode;
+use std::rt::Clock;
+use std::time::Instant;
+use vr_types::{EnvelopeOf, MsgOf, RowOf, RowsOf};
+
+/// How many rows a frame of the stream has.
+const ROWS: u16 = 1_000;
+
+/// How many frames the shorter stream has.
+const FRAMES: usize = 200;
+
+/// How many bytes a piece has.
+const PIECES: [usize; 3] = [1, 64, 65_536];
+
+/// Why there is no time to tell.
+#[derive(Clone, Copy, Debug, PartialEq, Eq)]
+enum BenchFault {
+    /// Memory was refused, the clock or the output failed.
+    Refused,
+    /// The stream was not read as it was written.
+    Unread,
+}
+
+impl fmt::Display for BenchFault {
+    fn fmt<W: fmt::Write>(&self, f: &mut fmt::Formatter<W>) -> fmt::Result {
+        f.write_str(match self {
+            BenchFault::Refused => "fault memory, clock or output",
+            BenchFault::Unread => "fault stream",
+        })
+    }
+}
+
+impl From<AllocError> for BenchFault {
+    fn from(_refused: AllocError) -> BenchFault {
+        BenchFault::Refused
+    }
+}
+
+impl From<io::Error> for BenchFault {
+    fn from(_failed: io::Error) -> BenchFault {
+        BenchFault::Refused
+    }
+}
+
+/// A log with as many rows.
+fn log(alloc: Global) -> Result<RowsOf<Cmd>, AllocError> {
+    let mut rows = RowsOf::new(alloc);
+    for number in 0..ROWS {
+        if rows.len() < usize::from(ROWS) {
+            rows.push(RowOf {
+                client: 1,
+                number: u32::from(number),
+                cmd: Cmd::PayOut { ccy: 1, amt: 200 },
+            })?;
+        }
+    }
+    Ok(rows)
+}
+
+/// A frame with a log.
+fn frame(alloc: Global) -> Result<Vec<u8>, BenchFault> {
+    let stamped = Stamped {
+        stamp: Stamp {
+            actor: 200,
+            clock: 1,
+            index: 0,
+        },
+        envelope: EnvelopeOf {
+            from: 200,
+            to: 201,
+            msg: MsgOf::StartView {
+                view: 0,
+                done: 0,
+                rows: log(alloc)?,
+            },
+        },
+    };
+    if !wireable(&stamped) {
+        return Err(BenchFault::Unread);
+    }
+    let mut out = Vec::new(alloc);
+    encode(alloc, &stamped, &mut out)?;
+    Ok(out)
+}
+
+/// So many frames, one after the other.
+fn stream(alloc: Global, frames: usize) -> Result<Vec<u8>, BenchFault> {
+    let one = frame(alloc)?;
+    let mut bytes = Vec::new(alloc);
+    for _ in 0..frames {
+        bytes.extend_from_slice(one.as_slice())?;
+    }
+    Ok(bytes)
+}
+
+/// How many frames a feeder answers of a stream in pieces of a size.
+fn fed(alloc: Global, stream: &[u8], piece: usize) -> Result<usize, BenchFault> {
+    let mut feeder = Feeder::new(alloc);
+    let mut count: usize = 0;
+    for part in stream.chunks(piece.max(1)) {
+        match feeder.feed(part) {
+            Ok(frames) => count = count.saturating_add(frames.len()),
+            Err(_) => return Err(BenchFault::Unread),
+        }
+    }
+    Ok(count)
+}
+
+/// How many microseconds a stream of so many frames takes in pieces of a size.
+fn time<R: AllocGlobal + Clock>(rt: &R, frames: usize, piece: usize) -> Result<u128, BenchFault> {
+    let bytes = stream(rt.alloc(), frames)?;
+    let began = Instant::now(rt)?;
+    if fed(rt.alloc(), bytes.as_slice(), piece)? != frames {
+        return Err(BenchFault::Unread);
+    }
+    Ok(began.elapsed(rt)?.as_micros())
+}
+
+/// Prints the times of a stream and of one twice as long, for each size of pieces.
+fn bench<R: AllocGlobal + Clock + Print>(rt: &R) -> Result<(), BenchFault> {
+    for piece in PIECES {
+        let once = time(rt, FRAMES, piece)?;
+        let twice = time(rt, 2 * FRAMES, piece)?;
+        rt.println(&format!(in rt.alloc(); "pieces of {piece}: n {once} us, 2n {twice} us")?)?;
+    }
+    Ok(())
+}
+
+fn main(rt: HostRuntime) -> ExitCode {
+    let words: Vec<String> = match env::args(&rt).map(|words| words.collect(rt.alloc())) {
+        Ok(Ok(words)) => words,
+        _ => return ExitCode::from(1),
+    };
+    if words.len() < 2 {
+        return ExitCode::from(0);
+    }
+    match bench(&rt) {
+        Ok(()) => ExitCode::from(0),
+        Err(_) => ExitCode::from(1),
+    }
+}
