@@ -10,11 +10,11 @@ ghost use Rattle.vr_change.specs.Saved.{SavesView};
 
 /// Over a cell that holds the site's view, each rule saves the view that the site is in afterwards, and nothing else.
 pub fn view_is_saved<C, R, O>()
-    ensures timer { (f me : ℕ) (x : Site C) → x.view ≡ x.cell.view → SavesView x (on_timer {R = R} {O = O} f me x) }
-    ensures beat { (f me : ℕ) (x : Site C) → x.view ≡ x.cell.view → SavesView x (beats_in_change {R = R} {O = O} f me x) }
+    ensures timer { (choose : Choice C) (f me : ℕ) (x : Site C) → x.view ≡ x.cell.view → SavesView x (on_timer {R = R} {O = O} f me x) }
+    ensures beat { (choose : Choice C) (f me : ℕ) (x : Site C) → x.view ≡ x.cell.view → SavesView x (beats_in_change {R = R} {O = O} f me x) }
     ensures start_view_change { (choose : Choice C) (f me : ℕ) (x : Site C) (from w : ℕ) → x.view ≡ x.cell.view → SavesView x (on_start_view_change {R = R} {O = O} choose f me x from w) }
     ensures do_view_change { (choose : Choice C) (f me : ℕ) (x : Site C) (w : ℕ) (vote : Vote C) → x.view ≡ x.cell.view → SavesView x (on_do_view_change {R = R} {O = O} choose f me x w vote) }
     ensures start_view { (choose : Choice C) (f me : ℕ) (x : Site C) (from w k : ℕ) (log : List (RowOf C)) → x.view ≡ x.cell.view → SavesView x (on_start_view {R = R} {O = O} choose f me x from w k log) }
-    ensures get_state { (f me : ℕ) (x : Site C) (from w base : ℕ) → x.view ≡ x.cell.view → SavesView x (on_get_state {R = R} {O = O} f me x from w base) }
+    ensures get_state { (choose : Choice C) (f me : ℕ) (x : Site C) (from w base : ℕ) → x.view ≡ x.cell.view → SavesView x (on_get_state {R = R} {O = O} f me x from w base) }
     ensures new_state { (choose : Choice C) (f me : ℕ) (x : Site C) (from w base k : ℕ) (rows : List (RowOf C)) → x.view ≡ x.cell.view → SavesView x (on_new_state {R = R} {O = O} choose f me x from w base k rows) }
 {}
