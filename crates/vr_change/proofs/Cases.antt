@@ -1,19 +1,21 @@
 -- Which case of a rule it is.
-use Rattle.std.proofs.Common.{append-nil, ◌≡◌, ◌≢◌, ℕ, ◌+◌, ◌<◌, ◌≤◌, ◌==◌, ◌&&◌, List, [], ◌∷◌, ◌++◌, length, take, drop, Bool, true, false, not, nat_lt, nat_le, if◌then◌else◌, refl, ap, ◌∙◌, eq-eqb}
+use Rattle.std.proofs.Common.{append-nil, ◌≡◌, ◌≢◌, ℕ, ◌+◌, ◌<◌, ◌≤◌, ◌==◌, ◌&&◌, List, [], ◌∷◌, ◌++◌, length, max, min, take, drop, Bool, true, false, not, nat_lt, nat_le, if◌then◌else◌, refl, ap, ◌∙◌, eq-eqb}
 use Rattle.std.proofs.lemmas.Bool.{lt-ltb, le-ltb, ne_eqb}
+use Rattle.vr_types.specs.declared.cell.Boot.{Boot}
 use Rattle.vr_types.specs.declared.event.Status.TheVariants.{Change}
 use Rattle.vr_types.specs.declared.event.Why.TheVariants.{Status, View, NotPrimary, Known, Stale}
 use Rattle.vr_types.specs.declared.limits.TheConstants.{MAX_ROWS}
 use Rattle.vr_types.specs.declared.message.EnvelopeOf.{EnvelopeOf}
-use Rattle.vr_types.specs.declared.message.MsgOf.TheVariants.{StartViewChange, NewState}
+use Rattle.vr_types.specs.declared.message.MsgOf.TheVariants.{PrepareOk, StartViewChange, NewState}
 use Rattle.vr_types.specs.declared.row.RowOf.{RowOf}
 use Rattle.vr_types.specs.Choice.{Choice}
 use Rattle.vr_types.specs.Group.{primary, mail, to_all}
 use Rattle.vr_types.specs.Site.{Site, Vote, nothing, is_normal, is_recovering}
-use Rattle.vr_types.specs.Step.{Step, does, drops, with_saved, takes_log}
+use Rattle.vr_types.specs.Step.{Step, does, drops, with_saved, executed_to, normal_in, begins_with_executed, acknowledges_all, takes_log}
 use Rattle.vr_types.specs.Change.{on_timer, beats_in_change, on_start_view, sends_vote}
 use Rattle.vr_types.specs.Transfer.{on_get_state, on_new_state}
 use Rattle.vr_change.specs.Fits.{rows_fit}
+use Rattle.vr_change.proofs.Sites.{normal_with}
 
 module _ {C R O : Type 0} (f me : ℕ) (x : Site C) where
   pub on_timer-is : is_recovering x.status ≡ false
@@ -89,3 +91,29 @@ module _ {C R O : Type 0} (choose : Choice C) (f me : ℕ) (x : Site C) where
       by_tests true b c d s t = refl
       by_tests false true c d s t = refl
       by_tests false false c d s t = refl
+
+-- the cell after a view is saved where it is later
+abbrev pub cell_after : {C : Type 0} → ℕ → Site C → Boot
+cell_after w x = (if nat_lt x.view w then with_saved w x else x).cell
+
+module _ {C R O : Type 0} (choose : Choice C) (f me : ℕ) (x : Site C) (w k : ℕ) (log : List (RowOf C)) where
+  pub takes_log-stale : begins_with_executed choose.same x log ≡ false → ◌≡◌ {A = Step C R O} (takes_log choose f me x w k log) (drops x Stale)
+  takes_log-stale e = rw e
+
+  pub takes_log-is : (more : List (EnvelopeOf C R O)) → begins_with_executed choose.same x log ≡ true
+      → (if nat_lt (max x.done (min k (length log))) (length log) then mail me (primary f w) (PrepareOk w (length log)) ∷ [] else []) ≡ more
+      → ◌≡◌ {A = Step C R O} (takes_log choose f me x w k log) (does (normal_with w (max x.done (min k (length log))) log (cell_after w x)) more)
+  takes_log-is more e d = rw e (by_test (nat_lt x.view w))
+    where
+      by_test : (b : Bool) → (let y = executed_to k (normal_in w log (if b then with_saved w x else x)) in does y (if nat_lt y.done (length y.log) then acknowledges_all f me y else []))
+          ≡ does (normal_with w (max x.done (min k (length log))) log (if b then with_saved w x else x).cell) more
+      by_test true = ap (λ l. let s : Step C R O = does (normal_with w (max x.done (min k (length log))) log (with_saved w x).cell) l in s) d
+      by_test false = ap (λ l. let s : Step C R O = does (normal_with w (max x.done (min k (length log))) log x.cell) l in s) d
+
+  pub takes_log-rest : begins_with_executed choose.same x log ≡ true → max x.done (min k (length log)) < length log
+      → ◌≡◌ {A = Step C R O} (takes_log choose f me x w k log) (does (normal_with w (max x.done (min k (length log))) log (cell_after w x)) (mail me (primary f w) (PrepareOk w (length log)) ∷ []))
+  takes_log-rest e left = takes_log-is (mail me (primary f w) (PrepareOk w (length log)) ∷ []) e (ap (λ b. if b then mail me (primary f w) (PrepareOk w (length log)) ∷ [] else []) (lt-ltb _ _ left))
+
+  pub takes_log-all : begins_with_executed choose.same x log ≡ true → length log ≤ max x.done (min k (length log))
+      → ◌≡◌ {A = Step C R O} (takes_log choose f me x w k log) (does (normal_with w (max x.done (min k (length log))) log (cell_after w x)) [])
+  takes_log-all e all = takes_log-is [] e (ap (λ b. if b then mail me (primary f w) (PrepareOk w (length log)) ∷ [] else []) (le-ltb _ _ all))

@@ -2,7 +2,7 @@
 use Rattle.std.proofs.Common.{◌≡◌, ℕ, List, [], length, map, Bool, true, false, refl, sym, ap, ◌∙◌, subst}
 use Rattle.std.specs.Prelude.{Contains}
 use Rattle.vr_types.specs.declared.cell.Boot.{Boot}
-use Rattle.vr_types.specs.declared.event.Status.TheVariants.{Change}
+use Rattle.vr_types.specs.declared.event.Status.TheVariants.{Normal, Change}
 use Rattle.vr_types.specs.declared.machine.Machine.{Ghosts}
 use Rattle.vr_types.specs.declared.row.RowOf.{RowOf}
 use Rattle.vr_types.specs.Choice.{OneEach}
@@ -30,6 +30,10 @@ gave_up_sound m start f r n gave up sites kept was = record {
   summed = gave.acked;
 }
 
+-- a site that is normal in a view, with so many rows of the log executed
+abbrev pub normal_with : {C : Type 0} → ℕ → ℕ → List (RowOf C) → Boot → Site C
+normal_with w d log boot = record { status = Normal; view = w; last_normal = w; log = log; done = d; collected = nothing; cell = boot }
+
 -- the site takes part in a change
 pub changed_site : {H C R O S : Type 0} (r n : Running H C R O S) (acks : List Ack) (cell boot : Boot) (w : ℕ) → GaveUp n → n.status ≡ Change → n.view ≡ w → n.last_normal ≡ r.last_normal → n.kept ≡ r.kept
     → ◌≡◌ {A = Site C} (record (site_of r acks cell) { status = Change; view = w; collected = nothing; cell = boot }) (site_of n [] boot)
@@ -39,6 +43,19 @@ changed_site r n acks cell boot w gave status view last kept = λ i. record {
   last_normal = sym last i;
   log = (sym kept i).log;
   done = (sym kept i).done;
+  collected = record { acks = []; starts = sym gave.starts i; voted = sym gave.voted i; votes = map vote_of (sym gave.votes i); responses = [] };
+  cell = boot;
+}
+
+-- the site is normal in a view
+pub normal_site : {H C R O S : Type 0} (n : Running H C R O S) (boot : Boot) (w d : ℕ) (log : List (RowOf C)) → GaveUp n → n.status ≡ Normal → n.view ≡ w → n.last_normal ≡ w → n.kept.log ≡ log → n.kept.done ≡ d
+    → ◌≡◌ {A = Site C} (normal_with w d log boot) (site_of n [] boot)
+normal_site n boot w d log gave status view last rows done = λ i. record {
+  status = sym status i;
+  view = sym view i;
+  last_normal = sym last i;
+  log = sym rows i;
+  done = sym done i;
   collected = record { acks = []; starts = sym gave.starts i; voted = sym gave.voted i; votes = map vote_of (sym gave.votes i); responses = [] };
   cell = boot;
 }
