@@ -81,7 +81,7 @@ module _ {C R O : Type 0} (choose : Choice C) (f me : ℕ) (x : Site C) where
   unfolding on_new_state
   on_new_state-view from w base k rows p e old = rw (p, e, lt-ltb _ _ old)
 
-  pub on_new_state-is : (from w base k : ℕ) (rows : List (RowOf C)) → (primary f w == from) ≡ true → is_recovering x.status ≡ false → x.view ≤ w
+  on_new_state-is : (from w base k : ℕ) (rows : List (RowOf C)) → (primary f w == from) ≡ true → is_recovering x.status ≡ false → x.view ≤ w
       → ◌≡◌ {A = Step C R O} (on_new_state choose f me x from w base k rows) (if rows_fit x w base (length rows) then takes_log choose f me x w k (take base x.log ++ rows) else drops x Stale)
   unfolding on_new_state
   on_new_state-is from w base k rows p e new = rw (p, e, le-ltb _ _ new)
@@ -91,6 +91,14 @@ module _ {C R O : Type 0} (choose : Choice C) (f me : ℕ) (x : Site C) where
       by_tests true b c d s t = refl
       by_tests false true c d s t = refl
       by_tests false false c d s t = refl
+
+  pub on_new_state-stale : (from w base k : ℕ) (rows : List (RowOf C)) → (primary f w == from) ≡ true → is_recovering x.status ≡ false → x.view ≤ w → rows_fit x w base (length rows) ≡ false
+      → ◌≡◌ {A = Step C R O} (on_new_state choose f me x from w base k rows) (drops x Stale)
+  on_new_state-stale from w base k rows p e new fit = on_new_state-is from w base k rows p e new ∙ ap (λ b. let s : Step C R O = if b then takes_log choose f me x w k (take base x.log ++ rows) else drops x Stale in s) fit
+
+  pub on_new_state-takes : (from w base k : ℕ) (rows : List (RowOf C)) → (primary f w == from) ≡ true → is_recovering x.status ≡ false → x.view ≤ w → rows_fit x w base (length rows) ≡ true
+      → ◌≡◌ {A = Step C R O} (on_new_state choose f me x from w base k rows) (takes_log choose f me x w k (take base x.log ++ rows))
+  on_new_state-takes from w base k rows p e new fit = on_new_state-is from w base k rows p e new ∙ ap (λ b. let s : Step C R O = if b then takes_log choose f me x w k (take base x.log ++ rows) else drops x Stale in s) fit
 
 -- the cell after a view is saved where it is later
 abbrev pub cell_after : {C : Type 0} → ℕ → Site C → Boot

@@ -1,8 +1,8 @@
-ghost use Rattle.std.specs.Prelude.{◌≡◌, ◌+◌, ◌≤◌, ◌++◌, [], false, OnOk, List, length, take};
+ghost use Rattle.std.specs.Prelude.{◌≡◌, ◌+◌, ◌≤◌, ◌++◌, ◌==◌, ◌&&◌, [], false, OnOk, List, length, take};
 ghost use Rattle.vr_types.specs.declared.cell.Boot.{Boot};
 ghost use Rattle.vr_types.specs.Change.{on_start_view};
 ghost use Rattle.vr_types.specs.Choice.{Choice, IsRight};
-ghost use Rattle.vr_types.specs.Site.{Ack};
+ghost use Rattle.vr_types.specs.Site.{Ack, is_normal};
 ghost use Rattle.vr_types.specs.Step.{takes_log};
 ghost use Rattle.vr_log.specs.Kept.{IsReady};
 ghost use Rattle.vr_log.specs.Running.{IsSound, IsRunning, Follows, SumUp, site_of};
@@ -35,10 +35,18 @@ pub fn start_view<M: Machine>(
     if view < running.view {
         return Ok(dropped(alloc, Why::View));
     }
-    if runs_normally(running.status) && view == running.view {
+    if is_normal_in(running, view) {
         return Ok(dropped(alloc, Why::Known));
     }
+    let _len = rows.len();
     take_log(alloc, config, running, view, 0, done, rows)
+}
+
+/// Whether the site is normal in a view.
+pub fn is_normal_in<M: Machine>(running: &Running<M>, view: u32) -> bool
+    ensures { result ≡ (is_normal running.now.status && (view == running.now.view)) }
+{
+    runs_normally(running.status) && view == running.view
 }
 
 /// In a view these rows are taken after the first `base` of the log, and the site is normal there: what is committed is

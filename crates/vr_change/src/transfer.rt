@@ -1,4 +1,4 @@
-ghost use Rattle.std.specs.Prelude.{◌≡◌, ◌*◌, ◌≤◌, OnOk, List};
+ghost use Rattle.std.specs.Prelude.{◌≡◌, ◌+◌, ◌*◌, ◌≤◌, IsTrue, OnOk, List, length};
 ghost use Rattle.vr_types.specs.declared.cell.Boot.{Boot};
 ghost use Rattle.vr_types.specs.Choice.{Choice, IsRight};
 ghost use Rattle.vr_types.specs.Site.{Ack};
@@ -7,7 +7,7 @@ ghost use Rattle.vr_log.specs.Kept.{IsReady};
 ghost use Rattle.vr_log.specs.Running.{IsSound, IsRunning, Follows, site_of};
 ghost use Rattle.vr_change.specs.Fits.{rows_fit};
 
-use crate::taking::take_log;
+use crate::taking::{is_normal_in, take_log};
 use std::alloc::{AllocError, Global};
 use vr_log::Running;
 use vr_log::send::{dropped, mail_to, primary_of, runs_normally, sends_one};
@@ -79,9 +79,12 @@ pub fn new_state<M: Machine>(
 
 /// Whether so many rows after the first `base` fit the log.
 fn fits<M: Machine>(running: &Running<M>, view: u32, base: usize, rows: usize) -> bool
+    requires ready { IsReady M.Machine running.now.kept }
     requires base { base ≤ MAX_ROWS }
     requires rows { rows ≤ MAX_ROWS }
-    ensures { (acks : List Ack) (cell : Boot) → result ≡ rows_fit (site_of running.now acks cell) view base rows }
+    ensures fit { (acks : List Ack) (cell : Boot) → result ≡ rows_fit (site_of running.now acks cell) view base rows }
+    ensures base { IsTrue result → base ≤ length running.now.kept.log }
+    ensures few { IsTrue result → base + rows ≤ MAX_ROWS }
 {
     let end = base + rows;
     let len = running.kept.log.len();
@@ -89,7 +92,7 @@ fn fits<M: Machine>(running: &Running<M>, view: u32, base: usize, rows: usize) -
     if end > MAX_ROWS {
         return false;
     }
-    if runs_normally(running.status) && view == running.view {
+    if is_normal_in(running, view) {
         base <= len && len < end
     } else {
         base <= done && done <= end
