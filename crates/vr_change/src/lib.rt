@@ -7,6 +7,7 @@
 //! that the call sends leaves.
 #![tactic(auto)]
 
+pub mod ballot;
 pub mod change;
 pub mod laws;
 pub mod opening;

@@ -1,0 +1,128 @@
+//! The opening of a view: its primary takes the log that goes before all others, tells all, and answers the clients.
+
+ghost use Rattle.std.specs.Prelude.{◌≡◌, ◌<◌, ◌≤◌, ◌*◌, ◌++◌, IfOk, OnOk, List, length, map, slice_get, IfSome};
+ghost use Rattle.vr_types.specs.declared.cell.Boot.{Boot};
+ghost use Rattle.vr_types.specs.Change.{opened_with};
+ghost use Rattle.vr_types.specs.Choice.{Choice, IsRight};
+ghost use Rattle.vr_types.specs.Group.{mail, to_all};
+ghost use Rattle.vr_types.specs.Site.{Ack};
+ghost use Rattle.vr_log.specs.Kept.{IsReady};
+ghost use Rattle.vr_log.specs.Running.{IsSound, IsRunning, Follows, site_of, vote_of};
+ghost use Rattle.vr_change.specs.Parts.{opens_with};
+
+use crate::taking::be_normal;
+use std::alloc::{AllocError, Global};
+use std::mem;
+use vr_log::Running;
+use vr_log::send::{dropped, mail_to, send_replies};
+use vr_types::{Config, Envelope, Machine, MsgOf, Outcome, OutcomeOf, RowsOf, Why};
+
+/// Opens the view with the log of the vote at an index, where that begins with what the site executed.
+pub fn open_with_vote<M: Machine>(
+    alloc: Global,
+    config: Config,
+    running: &mut Running<M>,
+    at: usize,
+    done: u16,
+    sent: Vec<Envelope<M>>,
+) -> Result<Outcome<M>, AllocError>
+    requires ready { IsReady M.Machine running.old.kept }
+    requires at { at < length running.old.votes.items }
+    ensures sound { OnOk result ((start : M) → IsSound M.Machine start config.f running.old → IsSound M.Machine start config.f running.new) }
+    ensures later { running.old.view ≤ running.new.view }
+    ensures step { (choose : Choice M.Cmd) (start : M) (acks : List Ack) (cell : Boot) → IsRight config.f choose → IsRunning M.Machine start config.f running.old acks →
+        IfSome (slice_get (map vote_of running.old.votes.items) at) (λ vote.
+        Follows M.Machine start config.f config.me running.new result (opens_with choose config.f config.me (site_of running.old acks cell) sent.items vote.log done)) }
+{
+    if !running.kept.keeps_executed(0, &running.votes[at].log) {
+        return Ok(dropped(alloc, Why::Stale));
+    }
+    let mut votes = mem::replace(&mut running.votes, Vec::new(alloc));
+    let vote = votes.swap_remove(at);
+    running.kept.take_rows(0, vote.log)?;
+    open(alloc, config, running, done, sent)
+}
+
+/// Opens the view with these rows, where they begin with what the site executed.
+pub fn open_with_rows<M: Machine>(
+    alloc: Global,
+    config: Config,
+    running: &mut Running<M>,
+    rows: RowsOf<M::Cmd>,
+    done: u16,
+    sent: Vec<Envelope<M>>,
+) -> Result<Outcome<M>, AllocError>
+    requires ready { IsReady M.Machine running.old.kept }
+    ensures sound { OnOk result ((start : M) → IsSound M.Machine start config.f running.old → IsSound M.Machine start config.f running.new) }
+    ensures later { running.old.view ≤ running.new.view }
+    ensures step { (choose : Choice M.Cmd) (start : M) (acks : List Ack) (cell : Boot) → IsRight config.f choose → IsRunning M.Machine start config.f running.old acks →
+        Follows M.Machine start config.f config.me running.new result (opens_with choose config.f config.me (site_of running.old acks cell) sent.items rows done) }
+{
+    if !running.kept.keeps_executed(0, &rows) {
+        return Ok(dropped(alloc, Why::Stale));
+    }
+    let _len = rows.len();
+    running.kept.take_rows(0, rows)?;
+    open(alloc, config, running, done, sent)
+}
+
+/// Opens the view with the log that the site has: it is normal in it, executes what any voter had, and tells all; then
+/// the clients are answered.
+pub fn open<M: Machine>(
+    alloc: Global,
+    config: Config,
+    running: &mut Running<M>,
+    done: u16,
+    mut sent: Vec<Envelope<M>>,
+) -> Result<Outcome<M>, AllocError>
+    requires { IsReady M.Machine running.old.kept }
+    ensures sound { OnOk result ((start : M) → IsSound M.Machine start config.f running.old → IsSound M.Machine start config.f running.new) }
+    ensures later { running.old.view ≤ running.new.view }
+    ensures step { (start : M) (acks : List Ack) (cell : Boot) → IsRunning M.Machine start config.f running.old acks →
+        Follows M.Machine start config.f config.me running.new result (opened_with config.f config.me running.old.kept.log done (record { site = site_of running.old acks cell; sent = sent.items })) }
+{
+    let view = running.view;
+    let answers = running.kept.execute(alloc, done)?;
+    be_normal(running, view);
+    tell_view(alloc, config, running, &mut sent)?;
+    send_replies(config, view, answers.as_slice(), &mut sent)?;
+    Ok(OutcomeOf {
+        sent,
+        dropped: None,
+    })
+}
+
+/// Adds STARTVIEW of the site's view to every other site, in ascending order.
+fn tell_view<M: Machine>(
+    alloc: Global,
+    config: Config,
+    running: &Running<M>,
+    sent: &mut Vec<Envelope<M>>,
+) -> Result<(), AllocError>
+    ensures { OnOk result (sent.new.items ≡ sent.old.items ++ to_all config.f config.me (MsgOf.StartView running.now.view running.now.kept.done running.now.kept.log)) }
+{
+    for site in 0..2 * config.f + 1 {
+        if site != config.me {
+            sent.push(view_mail(alloc, config, running, site)?)?;
+        }
+    }
+    Ok(())
+}
+
+/// STARTVIEW of the site's view to a site.
+fn view_mail<M: Machine>(
+    alloc: Global,
+    config: Config,
+    running: &Running<M>,
+    site: u16,
+) -> Result<Envelope<M>, AllocError>
+    requires { site ≤ 2 * config.f }
+    ensures { IfOk result (λ sent. sent ≡ mail config.me site (MsgOf.StartView running.now.view running.now.kept.done running.now.kept.log)) }
+{
+    let msg = MsgOf::StartView {
+        view: running.view,
+        done: running.kept.done,
+        rows: running.kept.log.copy_from(alloc, 0)?,
+    };
+    Ok(mail_to(config, site, msg))
+}
