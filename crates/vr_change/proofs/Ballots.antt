@@ -26,6 +26,10 @@ some_one e = cc
 pub vote_at : {C : Type 0} (votes : List (VoteOf C)) (at : ℕ) (vote : VoteOf C) → at < length votes → vote ≡ get_or votes at vote → slice_get (map vote_of votes) at ≡ Some (vote_of vote)
 vote_at votes at vote low e = slice_get-map vote_of votes at ∙ ap (option_map vote_of) (slice_get_read votes (length votes) at vote refl low e)
 
+-- what stands at an index is one
+pub one_element : {A : Type 0} (xs : List A) (at : ℕ) (a b : A) → at < length xs → a ≡ get_or xs at a → b ≡ get_or xs at b → a ≡ b
+one_element xs at a b low ea eb = some_one (sym (slice_get_read xs (length xs) at a refl low ea) ∙ slice_get_read xs (length xs) at b refl low eb)
+
 -- one more vote
 pub pick_of-more : {C : Type 0} (votes : List (Vote C)) (vote : Vote C) → 0 < length votes → pick_of (votes ++ vote ∷ []) ≡ (if goes_before vote (pick_of votes) then vote else pick_of votes)
 pick_of-more [] vote some = absurd (omega arith)

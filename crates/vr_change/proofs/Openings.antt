@@ -1,6 +1,7 @@
 -- The opening of a view.
 use Rattle.std.proofs.Common.{◌≡◌, ℕ, List, [], ◌∷◌, ◌++◌, length, map, max, min, None, refl, sym, ap, ◌∙◌, append-nil, Bool, true, false, not, if◌then◌else◌}
 use Rattle.std.specs.List.{filter_map}
+use Rattle.std.specs.Prelude.{Result, Ok, Err, OnOk}
 use Rattle.vr_types.specs.declared.event.OutcomeOf.{OutcomeOf}
 use Rattle.vr_types.specs.declared.event.Why.TheVariants.{Stale}
 use Rattle.vr_types.specs.declared.machine.Machine.{Ghosts}
@@ -45,3 +46,15 @@ module _ {C R O : Type 0} (choose : Choice C) (f me : ℕ) (x : Site C) (sent : 
 
   pub opens_with-opens : begins_with_executed choose.same x log ≡ true → ◌≡◌ {A = Step C R O} (opens_with choose f me x sent log k) (opened_with f me log k (record { site = x; sent = sent }))
   opens_with-opens e = rw e
+
+-- the view is opened over one log, with as many rows executed
+pub opened_over : {C R O : Type 0} (f me : ℕ) (x : Site C) (log own : List (RowOf C)) (done k : ℕ) (sent : List (EnvelopeOf C R O)) → log ≡ own → x.done ≡ done
+    → ◌≡◌ {A = Step C R O} (opened_with f me log k (record { site = x; sent = sent })) (opened_with f me own k (record { site = record x { done = done }; sent = sent }))
+opened_over {C} {R} {O} f me x log own done k sent e d =
+    let at : List (RowOf C) → ℕ → Step C R O = λ l n. opened_with f me l k (record { site = record x { done = n }; sent = sent }) in
+    ap (λ l. at l x.done) e ∙ ap (λ n. at own n) d
+
+-- what follows on Ok
+pub on_ok_then : {T E : Type 0} (result : Result T E) (P Q : Type 0) → (P → Q) → OnOk result P → OnOk result Q
+on_ok_then (Ok value) P Q h p = h p
+on_ok_then (Err error) P Q h p = tt

@@ -1,11 +1,11 @@
 //! The opening of a view: its primary takes the log that goes before all others, tells all, and answers the clients.
 
-ghost use Rattle.std.specs.Prelude.{◌≡◌, ◌<◌, ◌≤◌, ◌*◌, ◌++◌, IfOk, OnOk, List, length, map, slice_get, IfSome};
+ghost use Rattle.std.specs.Prelude.{◌≡◌, ◌<◌, ◌≤◌, ◌*◌, ◌++◌, IfOk, OnOk, List, length, map, slice_get, Some};
 ghost use Rattle.vr_types.specs.declared.cell.Boot.{Boot};
 ghost use Rattle.vr_types.specs.Change.{opened_with};
 ghost use Rattle.vr_types.specs.Choice.{Choice, IsRight};
 ghost use Rattle.vr_types.specs.Group.{mail, to_all};
-ghost use Rattle.vr_types.specs.Site.{Ack};
+ghost use Rattle.vr_types.specs.Site.{Ack, Vote};
 ghost use Rattle.vr_log.specs.Kept.{IsReady};
 ghost use Rattle.vr_log.specs.Running.{IsSound, IsRunning, Follows, site_of, vote_of};
 ghost use Rattle.vr_change.specs.Parts.{opens_with};
@@ -30,9 +30,9 @@ pub fn open_with_vote<M: Machine>(
     requires at { at < length running.old.votes.items }
     ensures sound { OnOk result ((start : M) → IsSound M.Machine start config.f running.old → IsSound M.Machine start config.f running.new) }
     ensures later { running.old.view ≤ running.new.view }
-    ensures step { (choose : Choice M.Cmd) (start : M) (acks : List Ack) (cell : Boot) → IsRight config.f choose → IsRunning M.Machine start config.f running.old acks →
-        IfSome (slice_get (map vote_of running.old.votes.items) at) (λ vote.
-        Follows M.Machine start config.f config.me running.new result (opens_with choose config.f config.me (site_of running.old acks cell) sent.items vote.log done)) }
+    ensures step { (choose : Choice M.Cmd) (start : M) (acks : List Ack) (cell : Boot) (vote : Vote M.Cmd) → IsRight config.f choose → IsRunning M.Machine start config.f running.old acks →
+        slice_get (map vote_of running.old.votes.items) at ≡ Some vote →
+        Follows M.Machine start config.f config.me running.new result (opens_with choose config.f config.me (site_of running.old acks cell) sent.items vote.log done) }
 {
     if !running.kept.keeps_executed(0, &running.votes[at].log) {
         return Ok(dropped(alloc, Why::Stale));
