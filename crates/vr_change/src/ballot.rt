@@ -76,7 +76,7 @@ pub fn enough_voted<C>(config: Config, votes: &[VoteOf<C>], from: u16) -> bool
 }
 
 /// Whether a vote of this site is kept, or comes now.
-fn votes_now<C>(votes: &[VoteOf<C>], from: u16, site: u16) -> bool
+pub fn votes_now<C>(votes: &[VoteOf<C>], from: u16, site: u16) -> bool
     ensures { result ≡ (has_vote (map vote_of votes.now) site || (from == site)) }
 {
     has_voted(votes, site) || from == site

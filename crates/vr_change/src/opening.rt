@@ -1,21 +1,97 @@
 //! The opening of a view: its primary takes the log that goes before all others, tells all, and answers the clients.
 
-ghost use Rattle.std.specs.Prelude.{◌≡◌, ◌<◌, ◌≤◌, ◌*◌, ◌++◌, IfOk, OnOk, List, length, map, slice_get, Some};
+ghost use Rattle.std.specs.Prelude.{◌≡◌, ◌<◌, ◌≤◌, ◌*◌, ◌++◌, ◌∷◌, [], false, IfOk, OnOk, List, length, map, slice_get, Some};
 ghost use Rattle.vr_types.specs.declared.cell.Boot.{Boot};
-ghost use Rattle.vr_types.specs.Change.{opened_with};
+ghost use Rattle.vr_types.specs.Change.{opened_with, own_vote};
 ghost use Rattle.vr_types.specs.Choice.{Choice, IsRight};
 ghost use Rattle.vr_types.specs.Group.{mail, to_all};
-ghost use Rattle.vr_types.specs.Site.{Ack, Vote};
+ghost use Rattle.vr_types.specs.Site.{Ack, Vote, has_vote};
 ghost use Rattle.vr_log.specs.Kept.{IsReady};
 ghost use Rattle.vr_log.specs.Running.{IsSound, IsRunning, Follows, site_of, vote_of};
 ghost use Rattle.vr_change.specs.Parts.{opens_with};
 
+use crate::ballot::{Claim, best, best_before, most_done};
 use crate::taking::be_normal;
 use std::alloc::{AllocError, Global};
 use std::mem;
-use vr_log::Running;
 use vr_log::send::{dropped, mail_to, send_replies};
+use vr_log::{Running, VoteOf};
 use vr_types::{Config, Envelope, Machine, MsgOf, Outcome, OutcomeOf, RowsOf, Why};
+
+/// Opens the view with the votes that are kept.
+pub fn open_with_kept<M: Machine>(
+    alloc: Global,
+    config: Config,
+    running: &mut Running<M>,
+    sent: Vec<Envelope<M>>,
+) -> Result<Outcome<M>, AllocError>
+    requires ready { IsReady M.Machine running.old.kept }
+    requires some { 0 < length running.old.votes.items }
+    ensures sound { OnOk result ((start : M) → IsSound M.Machine start config.f running.old → IsSound M.Machine start config.f running.new) }
+    ensures later { running.old.view ≤ running.new.view }
+    ensures step { (choose : Choice M.Cmd) (start : M) (acks : List Ack) (cell : Boot) → IsRight config.f choose → IsRunning M.Machine start config.f running.old acks →
+        Follows M.Machine start config.f config.me running.new result (
+        let ballot = map vote_of running.old.votes.items in
+        opens_with choose config.f config.me (site_of running.old acks cell) sent.items (choose.pick ballot).log (choose.most_done ballot)) }
+{
+    let at = best(running.votes.as_slice());
+    let done = most_done(running.votes.as_slice());
+    open_with_vote(alloc, config, running, at, done, sent)
+}
+
+/// Opens the view with the votes that are kept, and one that comes from a site that has none among them.
+pub fn open_with_new<M: Machine>(
+    alloc: Global,
+    config: Config,
+    running: &mut Running<M>,
+    vote: VoteOf<M::Cmd>,
+    sent: Vec<Envelope<M>>,
+) -> Result<Outcome<M>, AllocError>
+    requires ready { IsReady M.Machine running.old.kept }
+    requires new { has_vote (map vote_of running.old.votes.items) vote.from ≡ false }
+    ensures sound { OnOk result ((start : M) → IsSound M.Machine start config.f running.old → IsSound M.Machine start config.f running.new) }
+    ensures later { running.old.view ≤ running.new.view }
+    ensures step { (choose : Choice M.Cmd) (start : M) (acks : List Ack) (cell : Boot) → IsRight config.f choose → IsRunning M.Machine start config.f running.old acks →
+        Follows M.Machine start config.f config.me running.new result (
+        let ballot = map vote_of running.old.votes.items ++ vote_of vote ∷ [] in
+        opens_with choose config.f config.me (site_of running.old acks cell) sent.items (choose.pick ballot).log (choose.most_done ballot)) }
+{
+    let done = most_done(running.votes.as_slice()).max(vote.done);
+    match best_before(running.votes.as_slice(), Claim::of(&vote)) {
+        Some(at) => open_with_vote(alloc, config, running, at, done, sent),
+        None => open_with_rows(alloc, config, running, vote.log, done, sent),
+    }
+}
+
+/// Opens the view with the votes that are kept, and the site's own, which is not among them. Where its own log goes
+/// before the others, it stays.
+pub fn open_with_own<M: Machine>(
+    alloc: Global,
+    config: Config,
+    running: &mut Running<M>,
+    sent: Vec<Envelope<M>>,
+) -> Result<Outcome<M>, AllocError>
+    requires ready { IsReady M.Machine running.old.kept }
+    requires new { has_vote (map vote_of running.old.votes.items) config.me ≡ false }
+    ensures sound { OnOk result ((start : M) → IsSound M.Machine start config.f running.old → IsSound M.Machine start config.f running.new) }
+    ensures later { running.old.view ≤ running.new.view }
+    ensures step { (choose : Choice M.Cmd) (start : M) (acks : List Ack) (cell : Boot) → IsRight config.f choose → IsRunning M.Machine start config.f running.old acks →
+        Follows M.Machine start config.f config.me running.new result (
+        let x = site_of running.old acks cell in
+        let ballot = map vote_of running.old.votes.items ++ own_vote config.me x ∷ [] in
+        opens_with choose config.f config.me x sent.items (choose.pick ballot).log (choose.most_done ballot)) }
+{
+    let own = Claim {
+        from: config.me,
+        last_normal: running.last_normal,
+        rows: running.kept.log.len(),
+    };
+    let done = most_done(running.votes.as_slice()).max(running.kept.done);
+    match best_before(running.votes.as_slice(), own) {
+        Some(at) => open_with_vote(alloc, config, running, at, done, sent),
+        None => open(alloc, config, running, done, sent),
+    }
+}
 
 /// Opens the view with the log of the vote at an index, where that begins with what the site executed.
 pub fn open_with_vote<M: Machine>(
