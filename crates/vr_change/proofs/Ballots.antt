@@ -1,13 +1,13 @@
 -- Which vote goes before all others, where one more comes.
-use Rattle.std.proofs.Common.{◌⊎◌, inl, inr, true≢false, ◌≡◌, ℕ, suc, zero, ◌+◌, ◌<◌, ◌≤◌, ◌||◌, Bool, true, false, max, List, [], ◌∷◌, ◌++◌, length, map, take, fold, slice_get, get_or, Option, Some, None, if◌then◌else◌, refl, sym, ap, ◌∙◌, subst, arith}
+use Rattle.std.proofs.Common.{◌⊎◌, inl, inr, true≢false, ◌≡◌, ℕ, suc, zero, ◌+◌, ◌<◌, ◌≤◌, ◌==◌, ◌||◌, eq-eqb, Bool, true, false, max, List, [], ◌∷◌, ◌++◌, length, map, take, fold, slice_get, get_or, Option, Some, None, if◌then◌else◌, refl, sym, ap, ◌∙◌, subst, arith}
 use Rattle.std.specs.List.{list_any}
 use Rattle.std.specs.Prelude.{IfSome, Contains}
 use Rattle.std.specs.Option.{option_map}
 use Rattle.std.proofs.lemmas.List.{take_all, length-take-le}
 use Rattle.std.proofs.lemmas.List.Sums.{fold-append}
 use Rattle.std.proofs.lemmas.Option.{slice_get-map, slice_get_read}
-use Rattle.vr_types.specs.Choice.{GoesBefore, IsPick}
-use Rattle.vr_types.specs.Site.{Vote}
+use Rattle.vr_types.specs.Choice.{GoesBefore, IsPick, OneEach}
+use Rattle.vr_types.specs.Site.{Vote, has_vote}
 use Rattle.vr_types.proofs.Choosing.{goes_before, pick_of}
 use Rattle.vr_types.proofs.ChoosingPick.{pick-right, Contains-here, Contains-there, Contains-cases, Contains-none, IsNotBefore, not_before, not_before-trans, before_refuted, before_one_way, before_by_test}
 use Rattle.vr_log.specs.declared.running.VoteOf.{VoteOf}
@@ -121,3 +121,32 @@ picked votes ballot at vote e h = subst (λ o. IfSome o (IsPick ballot)) e h
 
 pub picked_at : {C : Type 0} (votes ballot : List (Vote C)) (at : ℕ) (vote : Vote C) → slice_get votes at ≡ Some vote → IsPick ballot vote → IfSome (slice_get votes at) (IsPick ballot)
 picked_at votes ballot at vote e h = subst (λ o. IfSome o (IsPick ballot)) (sym e) h
+
+-- what stands at an index below the length
+pub there_is : {A : Type 0} (P : A → Type 0) (xs : List A) (at : ℕ) → at < length xs → IfSome (slice_get xs at) P → (x : A) × (slice_get xs at ≡ Some x) × P x
+there_is P [] at low h = absurd (omega arith)
+there_is P (x ∷ xs) zero low h = (x, refl, h)
+there_is P (x ∷ xs) (suc at) low h = there_is P xs at (omega arith) h
+
+-- none of the votes is of that site
+not_there : {C : Type 0} (votes : List (Vote C)) (vote other : Vote C) → has_vote votes vote.from ≡ false → Contains votes other → other.from ≡ vote.from → ⊥
+not_there [] vote other none at same = Contains-none other at
+not_there {C} (first ∷ votes) vote other none at same = by_place (Contains-cases first other votes at) (first.from == vote.from) refl none (not_there votes vote other)
+  where
+    by_place : (first ≡ other) ⊎ Contains votes other → (b : Bool) → (first.from == vote.from) ≡ b → (b || has_vote votes vote.from) ≡ false → (has_vote votes vote.from ≡ false → Contains votes other → other.from ≡ vote.from → ⊥) → ⊥
+    by_place (inl e) b eb f rest =
+        let one : (first.from == vote.from) ≡ true = eq-eqb first.from vote.from (ap (λ (v : Vote C). v.from) e ∙ same) in
+        let all : (b || has_vote votes vote.from) ≡ true = ap (λ t. t || has_vote votes vote.from) (sym eb ∙ one) in
+        true≢false (sym all ∙ f)
+    by_place (inr at) true eb f rest = true≢false f
+    by_place (inr at) false eb f rest = rest f at same
+
+-- one of each site, with a vote of a site that had none
+pub one_each-more : {C : Type 0} (votes : List (Vote C)) (vote : Vote C) → OneEach (λ (v : Vote C). v.from) votes → has_vote votes vote.from ≡ false → OneEach (λ (v : Vote C). v.from) (votes ++ vote ∷ [])
+one_each-more {C} votes vote each none = λ a b at bt same. by_place a b same (Contains-snoc a vote votes at) (Contains-snoc b vote votes bt)
+  where
+    by_place : (a b : Vote C) → a.from ≡ b.from → Contains votes a ⊎ (vote ≡ a) → Contains votes b ⊎ (vote ≡ b) → a ≡ b
+    by_place a b same (inl at) (inl bt) = each a b at bt same
+    by_place a b same (inl at) (inr e) = absurd (not_there votes vote a none at (same ∙ sym (ap (λ (v : Vote C). v.from) e)))
+    by_place a b same (inr e) (inl bt) = absurd (not_there votes vote b none bt (sym same ∙ sym (ap (λ (v : Vote C). v.from) e)))
+    by_place a b same (inr e) (inr d) = sym e ∙ d

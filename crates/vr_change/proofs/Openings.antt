@@ -1,7 +1,8 @@
 -- The opening of a view.
-use Rattle.std.proofs.Common.{◌≡◌, ℕ, List, [], ◌∷◌, ◌++◌, length, map, max, min, None, refl, sym, ap, ◌∙◌, append-nil, Bool, true, false, not, if◌then◌else◌}
+use Rattle.std.proofs.Common.{arith, ◌≡◌, ℕ, ◌<◌, List, [], ◌∷◌, ◌++◌, length, map, max, min, None, refl, sym, ap, ◌∙◌, append-nil, Bool, true, false, not, if◌then◌else◌}
 use Rattle.std.specs.List.{filter_map}
-use Rattle.std.specs.Prelude.{Result, Ok, Err, OnOk}
+use Rattle.std.specs.Prelude.{Contains, Result, Ok, Err, OnOk}
+use Rattle.std.proofs.lemmas.List.Sums.{fold-append}
 use Rattle.vr_types.specs.declared.event.OutcomeOf.{OutcomeOf}
 use Rattle.vr_types.specs.declared.event.Why.TheVariants.{Stale}
 use Rattle.vr_types.specs.declared.machine.Machine.{Ghosts}
@@ -9,9 +10,12 @@ use Rattle.vr_types.specs.declared.message.EnvelopeOf.{EnvelopeOf}
 use Rattle.vr_types.specs.declared.message.MsgOf.TheVariants.{StartView}
 use Rattle.vr_types.specs.declared.row.RowOf.{RowOf}
 use Rattle.vr_types.specs.Change.{opened_with}
-use Rattle.vr_types.specs.Choice.{Choice}
+use Rattle.vr_types.specs.Choice.{Choice, IsRight, IsPick, OneEach}
 use Rattle.vr_types.specs.Group.{to_all}
-use Rattle.vr_types.specs.Site.{Site}
+use Rattle.vr_types.specs.Site.{Site, Vote}
+use Rattle.vr_types.proofs.Choosing.{most_done_of}
+use Rattle.vr_types.proofs.ChoosingPick.{pick-one, most_done-right}
+use Rattle.vr_types.proofs.ChoosingPlace.{IsLargest-one}
 use Rattle.vr_types.specs.Step.{Step, Handled, drops, places_between, executed_to, normal_in, begins_with_executed}
 use Rattle.vr_log.specs.declared.running.Running.{Running}
 use Rattle.vr_log.specs.Kept.{answer_to, reply_mail}
@@ -58,3 +62,20 @@ opened_over {C} {R} {O} f me x log own done k sent e d =
 pub on_ok_then : {T E : Type 0} (result : Result T E) (P Q : Type 0) → (P → Q) → OnOk result P → OnOk result Q
 on_ok_then (Ok value) P Q h p = h p
 on_ok_then (Err error) P Q h p = tt
+
+-- the right choice opens the view with this vote's log and this commit-number
+pub opens_picked : {C R O : Type 0} (choose : Choice C) (f me : ℕ) (x : Site C) (sent : List (EnvelopeOf C R O)) (ballot : List (Vote C)) (vote : Vote C) (k : ℕ) → IsRight f choose → OneEach (λ (v : Vote C). v.from) ballot → IsPick ballot vote → k ≡ most_done_of ballot
+    → ◌≡◌ {A = Step C R O} (opens_with choose f me x sent (choose.pick ballot).log (choose.most_done ballot)) (opens_with choose f me x sent vote.log k)
+opens_picked {C} {R} {O} choose f me x sent ballot vote k right each p done =
+    let some : 0 < length ballot = contains_some ballot vote p.kept in
+    let pick : choose.pick ballot ≡ vote = pick-one ballot (choose.pick ballot) vote each (right.pick ballot some) p in
+    let most : choose.most_done ballot ≡ k = IsLargest-one _ (choose.most_done ballot) (most_done_of ballot) (right.most_done ballot some) (most_done-right ballot some) ∙ sym done in
+    let at : Vote C → ℕ → Step C R O = λ v n. opens_with choose f me x sent v.log n in
+    ap (λ v. at v (choose.most_done ballot)) pick ∙ ap (at vote) most
+  where
+    contains_some : (xs : List (Vote C)) (v : Vote C) → Contains xs v → 0 < length xs
+    contains_some xs v (i, low, e) = omega arith
+
+-- one more vote's commit-number
+pub most_done-more : {C : Type 0} (votes : List (Vote C)) (vote : Vote C) → max (most_done_of votes) vote.done ≡ most_done_of (votes ++ vote ∷ [])
+most_done-more votes vote = sym (fold-append (λ most v. max most v.done) 0 votes (vote ∷ []))

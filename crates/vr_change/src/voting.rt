@@ -257,7 +257,10 @@ fn take_vote<M: Machine>(
         opens_where_due choose config.f config.me x (record { site = with_vote (vote_of vote) x; sent = sent.items })) }
 {
     let votes = running.votes.as_slice();
-    if !votes_now(votes, vote.from, config.me) || !enough_voted(config, votes, vote.from) {
+    if !votes_now(votes, vote.from, config.me) {
+        return keep_vote(running, vote, sent);
+    }
+    if !enough_voted(config, votes, vote.from) {
         return keep_vote(running, vote, sent);
     }
     if has_voted(votes, vote.from) {
