@@ -4,3 +4,4 @@ pub mod Counts
 pub mod Openings
 pub mod Saves
 pub mod Sites
+pub mod Votes

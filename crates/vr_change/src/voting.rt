@@ -6,6 +6,7 @@ ghost use Rattle.vr_types.specs.Group.{primary};
 ghost use Rattle.vr_types.specs.Site.{Ack, is_normal};
 ghost use Rattle.vr_types.specs.Step.{does};
 ghost use Rattle.vr_log.specs.Kept.{IsReady};
+ghost use Rattle.vr_log.specs.Outcomes.{Sends};
 ghost use Rattle.vr_log.specs.Running.{IsSound, IsRunning, Follows, site_of, vote_of};
 ghost use Rattle.vr_change.specs.Ballot.{with_starter, with_ballot};
 ghost use Rattle.vr_change.specs.Parts.{IsPart, gathered};
@@ -17,7 +18,7 @@ use crate::taking::is_normal_in;
 use std::alloc::{AllocError, Global};
 use vr_log::send::{News, dropped, primary_of, tell_all};
 use vr_log::{Running, VoteOf};
-use vr_types::{Config, Envelope, Machine, Outcome, OutcomeOf, Why};
+use vr_types::{Config, Envelope, EnvelopeOf, Machine, Outcome, OutcomeOf, Why};
 
 /// STARTVIEWCHANGE: the site takes part in the change to the view, votes once f others take part, and as the primary
 /// opens the view where it can.
@@ -118,14 +119,12 @@ fn follow<M: Machine>(
 {
     let votes = is_due(config, running, from);
     keep_start(running, from)?;
-    if votes {
-        running.voted = true;
-        sent.push(own_vote(alloc, config, running)?)?;
+    if !votes {
+        return Ok(handled(sent));
     }
-    Ok(OutcomeOf {
-        sent,
-        dropped: None,
-    })
+    running.voted = true;
+    sent.push(own_vote(alloc, config, running)?)?;
+    Ok(handled(sent))
 }
 
 /// The primary keeps a STARTVIEWCHANGE, makes its own vote where it is due, and opens the view where it can.
@@ -200,14 +199,12 @@ fn wait<M: Machine>(
         Follows M.Machine start config.f config.me running.new result (does (gathered votes config.me from (site_of running.old acks cell)) sent.items) }
 {
     keep_start(running, from)?;
-    if votes {
-        running.voted = true;
-        keep_own_vote(alloc, config, running)?;
+    if !votes {
+        return Ok(handled(sent));
     }
-    Ok(OutcomeOf {
-        sent,
-        dropped: None,
-    })
+    running.voted = true;
+    keep_own_vote(alloc, config, running)?;
+    Ok(handled(sent))
 }
 
 /// Keeps the site's own vote, where it has none. After an `Err` what runs may only be dropped.
@@ -281,11 +278,19 @@ fn keep_vote<M: Machine>(
     ensures step { (start : M) (f me : ℕ) (acks : List Ack) (cell : Boot) → IsRunning M.Machine start f running.old acks →
         Follows M.Machine start f me running.new result (does (with_vote (vote_of vote) (site_of running.old acks cell)) sent.items) }
 {
-    if !has_voted(running.votes.as_slice(), vote.from) {
-        running.votes.push(vote)?;
+    if has_voted(running.votes.as_slice(), vote.from) {
+        return Ok(handled(sent));
     }
-    Ok(OutcomeOf {
+    running.votes.push(vote)?;
+    Ok(handled(sent))
+}
+
+/// The event is handled, and this is sent.
+fn handled<C, R, O>(sent: Vec<EnvelopeOf<C, R, O>>) -> OutcomeOf<C, R, O>
+    ensures { Sends result sent.items }
+{
+    OutcomeOf {
         sent,
         dropped: None,
-    })
+    }
 }
