@@ -1,5 +1,6 @@
 -- How many of the sites a test tells.
-use Rattle.std.proofs.Common.{◌≡◌, ℕ, suc, zero, ◌+◌, ◌*◌, ◌<◌, ◌≤◌, ◌==◌, ◌&&◌, ◌||◌, Bool, true, false, not, cond, nat_lt, List, [], ◌∷◌, ◌++◌, filter, count_by, refl, sym, ap, ◌∙◌, arith, le-ltb, if◌then◌else◌}
+use Rattle.std.proofs.Common.{◌≡◌, ℕ, suc, zero, ◌+◌, ◌*◌, ◌<◌, ◌≤◌, ◌==◌, ◌&&◌, ◌||◌, Bool, true, false, not, cond, nat_lt, List, [], ◌∷◌, ◌++◌, filter, count_by, refl, sym, ap, ◌∙◌, arith, le-ltb, if◌then◌else◌, eqb→eq, subst}
+use Rattle.std.proofs.lemmas.Bool.{ne_eqb}
 use Rattle.std.specs.List.{range_with_len}
 use Rattle.std.proofs.lemmas.List.Sums.{sum_by-cons, sum_by-append}
 use Rattle.vr_types.specs.Group.{sites, others}
@@ -36,3 +37,25 @@ pub count_same : {X : Type 0} (p q : X → Bool) (xs : List X) → ((x : X) → 
 count_same p q [] e = refl
 count_same p q (x ∷ xs) e =
     sum_by-cons (λ y. cond (p y) 1 0) x xs ∙ ap (λ b. cond b 1 0 + count_by p xs) (e x) ∙ ap (λ n. cond (q x) 1 0 + n) (count_same p q xs e) ∙ sym (sum_by-cons (λ y. cond (q y) 1 0) x xs)
+
+-- no site above this one is it
+none_above : (k a n : ℕ) → k < a → count_by (λ j. (k == j) || false) (range_with_len a n) ≡ 0
+none_above k a zero low = refl
+none_above k a (suc n) low =
+    sum_by-cons (λ j. cond ((k == j) || false) 1 0) a (range_with_len (a + 1) n)
+    ∙ ap (λ b. cond (b || false) 1 0 + count_by (λ j. (k == j) || false) (range_with_len (a + 1) n)) (ne_eqb k a (λ e. absurd (omega arith)))
+    ∙ ap (λ m. 0 + m) (none_above k (a + 1) n (omega arith))
+
+-- one site is it, or none
+pub at_most_one : (k a n : ℕ) → count_by (λ j. (k == j) || false) (range_with_len a n) ≤ 1
+at_most_one k a zero = omega arith
+at_most_one k a (suc n) =
+    subst (λ m. m ≤ 1) (sym (sum_by-cons (λ j. cond ((k == j) || false) 1 0) a (range_with_len (a + 1) n)))
+    (by_test (k == a) refl (at_most_one k (a + 1) n))
+  where
+    by_test : (b : Bool) → (k == a) ≡ b → count_by (λ j. (k == j) || false) (range_with_len (a + 1) n) ≤ 1 → cond (b || false) 1 0 + count_by (λ j. (k == j) || false) (range_with_len (a + 1) n) ≤ 1
+    by_test true e rest =
+        let same : k ≡ a = eqb→eq k a (rw e tt) in
+        let none = none_above k (a + 1) n (omega arith) in
+        omega arith
+    by_test false e rest = omega arith

@@ -42,7 +42,8 @@ returns-clause-step g c = λ start f me acks cell h.
     let vote = vote_of c.args.vote in
     let has : has_vote vs vote.from ≡ false = ap (λ l. has_vote (map vote_of l) vote.from) (sym c.as_slice.ensures.value) ∙ sym c.has_voted.ensures ∙ c.if-has_voted.false in
     let more : map vote_of c.push.new.self.items ≡ vs ++ vote ∷ [] = ap (map vote_of) c.in_ok-push.ensures.items ∙ map-append vote_of r.votes.items (c.args.vote ∷ []) in
-    meets_as m start f me _ _ _ _ (ap (λ y. does y sent) (with_vote-is vote x ∙ ap (λ l. record x { collected = record (x.collected) { votes = l } }) (with_ballot-new vs vote has)))
-    (does_meets m start f me _ c.handled-2.result _ sent c.handled-2.ensures
-    (kept_running m start f r _ acks refl refl refl (subst (OneEach (λ v. v.from)) (sym more) (one_each-more vs vote h.sound.votes has)) h)
-    (collected_site r _ acks cell r.starts.items r.voted (vs ++ vote ∷ []) refl refl refl refl refl refl more))
+    let n = record r { votes = c.push.new.self } in
+    meets_as m start f me n _ _ _ (ap (λ y. does y sent) (with_vote-is vote x ∙ ap (λ l. record x { collected = record (x.collected) { votes = l } }) (with_ballot-new vs vote has)))
+    (does_meets m start f me n c.handled-2.result _ sent c.handled-2.ensures
+    (kept_running m start f r n acks refl refl refl (subst (OneEach (λ v. v.from)) (sym more) (one_each-more vs vote h.sound.votes has)) h)
+    (collected_site r n acks cell r.starts.items r.voted (vs ++ vote ∷ []) refl refl refl refl refl refl more))
