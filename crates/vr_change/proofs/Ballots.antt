@@ -1,5 +1,5 @@
 -- Which vote goes before all others, where one more comes.
-use Rattle.std.proofs.Common.{◌⊎◌, inl, inr, true≢false, ◌≡◌, ℕ, suc, zero, ◌+◌, ◌<◌, ◌≤◌, ◌==◌, ◌||◌, eq-eqb, Bool, true, false, max, List, [], ◌∷◌, ◌++◌, length, map, take, fold, slice_get, get_or, Option, Some, None, if◌then◌else◌, refl, sym, ap, ◌∙◌, subst, arith}
+use Rattle.std.proofs.Common.{◌⊎◌, inl, inr, true≢false, ◌≡◌, ℕ, suc, zero, ◌+◌, ◌<◌, ◌≤◌, ◌==◌, ◌||◌, eq-eqb, Bool, true, false, List, [], ◌∷◌, ◌++◌, length, map, take, slice_get, get_or, Option, Some, if◌then◌else◌, refl, sym, ap, ◌∙◌, subst, arith}
 use Rattle.std.specs.List.{list_any}
 use Rattle.std.specs.Prelude.{IfSome, Contains}
 use Rattle.std.specs.Option.{option_map}

@@ -12,7 +12,7 @@ use Rattle.vr_types.specs.Choice.{Choice}
 use Rattle.vr_types.specs.Group.{primary, mail, to_all}
 use Rattle.vr_types.specs.Site.{Site, Vote, nothing, is_normal, is_recovering}
 use Rattle.vr_types.specs.Step.{Step, does, drops, with_saved, executed_to, normal_in, begins_with_executed, acknowledges_all, takes_log}
-use Rattle.vr_types.specs.Change.{Part, on_timer, on_start_view_change, on_do_view_change, beats_in_change, on_start_view, sends_vote, starts_later_view, with_start, with_vote, votes_where_due, opens_where_due}
+use Rattle.vr_types.specs.Change.{on_timer, on_start_view_change, on_do_view_change, beats_in_change, on_start_view, sends_vote, starts_later_view, with_start, with_vote, votes_where_due, opens_where_due}
 use Rattle.vr_types.specs.Transfer.{on_get_state, on_new_state}
 use Rattle.vr_change.specs.Fits.{rows_fit}
 use Rattle.vr_change.proofs.Sites.{normal_with}

@@ -1,5 +1,5 @@
 -- The opening of a view.
-use Rattle.std.proofs.Common.{arith, ◌≡◌, ℕ, ◌<◌, List, [], ◌∷◌, ◌++◌, length, map, max, min, None, refl, sym, ap, ◌∙◌, append-nil, Bool, true, false, not, if◌then◌else◌}
+use Rattle.std.proofs.Common.{arith, ◌≡◌, ℕ, ◌<◌, List, [], ◌∷◌, ◌++◌, length, map, max, min, None, sym, ap, ◌∙◌, append-nil, true, false}
 use Rattle.std.specs.List.{filter_map}
 use Rattle.std.specs.Prelude.{Contains, Result, Ok, Err, OnOk}
 use Rattle.std.proofs.lemmas.List.Sums.{fold-append}
@@ -16,7 +16,7 @@ use Rattle.vr_types.specs.Site.{Site, Vote}
 use Rattle.vr_types.proofs.Choosing.{most_done_of}
 use Rattle.vr_types.proofs.ChoosingPick.{pick-one, most_done-right}
 use Rattle.vr_types.proofs.ChoosingPlace.{IsLargest-one}
-use Rattle.vr_types.specs.Step.{Step, Handled, drops, places_between, executed_to, normal_in, begins_with_executed}
+use Rattle.vr_types.specs.Step.{Step, drops, places_between, executed_to, normal_in, begins_with_executed}
 use Rattle.vr_log.specs.declared.running.Running.{Running}
 use Rattle.vr_log.specs.Kept.{answer_to, reply_mail}
 use Rattle.vr_log.specs.Outcomes.{ended}

@@ -1,5 +1,5 @@
 -- What runs after a rule shows the site after it.
-use Rattle.std.proofs.Common.{◌≡◌, ℕ, List, [], length, map, Bool, true, false, refl, sym, ap, ◌∙◌, subst}
+use Rattle.std.proofs.Common.{◌≡◌, ℕ, List, [], length, map, Bool, true, false, sym, ap, ◌∙◌, subst}
 use Rattle.std.specs.Prelude.{Contains}
 use Rattle.vr_types.specs.declared.cell.Boot.{Boot}
 use Rattle.vr_types.specs.declared.event.Status.TheVariants.{Normal, Change}
@@ -7,7 +7,6 @@ use Rattle.vr_types.specs.declared.machine.Machine.{Ghosts}
 use Rattle.vr_types.specs.declared.row.RowOf.{RowOf}
 use Rattle.vr_types.specs.Choice.{OneEach}
 use Rattle.vr_types.specs.Site.{Ack, Site, Vote, nothing, is_running}
-use Rattle.vr_types.specs.Step.{with_saved}
 use Rattle.vr_types.proofs.ChoosingPick.{Contains-none}
 use Rattle.vr_log.specs.declared.running.Running.{Running}
 use Rattle.vr_log.specs.Kept.{IsKept}

@@ -31,5 +31,5 @@ gathered votes me from x = record x {
     starts = with_starter x.collected.starts from;
     voted = votes || x.collected.voted;
     votes = if votes then with_ballot x.collected.votes (own_vote me x) else x.collected.votes;
-  }
+  };
 }

@@ -1,9 +1,9 @@
-use Rattle.std.proofs.Common.{◌≡◌, ◌+◌, ◌<◌, ◌≤◌, true, false, length, map, Some, slice_get, take, sym, ap, ◌∙◌, refl, arith}
+use Rattle.std.proofs.Common.{◌≡◌, true, false, map, slice_get, sym, ap, ◌∙◌, arith}
 use Rattle.std.proofs.lemmas.List.{length-map}
-use Rattle.vr_types.proofs.Choosing.{goes_before, pick_of}
+use Rattle.vr_types.proofs.Choosing.{goes_before}
 use Rattle.vr_log.specs.Running.{vote_of}
 use Rattle.vr_change.specs.Ballot.{claim, claims_before}
-use Rattle.vr_change.proofs.Ballots.{vote_at, best_next, best_is_pick, pick_at, pick_of-first}
+use Rattle.vr_change.proofs.Ballots.{vote_at, best_next, best_is_pick, pick_at}
 use Rattle.vr_change.proofs.ballot.best.Goals as goal
 use Rattle.vr_change.proofs.ballot.best.Goals.{then-goes_before, else-goes_before}
 

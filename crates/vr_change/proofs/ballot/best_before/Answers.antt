@@ -1,4 +1,4 @@
-use Rattle.std.proofs.Common.{◌≡◌, ◌<◌, ◌++◌, ◌∷◌, [], map, sym, ap, ◌∙◌, arith}
+use Rattle.std.proofs.Common.{◌≡◌, ◌++◌, ◌∷◌, [], map, sym, ap, ◌∙◌}
 use Rattle.vr_types.specs.Choice.{IsPick}
 use Rattle.vr_types.proofs.Choosing.{goes_before}
 use Rattle.vr_log.specs.Running.{vote_of}

@@ -1,6 +1,5 @@
 use Rattle.std.proofs.Common.{◌≡◌, ℕ, ◌+◌, ◌*◌, ◌==◌, ◌&&◌, ◌||◌, true, false, not, nat_le, count_by, sym, ap, ◌∙◌, arith}
 use Rattle.std.specs.List.{range_with_len}
-use Rattle.vr_types.specs.Group.{others}
 use Rattle.vr_types.specs.Site.{has_start}
 use Rattle.vr_change.proofs.Counts.{count_next, count_others}
 use Rattle.vr_change.proofs.ballot.enough_started.Goals as goal

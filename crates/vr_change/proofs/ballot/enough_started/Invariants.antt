@@ -1,7 +1,6 @@
-use Rattle.std.proofs.Common.{◌≡◌, ◌≤◌, ◌==◌, ◌&&◌, ◌||◌, not, map, count_by}
+use Rattle.std.proofs.Common.{◌≡◌, ◌≤◌, ◌==◌, ◌&&◌, ◌||◌, not, count_by}
 use Rattle.std.specs.List.{range_with_len}
-use Rattle.vr_types.specs.Site.{has_start, has_vote}
-use Rattle.vr_log.specs.Running.{vote_of}
+use Rattle.vr_types.specs.Site.{has_start}
 use Rattle.vr_change.proofs.ballot.enough_started.Given as goal
 
 -- of the sites so far

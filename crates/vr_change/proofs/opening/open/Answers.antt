@@ -1,4 +1,4 @@
-use Rattle.std.proofs.Common.{◌≡◌, [], ◌++◌, map, max, min, length, refl, sym, ap, ◌∙◌, subst}
+use Rattle.std.proofs.Common.{◌≡◌, [], ◌++◌, map, refl, sym, ap, ◌∙◌, subst}
 use Rattle.std.specs.List.{filter_map}
 use Rattle.vr_types.specs.declared.message.MsgOf.TheVariants.{StartView}
 use Rattle.vr_types.specs.Group.{to_all}

@@ -1,14 +1,12 @@
-use Rattle.std.proofs.Common.{◌≡◌, ◌<◌, ◌≤◌, true, ◌++◌, ◌∷◌, [], length, map, max, slice_get, refl, sym, ap, ◌∙◌, subst, arith}
-use Rattle.std.specs.Prelude.{IfSome, MatchOption}
+use Rattle.std.proofs.Common.{◌≡◌, ◌<◌, ◌++◌, ◌∷◌, [], length, map, max, sym, ap, ◌∙◌, arith}
 use Rattle.std.proofs.lemmas.List.{length-map}
 use Rattle.vr_types.specs.Choice.{IsPick}
 use Rattle.vr_types.specs.Site.{Vote}
-use Rattle.vr_types.specs.Change.{own_vote}
 use Rattle.vr_types.proofs.Choosing.{most_done_of}
 use Rattle.vr_log.specs.Running.{site_of, vote_of}
 use Rattle.vr_log.proofs.OutcomeLemmas.{follows_as}
 use Rattle.vr_change.proofs.Ballots.{there_is, one_each-more}
-use Rattle.vr_change.proofs.Openings.{opens_picked, opens_with-opens, most_done-more}
+use Rattle.vr_change.proofs.Openings.{opens_picked, most_done-more}
 use Rattle.vr_change.proofs.opening.open_with_new.Goals as goal
 
 pub returns-in-Some-clause-step : goal.returns-in-Some-clause-step

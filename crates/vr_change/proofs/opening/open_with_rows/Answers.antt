@@ -1,11 +1,8 @@
-use Rattle.std.proofs.Common.{◌≡◌, ◌≤◌, ◌++◌, true, false, take, length, map, Some, slice_get, refl, sym, ap, ◌∙◌, subst, arith}
-use Rattle.std.specs.Prelude.{IfSome}
-use Rattle.vr_types.specs.Change.{opened_with}
-use Rattle.vr_types.specs.Step.{Step, begins_with_executed}
+use Rattle.std.proofs.Common.{◌≡◌, true, false, sym, ap, ◌∙◌}
+use Rattle.vr_types.specs.Step.{begins_with_executed}
 use Rattle.vr_log.specs.Kept.{KeepsExecuted}
-use Rattle.vr_log.specs.Running.{IsSound, IsRunning, Follows, site_of, vote_of}
-use Rattle.vr_log.proofs.OutcomeLemmas.{follows_as, meets_as, err_follows, drops_meets, on_ok}
-use Rattle.vr_change.specs.Parts.{opens_with}
+use Rattle.vr_log.specs.Running.{site_of}
+use Rattle.vr_log.proofs.OutcomeLemmas.{follows_as, meets_as, err_follows, drops_meets}
 use Rattle.vr_change.proofs.Openings.{opens_with-stale, opens_with-opens, opened_over, on_ok_then}
 use Rattle.vr_change.proofs.opening.open_with_rows.Goals as goal
 

@@ -1,9 +1,9 @@
-use Rattle.std.proofs.Common.{◌≡◌, ◌<◌, ◌≤◌, ◌==◌, ◌&&◌, true, false, refl, sym, ap, ◌∙◌, subst, arith, eq-eqb}
+use Rattle.std.proofs.Common.{◌≡◌, ◌≤◌, ◌==◌, ◌&&◌, true, false, sym, ap, ◌∙◌, arith, eq-eqb}
 use Rattle.std.proofs.lemmas.Bool.{ne_eqb}
-use Rattle.vr_types.specs.Change.{Part, starts_later_view, with_start, with_vote, votes_where_due, opens_where_due}
+use Rattle.vr_types.specs.Change.{Part, starts_later_view}
 use Rattle.vr_types.specs.Group.{primary}
 use Rattle.vr_types.specs.Site.{is_normal}
-use Rattle.vr_log.specs.Running.{Follows, site_of, vote_of}
+use Rattle.vr_log.specs.Running.{site_of, vote_of}
 use Rattle.vr_log.proofs.OutcomeLemmas.{meets_as, follows_as, err_follows, drops_meets, running_is_here}
 use Rattle.vr_change.proofs.Openings.{on_ok_then}
 use Rattle.vr_change.proofs.Cases.{on_do_view_change-view, on_do_view_change-backup, on_do_view_change-here, on_do_view_change-is}

@@ -1,8 +1,7 @@
 use Rattle.std.proofs.Common.{◌≡◌, ◌++◌, ◌∷◌, [], true, false, map, refl, sym, ap, ◌∙◌, subst}
 use Rattle.std.proofs.lemmas.List.{map-append}
-use Rattle.vr_types.specs.Change.{with_vote}
 use Rattle.vr_types.specs.Choice.{OneEach}
-use Rattle.vr_types.specs.Site.{Vote, has_vote}
+use Rattle.vr_types.specs.Site.{has_vote}
 use Rattle.vr_types.specs.Step.{does}
 use Rattle.vr_log.specs.Running.{site_of, vote_of}
 use Rattle.vr_log.proofs.OutcomeLemmas.{meets_as, does_meets}

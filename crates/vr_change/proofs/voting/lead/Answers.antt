@@ -1,5 +1,5 @@
-use Rattle.std.proofs.Common.{◌≡◌, ◌<◌, ◌==◌, ◌||◌, ◌++◌, ◌∷◌, [], ◌⊎◌, inl, inr, Bool, true, false, map, count_by, nat_lt, if◌then◌else◌, refl, sym, ap, ◌∙◌, subst, eq-eqb}
-use Rattle.vr_types.specs.Change.{own_vote, with_start}
+use Rattle.std.proofs.Common.{◌≡◌, ◌==◌, ◌||◌, ◌++◌, ◌∷◌, [], ◌⊎◌, inl, inr, true, false, map, count_by, nat_lt, if◌then◌else◌, refl, sym, ap, ◌∙◌, eq-eqb}
+use Rattle.vr_types.specs.Change.{own_vote}
 use Rattle.vr_types.specs.Group.{primary, sites}
 use Rattle.vr_types.specs.Site.{has_vote, is_change}
 use Rattle.vr_log.specs.Running.{site_of, vote_of}

@@ -1,9 +1,7 @@
-use Rattle.std.proofs.Common.{◌≡◌, ◌<◌, ◌≤◌, ◌==◌, ◌&&◌, true, false, refl, sym, ap, ◌∙◌, subst, arith, eq-eqb}
-use Rattle.std.proofs.lemmas.Bool.{ne_eqb}
-use Rattle.vr_types.specs.Change.{Part, starts_later_view, with_start, with_vote, votes_where_due, opens_where_due}
-use Rattle.vr_types.specs.Group.{primary}
+use Rattle.std.proofs.Common.{◌≡◌, ◌≤◌, ◌==◌, ◌&&◌, true, false, sym, ap, ◌∙◌, arith}
+use Rattle.vr_types.specs.Change.{Part, starts_later_view}
 use Rattle.vr_types.specs.Site.{is_normal}
-use Rattle.vr_log.specs.Running.{Follows, site_of, vote_of}
+use Rattle.vr_log.specs.Running.{site_of}
 use Rattle.vr_log.proofs.OutcomeLemmas.{meets_as, follows_as, err_follows, drops_meets, running_is_here}
 use Rattle.vr_change.proofs.Cases.{on_start_view_change-view, on_start_view_change-here, on_start_view_change-is}
 use Rattle.vr_change.proofs.Votes.{start-later, start-does, start-goes_on}

@@ -1,11 +1,9 @@
-use Rattle.std.proofs.Common.{◌≡◌, ◌<◌, ◌==◌, ◌||◌, ◌++◌, ◌∷◌, [], ◌⊎◌, inl, inr, Bool, true, false, map, count_by, nat_lt, if◌then◌else◌, refl, sym, ap, ◌∙◌, subst, eq-eqb}
-use Rattle.vr_types.specs.Change.{own_vote, with_start}
+use Rattle.std.proofs.Common.{◌≡◌, ◌==◌, ◌||◌, true, false, map, count_by, nat_lt, sym, ap, ◌∙◌, eq-eqb}
 use Rattle.vr_types.specs.Group.{primary, sites}
 use Rattle.vr_types.specs.Site.{has_vote, is_change}
 use Rattle.vr_log.specs.Running.{site_of, vote_of}
 use Rattle.vr_log.proofs.OutcomeLemmas.{follows_as}
-use Rattle.vr_change.specs.Ballot.{with_ballot}
-use Rattle.vr_change.specs.Parts.{gathered, opens_with}
+use Rattle.vr_change.specs.Parts.{opens_with}
 use Rattle.vr_change.proofs.Openings.{on_ok_then}
 use Rattle.vr_change.proofs.Votes.{voted, take-is, take-not, opens-col, opens-now, not_open-own, not_open-few, has_ballot, count_ballot, with_ballot-kept, with_ballot-new, changes}
 use Rattle.vr_change.proofs.voting.take_vote.Goals as goal
