@@ -19,3 +19,6 @@ pub use change::{beat_in_change, timer};
 pub use taking::start_view;
 pub use transfer::{get_state, new_state};
 pub use voting::{do_view_change, start_view_change};
+
+#[cfg(test)]
+mod tests;
