@@ -5,3 +5,6 @@ pub mod replica;
 pub mod tally;
 
 pub use replica::Replica;
+
+#[cfg(test)]
+mod tests;
