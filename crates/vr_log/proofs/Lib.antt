@@ -1,3 +1,4 @@
+pub mod Begins
 pub mod KeptLemmas
 pub mod Others
 pub mod OutcomeLemmas

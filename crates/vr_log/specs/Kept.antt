@@ -28,6 +28,11 @@ pub record IsReady {H C R O S : Type 0} (m : Ghosts H C R O S) (k : Kept H C R O
   pub within : k.done ≤ length k.log
   pub count : m.count k.machine ≡ k.done
 
+-- a log begins with the rows that are done
+pub record KeepsExecuted {H C R O S : Type 0} (k : Kept H C R O S) (log : List (RowOf C)) : Type 0 where
+  pub within : k.done ≤ length log
+  pub same : take k.done log ≡ take k.done k.log
+
 -- The machine went from start through the first rows, as many as are done; the table says of each client what the log and the executed rows say.
 pub record IsKept {H C R O S : Type 0} (m : Ghosts H C R O S) (start : H) (k : Kept H C R O S) : Type 0 where
   pub within : k.done ≤ length k.log

@@ -5,7 +5,7 @@ use Rattle.vr_types.specs.declared.cell.Boot.{Boot}
 use Rattle.vr_types.specs.declared.event.OutcomeOf.{OutcomeOf}
 use Rattle.vr_types.specs.declared.machine.Machine.{Ghosts}
 use Rattle.vr_types.specs.Site.{Ack, Vote, Site, is_running}
-use Rattle.vr_types.specs.Choice.{has_acknowledged}
+use Rattle.vr_types.specs.Choice.{has_acknowledged, OneEach}
 use Rattle.vr_types.specs.Step.{Step, Handled}
 use Rattle.vr_types.specs.Handling.{envelopes}
 use Rattle.vr_log.specs.declared.running.VoteOf.{VoteOf}
@@ -33,11 +33,12 @@ site_of r acks cell = record {
   cell = cell;
 }
 
--- what runs is kept from this start, has a number for each of 2f+1 sites, and is normal or in change
+-- what runs is kept from this start, has a number for each of 2f+1 sites, is normal or in change, and keeps one vote of a site
 pub record IsSound {H C R O S : Type 0} (m : Ghosts H C R O S) (start : H) (f : ℕ) (r : Running H C R O S) : Type 0 where
   pub kept : IsKept m start r.kept
   pub sites : length r.acked.items ≡ 2 * f + 1
   pub up : is_running r.status ≡ true
+  pub votes : OneEach (λ vote. vote.from) (map vote_of r.votes.items)
 
 -- the same, where these acknowledgements came
 pub record IsRunning {H C R O S : Type 0} (m : Ghosts H C R O S) (start : H) (f : ℕ) (r : Running H C R O S) (acks : List Ack) : Type 0 where

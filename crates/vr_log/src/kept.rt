@@ -1,9 +1,10 @@
-ghost use Rattle.std.specs.Prelude.{◌≡◌, ◌+◌, ◌<◌, ◌++◌, ◌∷◌, [], Some, slice_get, filter_map, IfOk, OnOk, length, max, min};
+ghost use Rattle.std.specs.Prelude.{◌≡◌, ℕ, ◌+◌, ◌<◌, ◌≤◌, ◌++◌, ◌∷◌, [], Some, slice_get, filter_map, IfOk, OnOk, IsTrue, ◌↔◌, length, max, min, take};
+ghost use Rattle.std.specs.List.{starts_with};
 
 use crate::clients::Clients;
 use crate::log::Log;
 use std::alloc::{AllocError, Global};
-use vr_types::{MAX_ROWS, Machine, Row};
+use vr_types::{MAX_ROWS, Machine, Row, RowsOf, is_same};
 
 /// What a client is told of its request.
 #[derive(Clone, Copy, Debug, PartialEq, Eq)]
@@ -26,8 +27,10 @@ pub struct Kept<M: Machine> {
 }
 
 impl<M: Machine> Kept<M> {
+    ghost use Rattle.vr_types.specs.Choice.{Choice, IsRight};
+    ghost use Rattle.vr_types.specs.Rows.{is_same_row as same_row};
     ghost use Rattle.vr_types.specs.Step.{places_between};
-    ghost use Rattle.vr_log.specs.Kept.{IsKept, IsReady, answer_to};
+    ghost use Rattle.vr_log.specs.Kept.{IsKept, IsReady, KeepsExecuted, answer_to};
 
     /// Puts a row at the log's end. After an `Err` this may only be dropped.
     pub fn append(&mut self, row: Row<M>) -> Result<(), AllocError>
@@ -39,6 +42,45 @@ impl<M: Machine> Kept<M> {
     {
         self.clients.note(row.client, row.number)?;
         self.log.push(row)?;
+        Ok(())
+    }
+
+    /// Whether the log that has these rows after its first `base` begins with the rows that are done. It takes no
+    /// memory.
+    pub fn keeps_executed(&self, base: usize, rows: &RowsOf<M::Cmd>) -> bool
+        requires ready { IsReady M.Machine self.now }
+        requires base { base ≤ length self.now.log }
+        ensures same { (f : ℕ) (choose : Choice M.Cmd) → IsRight f choose →
+            result ≡ starts_with (same_row choose.same) (take base self.now.log ++ rows.now) (take self.now.done self.now.log) }
+        ensures keeps { IsTrue result → KeepsExecuted self.now (take base self.now.log ++ rows.now) }
+    {
+        let done = self.done as usize;
+        let _len = self.log.len();
+        let part = rows.as_slice();
+        if base + part.len() < done {
+            return false;
+        }
+        for at in base..done {
+            if !is_same_row::<M>(part[at - base], self.log.row(at)) {
+                return false;
+            }
+        }
+        true
+    }
+
+    /// The first `base` rows of the log stay, and these come after them. Where none stays, the rows are moved, not
+    /// copied. After an `Err` this may only be dropped.
+    pub fn take_rows(&mut self, base: usize, rows: RowsOf<M::Cmd>) -> Result<(), AllocError>
+        requires base { base ≤ length self.old.log }
+        requires few { base + length rows ≤ MAX_ROWS }
+        ensures log { OnOk result (self.new.log ≡ take base self.old.log ++ rows) }
+        ensures done { self.new.done ≡ self.old.done }
+        ensures machine { self.new.machine ≡ self.old.machine }
+        ensures kept { OnOk result ((start : M) → KeepsExecuted self.old (take base self.old.log ++ rows) → IsKept M.Machine start self.old → IsKept M.Machine start self.new) }
+        ensures ready { OnOk result (KeepsExecuted self.old (take base self.old.log ++ rows) → IsReady M.Machine self.old → IsReady M.Machine self.new) }
+    {
+        self.log.take_rows(base, rows)?;
+        self.clients.rebuild(&self.log)?;
         Ok(())
     }
 
@@ -84,4 +126,11 @@ impl<M: Machine> Kept<M> {
             reply,
         })
     }
+}
+
+/// Whether two rows are the same.
+fn is_same_row<M: Machine>(a: Row<M>, b: Row<M>) -> bool
+    ensures { IsTrue result ↔ (a ≡ b) }
+{
+    a.client == b.client && a.number == b.number && is_same::<M>(a.cmd, b.cmd)
 }

@@ -72,13 +72,27 @@ impl<C: Copy> LogOf<C> {
         Ok(())
     }
 
-    /// The first `base` rows stay, and these come after them. An `Err` leaves the log as it was.
-    pub fn replace_from(&mut self, base: usize, part: &RowsOf<C>) -> Result<(), AllocError>
+    /// The log that these rows are: they are moved, not copied.
+    pub fn from_rows(rows: RowsOf<C>) -> Self
+        ensures { result ≡ rows }
+    {
+        LogOf {
+            rows: rows.into_vec(),
+        }
+    }
+
+    /// The first `base` rows stay, and these come after them. Where none stays, the rows are moved, not copied.
+    /// An `Err` leaves the log as it was.
+    pub fn take_rows(&mut self, base: usize, part: RowsOf<C>) -> Result<(), AllocError>
         requires base { base ≤ length self.old }
-        requires few { base + length part.now ≤ MAX_ROWS }
-        ensures ok { OnOk result (self.new ≡ take base self.old ++ part.now) }
+        requires few { base + length part ≤ MAX_ROWS }
+        ensures ok { OnOk result (self.new ≡ take base self.old ++ part) }
         ensures err { OnErr result (self.new ≡ self.old) }
     {
+        if base == 0 {
+            self.rows = part.into_vec();
+            return Ok(());
+        }
         self.rows.reserve(part.len())?;
         self.rows.truncate(base);
         self.rows.extend_from_slice(part.as_slice())?;

@@ -1,9 +1,11 @@
-ghost use Rattle.std.specs.Prelude.{◌≡◌, ℕ, ◌*◌, ◌≤◌, ◌==◌, ◌∷◌, [], IfOk};
+ghost use Rattle.std.specs.Prelude.{◌≡◌, ℕ, ◌*◌, ◌≤◌, ◌==◌, ◌++◌, ◌∷◌, [], map, IfOk, OnOk};
 ghost use Rattle.vr_types.specs.Site.{is_normal, is_change};
 ghost use Rattle.vr_types.specs.Group.{primary, actor_of, mail, to_all};
+ghost use Rattle.vr_log.specs.Kept.{reply_mail};
 ghost use Rattle.vr_log.specs.Outcomes.{Sends, Drops};
 ghost use Rattle.vr_log.specs.News.{news_msg};
 
+use crate::kept::AnswerOf;
 use std::alloc::{AllocError, Global};
 use vr_types::{Config, EnvelopeOf, MsgOf, OutcomeOf, RowOf, Status, Why};
 
@@ -22,6 +24,12 @@ pub enum News<C> {
     Commit {
         view: u32,
         done: u16,
+    },
+    StartViewChange {
+        view: u32,
+    },
+    Recovery {
+        nonce: u32,
     },
 }
 
@@ -43,6 +51,8 @@ impl<C: Copy> News<C> {
                 row,
             },
             News::Commit { view, done } => MsgOf::Commit { view, done },
+            News::StartViewChange { view } => MsgOf::StartViewChange { view },
+            News::Recovery { nonce } => MsgOf::Recovery { nonce },
         }
     }
 }
@@ -152,4 +162,37 @@ pub fn tell_all<C: Copy, R: Drop, O: Drop>(
         }
     }
     Ok(sent)
+}
+
+/// PREPAREOK for the first rows, to the primary of a view.
+pub fn acknowledge_log<C: Drop, R: Drop, O: Drop>(
+    alloc: Global,
+    config: Config,
+    view: u32,
+    place: u16,
+) -> Result<OutcomeOf<C, R, O>, AllocError>
+    ensures { IfOk result (λ out. Sends out (mail config.me (primary config.f view) (MsgOf.PrepareOk view place) ∷ [])) }
+{
+    let msg = MsgOf::PrepareOk { view, place };
+    sends_one(alloc, mail_to(config, primary_of(config, view), msg))
+}
+
+/// Adds the replies of a view to these answers, in order.
+pub fn send_replies<C: Drop, R: Copy, O: Drop>(
+    config: Config,
+    view: u32,
+    answers: &[AnswerOf<R>],
+    sent: &mut Vec<EnvelopeOf<C, R, O>>,
+) -> Result<(), AllocError>
+    ensures { OnOk result (sent.new.items ≡ sent.old.items ++ map (reply_mail config.me view) answers.now) }
+{
+    for answer in answers {
+        let reply = MsgOf::Reply {
+            view,
+            number: answer.number,
+            reply: answer.reply,
+        };
+        sent.push(mail_to_client(config, answer.client, reply))?;
+    }
+    Ok(())
 }

@@ -9,7 +9,9 @@ ghost use Rattle.vr_log.specs.Outcomes.{Sends};
 ghost use Rattle.vr_log.specs.Running.{IsSound, IsRunning, Follows, site_of};
 
 use std::alloc::{AllocError, Global};
-use vr_log::send::{changes_view, dropped, mail_to, primary_of, sends_one, silent};
+use vr_log::send::{
+    acknowledge_log, changes_view, dropped, mail_to, primary_of, sends_one, silent,
+};
 use vr_log::{Kept, Running};
 use vr_types::{Config, Machine, MsgOf, Outcome, OutcomeOf, Row, Status, Why};
 
@@ -137,18 +139,5 @@ fn ask_state<C: Drop, R: Drop, O: Drop>(
     ensures { IfOk result (λ out. Sends out (asks_state config.f config.me view base)) }
 {
     let msg = MsgOf::GetState { view, base };
-    sends_one(alloc, mail_to(config, primary_of(config, view), msg))
-}
-
-/// PREPAREOK for the first rows, to the primary of a view.
-fn acknowledge_log<C: Drop, R: Drop, O: Drop>(
-    alloc: Global,
-    config: Config,
-    view: u32,
-    place: u16,
-) -> Result<OutcomeOf<C, R, O>, AllocError>
-    ensures { IfOk result (λ out. Sends out (mail config.me (primary config.f view) (MsgOf.PrepareOk view place) ∷ [])) }
-{
-    let msg = MsgOf::PrepareOk { view, place };
     sends_one(alloc, mail_to(config, primary_of(config, view), msg))
 }

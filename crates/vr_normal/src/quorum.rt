@@ -1,17 +1,17 @@
-ghost use Rattle.std.specs.Prelude.{◌≡◌, ◌+◌, ◌*◌, ◌≤◌, IsTrue, IfOk, OnOk, List, length, map};
+ghost use Rattle.std.specs.Prelude.{◌≡◌, ◌+◌, ◌*◌, ◌≤◌, IsTrue, IfOk, OnOk, List, length};
 ghost use Rattle.vr_types.specs.declared.cell.Boot.{Boot};
 ghost use Rattle.vr_types.specs.Choice.{Choice, IsRight, IsLargest};
 ghost use Rattle.vr_types.specs.Normal.{on_prepare_ok, with_ack};
 ghost use Rattle.vr_types.specs.Site.{Ack};
 ghost use Rattle.vr_types.specs.Step.{executes_and_answers};
-ghost use Rattle.vr_log.specs.Kept.{IsReady, reply_mail};
+ghost use Rattle.vr_log.specs.Kept.{IsReady};
 ghost use Rattle.vr_log.specs.Running.{IsSound, IsRunning, Follows, site_of};
 ghost use Rattle.vr_normal.specs.Support.{has_support};
 
 use std::alloc::{AllocError, Global};
-use vr_log::send::{dropped, mail_to_client, primary_of, runs_normally};
-use vr_log::{AnswerOf, Running};
-use vr_types::{Config, EnvelopeOf, Machine, MsgOf, Outcome, OutcomeOf, Why};
+use vr_log::Running;
+use vr_log::send::{dropped, primary_of, runs_normally, send_replies};
+use vr_types::{Config, Machine, Outcome, OutcomeOf, Why};
 
 /// PREPAREOK: what f different other sites have acknowledged is executed, and its clients are answered.
 pub fn prepare_ok<M: Machine>(
@@ -67,7 +67,8 @@ fn acknowledge<M: Machine>(
     running.acked[from as usize] = before.max(place.min(len));
     let upto = commit_place(config, running.acked.as_slice());
     let answers = running.kept.execute(alloc, upto)?;
-    let sent = replies_of(alloc, config, running.view, answers.as_slice())?;
+    let mut sent = Vec::new(alloc);
+    send_replies(config, running.view, answers.as_slice(), &mut sent)?;
     Ok(OutcomeOf {
         sent,
         dropped: None,
@@ -100,25 +101,4 @@ fn is_supported(config: Config, acked: &[u16], place: u16) -> bool
         }
     }
     config.f <= count
-}
-
-/// The replies of a view to these answers, in order.
-fn replies_of<C: Drop, R: Copy, O: Drop>(
-    alloc: Global,
-    config: Config,
-    view: u32,
-    answers: &[AnswerOf<R>],
-) -> Result<Vec<EnvelopeOf<C, R, O>>, AllocError>
-    ensures { IfOk result (λ sent. sent.items ≡ map (reply_mail config.me view) answers.now) }
-{
-    let mut sent = Vec::new(alloc);
-    for answer in answers {
-        let reply = MsgOf::Reply {
-            view,
-            number: answer.number,
-            reply: answer.reply,
-        };
-        sent.push(mail_to_client(config, answer.client, reply))?;
-    }
-    Ok(sent)
 }

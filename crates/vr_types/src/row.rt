@@ -74,6 +74,14 @@ impl<C: Copy> RowsOf<C> {
         self.rows.as_slice()
     }
 
+    /// The rows as a vector: they are moved, not copied.
+    pub fn into_vec(self) -> Vec<RowOf<C>>
+        ensures rows { result.items ≡ self }
+        ensures few { length result.items ≤ MAX_ROWS }
+    {
+        self.rows
+    }
+
     /// Puts a row at the end. An `Err` leaves the rows as they were.
     pub fn push(&mut self, row: RowOf<C>) -> Result<(), AllocError>
         requires { length self.old < MAX_ROWS }

@@ -31,9 +31,9 @@ returns-clause-step g c = λ choose start acks cell right h.
     let done : max r.kept.done (min k rows) ≡ c.execute.new.self.done = ap (λ n. max r.kept.done (min n rows)) same ∙ sym now.done in
     answers_meets m start f me _ _ y (places_between r.kept.done y.done)
     (record {
-      mails = c.in_ok-sent.ensures ∙ ap (map (reply_mail me r.view)) (c.as_slice-2.ensures.value ∙ now.answers start h.sound.kept
+      mails = c.in_ok-send_replies.ensures ∙ ap (λ sent. sent ++ map (reply_mail me r.view) c.as_slice-2.result.now) c.new-sent.ensures.items ∙ ap (map (reply_mail me r.view)) (c.as_slice-2.ensures.value ∙ now.answers start h.sound.kept
           ∙ ap (λ d. filter_map (answer_to m start r.kept.log) (places_between r.kept.done d)) (sym done));
       dropped = refl;
     })
-    (record { sound = record { kept = now.kept start h.sound.kept; sites = search rules; up = h.sound.up }; summed = summed })
+    (record { sound = record { kept = now.kept start h.sound.kept; sites = search rules; up = h.sound.up; votes = h.sound.votes }; summed = summed })
     (same_site (with_ack from c.args.place (site_of r acks cell)) r.kept.log _ (max r.kept.done (min k rows)) _ (sym now.log) done)

@@ -1,0 +1,104 @@
+ghost use Rattle.std.specs.Prelude.{◌≡◌, ◌<◌, ◌≤◌, ◌∷◌, [], false, IfOk, OnOk, List, length};
+ghost use Rattle.vr_types.specs.declared.cell.Boot.{Boot};
+ghost use Rattle.vr_types.specs.Change.{on_timer, beats_in_change, sends_vote};
+ghost use Rattle.vr_types.specs.Group.{to_all};
+ghost use Rattle.vr_types.specs.Site.{Ack};
+ghost use Rattle.vr_log.specs.Running.{IsSound, IsRunning, Follows, SumUp, site_of};
+
+use std::alloc::{AllocError, Global};
+use vr_log::Running;
+use vr_log::send::{News, mail_to, primary_of, tell_all};
+use vr_types::{Config, Envelope, Machine, MsgOf, Outcome, OutcomeOf, Status};
+
+/// Timer: the change to the next view begins, and all are told.
+pub fn timer<M: Machine>(
+    alloc: Global,
+    config: Config,
+    running: &mut Running<M>,
+) -> Result<Outcome<M>, AllocError>
+    requires { running.old.view < 4294967295 }
+    ensures sound { OnOk result ((start : M) → IsSound M.Machine start config.f running.old → IsSound M.Machine start config.f running.new) }
+    ensures later { running.old.view ≤ running.new.view }
+    ensures step { (start : M) (acks : List Ack) (cell : Boot) → IsRunning M.Machine start config.f running.old acks →
+        Follows M.Machine start config.f config.me running.new result (on_timer config.f config.me (site_of running.old acks cell)) }
+{
+    let view = running.view + 1;
+    start_change(running, view);
+    let sent = tell_all(alloc, config, News::StartViewChange { view })?;
+    Ok(OutcomeOf {
+        sent,
+        dropped: None,
+    })
+}
+
+/// Beat of a site in change: it says again what it has said of its view.
+pub fn beat_in_change<M: Machine>(
+    alloc: Global,
+    config: Config,
+    running: &Running<M>,
+) -> Result<Outcome<M>, AllocError>
+    ensures { (start : M) (acks : List Ack) (cell : Boot) → IsRunning M.Machine start config.f running.now acks →
+        Follows M.Machine start config.f config.me running.now result (beats_in_change config.f config.me (site_of running.now acks cell)) }
+{
+    let view = running.view;
+    let mut sent = tell_all(alloc, config, News::StartViewChange { view })?;
+    if running.voted && primary_of(config, view) != config.me {
+        sent.push(own_vote(alloc, config, running)?)?;
+    }
+    Ok(OutcomeOf {
+        sent,
+        dropped: None,
+    })
+}
+
+/// The site's own DOVIEWCHANGE, to the primary of its view.
+pub fn own_vote<M: Machine>(
+    alloc: Global,
+    config: Config,
+    running: &Running<M>,
+) -> Result<Envelope<M>, AllocError>
+    ensures { IfOk result (λ mail. (acks : List Ack) (cell : Boot) → mail ∷ [] ≡ sends_vote config.f config.me (site_of running.now acks cell)) }
+{
+    let msg = MsgOf::DoViewChange {
+        view: running.view,
+        last_normal: running.last_normal,
+        done: running.kept.done,
+        rows: running.kept.log.copy_from(alloc, 0)?,
+    };
+    Ok(mail_to(config, primary_of(config, running.view), msg))
+}
+
+/// The site takes part in the change to a view, and gives up what it collected.
+pub fn start_change<M: Machine>(running: &mut Running<M>, view: u32)
+    ensures status { running.new.status ≡ Status.Change }
+    ensures view { running.new.view ≡ view }
+    ensures last_normal { running.new.last_normal ≡ running.old.last_normal }
+    ensures kept { running.new.kept ≡ running.old.kept }
+    ensures sites { length running.new.acked.items ≡ length running.old.acked.items }
+    ensures acked { SumUp running.new.acked.items [] }
+    ensures starts { running.new.starts.items ≡ [] }
+    ensures voted { running.new.voted ≡ false }
+    ensures votes { running.new.votes.items ≡ [] }
+{
+    running.status = Status::Change;
+    running.view = view;
+    give_up_collected(running);
+}
+
+/// Gives up what was collected in the view.
+pub fn give_up_collected<M: Machine>(running: &mut Running<M>)
+    ensures status { running.new.status ≡ running.old.status }
+    ensures view { running.new.view ≡ running.old.view }
+    ensures last_normal { running.new.last_normal ≡ running.old.last_normal }
+    ensures kept { running.new.kept ≡ running.old.kept }
+    ensures sites { length running.new.acked.items ≡ length running.old.acked.items }
+    ensures acked { SumUp running.new.acked.items [] }
+    ensures starts { running.new.starts.items ≡ [] }
+    ensures voted { running.new.voted ≡ false }
+    ensures votes { running.new.votes.items ≡ [] }
+{
+    running.acked.fill(0);
+    running.starts.clear();
+    running.voted = false;
+    running.votes.clear();
+}

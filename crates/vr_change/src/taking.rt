@@ -1,0 +1,85 @@
+ghost use Rattle.std.specs.Prelude.{◌≡◌, ◌+◌, ◌≤◌, ◌++◌, OnOk, List, length, take};
+ghost use Rattle.vr_types.specs.declared.cell.Boot.{Boot};
+ghost use Rattle.vr_types.specs.Change.{on_start_view};
+ghost use Rattle.vr_types.specs.Choice.{Choice, IsRight};
+ghost use Rattle.vr_types.specs.Site.{Ack};
+ghost use Rattle.vr_types.specs.Step.{takes_log};
+ghost use Rattle.vr_log.specs.Kept.{IsReady};
+ghost use Rattle.vr_log.specs.Running.{IsSound, IsRunning, Follows, site_of};
+
+use crate::change::give_up_collected;
+use std::alloc::{AllocError, Global};
+use vr_log::Running;
+use vr_log::send::{acknowledge_log, dropped, primary_of, runs_normally, silent};
+use vr_types::{Config, MAX_ROWS, Machine, Outcome, RowsOf, Status, Why};
+
+/// STARTVIEW: the site takes the log with which the primary opened its view, and is normal in that view.
+pub fn start_view<M: Machine>(
+    alloc: Global,
+    config: Config,
+    running: &mut Running<M>,
+    from: u16,
+    view: u32,
+    done: u16,
+    rows: RowsOf<M::Cmd>,
+) -> Result<Outcome<M>, AllocError>
+    requires { IsReady M.Machine running.old.kept }
+    ensures sound { OnOk result ((start : M) → IsSound M.Machine start config.f running.old → IsSound M.Machine start config.f running.new) }
+    ensures later { running.old.view ≤ running.new.view }
+    ensures step { (choose : Choice M.Cmd) (start : M) (acks : List Ack) (cell : Boot) → IsRight config.f choose → IsRunning M.Machine start config.f running.old acks →
+        Follows M.Machine start config.f config.me running.new result (on_start_view choose config.f config.me (site_of running.old acks cell) from view done rows) }
+{
+    if primary_of(config, view) != from {
+        return Ok(dropped(alloc, Why::NotPrimary));
+    }
+    if view < running.view {
+        return Ok(dropped(alloc, Why::View));
+    }
+    if runs_normally(running.status) && view == running.view {
+        return Ok(dropped(alloc, Why::Known));
+    }
+    take_log(alloc, config, running, view, 0, done, rows)
+}
+
+/// In a view these rows are taken after the first `base` of the log, and the site is normal there: what is committed is
+/// executed, and the log acknowledged where some of it is left. Rows that do not begin with those that the site has
+/// executed are dropped.
+pub fn take_log<M: Machine>(
+    alloc: Global,
+    config: Config,
+    running: &mut Running<M>,
+    view: u32,
+    base: usize,
+    done: u16,
+    rows: RowsOf<M::Cmd>,
+) -> Result<Outcome<M>, AllocError>
+    requires ready { IsReady M.Machine running.old.kept }
+    requires base { base ≤ length running.old.kept.log }
+    requires few { base + length rows ≤ MAX_ROWS }
+    requires later { running.old.view ≤ view }
+    ensures sound { OnOk result ((start : M) → IsSound M.Machine start config.f running.old → IsSound M.Machine start config.f running.new) }
+    ensures later { running.old.view ≤ running.new.view }
+    ensures step { (choose : Choice M.Cmd) (start : M) (acks : List Ack) (cell : Boot) → IsRight config.f choose → IsRunning M.Machine start config.f running.old acks →
+        Follows M.Machine start config.f config.me running.new result (takes_log choose config.f config.me (site_of running.old acks cell) view done (take base running.old.kept.log ++ rows)) }
+{
+    if !running.kept.keeps_executed(base, &rows) {
+        return Ok(dropped(alloc, Why::Stale));
+    }
+    running.kept.take_rows(base, rows)?;
+    be_normal(running, view);
+    let _ = running.kept.execute(alloc, done)?;
+    let len = running.kept.log.len();
+    if (running.kept.done as usize) < len {
+        acknowledge_log(alloc, config, view, len as u16)
+    } else {
+        Ok(silent(alloc))
+    }
+}
+
+/// The site is normal in a view, and gives up what it collected.
+pub fn be_normal<M: Machine>(running: &mut Running<M>, view: u32) {
+    running.status = Status::Normal;
+    running.view = view;
+    running.last_normal = view;
+    give_up_collected(running);
+}

@@ -1,0 +1,91 @@
+ghost use Rattle.std.specs.Prelude.{◌≡◌, ◌*◌, ◌≤◌, OnOk, List};
+ghost use Rattle.vr_types.specs.declared.cell.Boot.{Boot};
+ghost use Rattle.vr_types.specs.Choice.{Choice, IsRight};
+ghost use Rattle.vr_types.specs.Site.{Ack};
+ghost use Rattle.vr_types.specs.Transfer.{on_get_state, on_new_state};
+ghost use Rattle.vr_log.specs.Kept.{IsReady};
+ghost use Rattle.vr_log.specs.Running.{IsSound, IsRunning, Follows, site_of};
+
+use crate::taking::take_log;
+use std::alloc::{AllocError, Global};
+use vr_log::Running;
+use vr_log::send::{dropped, mail_to, primary_of, runs_normally, sends_one};
+use vr_types::{Config, MAX_ROWS, Machine, MsgOf, Outcome, RowsOf, Why};
+
+/// GETSTATE: the primary of the view sends the rows after the first `base`.
+pub fn get_state<M: Machine>(
+    alloc: Global,
+    config: Config,
+    running: &Running<M>,
+    from: u16,
+    view: u32,
+    base: u16,
+) -> Result<Outcome<M>, AllocError>
+    requires { from ≤ 2 * config.f }
+    ensures { (start : M) (acks : List Ack) (cell : Boot) → IsRunning M.Machine start config.f running.now acks →
+        Follows M.Machine start config.f config.me running.now result (on_get_state config.f config.me (site_of running.now acks cell) from view base) }
+{
+    if !runs_normally(running.status) {
+        return Ok(dropped(alloc, Why::Status));
+    }
+    if view != running.view {
+        return Ok(dropped(alloc, Why::View));
+    }
+    if primary_of(config, running.view) != config.me {
+        return Ok(dropped(alloc, Why::NotPrimary));
+    }
+    if running.kept.log.len() < base as usize {
+        return Ok(dropped(alloc, Why::Stale));
+    }
+    let msg = MsgOf::NewState {
+        view: running.view,
+        base,
+        done: running.kept.done,
+        rows: running.kept.log.copy_from(alloc, base as usize)?,
+    };
+    sends_one(alloc, mail_to(config, from, msg))
+}
+
+/// NEWSTATE: the rows that come after the first `base` of the log are taken, and the site is normal in their view.
+pub fn new_state<M: Machine>(
+    alloc: Global,
+    config: Config,
+    running: &mut Running<M>,
+    from: u16,
+    view: u32,
+    base: u16,
+    done: u16,
+    rows: RowsOf<M::Cmd>,
+) -> Result<Outcome<M>, AllocError>
+    requires { IsReady M.Machine running.old.kept }
+    ensures sound { OnOk result ((start : M) → IsSound M.Machine start config.f running.old → IsSound M.Machine start config.f running.new) }
+    ensures later { running.old.view ≤ running.new.view }
+    ensures step { (choose : Choice M.Cmd) (start : M) (acks : List Ack) (cell : Boot) → IsRight config.f choose → IsRunning M.Machine start config.f running.old acks →
+        Follows M.Machine start config.f config.me running.new result (on_new_state choose config.f config.me (site_of running.old acks cell) from view base done rows) }
+{
+    if primary_of(config, view) != from {
+        return Ok(dropped(alloc, Why::NotPrimary));
+    }
+    if view < running.view {
+        return Ok(dropped(alloc, Why::View));
+    }
+    let base = base as usize;
+    if !fits(running, view, base, rows.len()) {
+        return Ok(dropped(alloc, Why::Stale));
+    }
+    take_log(alloc, config, running, view, base, done, rows)
+}
+
+/// Whether so many rows after the first `base` fit the log: in its view a normal site takes what makes its log longer, and otherwise
+/// what begins among the rows that it executed and reaches to their end.
+fn fits<M: Machine>(running: &Running<M>, view: u32, base: usize, rows: usize) -> bool {
+    if base + rows > MAX_ROWS {
+        return false;
+    }
+    if runs_normally(running.status) && view == running.view {
+        let len = running.kept.log.len();
+        return base <= len && len < base + rows;
+    }
+    let done = running.kept.done as usize;
+    base <= done && done <= base + rows
+}
