@@ -1,12 +1,12 @@
 -- Lists that are seen another way.
-use Rattle.std.proofs.Common.{◌≡◌, ℕ, ◌+◌, ◌<◌, ◌≤◌, ◌||◌, Bool, true, false, nat_lt, Some, None, if◌then◌else◌, arith, List, [], ◌∷◌, length, map, count_by, cond, get_or, slice_index_or, refl, sym, ap, ◌∙◌, subst}
+use Rattle.std.proofs.Common.{◌≡◌, ◌+◌, ◌≤◌, ◌||◌, Bool, true, false, nat_lt, Some, None, if◌then◌else◌, arith, List, [], ◌∷◌, length, map, count_by, cond, get_or, refl, sym, ap, ◌∙◌, subst}
 use Rattle.std.specs.Prelude.{All, Contains}
-use Rattle.std.specs.List.{list_any, position, position_or_len}
+use Rattle.std.specs.List.{list_any, filter, position, position_or_len}
 use Rattle.std.proofs.Math.ListN.{get_or-map}
 use Rattle.std.proofs.lemmas.List.{length-map}
 use Rattle.std.proofs.lemmas.List.Sums.{sum_by-cons, fails_before_first}
 use Rattle.std.proofs.lemmas.Bool.Decides.{nat_tests}
-use Rattle.std.proofs.lemmas.List.Elements.{All-contains, All-map, Contains-get_or}
+use Rattle.std.proofs.lemmas.List.Elements.{All-contains, All-contains_itself, All-filter, All-map, Contains-get_or, filter_passes}
 
 pub list_any-map : {A B : Type 0} (p : B → Bool) (h : A → B) (xs : List A) → list_any p (map h xs) ≡ list_any (λ x. p (h x)) xs
 list_any-map p h [] = refl
@@ -37,3 +37,18 @@ position-None {X} p xs h = by_test (nat_lt (position_or_len p xs) (length xs)) r
     by_test : (b : Bool) → nat_lt (position_or_len p xs) (length xs) ≡ b → (if b then Some (position_or_len p xs) else None) ≡ None → All (λ x. p x ≡ false) xs
     by_test true e none = absurd (cc)
     by_test false e none = λ k d low. (let all : length xs ≤ position_or_len p xs = grind (arith, nat_tests, e) in fails_before_first p xs k d (omega arith))
+
+-- a filter keeps what was there, and passes its test
+pub filter-has : {X : Type 0} (p : X → Bool) (xs : List X) (x : X) → Contains (filter p xs) x → Contains xs x × (p x ≡ true)
+filter-has p xs x in' = (
+  All-contains (Contains xs) (filter p xs) x (All-filter p (Contains xs) xs (All-contains_itself xs)) in',
+  All-contains (λ y. p y ≡ true) (filter p xs) x (filter_passes p xs) in',
+)
+
+pub filter-map : {A B : Type 0} (p : B → Bool) (h : A → B) (xs : List A) → filter p (map h xs) ≡ map h (filter (λ x. p (h x)) xs)
+filter-map p h [] = refl
+filter-map {A} {B} p h (x ∷ xs) = by_test (p (h x)) (filter-map p h xs)
+  where
+    by_test : (b : Bool) → filter p (map h xs) ≡ map h (filter (λ y. p (h y)) xs) → cond b (h x ∷ filter p (map h xs)) (filter p (map h xs)) ≡ map h (cond b (x ∷ filter (λ y. p (h y)) xs) (filter (λ y. p (h y)) xs))
+    by_test true e = ap (λ ys. h x ∷ ys) e
+    by_test false e = e

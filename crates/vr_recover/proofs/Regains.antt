@@ -1,11 +1,11 @@
 -- When a state is regained, of the responses as they are kept.
-use Rattle.std.proofs.Common.{◌≡◌, ℕ, ◌+◌, ◌<◌, ◌≤◌, ◌==◌, ◌&&◌, Bool, true, false, true≢false, List, map, count_by, Some, None, get_or, refl, sym, ap, ◌∙◌, subst, arith, eq-eqb, eqb→eq}
+use Rattle.std.proofs.Common.{◌≡◌, ℕ, ◌<◌, ◌≤◌, ◌==◌, ◌&&◌, Bool, true, false, true≢false, List, count_by, Some, None, get_or, refl, sym, ap, ◌∙◌, subst, arith, eq-eqb, eqb→eq}
 use Rattle.std.specs.Prelude.{All, Contains, Option}
 use Rattle.std.specs.List.{list_any, position}
 use Rattle.std.proofs.lemmas.List.Elements.{All-contains, All-map, Contains-get_or}
 use Rattle.std.proofs.lemmas.List.Quantifiers.{position-Some}
 use Rattle.vr_types.specs.declared.message.StateOf.{StateOf}
-use Rattle.vr_types.specs.Choice.{Regained, IsRegained, OneEach}
+use Rattle.vr_types.specs.Choice.{Regained, IsRegained}
 use Rattle.vr_types.specs.Group.{sites, primary}
 use Rattle.vr_types.specs.Site.{Response, has_response}
 use Rattle.vr_recover.specs.declared.recovering.ResponseOf.{ResponseOf}

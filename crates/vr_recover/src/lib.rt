@@ -3,6 +3,12 @@
 //! dropped takes no memory.
 #![tactic(auto)]
 
+pub mod answering;
+pub mod progress;
 pub mod recovering;
+pub mod regaining;
 
+pub use answering::{ask_all, recovery};
+pub use progress::{Progress, take_response};
 pub use recovering::{Recovering, RecoveringOf, ResponseOf};
+pub use regaining::regain;

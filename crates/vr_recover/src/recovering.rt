@@ -28,14 +28,17 @@ pub struct RecoveringOf<C> {
 pub type Recovering<M> = RecoveringOf<<M as Machine>::Cmd>;
 
 /// Whether a response of this site, of this view or a later one, is kept.
-fn has_as_late<C: Drop>(kept: &[ResponseOf<C>], from: u16, view: u32) -> bool
+pub(crate) fn has_as_late<C: Drop>(kept: &[ResponseOf<C>], from: u16, view: u32) -> bool
     ensures { result ≡ list_any (λ old. (old.from == from) && nat_le view old.view) kept.now }
 {
     kept.iter().any(|old| old.from == from && view <= old.view)
 }
 
 /// Keeps a response in place of an earlier one of its sender.
-fn keep<C: Drop>(kept: &mut Vec<ResponseOf<C>>, new: ResponseOf<C>) -> Result<(), AllocError>
+pub(crate) fn keep<C: Drop>(
+    kept: &mut Vec<ResponseOf<C>>,
+    new: ResponseOf<C>,
+) -> Result<(), AllocError>
     ensures { OnOk result (kept.new.items ≡ filter (λ old. not (old.from == new.from)) kept.old.items ++ new ∷ []) }
 {
     let from = new.from;
@@ -99,7 +102,7 @@ fn regained_view<C: Drop>(config: Config, saved: u32, kept: &[ResponseOf<C>]) ->
 }
 
 /// Takes the state that is regained out of the responses, with its view, where one is.
-fn take_regained<C: Drop>(
+pub(crate) fn take_regained<C: Drop>(
     config: Config,
     saved: u32,
     kept: &mut Vec<ResponseOf<C>>,

@@ -1,4 +1,4 @@
-use Rattle.std.proofs.Common.{◌≡◌, Some, None, ap, sym, subst, arith, ◌<◌, ◌∙◌}
+use Rattle.std.proofs.Common.{Some, ap, sym, subst, arith, ◌<◌, ◌∙◌}
 use Rattle.vr_recover.proofs.Regains.{senders-same, regained_enough, regained_view_is}
 use Rattle.vr_recover.proofs.recovering.regained_view.Goals as goal
 
