@@ -1,11 +1,11 @@
-ghost use Rattle.std.specs.Prelude.{◌≡◌, ◌+◌, ◌≤◌, ◌++◌, OnOk, List, length, take};
+ghost use Rattle.std.specs.Prelude.{◌≡◌, ◌+◌, ◌≤◌, ◌++◌, ◌==◌, ◌&&◌, [], false, OnOk, List, length, take};
 ghost use Rattle.vr_types.specs.declared.cell.Boot.{Boot};
 ghost use Rattle.vr_types.specs.Change.{on_start_view};
 ghost use Rattle.vr_types.specs.Choice.{Choice, IsRight};
-ghost use Rattle.vr_types.specs.Site.{Ack};
+ghost use Rattle.vr_types.specs.Site.{Ack, is_normal};
 ghost use Rattle.vr_types.specs.Step.{takes_log};
 ghost use Rattle.vr_log.specs.Kept.{IsReady};
-ghost use Rattle.vr_log.specs.Running.{IsSound, IsRunning, Follows, site_of};
+ghost use Rattle.vr_log.specs.Running.{IsSound, IsRunning, Follows, SumUp, site_of};
 
 use crate::change::give_up_collected;
 use std::alloc::{AllocError, Global};
@@ -35,10 +35,18 @@ pub fn start_view<M: Machine>(
     if view < running.view {
         return Ok(dropped(alloc, Why::View));
     }
-    if runs_normally(running.status) && view == running.view {
+    if is_normal_in(running, view) {
         return Ok(dropped(alloc, Why::Known));
     }
+    let _len = rows.len();
     take_log(alloc, config, running, view, 0, done, rows)
+}
+
+/// Whether the site is normal in a view.
+pub fn is_normal_in<M: Machine>(running: &Running<M>, view: u32) -> bool
+    ensures { result ≡ (is_normal running.now.status && (view == running.now.view)) }
+{
+    runs_normally(running.status) && view == running.view
 }
 
 /// In a view these rows are taken after the first `base` of the log, and the site is normal there: what is committed is
@@ -66,8 +74,8 @@ pub fn take_log<M: Machine>(
         return Ok(dropped(alloc, Why::Stale));
     }
     running.kept.take_rows(base, rows)?;
-    be_normal(running, view);
     let _ = running.kept.execute(alloc, done)?;
+    be_normal(running, view);
     let len = running.kept.log.len();
     if (running.kept.done as usize) < len {
         acknowledge_log(alloc, config, view, len as u16)
@@ -77,7 +85,17 @@ pub fn take_log<M: Machine>(
 }
 
 /// The site is normal in a view, and gives up what it collected.
-pub fn be_normal<M: Machine>(running: &mut Running<M>, view: u32) {
+pub fn be_normal<M: Machine>(running: &mut Running<M>, view: u32)
+    ensures status { running.new.status ≡ Status.Normal }
+    ensures view { running.new.view ≡ view }
+    ensures last_normal { running.new.last_normal ≡ view }
+    ensures kept { running.new.kept ≡ running.old.kept }
+    ensures sites { length running.new.acked.items ≡ length running.old.acked.items }
+    ensures acked { SumUp running.new.acked.items [] }
+    ensures starts { running.new.starts.items ≡ [] }
+    ensures voted { running.new.voted ≡ false }
+    ensures votes { running.new.votes.items ≡ [] }
+{
     running.status = Status::Normal;
     running.view = view;
     running.last_normal = view;

@@ -1,12 +1,13 @@
-ghost use Rattle.std.specs.Prelude.{◌≡◌, ◌*◌, ◌≤◌, OnOk, List};
+ghost use Rattle.std.specs.Prelude.{◌≡◌, ◌+◌, ◌*◌, ◌≤◌, IsTrue, OnOk, List, length};
 ghost use Rattle.vr_types.specs.declared.cell.Boot.{Boot};
 ghost use Rattle.vr_types.specs.Choice.{Choice, IsRight};
 ghost use Rattle.vr_types.specs.Site.{Ack};
 ghost use Rattle.vr_types.specs.Transfer.{on_get_state, on_new_state};
 ghost use Rattle.vr_log.specs.Kept.{IsReady};
 ghost use Rattle.vr_log.specs.Running.{IsSound, IsRunning, Follows, site_of};
+ghost use Rattle.vr_change.specs.Fits.{rows_fit};
 
-use crate::taking::take_log;
+use crate::taking::{is_normal_in, take_log};
 use std::alloc::{AllocError, Global};
 use vr_log::Running;
 use vr_log::send::{dropped, mail_to, primary_of, runs_normally, sends_one};
@@ -76,16 +77,24 @@ pub fn new_state<M: Machine>(
     take_log(alloc, config, running, view, base, done, rows)
 }
 
-/// Whether so many rows after the first `base` fit the log: in its view a normal site takes what makes its log longer, and otherwise
-/// what begins among the rows that it executed and reaches to their end.
-fn fits<M: Machine>(running: &Running<M>, view: u32, base: usize, rows: usize) -> bool {
-    if base + rows > MAX_ROWS {
+/// Whether so many rows after the first `base` fit the log.
+fn fits<M: Machine>(running: &Running<M>, view: u32, base: usize, rows: usize) -> bool
+    requires ready { IsReady M.Machine running.now.kept }
+    requires base { base ≤ MAX_ROWS }
+    requires rows { rows ≤ MAX_ROWS }
+    ensures fit { (acks : List Ack) (cell : Boot) → result ≡ rows_fit (site_of running.now acks cell) view base rows }
+    ensures base { IsTrue result → base ≤ length running.now.kept.log }
+    ensures few { IsTrue result → base + rows ≤ MAX_ROWS }
+{
+    let end = base + rows;
+    let len = running.kept.log.len();
+    let done = running.kept.done as usize;
+    if end > MAX_ROWS {
         return false;
     }
-    if runs_normally(running.status) && view == running.view {
-        let len = running.kept.log.len();
-        return base <= len && len < base + rows;
+    if is_normal_in(running, view) {
+        base <= len && len < end
+    } else {
+        base <= done && done <= end
     }
-    let done = running.kept.done as usize;
-    base <= done && done <= base + rows
 }

@@ -1,0 +1,127 @@
+-- Which case of a rule it is.
+use Rattle.std.proofs.Common.{append-nil, ◌≡◌, ◌≢◌, ℕ, ◌+◌, ◌<◌, ◌≤◌, ◌==◌, ◌&&◌, List, [], ◌∷◌, ◌++◌, length, max, min, take, drop, Bool, true, false, not, nat_lt, nat_le, if◌then◌else◌, refl, ap, ◌∙◌, eq-eqb}
+use Rattle.std.proofs.lemmas.Bool.{lt-ltb, le-ltb, ne_eqb}
+use Rattle.vr_types.specs.declared.cell.Boot.{Boot}
+use Rattle.vr_types.specs.declared.event.Status.TheVariants.{Change}
+use Rattle.vr_types.specs.declared.event.Why.TheVariants.{Status, View, NotPrimary, Known, Stale}
+use Rattle.vr_types.specs.declared.limits.TheConstants.{MAX_ROWS}
+use Rattle.vr_types.specs.declared.message.EnvelopeOf.{EnvelopeOf}
+use Rattle.vr_types.specs.declared.message.MsgOf.TheVariants.{PrepareOk, StartViewChange, NewState}
+use Rattle.vr_types.specs.declared.row.RowOf.{RowOf}
+use Rattle.vr_types.specs.Choice.{Choice}
+use Rattle.vr_types.specs.Group.{primary, mail, to_all}
+use Rattle.vr_types.specs.Site.{Site, Vote, nothing, is_normal, is_recovering}
+use Rattle.vr_types.specs.Step.{Step, does, drops, with_saved, executed_to, normal_in, begins_with_executed, acknowledges_all, takes_log}
+use Rattle.vr_types.specs.Change.{on_timer, beats_in_change, on_start_view, sends_vote}
+use Rattle.vr_types.specs.Transfer.{on_get_state, on_new_state}
+use Rattle.vr_change.specs.Fits.{rows_fit}
+use Rattle.vr_change.proofs.Sites.{normal_with}
+
+module _ {C R O : Type 0} (f me : ℕ) (x : Site C) where
+  pub on_timer-is : is_recovering x.status ≡ false
+      → ◌≡◌ {A = Step C R O} (on_timer f me x) (does (record x { status = Change; view = x.view + 1; collected = nothing; cell = record { boots = x.cell.boots; view = x.view + 1 } }) (to_all f me (StartViewChange (x.view + 1))))
+  unfolding on_timer
+  on_timer-is e = rw e
+
+  pub beats_in_change-is : (more : List (EnvelopeOf C R O)) → (if x.collected.voted && not (primary f x.view == me) then sends_vote f me x else []) ≡ more → ◌≡◌ {A = Step C R O} (beats_in_change f me x) (does x (to_all f me (StartViewChange x.view) ++ more))
+  unfolding beats_in_change
+  beats_in_change-is more e = ap (λ l. let s : Step C R O = does x (to_all f me (StartViewChange x.view) ++ l) in s) e
+
+  pub beats_in_change-votes : x.collected.voted ≡ true → (primary f x.view == me) ≡ false → ◌≡◌ {A = Step C R O} (beats_in_change f me x) (does x (to_all f me (StartViewChange x.view) ++ sends_vote f me x))
+  beats_in_change-votes v p = beats_in_change-is (sends_vote f me x) (ap (λ b. if b && not (primary f x.view == me) then sends_vote f me x else []) v ∙ ap (λ b. if not b then sends_vote f me x else []) p)
+
+  pub beats_in_change-silent : (x.collected.voted && not (primary f x.view == me)) ≡ false → ◌≡◌ {A = Step C R O} (beats_in_change f me x) (does x (to_all f me (StartViewChange x.view)))
+  beats_in_change-silent v = beats_in_change-is [] (ap (λ b. if b then sends_vote f me x else []) v) ∙ ap (λ l. let s : Step C R O = does x l in s) (append-nil (to_all f me (StartViewChange x.view)))
+
+  pub on_get_state-status : (from w base : ℕ) → is_normal x.status ≡ false → ◌≡◌ {A = Step C R O} (on_get_state f me x from w base) (drops x Status)
+  unfolding on_get_state
+  on_get_state-status from w base e = rw e
+
+  pub on_get_state-view : (from w base : ℕ) → is_normal x.status ≡ true → w ≢ x.view → ◌≡◌ {A = Step C R O} (on_get_state f me x from w base) (drops x View)
+  unfolding on_get_state
+  on_get_state-view from w base e other = rw (e, ne_eqb _ _ other)
+
+  pub on_get_state-backup : (from w base : ℕ) → is_normal x.status ≡ true → w ≡ x.view → (primary f x.view == me) ≡ false → ◌≡◌ {A = Step C R O} (on_get_state f me x from w base) (drops x NotPrimary)
+  unfolding on_get_state
+  on_get_state-backup from w base e same p = rw (e, eq-eqb _ _ same, p)
+
+  pub on_get_state-stale : (from w base : ℕ) → is_normal x.status ≡ true → w ≡ x.view → (primary f x.view == me) ≡ true → length x.log < base → ◌≡◌ {A = Step C R O} (on_get_state f me x from w base) (drops x Stale)
+  unfolding on_get_state
+  on_get_state-stale from w base e same p short = rw (e, eq-eqb _ _ same, p, lt-ltb _ _ short)
+
+  pub on_get_state-mine : (from w base : ℕ) → is_normal x.status ≡ true → w ≡ x.view → (primary f x.view == me) ≡ true → base ≤ length x.log
+      → ◌≡◌ {A = Step C R O} (on_get_state f me x from w base) (does x (mail me from (NewState x.view base x.done (drop base x.log)) ∷ []))
+  unfolding on_get_state
+  on_get_state-mine from w base e same p long = rw (e, eq-eqb _ _ same, p, le-ltb _ _ long)
+
+module _ {C R O : Type 0} (choose : Choice C) (f me : ℕ) (x : Site C) where
+  pub on_start_view-leader : (from w k : ℕ) (log : List (RowOf C)) → (primary f w == from) ≡ false → ◌≡◌ {A = Step C R O} (on_start_view choose f me x from w k log) (drops x NotPrimary)
+  unfolding on_start_view
+  on_start_view-leader from w k log p = rw p
+
+  pub on_start_view-view : (from w k : ℕ) (log : List (RowOf C)) → (primary f w == from) ≡ true → is_recovering x.status ≡ false → w < x.view → ◌≡◌ {A = Step C R O} (on_start_view choose f me x from w k log) (drops x View)
+  unfolding on_start_view
+  on_start_view-view from w k log p e old = rw (p, e, lt-ltb _ _ old)
+
+  pub on_start_view-known : (from w k : ℕ) (log : List (RowOf C)) → (primary f w == from) ≡ true → is_recovering x.status ≡ false → x.view ≤ w → (is_normal x.status && (w == x.view)) ≡ true
+      → ◌≡◌ {A = Step C R O} (on_start_view choose f me x from w k log) (drops x Known)
+  unfolding on_start_view
+  on_start_view-known from w k log p e new here = rw (p, e, le-ltb _ _ new, here)
+
+  pub on_start_view-takes : (from w k : ℕ) (log : List (RowOf C)) → (primary f w == from) ≡ true → is_recovering x.status ≡ false → x.view ≤ w → (is_normal x.status && (w == x.view)) ≡ false
+      → ◌≡◌ {A = Step C R O} (on_start_view choose f me x from w k log) (takes_log choose f me x w k log)
+  unfolding on_start_view
+  on_start_view-takes from w k log p e new here = rw (p, e, le-ltb _ _ new, here)
+
+  pub on_new_state-leader : (from w base k : ℕ) (rows : List (RowOf C)) → (primary f w == from) ≡ false → ◌≡◌ {A = Step C R O} (on_new_state choose f me x from w base k rows) (drops x NotPrimary)
+  unfolding on_new_state
+  on_new_state-leader from w base k rows p = rw p
+
+  pub on_new_state-view : (from w base k : ℕ) (rows : List (RowOf C)) → (primary f w == from) ≡ true → is_recovering x.status ≡ false → w < x.view → ◌≡◌ {A = Step C R O} (on_new_state choose f me x from w base k rows) (drops x View)
+  unfolding on_new_state
+  on_new_state-view from w base k rows p e old = rw (p, e, lt-ltb _ _ old)
+
+  on_new_state-is : (from w base k : ℕ) (rows : List (RowOf C)) → (primary f w == from) ≡ true → is_recovering x.status ≡ false → x.view ≤ w
+      → ◌≡◌ {A = Step C R O} (on_new_state choose f me x from w base k rows) (if rows_fit x w base (length rows) then takes_log choose f me x w k (take base x.log ++ rows) else drops x Stale)
+  unfolding on_new_state
+  on_new_state-is from w base k rows p e new = rw (p, e, le-ltb _ _ new)
+      (by_tests (nat_lt MAX_ROWS (base + length rows)) (is_normal x.status && (w == x.view)) (nat_le base (length x.log) && nat_lt (length x.log) (base + length rows)) (nat_le base x.done && nat_le x.done (base + length rows)) (takes_log choose f me x w k (take base x.log ++ rows)) (drops x Stale))
+    where
+      by_tests : (a b c d : Bool) (s t : Step C R O) → (if a then t else if b then (if c then s else t) else (if d then s else t)) ≡ (if not a && (if b then c else d) then s else t)
+      by_tests true b c d s t = refl
+      by_tests false true c d s t = refl
+      by_tests false false c d s t = refl
+
+  pub on_new_state-stale : (from w base k : ℕ) (rows : List (RowOf C)) → (primary f w == from) ≡ true → is_recovering x.status ≡ false → x.view ≤ w → rows_fit x w base (length rows) ≡ false
+      → ◌≡◌ {A = Step C R O} (on_new_state choose f me x from w base k rows) (drops x Stale)
+  on_new_state-stale from w base k rows p e new fit = on_new_state-is from w base k rows p e new ∙ ap (λ b. let s : Step C R O = if b then takes_log choose f me x w k (take base x.log ++ rows) else drops x Stale in s) fit
+
+  pub on_new_state-takes : (from w base k : ℕ) (rows : List (RowOf C)) → (primary f w == from) ≡ true → is_recovering x.status ≡ false → x.view ≤ w → rows_fit x w base (length rows) ≡ true
+      → ◌≡◌ {A = Step C R O} (on_new_state choose f me x from w base k rows) (takes_log choose f me x w k (take base x.log ++ rows))
+  on_new_state-takes from w base k rows p e new fit = on_new_state-is from w base k rows p e new ∙ ap (λ b. let s : Step C R O = if b then takes_log choose f me x w k (take base x.log ++ rows) else drops x Stale in s) fit
+
+-- the cell after a view is saved where it is later
+abbrev pub cell_after : {C : Type 0} → ℕ → Site C → Boot
+cell_after w x = (if nat_lt x.view w then with_saved w x else x).cell
+
+module _ {C R O : Type 0} (choose : Choice C) (f me : ℕ) (x : Site C) (w k : ℕ) (log : List (RowOf C)) where
+  pub takes_log-stale : begins_with_executed choose.same x log ≡ false → ◌≡◌ {A = Step C R O} (takes_log choose f me x w k log) (drops x Stale)
+  takes_log-stale e = rw e
+
+  pub takes_log-is : (more : List (EnvelopeOf C R O)) → begins_with_executed choose.same x log ≡ true
+      → (if nat_lt (max x.done (min k (length log))) (length log) then mail me (primary f w) (PrepareOk w (length log)) ∷ [] else []) ≡ more
+      → ◌≡◌ {A = Step C R O} (takes_log choose f me x w k log) (does (normal_with w (max x.done (min k (length log))) log (cell_after w x)) more)
+  takes_log-is more e d = rw e (by_test (nat_lt x.view w))
+    where
+      by_test : (b : Bool) → (let y = executed_to k (normal_in w log (if b then with_saved w x else x)) in does y (if nat_lt y.done (length y.log) then acknowledges_all f me y else []))
+          ≡ does (normal_with w (max x.done (min k (length log))) log (if b then with_saved w x else x).cell) more
+      by_test true = ap (λ l. let s : Step C R O = does (normal_with w (max x.done (min k (length log))) log (with_saved w x).cell) l in s) d
+      by_test false = ap (λ l. let s : Step C R O = does (normal_with w (max x.done (min k (length log))) log x.cell) l in s) d
+
+  pub takes_log-rest : begins_with_executed choose.same x log ≡ true → max x.done (min k (length log)) < length log
+      → ◌≡◌ {A = Step C R O} (takes_log choose f me x w k log) (does (normal_with w (max x.done (min k (length log))) log (cell_after w x)) (mail me (primary f w) (PrepareOk w (length log)) ∷ []))
+  takes_log-rest e left = takes_log-is (mail me (primary f w) (PrepareOk w (length log)) ∷ []) e (ap (λ b. if b then mail me (primary f w) (PrepareOk w (length log)) ∷ [] else []) (lt-ltb _ _ left))
+
+  pub takes_log-all : begins_with_executed choose.same x log ≡ true → length log ≤ max x.done (min k (length log))
+      → ◌≡◌ {A = Step C R O} (takes_log choose f me x w k log) (does (normal_with w (max x.done (min k (length log))) log (cell_after w x)) [])
+  takes_log-all e all = takes_log-is [] e (ap (λ b. if b then mail me (primary f w) (PrepareOk w (length log)) ∷ [] else []) (le-ltb _ _ all))

@@ -1,0 +1,61 @@
+-- What runs after a rule shows the site after it.
+use Rattle.std.proofs.Common.{◌≡◌, ℕ, List, [], length, map, Bool, true, false, refl, sym, ap, ◌∙◌, subst}
+use Rattle.std.specs.Prelude.{Contains}
+use Rattle.vr_types.specs.declared.cell.Boot.{Boot}
+use Rattle.vr_types.specs.declared.event.Status.TheVariants.{Normal, Change}
+use Rattle.vr_types.specs.declared.machine.Machine.{Ghosts}
+use Rattle.vr_types.specs.declared.row.RowOf.{RowOf}
+use Rattle.vr_types.specs.Choice.{OneEach}
+use Rattle.vr_types.specs.Site.{Ack, Site, Vote, nothing, is_running}
+use Rattle.vr_types.specs.Step.{with_saved}
+use Rattle.vr_types.proofs.ChoosingPick.{Contains-none}
+use Rattle.vr_log.specs.declared.running.Running.{Running}
+use Rattle.vr_log.specs.Kept.{IsKept}
+use Rattle.vr_log.specs.Running.{SumUp, IsSound, IsRunning, site_of, vote_of}
+
+-- what was collected is given up
+pub record GaveUp {H C R O S : Type 0} (r : Running H C R O S) : Type 0 where
+  pub acked : SumUp r.acked.items []
+  pub starts : r.starts.items ≡ []
+  pub voted : r.voted ≡ false
+  pub votes : r.votes.items ≡ []
+
+pub no_votes_one_each : {C : Type 0} (votes : List (Vote C)) → votes ≡ [] → OneEach (λ (vote : Vote C). vote.from) votes
+no_votes_one_each votes none = λ a b at _ _. absurd (Contains-none a (subst (λ l. Contains l a) none at))
+
+-- a sound site that gave up what it collected
+pub gave_up_sound : {H C R O S : Type 0} (m : Ghosts H C R O S) (start : H) (f : ℕ) (r n : Running H C R O S) → GaveUp n → is_running n.status ≡ true → length n.acked.items ≡ length r.acked.items → IsKept m start n.kept → IsSound m start f r → IsRunning m start f n []
+gave_up_sound m start f r n gave up sites kept was = record {
+  sound = record { kept = kept; sites = sites ∙ was.sites; up = up; votes = no_votes_one_each (map vote_of n.votes.items) (ap (map vote_of) gave.votes) };
+  summed = gave.acked;
+}
+
+-- a site that is normal in a view, with so many rows of the log executed
+abbrev pub normal_with : {C : Type 0} → ℕ → ℕ → List (RowOf C) → Boot → Site C
+normal_with w d log boot = record { status = Normal; view = w; last_normal = w; log = log; done = d; collected = nothing; cell = boot }
+
+-- the site takes part in a change
+pub changed_site : {H C R O S : Type 0} (r n : Running H C R O S) (acks : List Ack) (cell boot : Boot) (w : ℕ) → GaveUp n → n.status ≡ Change → n.view ≡ w → n.last_normal ≡ r.last_normal → n.kept ≡ r.kept
+    → ◌≡◌ {A = Site C} (record (site_of r acks cell) { status = Change; view = w; collected = nothing; cell = boot }) (site_of n [] boot)
+changed_site r n acks cell boot w gave status view last kept = λ i. record {
+  status = sym status i;
+  view = sym view i;
+  last_normal = sym last i;
+  log = (sym kept i).log;
+  done = (sym kept i).done;
+  collected = record { acks = []; starts = sym gave.starts i; voted = sym gave.voted i; votes = map vote_of (sym gave.votes i); responses = [] };
+  cell = boot;
+}
+
+-- the site is normal in a view
+pub normal_site : {H C R O S : Type 0} (n : Running H C R O S) (boot : Boot) (w d : ℕ) (log : List (RowOf C)) → GaveUp n → n.status ≡ Normal → n.view ≡ w → n.last_normal ≡ w → n.kept.log ≡ log → n.kept.done ≡ d
+    → ◌≡◌ {A = Site C} (normal_with w d log boot) (site_of n [] boot)
+normal_site n boot w d log gave status view last rows done = λ i. record {
+  status = sym status i;
+  view = sym view i;
+  last_normal = sym last i;
+  log = sym rows i;
+  done = sym done i;
+  collected = record { acks = []; starts = sym gave.starts i; voted = sym gave.voted i; votes = map vote_of (sym gave.votes i); responses = [] };
+  cell = boot;
+}
