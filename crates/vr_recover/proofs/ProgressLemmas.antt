@@ -9,7 +9,6 @@ use Rattle.std.proofs.lemmas.List.{map-append}
 use Rattle.std.proofs.lemmas.List.Elements.{Contains-push_cases}
 use Rattle.vr_types.specs.declared.cell.Boot.{Boot}
 use Rattle.vr_types.specs.declared.event.Why.TheVariants.{Known, Stale}
-use Rattle.vr_types.specs.declared.machine.Machine.{Ghosts}
 use Rattle.vr_types.specs.Choice.{Choice, Regained, IsRegained, IsRight, OneEach}
 use Rattle.vr_types.specs.Recovery.{on_recovery_response, regains, has_as_late}
 use Rattle.vr_types.specs.Site.{Ack, Response, Site}
@@ -119,12 +118,12 @@ pub regains_handled : {C : Type 0} (R O : Type 0) (x : Site C) (regained : Optio
 regains_handled R O x None = refl
 regains_handled R O x (Some regained) = refl
 
-module _ {H C R O S : Type 0} (m : Ghosts H C R O S) (start : H) (f : ℕ) (kept : List (ResponseOf C)) (acks : List Ack) (cell : Boot) where
+module _ {H C R O S : Type 0} (kept : List (ResponseOf C)) (acks : List Ack) (cell : Boot) where
   -- it follows the step that this one is
-  pub progress_as : (result : Result (Progress H C R O S) AllocError) (a b : Step C R O) → a ≡ b → FollowsProgress m start f kept acks cell result b → FollowsProgress m start f kept acks cell result a
-  progress_as result a b e p = subst (λ s. FollowsProgress m start f kept acks cell result s) (sym e) p
+  pub progress_as : (result : Result (Progress H C R O S) AllocError) (a b : Step C R O) → a ≡ b → FollowsProgress kept acks cell result b → FollowsProgress kept acks cell result a
+  progress_as result a b e p = subst (λ s. FollowsProgress kept acks cell result s) (sym e) p
 
   -- a growth was refused
-  pub err_progress : (result : Result (Progress H C R O S) AllocError) (step : Step C R O) → IsErr result → step.ending ≡ Handled → FollowsProgress m start f kept acks cell result step
+  pub err_progress : (result : Result (Progress H C R O S) AllocError) (step : Step C R O) → IsErr result → step.ending ≡ Handled → FollowsProgress kept acks cell result step
   err_progress (Ok progress) step e h = absurd (true≢false (sym e))
   err_progress (Err error) step e h = h

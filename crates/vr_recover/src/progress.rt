@@ -1,8 +1,8 @@
-ghost use Rattle.std.specs.Prelude.{◌≡◌, List};
+ghost use Rattle.std.specs.Prelude.{◌≡◌, List, IfOk};
 ghost use Rattle.vr_types.specs.Choice.{Choice, IsRight};
 ghost use Rattle.vr_types.specs.Recovery.{on_recovery_response, regains};
 ghost use Rattle.vr_types.specs.Site.{Ack};
-ghost use Rattle.vr_recover.specs.Progress.{FollowsProgress};
+ghost use Rattle.vr_recover.specs.Progress.{FollowsProgress, IsSoundProgress};
 ghost use Rattle.vr_recover.specs.Recovering.{response_of, responses_of, IsOneEach, recovering_site};
 
 use crate::recovering::{Recovering, ResponseOf, has_as_late, keep, take_regained};
@@ -36,8 +36,9 @@ pub fn take_response<M: Machine>(
 ) -> Result<Progress<M>, AllocError>
     requires setup { M.admits setup.now }
     requires one_each { IsOneEach recovering.old.responses.items }
-    ensures { (choose : Choice M.Cmd) (acks : List Ack) → IsRight config.f choose →
-        FollowsProgress M.Machine (M.start setup.now) config.f recovering.new.responses.items acks boot result
+    ensures sound { IfOk result (λ progress. IsSoundProgress M.Machine (M.start setup.now) config.f recovering.new.responses.items progress) }
+    ensures step { (choose : Choice M.Cmd) (acks : List Ack) → IsRight config.f choose →
+        FollowsProgress recovering.new.responses.items acks boot result
         (on_recovery_response choose (recovering_site recovering.old.responses.items acks boot) nonce (response_of response)) }
 {
     if nonce != boot.boots {
@@ -61,8 +62,9 @@ fn regain_where_due<M: Machine>(
 ) -> Result<Progress<M>, AllocError>
     requires setup { M.admits setup.now }
     requires one_each { IsOneEach kept.old.items }
-    ensures { (choose : Choice M.Cmd) (acks : List Ack) → IsRight config.f choose →
-        FollowsProgress M.Machine (M.start setup.now) config.f kept.new.items acks boot result
+    ensures sound { IfOk result (λ progress. IsSoundProgress M.Machine (M.start setup.now) config.f kept.new.items progress) }
+    ensures step { (choose : Choice M.Cmd) (acks : List Ack) → IsRight config.f choose →
+        FollowsProgress kept.new.items acks boot result
         (regains (recovering_site kept.old.items acks boot) (choose.regained boot.view (responses_of kept.old.items))) }
 {
     match take_regained(config, boot.view, kept) {
