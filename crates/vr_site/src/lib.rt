@@ -1,8 +1,12 @@
 //! One site of a replicated machine, over a cell that outlives its crashes.
 #![tactic(auto)]
 
+mod addressing;
+pub mod life;
 pub mod replica;
+mod serving;
 pub mod tally;
+mod waiting;
 
 pub use replica::Replica;
 
