@@ -136,7 +136,7 @@ module _ {C R O : Type 0} (f me : ℕ) (x : Site C) where
   quiet_recovery from nonce = quiet_if x (not (is_normal x.status)) (dropping _) (record { same = λ why e. refl })
 
   -- a running site takes no response
-  response_drops : (choose : Choice C) (nonce : ℕ) (response : Response C) → is_running x.status ≡ true → ◌≡◌ {A = Step C R O} (on_recovery_response choose x nonce response) (drops x why.Status)
+  pub response_drops : (choose : Choice C) (nonce : ℕ) (response : Response C) → is_running x.status ≡ true → ◌≡◌ {A = Step C R O} (on_recovery_response choose x nonce response) (drops x why.Status)
   unfolding on_recovery_response
   response_drops choose nonce response up = rw (running_is_here x.status up)
 

@@ -1,2 +1,5 @@
 mod Cells
+mod Recovering
+mod Restarts
 mod Shows
+mod Waits

@@ -1,28 +1,35 @@
 -- That what a replica shows was handled as the site step says.
-use Rattle.std.proofs.Common.{◌≡◌, ◌≢◌, ◌⊎◌, inl, inr, ℕ, List, [], Option, Some, None, true, false, refl, sym, ap, ◌∙◌, subst, arith}
-use Rattle.std.specs.Prelude.{Result, Ok, Err, IsErrAnd}
+use Rattle.std.proofs.Common.{◌≡◌, ◌≢◌, ◌⊎◌, inl, inr, ℕ, Bool, not, List, [], Option, Some, None, true, false, if◌then◌else◌, refl, sym, ap, ◌∙◌, subst, arith, eq-eqb}
+use Rattle.std.specs.Prelude.{Result, Ok, Err, IsErrAnd, OnOk}
 use Rattle.std.specs.declared.alloc.AllocError.{AllocError}
+use Rattle.std.proofs.lemmas.Bool.{ne_eqb}
 use Rattle.std.proofs.lemmas.Bool.Decides.{nat_tests}
 use Rattle.vr_types.specs.declared.cell.Boot.{Boot}
 use Rattle.vr_types.specs.declared.event.EventOf.{EventOf}
+use Rattle.vr_types.specs.declared.event.EventOf.TheVariants.{Deliver, Timer, Beat, Crash}
 use Rattle.vr_types.specs.declared.event.OutcomeOf.{OutcomeOf}
 use Rattle.vr_types.specs.declared.event.SiteFault.{SiteFault}
-use Rattle.vr_types.specs.declared.event.SiteFault.TheVariants.{NoMemory, CellFault}
+use Rattle.vr_types.specs.declared.event.SiteFault.TheVariants.{NoMemory, CellFault, NotUp, NotMine, ViewsSpent}
+use Rattle.vr_types.specs.declared.event.Status.{Status}
 use Rattle.vr_types.specs.declared.event.Status.TheVariants as status
 use Rattle.vr_types.specs.declared.event.Why.{Why}
 use Rattle.vr_types.specs.declared.machine.Machine.{Ghosts}
 use Rattle.vr_types.specs.Choice.{Choice, IsRight}
-use Rattle.vr_types.specs.Handling.{refusal, refused_or, on_event, site_step, is_refused, IsFall}
-use Rattle.vr_types.specs.Site.{Ack, Site, over}
+use Rattle.vr_types.specs.declared.message.EnvelopeOf.{EnvelopeOf}
+use Rattle.vr_types.specs.Group.{is_mine}
+use Rattle.vr_types.specs.Handling.{refusal, refused_or, on_event, site_step, is_refused, IsFall, max_number}
+use Rattle.vr_types.specs.Site.{Ack, Site, over, is_down, is_running}
 use Rattle.vr_types.specs.Step.{Step, Handled, Dropped, does, drops}
 use Rattle.vr_log.specs.declared.running.Running.{Running}
+use Rattle.vr_log.proofs.OutcomeLemmas.{running_is_here}
 use Rattle.vr_log.specs.Outcomes.{Sends, Drops, ended}
 use Rattle.vr_log.specs.Running.{SumUp, IsRunning, Meets, site_of}
 use Rattle.vr_recover.specs.declared.recovering.ResponseOf.{ResponseOf}
 use Rattle.vr_recover.specs.declared.progress.Progress.TheVariants as progress
 use Rattle.vr_recover.specs.Recovering.{responses_of, recovering_site}
+use Rattle.vr_site.specs.declared.life.Life.{Life}
 use Rattle.vr_site.specs.declared.life.Life.TheVariants as life
-use Rattle.vr_site.specs.Life.{Volatile, resting, volatile_of, site_with}
+use Rattle.vr_site.specs.Life.{Volatile, resting, volatile_of, site_with, IsWell}
 use Rattle.vr_site.specs.Replica.{Shown, site_shown, Does, Falls, Handles, Serves, Awaits}
 
 -- no acknowledgement sums up no numbers
@@ -69,7 +76,7 @@ module _ {H C R O S B : Type 0} (m : Ghosts H C R O S) (held : B → Boot) where
   }
 
   -- a fall of a site that is down by now over the old cell
-  down_falls : (base : Shown C S B) (v : Volatile C) (x : Site C) (step : Step C R O) → base.volatile ≡ resting status.Down [] → x.cell ≡ held base.cell → step.ending ≡ Handled
+  pub down_falls : (base : Shown C S B) (v : Volatile C) (x : Site C) (step : Step C R O) → base.volatile ≡ resting status.Down [] → x.cell ≡ held base.cell → step.ending ≡ Handled
       → Falls held (record base { volatile = v }) base x step NoMemory
   down_falls base v x step volatile cell handled = record {
     f = refl;
@@ -150,3 +157,55 @@ module _ {H C R O S B : Type 0} (m : Ghosts H C R O S) (held : B → Boot) where
             → (site_shown held new [] ≡ over (held base.cell) status.Down) ⊎ (site_shown held new [] ≡ over step.site.cell status.Down)
         by_cell x step holds (inl e) down = inl (ap (λ u. site_with u [] (held new.cell)) down ∙ ap (λ b. over b status.Down) e)
         by_cell x step holds (inr e) down = inr (ap (λ u. site_with u [] (held new.cell)) down ∙ ap (λ b. over b status.Down) (e ∙ sym holds))
+
+-- what runs is not down
+pub up_is_not_down : (s : Status) → is_running s ≡ true → is_down s ≡ false
+up_is_not_down status.Normal e = refl
+up_is_not_down status.Change e = refl
+up_is_not_down status.Recovering e = refl
+up_is_not_down status.Down e = sym e
+
+-- what is for a site that is not down is not refused
+pub mine_is_taken : {C R O : Type 0} (f me : ℕ) (x : Site C) (e : EnvelopeOf C R O) → is_down x.status ≡ false → is_mine f me e ≡ true → refusal f me x (Deliver e) ≡ None
+mine_is_taken f me x e up mine = rw (up, mine)
+
+-- what is for another is refused
+pub other_is_refused : {C R O : Type 0} (f me : ℕ) (x : Site C) (e : EnvelopeOf C R O) → is_mine f me e ≡ false → refusal f me x (Deliver e) ≡ Some (if is_down x.status then NotUp else NotMine)
+other_is_refused f me x e other = by_test (is_down x.status)
+  where
+    by_test : (b : Bool) → (if b then Some NotUp else if not (is_mine f me e) then Some NotMine else None) ≡ Some (if b then NotUp else NotMine)
+    by_test true = refl
+    by_test false = rw other
+
+pub on_ok_then : {T E : Type 0} (result : Result T E) (P Q : Type 0) → (P → Q) → OnOk result P → OnOk result Q
+on_ok_then (Ok value) P Q h p = h p
+on_ok_then (Err error) P Q h p = tt
+
+-- a site that is down refuses all but a restart
+pub down_refuses_timer : {C : Type 0} (R O : Type 0) (f me : ℕ) (x : Site C) → is_down x.status ≡ true → refusal {R = R} {O = O} f me x Timer ≡ Some NotUp
+down_refuses_timer R O f me x e = rw e
+
+pub down_refuses_beat : {C : Type 0} (R O : Type 0) (f me : ℕ) (x : Site C) → is_down x.status ≡ true → refusal {R = R} {O = O} f me x Beat ≡ Some NotUp
+down_refuses_beat R O f me x e = rw e
+
+pub down_refuses_crash : {C : Type 0} (R O : Type 0) (f me : ℕ) (x : Site C) → is_down x.status ≡ true → refusal {R = R} {O = O} f me x Crash ≡ Some NotUp
+down_refuses_crash R O f me x e = rw e
+
+pub down_refuses_message : {C R O : Type 0} (f me : ℕ) (x : Site C) (e : EnvelopeOf C R O) → is_down x.status ≡ true → refusal f me x (Deliver e) ≡ Some NotUp
+down_refuses_message f me x e d = rw d
+
+-- a running site refuses a timer where there is no greater view, and there alone
+pub spent_refuses_timer : {C : Type 0} (R O : Type 0) (f me : ℕ) (x : Site C) → is_running x.status ≡ true → x.view ≡ max_number → refusal {R = R} {O = O} f me x Timer ≡ Some ViewsSpent
+spent_refuses_timer R O f me x up spent = rw (up_is_not_down x.status up, running_is_here x.status up, eq-eqb _ _ spent)
+
+pub timer_is_taken : {C : Type 0} (R O : Type 0) (f me : ℕ) (x : Site C) → is_running x.status ≡ true → x.view ≢ max_number → refusal {R = R} {O = O} f me x Timer ≡ None
+timer_is_taken R O f me x up more = rw (up_is_not_down x.status up, running_is_here x.status up, ne_eqb _ _ more)
+
+pub beat_is_taken : {C : Type 0} (R O : Type 0) (f me : ℕ) (x : Site C) → is_running x.status ≡ true → refusal {R = R} {O = O} f me x Beat ≡ None
+beat_is_taken R O f me x up = rw (up_is_not_down x.status up)
+
+-- what isn't down is not shown as down
+pub life_is_not_down : {H C R O S : Type 0} (m : Ghosts H C R O S) (start : H) (f : ℕ) (boot : Boot) (l : Life H C R O S) → (l ≡ life.Down → ⊥) → IsWell m start f boot l → is_down (volatile_of l).status ≡ false
+life_is_not_down m start f boot life.Down other well = absurd (other refl)
+life_is_not_down m start f boot (life.Recovering r) other well = refl
+life_is_not_down m start f boot (life.Up r) other well = up_is_not_down r.status well.0.up

@@ -1,6 +1,6 @@
-ghost use Rattle.std.specs.Prelude.{◌≡◌, List, true, IfOk};
+ghost use Rattle.std.specs.Prelude.{◌≡◌, ◌==◌, List, true, IfOk, if◌then◌else◌};
 ghost use Rattle.vr_types.specs.Choice.{Choice, IsRight};
-ghost use Rattle.vr_types.specs.Group.{may_send};
+ghost use Rattle.vr_types.specs.Group.{may_send, primary};
 ghost use Rattle.vr_types.specs.Handling.{on_message};
 ghost use Rattle.vr_types.specs.Site.{Ack};
 ghost use Rattle.vr_recover.specs.Progress.{FollowsProgress, IsSoundProgress};
@@ -41,19 +41,21 @@ pub(crate) fn await_state<M: Machine>(
             };
             take_response(alloc, config, setup, boot, recovering, nonce, response)
         }
-        MsgOf::Prepare { view, .. } => Ok(drops_of(config, site, view)),
-        MsgOf::Commit { view, .. } => Ok(drops_of(config, site, view)),
-        MsgOf::StartView { view, .. } => Ok(drops_of(config, site, view)),
-        MsgOf::NewState { view, .. } => Ok(drops_of(config, site, view)),
+        MsgOf::Prepare { view, .. } => Ok(Progress::Dropped(why_of(config, site, view))),
+        MsgOf::Commit { view, .. } => Ok(Progress::Dropped(why_of(config, site, view))),
+        MsgOf::StartView { view, .. } => Ok(Progress::Dropped(why_of(config, site, view))),
+        MsgOf::NewState { view, .. } => Ok(Progress::Dropped(why_of(config, site, view))),
         _ => Ok(Progress::Dropped(Why::Status)),
     }
 }
 
-/// Drops what the primary of a view alone may say: it takes no part in recovery, and another's word comes to nothing.
-fn drops_of<M: Machine>(config: Config, from: u16, view: u32) -> Progress<M> {
+/// Why a recovering site drops what the primary of a view alone may say: another's word comes first to nothing.
+fn why_of(config: Config, from: u16, view: u32) -> Why
+    ensures { result ≡ (if primary config.f view == from then Why.Status else Why.NotPrimary) }
+{
     if primary_of(config, view) == from {
-        Progress::Dropped(Why::Status)
+        Why::Status
     } else {
-        Progress::Dropped(Why::NotPrimary)
+        Why::NotPrimary
     }
 }
