@@ -12,7 +12,7 @@ use Rattle.vr_types.specs.Choice.{Choice}
 use Rattle.vr_types.specs.Group.{primary, mail, to_all}
 use Rattle.vr_types.specs.Site.{Site, Vote, nothing, is_normal, is_recovering}
 use Rattle.vr_types.specs.Step.{Step, does, drops, with_saved, executed_to, normal_in, begins_with_executed, acknowledges_all, takes_log}
-use Rattle.vr_types.specs.Change.{on_timer, beats_in_change, on_start_view, sends_vote}
+use Rattle.vr_types.specs.Change.{on_timer, on_start_view_change, on_do_view_change, beats_in_change, on_start_view, sends_vote, starts_later_view, with_start, with_vote, votes_where_due, opens_where_due}
 use Rattle.vr_types.specs.Transfer.{on_get_state, on_new_state}
 use Rattle.vr_change.specs.Fits.{rows_fit}
 use Rattle.vr_change.proofs.Sites.{normal_with}
@@ -99,6 +99,36 @@ module _ {C R O : Type 0} (choose : Choice C) (f me : ℕ) (x : Site C) where
   pub on_new_state-takes : (from w base k : ℕ) (rows : List (RowOf C)) → (primary f w == from) ≡ true → is_recovering x.status ≡ false → x.view ≤ w → rows_fit x w base (length rows) ≡ true
       → ◌≡◌ {A = Step C R O} (on_new_state choose f me x from w base k rows) (takes_log choose f me x w k (take base x.log ++ rows))
   on_new_state-takes from w base k rows p e new fit = on_new_state-is from w base k rows p e new ∙ ap (λ b. let s : Step C R O = if b then takes_log choose f me x w k (take base x.log ++ rows) else drops x Stale in s) fit
+
+  pub on_start_view_change-view : (from w : ℕ) → is_recovering x.status ≡ false → w < x.view → ◌≡◌ {A = Step C R O} (on_start_view_change choose f me x from w) (drops x View)
+  unfolding on_start_view_change
+  on_start_view_change-view from w e old = rw (e, lt-ltb _ _ old)
+
+  pub on_start_view_change-here : (from w : ℕ) → is_recovering x.status ≡ false → x.view ≤ w → (is_normal x.status && (w == x.view)) ≡ true → ◌≡◌ {A = Step C R O} (on_start_view_change choose f me x from w) (drops x Status)
+  unfolding on_start_view_change
+  on_start_view_change-here from w e new here = rw (e, le-ltb _ _ new, here)
+
+  pub on_start_view_change-is : (from w : ℕ) → is_recovering x.status ≡ false → x.view ≤ w → (is_normal x.status && (w == x.view)) ≡ false
+      → ◌≡◌ {A = Step C R O} (on_start_view_change choose f me x from w) (let part = starts_later_view f me w x in opens_where_due choose f me x (votes_where_due f me (record { site = with_start from part.site; sent = part.sent })))
+  unfolding on_start_view_change
+  on_start_view_change-is from w e new here = rw (e, le-ltb _ _ new, here)
+
+  pub on_do_view_change-view : (w : ℕ) (vote : Vote C) → is_recovering x.status ≡ false → w < x.view → ◌≡◌ {A = Step C R O} (on_do_view_change choose f me x w vote) (drops x View)
+  unfolding on_do_view_change
+  on_do_view_change-view w vote e old = rw (e, lt-ltb _ _ old)
+
+  pub on_do_view_change-backup : (w : ℕ) (vote : Vote C) → is_recovering x.status ≡ false → x.view ≤ w → (primary f w == me) ≡ false → ◌≡◌ {A = Step C R O} (on_do_view_change choose f me x w vote) (drops x NotPrimary)
+  unfolding on_do_view_change
+  on_do_view_change-backup w vote e new p = rw (e, le-ltb _ _ new, p)
+
+  pub on_do_view_change-here : (w : ℕ) (vote : Vote C) → is_recovering x.status ≡ false → x.view ≤ w → (primary f w == me) ≡ true → (is_normal x.status && (w == x.view)) ≡ true → ◌≡◌ {A = Step C R O} (on_do_view_change choose f me x w vote) (drops x Status)
+  unfolding on_do_view_change
+  on_do_view_change-here w vote e new p here = rw (e, le-ltb _ _ new, p, here)
+
+  pub on_do_view_change-is : (w : ℕ) (vote : Vote C) → is_recovering x.status ≡ false → x.view ≤ w → (primary f w == me) ≡ true → (is_normal x.status && (w == x.view)) ≡ false
+      → ◌≡◌ {A = Step C R O} (on_do_view_change choose f me x w vote) (let part = starts_later_view f me w x in opens_where_due choose f me x (record { site = with_vote vote part.site; sent = part.sent }))
+  unfolding on_do_view_change
+  on_do_view_change-is w vote e new p here = rw (e, le-ltb _ _ new, p, here)
 
 -- the cell after a view is saved where it is later
 abbrev pub cell_after : {C : Type 0} → ℕ → Site C → Boot

@@ -1,5 +1,5 @@
 -- Each rule of a change of view saves the view that it leads to.
-use Rattle.std.proofs.Common.{◌≡◌, ℕ, ◌+◌, ◌<◌, ◌≤◌, ◌==◌, ◌&&◌, Bool, true, false, not, nat_lt, nat_le, List, [], ◌∷◌, ◌++◌, length, take, if◌then◌else◌, refl, sym, ap, ◌∙◌, arith}
+use Rattle.std.proofs.Common.{◌≡◌, ℕ, ◌+◌, ◌≤◌, ◌==◌, ◌&&◌, Bool, true, false, not, nat_lt, nat_le, List, ◌++◌, length, take, if◌then◌else◌, refl, sym, arith}
 use Rattle.std.proofs.lemmas.Bool.Decides.{nat_tests}
 use Rattle.vr_types.specs.declared.event.Why.{Why}
 use Rattle.vr_types.specs.declared.limits.TheConstants.{MAX_ROWS}
@@ -7,8 +7,8 @@ use Rattle.vr_types.specs.declared.row.RowOf.{RowOf}
 use Rattle.vr_types.specs.Choice.{Choice}
 use Rattle.vr_types.specs.Group.{primary}
 use Rattle.vr_types.specs.Site.{Site, Vote, has_start, has_vote, is_normal, is_recovering}
-use Rattle.vr_types.specs.Step.{Step, does, drops, with_saved, begins_with_executed, takes_log}
-use Rattle.vr_types.specs.Change.{Part, starts_view, starts_later_view, with_start, with_vote, with_voted, own_vote, sends_vote, is_to_vote, votes_where_due, is_to_open, opens_where_due, on_timer, on_start_view_change, on_do_view_change, on_start_view, beats_in_change}
+use Rattle.vr_types.specs.Step.{Step, drops, with_saved, begins_with_executed, takes_log}
+use Rattle.vr_types.specs.Change.{Part, starts_later_view, with_start, with_vote, with_voted, own_vote, is_to_vote, votes_where_due, is_to_open, opens_where_due, on_timer, on_start_view_change, on_do_view_change, on_start_view, beats_in_change}
 use Rattle.vr_types.specs.Transfer.{on_get_state, on_new_state}
 use Rattle.vr_change.specs.Saved.{SavesView}
 

@@ -1,5 +1,5 @@
 -- What runs after a rule shows the site after it.
-use Rattle.std.proofs.Common.{◌≡◌, ℕ, List, [], length, map, Bool, true, false, refl, sym, ap, ◌∙◌, subst}
+use Rattle.std.proofs.Common.{◌≡◌, ℕ, List, [], length, map, Bool, true, false, sym, ap, ◌∙◌, subst}
 use Rattle.std.specs.Prelude.{Contains}
 use Rattle.vr_types.specs.declared.cell.Boot.{Boot}
 use Rattle.vr_types.specs.declared.event.Status.TheVariants.{Normal, Change}
@@ -7,7 +7,6 @@ use Rattle.vr_types.specs.declared.machine.Machine.{Ghosts}
 use Rattle.vr_types.specs.declared.row.RowOf.{RowOf}
 use Rattle.vr_types.specs.Choice.{OneEach}
 use Rattle.vr_types.specs.Site.{Ack, Site, Vote, nothing, is_running}
-use Rattle.vr_types.specs.Step.{with_saved}
 use Rattle.vr_types.proofs.ChoosingPick.{Contains-none}
 use Rattle.vr_log.specs.declared.running.Running.{Running}
 use Rattle.vr_log.specs.Kept.{IsKept}
@@ -58,4 +57,33 @@ normal_site n boot w d log gave status view last rows done = λ i. record {
   done = sym done i;
   collected = record { acks = []; starts = sym gave.starts i; voted = sym gave.voted i; votes = map vote_of (sym gave.votes i); responses = [] };
   cell = boot;
+}
+
+-- a sound site that only collected more
+pub kept_sound : {H C R O S : Type 0} (m : Ghosts H C R O S) (start : H) (f : ℕ) (r n : Running H C R O S) → n.status ≡ r.status → n.kept ≡ r.kept → n.acked ≡ r.acked → OneEach (λ (vote : Vote C). vote.from) (map vote_of n.votes.items) → IsSound m start f r → IsSound m start f n
+kept_sound m start f r n status kept acked votes was = record {
+  kept = subst (IsKept m start) (sym kept) was.kept;
+  sites = ap (λ a. length a.items) acked ∙ was.sites;
+  up = ap is_running status ∙ was.up;
+  votes = votes;
+}
+
+pub kept_running : {H C R O S : Type 0} (m : Ghosts H C R O S) (start : H) (f : ℕ) (r n : Running H C R O S) (acks : List Ack) → n.status ≡ r.status → n.kept ≡ r.kept → n.acked ≡ r.acked → OneEach (λ (vote : Vote C). vote.from) (map vote_of n.votes.items) → IsRunning m start f r acks → IsRunning m start f n acks
+kept_running m start f r n acks status kept acked votes was = record {
+  sound = kept_sound m start f r n status kept acked votes was.sound;
+  summed = subst (λ a. SumUp a.items acks) (sym acked) was.summed;
+}
+
+-- the site that collected this
+pub collected_site : {H C R O S : Type 0} (r n : Running H C R O S) (acks : List Ack) (cell : Boot) (starts : List ℕ) (voted : Bool) (votes : List (Vote C)) → n.status ≡ r.status → n.view ≡ r.view → n.last_normal ≡ r.last_normal → n.kept ≡ r.kept
+    → n.starts.items ≡ starts → n.voted ≡ voted → map vote_of n.votes.items ≡ votes
+    → ◌≡◌ {A = Site C} (record (site_of r acks cell) { collected = record { acks = acks; starts = starts; voted = voted; votes = votes; responses = [] } }) (site_of n acks cell)
+collected_site r n acks cell starts voted votes status view last kept es ev eb = λ i. record {
+  status = sym status i;
+  view = sym view i;
+  last_normal = sym last i;
+  log = (sym kept i).log;
+  done = (sym kept i).done;
+  collected = record { acks = acks; starts = sym es i; voted = sym ev i; votes = sym eb i; responses = [] };
+  cell = cell;
 }

@@ -1,2 +1,4 @@
+pub mod Ballot
 pub mod Fits
+pub mod Parts
 pub mod Saved

@@ -7,12 +7,13 @@
 //! that the call sends leaves.
 #![tactic(auto)]
 
-pub mod change;
+mod ballot;
+mod change;
 pub mod laws;
-pub mod opening;
-pub mod taking;
-pub mod transfer;
-pub mod voting;
+mod opening;
+mod taking;
+mod transfer;
+mod voting;
 
 pub use change::{beat_in_change, timer};
 pub use taking::start_view;

@@ -1,0 +1,204 @@
+//! The opening of a view: its primary takes the log that goes before all others, tells all, and answers the clients.
+
+ghost use Rattle.std.specs.Prelude.{◌≡◌, ◌<◌, ◌≤◌, ◌*◌, ◌++◌, ◌∷◌, [], false, IfOk, OnOk, List, length, map, slice_get, Some};
+ghost use Rattle.vr_types.specs.declared.cell.Boot.{Boot};
+ghost use Rattle.vr_types.specs.Change.{opened_with, own_vote};
+ghost use Rattle.vr_types.specs.Choice.{Choice, IsRight};
+ghost use Rattle.vr_types.specs.Group.{mail, to_all};
+ghost use Rattle.vr_types.specs.Site.{Ack, Vote, has_vote};
+ghost use Rattle.vr_log.specs.Kept.{IsReady};
+ghost use Rattle.vr_log.specs.Running.{IsSound, IsRunning, Follows, site_of, vote_of};
+ghost use Rattle.vr_change.specs.Parts.{opens_with};
+
+use crate::ballot::{Claim, best, best_before, most_done};
+use crate::taking::be_normal;
+use std::alloc::{AllocError, Global};
+use std::mem;
+use vr_log::send::{dropped, mail_to, send_replies};
+use vr_log::{Running, VoteOf};
+use vr_types::{Config, Envelope, Machine, MsgOf, Outcome, OutcomeOf, RowsOf, Why};
+
+/// Opens the view with the votes that are kept.
+pub fn open_with_kept<M: Machine>(
+    alloc: Global,
+    config: Config,
+    running: &mut Running<M>,
+    sent: Vec<Envelope<M>>,
+) -> Result<Outcome<M>, AllocError>
+    requires ready { IsReady M.Machine running.old.kept }
+    requires some { 0 < length running.old.votes.items }
+    ensures sound { OnOk result ((start : M) → IsSound M.Machine start config.f running.old → IsSound M.Machine start config.f running.new) }
+    ensures later { running.old.view ≤ running.new.view }
+    ensures step { (choose : Choice M.Cmd) (start : M) (acks : List Ack) (cell : Boot) → IsRight config.f choose → IsRunning M.Machine start config.f running.old acks →
+        Follows M.Machine start config.f config.me running.new result (
+        let ballot = map vote_of running.old.votes.items in
+        opens_with choose config.f config.me (site_of running.old acks cell) sent.items (choose.pick ballot).log (choose.most_done ballot)) }
+{
+    let at = best(running.votes.as_slice());
+    let done = most_done(running.votes.as_slice());
+    open_with_vote(alloc, config, running, at, done, sent)
+}
+
+/// Opens the view with the votes that are kept, and one that comes from a site that has none among them.
+pub fn open_with_new<M: Machine>(
+    alloc: Global,
+    config: Config,
+    running: &mut Running<M>,
+    vote: VoteOf<M::Cmd>,
+    sent: Vec<Envelope<M>>,
+) -> Result<Outcome<M>, AllocError>
+    requires ready { IsReady M.Machine running.old.kept }
+    requires new { has_vote (map vote_of running.old.votes.items) vote.from ≡ false }
+    ensures sound { OnOk result ((start : M) → IsSound M.Machine start config.f running.old → IsSound M.Machine start config.f running.new) }
+    ensures later { running.old.view ≤ running.new.view }
+    ensures step { (choose : Choice M.Cmd) (start : M) (acks : List Ack) (cell : Boot) → IsRight config.f choose → IsRunning M.Machine start config.f running.old acks →
+        Follows M.Machine start config.f config.me running.new result (
+        let ballot = map vote_of running.old.votes.items ++ vote_of vote ∷ [] in
+        opens_with choose config.f config.me (site_of running.old acks cell) sent.items (choose.pick ballot).log (choose.most_done ballot)) }
+{
+    let done = most_done(running.votes.as_slice()).max(vote.done);
+    match best_before(running.votes.as_slice(), Claim::of(&vote)) {
+        Some(at) => open_with_vote(alloc, config, running, at, done, sent),
+        None => open_with_rows(alloc, config, running, vote.log, done, sent),
+    }
+}
+
+/// Opens the view with the votes that are kept, and the site's own, which is not among them. Where its own log goes
+/// before the others, it stays.
+pub fn open_with_own<M: Machine>(
+    alloc: Global,
+    config: Config,
+    running: &mut Running<M>,
+    sent: Vec<Envelope<M>>,
+) -> Result<Outcome<M>, AllocError>
+    requires ready { IsReady M.Machine running.old.kept }
+    requires new { has_vote (map vote_of running.old.votes.items) config.me ≡ false }
+    ensures sound { OnOk result ((start : M) → IsSound M.Machine start config.f running.old → IsSound M.Machine start config.f running.new) }
+    ensures later { running.old.view ≤ running.new.view }
+    ensures step { (choose : Choice M.Cmd) (start : M) (acks : List Ack) (cell : Boot) → IsRight config.f choose → IsRunning M.Machine start config.f running.old acks →
+        Follows M.Machine start config.f config.me running.new result (
+        let x = site_of running.old acks cell in
+        let ballot = map vote_of running.old.votes.items ++ own_vote config.me x ∷ [] in
+        opens_with choose config.f config.me x sent.items (choose.pick ballot).log (choose.most_done ballot)) }
+{
+    let own = Claim {
+        from: config.me,
+        last_normal: running.last_normal,
+        rows: running.kept.log.len(),
+    };
+    let done = most_done(running.votes.as_slice()).max(running.kept.done);
+    match best_before(running.votes.as_slice(), own) {
+        Some(at) => open_with_vote(alloc, config, running, at, done, sent),
+        None => open(alloc, config, running, done, sent),
+    }
+}
+
+/// Opens the view with the log of the vote at an index, where that begins with what the site executed.
+pub fn open_with_vote<M: Machine>(
+    alloc: Global,
+    config: Config,
+    running: &mut Running<M>,
+    at: usize,
+    done: u16,
+    sent: Vec<Envelope<M>>,
+) -> Result<Outcome<M>, AllocError>
+    requires ready { IsReady M.Machine running.old.kept }
+    requires at { at < length running.old.votes.items }
+    ensures sound { OnOk result ((start : M) → IsSound M.Machine start config.f running.old → IsSound M.Machine start config.f running.new) }
+    ensures later { running.old.view ≤ running.new.view }
+    ensures step { (choose : Choice M.Cmd) (start : M) (acks : List Ack) (cell : Boot) (vote : Vote M.Cmd) → IsRight config.f choose → IsRunning M.Machine start config.f running.old acks →
+        slice_get (map vote_of running.old.votes.items) at ≡ Some vote →
+        Follows M.Machine start config.f config.me running.new result (opens_with choose config.f config.me (site_of running.old acks cell) sent.items vote.log done) }
+{
+    if !running.kept.keeps_executed(0, &running.votes[at].log) {
+        return Ok(dropped(alloc, Why::Stale));
+    }
+    let mut votes = mem::replace(&mut running.votes, Vec::new(alloc));
+    let vote = votes.swap_remove(at);
+    running.kept.take_rows(0, vote.log)?;
+    open(alloc, config, running, done, sent)
+}
+
+/// Opens the view with these rows, where they begin with what the site executed.
+pub fn open_with_rows<M: Machine>(
+    alloc: Global,
+    config: Config,
+    running: &mut Running<M>,
+    rows: RowsOf<M::Cmd>,
+    done: u16,
+    sent: Vec<Envelope<M>>,
+) -> Result<Outcome<M>, AllocError>
+    requires ready { IsReady M.Machine running.old.kept }
+    ensures sound { OnOk result ((start : M) → IsSound M.Machine start config.f running.old → IsSound M.Machine start config.f running.new) }
+    ensures later { running.old.view ≤ running.new.view }
+    ensures step { (choose : Choice M.Cmd) (start : M) (acks : List Ack) (cell : Boot) → IsRight config.f choose → IsRunning M.Machine start config.f running.old acks →
+        Follows M.Machine start config.f config.me running.new result (opens_with choose config.f config.me (site_of running.old acks cell) sent.items rows done) }
+{
+    if !running.kept.keeps_executed(0, &rows) {
+        return Ok(dropped(alloc, Why::Stale));
+    }
+    let _len = rows.len();
+    running.kept.take_rows(0, rows)?;
+    open(alloc, config, running, done, sent)
+}
+
+/// Opens the view with the log that the site has: it is normal in it, executes what any voter had, and tells all; then
+/// the clients are answered.
+pub fn open<M: Machine>(
+    alloc: Global,
+    config: Config,
+    running: &mut Running<M>,
+    done: u16,
+    mut sent: Vec<Envelope<M>>,
+) -> Result<Outcome<M>, AllocError>
+    requires { IsReady M.Machine running.old.kept }
+    ensures sound { OnOk result ((start : M) → IsSound M.Machine start config.f running.old → IsSound M.Machine start config.f running.new) }
+    ensures later { running.old.view ≤ running.new.view }
+    ensures step { (start : M) (acks : List Ack) (cell : Boot) → IsRunning M.Machine start config.f running.old acks →
+        Follows M.Machine start config.f config.me running.new result (opened_with config.f config.me running.old.kept.log done (record { site = site_of running.old acks cell; sent = sent.items })) }
+{
+    let view = running.view;
+    let answers = running.kept.execute(alloc, done)?;
+    be_normal(running, view);
+    tell_view(alloc, config, running, &mut sent)?;
+    send_replies(config, view, answers.as_slice(), &mut sent)?;
+    Ok(OutcomeOf {
+        sent,
+        dropped: None,
+    })
+}
+
+/// Adds STARTVIEW of the site's view to every other site, in ascending order.
+fn tell_view<M: Machine>(
+    alloc: Global,
+    config: Config,
+    running: &Running<M>,
+    sent: &mut Vec<Envelope<M>>,
+) -> Result<(), AllocError>
+    ensures { OnOk result (sent.new.items ≡ sent.old.items ++ to_all config.f config.me (MsgOf.StartView running.now.view running.now.kept.done running.now.kept.log)) }
+{
+    for site in 0..2 * config.f + 1 {
+        if site != config.me {
+            sent.push(view_mail(alloc, config, running, site)?)?;
+        }
+    }
+    Ok(())
+}
+
+/// STARTVIEW of the site's view to a site.
+fn view_mail<M: Machine>(
+    alloc: Global,
+    config: Config,
+    running: &Running<M>,
+    site: u16,
+) -> Result<Envelope<M>, AllocError>
+    requires { site ≤ 2 * config.f }
+    ensures { IfOk result (λ sent. sent ≡ mail config.me site (MsgOf.StartView running.now.view running.now.kept.done running.now.kept.log)) }
+{
+    let msg = MsgOf::StartView {
+        view: running.view,
+        done: running.kept.done,
+        rows: running.kept.log.copy_from(alloc, 0)?,
+    };
+    Ok(mail_to(config, site, msg))
+}

@@ -1,15 +1,24 @@
-ghost use Rattle.std.specs.Prelude.{◌≡◌, ◌≤◌, OnOk, List};
+ghost use Rattle.std.specs.Prelude.{◌≡◌, ◌≢◌, ℕ, ◌<◌, ◌≤◌, ◌==◌, ◌&&◌, false, IfOk, OnOk, OnErr, List, map};
 ghost use Rattle.vr_types.specs.declared.cell.Boot.{Boot};
-ghost use Rattle.vr_types.specs.Change.{on_start_view_change, on_do_view_change};
+ghost use Rattle.vr_types.specs.Change.{on_start_view_change, on_do_view_change, is_to_vote, starts_later_view, votes_where_due, opens_where_due, with_start, with_vote, own_vote as vote_made};
 ghost use Rattle.vr_types.specs.Choice.{Choice, IsRight};
-ghost use Rattle.vr_types.specs.Site.{Ack};
+ghost use Rattle.vr_types.specs.Group.{primary};
+ghost use Rattle.vr_types.specs.Site.{Ack, is_normal};
+ghost use Rattle.vr_types.specs.Step.{does};
 ghost use Rattle.vr_log.specs.Kept.{IsReady};
+ghost use Rattle.vr_log.specs.Outcomes.{Sends};
 ghost use Rattle.vr_log.specs.Running.{IsSound, IsRunning, Follows, site_of, vote_of};
+ghost use Rattle.vr_change.specs.Ballot.{with_starter, with_ballot};
+ghost use Rattle.vr_change.specs.Parts.{IsPart, gathered};
 
+use crate::ballot::{enough_started, enough_voted, has_started, has_voted, votes_now};
+use crate::change::{own_vote, start_change};
+use crate::opening::{open_with_kept, open_with_new, open_with_own};
+use crate::taking::is_normal_in;
 use std::alloc::{AllocError, Global};
-use vr_log::send::{dropped};
+use vr_log::send::{News, dropped, primary_of, tell_all};
 use vr_log::{Running, VoteOf};
-use vr_types::{Config, Machine, Outcome, Why};
+use vr_types::{Config, Envelope, EnvelopeOf, Machine, Outcome, OutcomeOf, Why};
 
 /// STARTVIEWCHANGE: the site takes part in the change to the view, votes once f others take part, and as the primary
 /// opens the view where it can.
@@ -26,7 +35,18 @@ pub fn start_view_change<M: Machine>(
     ensures step { (choose : Choice M.Cmd) (start : M) (acks : List Ack) (cell : Boot) → IsRight config.f choose → IsRunning M.Machine start config.f running.old acks →
         Follows M.Machine start config.f config.me running.new result (on_start_view_change choose config.f config.me (site_of running.old acks cell) from view) }
 {
-    Ok(dropped(alloc, Why::Status))
+    if view < running.view {
+        return Ok(dropped(alloc, Why::View));
+    }
+    if is_normal_in(running, view) {
+        return Ok(dropped(alloc, Why::Status));
+    }
+    let sent = start_later(alloc, config, running, view)?;
+    if primary_of(config, view) == config.me {
+        lead(alloc, config, running, from, sent)
+    } else {
+        follow(alloc, config, running, from, sent)
+    }
 }
 
 /// DOVIEWCHANGE: the primary of the view takes part in the change to it, keeps the vote, and opens the view where it
@@ -44,5 +64,233 @@ pub fn do_view_change<M: Machine>(
     ensures step { (choose : Choice M.Cmd) (start : M) (acks : List Ack) (cell : Boot) → IsRight config.f choose → IsRunning M.Machine start config.f running.old acks →
         Follows M.Machine start config.f config.me running.new result (on_do_view_change choose config.f config.me (site_of running.old acks cell) view (vote_of vote)) }
 {
-    Ok(dropped(alloc, Why::Status))
+    if view < running.view {
+        return Ok(dropped(alloc, Why::View));
+    }
+    if primary_of(config, view) != config.me {
+        return Ok(dropped(alloc, Why::NotPrimary));
+    }
+    if is_normal_in(running, view) {
+        return Ok(dropped(alloc, Why::Status));
+    }
+    let sent = start_later(alloc, config, running, view)?;
+    take_vote(alloc, config, running, vote, sent)
+}
+
+/// The change to the view begins, where it is later than the site's. Gives what all are told then.
+fn start_later<M: Machine>(
+    alloc: Global,
+    config: Config,
+    running: &mut Running<M>,
+    view: u32,
+) -> Result<Vec<Envelope<M>>, AllocError>
+    requires later { running.old.view ≤ view }
+    requires change { (is_normal running.old.status && (view == running.old.view)) ≡ false }
+    ensures err { OnErr result (running.old.view < view) }
+    ensures view { running.new.view ≡ view }
+    ensures kept { running.new.kept ≡ running.old.kept }
+    ensures change { is_normal running.new.status ≡ false }
+    ensures sound { (start : M) → IsSound M.Machine start config.f running.old → IsSound M.Machine start config.f running.new }
+    ensures part { IfOk result (λ sent. (start : M) (acks : List Ack) (cell : Boot) → IsRunning M.Machine start config.f running.old acks →
+        IsPart M.Machine start config.f running.new sent.items (starts_later_view config.f config.me view (site_of running.old acks cell))) }
+{
+    if view == running.view {
+        return Ok(Vec::new(alloc));
+    }
+    start_change(running, view);
+    tell_all(alloc, config, News::StartViewChange { view })
+}
+
+/// A site that is not the primary keeps a STARTVIEWCHANGE, and sends its vote where it is due.
+fn follow<M: Machine>(
+    alloc: Global,
+    config: Config,
+    running: &mut Running<M>,
+    from: u16,
+    mut sent: Vec<Envelope<M>>,
+) -> Result<Outcome<M>, AllocError>
+    requires { primary config.f running.old.view ≢ config.me }
+    ensures sound { OnOk result ((start : M) → IsSound M.Machine start config.f running.old → IsSound M.Machine start config.f running.new) }
+    ensures later { running.old.view ≤ running.new.view }
+    ensures step { (choose : Choice M.Cmd) (start : M) (acks : List Ack) (cell : Boot) → IsRunning M.Machine start config.f running.old acks →
+        Follows M.Machine start config.f config.me running.new result (
+        let x = site_of running.old acks cell in
+        opens_where_due choose config.f config.me x (votes_where_due config.f config.me (record { site = with_start from x; sent = sent.items }))) }
+{
+    let votes = is_due(config, running, from);
+    keep_start(running, from)?;
+    if !votes {
+        return Ok(handled(sent));
+    }
+    running.voted = true;
+    sent.push(own_vote(alloc, config, running)?)?;
+    Ok(handled(sent))
+}
+
+/// The primary keeps a STARTVIEWCHANGE, makes its own vote where it is due, and opens the view where it can.
+fn lead<M: Machine>(
+    alloc: Global,
+    config: Config,
+    running: &mut Running<M>,
+    from: u16,
+    sent: Vec<Envelope<M>>,
+) -> Result<Outcome<M>, AllocError>
+    requires ready { IsReady M.Machine running.old.kept }
+    requires change { is_normal running.old.status ≡ false }
+    requires mine { primary config.f running.old.view ≡ config.me }
+    ensures sound { OnOk result ((start : M) → IsSound M.Machine start config.f running.old → IsSound M.Machine start config.f running.new) }
+    ensures later { running.old.view ≤ running.new.view }
+    ensures step { (choose : Choice M.Cmd) (start : M) (acks : List Ack) (cell : Boot) → IsRight config.f choose → IsRunning M.Machine start config.f running.old acks →
+        Follows M.Machine start config.f config.me running.new result (
+        let x = site_of running.old acks cell in
+        opens_where_due choose config.f config.me x (votes_where_due config.f config.me (record { site = with_start from x; sent = sent.items }))) }
+{
+    let votes = is_due(config, running, from);
+    let has_own = has_voted(running.votes.as_slice(), config.me);
+    if !votes && !has_own {
+        return wait(alloc, config, running, from, votes, sent);
+    }
+    if !enough_voted(config, running.votes.as_slice(), config.me) {
+        return wait(alloc, config, running, from, votes, sent);
+    }
+    if has_own {
+        open_with_kept(alloc, config, running, sent)
+    } else {
+        open_with_own(alloc, config, running, sent)
+    }
+}
+
+/// Whether the site's own vote is due, with the STARTVIEWCHANGE that comes.
+fn is_due<M: Machine>(config: Config, running: &Running<M>, from: u16) -> bool
+    ensures { (acks : List Ack) (cell : Boot) → result ≡ is_to_vote config.f config.me (with_start from (site_of running.now acks cell)) }
+{
+    enough_started(config, running.starts.as_slice(), from) && !running.voted
+}
+
+/// Keeps a STARTVIEWCHANGE, once of each site. An `Err` leaves what runs as it was.
+fn keep_start<M: Machine>(running: &mut Running<M>, from: u16) -> Result<(), AllocError>
+    ensures status { running.new.status ≡ running.old.status }
+    ensures view { running.new.view ≡ running.old.view }
+    ensures last_normal { running.new.last_normal ≡ running.old.last_normal }
+    ensures kept { running.new.kept ≡ running.old.kept }
+    ensures acked { running.new.acked ≡ running.old.acked }
+    ensures voted { running.new.voted ≡ running.old.voted }
+    ensures votes { running.new.votes ≡ running.old.votes }
+    ensures starts { OnOk result (running.new.starts.items ≡ with_starter running.old.starts.items from) }
+{
+    if !has_started(running.starts.as_slice(), from) {
+        running.starts.push(from)?;
+    }
+    Ok(())
+}
+
+/// The primary keeps a STARTVIEWCHANGE, and its own vote where it votes; the view stays closed.
+fn wait<M: Machine>(
+    alloc: Global,
+    config: Config,
+    running: &mut Running<M>,
+    from: u16,
+    votes: bool,
+    sent: Vec<Envelope<M>>,
+) -> Result<Outcome<M>, AllocError>
+    ensures sound { OnOk result ((start : M) → IsSound M.Machine start config.f running.old → IsSound M.Machine start config.f running.new) }
+    ensures later { running.old.view ≤ running.new.view }
+    ensures step { (start : M) (acks : List Ack) (cell : Boot) → IsRunning M.Machine start config.f running.old acks →
+        Follows M.Machine start config.f config.me running.new result (does (gathered votes config.me from (site_of running.old acks cell)) sent.items) }
+{
+    keep_start(running, from)?;
+    if !votes {
+        return Ok(handled(sent));
+    }
+    running.voted = true;
+    keep_own_vote(alloc, config, running)?;
+    Ok(handled(sent))
+}
+
+/// Keeps the site's own vote, where it has none. After an `Err` what runs may only be dropped.
+fn keep_own_vote<M: Machine>(
+    alloc: Global,
+    config: Config,
+    running: &mut Running<M>,
+) -> Result<(), AllocError>
+    ensures status { running.new.status ≡ running.old.status }
+    ensures view { running.new.view ≡ running.old.view }
+    ensures last_normal { running.new.last_normal ≡ running.old.last_normal }
+    ensures kept { running.new.kept ≡ running.old.kept }
+    ensures acked { running.new.acked ≡ running.old.acked }
+    ensures starts { running.new.starts ≡ running.old.starts }
+    ensures voted { running.new.voted ≡ running.old.voted }
+    ensures votes { OnOk result ((acks : List Ack) (cell : Boot) → map vote_of running.new.votes.items ≡ with_ballot (map vote_of running.old.votes.items) (vote_made config.me (site_of running.old acks cell))) }
+{
+    if has_voted(running.votes.as_slice(), config.me) {
+        return Ok(());
+    }
+    let vote = VoteOf {
+        from: config.me,
+        last_normal: running.last_normal,
+        done: running.kept.done,
+        log: running.kept.log.copy_from(alloc, 0)?,
+    };
+    running.votes.push(vote)?;
+    Ok(())
+}
+
+/// The primary takes a vote, and opens the view where it can.
+fn take_vote<M: Machine>(
+    alloc: Global,
+    config: Config,
+    running: &mut Running<M>,
+    vote: VoteOf<M::Cmd>,
+    sent: Vec<Envelope<M>>,
+) -> Result<Outcome<M>, AllocError>
+    requires ready { IsReady M.Machine running.old.kept }
+    requires change { is_normal running.old.status ≡ false }
+    requires mine { primary config.f running.old.view ≡ config.me }
+    ensures sound { OnOk result ((start : M) → IsSound M.Machine start config.f running.old → IsSound M.Machine start config.f running.new) }
+    ensures later { running.old.view ≤ running.new.view }
+    ensures step { (choose : Choice M.Cmd) (start : M) (acks : List Ack) (cell : Boot) → IsRight config.f choose → IsRunning M.Machine start config.f running.old acks →
+        Follows M.Machine start config.f config.me running.new result (
+        let x = site_of running.old acks cell in
+        opens_where_due choose config.f config.me x (record { site = with_vote (vote_of vote) x; sent = sent.items })) }
+{
+    let votes = running.votes.as_slice();
+    if !votes_now(votes, vote.from, config.me) {
+        return keep_vote(running, vote, sent);
+    }
+    if !enough_voted(config, votes, vote.from) {
+        return keep_vote(running, vote, sent);
+    }
+    if has_voted(votes, vote.from) {
+        open_with_kept(alloc, config, running, sent)
+    } else {
+        open_with_new(alloc, config, running, vote, sent)
+    }
+}
+
+/// The primary keeps a vote, the first of each site; the view stays closed.
+fn keep_vote<M: Machine>(
+    running: &mut Running<M>,
+    vote: VoteOf<M::Cmd>,
+    sent: Vec<Envelope<M>>,
+) -> Result<Outcome<M>, AllocError>
+    ensures sound { OnOk result ((start : M) (f : ℕ) → IsSound M.Machine start f running.old → IsSound M.Machine start f running.new) }
+    ensures later { running.old.view ≤ running.new.view }
+    ensures step { (start : M) (f me : ℕ) (acks : List Ack) (cell : Boot) → IsRunning M.Machine start f running.old acks →
+        Follows M.Machine start f me running.new result (does (with_vote (vote_of vote) (site_of running.old acks cell)) sent.items) }
+{
+    if has_voted(running.votes.as_slice(), vote.from) {
+        return Ok(handled(sent));
+    }
+    running.votes.push(vote)?;
+    Ok(handled(sent))
+}
+
+/// The event is handled, and this is sent.
+fn handled<C, R, O>(sent: Vec<EnvelopeOf<C, R, O>>) -> OutcomeOf<C, R, O>
+    ensures { Sends result sent.items }
+{
+    OutcomeOf {
+        sent,
+        dropped: None,
+    }
 }

@@ -1,7 +1,6 @@
-use Rattle.std.proofs.Common.{◌≡◌, ◌==◌, ◌&&◌, ◌++◌, ◌∷◌, [], Bool, true, false, not, refl, sym, ap, ◌∙◌, eq-eqb, append-nil}
+use Rattle.std.proofs.Common.{◌≡◌, ◌==◌, ◌&&◌, ◌++◌, ◌∷◌, [], Bool, true, false, not, refl, sym, ap, ◌∙◌, eq-eqb}
 use Rattle.std.proofs.lemmas.Bool.{ne_eqb}
 use Rattle.vr_types.specs.declared.message.MsgOf.TheVariants.{StartViewChange}
-use Rattle.vr_types.specs.Change.{sends_vote}
 use Rattle.vr_types.specs.Group.{primary, to_all}
 use Rattle.vr_log.specs.Running.{site_of}
 use Rattle.vr_log.proofs.OutcomeLemmas.{err_follows, meets_as, does_meets}

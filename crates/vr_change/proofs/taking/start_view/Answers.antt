@@ -1,7 +1,6 @@
-use Rattle.std.proofs.Common.{◌≡◌, ◌≤◌, ◌==◌, ◌&&◌, true, false, length, refl, sym, ap, ◌∙◌, arith, eq-eqb}
+use Rattle.std.proofs.Common.{◌≡◌, ◌≤◌, ◌==◌, true, false, sym, ◌∙◌, arith, eq-eqb}
 use Rattle.std.proofs.lemmas.Bool.{ne_eqb}
 use Rattle.vr_types.specs.Group.{primary}
-use Rattle.vr_types.specs.Site.{is_normal}
 use Rattle.vr_log.specs.Running.{site_of}
 use Rattle.vr_log.proofs.OutcomeLemmas.{meets_as, follows_as, drops_meets, running_is_here}
 use Rattle.vr_change.proofs.Cases.{on_start_view-leader, on_start_view-view, on_start_view-known, on_start_view-takes}

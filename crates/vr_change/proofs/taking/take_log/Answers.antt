@@ -5,7 +5,7 @@ use Rattle.vr_log.specs.Kept.{IsKept}
 use Rattle.vr_log.specs.Running.{IsRunning, site_of}
 use Rattle.vr_log.proofs.OutcomeLemmas.{meets_as, follows_as, err_follows, drops_meets, does_meets, does_follows, on_ok}
 use Rattle.vr_change.proofs.Cases.{takes_log-stale, takes_log-is, takes_log-rest, takes_log-all, cell_after}
-use Rattle.vr_change.proofs.Sites.{GaveUp, gave_up_sound, normal_site, normal_with}
+use Rattle.vr_change.proofs.Sites.{GaveUp, gave_up_sound, normal_site}
 use Rattle.vr_change.proofs.taking.take_log.Goals as goal
 
 pub returns-then-not-keeps_executed-clause-step : goal.returns-then-not-keeps_executed-clause-step
