@@ -178,7 +178,6 @@ own_view : {C : Type 0} (x : Site C) → x.view ≡ x.cell.view → x.cell ≡ r
 own_view x held = λ i. record { boots = x.cell.boots; view = sym held i }
 
 module _ {C R O : Type 0} (f me : ℕ) (x : Site C) (held : x.view ≡ x.cell.view) where
-
   saves_again : (number newest : ℕ) (last : Option (ℕ × RowOf C)) → SavesView {R = R} {O = O} x (answers_again x number newest last)
   saves_again number newest None = record { same = own_view x held }
   saves_again number newest (Some last) = saves_if x ((number == newest) && (last.1.number == number)) (record { same = own_view x held }) (record { same = own_view x held })

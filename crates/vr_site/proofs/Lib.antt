@@ -1,4 +1,5 @@
 mod Cells
+mod Promises
 mod Recovering
 mod Restarts
 mod Shows

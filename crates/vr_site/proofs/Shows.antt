@@ -18,7 +18,7 @@ use Rattle.vr_types.specs.Choice.{Choice, IsRight}
 use Rattle.vr_types.specs.declared.message.EnvelopeOf.{EnvelopeOf}
 use Rattle.vr_types.specs.Group.{is_mine}
 use Rattle.vr_types.specs.Handling.{refusal, refused_or, on_event, site_step, is_refused, IsFall, max_number}
-use Rattle.vr_types.specs.Site.{Ack, Site, over, is_down, is_running}
+use Rattle.vr_types.specs.Site.{Ack, Site, over, is_down, is_running, opening_site}
 use Rattle.vr_types.specs.Step.{Step, Handled, Dropped, does, drops}
 use Rattle.vr_log.specs.declared.running.Running.{Running}
 use Rattle.vr_log.proofs.OutcomeLemmas.{running_is_here}
@@ -65,7 +65,7 @@ module _ {H C R O S B : Type 0} (m : Ghosts H C R O S) (held : B → Boot) where
   -- an event that is not refused, and in place of which the site fell
   pub fell_handles : (old new : Shown C S B) (event : EventOf C R O) (fault : SiteFault) → refusal old.f old.me (site_shown held old []) event ≡ None
       → ((choose : Choice C) (acks : List Ack) → IsRight old.f choose → SumUp old.volatile.acked acks
-          → Falls held old new (site_shown held old acks) (on_event choose old.f old.me (site_shown held old acks) event) fault)
+      → Falls held old new (site_shown held old acks) (on_event choose old.f old.me (site_shown held old acks) event) fault)
       → Handles m held old new event (Err fault)
   fell_handles old new event fault none falls = record {
     step = tt;
@@ -97,7 +97,7 @@ module _ {H C R O S B : Type 0} (m : Ghosts H C R O S) (held : B → Boot) where
     ran_short (Err error) not_ok volatile serves =
         fell_handles (record base { volatile = volatile_of (life.Up r) }) base event NoMemory serves.allowed
         (λ choose acks right summed. down_falls base (volatile_of (life.Up r)) (site_of r acks (held base.cell)) _ volatile refl
-            (serves.follows choose acks right (record { sound = serves.sound; summed = summed })))
+        (serves.follows choose acks right (record { sound = serves.sound; summed = summed })))
 
     -- it runs on, and its view is saved
     pub ran_on : (new : Shown C S B) (out : OutcomeOf C R O) → (new.f ≡ base.f) × (new.me ≡ base.me) × (new.setup ≡ base.setup)
@@ -106,19 +106,19 @@ module _ {H C R O S B : Type 0} (m : Ghosts H C R O S) (held : B → Boot) where
         → Handles m held (record base { volatile = volatile_of (life.Up r) }) new event (Ok out)
     ran_on new out config volatile cell serves =
         stepped_handles (record base { volatile = volatile_of (life.Up r) }) new event out serves.allowed (λ choose acks right summed.
-            let step = on_event choose base.f base.me (site_of r acks (held base.cell)) event in
-            let meets : Meets m (m.start base.setup) base.f base.me n out step = serves.follows choose acks right (record { sound = serves.sound; summed = summed }) in
-            let view : step.site.view ≡ n.view = ap (λ x. x.view) meets.site in
-            let holds : step.site.cell ≡ held new.cell = (serves.saves choose acks).same ∙ ap (λ v. record { boots = (held base.cell).boots; view = v }) view ∙ sym cell in
-            record {
-              f = config.0;
-              me = config.1;
-              setup = config.2;
-              acks = subst (λ (u : Volatile C). SumUp u.acked step.site.collected.acks) (sym volatile) meets.running.summed;
-              site = meets.site ∙ ap (site_of n step.site.collected.acks) holds ∙ ap (λ u. site_with u step.site.collected.acks (held new.cell)) (sym volatile);
-              sent = meets.sent;
-              ending = meets.ending;
-            })
+        let step = on_event choose base.f base.me (site_of r acks (held base.cell)) event in
+        let meets : Meets m (m.start base.setup) base.f base.me n out step = serves.follows choose acks right (record { sound = serves.sound; summed = summed }) in
+        let view : step.site.view ≡ n.view = ap (λ x. x.view) meets.site in
+        let holds : step.site.cell ≡ held new.cell = (serves.saves choose acks).same ∙ ap (λ v. record { boots = (held base.cell).boots; view = v }) view ∙ sym cell in
+        record {
+          f = config.0;
+          me = config.1;
+          setup = config.2;
+          acks = subst (λ (u : Volatile C). SumUp u.acked step.site.collected.acks) (sym volatile) meets.running.summed;
+          site = meets.site ∙ ap (site_of n step.site.collected.acks) holds ∙ ap (λ u. site_with u step.site.collected.acks (held new.cell)) (sym volatile);
+          sent = meets.sent;
+          ending = meets.ending;
+        })
 
     -- its view is another, and the cell did not save it
     pub ran_unsaved : (new : Shown C S B) (out : OutcomeOf C R O) → (new.f ≡ base.f) × (new.me ≡ base.me) × (new.setup ≡ base.setup)
@@ -128,25 +128,25 @@ module _ {H C R O S B : Type 0} (m : Ghosts H C R O S) (held : B → Boot) where
         → Handles m held (record base { volatile = volatile_of (life.Up r) }) new event (Err CellFault)
     ran_unsaved new out config volatile cell other serves =
         fell_handles (record base { volatile = volatile_of (life.Up r) }) new event CellFault serves.allowed (λ choose acks right summed.
-            let x = site_of r acks (held base.cell) in
-            let step = on_event choose base.f base.me x event in
-            let meets : Meets m (m.start base.setup) base.f base.me n out step = serves.follows choose acks right (record { sound = serves.sound; summed = summed }) in
-            let view : step.site.view ≡ n.view = ap (λ y. y.view) meets.site in
-            let holds : step.site.cell ≡ record { boots = (held base.cell).boots; view = n.view } = (serves.saves choose acks).same ∙ ap (λ v. record { boots = (held base.cell).boots; view = v }) view in
-            let changed : (why : Why) → step.ending ≡ Dropped why → ⊥ = λ why e. other (sym view ∙ ap (λ y. y.view) (serves.quiet choose acks why e) ∙ serves.view) in
-            let handled = by_dropped step out.dropped meets.ending changed in
-            record {
-              f = config.0;
-              me = config.1;
-              setup = config.2;
-              acks = subst (λ (u : Volatile C). SumUp u.acked []) (sym volatile) none_summed;
-              site = record {
-                allowed = ap is_refused handled;
-                down = by_cell x step holds cell volatile;
-              };
-              handled = handled;
-              fault = inr refl;
-            })
+        let x = site_of r acks (held base.cell) in
+        let step = on_event choose base.f base.me x event in
+        let meets : Meets m (m.start base.setup) base.f base.me n out step = serves.follows choose acks right (record { sound = serves.sound; summed = summed }) in
+        let view : step.site.view ≡ n.view = ap (λ y. y.view) meets.site in
+        let holds : step.site.cell ≡ record { boots = (held base.cell).boots; view = n.view } = (serves.saves choose acks).same ∙ ap (λ v. record { boots = (held base.cell).boots; view = v }) view in
+        let changed : (why : Why) → step.ending ≡ Dropped why → ⊥ = λ why e. other (sym view ∙ ap (λ y. y.view) (serves.quiet choose acks why e) ∙ serves.view) in
+        let handled = by_dropped step out.dropped meets.ending changed in
+        record {
+          f = config.0;
+          me = config.1;
+          setup = config.2;
+          acks = subst (λ (u : Volatile C). SumUp u.acked []) (sym volatile) none_summed;
+          site = record {
+            allowed = ap is_refused handled;
+            down = by_cell x step holds cell volatile;
+          };
+          handled = handled;
+          fault = inr refl;
+        })
       where
         by_dropped : (step : Step C R O) (o : Option Why) → step.ending ≡ ended o → ((why : Why) → step.ending ≡ Dropped why → ⊥) → step.ending ≡ Handled
         by_dropped step None e changed = e
@@ -209,3 +209,7 @@ pub life_is_not_down : {H C R O S : Type 0} (m : Ghosts H C R O S) (start : H) (
 life_is_not_down m start f boot life.Down other well = absurd (other refl)
 life_is_not_down m start f boot (life.Recovering r) other well = refl
 life_is_not_down m start f boot (life.Up r) other well = up_is_not_down r.status well.0.up
+
+-- over a new cell a site opens normal
+pub opened : {C : Type 0} (cell : Boot) → cell.boots ≡ 0 → cell.view ≡ 0 → opening_site {C = C} cell ≡ over cell status.Normal
+opened cell boots view = rw (eq-eqb _ _ boots, eq-eqb _ _ view)

@@ -51,7 +51,9 @@ impl<M: Machine, C: BootCell> Model for Replica<M, C> {
 
 impl<M: Machine, C: BootCell> Replica<M, C> {
     ghost use Rattle.vr_types.specs.Handling.{refusal, site_step};
+    ghost use Rattle.vr_types.specs.Saved.{IsSavedFor};
     ghost use Rattle.vr_types.specs.Site.{opening_site};
+    ghost use Rattle.vr_types.specs.Step.{Dropped};
     ghost use Rattle.vr_site.specs.Replica.{site_shown, Does, Falls, Handles, Serves, Awaits};
 
     /// A site over a cell: over a new one it is normal in view 0 with an empty log, over any other it is down.
@@ -62,16 +64,20 @@ impl<M: Machine, C: BootCell> Replica<M, C> {
         ensures site { IfOk result (λ site. site_shown C.held site [] ≡ opening_site (C.held cell)) }
     {
         let boot = cell.load();
-        let life = if boot.boots != 0 || boot.view != 0 {
-            Life::Down
-        } else {
-            Life::Up(first(alloc, config, &setup)?)
-        };
+        if boot.boots != 0 || boot.view != 0 {
+            return Ok(Replica {
+                config,
+                setup,
+                cell,
+                life: Life::Down,
+            });
+        }
+        let running = first(alloc, config, &setup)?;
         Ok(Replica {
             config,
             setup,
             cell,
-            life,
+            life: Life::Up(running),
         })
     }
 
@@ -92,10 +98,18 @@ impl<M: Machine, C: BootCell> Replica<M, C> {
         ensures fall { refusal self.old.f self.old.me (site_shown C.held self.old []) event ≡ None → IfErr result (λ fault. (choose : Choice M.Cmd) (acks : List Ack) →
             IsRight self.old.f choose → SumUp self.old.volatile.acked acks →
             Falls C.held self.old self.new (site_shown C.held self.old acks) (site_step choose self.old.f self.old.me (site_shown C.held self.old acks) event) fault) }
+        // A crash takes no memory, nor does an event that is dropped.
+        ensures crash { event ≡ AnyEvent.Crash → self.old.volatile.status ≢ Status.Down → IsOk result }
+        ensures dropped { (choose : Choice M.Cmd) (acks : List Ack) (why : Why) → IsRight self.old.f choose → SumUp self.old.volatile.acked acks →
+            (site_step choose self.old.f self.old.me (site_shown C.held self.old acks) event).ending ≡ Dropped why → IsOk result }
+        // What is sent in a view was saved before.
+        ensures saved_first { IfOk result (λ out. All (λ envelope. IsSavedFor (C.held self.new.cell) envelope.msg) out.sent.items) }
         // A cell's fault has a cause.
         ensures cause { IsErrOf result SiteFault.CellFault → HasRisen (C.faults self.old.cell) (C.faults self.new.cell) }
         ensures reliable { C.is_reliable self.old.cell → C.is_reliable self.new.cell × (result ≢ Err SiteFault.CellFault) }
     {
+        // What the site shows is of a sound life, over a cell that holds its view.
+        let _ = &self.config;
         match event {
             EventOf::Deliver(envelope) => self.deliver(alloc, envelope),
             EventOf::Timer => self.timer(alloc),

@@ -18,7 +18,7 @@ returns-in_err-go_on-clause-handles g c = λ before event serves.
     let now = c.in_err-go_on.ensures in
     subst (Handles m held (record base { volatile = volatile_of (Up before) }) c.go_on.new.self event) (sym (err_is c.from_residual.result c.in_err-go_on.field-0.0 CellFault c.from_residual.ensures.1 now.fault))
     (ran_unsaved m held base before c.args.running event _ c.in-Ok.out c.go_on.ensures.config now.down now.cell now.other
-        (subst (λ d. Serves m (m.start base.setup) base.f base.me (held base.cell) before c.args.running d event) c.in-Ok.is serves))
+    (subst (λ d. Serves m (m.start base.setup) base.f base.me (held base.cell) before c.args.running d event) c.in-Ok.is serves))
 
 pub returns-clause-handles : goal.returns-clause-handles
 returns-clause-handles g c = λ before event serves.

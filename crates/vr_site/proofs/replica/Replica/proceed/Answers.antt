@@ -45,7 +45,7 @@ returns-in_err-go_on-in-Regained-clause-handles g c = λ before event awaits.
     subst (Handles m held (record base { volatile = resting status.Recovering (responses_of before) }) c.go_on.new.self event)
     (sym (err_is c.from_residual.result c.in_err-go_on-in-Regained.field-0.0 CellFault c.from_residual.ensures.1 after.fault))
     (regained_unsaved m held base before now event _ c.go_on.ensures.config c.in-Regained.running after.down after.cell
-        (subst (λ p. Awaits base.f base.me (held base.cell) before now p event) (c.in-Ok.is ∙ ap (λ p. Ok p) c.in-Regained.is) awaits))
+    (subst (λ p. Awaits base.f base.me (held base.cell) before now p event) (c.in-Ok.is ∙ ap (λ p. Ok p) c.in-Regained.is) awaits))
 
 pub returns-in_ok-go_on-in-Regained-clause-handles : goal.returns-in_ok-go_on-in-Regained-clause-handles
 returns-in_ok-go_on-in-Regained-clause-handles g c = λ before event awaits.

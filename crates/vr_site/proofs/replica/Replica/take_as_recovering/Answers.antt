@@ -18,10 +18,10 @@ returns-clause-handles g c =
     let left = c.await_state-progress.new.recovering.responses.items in
     let done = c.await_state-progress.result in
     let follows = subst
-        (λ v. (choose : Choice g.row.M-Cmd.Denot) (acks : List Ack) → IsRight v.f choose
-            → FollowsProgress left acks c.load-boot.result done (on_event choose v.f v.me (recovering_site kept acks c.load-boot.result) (Deliver e)))
-        c.self.view_is
-        (λ choose acks right. c.await_state-progress.ensures.step choose acks right) in
+    (λ v. (choose : Choice g.row.M-Cmd.Denot) (acks : List Ack) → IsRight v.f choose
+    → FollowsProgress left acks c.load-boot.result done (on_event choose v.f v.me (recovering_site kept acks c.load-boot.result) (Deliver e)))
+    c.self.view_is
+    (λ choose acks right. c.await_state-progress.ensures.step choose acks right) in
     c.proceed.ensures.handles kept (Deliver e) (record {
       allowed = mine_is_taken now.f now.me (recovering_site kept [] (held now.cell)) e refl c.requires.mine;
       follows = λ choose acks right. subst (λ b. FollowsProgress left acks b done (on_event choose now.f now.me (recovering_site kept acks b) (Deliver e)))

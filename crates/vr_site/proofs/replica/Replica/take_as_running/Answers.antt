@@ -30,7 +30,7 @@ returns-clause-handles g c =
       allowed = mine_is_taken now.f now.me (site_of r [] (held now.cell)) e (up_is_not_down r.status well.0.up) c.requires.mine;
       follows = subst
           (λ v. (choose : Choice g.row.M-Cmd.Denot) (acks : List Ack) → IsRight v.f choose → IsRunning m (m.start v.setup) v.f r acks
-              → Follows m (m.start v.setup) v.f v.me c.serve-done.new.running c.serve-done.result (on_event choose v.f v.me (site_of r acks (held v.cell)) (Deliver e)))
+          → Follows m (m.start v.setup) v.f v.me c.serve-done.new.running c.serve-done.result (on_event choose v.f v.me (site_of r acks (held v.cell)) (Deliver e)))
           c.self.view_is
           (λ choose acks right h. c.serve-done.ensures.step choose (m.start c.self.inside.setup) acks (held c.self.inside.cell) right h);
       saves = λ choose acks. saves_message now.f now.me (site_of r acks (held now.cell)) well.1 choose well.0.up e.from e.msg;
