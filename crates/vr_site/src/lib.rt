@@ -2,6 +2,7 @@
 #![tactic(auto)]
 
 mod addressing;
+pub mod laws;
 pub mod life;
 pub mod replica;
 mod serving;
