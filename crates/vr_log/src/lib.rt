@@ -12,3 +12,6 @@ pub use clients::{Clients, ClientsOf};
 pub use kept::{Answer, AnswerOf, Kept};
 pub use log::{Log, LogOf};
 pub use running::{Running, VoteOf};
+
+#[cfg(test)]
+mod tests;

@@ -1,2 +1,6 @@
 mod Cells
+mod Promises
+mod Recovering
+mod Restarts
 mod Shows
+mod Waits

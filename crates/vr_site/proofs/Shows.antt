@@ -1,135 +1,215 @@
--- What a replica shows of what it runs.
-use Rattle.std.proofs.Common.{◌≡◌, arith, ℕ, ◌&&◌, Bool, true, false, true≢false, not, List, [], Some, None, if◌then◌else◌, refl, sym, ap, subst, ◌∙◌, inl, eq-eqb}
+-- That what a replica shows was handled as the site step says.
+use Rattle.std.proofs.Common.{◌≡◌, ◌≢◌, ◌⊎◌, inl, inr, ℕ, Bool, not, List, [], Option, Some, None, true, false, if◌then◌else◌, refl, sym, ap, ◌∙◌, subst, arith, eq-eqb}
+use Rattle.std.specs.Prelude.{Result, Ok, Err, IsErrAnd, OnOk}
+use Rattle.std.specs.declared.alloc.AllocError.{AllocError}
+use Rattle.std.proofs.lemmas.Bool.{ne_eqb}
 use Rattle.std.proofs.lemmas.Bool.Decides.{nat_tests}
 use Rattle.vr_types.specs.declared.cell.Boot.{Boot}
 use Rattle.vr_types.specs.declared.event.EventOf.{EventOf}
-use Rattle.vr_types.specs.declared.event.EventOf.TheVariants.{Deliver, Crash}
+use Rattle.vr_types.specs.declared.event.EventOf.TheVariants.{Deliver, Timer, Beat, Crash}
 use Rattle.vr_types.specs.declared.event.OutcomeOf.{OutcomeOf}
-use Rattle.vr_types.specs.declared.event.SiteFault.TheVariants.{NoMemory, NotMine, NotUp}
+use Rattle.vr_types.specs.declared.event.SiteFault.{SiteFault}
+use Rattle.vr_types.specs.declared.event.SiteFault.TheVariants.{NoMemory, CellFault, NotUp, NotMine, ViewsSpent}
+use Rattle.vr_types.specs.declared.event.Status.{Status}
+use Rattle.vr_types.specs.declared.event.Status.TheVariants as status
+use Rattle.vr_types.specs.declared.event.Why.{Why}
 use Rattle.vr_types.specs.declared.machine.Machine.{Ghosts}
+use Rattle.vr_types.specs.Choice.{Choice, IsRight}
 use Rattle.vr_types.specs.declared.message.EnvelopeOf.{EnvelopeOf}
-use Rattle.vr_types.specs.declared.message.MsgOf.{MsgOf}
-use Rattle.vr_types.specs.declared.message.MsgOf.TheVariants.{Request, Prepare, PrepareOk, Commit, StartViewChange, DoViewChange, StartView, GetState, NewState, Recovery, RecoveryResponse, Reply, PayOrder}
-use Rattle.vr_types.specs.declared.row.RowOf.{RowOf}
-use Rattle.vr_types.specs.Choice.{Choice}
-use Rattle.vr_types.specs.Group.{is_mine, site_of as site_number}
-use Rattle.vr_types.specs.Handling.{on_event, on_message, refused_or, is_refused}
-use Rattle.vr_types.specs.Site.{Ack, Site, is_down, opening_site, over}
-use Rattle.vr_types.specs.declared.event.Status.TheVariants.{Normal}
-use Rattle.vr_types.specs.Step.{Step, Handled}
+use Rattle.vr_types.specs.Group.{is_mine}
+use Rattle.vr_types.specs.Handling.{refusal, refused_or, on_event, site_step, is_refused, IsFall, max_number}
+use Rattle.vr_types.specs.Site.{Ack, Site, over, is_down, is_running, opening_site}
+use Rattle.vr_types.specs.Step.{Step, Handled, Dropped, does, drops}
 use Rattle.vr_log.specs.declared.running.Running.{Running}
-use Rattle.vr_types.specs.Recovery.{on_crash}
-use Rattle.vr_log.specs.Outcomes.{Sends, ended}
-use Rattle.vr_log.specs.Running.{SumUp, IsSound, IsRunning, Meets, site_of}
-use Rattle.vr_site.specs.Interim.{is_taken, is_normal_message, refusal_so_far, site_step_so_far}
-use Rattle.vr_site.specs.Replica.{Shown, shown, site_shown, Does, Falls}
-use Rattle.vr_site.proofs.Cells.{LeavesCell, request_leaves, prepare_leaves, commit_leaves, prepare_ok_leaves}
+use Rattle.vr_log.proofs.OutcomeLemmas.{running_is_here}
+use Rattle.vr_log.specs.Outcomes.{Sends, Drops, ended}
+use Rattle.vr_log.specs.Running.{SumUp, IsRunning, Meets, site_of}
+use Rattle.vr_recover.specs.declared.recovering.ResponseOf.{ResponseOf}
+use Rattle.vr_recover.specs.declared.progress.Progress.TheVariants as progress
+use Rattle.vr_recover.specs.Recovering.{responses_of, recovering_site}
+use Rattle.vr_site.specs.declared.life.Life.{Life}
+use Rattle.vr_site.specs.declared.life.Life.TheVariants as life
+use Rattle.vr_site.specs.Life.{Volatile, resting, volatile_of, site_with, IsWell}
+use Rattle.vr_site.specs.Replica.{Shown, site_shown, Does, Falls, Handles, Serves, Awaits}
 
-module _ {H C R O S B : Type 0} (m : Ghosts H C R O S) (held : B → Boot) (f me : ℕ) (setup : S) (cell : B) where
-  -- what runs and meets the step is shown to take it, where the old view is of what ran
-  pub served : (old : Shown C S B) (r n : Running H C R O S) (out : OutcomeOf C R O) (event : EventOf C R O) (choose : Choice C) (acks : List Ack) → shown f me setup cell (Some r) ≡ old
-      → IsSound m (m.start setup) f r → SumUp old.acked acks → refusal_so_far f me (site_of r acks (held cell)) event ≡ None
-      → LeavesCell (held cell) (on_event choose f me (site_of r acks (held cell)) event)
-      → (IsRunning m (m.start setup) f r acks → Meets m (m.start setup) f me n out (on_event choose f me (site_of r acks (held cell)) event))
-      → Does m held old (shown f me setup cell (Some n)) out (site_step_so_far choose old.f old.me (site_shown held old acks) event)
-  served old r n out event choose acks view sound summed allowed leaves step =
-      subst (λ v. SumUp v.acked acks → Does m held v (shown f me setup cell (Some n)) out (site_step_so_far choose v.f v.me (site_shown held v acks) event)) view
-      (λ sums. subst (Does m held (shown f me setup cell (Some r)) (shown f me setup cell (Some n)) out) (sym whole) (taken (step (record { sound = sound; summed = sums }))))
-      summed
-    where
-      whole : site_step_so_far choose f me (site_of r acks (held cell)) event ≡ on_event choose f me (site_of r acks (held cell)) event
-      whole = ap (λ o. refused_or (site_of r acks (held cell)) o (on_event choose f me (site_of r acks (held cell)) event)) allowed
+-- no acknowledgement sums up no numbers
+pub none_summed : SumUp [] []
+none_summed = λ j n. grind (arith, nat_tests)
 
-      taken : Meets m (m.start setup) f me n out (on_event choose f me (site_of r acks (held cell)) event) → Does m held (shown f me setup cell (Some r)) (shown f me setup cell (Some n)) out (on_event choose f me (site_of r acks (held cell)) event)
-      taken p = record {
-        f = refl;
-        me = refl;
-        setup = refl;
-        acks = p.running.summed;
-        site = p.site ∙ ap (site_of n (on_event choose f me (site_of r acks (held cell)) event).site.collected.acks) leaves.same;
-        sent = p.sent;
-        ending = p.ending;
-      }
+-- the error that a `?` hands on
+pub err_is : {T E : Type 0} (result : Result T E) (x y : E) → IsErrAnd result (λ e. e ≡ x) → x ≡ y → result ≡ Err y
+err_is (Ok value) x y h same = absurd h
+err_is (Err error) x y h same = ap (λ e. Err e) (h ∙ same)
 
-  -- no acknowledgement sums up no numbers
-  pub none_summed : SumUp [] []
-  none_summed = λ j n. grind (arith, nat_tests)
+module _ {H C R O S B : Type 0} (m : Ghosts H C R O S) (held : B → Boot) where
+  -- an event that is refused, and changes nothing
+  pub refused_handles : (old new : Shown C S B) (event : EventOf C R O) (fault : SiteFault) → new ≡ old → refusal old.f old.me (site_shown held old []) event ≡ Some fault
+      → Handles {H = H} {C = C} {R = R} {O = O} m held old new event (Err fault)
+  refused_handles old new event fault same refused = record {
+    step = tt;
+    refused = λ other e. (let one : Some fault ≡ Some other = sym refused ∙ e in (cc, same));
+    fall = λ none. (let clash : Some fault ≡ None = sym refused ∙ none in absurd (cc));
+  }
 
-  -- what ran is gone
-  pub fell : (old : Shown C S B) (r : Running H C R O S) (event : EventOf C R O) (choose : Choice C) (acks : List Ack) → shown f me setup cell (Some r) ≡ old
-      → IsSound m (m.start setup) f r → SumUp old.acked acks → refusal_so_far f me (site_of r acks (held cell)) event ≡ None
-      → (IsRunning m (m.start setup) f r acks → (on_event choose f me (site_of r acks (held cell)) event).ending ≡ Handled)
-      → Falls held old (shown {H = H} {R = R} {O = O} f me setup cell None) (site_shown held old acks) (site_step_so_far choose old.f old.me (site_shown held old acks) event) NoMemory
-  fell old r event choose acks view sound summed allowed handled =
-      subst (λ v. SumUp v.acked acks → Falls held v (shown {H = H} {R = R} {O = O} f me setup cell None) (site_shown held v acks) (site_step_so_far choose v.f v.me (site_shown held v acks) event) NoMemory) view
-      (λ sums. gone (handled (record { sound = sound; summed = sums }))) summed
-    where
-      gone : (on_event choose f me (site_of r acks (held cell)) event).ending ≡ Handled
-          → Falls held (shown f me setup cell (Some r)) (shown {H = H} {R = R} {O = O} f me setup cell None) (site_of r acks (held cell)) (site_step_so_far choose f me (site_of r acks (held cell)) event) NoMemory
-      gone h =
-          let all : (site_step_so_far choose f me (site_of r acks (held cell)) event).ending ≡ Handled =
-          ap (λ o. (refused_or (site_of r acks (held cell)) o (on_event choose f me (site_of r acks (held cell)) event)).ending) allowed ∙ h in
-          record { f = refl; me = refl; setup = refl; acks = none_summed; site = record { allowed = ap is_refused all; down = inl refl }; handled = all; fault = inl refl }
+  -- an event that is not refused, and takes its step
+  pub stepped_handles : (old new : Shown C S B) (event : EventOf C R O) (out : OutcomeOf C R O) → refusal old.f old.me (site_shown held old []) event ≡ None
+      → ((choose : Choice C) (acks : List Ack) → IsRight old.f choose → SumUp old.volatile.acked acks → Does m held old new out (on_event choose old.f old.me (site_shown held old acks) event))
+      → Handles m held old new event (Ok out)
+  stepped_handles old new event out none step = record {
+    step = λ choose acks right summed.
+        subst (Does m held old new out) (sym (ap (λ o. refused_or (site_shown held old acks) o (on_event choose old.f old.me (site_shown held old acks) event)) none)) (step choose acks right summed);
+    refused = λ fault e. (let clash : None ≡ Some fault = sym none ∙ e in absurd (cc));
+    fall = λ _. tt;
+  }
 
-  -- all is lost but the cell
-  pub crashed : (old : Shown C S B) (r : Running H C R O S) (out : OutcomeOf C R O) (choose : Choice C) (acks : List Ack) → shown f me setup cell (Some r) ≡ old → is_down r.status ≡ false → Sends out []
-      → Does m held old (shown {H = H} {R = R} {O = O} f me setup cell None) out (site_step_so_far choose old.f old.me (site_shown held old acks) Crash)
-  crashed old r out choose acks view up s =
-      subst (λ v. Does m held v (shown {H = H} {R = R} {O = O} f me setup cell None) out (site_step_so_far choose v.f v.me (site_shown held v acks) Crash)) view
-      (subst (Does m held (shown f me setup cell (Some r)) (shown {H = H} {R = R} {O = O} f me setup cell None) out) (sym whole)
-      (record { f = refl; me = refl; setup = refl; acks = none_summed; site = refl; sent = s.mails; ending = ap ended (sym s.dropped) }))
-    where
-      whole : ◌≡◌ {A = Step C R O} (site_step_so_far choose f me (site_of r acks (held cell)) Crash) (on_crash (site_of r acks (held cell)))
-      whole = ap (λ b. let s : Step C R O = refused_or (site_of r acks (held cell)) (if b then Some NotUp else None) (on_crash (site_of r acks (held cell))) in s) up
+  -- an event that is not refused, and in place of which the site fell
+  pub fell_handles : (old new : Shown C S B) (event : EventOf C R O) (fault : SiteFault) → refusal old.f old.me (site_shown held old []) event ≡ None
+      → ((choose : Choice C) (acks : List Ack) → IsRight old.f choose → SumUp old.volatile.acked acks
+      → Falls held old new (site_shown held old acks) (on_event choose old.f old.me (site_shown held old acks) event) fault)
+      → Handles m held old new event (Err fault)
+  fell_handles old new event fault none falls = record {
+    step = tt;
+    refused = λ other e. (let clash : None ≡ Some other = sym none ∙ e in absurd (cc));
+    fall = λ _ choose acks right summed.
+        subst (λ s. Falls held old new (site_shown held old acks) s fault)
+        (sym (ap (λ o. refused_or (site_shown held old acks) o (on_event choose old.f old.me (site_shown held old acks) event)) none)) (falls choose acks right summed);
+  }
 
-both : (a b : Bool) → (a && b) ≡ true → (a ≡ true) × (b ≡ true)
-both true b h = (refl, h)
-both false b h = absurd (true≢false (sym h))
+  -- a fall of a site that is down by now over the old cell
+  pub down_falls : (base : Shown C S B) (v : Volatile C) (x : Site C) (step : Step C R O) → base.volatile ≡ resting status.Down [] → x.cell ≡ held base.cell → step.ending ≡ Handled
+      → Falls held (record base { volatile = v }) base x step NoMemory
+  down_falls base v x step volatile cell handled = record {
+    f = refl;
+    me = refl;
+    setup = refl;
+    acks = subst (λ (u : Volatile C). SumUp u.acked []) (sym volatile) none_summed;
+    site = record { allowed = ap is_refused handled; down = inl (ap (λ u. site_with u [] (held base.cell)) volatile ∙ ap (λ b. over b status.Down) (sym cell)) };
+    handled = handled;
+    fault = inl refl;
+  }
 
--- what is taken is not refused
-pub taken_open : {C R O : Type 0} (f me : ℕ) (x : Site C) (e : EnvelopeOf C R O) → is_down x.status ≡ false → is_taken f me e ≡ true → refusal_so_far f me x (Deliver e) ≡ None
-taken_open f me x e up taken = let parts = both (is_mine f me e) (is_normal_message e.msg) taken in rw (up, parts.1, parts.0)
+  module _ (base : Shown C S B) (r n : Running H C R O S) (event : EventOf C R O) where
+    -- a growth was refused while it ran
+    pub ran_short : (done : Result (OutcomeOf C R O) AllocError) → ((out : OutcomeOf C R O) → done ≡ Ok out → ⊥) → base.volatile ≡ resting status.Down []
+        → Serves m (m.start base.setup) base.f base.me (held base.cell) r n done event
+        → Handles m held (record base { volatile = volatile_of (life.Up r) }) base event (Err NoMemory)
+    ran_short (Ok out) not_ok volatile serves = absurd (not_ok out refl)
+    ran_short (Err error) not_ok volatile serves =
+        fell_handles (record base { volatile = volatile_of (life.Up r) }) base event NoMemory serves.allowed
+        (λ choose acks right summed. down_falls base (volatile_of (life.Up r)) (site_of r acks (held base.cell)) _ volatile refl
+        (serves.follows choose acks right (record { sound = serves.sound; summed = summed })))
 
--- what is not taken is refused
-pub others_refused : {C R O : Type 0} (f me : ℕ) (x : Site C) (e : EnvelopeOf C R O) → is_down x.status ≡ false → is_taken f me e ≡ false → refusal_so_far f me x (Deliver e) ≡ Some NotMine
-others_refused f me x e up other = rw up (by_tests (is_mine f me e) (is_normal_message e.msg) other)
+    -- it runs on, and its view is saved
+    pub ran_on : (new : Shown C S B) (out : OutcomeOf C R O) → (new.f ≡ base.f) × (new.me ≡ base.me) × (new.setup ≡ base.setup)
+        → new.volatile ≡ volatile_of (life.Up n) → held new.cell ≡ record { boots = (held base.cell).boots; view = n.view }
+        → Serves m (m.start base.setup) base.f base.me (held base.cell) r n (Ok out) event
+        → Handles m held (record base { volatile = volatile_of (life.Up r) }) new event (Ok out)
+    ran_on new out config volatile cell serves =
+        stepped_handles (record base { volatile = volatile_of (life.Up r) }) new event out serves.allowed (λ choose acks right summed.
+        let step = on_event choose base.f base.me (site_of r acks (held base.cell)) event in
+        let meets : Meets m (m.start base.setup) base.f base.me n out step = serves.follows choose acks right (record { sound = serves.sound; summed = summed }) in
+        let view : step.site.view ≡ n.view = ap (λ x. x.view) meets.site in
+        let holds : step.site.cell ≡ held new.cell = (serves.saves choose acks).same ∙ ap (λ v. record { boots = (held base.cell).boots; view = v }) view ∙ sym cell in
+        record {
+          f = config.0;
+          me = config.1;
+          setup = config.2;
+          acks = subst (λ (u : Volatile C). SumUp u.acked step.site.collected.acks) (sym volatile) meets.running.summed;
+          site = meets.site ∙ ap (site_of n step.site.collected.acks) holds ∙ ap (λ u. site_with u step.site.collected.acks (held new.cell)) (sym volatile);
+          sent = meets.sent;
+          ending = meets.ending;
+        })
+
+    -- its view is another, and the cell did not save it
+    pub ran_unsaved : (new : Shown C S B) (out : OutcomeOf C R O) → (new.f ≡ base.f) × (new.me ≡ base.me) × (new.setup ≡ base.setup)
+        → new.volatile ≡ resting status.Down [] → (held new.cell ≡ held base.cell) ⊎ (held new.cell ≡ record { boots = (held base.cell).boots; view = n.view })
+        → n.view ≢ (held base.cell).view
+        → Serves m (m.start base.setup) base.f base.me (held base.cell) r n (Ok out) event
+        → Handles m held (record base { volatile = volatile_of (life.Up r) }) new event (Err CellFault)
+    ran_unsaved new out config volatile cell other serves =
+        fell_handles (record base { volatile = volatile_of (life.Up r) }) new event CellFault serves.allowed (λ choose acks right summed.
+        let x = site_of r acks (held base.cell) in
+        let step = on_event choose base.f base.me x event in
+        let meets : Meets m (m.start base.setup) base.f base.me n out step = serves.follows choose acks right (record { sound = serves.sound; summed = summed }) in
+        let view : step.site.view ≡ n.view = ap (λ y. y.view) meets.site in
+        let holds : step.site.cell ≡ record { boots = (held base.cell).boots; view = n.view } = (serves.saves choose acks).same ∙ ap (λ v. record { boots = (held base.cell).boots; view = v }) view in
+        let changed : (why : Why) → step.ending ≡ Dropped why → ⊥ = λ why e. other (sym view ∙ ap (λ y. y.view) (serves.quiet choose acks why e) ∙ serves.view) in
+        let handled = by_dropped step out.dropped meets.ending changed in
+        record {
+          f = config.0;
+          me = config.1;
+          setup = config.2;
+          acks = subst (λ (u : Volatile C). SumUp u.acked []) (sym volatile) none_summed;
+          site = record {
+            allowed = ap is_refused handled;
+            down = by_cell x step holds cell volatile;
+          };
+          handled = handled;
+          fault = inr refl;
+        })
+      where
+        by_dropped : (step : Step C R O) (o : Option Why) → step.ending ≡ ended o → ((why : Why) → step.ending ≡ Dropped why → ⊥) → step.ending ≡ Handled
+        by_dropped step None e changed = e
+        by_dropped step (Some why) e changed = absurd (changed why e)
+
+        by_cell : (x : Site C) (step : Step C R O) → step.site.cell ≡ record { boots = (held base.cell).boots; view = n.view }
+            → (held new.cell ≡ held base.cell) ⊎ (held new.cell ≡ record { boots = (held base.cell).boots; view = n.view }) → new.volatile ≡ resting status.Down []
+            → (site_shown held new [] ≡ over (held base.cell) status.Down) ⊎ (site_shown held new [] ≡ over step.site.cell status.Down)
+        by_cell x step holds (inl e) down = inl (ap (λ u. site_with u [] (held new.cell)) down ∙ ap (λ b. over b status.Down) e)
+        by_cell x step holds (inr e) down = inr (ap (λ u. site_with u [] (held new.cell)) down ∙ ap (λ b. over b status.Down) (e ∙ sym holds))
+
+-- what runs is not down
+pub up_is_not_down : (s : Status) → is_running s ≡ true → is_down s ≡ false
+up_is_not_down status.Normal e = refl
+up_is_not_down status.Change e = refl
+up_is_not_down status.Recovering e = refl
+up_is_not_down status.Down e = sym e
+
+-- what is for a site that is not down is not refused
+pub mine_is_taken : {C R O : Type 0} (f me : ℕ) (x : Site C) (e : EnvelopeOf C R O) → is_down x.status ≡ false → is_mine f me e ≡ true → refusal f me x (Deliver e) ≡ None
+mine_is_taken f me x e up mine = rw (up, mine)
+
+-- what is for another is refused
+pub other_is_refused : {C R O : Type 0} (f me : ℕ) (x : Site C) (e : EnvelopeOf C R O) → is_mine f me e ≡ false → refusal f me x (Deliver e) ≡ Some (if is_down x.status then NotUp else NotMine)
+other_is_refused f me x e other = by_test (is_down x.status)
   where
-    by_tests : (a b : Bool) → (a && b) ≡ false → (if b then (if not a then Some NotMine else None) else Some NotMine) ≡ Some NotMine
-    by_tests true true h = absurd (true≢false h)
-    by_tests false true h = refl
-    by_tests a false h = refl
+    by_test : (b : Bool) → (if b then Some NotUp else if not (is_mine f me e) then Some NotMine else None) ≡ Some (if b then NotUp else NotMine)
+    by_test true = refl
+    by_test false = rw other
 
--- messages of normal operation save nothing
-pub message_leaves : {C R O : Type 0} (f me : ℕ) (x : Site C) (choose : Choice C) (from : ℕ) (msg : MsgOf C R O) → is_normal_message msg ≡ true → LeavesCell x.cell (on_message choose f me x from msg)
-message_leaves f me x choose from (Request number cmd) h = request_leaves f me x (record { client = from; number = number; cmd = cmd })
-message_leaves f me x choose from (Prepare w place k row) h = prepare_leaves f me x (site_number from) w place k row
-message_leaves f me x choose from (PrepareOk w place) h = prepare_ok_leaves f me x choose (site_number from) w place
-message_leaves f me x choose from (Commit w k) h = commit_leaves f me x (site_number from) w k
-message_leaves f me x choose from (StartViewChange w) h = absurd (true≢false (sym h))
-message_leaves f me x choose from (DoViewChange w last_normal k log) h = absurd (true≢false (sym h))
-message_leaves f me x choose from (StartView w k log) h = absurd (true≢false (sym h))
-message_leaves f me x choose from (GetState w base) h = absurd (true≢false (sym h))
-message_leaves f me x choose from (NewState w base k rows) h = absurd (true≢false (sym h))
-message_leaves f me x choose from (Recovery nonce) h = absurd (true≢false (sym h))
-message_leaves f me x choose from (RecoveryResponse w nonce state) h = absurd (true≢false (sym h))
-message_leaves f me x choose from (Reply w number reply) h = absurd (true≢false (sym h))
-message_leaves f me x choose from (PayOrder order) h = absurd (true≢false (sym h))
+pub on_ok_then : {T E : Type 0} (result : Result T E) (P Q : Type 0) → (P → Q) → OnOk result P → OnOk result Q
+on_ok_then (Ok value) P Q h p = h p
+on_ok_then (Err error) P Q h p = tt
 
-pub taken_leaves : {C R O : Type 0} (f me : ℕ) (x : Site C) (choose : Choice C) (e : EnvelopeOf C R O) → is_taken f me e ≡ true → LeavesCell x.cell (on_message choose f me x e.from e.msg)
-taken_leaves f me x choose e taken = message_leaves f me x choose e.from e.msg (both (is_mine f me e) (is_normal_message e.msg) taken).1
+-- a site that is down refuses all but a restart
+pub down_refuses_timer : {C : Type 0} (R O : Type 0) (f me : ℕ) (x : Site C) → is_down x.status ≡ true → refusal {R = R} {O = O} f me x Timer ≡ Some NotUp
+down_refuses_timer R O f me x e = rw e
 
--- no other message is taken
-pub only_normal : {C R O : Type 0} (f me : ℕ) (e : EnvelopeOf C R O) (msg : MsgOf C R O) → e.msg ≡ msg → is_taken f me e ≡ true
-    → ((n : ℕ) (cmd : C) → msg ≡ Request n cmd → ⊥) → ((w n k : ℕ) (row : RowOf C) → msg ≡ Prepare w n k row → ⊥) → ((w n : ℕ) → msg ≡ PrepareOk w n → ⊥) → ((w k : ℕ) → msg ≡ Commit w k → ⊥) → ⊥
-only_normal {C = C} {R = R} {O = O} f me e msg is taken a b c d = other msg (ap is_normal_message (sym is) ∙ (both (is_mine f me e) (is_normal_message e.msg) taken).1) a b c d
-  where
-    other : (msg : MsgOf C R O) → is_normal_message msg ≡ true → ((n : ℕ) (cmd : C) → msg ≡ Request n cmd → ⊥) → ((w n k : ℕ) (row : RowOf C) → msg ≡ Prepare w n k row → ⊥) → ((w n : ℕ) → msg ≡ PrepareOk w n → ⊥) → ((w k : ℕ) → msg ≡ Commit w k → ⊥) → ⊥
-    other (Request n cmd) h a b c d = a n cmd refl
-    other (Prepare w n k row) h a b c d = b w n k row refl
-    other (PrepareOk w n) h a b c d = c w n refl
-    other (Commit w k) h a b c d = d w k refl
-    other _ h a b c d = true≢false (sym h)
+pub down_refuses_beat : {C : Type 0} (R O : Type 0) (f me : ℕ) (x : Site C) → is_down x.status ≡ true → refusal {R = R} {O = O} f me x Beat ≡ Some NotUp
+down_refuses_beat R O f me x e = rw e
+
+pub down_refuses_crash : {C : Type 0} (R O : Type 0) (f me : ℕ) (x : Site C) → is_down x.status ≡ true → refusal {R = R} {O = O} f me x Crash ≡ Some NotUp
+down_refuses_crash R O f me x e = rw e
+
+pub down_refuses_message : {C R O : Type 0} (f me : ℕ) (x : Site C) (e : EnvelopeOf C R O) → is_down x.status ≡ true → refusal f me x (Deliver e) ≡ Some NotUp
+down_refuses_message f me x e d = rw d
+
+-- a running site refuses a timer where there is no greater view, and there alone
+pub spent_refuses_timer : {C : Type 0} (R O : Type 0) (f me : ℕ) (x : Site C) → is_running x.status ≡ true → x.view ≡ max_number → refusal {R = R} {O = O} f me x Timer ≡ Some ViewsSpent
+spent_refuses_timer R O f me x up spent = rw (up_is_not_down x.status up, running_is_here x.status up, eq-eqb _ _ spent)
+
+pub timer_is_taken : {C : Type 0} (R O : Type 0) (f me : ℕ) (x : Site C) → is_running x.status ≡ true → x.view ≢ max_number → refusal {R = R} {O = O} f me x Timer ≡ None
+timer_is_taken R O f me x up more = rw (up_is_not_down x.status up, running_is_here x.status up, ne_eqb _ _ more)
+
+pub beat_is_taken : {C : Type 0} (R O : Type 0) (f me : ℕ) (x : Site C) → is_running x.status ≡ true → refusal {R = R} {O = O} f me x Beat ≡ None
+beat_is_taken R O f me x up = rw (up_is_not_down x.status up)
+
+-- what isn't down is not shown as down
+pub life_is_not_down : {H C R O S : Type 0} (m : Ghosts H C R O S) (start : H) (f : ℕ) (boot : Boot) (l : Life H C R O S) → (l ≡ life.Down → ⊥) → IsWell m start f boot l → is_down (volatile_of l).status ≡ false
+life_is_not_down m start f boot life.Down other well = absurd (other refl)
+life_is_not_down m start f boot (life.Recovering r) other well = refl
+life_is_not_down m start f boot (life.Up r) other well = up_is_not_down r.status well.0.up
 
 -- over a new cell a site opens normal
-pub opened : {C : Type 0} (cell : Boot) → cell.boots ≡ 0 → cell.view ≡ 0 → opening_site {C = C} cell ≡ over cell Normal
+pub opened : {C : Type 0} (cell : Boot) → cell.boots ≡ 0 → cell.view ≡ 0 → opening_site {C = C} cell ≡ over cell status.Normal
 opened cell boots view = rw (eq-eqb _ _ boots, eq-eqb _ _ view)

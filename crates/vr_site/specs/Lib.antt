@@ -1,3 +1,3 @@
-pub mod Interim
+pub mod Life
 pub mod Replica
 pub mod Tally

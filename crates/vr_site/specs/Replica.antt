@@ -1,19 +1,27 @@
--- What a replica shows, and what it means that it takes a step.
-use Rattle.std.specs.Prelude.{◌≡◌, ◌⊎◌, ℕ, Bool, false, List, [], map, Option, Some, None}
+-- What a replica shows, and what it means that it handles an event.
+use Rattle.std.specs.Prelude.{◌≡◌, ◌⊎◌, ℕ, List, [], Option, Some, None, Result, Err, IfOk, IfErr}
+use Rattle.std.specs.declared.alloc.AllocError.{AllocError}
 use Rattle.vr_types.specs.declared.cell.Boot.{Boot}
+use Rattle.vr_types.specs.declared.event.EventOf.{EventOf}
 use Rattle.vr_types.specs.declared.event.OutcomeOf.{OutcomeOf}
 use Rattle.vr_types.specs.declared.event.SiteFault.{SiteFault}
 use Rattle.vr_types.specs.declared.event.SiteFault.TheVariants.{NoMemory, CellFault}
-use Rattle.vr_types.specs.declared.event.Status.{Status}
-use Rattle.vr_types.specs.declared.event.Status.TheVariants.{Normal, Down}
+use Rattle.vr_types.specs.declared.event.Why.{Why}
 use Rattle.vr_types.specs.declared.machine.Machine.{Ghosts}
-use Rattle.vr_types.specs.declared.row.RowOf.{RowOf}
-use Rattle.vr_types.specs.Handling.{IsFall, envelopes}
-use Rattle.vr_types.specs.Site.{Ack, Vote, Site}
-use Rattle.vr_types.specs.Step.{Step, Handled}
-use Rattle.vr_log.specs.declared.running.Running.{Running}
+use Rattle.vr_types.specs.Choice.{Choice, IsRight}
+use Rattle.vr_types.specs.Handling.{IsFall, envelopes, refusal, on_event, site_step}
+use Rattle.vr_types.specs.Site.{Ack, Site}
+use Rattle.vr_types.specs.Step.{Step, Handled, Dropped}
 use Rattle.vr_log.specs.Outcomes.{ended}
-use Rattle.vr_log.specs.Running.{SumUp, IsSound, vote_of}
+use Rattle.vr_log.specs.declared.running.Running.{Running}
+use Rattle.vr_log.specs.Running.{SumUp, IsSound, IsRunning, Follows, site_of}
+use Rattle.vr_change.specs.Saved.{SavesView}
+use Rattle.vr_recover.specs.declared.progress.Progress.{Progress}
+use Rattle.vr_recover.specs.declared.recovering.ResponseOf.{ResponseOf}
+use Rattle.vr_recover.specs.Progress.{FollowsProgress}
+use Rattle.vr_recover.specs.Recovering.{recovering_site}
+use Rattle.vr_site.specs.declared.life.Life.{Life}
+use Rattle.vr_site.specs.Life.{Volatile, volatile_of, site_with}
 
 -- what a replica shows: B is the type of its cell
 pub record Shown (C S B : Type 0) : Type 0 where
@@ -21,72 +29,22 @@ pub record Shown (C S B : Type 0) : Type 0 where
   pub me : ℕ
   pub setup : S
   pub cell : B
-  pub status : Status
-  pub view : ℕ
-  pub last_normal : ℕ
-  pub log : List (RowOf C)
-  pub done : ℕ
-  pub acked : List ℕ  -- of each site up to which place it acknowledged
-  pub starts : List ℕ
-  pub voted : Bool
-  pub votes : List (Vote C)
+  pub volatile : Volatile C
 
 -- what is shown of the parts
-abbrev pub shown : {H C R O S B : Type 0} → ℕ → ℕ → S → B → Option (Running H C R O S) → Shown C S B
-shown f me setup cell None = record {
-  f = f;
-  me = me;
-  setup = setup;
-  cell = cell;
-  status = Down;
-  view = 0;
-  last_normal = 0;
-  log = [];
-  done = 0;
-  acked = [];
-  starts = [];
-  voted = false;
-  votes = [];
-}
-shown f me setup cell (Some r) = record {
-  f = f;
-  me = me;
-  setup = setup;
-  cell = cell;
-  status = r.status;
-  view = r.view;
-  last_normal = r.last_normal;
-  log = r.kept.log;
-  done = r.kept.done;
-  acked = r.acked.items;
-  starts = r.starts.items;
-  voted = r.voted;
-  votes = map vote_of r.votes.items;
-}
+abbrev pub shown : {H C R O S B : Type 0} → ℕ → ℕ → S → B → Life H C R O S → Shown C S B
+shown f me setup cell life = record { f = f; me = me; setup = setup; cell = cell; volatile = volatile_of life }
 
 -- the site that is shown, where these acknowledgements came; held is what a cell holds
 abbrev pub site_shown : {C S B : Type 0} → (B → Boot) → Shown C S B → List Ack → Site C
-site_shown held v acks = record {
-  status = v.status;
-  view = v.view;
-  last_normal = v.last_normal;
-  log = v.log;
-  done = v.done;
-  collected = record { acks = acks; starts = v.starts; voted = v.voted; votes = v.votes; responses = [] };
-  cell = held v.cell;
-}
-
--- what runs is sound, it is normal so far, and its view is the one that the cell holds
-abbrev pub IsWell : {H C R O S : Type 0} → Ghosts H C R O S → H → ℕ → Boot → Option (Running H C R O S) → Type 0
-IsWell m start f boot None = Unit {0}
-IsWell m start f boot (Some r) = IsSound m start f r × (r.status ≡ Normal) × (r.view ≡ boot.view)
+site_shown held v acks = site_with v.volatile acks (held v.cell)
 
 -- What was done is the step: what is shown is the site after it, the outcome is the step's, and the rest is as before.
 pub record Does {H C R O S B : Type 0} (m : Ghosts H C R O S) (held : B → Boot) (old new : Shown C S B) (out : OutcomeOf C R O) (step : Step C R O) : Type 0 where
   pub f : new.f ≡ old.f
   pub me : new.me ≡ old.me
   pub setup : new.setup ≡ old.setup
-  pub acks : SumUp new.acked step.site.collected.acks
+  pub acks : SumUp new.volatile.acked step.site.collected.acks
   pub site : step.site ≡ site_shown held new step.site.collected.acks
   pub sent : out.sent.items ≡ envelopes m (m.start old.setup) old.me step
   pub ending : step.ending ≡ ended out.dropped
@@ -96,7 +54,29 @@ pub record Falls {C R O S B : Type 0} (held : B → Boot) (old new : Shown C S B
   pub f : new.f ≡ old.f
   pub me : new.me ≡ old.me
   pub setup : new.setup ≡ old.setup
-  pub acks : SumUp new.acked []
+  pub acks : SumUp new.volatile.acked []
   pub site : IsFall x step (site_shown held new [])
   pub handled : step.ending ≡ Handled
   pub fault : (why ≡ NoMemory) ⊎ (why ≡ CellFault)
+
+-- An event was handled as the site step says: an outcome is the step's; an event that is refused changes nothing, and no other is; any other fault is a fall.
+pub record Handles {H C R O S B : Type 0} (m : Ghosts H C R O S) (held : B → Boot) (old new : Shown C S B) (event : EventOf C R O) (result : Result (OutcomeOf C R O) SiteFault) : Type 0 where
+  pub step : IfOk result (λ out. (choose : Choice C) (acks : List Ack) → IsRight old.f choose → SumUp old.volatile.acked acks →
+      Does m held old new out (site_step choose old.f old.me (site_shown held old acks) event))
+  pub refused : (fault : SiteFault) → refusal old.f old.me (site_shown held old []) event ≡ Some fault → (result ≡ Err fault) × (new ≡ old)
+  pub fall : refusal old.f old.me (site_shown held old []) event ≡ None → IfErr result (λ fault. (choose : Choice C) (acks : List Ack) → IsRight old.f choose → SumUp old.volatile.acked acks →
+      Falls held old new (site_shown held old acks) (site_step choose old.f old.me (site_shown held old acks) event) fault)
+
+-- What ran follows the step of an event that is not refused: what runs by now, and what was done. The step saves the view that it leads to, and changes nothing where it drops the event.
+pub record Serves {H C R O S : Type 0} (m : Ghosts H C R O S) (start : H) (f me : ℕ) (cell : Boot) (old new : Running H C R O S) (done : Result (OutcomeOf C R O) AllocError) (event : EventOf C R O) : Type 0 where
+  pub sound : IsSound m start f old
+  pub view : old.view ≡ cell.view
+  pub allowed : refusal f me (site_of old [] cell) event ≡ None
+  pub follows : (choose : Choice C) (acks : List Ack) → IsRight f choose → IsRunning m start f old acks → Follows m start f me new done (on_event choose f me (site_of old acks cell) event)
+  pub saves : (choose : Choice C) (acks : List Ack) → SavesView (site_of old acks cell) (on_event choose f me (site_of old acks cell) event)
+  pub quiet : (choose : Choice C) (acks : List Ack) (why : Why) → (on_event choose f me (site_of old acks cell) event).ending ≡ Dropped why → (on_event choose f me (site_of old acks cell) event).site ≡ site_of old acks cell
+
+-- What was kept follows the step of an event that is not refused: what is kept by now, and what came of it.
+pub record Awaits {H C R O S : Type 0} (f me : ℕ) (cell : Boot) (old new : List (ResponseOf C)) (progress : Result (Progress H C R O S) AllocError) (event : EventOf C R O) : Type 0 where
+  pub allowed : refusal f me (recovering_site old [] cell) event ≡ None
+  pub follows : (choose : Choice C) (acks : List Ack) → IsRight f choose → FollowsProgress new acks cell progress (on_event choose f me (recovering_site old acks cell) event)

@@ -1,7 +1,15 @@
 //! One site of a replicated machine, over a cell that outlives its crashes.
 #![tactic(auto)]
 
+mod addressing;
+pub mod laws;
+pub mod life;
 pub mod replica;
+mod serving;
 pub mod tally;
+mod waiting;
 
 pub use replica::Replica;
+
+#[cfg(test)]
+mod tests;

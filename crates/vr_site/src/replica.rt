@@ -1,20 +1,31 @@
-ghost use Rattle.std.specs.Prelude.{◌≡◌, ◌≢◌, ℕ, ◌+◌, ◌*◌, ◌-◌, ◌==◌, ◌&&◌, [], List, IfOk, OnOk, IfErr, IsOk, IsErrOf, Some, None, true, length, slice_get, replicate, option_copied, IsSome, IfSome, ◌↔◌, if◌then◌else◌};
+ghost use Rattle.std.specs.Prelude.{◌≡◌, ◌≢◌, ℕ, ◌+◌, ◌-◌, ◌==◌, ◌⊎◌, [], List, All, IfOk, OnOk, IfErr, OnErr, IsOk, IsErrOf, Some, None, true, length, slice_get, IsSome, IfSome, ◌↔◌, if◌then◌else◌};
 ghost use Rattle.vr_types.specs.declared.cell.Boot.{Boot};
+ghost use Rattle.vr_types.specs.declared.event.EventOf.{EventOf as AnyEvent};
 ghost use Rattle.vr_types.specs.Choice.{Choice, IsRight};
-ghost use Rattle.vr_types.specs.Handling.{on_message, machine_of};
-ghost use Rattle.vr_types.specs.Site.{Ack, is_running, is_down, over};
-ghost use Rattle.vr_log.specs.Kept.{IsReady};
-ghost use Rattle.vr_types.specs.Group.{is_client, is_other_site};
-ghost use Rattle.vr_log.specs.Running.{IsSound, IsRunning, Follows, SumUp, site_of};
-ghost use Rattle.vr_site.specs.Interim.{is_taken};
+ghost use Rattle.vr_types.specs.Handling.{machine_of};
+ghost use Rattle.vr_types.specs.Cell.{HasRisen};
+ghost use Rattle.vr_types.specs.Site.{Ack, is_down, is_running, over};
+ghost use Rattle.vr_types.specs.Group.{is_mine as is_addressed};
+ghost use Rattle.vr_log.specs.declared.running.Running.{Running as AnyRunning};
+ghost use Rattle.vr_log.specs.Running.{IsSound, IsRunning, SumUp, site_of};
+ghost use Rattle.vr_recover.specs.declared.recovering.ResponseOf.{ResponseOf};
+ghost use Rattle.vr_recover.specs.Progress.{IsSoundProgress};
+ghost use Rattle.vr_recover.specs.Recovering.{responses_of, IsOneEach};
+ghost use Rattle.vr_site.specs.Life.{resting, volatile_of};
 
+use crate::addressing::is_mine;
+use crate::life::Life;
+use crate::serving;
+use crate::waiting::await_state;
 use std::alloc::{AllocError, Global};
 use std::marker::Model;
-use vr_log::send::{FIRST_SITE, silent};
-use vr_log::{ClientsOf, Kept, LogOf, Running};
+use std::mem;
+use vr_log::Running;
+use vr_log::send::{dropped, silent};
+use vr_recover::{Progress, Recovering, RecoveringOf, ask_all, regain};
 use vr_types::{
-    Boot, BootCell, Config, Envelope, EnvelopeOf, Event, EventOf, Machine, MsgOf, Outcome, Row,
-    RowOf, SiteFault, Status,
+    Boot, BootCell, Config, Envelope, Event, EventOf, Machine, Outcome, Row, RowsOf, SiteFault,
+    StateOf, Status, Why,
 };
 
 /// One site of a replicated machine, over a cell that outlives its crashes.
@@ -24,31 +35,32 @@ pub struct Replica<M: Machine, C: BootCell> {
     /// What the machine is made from, at a restart again.
     setup: M::Setup,
     cell: C,
-    /// What is lost in a crash: `None` at a site that is down.
-    running: Option<Running<M>>,
+    life: Life<M>,
 }
 
 impl<M: Machine, C: BootCell> Model for Replica<M, C> {
-    ghost use Rattle.vr_site.specs.Replica.{Shown, shown, IsWell};
+    ghost use Rattle.vr_site.specs.Life.{IsWell};
+    ghost use Rattle.vr_site.specs.Replica.{Shown, shown};
 
     ghost Value = { Shown M.Cmd M.Setup C };
 
-    ghost view = { λ a. shown a.config.f a.config.me a.setup a.cell a.running };
+    ghost view = { λ a. shown a.config.f a.config.me a.setup a.cell a.life };
 
-    ghost invariant = { λ a. IsWell M.Machine (M.start a.setup) a.config.f (C.held a.cell) a.running };
+    ghost invariant = { λ a. M.admits a.setup × IsWell M.Machine (M.start a.setup) a.config.f (C.held a.cell) a.life };
 }
 
 impl<M: Machine, C: BootCell> Replica<M, C> {
-    ghost use Rattle.vr_site.specs.Replica.{site_shown, Does, Falls};
-    ghost use Rattle.vr_site.specs.Interim.{site_step_so_far, refusal_so_far};
-    ghost use Rattle.vr_types.specs.Cell.{HasRisen};
+    ghost use Rattle.vr_types.specs.Handling.{refusal, site_step};
+    ghost use Rattle.vr_types.specs.Saved.{IsSavedFor};
     ghost use Rattle.vr_types.specs.Site.{opening_site};
+    ghost use Rattle.vr_types.specs.Step.{Dropped};
+    ghost use Rattle.vr_site.specs.Replica.{site_shown, Does, Falls, Handles, Serves, Awaits};
 
     /// A site over a cell: over a new one it is normal in view 0 with an empty log, over any other it is down.
     pub fn new(alloc: Global, config: Config, setup: M::Setup, cell: C) -> Result<Self, AllocError>
         requires { M.admits setup }
         ensures parts { IfOk result (λ site. (site.f ≡ config.f) × (site.me ≡ config.me) × (site.setup ≡ setup) × (site.cell ≡ cell)) }
-        ensures acked { IfOk result (λ site. SumUp site.acked []) }
+        ensures acked { IfOk result (λ site. SumUp site.volatile.acked []) }
         ensures site { IfOk result (λ site. site_shown C.held site [] ≡ opening_site (C.held cell)) }
     {
         let boot = cell.load();
@@ -57,7 +69,7 @@ impl<M: Machine, C: BootCell> Replica<M, C> {
                 config,
                 setup,
                 cell,
-                running: None,
+                life: Life::Down,
             });
         }
         let running = first(alloc, config, &setup)?;
@@ -65,178 +77,356 @@ impl<M: Machine, C: BootCell> Replica<M, C> {
             config,
             setup,
             cell,
-            running: Some(running),
+            life: Life::Up(running),
         })
     }
 
-    /// Handles an event: takes the site's step, and answers the envelopes that it sends, or why the event is dropped.
+    /// Handles an event: takes the site's step, and answers the envelopes that it sends, in order, or why the event is
+    /// dropped. What is sent in a view was saved before.
     ///
-    /// So far a site takes part in normal operation and crashes: REQUEST, PREPARE, PREPAREOK, COMMIT, Beat and Crash
-    /// are handled. Every other message or event is refused and changes nothing, by `NotUp` at a site that is down and
-    /// by `NotMine` at any other.
+    /// `NotUp`, `AlreadyUp`, `ViewsSpent`, `BootsSpent` and `NotMine` are answered exactly where the site refuses the
+    /// event, which then changes nothing. `NoMemory` and `CellFault` leave the site down with nothing sent; the cell
+    /// holds the old value, or the one that the event saves. A crash, and an event that is dropped, take no memory.
     pub fn handle(&mut self, alloc: Global, event: Event<M>) -> Result<Outcome<M>, SiteFault>
         // What was done is the step.
-        ensures step { IfOk result (λ out. (choose : Choice M.Cmd) (acks : List Ack) → IsRight self.old.f choose → SumUp self.old.acked acks →
-            Does M.Machine C.held self.old self.new out (site_step_so_far choose self.old.f self.old.me (site_shown C.held self.old acks) event)) }
+        ensures step { IfOk result (λ out. (choose : Choice M.Cmd) (acks : List Ack) → IsRight self.old.f choose → SumUp self.old.volatile.acked acks →
+            Does M.Machine C.held self.old self.new out (site_step choose self.old.f self.old.me (site_shown C.held self.old acks) event)) }
         // A refused event changes nothing, and it is the right refusal.
-        ensures refused { (fault : SiteFault) → refusal_so_far self.old.f self.old.me (site_shown C.held self.old []) event ≡ Some fault →
+        ensures refused { (fault : SiteFault) → refusal self.old.f self.old.me (site_shown C.held self.old []) event ≡ Some fault →
             (result ≡ Err fault) × (self.new ≡ self.old) }
         // Any other fault is a fall, in place of a step that handles the event.
-        ensures fall { refusal_so_far self.old.f self.old.me (site_shown C.held self.old []) event ≡ None → IfErr result (λ fault. (choose : Choice M.Cmd) (acks : List Ack) →
-            IsRight self.old.f choose → SumUp self.old.acked acks →
-            Falls C.held self.old self.new (site_shown C.held self.old acks) (site_step_so_far choose self.old.f self.old.me (site_shown C.held self.old acks) event) fault) }
-        // A crash takes no memory.
-        ensures crash { event ≡ EventOf.Crash → self.old.status ≢ Status.Down → IsOk result }
+        ensures fall { refusal self.old.f self.old.me (site_shown C.held self.old []) event ≡ None → IfErr result (λ fault. (choose : Choice M.Cmd) (acks : List Ack) →
+            IsRight self.old.f choose → SumUp self.old.volatile.acked acks →
+            Falls C.held self.old self.new (site_shown C.held self.old acks) (site_step choose self.old.f self.old.me (site_shown C.held self.old acks) event) fault) }
+        // A crash takes no memory, nor does an event that is dropped.
+        ensures crash { event ≡ AnyEvent.Crash → self.old.volatile.status ≢ Status.Down → IsOk result }
+        ensures dropped { (choose : Choice M.Cmd) (acks : List Ack) (why : Why) → IsRight self.old.f choose → SumUp self.old.volatile.acked acks →
+            (site_step choose self.old.f self.old.me (site_shown C.held self.old acks) event).ending ≡ Dropped why → IsOk result }
+        // What is sent in a view was saved before.
+        ensures saved_first { IfOk result (λ out. All (λ envelope. IsSavedFor (C.held self.new.cell) envelope.msg) out.sent.items) }
         // A cell's fault has a cause.
         ensures cause { IsErrOf result SiteFault.CellFault → HasRisen (C.faults self.old.cell) (C.faults self.new.cell) }
         ensures reliable { C.is_reliable self.old.cell → C.is_reliable self.new.cell × (result ≢ Err SiteFault.CellFault) }
     {
+        // What the site shows is of a sound life, over a cell that holds its view.
+        let _ = &self.config;
         match event {
             EventOf::Deliver(envelope) => self.deliver(alloc, envelope),
+            EventOf::Timer => self.timer(alloc),
             EventOf::Beat => self.beat(alloc),
             EventOf::Crash => self.crash(alloc),
-            EventOf::Timer => Err(self.turned_away()),
-            EventOf::Restart => Err(self.turned_away()),
-        }
-    }
-
-    /// Why an event is refused that no rule is written for yet.
-    fn turned_away(&self) -> SiteFault
-        ensures { result ≡ (if is_down self.now.status then SiteFault.NotUp else SiteFault.NotMine) }
-    {
-        match &self.running {
-            None => SiteFault::NotUp,
-            Some(_) => SiteFault::NotMine,
+            EventOf::Restart => self.restart(alloc),
         }
     }
 
     /// Takes a message.
     fn deliver(&mut self, alloc: Global, envelope: Envelope<M>) -> Result<Outcome<M>, SiteFault>
-        ensures step { IfOk result (λ out. (choose : Choice M.Cmd) (acks : List Ack) → IsRight self.old.f choose → SumUp self.old.acked acks →
-            Does M.Machine C.held self.old self.new out (site_step_so_far choose self.old.f self.old.me (site_shown C.held self.old acks) (EventOf.Deliver envelope))) }
-        ensures refused { (fault : SiteFault) → refusal_so_far self.old.f self.old.me (site_shown C.held self.old []) (EventOf.Deliver envelope) ≡ Some fault →
-            (result ≡ Err fault) × (self.new ≡ self.old) }
-        ensures fall { refusal_so_far self.old.f self.old.me (site_shown C.held self.old []) (EventOf.Deliver envelope) ≡ None → IfErr result (λ fault. (choose : Choice M.Cmd) (acks : List Ack) →
-            IsRight self.old.f choose → SumUp self.old.acked acks →
-            Falls C.held self.old self.new (site_shown C.held self.old acks) (site_step_so_far choose self.old.f self.old.me (site_shown C.held self.old acks) (EventOf.Deliver envelope)) fault) }
-        ensures cell { self.new.cell ≡ self.old.cell }
-        ensures no_cell_fault { result ≢ Err SiteFault.CellFault }
+        ensures handles { Handles M.Machine C.held self.old self.new (EventOf.Deliver envelope) result }
+        ensures cause { IsErrOf result SiteFault.CellFault → HasRisen (C.faults self.old.cell) (C.faults self.new.cell) }
+        ensures reliable { C.is_reliable self.old.cell → C.is_reliable self.new.cell × (result ≢ Err SiteFault.CellFault) }
     {
-        let Some(mut running) = self.running.take() else {
-            return Err(SiteFault::NotUp);
-        };
-        if !is_for(self.config, &envelope) {
-            self.running = Some(running);
-            return Err(SiteFault::NotMine);
+        if !is_mine(self.config, &envelope) {
+            return Err(self.turned_away());
         }
-        match act(alloc, self.config, &mut running, &envelope) {
-            Ok(out) => {
-                self.running = Some(running);
-                Ok(out)
+        match mem::replace(&mut self.life, Life::Down) {
+            Life::Down => Err(SiteFault::NotUp),
+            Life::Recovering(recovering) => self.take_as_recovering(alloc, recovering, envelope),
+            Life::Up(running) => self.take_as_running(alloc, running, envelope),
+        }
+    }
+
+    /// Why an envelope is refused that is not for this site.
+    fn turned_away(&self) -> SiteFault
+        ensures { result ≡ (if is_down self.now.volatile.status then SiteFault.NotUp else SiteFault.NotMine) }
+    {
+        match &self.life {
+            Life::Down => SiteFault::NotUp,
+            _ => SiteFault::NotMine,
+        }
+    }
+
+    /// Takes a message while it runs so.
+    fn take_as_running(
+        &mut self,
+        alloc: Global,
+        mut running: Running<M>,
+        envelope: Envelope<M>,
+    ) -> Result<Outcome<M>, SiteFault>
+        requires down { self.old.volatile ≡ resting Status.Down [] }
+        requires well { IsSound M.Machine (M.start self.old.setup) self.old.f running × (running.view ≡ (C.held self.old.cell).view) }
+        requires mine { is_addressed self.old.f self.old.me envelope ≡ true }
+        ensures handles { Handles M.Machine C.held (record self.old { volatile = volatile_of (Life.Up running) }) self.new (EventOf.Deliver envelope) result }
+        ensures cause { IsErrOf result SiteFault.CellFault → HasRisen (C.faults self.old.cell) (C.faults self.new.cell) }
+        ensures reliable { C.is_reliable self.old.cell → C.is_reliable self.new.cell × (result ≢ Err SiteFault.CellFault) }
+    {
+        let done = serving::serve(
+            alloc,
+            self.config,
+            &mut running,
+            envelope.from,
+            envelope.msg,
+        );
+        self.finish(running, done)
+    }
+
+    /// Takes a message while it recovers so.
+    fn take_as_recovering(
+        &mut self,
+        alloc: Global,
+        mut recovering: Recovering<M>,
+        envelope: Envelope<M>,
+    ) -> Result<Outcome<M>, SiteFault>
+        requires down { self.old.volatile ≡ resting Status.Down [] }
+        requires one_each { IsOneEach recovering.responses.items }
+        requires admits { M.admits self.old.setup }
+        requires mine { is_addressed self.old.f self.old.me envelope ≡ true }
+        ensures handles { Handles M.Machine C.held (record self.old { volatile = resting Status.Recovering (responses_of recovering.responses.items) }) self.new (EventOf.Deliver envelope) result }
+        ensures cause { IsErrOf result SiteFault.CellFault → HasRisen (C.faults self.old.cell) (C.faults self.new.cell) }
+        ensures reliable { C.is_reliable self.old.cell → C.is_reliable self.new.cell × (result ≢ Err SiteFault.CellFault) }
+    {
+        let boot = self.cell.load();
+        let progress = await_state(
+            alloc,
+            self.config,
+            &self.setup,
+            boot,
+            &mut recovering,
+            envelope.from,
+            envelope.msg,
+        );
+        self.proceed(alloc, recovering, progress)
+    }
+
+    /// The site changes to the next view.
+    fn timer(&mut self, alloc: Global) -> Result<Outcome<M>, SiteFault>
+        ensures handles { Handles M.Machine C.held self.old self.new EventOf.Timer result }
+        ensures cause { IsErrOf result SiteFault.CellFault → HasRisen (C.faults self.old.cell) (C.faults self.new.cell) }
+        ensures reliable { C.is_reliable self.old.cell → C.is_reliable self.new.cell × (result ≢ Err SiteFault.CellFault) }
+    {
+        match mem::replace(&mut self.life, Life::Down) {
+            Life::Down => Err(SiteFault::NotUp),
+            Life::Recovering(recovering) => {
+                self.proceed(alloc, recovering, Ok(Progress::Dropped(Why::Status)))
             }
-            Err(_) => Err(SiteFault::NoMemory),
+            Life::Up(mut running) => {
+                if running.view == u32::MAX {
+                    self.life = Life::Up(running);
+                    return Err(SiteFault::ViewsSpent);
+                }
+                let done = vr_change::timer(alloc, self.config, &mut running);
+                self.finish(running, done)
+            }
         }
     }
 
     /// Says again what may have been lost.
     fn beat(&mut self, alloc: Global) -> Result<Outcome<M>, SiteFault>
-        ensures step { IfOk result (λ out. (choose : Choice M.Cmd) (acks : List Ack) → IsRight self.old.f choose → SumUp self.old.acked acks →
-            Does M.Machine C.held self.old self.new out (site_step_so_far choose self.old.f self.old.me (site_shown C.held self.old acks) EventOf.Beat)) }
-        ensures refused { (fault : SiteFault) → refusal_so_far {C = M.Cmd} {R = M.Reply} {O = M.Order} self.old.f self.old.me (site_shown C.held self.old []) EventOf.Beat ≡ Some fault →
-            (result ≡ Err fault) × (self.new ≡ self.old) }
-        ensures fall { refusal_so_far {C = M.Cmd} {R = M.Reply} {O = M.Order} self.old.f self.old.me (site_shown C.held self.old []) EventOf.Beat ≡ None → IfErr result (λ fault. (choose : Choice M.Cmd) (acks : List Ack) →
-            IsRight self.old.f choose → SumUp self.old.acked acks →
-            Falls {C = M.Cmd} {R = M.Reply} {O = M.Order} C.held self.old self.new (site_shown C.held self.old acks) (site_step_so_far choose self.old.f self.old.me (site_shown C.held self.old acks) EventOf.Beat) fault) }
-        ensures cell { self.new.cell ≡ self.old.cell }
-        ensures no_cell_fault { result ≢ Err SiteFault.CellFault }
+        ensures handles { Handles M.Machine C.held self.old self.new EventOf.Beat result }
+        ensures cause { IsErrOf result SiteFault.CellFault → HasRisen (C.faults self.old.cell) (C.faults self.new.cell) }
+        ensures reliable { C.is_reliable self.old.cell → C.is_reliable self.new.cell × (result ≢ Err SiteFault.CellFault) }
     {
-        let Some(running) = self.running.take() else {
-            return Err(SiteFault::NotUp);
-        };
-        match vr_normal::beat(alloc, self.config, &running) {
-            Ok(out) => {
-                self.running = Some(running);
+        match mem::replace(&mut self.life, Life::Down) {
+            Life::Down => Err(SiteFault::NotUp),
+            Life::Recovering(recovering) => {
+                let boot = self.cell.load();
+                let Ok(out) = ask_all(alloc, self.config, boot.boots) else {
+                    return Err(SiteFault::NoMemory);
+                };
+                self.life = Life::Recovering(recovering);
                 Ok(out)
             }
-            Err(_) => Err(SiteFault::NoMemory),
+            Life::Up(running) => {
+                let done = serving::beat(alloc, self.config, &running);
+                self.finish(running, done)
+            }
         }
     }
 
     /// Loses all but the cell.
     fn crash(&mut self, alloc: Global) -> Result<Outcome<M>, SiteFault>
-        ensures step { IfOk result (λ out. (choose : Choice M.Cmd) (acks : List Ack) → IsRight self.old.f choose → SumUp self.old.acked acks →
-            Does M.Machine C.held self.old self.new out (site_step_so_far choose self.old.f self.old.me (site_shown C.held self.old acks) EventOf.Crash)) }
-        ensures refused { (fault : SiteFault) → refusal_so_far {C = M.Cmd} {R = M.Reply} {O = M.Order} self.old.f self.old.me (site_shown C.held self.old []) EventOf.Crash ≡ Some fault →
-            (result ≡ Err fault) × (self.new ≡ self.old) }
-        ensures up { self.old.status ≢ Status.Down → IsOk result }
-        ensures down { IfErr result (λ fault. self.old.status ≡ Status.Down) }
+        ensures handles { Handles M.Machine C.held self.old self.new EventOf.Crash result }
         ensures cell { self.new.cell ≡ self.old.cell }
+        ensures up { self.old.volatile.status ≢ Status.Down → IsOk result }
         ensures no_cell_fault { result ≢ Err SiteFault.CellFault }
     {
-        let Some(_running) = self.running.take() else {
-            return Err(SiteFault::NotUp);
-        };
-        self.running = None;
-        Ok(silent(alloc))
-    }
-
-    pub fn status(&self) -> Status
-        ensures { result ≡ self.now.status }
-    {
-        match &self.running {
-            None => Status::Down,
-            Some(running) => running.status,
+        match mem::replace(&mut self.life, Life::Down) {
+            Life::Down => Err(SiteFault::NotUp),
+            _ => Ok(silent(alloc)),
         }
     }
 
-    /// The view, 0 at a site that is down.
-    pub fn view(&self) -> u32
-        ensures { result ≡ self.now.view }
+    /// Comes up again, and asks all others for the state.
+    fn restart(&mut self, alloc: Global) -> Result<Outcome<M>, SiteFault>
+        ensures handles { Handles M.Machine C.held self.old self.new EventOf.Restart result }
+        ensures cause { IsErrOf result SiteFault.CellFault → HasRisen (C.faults self.old.cell) (C.faults self.new.cell) }
+        ensures reliable { C.is_reliable self.old.cell → C.is_reliable self.new.cell × (result ≢ Err SiteFault.CellFault) }
     {
-        match &self.running {
-            None => 0,
-            Some(running) => running.view,
+        match &self.life {
+            Life::Down => {}
+            _ => return Err(SiteFault::AlreadyUp),
+        }
+        let boot = self.cell.load();
+        if boot.boots == u32::MAX {
+            return Err(SiteFault::BootsSpent);
+        }
+        let boots = boot.boots + 1;
+        save(
+            &mut self.cell,
+            Boot {
+                boots,
+                view: boot.view,
+            },
+        )?;
+        let Ok(out) = ask_all(alloc, self.config, boots) else {
+            return Err(SiteFault::NoMemory);
+        };
+        self.life = Life::Recovering(RecoveringOf {
+            responses: Vec::new(alloc),
+        });
+        Ok(out)
+    }
+
+    /// What runs goes on after what was done, with its view saved where the cell holds another.
+    fn finish(
+        &mut self,
+        running: Running<M>,
+        done: Result<Outcome<M>, AllocError>,
+    ) -> Result<Outcome<M>, SiteFault>
+        requires down { self.old.volatile ≡ resting Status.Down [] }
+        requires sound { OnOk done (IsSound M.Machine (M.start self.old.setup) self.old.f running) }
+        ensures handles { (before : AnyRunning M M.Cmd M.Reply M.Order M.Setup) (event : AnyEvent M.Cmd M.Reply M.Order) →
+            Serves M.Machine (M.start self.old.setup) self.old.f self.old.me (C.held self.old.cell) before running done event →
+            Handles M.Machine C.held (record self.old { volatile = volatile_of (Life.Up before) }) self.new event result }
+        ensures cause { IsErrOf result SiteFault.CellFault → HasRisen (C.faults self.old.cell) (C.faults self.new.cell) }
+        ensures reliable { C.is_reliable self.old.cell → C.is_reliable self.new.cell × (result ≢ Err SiteFault.CellFault) }
+    {
+        let Ok(out) = done else {
+            return Err(SiteFault::NoMemory);
+        };
+        self.go_on(running)?;
+        Ok(out)
+    }
+
+    /// The site recovers still, or runs with what it regained.
+    fn proceed(
+        &mut self,
+        alloc: Global,
+        recovering: Recovering<M>,
+        progress: Result<Progress<M>, AllocError>,
+    ) -> Result<Outcome<M>, SiteFault>
+        requires down { self.old.volatile ≡ resting Status.Down [] }
+        requires sound { IfOk progress (λ progress. IsSoundProgress M.Machine (M.start self.old.setup) self.old.f recovering.responses.items progress) }
+        ensures handles { (before : List (ResponseOf M.Cmd)) (event : AnyEvent M.Cmd M.Reply M.Order) →
+            Awaits self.old.f self.old.me (C.held self.old.cell) before recovering.responses.items progress event →
+            Handles M.Machine C.held (record self.old { volatile = resting Status.Recovering (responses_of before) }) self.new event result }
+        ensures cause { IsErrOf result SiteFault.CellFault → HasRisen (C.faults self.old.cell) (C.faults self.new.cell) }
+        ensures reliable { C.is_reliable self.old.cell → C.is_reliable self.new.cell × (result ≢ Err SiteFault.CellFault) }
+    {
+        let Ok(progress) = progress else {
+            return Err(SiteFault::NoMemory);
+        };
+        match progress {
+            Progress::Dropped(why) => {
+                self.life = Life::Recovering(recovering);
+                Ok(dropped(alloc, why))
+            }
+            Progress::Waits => {
+                self.life = Life::Recovering(recovering);
+                Ok(silent(alloc))
+            }
+            Progress::Regained(running) => {
+                self.go_on(running)?;
+                Ok(silent(alloc))
+            }
+        }
+    }
+
+    /// Runs on, with the view saved where the cell holds another. A fault leaves the site down.
+    fn go_on(&mut self, running: Running<M>) -> Result<(), SiteFault>
+        requires { IsSound M.Machine (M.start self.old.setup) self.old.f running }
+        ensures config { (self.new.f ≡ self.old.f) × (self.new.me ≡ self.old.me) × (self.new.setup ≡ self.old.setup) }
+        ensures up { OnOk result (self.new.volatile ≡ volatile_of (Life.Up running)) }
+        ensures saved { OnOk result (C.held self.new.cell ≡ record { boots = (C.held self.old.cell).boots; view = running.view }) }
+        ensures down { OnErr result (self.new.volatile ≡ resting Status.Down []) }
+        ensures fault { IfErr result (λ fault. fault ≡ SiteFault.CellFault) }
+        ensures cell { OnErr result ((C.held self.new.cell ≡ C.held self.old.cell) ⊎ (C.held self.new.cell ≡ record { boots = (C.held self.old.cell).boots; view = running.view })) }
+        ensures other { OnErr result (running.view ≢ (C.held self.old.cell).view) }
+        ensures cause { OnErr result (HasRisen (C.faults self.old.cell) (C.faults self.new.cell)) }
+        ensures reliable { C.is_reliable self.old.cell → C.is_reliable self.new.cell × IsOk result }
+    {
+        self.life = Life::Down;
+        let boot = self.cell.load();
+        if running.view != boot.view {
+            save(
+                &mut self.cell,
+                Boot {
+                    boots: boot.boots,
+                    view: running.view,
+                },
+            )?;
+        }
+        self.life = Life::Up(running);
+        Ok(())
+    }
+
+    pub fn status(&self) -> Status
+        ensures { result ≡ self.now.volatile.status }
+    {
+        match &self.life {
+            Life::Down => Status::Down,
+            Life::Recovering(_) => Status::Recovering,
+            Life::Up(running) => running.status,
+        }
+    }
+
+    /// The view, 0 at a site that is down or recovers.
+    pub fn view(&self) -> u32
+        ensures { result ≡ self.now.volatile.view }
+    {
+        match &self.life {
+            Life::Up(running) => running.view,
+            _ => 0,
         }
     }
 
     pub fn log_len(&self) -> usize
-        ensures { result ≡ length self.now.log }
+        ensures { result ≡ length self.now.volatile.log }
     {
-        match &self.running {
-            None => 0,
-            Some(running) => running.kept.log.len(),
+        match &self.life {
+            Life::Up(running) => running.kept.log.len(),
+            _ => 0,
         }
     }
 
     /// How many rows of the log are executed.
     pub fn done(&self) -> usize
-        ensures { result ≡ self.now.done }
+        ensures { result ≡ self.now.volatile.done }
     {
-        match &self.running {
-            None => 0,
-            Some(running) => running.kept.done as usize,
+        match &self.life {
+            Life::Up(running) => running.kept.done as usize,
+            _ => 0,
         }
     }
 
     /// The row at a place of the log, counted from 1.
     pub fn row(&self, place: usize) -> Option<Row<M>>
-        ensures { result ≡ (if place == 0 then None else slice_get self.now.log (place - 1)) }
+        ensures { result ≡ (if place == 0 then None else slice_get self.now.volatile.log (place - 1)) }
     {
         let at = place.checked_sub(1)?;
-        match &self.running {
-            None => None,
-            Some(running) => running.kept.log.get(at),
+        match &self.life {
+            Life::Up(running) => running.kept.log.get(at),
+            _ => None,
         }
     }
 
     /// The machine of a site that is normal or in change: a fresh one that went through the executed rows.
     pub fn machine(&self) -> Option<&M>
-        ensures there { IsSome result ↔ (is_running self.now.status ≡ true) }
+        ensures there { IsSome result ↔ (is_running self.now.volatile.status ≡ true) }
         ensures fold { IfSome result (λ machine. machine.now ≡ machine_of M.Machine (M.start self.now.setup) (site_shown C.held self.now [])) }
     {
-        match &self.running {
-            None => None,
-            Some(running) => Some(&running.kept.machine),
+        match &self.life {
+            Life::Up(running) => Some(&running.kept.machine),
+            _ => None,
         }
     }
 
@@ -248,114 +438,34 @@ impl<M: Machine, C: BootCell> Replica<M, C> {
     }
 }
 
-/// What a site runs at first, over a new cell.
+/// Saves what a restart is to find. A fault leaves the old value or the new one.
+fn save<C: BootCell>(cell: &mut C, boot: Boot) -> Result<(), SiteFault>
+    ensures ok { OnOk result (C.held cell.new ≡ boot) }
+    ensures err { OnErr result ((C.held cell.new ≡ C.held cell.old) ⊎ (C.held cell.new ≡ boot)) }
+    ensures fault { IfErr result (λ fault. fault ≡ SiteFault.CellFault) }
+    ensures cause { OnErr result (HasRisen (C.faults cell.old) (C.faults cell.new)) }
+    ensures reliable { C.is_reliable cell.old → IsOk result × C.is_reliable cell.new }
+{
+    match cell.save(boot) {
+        Ok(()) => Ok(()),
+        Err(_) => Err(SiteFault::CellFault),
+    }
+}
+
+/// What a site runs at first, over a new cell: it is normal in view 0 with an empty log.
 fn first<M: Machine>(
     alloc: Global,
     config: Config,
     setup: &M::Setup,
 ) -> Result<Running<M>, AllocError>
     requires { M.admits setup.now }
-    ensures sound { IfOk result (λ running. IsSound M.Machine (M.start setup.now) config.f running) }
-    ensures acked { IfOk result (λ running. SumUp running.acked.items []) }
+    ensures sound { IfOk result (λ running. IsRunning M.Machine (M.start setup.now) config.f running []) }
     ensures site { IfOk result (λ running. (cell : Boot) → site_of running [] cell ≡ over cell Status.Normal) }
 {
-    let machine = M::fresh(alloc, setup)?;
-    let acked = vec![in alloc; 0u16; 2 * config.f as usize + 1]?;
-    Ok(Running {
-        status: Status::Normal,
-        view: 0,
-        last_normal: 0,
-        kept: Kept {
-            log: LogOf::new(alloc),
-            clients: ClientsOf::new(alloc),
-            machine,
-            done: 0,
-        },
-        acked,
-        starts: Vec::new(alloc),
-        voted: false,
-        votes: Vec::new(alloc),
-    })
-}
-
-/// Whether an envelope is for this site, from one that may send it, and of normal operation.
-fn is_for<C, R, O>(config: Config, envelope: &EnvelopeOf<C, R, O>) -> bool
-    ensures { result ≡ is_taken config.f config.me envelope.now }
-{
-    if envelope.to != FIRST_SITE + config.me {
-        return false;
-    }
-    match &envelope.msg {
-        MsgOf::Request { .. } => is_of_client(envelope.from),
-        MsgOf::Prepare { .. } => is_of_site(config, envelope.from),
-        MsgOf::PrepareOk { .. } => is_of_site(config, envelope.from),
-        MsgOf::Commit { .. } => is_of_site(config, envelope.from),
-        _ => false,
-    }
-}
-
-/// Whether an actor is a client.
-fn is_of_client(actor: u16) -> bool
-    ensures { result ≡ is_client actor }
-{
-    actor <= 64 || 101 <= actor && actor <= 108
-}
-
-/// Whether an actor is another site of the group.
-fn is_of_site(config: Config, actor: u16) -> bool
-    ensures { result ≡ is_other_site config.f config.me actor }
-{
-    FIRST_SITE <= actor && actor <= FIRST_SITE + 2 * config.f && actor != FIRST_SITE + config.me
-}
-
-/// Does what a message asks.
-fn act<M: Machine>(
-    alloc: Global,
-    config: Config,
-    running: &mut Running<M>,
-    envelope: &Envelope<M>,
-) -> Result<Outcome<M>, AllocError>
-    requires ready { IsReady M.Machine running.old.kept }
-    requires sites { length running.old.acked.items ≡ 2 * config.f + 1 }
-    requires taken { is_taken config.f config.me envelope.now ≡ true }
-    ensures sound { OnOk result ((start : M) → IsSound M.Machine start config.f running.old → IsSound M.Machine start config.f running.new) }
-    ensures status { running.new.status ≡ running.old.status }
-    ensures view { running.new.view ≡ running.old.view }
-    ensures step { (choose : Choice M.Cmd) (start : M) (acks : List Ack) (cell : Boot) → IsRight config.f choose → IsRunning M.Machine start config.f running.old acks →
-        Follows M.Machine start config.f config.me running.new result (on_message choose config.f config.me (site_of running.old acks cell) envelope.now.from envelope.now.msg) }
-{
-    let from = envelope.from;
-    match &envelope.msg {
-        MsgOf::Request { number, cmd } => {
-            let row = RowOf {
-                client: from,
-                number: *number,
-                cmd: *cmd,
-            };
-            vr_normal::request(alloc, config, running, row)
-        }
-        MsgOf::Prepare {
-            view,
-            place,
-            done,
-            row,
-        } => vr_normal::prepare(
-            alloc,
-            config,
-            running,
-            from - FIRST_SITE,
-            *view,
-            *place,
-            *done,
-            *row,
-        ),
-        MsgOf::PrepareOk { view, place } => {
-            vr_normal::prepare_ok(alloc, config, running, from - FIRST_SITE, *view, *place)
-        }
-        MsgOf::Commit { view, done } => {
-            vr_normal::commit(alloc, config, running, from - FIRST_SITE, *view, *done)
-        }
-        // No other message is taken.
-        _ => Ok(silent(alloc)),
-    }
+    let empty = StateOf {
+        done: 0,
+        rows: RowsOf::new(alloc),
+    };
+    let running = regain(alloc, config, setup, 0, empty)?;
+    Ok(running)
 }

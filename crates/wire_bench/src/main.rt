@@ -5,12 +5,10 @@
 use pvp_types::Cmd;
 use pvp_wire::{Feeder, Stamp, Stamped, encode, wireable};
 use std::alloc::{AllocError, Global};
-use std::env;
-use std::fmt;
-use std::io;
 use std::process::ExitCode;
 use std::rt::Clock;
 use std::time::Instant;
+use std::{env, fmt, io};
 use vr_types::{EnvelopeOf, MsgOf, RowOf, RowsOf};
 
 /// How many rows a frame of the stream has.

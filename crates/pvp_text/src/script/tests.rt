@@ -86,7 +86,8 @@ fn reads_each_form(rt: HostRuntime) -> Result<(), Fail> {
 #[test]
 fn reads_the_forms_of_pairs(rt: HostRuntime) -> Result<(), Fail> {
     let setup = setup(rt.alloc())?;
-    let script = "do ALFA instruct 7 BETA USD 1100 @0 18446744073709551615\ndo @2 rescind 4294967295\ndo OP settle 0";
+    let script =
+        "do ALFA instruct 7 BETA USD 1100 @0 18446744073709551615\ndo @2 rescind 4294967295\ndo OP settle 0";
     let lines = read_script(rt.alloc(), &setup, Kind::Book, script.as_bytes())?;
     let instruct = Cmd::Instruct {
         reference: 7,
@@ -99,11 +100,7 @@ fn reads_the_forms_of_pairs(rt: HostRuntime) -> Result<(), Fail> {
     let rescind = Cmd::Rescind {
         reference: u32::MAX,
     };
-    let said = [
-        (1, instruct),
-        (2, rescind),
-        (0, Cmd::Settle { most: 0 }),
-    ];
+    let said = [(1, instruct), (2, rescind), (0, Cmd::Settle { most: 0 })];
     assert_eq!(rt; lines.len(), said.len());
     for (line, (client, cmd)) in lines.iter().zip(&said) {
         let statement = Statement::Do {

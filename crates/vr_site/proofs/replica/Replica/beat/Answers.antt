@@ -1,48 +1,58 @@
-use Rattle.std.proofs.Common.{◌≡◌, Some, None, sym, ap, subst, ◌∙◌, if◌then◌else◌}
+use Rattle.std.proofs.Common.{◌≡◌, List, [], refl, sym, ap, ◌∙◌, subst}
 use Rattle.vr_types.specs.declared.event.EventOf.TheVariants.{Beat}
-use Rattle.vr_types.specs.declared.event.SiteFault.TheVariants.{NoMemory, NotUp}
-use Rattle.vr_types.specs.Handling.{on_beat}
-use Rattle.vr_types.specs.Site.{is_down}
+use Rattle.vr_types.specs.declared.event.Status.TheVariants as status
+use Rattle.vr_types.specs.declared.message.MsgOf.TheVariants as msg
+use Rattle.vr_types.specs.Group.{to_all}
+use Rattle.vr_log.specs.Outcomes.{Sends}
 use Rattle.vr_log.specs.Running.{site_of}
-use Rattle.vr_log.proofs.OutcomeLemmas.{meets_as}
-use Rattle.vr_site.specs.Interim.{site_step_so_far}
-use Rattle.vr_site.specs.Replica.{shown, site_shown, IsWell, Falls}
-use Rattle.vr_site.proofs.Cells.{LeavesCell, beat_leaves}
-use Rattle.vr_site.proofs.Shows.{served, fell}
+use Rattle.vr_site.specs.declared.life.Life.TheVariants.{Recovering, Up}
+use Rattle.vr_site.specs.Life.{volatile_of, IsWell}
+use Rattle.vr_site.specs.Replica.{shown, Handles}
+use Rattle.vr_site.proofs.Cells.{saves_beat, quiet_beat}
+use Rattle.vr_site.proofs.Restarts.{asked_again, asked_nobody}
+use Rattle.vr_site.proofs.Shows.{beat_is_taken}
 use Rattle.vr_site.proofs.replica.Replica.beat.Goals as goal
 
-pub returns-in-Ok-clause-step : goal.returns-in-Ok-clause-step
-returns-in-Ok-clause-step g c = λ choose acks right summed.
+pub returns-in-Up-clause-handles : goal.returns-in-Up-clause-handles
+returns-in-Up-clause-handles g c =
     let m = g.M.Machine in
     let held = g.C.BootCell.held in
     let at = c.self.inside in
     let f = at.config.f in
     let me = at.config.me in
-    let r = c.in-Some.running in
-    let was : at.running ≡ Some r = cc in
-    let view : shown f me at.setup at.cell (Some r) ≡ c.args.self.now = ap (shown f me at.setup at.cell) (sym was) ∙ c.self.view_is in
-    let well = subst (λ o. IsWell m (m.start at.setup) f (held at.cell) o) was c.self.invariant in
-    let x = site_of r acks (held at.cell) in
-    let is = ap (on_beat f me x) well.1 in
-    served m held f me at.setup at.cell c.args.self.now r r c.in-Ok.out Beat choose acks view well.0 summed
-    (ap (λ s. if is_down s then Some NotUp else None) well.1)
-    (subst (LeavesCell (held at.cell)) (sym is) (beat_leaves f me x))
-    (λ h. meets_as m (m.start at.setup) f me r c.in-Ok.out _ _ is (c.in-Ok.ensures (m.start at.setup) acks (held at.cell) h))
+    let cell = held at.cell in
+    let r = c.in-Up.running in
+    let was : at.life ≡ Up r = sym c.replace.ensures.value ∙ c.in-Up.is in
+    let well = subst (λ l. IsWell m (m.start at.setup) f cell l) was c.self.invariant.1 in
+    subst (λ v. Handles m held v c.finish.new.self Beat c.finish.result) (ap (shown f me at.setup at.cell) (sym was) ∙ c.self.view_is)
+    (c.finish.ensures.handles r Beat (record {
+      sound = well.0;
+      view = well.1;
+      allowed = beat_is_taken g.row.M-Reply.Denot g.row.M-Order.Denot f me (site_of r [] cell) well.0.up;
+      follows = λ choose acks right h. c.beat-done.ensures (m.start at.setup) acks cell h;
+      saves = λ choose acks. saves_beat f me (site_of r acks cell) well.1 choose r.status well.0.up;
+      quiet = λ choose acks. (quiet_beat f me (site_of r acks cell) r.status well.0.up).same;
+    }))
 
-pub returns-in-Err-clause-fall : goal.returns-in-Err-clause-fall
-returns-in-Err-clause-fall g c = λ none choose acks right summed.
-    let m = g.M.Machine in
+pub returns-in_default-clause-handles : goal.returns-in_default-clause-handles
+returns-in_default-clause-handles g c =
+    let at = c.self.inside in
+    let old = c.args.self.now in
+    let view = c.self.view_is in
+    let was : at.life ≡ Recovering c.in-Recovering.recovering = sym c.replace.ensures.value ∙ c.in-Recovering.is in
+    let recovers : old.volatile.status ≡ status.Recovering = sym (ap (λ v. v.volatile.status) view) ∙ ap (λ l. (volatile_of l).status) was in
+    asked_nobody g.M.Machine g.C.BootCell.held old _ (ap (λ v. v.f) view, ap (λ v. v.me) view, ap (λ v. v.setup) view) recovers
+    (ap volatile_of c.replace.ensures.after) (ap (λ v. v.cell) view)
+
+pub returns-in-Ok-clause-handles : goal.returns-in-Ok-clause-handles
+returns-in-Ok-clause-handles g c =
     let held = g.C.BootCell.held in
     let at = c.self.inside in
-    let f = at.config.f in
-    let me = at.config.me in
-    let r = c.in-Some.running in
     let old = c.args.self.now in
-    let was : at.running ≡ Some r = cc in
-    let view : shown f me at.setup at.cell (Some r) ≡ c.args.self.now = ap (shown f me at.setup at.cell) (sym was) ∙ c.self.view_is in
-    let well = subst (λ o. IsWell m (m.start at.setup) f (held at.cell) o) was c.self.invariant in
-    let x = site_of r acks (held at.cell) in
-    let is = ap (on_beat f me x) well.1 in
-    subst (λ o. Falls {R = g.row.M-Reply.Denot} {O = g.row.M-Order.Denot} held old (shown f me at.setup at.cell o) (site_shown held old acks) (site_step_so_far choose old.f old.me (site_shown held old acks) Beat) NoMemory) (sym c.take.ensures.after)
-    (fell m held f me at.setup at.cell old r Beat choose acks view well.0 summed (ap (λ s. if is_down s then Some NotUp else None) well.1)
-    (λ h. ap (λ s. s.ending) is ∙ c.in-Err.ensures (m.start at.setup) acks (held at.cell) h))
+    let view = c.self.view_is in
+    let was : at.life ≡ Recovering c.in-Recovering.recovering = sym c.replace.ensures.value ∙ c.in-Recovering.is in
+    let recovers : old.volatile.status ≡ status.Recovering = sym (ap (λ v. v.volatile.status) view) ∙ ap (λ l. (volatile_of l).status) was in
+    let told = subst (λ v. Sends c.in-Ok.out (to_all v.f v.me (msg.Recovery c.load-boot.result.boots))) view c.in-Ok.ensures in
+    asked_again g.M.Machine held old _ (ap (λ v. v.f) view, ap (λ v. v.me) view, ap (λ v. v.setup) view) recovers c.in-Ok.out
+    (ap volatile_of (sym was) ∙ ap (λ v. v.volatile) view) (ap (λ v. v.cell) view)
+    (subst (λ b. Sends c.in-Ok.out (to_all old.f old.me (msg.Recovery b.boots))) (c.load-boot.ensures ∙ ap (λ v. held v.cell) view) told)

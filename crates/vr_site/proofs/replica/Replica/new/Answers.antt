@@ -4,9 +4,8 @@ use Rattle.vr_site.proofs.replica.Replica.new.Goals as goal
 
 pub invariant_of-result-2 : goal.invariant_of-result-2
 invariant_of-result-2 g c =
-    let cell = g.C.BootCell.held c.args.cell in
-    let site = c.in_ok-running.ensures.site cell in
-    (c.in_ok-running.ensures.sound, ap (λ x. x.status) site, ap (λ x. x.view) site ∙ sym (ap (λ b. b.view) (sym c.load-boot.ensures) ∙ c.if-boot-ne0-2.false))
+    let site = c.in_ok-running.ensures.site (g.C.BootCell.held c.args.cell) in
+    (c.requires, (c.in_ok-running.ensures.sound.sound, ap (λ x. x.view) site ∙ sym (ap (λ b. b.view) (sym c.load-boot.ensures) ∙ c.if-boot-ne0-2.false)))
 
 pub returns-clause-site : goal.returns-clause-site
 returns-clause-site g c =

@@ -1,0 +1,4 @@
+pub mod Lists
+pub mod ProgressLemmas
+pub mod RecoveryCases
+pub mod Regains

@@ -1,0 +1,7 @@
+use Rattle.std.proofs.Common.{rules, ◌∙◌, ap, ◌++◌, ◌∷◌, []}
+use Rattle.std.proofs.lemmas.Fn.{filter_same}
+use Rattle.vr_recover.proofs.recovering.keep.Goals as goal
+
+pub returns : goal.returns
+returns g c =
+    c.in_ok-push.ensures.items ∙ ap (λ kept. kept ++ c.args.new ∷ []) (filter_same _ _ _ (λ x b f' k. search rules) _ _ c.retain.ensures.filtered)

@@ -1,0 +1,119 @@
+ghost use Rattle.std.specs.Prelude.{◌≡◌, ◌<◌, ◌≤◌, ◌==◌, ◌&&◌, ◌++◌, ◌∷◌, [], ℕ, not, nat_le, nat_lt, filter, All, count_by, IfSome, IfNone, OnOk, Some};
+ghost use Rattle.std.specs.List.{list_any, position};
+ghost use Rattle.vr_types.specs.Choice.{Regained, IsRegained};
+ghost use Rattle.vr_types.specs.Group.{sites};
+ghost use Rattle.vr_types.specs.Site.{has_response};
+ghost use Rattle.vr_recover.specs.Recovering.{response_of, responses_of, IsOneEach};
+
+use std::alloc::{AllocError, Global};
+use vr_log::send::primary_of;
+use vr_types::{Config, Machine, StateOf};
+
+/// A response that a recovering site keeps: its sender, that site's view, and the state of the view where its primary
+/// answered.
+#[derive(Drop)]
+pub struct ResponseOf<C> {
+    pub from: u16,
+    pub view: u32,
+    pub state: Option<StateOf<C>>,
+}
+
+/// What a recovering site keeps: of each site the response of its greatest view.
+#[derive(Drop)]
+pub struct RecoveringOf<C> {
+    pub responses: Vec<ResponseOf<C>>,
+}
+
+/// What a machine's recovering site keeps.
+pub type Recovering<M> = RecoveringOf<<M as Machine>::Cmd>;
+
+/// Whether a response of this site, of this view or a later one, is kept.
+pub(crate) fn has_as_late<C: Drop>(kept: &[ResponseOf<C>], from: u16, view: u32) -> bool
+    ensures { result ≡ list_any (λ old. (old.from == from) && nat_le view old.view) kept.now }
+{
+    kept.iter().any(|old| old.from == from && view <= old.view)
+}
+
+/// Keeps a response in place of an earlier one of its sender.
+pub(crate) fn keep<C: Drop>(
+    kept: &mut Vec<ResponseOf<C>>,
+    new: ResponseOf<C>,
+) -> Result<(), AllocError>
+    ensures { OnOk result (kept.new.items ≡ filter (λ old. not (old.from == new.from)) kept.old.items ++ new ∷ []) }
+{
+    let from = new.from;
+    kept.retain(|old| old.from != from);
+    kept.push(new)?;
+    Ok(())
+}
+
+/// Whether a response of this site is kept.
+fn has_of<C: Drop>(kept: &[ResponseOf<C>], site: u16) -> bool
+    ensures { result ≡ list_any (λ response. response.from == site) kept.now }
+{
+    kept.iter().any(|response| response.from == site)
+}
+
+/// How many different sites have responded.
+fn senders<C: Drop>(config: Config, kept: &[ResponseOf<C>]) -> usize
+    ensures { result ≡ count_by (λ site. list_any (λ response. response.from == site) kept.now) (sites config.f) }
+{
+    (0..2 * config.f + 1)
+        .filter(|site| has_of(kept, *site))
+        .count()
+}
+
+/// The greatest view of the responses, 0 of none.
+fn greatest_view<C: Drop>(kept: &[ResponseOf<C>]) -> u32
+    ensures above { All (λ response. response.view ≤ result) kept.now }
+    ensures least { (view : ℕ) → All (λ response. response.view ≤ view) kept.now → result ≤ view }
+{
+    let mut view: u32 = 0;
+    for response in kept {
+        view = view.max(response.view);
+    }
+    view
+}
+
+/// The index of a site's response of a view.
+fn place_of<C: Drop>(kept: &[ResponseOf<C>], from: u16, view: u32) -> Option<usize>
+    ensures { result ≡ position (λ response. (response.from == from) && (response.view == view)) kept.now }
+{
+    kept.iter()
+        .position(|response| response.from == from && response.view == view)
+}
+
+/// The view whose state is regained, once its primary has answered with it: the greatest of the responses, where more
+/// than f sites have responded and it is not below the saved one.
+fn regained_view<C: Drop>(config: Config, saved: u32, kept: &[ResponseOf<C>]) -> Option<u32>
+    ensures enough { IfSome result (λ view. config.f < count_by (has_response (responses_of kept.now)) (sites config.f)) }
+    ensures greatest { IfSome result (λ view. All (λ response. response.view ≤ view) kept.now) }
+    ensures not_below { IfSome result (λ view. saved ≤ view) }
+    ensures only { (regained : Regained C) → IsRegained config.f saved (responses_of kept.now) regained → result ≡ Some regained.view }
+{
+    if senders(config, kept) <= config.f as usize {
+        return None;
+    }
+    let view = greatest_view(kept);
+    if view < saved {
+        return None;
+    }
+    Some(view)
+}
+
+/// Takes the state that is regained out of the responses, with its view, where one is.
+pub(crate) fn take_regained<C: Drop>(
+    config: Config,
+    saved: u32,
+    kept: &mut Vec<ResponseOf<C>>,
+) -> Option<(u32, StateOf<C>)>
+    requires { IsOneEach kept.old.items }
+    ensures some { IfSome result (λ found. IsRegained config.f saved (responses_of kept.old.items) (record { view = found.0; state = found.1 })) }
+    ensures none { IfNone result ((regained : Regained C) → ¬ IsRegained config.f saved (responses_of kept.old.items) regained) }
+    ensures stays { IfNone result (kept.new.items ≡ kept.old.items) }
+{
+    let view = regained_view(config, saved, kept.as_slice())?;
+    let at = place_of(kept.as_slice(), primary_of(config, view), view)?;
+    let state = kept[at].state.take()?;
+    Some((view, state))
+}

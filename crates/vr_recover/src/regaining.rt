@@ -1,0 +1,64 @@
+ghost use Rattle.std.specs.Prelude.{◌≡◌, [], List, IfOk};
+ghost use Rattle.vr_types.specs.declared.cell.Boot.{Boot};
+ghost use Rattle.vr_types.specs.Site.{Ack};
+ghost use Rattle.vr_types.specs.Step.{executed_to, normal_in};
+ghost use Rattle.vr_log.specs.Kept.{IsKept};
+ghost use Rattle.vr_log.specs.Running.{IsRunning, site_of};
+ghost use Rattle.vr_recover.specs.Recovering.{recovering_site};
+
+use crate::recovering::ResponseOf;
+use std::alloc::{AllocError, Global};
+use vr_log::{ClientsOf, Kept, LogOf, Running};
+use vr_types::{Config, Machine, RowsOf, StateOf, Status};
+
+/// A site that is normal in a view with the state of its primary: a fresh machine executes as far as the primary had,
+/// and nobody is answered. The log is moved, not copied.
+pub fn regain<M: Machine>(
+    alloc: Global,
+    config: Config,
+    setup: &M::Setup,
+    view: u32,
+    state: StateOf<M::Cmd>,
+) -> Result<Running<M>, AllocError>
+    requires { M.admits setup.now }
+    ensures running { IfOk result (λ running. IsRunning M.Machine (M.start setup.now) config.f running []) }
+    ensures view { IfOk result (λ running. running.view ≡ view) }
+    ensures site { IfOk result (λ running. (kept : List (ResponseOf M.Cmd)) (acks : List Ack) (cell : Boot) →
+        executed_to state.done (normal_in view state.rows (recovering_site kept acks cell)) ≡ site_of running [] cell) }
+{
+    let mut kept = fresh::<M>(alloc, setup, state.rows)?;
+    let _ = kept.execute(alloc, state.done)?;
+    let acked = vec![in alloc; 0u16; 2 * config.f as usize + 1]?;
+    Ok(Running {
+        status: Status::Normal,
+        view,
+        last_normal: view,
+        kept,
+        acked,
+        starts: Vec::new(alloc),
+        voted: false,
+        votes: Vec::new(alloc),
+    })
+}
+
+/// A log of which nothing is executed yet.
+fn fresh<M: Machine>(
+    alloc: Global,
+    setup: &M::Setup,
+    rows: RowsOf<M::Cmd>,
+) -> Result<Kept<M>, AllocError>
+    requires { M.admits setup.now }
+    ensures kept { IfOk result (λ kept. IsKept M.Machine (M.start setup.now) kept) }
+    ensures log { IfOk result (λ kept. kept.log ≡ rows) }
+    ensures done { IfOk result (λ kept. kept.done ≡ 0) }
+{
+    let log = LogOf::from_rows(rows);
+    let mut clients = ClientsOf::new(alloc);
+    clients.rebuild(&log)?;
+    Ok(Kept {
+        log,
+        clients,
+        machine: M::fresh(alloc, setup)?,
+        done: 0,
+    })
+}

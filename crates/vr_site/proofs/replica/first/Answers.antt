@@ -1,0 +1,7 @@
+use Rattle.std.proofs.Common.{[], sym, ap, ◌∙◌}
+use Rattle.vr_types.specs.Step.{executed_to, normal_in}
+use Rattle.vr_recover.specs.Recovering.{recovering_site}
+use Rattle.vr_site.proofs.replica.first.Goals as goal
+
+pub returns-clause-site : goal.returns-clause-site
+returns-clause-site g c = λ cell. sym (c.in_ok-running.ensures.site [] [] cell) ∙ ap (λ rows. executed_to 0 (normal_in 0 rows (recovering_site [] [] cell))) c.new.ensures

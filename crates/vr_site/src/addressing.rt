@@ -1,0 +1,54 @@
+ghost use Rattle.std.specs.Prelude.{◌≡◌, ◌-◌};
+ghost use Rattle.vr_types.specs.Group.{is_client as is_number_of_client, is_other_site as is_number_of_other, may_send as may_come, is_mine as is_addressed, site_of};
+
+use vr_log::send::FIRST_SITE;
+use vr_types::{Config, EnvelopeOf, MsgOf};
+
+/// Whether an envelope is for this site, from an actor that may send it that.
+pub(crate) fn is_mine<C, R, O>(config: Config, envelope: &EnvelopeOf<C, R, O>) -> bool
+    ensures { result ≡ is_addressed config.f config.me envelope.now }
+{
+    envelope.to == FIRST_SITE + config.me && may_send(config, envelope.from, &envelope.msg)
+}
+
+/// Whether an actor may send a message of this kind to this site.
+fn may_send<C, R, O>(config: Config, actor: u16, msg: &MsgOf<C, R, O>) -> bool
+    ensures { result ≡ may_come config.f config.me actor msg.now }
+{
+    match msg {
+        MsgOf::Request { .. } => is_client(actor),
+        MsgOf::Prepare { .. } => is_other_site(config, actor),
+        MsgOf::PrepareOk { .. } => is_other_site(config, actor),
+        MsgOf::Commit { .. } => is_other_site(config, actor),
+        MsgOf::StartViewChange { .. } => is_other_site(config, actor),
+        MsgOf::DoViewChange { .. } => is_other_site(config, actor),
+        MsgOf::StartView { .. } => is_other_site(config, actor),
+        MsgOf::GetState { .. } => is_other_site(config, actor),
+        MsgOf::NewState { .. } => is_other_site(config, actor),
+        MsgOf::Recovery { .. } => is_other_site(config, actor),
+        MsgOf::RecoveryResponse { .. } => is_other_site(config, actor),
+        MsgOf::Reply { .. } => false,
+        MsgOf::PayOrder(_) => false,
+    }
+}
+
+/// Whether an actor is a client.
+fn is_client(actor: u16) -> bool
+    ensures { result ≡ is_number_of_client actor }
+{
+    actor <= 64 || 101 <= actor && actor <= 108
+}
+
+/// Whether an actor is another site of the group.
+fn is_other_site(config: Config, actor: u16) -> bool
+    ensures { result ≡ is_number_of_other config.f config.me actor }
+{
+    FIRST_SITE <= actor && actor <= FIRST_SITE + 2 * config.f && actor != FIRST_SITE + config.me
+}
+
+/// The number of the site that an actor is.
+pub(crate) fn site_number(actor: u16) -> u16
+    ensures { result ≡ site_of actor }
+{
+    actor.saturating_sub(FIRST_SITE)
+}

@@ -1,0 +1,13 @@
+use vr_log::Running;
+use vr_recover::Recovering;
+use vr_types::Machine;
+
+/// What a site is doing, with all that a crash takes from it.
+#[derive(Drop)]
+pub enum Life<M: Machine> {
+    Down,
+    /// It came up again and asks for the state.
+    Recovering(Recovering<M>),
+    /// It is normal, or takes part in the change to its view.
+    Up(Running<M>),
+}

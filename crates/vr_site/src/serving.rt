@@ -1,0 +1,103 @@
+ghost use Rattle.std.specs.Prelude.{◌≡◌, ◌+◌, ◌*◌, OnOk, List, length, true};
+ghost use Rattle.vr_types.specs.declared.cell.Boot.{Boot};
+ghost use Rattle.vr_types.specs.Choice.{Choice, IsRight};
+ghost use Rattle.vr_types.specs.Group.{may_send};
+ghost use Rattle.vr_types.specs.Handling.{on_message, on_beat};
+ghost use Rattle.vr_types.specs.Site.{Ack};
+ghost use Rattle.vr_log.specs.Kept.{IsReady};
+ghost use Rattle.vr_log.specs.Running.{IsSound, IsRunning, Follows, site_of};
+
+use crate::addressing::site_number;
+use std::alloc::{AllocError, Global};
+use vr_log::send::{changes_view, dropped, silent};
+use vr_log::{Running, VoteOf};
+use vr_types::{Config, Machine, Msg, MsgOf, Outcome, RowOf, Why};
+
+/// What a running site does with a message, of an actor that may send it. A log that comes is moved on, not copied.
+pub(crate) fn serve<M: Machine>(
+    alloc: Global,
+    config: Config,
+    running: &mut Running<M>,
+    from: u16,
+    msg: Msg<M>,
+) -> Result<Outcome<M>, AllocError>
+    requires ready { IsReady M.Machine running.old.kept }
+    requires sites { length running.old.acked.items ≡ 2 * config.f + 1 }
+    requires may_come { may_send config.f config.me from msg ≡ true }
+    ensures sound { OnOk result ((start : M) → IsSound M.Machine start config.f running.old → IsSound M.Machine start config.f running.new) }
+    ensures step { (choose : Choice M.Cmd) (start : M) (acks : List Ack) (cell : Boot) → IsRight config.f choose → IsRunning M.Machine start config.f running.old acks →
+        Follows M.Machine start config.f config.me running.new result (on_message choose config.f config.me (site_of running.old acks cell) from msg) }
+{
+    let site = site_number(from);
+    match msg {
+        MsgOf::Request { number, cmd } => {
+            let row = RowOf {
+                client: from,
+                number,
+                cmd,
+            };
+            vr_normal::request(alloc, config, running, row)
+        }
+        MsgOf::Prepare {
+            view,
+            place,
+            done,
+            row,
+        } => vr_normal::prepare(alloc, config, running, site, view, place, done, row),
+        MsgOf::PrepareOk { view, place } => {
+            vr_normal::prepare_ok(alloc, config, running, site, view, place)
+        }
+        MsgOf::Commit { view, done } => vr_normal::commit(alloc, config, running, site, view, done),
+        MsgOf::StartViewChange { view } => {
+            vr_change::start_view_change(alloc, config, running, site, view)
+        }
+        MsgOf::DoViewChange {
+            view,
+            last_normal,
+            done,
+            rows,
+        } => {
+            let vote = VoteOf {
+                from: site,
+                last_normal,
+                done,
+                log: rows,
+            };
+            vr_change::do_view_change(alloc, config, running, view, vote)
+        }
+        MsgOf::StartView { view, done, rows } => {
+            vr_change::start_view(alloc, config, running, site, view, done, rows)
+        }
+        MsgOf::GetState { view, base } => {
+            vr_change::get_state(alloc, config, running, site, view, base)
+        }
+        MsgOf::NewState {
+            view,
+            base,
+            done,
+            rows,
+        } => vr_change::new_state(alloc, config, running, site, view, base, done, rows),
+        MsgOf::Recovery { nonce } => vr_recover::recovery(alloc, config, running, site, nonce),
+        MsgOf::RecoveryResponse { .. } => Ok(dropped(alloc, Why::Status)),
+        // These two are for clients alone: no actor may send a site one.
+        MsgOf::Reply { .. } => Ok(silent(alloc)),
+        MsgOf::PayOrder(_) => Ok(silent(alloc)),
+    }
+}
+
+/// What a running site says again at a beat.
+pub(crate) fn beat<M: Machine>(
+    alloc: Global,
+    config: Config,
+    running: &Running<M>,
+) -> Result<Outcome<M>, AllocError>
+    requires { IsReady M.Machine running.now.kept }
+    ensures { (start : M) (acks : List Ack) (cell : Boot) → IsRunning M.Machine start config.f running.now acks →
+        Follows M.Machine start config.f config.me running.now result (on_beat config.f config.me (site_of running.now acks cell) running.now.status) }
+{
+    if changes_view(running.status) {
+        vr_change::beat_in_change(alloc, config, running)
+    } else {
+        vr_normal::beat(alloc, config, running)
+    }
+}
