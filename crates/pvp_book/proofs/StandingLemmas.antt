@@ -2,7 +2,7 @@
 use Rattle.std.proofs.Common.{◌≡◌, ℕ, ◌≤◌, Bool, true, false, List, [], ◌∷◌, ◌++◌, arith, refl, ap, sym, subst, ◌∙◌, Option, Some, None, count_by, find, eqb-true, append_assoc, ◌⊎◌, inl, inr}
 use Rattle.std.specs.Prelude.{not, ◌&&◌, ◌||◌, ◌==◌, if◌then◌else◌, nat_lt, ◌-◌}
 use Rattle.std.specs.List.{cons_option, AllByRecursion}
-use Rattle.std.proofs.lemmas.Bool.{and_parts, not-true, eqb-false, ne_eqb}
+use Rattle.std.proofs.lemmas.Bool.{and_parts, not-true, eqb-false}
 use Rattle.std.proofs.lemmas.List.Elements.{filter_map-append}
 use Rattle.std.proofs.lemmas.List.Folds.{list_any-append}
 use Rattle.pvp_types.specs.declared.setup.Setup.{Setup}
@@ -20,6 +20,7 @@ use Rattle.pvp_book.specs.Ledger.{IsWithinMatched, state_with, state_of, is_stat
 use Rattle.pvp_book.specs.Answer.{Row, answer, is_refusal, on_instruct, on_mirror, on_rescind, on_pair, is_mirror, is_side, has_member, has_currency, is_amount, is_member_number, book_of}
 use Rattle.pvp_book.specs.Laws.{IsExchange}
 use Rattle.pvp_book.proofs.SettlementLemmas.{append-nil, settled-push, IsWithinMatched-push, IsWithinMatched-nil, same-self}
+use Rattle.pvp_book.proofs.CandidateLemmas.{turned}
 use Rattle.pvp_book.proofs.Reached.{entry_of, reached}
 use Rattle.pvp_book.proofs.Counts.{each-append, each-left, each-weaker, each-both, each-filter, each-passes, each-false, count-push, find-append, find-passes}
 
@@ -202,9 +203,6 @@ each-always : (P : Pair → Type 0) (ps : List Pair) → ((p : Pair) → P p) �
 each-always P [] always = tt
 each-always P (p ∷ ps) always = (always p, each-always P ps always)
 
-turned : (a b : ℕ) → (a == b) ≡ false → (b == a) ≡ false
-turned a b e = ne_eqb b a (λ same. eqb-false a b e (sym same))
-
 -- what is taken back is not settled
 late-free : (setup : Setup) (entries : List Entry) (client reference : ℕ) → is_refusal (on_rescind setup entries client reference) ≡ false
     → has_reference (settled setup entries) reference ≡ false
@@ -234,7 +232,7 @@ none-taken-back : (setup : Setup) (entries : List Entry) (client : ℕ) (cmd : C
     → AllByRecursion (λ p. is_rescission p.reference cmd ≡ false) (settled setup entries)
 unfolding answer
 none-taken-back setup entries client (Rescind reference) accepted =
-    each-weaker (λ p. (p.reference == reference) ≡ false) (λ p. (reference == p.reference) ≡ false) (settled setup entries) (λ p e. turned p.reference reference e)
+    each-weaker (λ p. (p.reference == reference) ≡ false) (λ p. (reference == p.reference) ≡ false) (settled setup entries) (λ p e. turned reference p.reference ∙ e)
     (each-false (λ (p : Pair). p.reference == reference) (settled setup entries) (late-free setup entries client reference accepted))
 none-taken-back setup entries client (Instruct reference other sell sell_amt buy buy_amt) accepted = each-always (λ p. false ≡ false) (settled setup entries) (λ p. refl)
 none-taken-back setup entries client (Fund ccy pay member amt) accepted = each-always (λ p. false ≡ false) (settled setup entries) (λ p. refl)

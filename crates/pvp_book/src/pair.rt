@@ -1,11 +1,13 @@
-ghost use Rattle.std.specs.Prelude.{◌≡◌, ◌&&◌, not, filter, length, IfOk};
-ghost use Rattle.pvp_book.specs.Pairs.{opened_by, pairs, matched_by, has_reference, is_matched, is_rescission, has_asked, both_have_asked, is_rescinded};
+ghost use Rattle.std.specs.Prelude.{◌≡◌, ◌&&◌, not, filter, length, map, nat_eq, IfOk};
+ghost use Rattle.std.specs.HashSet.{contains, IsFromIterResult};
+ghost use Rattle.pvp_book.specs.Pairs.{opened_by, pairs, matched_by, matched, has_reference, is_matched, is_rescission, has_asked, both_have_asked, is_rescinded};
 ghost use Rattle.pvp_book.specs.Settlement.{candidates};
 ghost use Rattle.pvp_book.specs.Ledger.{state_with, is_state};
 
 use crate::entry::Entry;
 use pvp_types::{Cmd, Reply};
 use std::alloc::{AllocError, Global};
+use std::collections::HashSet;
 
 /// Two mirrored instructions under one reference. The first side sells `sell_amt` of `sell` and buys
 /// `buy_amt` of `buy`; the second side does the opposite.
@@ -172,11 +174,33 @@ pub fn state_of(entries: &[Entry], settled: &[Pair], pair: &Pair) -> PairState
     }
 }
 
-/// Whether a matched pair may still be settled.
-fn may_settle(entries: &[Entry], settled: &[Pair], pair: &Pair) -> bool
-    ensures { result ≡ (not (has_reference settled.now pair.now.reference) && not (both_have_asked entries.now pair.now)) }
+/// The references of some pairs.
+fn references(alloc: Global, pairs: &[Pair]) -> Result<HashSet<u32>, AllocError>
+    ensures { IfOk result (IsFromIterResult nat_eq (map (λ p. p.reference) pairs.now)) }
 {
-    !has_reference(settled, pair.reference) && !both_have_asked(entries, pair)
+    pairs.iter().map(|p| p.reference).collect(alloc)
+}
+
+/// Whether a matched pair may still be settled, where those of some references are settled.
+fn may_settle(entries: &[Entry], settled: &HashSet<u32>, pair: &Pair) -> bool
+    ensures { result ≡ (not (contains nat_eq settled.now pair.now.reference) && not (both_have_asked entries.now pair.now)) }
+{
+    !settled.contains(&pair.reference) && !both_have_asked(entries, pair)
+}
+
+/// The matched pairs that may still be settled, where those of some references are settled.
+fn unsettled(
+    alloc: Global,
+    entries: &[Entry],
+    settled: &HashSet<u32>,
+) -> Result<Vec<Pair>, AllocError>
+    ensures { IfOk result (λ pairs. pairs.items ≡ filter (λ p. not (contains nat_eq settled.now p.reference) && not (both_have_asked entries.now p)) (matched entries.now)) }
+{
+    entries
+        .iter()
+        .filter_map(|e| matched_by(e))
+        .filter(|p| may_settle(entries, settled, p))
+        .collect(alloc)
 }
 
 /// The matched pairs that may still be settled, in the order in which they were matched.
@@ -187,11 +211,8 @@ pub fn candidates(
 ) -> Result<Vec<Pair>, AllocError>
     ensures { IfOk result (λ pairs. pairs.items ≡ candidates entries.now settled.now) }
 {
-    entries
-        .iter()
-        .filter_map(|e| matched_by(e))
-        .filter(|p| may_settle(entries, settled, p))
-        .collect(alloc)
+    let references = references(alloc, settled)?;
+    Ok(unsettled(alloc, entries, &references)?)
 }
 
 /// How many pairs have come so far and no further, where some are settled.
