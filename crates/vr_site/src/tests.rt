@@ -68,34 +68,45 @@ fn word_of(msg: &Msg<Tally>) -> Word {
     }
 }
 
-/// How an event ended: what was sent, with the actors that it goes to.
-#[derive(Debug, PartialEq, Eq, Drop)]
-enum End {
-    Sent(Vec<(u16, Word)>),
-    Dropped(Why),
-    Refused(SiteFault),
-}
-
-fn end_of(alloc: Global, site: &mut Site, event: Event<Tally>) -> Result<End, AllocError> {
-    let out = match site.handle(alloc, event) {
-        Ok(out) => out,
-        Err(fault) => return Ok(End::Refused(fault)),
+/// Whether the event is handled and this is sent, each with the actor that it goes to.
+fn sends(alloc: Global, site: &mut Site, event: Event<Tally>, want: &[(u16, Word)]) -> bool {
+    let Ok(out) = site.handle(alloc, event) else {
+        return false;
     };
-    if let Some(why) = out.dropped {
-        return Ok(End::Dropped(why));
-    }
-    let mut sent = Vec::new(alloc);
-    for envelope in &out.sent {
-        sent.push((envelope.to, word_of(&envelope.msg)))?;
-    }
-    Ok(End::Sent(sent))
+    out.dropped.is_none()
+        && out.sent.len() == want.len()
+        && out.sent.iter().zip(want).all(|(envelope, wanted)| (envelope.to, word_of(&envelope.msg))
+            == *wanted)
 }
 
-/// A site of three, over a new cell, whose tally begins at 7.
+/// Whether the event is dropped for this reason.
+fn drops(alloc: Global, site: &mut Site, event: Event<Tally>, why: Why) -> bool {
+    match site.handle(alloc, event) {
+        Ok(out) => out.dropped == Some(why),
+        Err(_) => false,
+    }
+}
+
+/// Whether the event leads to this fault.
+fn fails(alloc: Global, site: &mut Site, event: Event<Tally>, fault: SiteFault) -> bool {
+    match site.handle(alloc, event) {
+        Ok(_) => false,
+        Err(other) => other == fault,
+    }
+}
+
+/// A site of three over a cell, whose tally begins at 7.
+fn over(alloc: Global, me: u16, cell: MemCell) -> Result<Site, AllocError>
+    requires { me ≤ 2 }
+{
+    Replica::new(alloc, Config { f: 1, me }, 7, cell)
+}
+
+/// The same over a new cell.
 fn site(alloc: Global, me: u16) -> Result<Site, AllocError>
     requires { me ≤ 2 }
 {
-    Replica::new(alloc, Config { f: 1, me }, 7, MemCell::new())
+    over(alloc, me, MemCell::new())
 }
 
 /// An envelope to a site.
@@ -109,16 +120,42 @@ fn to(site: u16, from: u16, msg: Msg<Tally>) -> Event<Tally>
     })
 }
 
+/// Client 5's request to add 3, as a row.
+fn row_of(number: u32) -> RowOf<Ask> {
+    RowOf {
+        client: 5,
+        number,
+        cmd: Ask::Add(3),
+    }
+}
+
 /// Client 5 asks to add 3.
 fn add_3(site: u16, number: u32) -> Event<Tally>
     requires { site ≤ 2 }
 {
+    let cmd = Ask::Add(3);
+    to(site, 5, MsgOf::Request { number, cmd })
+}
+
+/// PREPAREOK(0, 1) to the primary.
+fn acknowledged(from: u16) -> Event<Tally> {
+    to(0, from, MsgOf::PrepareOk { view: 0, place: 1 })
+}
+
+/// PREPARE(view, place, done, row) to a site, of client 5's request of that number.
+fn prepare(site: u16, view: u32, place: u16, done: u16) -> Event<Tally>
+    requires { site ≤ 2 }
+{
+    let row = row_of(place as u32);
+    let from = 200 + (view % 3) as u16;
     to(
         site,
-        5,
-        MsgOf::Request {
-            number,
-            cmd: Ask::Add(3),
+        from,
+        MsgOf::Prepare {
+            view,
+            place,
+            done,
+            row,
         },
     )
 }
@@ -127,49 +164,42 @@ fn add_3(site: u16, number: u32) -> Event<Tally>
 fn primary_prepares_commits_and_answers(rt: HostRuntime) -> Result<(), Fail> {
     let alloc = rt.alloc();
     let mut site = site(alloc, 0)?;
-    let prepares = vec![in alloc;
-        (201, Word::Prepare(0, 1, 0)),
-        (202, Word::Prepare(0, 1, 0)),
-    ]?;
-    assert_eq!(rt; end_of(alloc, &mut site, add_3(0, 1))?, End::Sent(prepares));
-    let acknowledged = to(0, 201, MsgOf::PrepareOk { view: 0, place: 1 });
-    let replies = vec![in alloc; (5, Word::Reply(0, 1, 10))]?;
-    assert_eq!(rt; end_of(alloc, &mut site, acknowledged)?, End::Sent(replies));
-    let again = to(0, 202, MsgOf::PrepareOk { view: 0, place: 1 });
-    assert_eq!(rt;
-        end_of(alloc, &mut site, again)?,
-        End::Sent(Vec::new(alloc))
+    let prepares = [(201, Word::Prepare(0, 1, 0)), (202, Word::Prepare(0, 1, 0))];
+    assert!(rt; sends(alloc, &mut site, add_3(0, 1), &prepares));
+    assert!(rt;
+        sends(
+            alloc,
+            &mut site,
+            acknowledged(201),
+            &[(5, Word::Reply(0, 1, 10))]
+        )
     );
+    assert!(rt; sends(alloc, &mut site, acknowledged(202), &[]));
+    let commits = [(201, Word::Commit(0, 1)), (202, Word::Commit(0, 1))];
+    assert!(rt; sends(alloc, &mut site, EventOf::Beat, &commits));
+    assert!(rt; sends(alloc, &mut site, add_3(0, 1), &[(5, Word::Reply(0, 1, 10))]));
     Ok(())
 }
 
 /// The primary, with client 5's first request executed.
 fn primary_done(alloc: Global) -> Result<Site, AllocError> {
     let mut site = site(alloc, 0)?;
-    let _ = end_of(alloc, &mut site, add_3(0, 1))?;
-    let acknowledged = to(0, 201, MsgOf::PrepareOk { view: 0, place: 1 });
-    let _ = end_of(alloc, &mut site, acknowledged)?;
+    let _ = site.handle(alloc, add_3(0, 1));
+    let _ = site.handle(alloc, acknowledged(201));
     Ok(site)
 }
 
 #[test]
-fn primary_tells_again_at_a_beat(rt: HostRuntime) -> Result<(), Fail> {
-    let alloc = rt.alloc();
-    let mut site = primary_done(alloc)?;
-    let commits = vec![in alloc; (201, Word::Commit(0, 1)), (202, Word::Commit(0, 1))]?;
-    assert_eq!(rt;
-        end_of(alloc, &mut site, EventOf::Beat)?,
-        End::Sent(commits)
-    );
-    assert_eq!(rt;
-        end_of(alloc, &mut site, add_3(0, 1))?,
-        End::Sent(vec![in alloc; (5, Word::Reply(0, 1, 10))]?)
-    );
-    assert_eq!(rt; site.done(), 1);
+fn readings_show_the_site(rt: HostRuntime) -> Result<(), Fail> {
+    let site = primary_done(rt.alloc())?;
+    assert_eq!(rt; site.status(), Status::Normal);
     assert_eq!(rt; site.view(), 0);
+    assert_eq!(rt; site.log_len(), 1);
+    assert_eq!(rt; site.done(), 1);
     assert!(rt; site.row(0).is_none());
     assert!(rt; site.row(1).is_some());
     assert!(rt; site.machine().is_some());
+    assert_eq!(rt; site.boot(), Boot { boots: 0, view: 0 });
     Ok(())
 }
 
@@ -177,52 +207,26 @@ fn primary_tells_again_at_a_beat(rt: HostRuntime) -> Result<(), Fail> {
 fn backup_takes_no_request(rt: HostRuntime) -> Result<(), Fail> {
     let alloc = rt.alloc();
     let mut site = site(alloc, 1)?;
-    assert_eq!(rt;
-        end_of(alloc, &mut site, add_3(1, 1))?,
-        End::Dropped(Why::NotPrimary)
-    );
-    assert_eq!(rt;
-        end_of(alloc, &mut site, EventOf::Beat)?,
-        End::Sent(Vec::new(alloc))
-    );
-    assert_eq!(rt; site.log_len(), 0);
+    assert!(rt; drops(alloc, &mut site, add_3(1, 1), Why::NotPrimary));
+    assert!(rt; sends(alloc, &mut site, EventOf::Beat, &[]));
     Ok(())
-}
-
-/// PREPARE of view 0 for client 5's first request, at a place.
-fn prepare(place: u16) -> Event<Tally> {
-    let row = RowOf {
-        client: 5,
-        number: 1,
-        cmd: Ask::Add(3),
-    };
-    to(
-        1,
-        200,
-        MsgOf::Prepare {
-            view: 0,
-            place,
-            done: 0,
-            row,
-        },
-    )
 }
 
 #[test]
 fn backup_acknowledges_and_executes(rt: HostRuntime) -> Result<(), Fail> {
     let alloc = rt.alloc();
     let mut site = site(alloc, 1)?;
-    let acknowledges = vec![in alloc; (200, Word::PrepareOk(0, 1))]?;
-    assert_eq!(rt;
-        end_of(alloc, &mut site, prepare(1))?,
-        End::Sent(acknowledges)
+    assert!(rt;
+        sends(
+            alloc,
+            &mut site,
+            prepare(1, 0, 1, 0),
+            &[(200, Word::PrepareOk(0, 1))]
+        )
     );
     assert_eq!(rt; site.done(), 0);
     let commit = to(1, 200, MsgOf::Commit { view: 0, done: 1 });
-    assert_eq!(rt;
-        end_of(alloc, &mut site, commit)?,
-        End::Sent(Vec::new(alloc))
-    );
+    assert!(rt; sends(alloc, &mut site, commit, &[]));
     assert_eq!(rt; site.done(), 1);
     Ok(())
 }
@@ -231,8 +235,14 @@ fn backup_acknowledges_and_executes(rt: HostRuntime) -> Result<(), Fail> {
 fn backup_asks_for_what_it_lacks(rt: HostRuntime) -> Result<(), Fail> {
     let alloc = rt.alloc();
     let mut site = site(alloc, 1)?;
-    let asks = vec![in alloc; (200, Word::GetState(0, 0))]?;
-    assert_eq!(rt; end_of(alloc, &mut site, prepare(3))?, End::Sent(asks));
+    assert!(rt;
+        sends(
+            alloc,
+            &mut site,
+            prepare(1, 0, 3, 0),
+            &[(200, Word::GetState(0, 0))]
+        )
+    );
     assert_eq!(rt; site.log_len(), 0);
     Ok(())
 }
@@ -241,33 +251,7 @@ fn backup_asks_for_what_it_lacks(rt: HostRuntime) -> Result<(), Fail> {
 fn no_request_has_number_0(rt: HostRuntime) -> Result<(), Fail> {
     let alloc = rt.alloc();
     let mut site = site(alloc, 0)?;
-    assert_eq!(rt;
-        end_of(alloc, &mut site, add_3(0, 0))?,
-        End::Dropped(Why::Known)
-    );
-    Ok(())
-}
-
-#[test]
-fn crashed_site_is_down(rt: HostRuntime) -> Result<(), Fail> {
-    let alloc = rt.alloc();
-    let mut site = primary_done(alloc)?;
-    assert_eq!(rt; site.status(), Status::Normal);
-    assert_eq!(rt;
-        end_of(alloc, &mut site, EventOf::Crash)?,
-        End::Sent(Vec::new(alloc))
-    );
-    assert_eq!(rt; site.status(), Status::Down);
-    assert_eq!(rt; site.boot(), Boot { boots: 0, view: 0 });
-    assert_eq!(rt;
-        end_of(alloc, &mut site, EventOf::Crash)?,
-        End::Refused(SiteFault::NotUp)
-    );
-    assert_eq!(rt;
-        end_of(alloc, &mut site, add_3(0, 2))?,
-        End::Refused(SiteFault::NotUp)
-    );
-    assert!(rt; site.machine().is_none());
+    assert!(rt; drops(alloc, &mut site, add_3(0, 0), Why::Known));
     Ok(())
 }
 
@@ -275,74 +259,57 @@ fn crashed_site_is_down(rt: HostRuntime) -> Result<(), Fail> {
 fn only_what_may_come_is_taken(rt: HostRuntime) -> Result<(), Fail> {
     let alloc = rt.alloc();
     let mut site = site(alloc, 0)?;
-    assert_eq!(rt;
-        end_of(alloc, &mut site, add_3(1, 1))?,
-        End::Refused(SiteFault::NotMine)
-    );
+    assert!(rt; fails(alloc, &mut site, add_3(1, 1), SiteFault::NotMine));
     for from in [65, 99, 200, 203] {
-        let from_another = to(0, from, MsgOf::PrepareOk { view: 0, place: 1 });
-        assert_eq!(rt;
-            end_of(alloc, &mut site, from_another)?,
-            End::Refused(SiteFault::NotMine),
+        assert!(rt;
+            fails(alloc, &mut site, acknowledged(from), SiteFault::NotMine),
             "from {from}"
         );
     }
     Ok(())
 }
 
-/// A site of three over a cell of which a save fails.
-fn over(alloc: Global, me: u16, cell: MemCell) -> Result<Site, AllocError>
-    requires { me ≤ 2 }
-{
-    Replica::new(alloc, Config { f: 1, me }, 7, cell)
-}
-
-/// Site 2 crashed, and came up again in vain: its first save fails.
-fn crashed(alloc: Global, keep: bool) -> Result<Site, AllocError> {
-    let mut site = over(alloc, 2, MemCell::failing(1, keep))?;
-    let _ = end_of(alloc, &mut site, EventOf::Crash)?;
-    let _ = end_of(alloc, &mut site, EventOf::Restart)?;
-    Ok(site)
+#[test]
+fn crashed_site_is_down(rt: HostRuntime) -> Result<(), Fail> {
+    let alloc = rt.alloc();
+    let mut site = site(alloc, 0)?;
+    assert!(rt; sends(alloc, &mut site, EventOf::Crash, &[]));
+    assert_eq!(rt; site.status(), Status::Down);
+    assert!(rt; fails(alloc, &mut site, EventOf::Crash, SiteFault::NotUp));
+    assert!(rt; fails(alloc, &mut site, add_3(0, 2), SiteFault::NotUp));
+    assert!(rt; site.machine().is_none());
+    Ok(())
 }
 
 #[test]
 fn failed_save_leaves_the_site_down(rt: HostRuntime) -> Result<(), Fail> {
     let alloc = rt.alloc();
     let mut site = over(alloc, 2, MemCell::failing(1, false))?;
-    assert_eq!(rt;
-        end_of(alloc, &mut site, EventOf::Restart)?,
-        End::Refused(SiteFault::AlreadyUp)
-    );
-    let _ = end_of(alloc, &mut site, EventOf::Crash)?;
-    assert_eq!(rt;
-        end_of(alloc, &mut site, EventOf::Restart)?,
-        End::Refused(SiteFault::CellFault)
-    );
+    assert!(rt; fails(alloc, &mut site, EventOf::Restart, SiteFault::AlreadyUp));
+    let _ = site.handle(alloc, EventOf::Crash);
+    assert!(rt; fails(alloc, &mut site, EventOf::Restart, SiteFault::CellFault));
     assert_eq!(rt; site.status(), Status::Down);
     assert_eq!(rt; site.boot(), Boot { boots: 0, view: 0 });
     Ok(())
+}
+
+/// Site 2 crashed, and came up again in vain: its first save failed.
+fn crashed(alloc: Global, keep: bool) -> Result<Site, AllocError> {
+    let mut site = over(alloc, 2, MemCell::failing(1, keep))?;
+    let _ = site.handle(alloc, EventOf::Crash);
+    let _ = site.handle(alloc, EventOf::Restart);
+    Ok(site)
 }
 
 #[test]
 fn restart_asks_with_the_next_number(rt: HostRuntime) -> Result<(), Fail> {
     let alloc = rt.alloc();
     let mut site = crashed(alloc, false)?;
-    let asks = vec![in alloc; (200, Word::Recovery(1)), (201, Word::Recovery(1))]?;
-    assert_eq!(rt;
-        end_of(alloc, &mut site, EventOf::Restart)?,
-        End::Sent(asks)
-    );
+    let asks = [(200, Word::Recovery(1)), (201, Word::Recovery(1))];
+    assert!(rt; sends(alloc, &mut site, EventOf::Restart, &asks));
     assert_eq!(rt; site.status(), Status::Recovering);
-    let again = vec![in alloc; (200, Word::Recovery(1)), (201, Word::Recovery(1))]?;
-    assert_eq!(rt; end_of(alloc, &mut site, EventOf::Beat)?, End::Sent(again));
-    assert_eq!(rt;
-        end_of(alloc, &mut site, EventOf::Timer)?,
-        End::Dropped(Why::Status)
-    );
-    assert_eq!(rt;
-        end_of(alloc, &mut site, EventOf::Restart)?,
-        End::Refused(SiteFault::AlreadyUp)
-    );
+    assert!(rt; sends(alloc, &mut site, EventOf::Beat, &asks));
+    assert!(rt; drops(alloc, &mut site, EventOf::Timer, Why::Status));
     Ok(())
 }
 
@@ -351,11 +318,8 @@ fn number_that_was_kept_is_not_used_again(rt: HostRuntime) -> Result<(), Fail> {
     let alloc = rt.alloc();
     let mut site = crashed(alloc, true)?;
     assert_eq!(rt; site.boot(), Boot { boots: 1, view: 0 });
-    let asks = vec![in alloc; (200, Word::Recovery(2)), (201, Word::Recovery(2))]?;
-    assert_eq!(rt;
-        end_of(alloc, &mut site, EventOf::Restart)?,
-        End::Sent(asks)
-    );
+    let asks = [(200, Word::Recovery(2)), (201, Word::Recovery(2))];
+    assert!(rt; sends(alloc, &mut site, EventOf::Restart, &asks));
     Ok(())
 }
 
@@ -367,31 +331,38 @@ fn cell_of(boots: u32, view: u32) -> Result<MemCell, CellFault> {
 }
 
 #[test]
-fn greatest_numbers_are_not_passed(rt: HostRuntime) -> Result<(), Fail> {
+fn greatest_number_is_not_passed(rt: HostRuntime) -> Result<(), Fail> {
     let alloc = rt.alloc();
     let mut site = over(alloc, 2, cell_of(u32::MAX, 0)?)?;
     assert_eq!(rt; site.status(), Status::Down);
-    assert_eq!(rt;
-        end_of(alloc, &mut site, EventOf::Restart)?,
-        End::Refused(SiteFault::BootsSpent)
+    assert!(rt; fails(alloc, &mut site, EventOf::Restart, SiteFault::BootsSpent));
+    Ok(())
+}
+
+#[test]
+fn greatest_view_is_not_passed(rt: HostRuntime) -> Result<(), Fail> {
+    let alloc = rt.alloc();
+    let view = u32::MAX;
+    let mut site = site(alloc, 1)?;
+    let told = [
+        (200, Word::StartViewChange(view)),
+        (202, Word::StartViewChange(view)),
+        (200, Word::DoViewChange(view, 0, 0, 0)),
+    ];
+    assert!(rt;
+        sends(
+            alloc,
+            &mut site,
+            to(1, 202, MsgOf::StartViewChange { view }),
+            &told
+        )
     );
-    let mut other = over(alloc, 1, MemCell::new())?;
-    let told = vec![in alloc;
-        (200, Word::StartViewChange(u32::MAX)),
-        (202, Word::StartViewChange(u32::MAX)),
-        (200, Word::DoViewChange(u32::MAX, 0, 0, 0)),
-    ]?;
-    let starts = to(1, 202, MsgOf::StartViewChange { view: u32::MAX });
-    assert_eq!(rt; end_of(alloc, &mut other, starts)?, End::Sent(told));
-    assert_eq!(rt;
-        end_of(alloc, &mut other, EventOf::Timer)?,
-        End::Refused(SiteFault::ViewsSpent)
-    );
+    assert!(rt; fails(alloc, &mut site, EventOf::Timer, SiteFault::ViewsSpent));
     Ok(())
 }
 
 /// RECOVERY(1) of site 2.
-fn asks(site: u16) -> Event<Tally>
+fn asked(site: u16) -> Event<Tally>
     requires { site ≤ 2 }
 {
     to(site, 202, MsgOf::Recovery { nonce: 1 })
@@ -401,60 +372,41 @@ fn asks(site: u16) -> Event<Tally>
 fn primary_alone_answers_with_its_state(rt: HostRuntime) -> Result<(), Fail> {
     let alloc = rt.alloc();
     let mut primary = primary_done(alloc)?;
-    let state = vec![in alloc; (202, Word::RecoveryResponse(0, 1, Some((1, 1))))]?;
-    assert_eq!(rt; end_of(alloc, &mut primary, asks(0))?, End::Sent(state));
+    let state = [(202, Word::RecoveryResponse(0, 1, Some((1, 1))))];
+    assert!(rt; sends(alloc, &mut primary, asked(0), &state));
     let mut backup = site(alloc, 1)?;
-    let view = vec![in alloc; (202, Word::RecoveryResponse(0, 1, None))]?;
-    assert_eq!(rt; end_of(alloc, &mut backup, asks(1))?, End::Sent(view));
+    let view = [(202, Word::RecoveryResponse(0, 1, None))];
+    assert!(rt; sends(alloc, &mut backup, asked(1), &view));
     Ok(())
 }
 
-/// RECOVERYRESPONSE of view 0 to site 2, with the state of one row where it comes from the primary.
-fn answer(alloc: Global, from: u16, nonce: u32) -> Result<Event<Tally>, AllocError> {
+/// Client 5's first request, as the rows of a message.
+fn one_row(alloc: Global) -> Result<RowsOf<Ask>, AllocError> {
     let mut rows = RowsOf::new(alloc);
-    if rows.is_empty() {
-        rows.push(first_row())?;
-    }
-    let state = if from == 200 {
-        Some(StateOf { done: 1, rows })
-    } else {
-        None
-    };
-    let view = 0;
-    Ok(to(2, from, MsgOf::RecoveryResponse { view, nonce, state }))
+    rows.push(row_of(1))?;
+    Ok(rows)
 }
 
-/// Client 5's first request.
-fn first_row() -> RowOf<Ask> {
-    RowOf {
-        client: 5,
-        number: 1,
-        cmd: Ask::Add(3),
-    }
+/// RECOVERYRESPONSE(0, nonce) of the primary to site 2.
+fn answer(alloc: Global, nonce: u32) -> Result<Event<Tally>, AllocError> {
+    let rows = one_row(alloc)?;
+    let state = Some(StateOf { done: 1, rows });
+    let view = 0;
+    Ok(to(2, 200, MsgOf::RecoveryResponse { view, nonce, state }))
 }
 
 #[test]
 fn state_is_regained_from_two(rt: HostRuntime) -> Result<(), Fail> {
     let alloc = rt.alloc();
     let mut site = crashed(alloc, true)?;
-    let _ = end_of(alloc, &mut site, EventOf::Restart)?;
-    assert_eq!(rt;
-        end_of(alloc, &mut site, answer(alloc, 200, 1)?)?,
-        End::Dropped(Why::Stale)
-    );
-    assert_eq!(rt;
-        end_of(alloc, &mut site, answer(alloc, 200, 2)?)?,
-        End::Sent(Vec::new(alloc))
-    );
-    assert_eq!(rt;
-        end_of(alloc, &mut site, answer(alloc, 200, 2)?)?,
-        End::Dropped(Why::Known)
-    );
+    let _ = site.handle(alloc, EventOf::Restart);
+    assert!(rt; drops(alloc, &mut site, answer(alloc, 1)?, Why::Stale));
+    assert!(rt; sends(alloc, &mut site, answer(alloc, 2)?, &[]));
+    assert!(rt; drops(alloc, &mut site, answer(alloc, 2)?, Why::Known));
     assert_eq!(rt; site.status(), Status::Recovering);
-    assert_eq!(rt;
-        end_of(alloc, &mut site, answer(alloc, 201, 2)?)?,
-        End::Sent(Vec::new(alloc))
-    );
+    let (view, nonce, state) = (0, 2, None);
+    let other = to(2, 201, MsgOf::RecoveryResponse { view, nonce, state });
+    assert!(rt; sends(alloc, &mut site, other, &[]));
     assert_eq!(rt; site.status(), Status::Normal);
     assert_eq!(rt; site.done(), 1);
     Ok(())
@@ -464,185 +416,133 @@ fn state_is_regained_from_two(rt: HostRuntime) -> Result<(), Fail> {
 fn recovering_site_takes_no_part(rt: HostRuntime) -> Result<(), Fail> {
     let alloc = rt.alloc();
     let mut site = crashed(alloc, true)?;
-    let _ = end_of(alloc, &mut site, EventOf::Restart)?;
-    let vote = to(2, 200, MsgOf::StartViewChange { view: 3 });
-    assert_eq!(rt; end_of(alloc, &mut site, vote)?, End::Dropped(Why::Status));
-    let asked = to(2, 201, MsgOf::Recovery { nonce: 1 });
-    assert_eq!(rt; end_of(alloc, &mut site, asked)?, End::Dropped(Why::Status));
-    let commit = to(2, 200, MsgOf::Commit { view: 0, done: 1 });
-    assert_eq!(rt;
-        end_of(alloc, &mut site, commit)?,
-        End::Dropped(Why::Status)
-    );
-    let other = to(2, 201, MsgOf::Commit { view: 0, done: 1 });
-    assert_eq!(rt;
-        end_of(alloc, &mut site, other)?,
-        End::Dropped(Why::NotPrimary)
-    );
+    let _ = site.handle(alloc, EventOf::Restart);
+    let starts = to(2, 200, MsgOf::StartViewChange { view: 3 });
+    assert!(rt; drops(alloc, &mut site, starts, Why::Status));
+    let recovers = to(2, 201, MsgOf::Recovery { nonce: 1 });
+    assert!(rt; drops(alloc, &mut site, recovers, Why::Status));
+    assert!(rt; drops(alloc, &mut site, prepare(2, 0, 1, 0), Why::Status));
+    let commit = to(2, 201, MsgOf::Commit { view: 0, done: 1 });
+    assert!(rt; drops(alloc, &mut site, commit, Why::NotPrimary));
     Ok(())
-}
-
-/// DOVIEWCHANGE(1, 0, 0, no rows) to site 1.
-fn empty_vote(alloc: Global, view: u32, from: u16) -> Event<Tally> {
-    to(
-        1,
-        from,
-        MsgOf::DoViewChange {
-            view,
-            last_normal: 0,
-            done: 0,
-            rows: RowsOf::new(alloc),
-        },
-    )
 }
 
 #[test]
 fn backup_votes_for_the_next_view(rt: HostRuntime) -> Result<(), Fail> {
     let alloc = rt.alloc();
     let mut site = site(alloc, 0)?;
-    let told = vec![in alloc;
+    let told = [
         (201, Word::StartViewChange(1)),
         (202, Word::StartViewChange(1)),
         (201, Word::DoViewChange(1, 0, 0, 0)),
-    ]?;
-    let starts = to(0, 201, MsgOf::StartViewChange { view: 1 });
-    assert_eq!(rt; end_of(alloc, &mut site, starts)?, End::Sent(told));
+    ];
+    assert!(rt;
+        sends(
+            alloc,
+            &mut site,
+            to(0, 201, MsgOf::StartViewChange { view: 1 }),
+            &told
+        )
+    );
     assert_eq!(rt; site.status(), Status::Change);
     assert_eq!(rt; site.boot(), Boot { boots: 0, view: 1 });
-    assert!(rt; site.machine().is_some());
+    assert!(rt; sends(alloc, &mut site, EventOf::Beat, &told));
     Ok(())
+}
+
+/// DOVIEWCHANGE of site 0 to site 1.
+fn vote(view: u32, last_normal: u32, done: u16, rows: RowsOf<Ask>) -> Event<Tally> {
+    to(
+        1,
+        200,
+        MsgOf::DoViewChange {
+            view,
+            last_normal,
+            done,
+            rows,
+        },
+    )
 }
 
 #[test]
 fn new_primary_opens_its_view(rt: HostRuntime) -> Result<(), Fail> {
     let alloc = rt.alloc();
     let mut site = site(alloc, 1)?;
-    let told = vec![in alloc;
+    let told = [
         (200, Word::StartViewChange(1)),
         (202, Word::StartViewChange(1)),
-    ]?;
-    assert_eq!(rt; end_of(alloc, &mut site, EventOf::Timer)?, End::Sent(told));
+    ];
+    assert!(rt; sends(alloc, &mut site, EventOf::Timer, &told));
     let starts = to(1, 200, MsgOf::StartViewChange { view: 1 });
-    assert_eq!(rt;
-        end_of(alloc, &mut site, starts)?,
-        End::Sent(Vec::new(alloc))
-    );
-    let opens = vec![in alloc;
+    assert!(rt; sends(alloc, &mut site, starts, &[]));
+    let opens = [
         (200, Word::StartView(1, 0, 0)),
         (202, Word::StartView(1, 0, 0)),
-    ]?;
-    assert_eq!(rt;
-        end_of(alloc, &mut site, empty_vote(alloc, 1, 200))?,
-        End::Sent(opens)
-    );
+    ];
+    assert!(rt; sends(alloc, &mut site, vote(1, 0, 0, RowsOf::new(alloc)), &opens));
     assert_eq!(rt; site.status(), Status::Normal);
     assert_eq!(rt; site.view(), 1);
     Ok(())
-}
-
-/// PREPARE(0, place, 0, row) to site 1, of client 5's request of that number.
-fn prepare_at(place: u16) -> Event<Tally> {
-    let row = RowOf {
-        client: 5,
-        number: place as u32,
-        cmd: Ask::Total,
-    };
-    let (view, done) = (0, 0);
-    to(
-        1,
-        200,
-        MsgOf::Prepare {
-            view,
-            place,
-            done,
-            row,
-        },
-    )
 }
 
 #[test]
 fn log_of_the_later_view_is_taken(rt: HostRuntime) -> Result<(), Fail> {
     let alloc = rt.alloc();
     let mut site = site(alloc, 1)?;
-    let _ = end_of(alloc, &mut site, prepare_at(1))?;
-    let _ = end_of(alloc, &mut site, prepare_at(2))?;
-    let _ = end_of(
-        alloc,
-        &mut site,
-        to(1, 200, MsgOf::StartViewChange { view: 4 }),
-    )?;
-    let mut rows = RowsOf::new(alloc);
-    rows.push(first_row())?;
-    let vote = MsgOf::DoViewChange {
-        view: 4,
-        last_normal: 3,
-        done: 1,
-        rows,
-    };
-    let opens = vec![in alloc;
+    let _ = site.handle(alloc, prepare(1, 0, 1, 0));
+    let _ = site.handle(alloc, prepare(1, 0, 2, 0));
+    let _ = site.handle(alloc, to(1, 200, MsgOf::StartViewChange { view: 4 }));
+    let opens = [
         (200, Word::StartView(4, 1, 1)),
         (202, Word::StartView(4, 1, 1)),
         (5, Word::Reply(4, 1, 10)),
-    ]?;
-    assert_eq!(rt;
-        end_of(alloc, &mut site, to(1, 200, vote))?,
-        End::Sent(opens)
-    );
+    ];
+    assert!(rt; sends(alloc, &mut site, vote(4, 3, 1, one_row(alloc)?), &opens));
     assert_eq!(rt; site.log_len(), 1);
     Ok(())
 }
 
-/// NEWSTATE(1, base, 3, rows) of site 1 to site 2.
-fn new_state(alloc: Global, base: u16, count: u32) -> Result<Event<Tally>, AllocError>
-    requires { count ≤ 4 }
+/// NEWSTATE(1, base, 3, 4 - base rows) of site 1 to site 2.
+fn new_state(alloc: Global, base: u16) -> Result<Event<Tally>, AllocError>
+    requires { base ≤ 1 }
 {
-    let mut rows = RowsOf::new(alloc);
-    for number in 0..count {
+    let mut rows = one_row(alloc)?;
+    for number in 2..5 - base {
         if rows.len() < 9 {
-            rows.push(RowOf {
-                client: 5,
-                number: number + 1,
-                cmd: Ask::Total,
-            })?;
+            rows.push(row_of(number as u32))?;
         }
     }
     let (view, done) = (1, 3);
-    Ok(to(
-        2,
-        201,
-        MsgOf::NewState {
-            view,
-            base,
-            done,
-            rows,
-        },
-    ))
+    let state = MsgOf::NewState {
+        view,
+        base,
+        done,
+        rows,
+    };
+    Ok(to(2, 201, state))
 }
 
 #[test]
 fn lagging_site_takes_the_state(rt: HostRuntime) -> Result<(), Fail> {
     let alloc = rt.alloc();
     let mut site = site(alloc, 2)?;
-    let prepare = MsgOf::Prepare {
-        view: 1,
-        place: 4,
-        done: 3,
-        row: first_row(),
-    };
-    let asks = vec![in alloc; (201, Word::GetState(1, 0))]?;
-    assert_eq!(rt;
-        end_of(alloc, &mut site, to(2, 201, prepare))?,
-        End::Sent(asks)
+    assert!(rt;
+        sends(
+            alloc,
+            &mut site,
+            prepare(2, 1, 4, 3),
+            &[(201, Word::GetState(1, 0))]
+        )
     );
     assert_eq!(rt; site.view(), 0);
-    assert_eq!(rt;
-        end_of(alloc, &mut site, new_state(alloc, 1, 3)?)?,
-        End::Dropped(Why::Stale)
-    );
-    let acknowledges = vec![in alloc; (201, Word::PrepareOk(1, 4))]?;
-    assert_eq!(rt;
-        end_of(alloc, &mut site, new_state(alloc, 0, 4)?)?,
-        End::Sent(acknowledges)
+    assert!(rt; drops(alloc, &mut site, new_state(alloc, 1)?, Why::Stale));
+    assert!(rt;
+        sends(
+            alloc,
+            &mut site,
+            new_state(alloc, 0)?,
+            &[(201, Word::PrepareOk(1, 4))]
+        )
     );
     assert_eq!(rt; site.done(), 3);
     assert_eq!(rt; site.boot(), Boot { boots: 0, view: 1 });
@@ -653,10 +553,7 @@ fn lagging_site_takes_the_state(rt: HostRuntime) -> Result<(), Fail> {
 fn unsaved_view_is_not_told(rt: HostRuntime) -> Result<(), Fail> {
     let alloc = rt.alloc();
     let mut site = over(alloc, 1, MemCell::failing(1, true))?;
-    assert_eq!(rt;
-        end_of(alloc, &mut site, EventOf::Timer)?,
-        End::Refused(SiteFault::CellFault)
-    );
+    assert!(rt; fails(alloc, &mut site, EventOf::Timer, SiteFault::CellFault));
     assert_eq!(rt; site.status(), Status::Down);
     assert_eq!(rt; site.boot(), Boot { boots: 0, view: 1 });
     Ok(())
