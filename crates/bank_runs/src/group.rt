@@ -54,6 +54,10 @@ pub struct Group {
     paid_in: u32,
     noticed: u32,
     answered: u32,
+    /// How many events happened at sites.
+    events: usize,
+    /// After so many events the site of this number crashes and restarts.
+    crash: Option<(usize, usize)>,
 }
 
 fn currency(alloc: Global, code: &str, rate: u64, haircut: u64) -> Result<Currency, AllocError> {
@@ -95,21 +99,33 @@ fn setup(alloc: Global) -> Result<Setup, AllocError> {
     })
 }
 
-fn site(alloc: Global, me: u16) -> Result<Site, Fail> {
+fn site(alloc: Global, me: u16, cell: MemCell) -> Result<Site, Fail> {
     let setup = setup(alloc)?;
     if me > 2 || setup.check().is_err() {
         return Err(Fail::new("no such site"));
     }
-    Ok(Replica::new(alloc, Config { f: 1, me }, setup, MemCell::new())?)
+    Ok(Replica::new(alloc, Config { f: 1, me }, setup, cell)?)
 }
 
 impl Group {
     /// Three sites over new cells.
     pub fn new(alloc: Global) -> Result<Self, Fail> {
+        Group::with(alloc, [MemCell::new(), MemCell::new(), MemCell::new()])
+    }
+
+    /// Three sites over new cells, of which site 1's fails its save of this number alone, and keeps the new value or
+    /// the old one.
+    pub fn failing(alloc: Global, at: u64, keep: bool) -> Result<Self, Fail> {
+        let failing = MemCell::failing(at, keep);
+        Group::with(alloc, [MemCell::new(), failing, MemCell::new()])
+    }
+
+    fn with(alloc: Global, cells: [MemCell; 3]) -> Result<Self, Fail> {
+        let [first, second, third] = cells;
         let mut sites = Vec::new(alloc);
-        for me in 0..3 {
-            sites.push(site(alloc, me)?)?;
-        }
+        sites.push(site(alloc, 0, first)?)?;
+        sites.push(site(alloc, 1, second)?)?;
+        sites.push(site(alloc, 2, third)?)?;
         Ok(Group {
             alloc,
             sites,
@@ -119,7 +135,14 @@ impl Group {
             paid_in: 0,
             noticed: 0,
             answered: 0,
+            events: 0,
+            crash: None,
         })
+    }
+
+    /// After so many events at sites the site of this number crashes and restarts.
+    pub fn crash_after(&mut self, events: usize, site: usize) {
+        self.crash = Some((events, site));
     }
 
     /// Takes steps, one after the other. What a site refuses or drops changes nothing.
@@ -154,8 +177,21 @@ impl Group {
         }
     }
 
-    /// An event at a site. What it sends goes on the post.
+    /// An event at a site, and the crash that is due after it.
     fn happen(&mut self, site: usize, event: Event<Book>) -> Result<(), Fail> {
+        self.handle(site, event)?;
+        self.events = self.events.saturating_add(1);
+        match self.crash {
+            Some((events, site)) if events == self.events => {
+                self.handle(site, EventOf::Crash)?;
+                self.handle(site, EventOf::Restart)
+            }
+            _ => Ok(()),
+        }
+    }
+
+    /// A site handles an event. What it sends goes on the post.
+    fn handle(&mut self, site: usize, event: Event<Book>) -> Result<(), Fail> {
         let Some(site) = self.sites.get_mut(site) else {
             return Err(Fail::new("no such site"));
         };
@@ -265,10 +301,10 @@ impl Group {
     /// What a site shows; a site that there is not is down.
     pub fn shows(&self, site: usize) -> Shown {
         match self.sites.get(site) {
-            None => shown(Status::Down, 0, 0, 0, 0, 0),
+            None => showing(Status::Down, 0, 0, 0, 0, 0),
             Some(site) => {
                 let Boot { boots, view } = site.boot();
-                shown(
+                showing(
                     site.status(),
                     site.view(),
                     site.log_len(),
@@ -280,6 +316,18 @@ impl Group {
         }
     }
 
+    /// Whether each running site's book has the pay-ins that it executed: the first ones, each once.
+    pub fn agrees(&self) -> bool {
+        for site in 0..3 {
+            let done = self.shows(site).done.min(100) as i64;
+            match self.balance(site) {
+                Some(balance) if balance != 50 * done * (done + 1) => return false,
+                _ => {}
+            }
+        }
+        true
+    }
+
     /// What member 1 has in USD by a site's book, where the site runs.
     pub fn balance(&self, site: usize) -> Option<i64> {
         Some(self.sites.get(site)?.machine()?.balance(1, 1))
@@ -287,7 +335,14 @@ impl Group {
 }
 
 /// What a site shows.
-pub fn shown(status: Status, view: u32, log: usize, done: usize, boots: u32, saved: u32) -> Shown {
+pub fn showing(
+    status: Status,
+    view: u32,
+    log: usize,
+    done: usize,
+    boots: u32,
+    saved: u32,
+) -> Shown {
     Shown {
         status,
         view,

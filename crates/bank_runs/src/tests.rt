@@ -1,10 +1,10 @@
-use crate::group::{Group, Shown, Step, shown};
+use crate::group::{Group, Shown, Step, showing};
 use std::test::Fail;
 use vr_types::Status;
 
 /// A normal site.
 fn normal(view: u32, log: usize, done: usize, boots: u32, saved: u32) -> Shown {
-    shown(Status::Normal, view, log, done, boots, saved)
+    showing(Status::Normal, view, log, done, boots, saved)
 }
 
 #[test]
@@ -76,8 +76,8 @@ fn a_vote_is_not_forgotten_in_a_crash(rt: HostRuntime) -> Result<(), Fail> {
         Step::Deliver(11),
     ])?;
     assert_eq!(rt; group.shows(0), normal(0, 1, 0, 0, 0));
-    assert_eq!(rt; group.shows(1), shown(Status::Recovering, 0, 0, 0, 1, 2));
-    assert_eq!(rt; group.shows(2), shown(Status::Recovering, 0, 0, 0, 1, 2));
+    assert_eq!(rt; group.shows(1), showing(Status::Recovering, 0, 0, 0, 1, 2));
+    assert_eq!(rt; group.shows(2), showing(Status::Recovering, 0, 0, 0, 1, 2));
     Ok(())
 }
 
@@ -129,8 +129,56 @@ fn an_answer_to_an_earlier_restart_does_not_count(rt: HostRuntime) -> Result<(),
         Step::Deliver(6),
         Step::Deliver(3),
     ])?;
-    assert_eq!(rt; group.shows(2), shown(Status::Recovering, 0, 0, 0, 2, 0));
+    assert_eq!(rt; group.shows(2), showing(Status::Recovering, 0, 0, 0, 2, 0));
     group.run(&[Step::Deliver(4), Step::Deliver(7)])?;
     assert_eq!(rt; group.shows(2), normal(0, 0, 0, 2, 0));
+    Ok(())
+}
+
+/// Pay-ins through a view change, with beats that say again what was lost.
+const LONG: [Step; 17] = [
+    Step::Cut(202),
+    Step::PayIn,
+    Step::PayIn,
+    Step::PayIn,
+    Step::Drain(100),
+    Step::Timer(1),
+    Step::Drain(100),
+    Step::Heal,
+    Step::PayIn,
+    Step::Drain(100),
+    Step::NodeBeat,
+    Step::Timer(2),
+    Step::Drain(100),
+    Step::Beat(2),
+    Step::Beat(1),
+    Step::Beat(0),
+    Step::Drain(100),
+];
+
+#[test]
+fn a_crash_at_any_event_leaves_the_books_equal(rt: HostRuntime) -> Result<(), Fail> {
+    for site in 0..3 {
+        for events in 1..90 {
+            let mut group = Group::new(rt.alloc())?;
+            group.crash_after(events, site);
+            group.run(&LONG)?;
+            assert!(rt; group.agrees(), "site {site} crashed after {events}");
+        }
+    }
+    Ok(())
+}
+
+#[test]
+fn a_failing_save_leaves_the_books_equal(rt: HostRuntime) -> Result<(), Fail> {
+    for keep in [false, true] {
+        for at in 1..8 {
+            let mut group = Group::failing(rt.alloc(), at, keep)?;
+            group.crash_after(30, 1);
+            group.run(&LONG)?;
+            group.run(&[Step::Restart(1), Step::Drain(100)])?;
+            assert!(rt; group.agrees(), "save {at} failed");
+        }
+    }
     Ok(())
 }
