@@ -1,0 +1,354 @@
+use pvp_book::Book;
+use pvp_types::{Cmd, Currency, List, Member, Name, Setup};
+use std::alloc::{AllocError, Global};
+use std::test::Fail;
+use vr_site::Replica;
+use vr_types::{
+    Boot, BootCell, Config, Envelope, EnvelopeOf, Event, EventOf, MemCell, MsgOf, SiteFault,
+    Status, Why,
+};
+
+type Site = Replica<Book, MemCell>;
+
+/// The node of USD, whose pay-ins the sites execute.
+const NODE: u16 = 102;
+
+/// What may be done to the group.
+#[derive(Clone, Copy, Debug, PartialEq, Eq)]
+pub enum Step {
+    /// USD's node has one more pay-in for member 1, of 100 times its number.
+    PayIn,
+    /// The node says its waiting notice again.
+    NodeBeat,
+    /// The envelope of this number, counted from 1 as they were sent, is delivered.
+    Deliver(usize),
+    /// So many envelopes after the last that were drained are delivered, but for those of a site that is cut off.
+    Drain(usize),
+    Beat(usize),
+    Timer(usize),
+    Crash(usize),
+    Restart(usize),
+    Cut(u16),
+    Heal,
+}
+
+/// What a site shows.
+#[derive(Clone, Copy, Debug, PartialEq, Eq)]
+pub struct Shown {
+    pub status: Status,
+    pub view: u32,
+    pub log: usize,
+    pub done: usize,
+    pub boots: u32,
+    pub saved: u32,
+}
+
+/// Three sites, the envelopes that were sent and not delivered yet, and USD's node with its notices.
+#[derive(Drop)]
+pub struct Group {
+    alloc: Global,
+    sites: Vec<Site>,
+    post: Vec<Option<Envelope<Book>>>,
+    cursor: usize,
+    cut: Option<u16>,
+    paid_in: u32,
+    noticed: u32,
+    answered: u32,
+    /// How many events happened at sites.
+    events: usize,
+    /// After so many events the site of this number crashes and restarts.
+    crash: Option<(usize, usize)>,
+}
+
+fn currency(alloc: Global, code: &str, rate: u64, haircut: u64) -> Result<Currency, AllocError> {
+    Ok(Currency {
+        code: Name::new(alloc, code)?,
+        rate,
+        haircut,
+    })
+}
+
+fn member(alloc: Global, name: &str) -> Result<Member, AllocError> {
+    let mut short = List::new(alloc);
+    let mut deposit = List::new(alloc);
+    for (limit, opening) in [(1_000, 10_000), (1_000, 10_000), (100_000, 1_000_000)] {
+        short.push(limit)?;
+        deposit.push(opening)?;
+    }
+    Ok(Member {
+        name: Name::new(alloc, name)?,
+        aggregate: 150_000,
+        short,
+        deposit,
+    })
+}
+
+/// Three currencies and two members.
+fn setup(alloc: Global) -> Result<Setup, AllocError> {
+    let mut currencies = List::new(alloc);
+    currencies.push(currency(alloc, "EUR", 110, 500)?)?;
+    currencies.push(currency(alloc, "USD", 100, 0)?)?;
+    currencies.push(currency(alloc, "JPY", 1, 1_000)?)?;
+    let mut members = List::new(alloc);
+    members.push(member(alloc, "ALFA")?)?;
+    members.push(member(alloc, "BETA")?)?;
+    Ok(Setup {
+        sites: 3,
+        currencies,
+        members,
+    })
+}
+
+fn site(alloc: Global, me: u16, cell: MemCell) -> Result<Site, Fail> {
+    let setup = setup(alloc)?;
+    if me > 2 || setup.check().is_err() {
+        return Err(Fail::new("no such site"));
+    }
+    Ok(Replica::new(alloc, Config { f: 1, me }, setup, cell)?)
+}
+
+impl Group {
+    /// Three sites over new cells.
+    pub fn new(alloc: Global) -> Result<Self, Fail> {
+        Group::with(alloc, [MemCell::new(), MemCell::new(), MemCell::new()])
+    }
+
+    /// Three sites over new cells, of which site 1's fails its save of this number alone, and keeps the new value or
+    /// the old one.
+    pub fn failing(alloc: Global, at: u64, keep: bool) -> Result<Self, Fail> {
+        let failing = MemCell::failing(at, keep);
+        Group::with(alloc, [MemCell::new(), failing, MemCell::new()])
+    }
+
+    fn with(alloc: Global, cells: [MemCell; 3]) -> Result<Self, Fail> {
+        let [first, second, third] = cells;
+        let mut sites = Vec::new(alloc);
+        sites.push(site(alloc, 0, first)?)?;
+        sites.push(site(alloc, 1, second)?)?;
+        sites.push(site(alloc, 2, third)?)?;
+        Ok(Group {
+            alloc,
+            sites,
+            post: Vec::new(alloc),
+            cursor: 0,
+            cut: None,
+            paid_in: 0,
+            noticed: 0,
+            answered: 0,
+            events: 0,
+            crash: None,
+        })
+    }
+
+    /// After so many events at sites the site of this number crashes and restarts.
+    pub fn crash_after(&mut self, events: usize, site: usize) {
+        self.crash = Some((events, site));
+    }
+
+    /// Takes steps, one after the other. What a site refuses or drops changes nothing.
+    pub fn run(&mut self, steps: &[Step]) -> Result<(), Fail> {
+        for step in steps {
+            self.take(*step)?;
+        }
+        Ok(())
+    }
+
+    fn take(&mut self, step: Step) -> Result<(), Fail> {
+        match step {
+            Step::PayIn => {
+                self.paid_in = self.paid_in.saturating_add(1);
+                self.notice()
+            }
+            Step::NodeBeat => self.request(),
+            Step::Deliver(number) => self.deliver(number),
+            Step::Drain(count) => self.drain(count),
+            Step::Beat(site) => self.happen(site, EventOf::Beat),
+            Step::Timer(site) => self.happen(site, EventOf::Timer),
+            Step::Crash(site) => self.happen(site, EventOf::Crash),
+            Step::Restart(site) => self.happen(site, EventOf::Restart),
+            Step::Cut(actor) => {
+                self.cut = Some(actor);
+                Ok(())
+            }
+            Step::Heal => {
+                self.cut = None;
+                Ok(())
+            }
+        }
+    }
+
+    /// An event at a site, and the crash that is due after it.
+    fn happen(&mut self, site: usize, event: Event<Book>) -> Result<(), Fail> {
+        self.handle(site, event)?;
+        self.events = self.events.saturating_add(1);
+        match self.crash {
+            Some((events, site)) if events == self.events => {
+                self.handle(site, EventOf::Crash)?;
+                self.handle(site, EventOf::Restart)
+            }
+            _ => Ok(()),
+        }
+    }
+
+    /// A site handles an event. What it sends goes on the post.
+    fn handle(&mut self, site: usize, event: Event<Book>) -> Result<(), Fail> {
+        let Some(site) = self.sites.get_mut(site) else {
+            return Err(Fail::new("no such site"));
+        };
+        match site.handle(self.alloc, event) {
+            Ok(out) => {
+                for envelope in out.sent {
+                    self.post.push(Some(envelope))?;
+                }
+                Ok(())
+            }
+            Err(SiteFault::NoMemory) => Err(Fail::new("memory was refused")),
+            Err(_) => Ok(()),
+        }
+    }
+
+    /// The envelope of a number is delivered, where it was not before.
+    fn deliver(&mut self, number: usize) -> Result<(), Fail> {
+        let Some(at) = number.checked_sub(1) else {
+            return Ok(());
+        };
+        let Some(place) = self.post.get_mut(at) else {
+            return Err(Fail::new("no such envelope"));
+        };
+        match place.take() {
+            None => Ok(()),
+            Some(envelope) => self.arrive(envelope),
+        }
+    }
+
+    fn arrive(&mut self, envelope: Envelope<Book>) -> Result<(), Fail> {
+        if envelope.to >= 200 {
+            return self.happen(usize::from(envelope.to - 200), EventOf::Deliver(envelope));
+        }
+        if let MsgOf::Reply { number, .. } = &envelope.msg {
+            if *number == self.noticed {
+                self.answered = self.noticed;
+                return self.notice();
+            }
+        }
+        Ok(())
+    }
+
+    fn drain(&mut self, count: usize) -> Result<(), Fail> {
+        for _ in 0..count {
+            match self.next() {
+                None => return Ok(()),
+                Some(number) => self.deliver(number)?,
+            }
+        }
+        Ok(())
+    }
+
+    /// The next number after the cursor whose envelope is from and to no site that is cut off.
+    fn next(&mut self) -> Option<usize> {
+        for at in self.cursor..self.post.len() {
+            self.cursor = at + 1;
+            if !self.is_cut_off(at) {
+                return Some(self.cursor);
+            }
+        }
+        None
+    }
+
+    fn is_cut_off(&self, at: usize) -> bool {
+        match (self.cut, self.post.get(at)) {
+            (Some(actor), Some(Some(envelope))) => envelope.from == actor || envelope.to == actor,
+            _ => false,
+        }
+    }
+
+    /// The node's next notice goes out, where none waits.
+    fn notice(&mut self) -> Result<(), Fail> {
+        if self.answered != self.noticed || self.paid_in <= self.noticed {
+            return Ok(());
+        }
+        self.noticed = self.noticed.saturating_add(1);
+        self.request()
+    }
+
+    /// The waiting notice goes to every site.
+    fn request(&mut self) -> Result<(), Fail> {
+        let cmd = Cmd::Fund {
+            ccy: 1,
+            pay: self.noticed,
+            member: 1,
+            amt: 100 * u64::from(self.noticed),
+        };
+        for to in 200..203 {
+            let msg = MsgOf::Request {
+                number: self.noticed,
+                cmd,
+            };
+            self.post.push(Some(EnvelopeOf {
+                from: NODE,
+                to,
+                msg,
+            }))?;
+        }
+        Ok(())
+    }
+
+    /// How many envelopes were sent.
+    pub fn sent(&self) -> usize {
+        self.post.len()
+    }
+
+    /// What a site shows; a site that there is not is down.
+    pub fn shows(&self, site: usize) -> Shown {
+        match self.sites.get(site) {
+            None => showing(Status::Down, 0, 0, 0, 0, 0),
+            Some(site) => {
+                let Boot { boots, view } = site.boot();
+                showing(
+                    site.status(),
+                    site.view(),
+                    site.log_len(),
+                    site.done(),
+                    boots,
+                    view,
+                )
+            }
+        }
+    }
+
+    /// Whether each running site's book has the pay-ins that it executed: the first ones, each once.
+    pub fn agrees(&self) -> bool {
+        for site in 0..3 {
+            let done = self.shows(site).done.min(100) as i64;
+            match self.balance(site) {
+                Some(balance) if balance != 50 * done * (done + 1) => return false,
+                _ => {}
+            }
+        }
+        true
+    }
+
+    /// What member 1 has in USD by a site's book, where the site runs.
+    pub fn balance(&self, site: usize) -> Option<i64> {
+        Some(self.sites.get(site)?.machine()?.balance(1, 1))
+    }
+}
+
+/// What a site shows.
+pub fn showing(
+    status: Status,
+    view: u32,
+    log: usize,
+    done: usize,
+    boots: u32,
+    saved: u32,
+) -> Shown {
+    Shown {
+        status,
+        view,
+        log,
+        done,
+        boots,
+        saved,
+    }
+}
