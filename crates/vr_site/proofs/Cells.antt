@@ -1,7 +1,5 @@
 -- What each rule leaves: over a running site's cell that holds its view, the view that it leads to is saved; and an event that is dropped changes nothing.
-use Rattle.std.proofs.Common.{◌≡◌, ℕ, ◌+◌, ◌==◌, ◌&&◌, ◌||◌, Bool, true, false, true≢false, not, nat_lt, nat_le, List, [], length, take, ◌++◌, Option, Some, None, if◌then◌else◌, refl, sym, ap, ◌∙◌}
-use Rattle.vr_types.specs.declared.event.EventOf.{EventOf}
-use Rattle.vr_types.specs.declared.event.EventOf.TheVariants.{Deliver, Timer, Beat}
+use Rattle.std.proofs.Common.{◌≡◌, ℕ, ◌+◌, ◌==◌, ◌&&◌, ◌||◌, Bool, true, false, true≢false, not, nat_lt, nat_le, List, length, take, Option, Some, None, if◌then◌else◌, refl, sym}
 use Rattle.vr_types.specs.declared.event.Status.{Status}
 use Rattle.vr_types.specs.declared.event.Status.TheVariants as status
 use Rattle.vr_types.specs.declared.event.Why.{Why}
@@ -14,11 +12,11 @@ use Rattle.vr_types.specs.Change.{Part, starts_later_view, with_start, with_vote
 use Rattle.vr_types.specs.Choice.{Choice}
 use Rattle.vr_types.specs.Group.{primary}
 use Rattle.vr_types.specs.Handling.{on_message, on_beat}
-use Rattle.vr_types.specs.Normal.{on_request, appends, answers_again, with_row, on_prepare, prepares, on_commit, on_prepare_ok, beats_normal}
+use Rattle.vr_types.specs.Normal.{on_request, answers_again, with_row, on_prepare, prepares, on_commit, on_prepare_ok, beats_normal}
 use Rattle.vr_types.specs.Recovery.{on_recovery, on_recovery_response}
 use Rattle.vr_types.specs.Rows.{last_of, newest}
 use Rattle.vr_types.specs.Site.{Site, Vote, Response, is_normal, is_change, is_recovering, is_running}
-use Rattle.vr_types.specs.Step.{Step, Dropped, drops, does, begins_with_executed, takes_log}
+use Rattle.vr_types.specs.Step.{Step, Dropped, drops, begins_with_executed, takes_log}
 use Rattle.vr_types.specs.Transfer.{on_get_state, on_new_state}
 use Rattle.vr_log.proofs.OutcomeLemmas.{running_is_here}
 use Rattle.vr_change.specs.Saved.{SavesView}

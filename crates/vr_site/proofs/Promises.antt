@@ -15,7 +15,7 @@ use Rattle.vr_types.specs.Choice.{Choice, IsRight, has_acknowledged}
 use Rattle.vr_types.specs.Handling.{refusal, refused_or, on_event, site_step, envelopes}
 use Rattle.vr_types.specs.Saved.{IsSavedFor}
 use Rattle.vr_types.specs.Site.{Ack, is_running}
-use Rattle.vr_types.specs.Step.{Step, Handled, Dropped, Refused}
+use Rattle.vr_types.specs.Step.{Dropped, Refused}
 use Rattle.vr_types.proofs.Choosing.{choice_of}
 use Rattle.vr_types.proofs.ChoosingRight.{choice_of-right}
 use Rattle.vr_types.proofs.Saving.{step_saved, envelopes_saved}

@@ -8,7 +8,7 @@ use Rattle.vr_types.specs.declared.message.StateOf.{StateOf}
 use Rattle.vr_types.specs.declared.row.RowOf.{RowOf}
 use Rattle.vr_types.specs.Change.{on_timer, on_start_view_change, on_do_view_change, on_start_view}
 use Rattle.vr_types.specs.Choice.{Choice}
-use Rattle.vr_types.specs.Group.{primary, may_send, to_all, site_of}
+use Rattle.vr_types.specs.Group.{primary, may_send, to_all}
 use Rattle.vr_types.specs.Handling.{on_message}
 use Rattle.vr_types.specs.Normal.{on_request, on_prepare, on_prepare_ok, on_commit}
 use Rattle.vr_types.specs.Recovery.{on_recovery, beats_recovering}

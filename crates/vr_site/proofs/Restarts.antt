@@ -1,13 +1,11 @@
 -- That a crash, a restart and a beat of a recovering site are handled as the site step says.
-use Rattle.std.proofs.Common.{◌≡◌, ◌≢◌, ◌⊎◌, inl, inr, ℕ, ◌+◌, ◌==◌, Bool, true, false, not, List, [], Option, Some, None, if◌then◌else◌, refl, sym, ap, ◌∙◌, subst, append-nil, ◌++◌}
+use Rattle.std.proofs.Common.{◌≡◌, ◌≢◌, ◌⊎◌, inl, inr, ℕ, ◌+◌, false, List, [], None, refl, sym, ap, ◌∙◌, subst, append-nil, ◌++◌}
 use Rattle.std.proofs.lemmas.Bool.{ne_eqb}
-use Rattle.std.specs.Prelude.{Result, Ok, Err}
+use Rattle.std.specs.Prelude.{Ok, Err}
 use Rattle.vr_types.specs.declared.cell.Boot.{Boot}
-use Rattle.vr_types.specs.declared.event.EventOf.{EventOf}
 use Rattle.vr_types.specs.declared.event.EventOf.TheVariants.{Beat, Crash, Restart}
 use Rattle.vr_types.specs.declared.event.OutcomeOf.{OutcomeOf}
-use Rattle.vr_types.specs.declared.event.SiteFault.TheVariants.{NoMemory, CellFault, NotUp, AlreadyUp, BootsSpent}
-use Rattle.vr_types.specs.declared.event.Status.{Status}
+use Rattle.vr_types.specs.declared.event.SiteFault.TheVariants.{NoMemory, CellFault}
 use Rattle.vr_types.specs.declared.event.Status.TheVariants as status
 use Rattle.vr_types.specs.declared.machine.Machine.{Ghosts}
 use Rattle.vr_types.specs.declared.message.MsgOf.TheVariants.{Recovery}
@@ -15,9 +13,9 @@ use Rattle.vr_types.specs.declared.event.SiteFault.{SiteFault}
 use Rattle.vr_types.specs.Choice.{Choice}
 use Rattle.vr_types.specs.Group.{to_all}
 use Rattle.vr_types.specs.Handling.{refusal, on_event, on_beat, max_number}
-use Rattle.vr_types.specs.Recovery.{on_restart, on_crash}
+use Rattle.vr_types.specs.Recovery.{on_restart}
 use Rattle.vr_types.specs.Site.{Ack, Site, over, is_down}
-use Rattle.vr_types.specs.Step.{Step, Handled, does}
+use Rattle.vr_types.specs.Step.{Step, does}
 use Rattle.vr_log.specs.Outcomes.{Sends, ended}
 use Rattle.vr_log.specs.Running.{SumUp}
 use Rattle.vr_site.specs.Life.{Volatile, resting, site_with}

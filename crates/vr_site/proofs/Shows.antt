@@ -17,20 +17,17 @@ use Rattle.vr_types.specs.declared.machine.Machine.{Ghosts}
 use Rattle.vr_types.specs.Choice.{Choice, IsRight}
 use Rattle.vr_types.specs.declared.message.EnvelopeOf.{EnvelopeOf}
 use Rattle.vr_types.specs.Group.{is_mine}
-use Rattle.vr_types.specs.Handling.{refusal, refused_or, on_event, site_step, is_refused, IsFall, max_number}
+use Rattle.vr_types.specs.Handling.{refusal, refused_or, on_event, is_refused, max_number}
 use Rattle.vr_types.specs.Site.{Ack, Site, over, is_down, is_running, opening_site}
-use Rattle.vr_types.specs.Step.{Step, Handled, Dropped, does, drops}
+use Rattle.vr_types.specs.Step.{Step, Handled, Dropped}
 use Rattle.vr_log.specs.declared.running.Running.{Running}
 use Rattle.vr_log.proofs.OutcomeLemmas.{running_is_here}
-use Rattle.vr_log.specs.Outcomes.{Sends, Drops, ended}
-use Rattle.vr_log.specs.Running.{SumUp, IsRunning, Meets, site_of}
-use Rattle.vr_recover.specs.declared.recovering.ResponseOf.{ResponseOf}
-use Rattle.vr_recover.specs.declared.progress.Progress.TheVariants as progress
-use Rattle.vr_recover.specs.Recovering.{responses_of, recovering_site}
+use Rattle.vr_log.specs.Outcomes.{ended}
+use Rattle.vr_log.specs.Running.{SumUp, Meets, site_of}
 use Rattle.vr_site.specs.declared.life.Life.{Life}
 use Rattle.vr_site.specs.declared.life.Life.TheVariants as life
 use Rattle.vr_site.specs.Life.{Volatile, resting, volatile_of, site_with, IsWell}
-use Rattle.vr_site.specs.Replica.{Shown, site_shown, Does, Falls, Handles, Serves, Awaits}
+use Rattle.vr_site.specs.Replica.{Shown, site_shown, Does, Falls, Handles, Serves}
 
 -- no acknowledgement sums up no numbers
 pub none_summed : SumUp [] []

@@ -1,5 +1,5 @@
 -- That what a recovering site kept and regained was handled as the site step says.
-use Rattle.std.proofs.Common.{◌≡◌, ◌⊎◌, inl, inr, ℕ, List, [], Option, Some, None, refl, sym, ap, ◌∙◌, subst}
+use Rattle.std.proofs.Common.{◌≡◌, ◌⊎◌, inl, inr, List, [], refl, sym, ap, ◌∙◌, subst}
 use Rattle.std.specs.Prelude.{Result, Ok, Err}
 use Rattle.std.specs.declared.alloc.AllocError.{AllocError}
 use Rattle.vr_types.specs.declared.cell.Boot.{Boot}
@@ -9,10 +9,7 @@ use Rattle.vr_types.specs.declared.event.SiteFault.TheVariants.{NoMemory, CellFa
 use Rattle.vr_types.specs.declared.event.Status.TheVariants as status
 use Rattle.vr_types.specs.declared.event.Why.{Why}
 use Rattle.vr_types.specs.declared.machine.Machine.{Ghosts}
-use Rattle.vr_types.specs.Choice.{Choice}
-use Rattle.vr_types.specs.Handling.{on_event, is_refused}
-use Rattle.vr_types.specs.Site.{Ack, Site, over}
-use Rattle.vr_types.specs.Step.{Step, Handled, does, drops}
+use Rattle.vr_types.specs.Site.{over}
 use Rattle.vr_log.specs.declared.running.Running.{Running}
 use Rattle.vr_log.specs.Outcomes.{Sends, Drops, ended}
 use Rattle.vr_log.specs.Running.{SumUp, IsRunning, site_of}

@@ -1,5 +1,4 @@
-use Rattle.std.proofs.Common.{true, sym, ap, ◌∙◌}
-use Rattle.std.specs.Prelude.{List}
+use Rattle.std.proofs.Common.{sym, ap, ◌∙◌}
 use Rattle.vr_types.specs.Change.{on_start_view_change, on_do_view_change, on_start_view}
 use Rattle.vr_types.specs.Handling.{on_message}
 use Rattle.vr_types.specs.Normal.{on_prepare, on_prepare_ok, on_commit}

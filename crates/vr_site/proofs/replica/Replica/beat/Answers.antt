@@ -1,4 +1,4 @@
-use Rattle.std.proofs.Common.{◌≡◌, List, [], refl, sym, ap, ◌∙◌, subst}
+use Rattle.std.proofs.Common.{◌≡◌, [], sym, ap, ◌∙◌, subst}
 use Rattle.vr_types.specs.declared.event.EventOf.TheVariants.{Beat}
 use Rattle.vr_types.specs.declared.event.Status.TheVariants as status
 use Rattle.vr_types.specs.declared.message.MsgOf.TheVariants as msg

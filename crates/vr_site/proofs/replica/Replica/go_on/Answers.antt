@@ -1,6 +1,5 @@
 use Rattle.std.proofs.Common.{◌≡◌, sym, ap, ◌∙◌, subst}
 use Rattle.vr_log.specs.Running.{IsSound}
-use Rattle.vr_site.specs.declared.replica.Replica.TheInside.{Inside}
 use Rattle.vr_site.proofs.replica.Replica.go_on.Goals as goal
 use Rattle.vr_site.proofs.replica.Replica.go_on.Goals.{then-running-boot+in_ok-save, else-running-boot}
 

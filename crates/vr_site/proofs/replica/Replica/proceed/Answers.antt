@@ -1,5 +1,5 @@
 use Rattle.std.proofs.Common.{refl, sym, ap, ◌∙◌, subst}
-use Rattle.std.specs.Prelude.{Result, Ok, IfOk}
+use Rattle.std.specs.Prelude.{Ok, IfOk}
 use Rattle.vr_types.specs.declared.event.SiteFault.TheVariants.{CellFault}
 use Rattle.vr_types.specs.declared.event.Status.TheVariants as status
 use Rattle.vr_recover.specs.Progress.{IsSoundProgress}

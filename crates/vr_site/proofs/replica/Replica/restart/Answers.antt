@@ -1,5 +1,4 @@
-use Rattle.std.proofs.Common.{◌≡◌, ◌≢◌, ◌⊎◌, ◌+◌, inl, inr, [], refl, sym, ap, ◌∙◌, subst}
-use Rattle.vr_types.specs.declared.cell.Boot.{Boot}
+use Rattle.std.proofs.Common.{◌≡◌, ◌≢◌, ◌⊎◌, ◌+◌, inl, inr, refl, sym, ap, ◌∙◌, subst}
 use Rattle.vr_types.specs.declared.event.EventOf.TheVariants.{Restart}
 use Rattle.vr_types.specs.declared.event.SiteFault.TheVariants.{NoMemory, CellFault}
 use Rattle.vr_types.specs.declared.event.Status.TheVariants.{Recovering, Down}

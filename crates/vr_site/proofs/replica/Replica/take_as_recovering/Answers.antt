@@ -1,10 +1,9 @@
-use Rattle.std.proofs.Common.{List, [], refl, sym, ap, ◌∙◌, subst}
-use Rattle.std.specs.Prelude.{IfOk}
+use Rattle.std.proofs.Common.{List, [], refl, ap, ◌∙◌, subst}
 use Rattle.vr_types.specs.declared.event.EventOf.TheVariants.{Deliver}
 use Rattle.vr_types.specs.Choice.{Choice, IsRight}
 use Rattle.vr_types.specs.Handling.{on_event}
 use Rattle.vr_types.specs.Site.{Ack}
-use Rattle.vr_recover.specs.Progress.{FollowsProgress, IsSoundProgress}
+use Rattle.vr_recover.specs.Progress.{FollowsProgress}
 use Rattle.vr_recover.specs.Recovering.{recovering_site}
 use Rattle.vr_site.proofs.Shows.{mine_is_taken}
 use Rattle.vr_site.proofs.replica.Replica.take_as_recovering.Goals as goal

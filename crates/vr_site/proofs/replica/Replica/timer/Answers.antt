@@ -1,9 +1,7 @@
-use Rattle.std.proofs.Common.{◌≡◌, ◌≢◌, List, [], refl, sym, ap, ◌∙◌, subst}
+use Rattle.std.proofs.Common.{◌≡◌, ◌≢◌, [], refl, sym, ap, ◌∙◌, subst}
 use Rattle.vr_types.specs.declared.event.EventOf.TheVariants.{Timer}
-use Rattle.vr_types.specs.Choice.{Choice, IsRight}
-use Rattle.vr_types.specs.Handling.{on_event, max_number}
-use Rattle.vr_types.specs.Site.{Ack}
-use Rattle.vr_log.specs.Running.{IsSound, IsRunning, Follows, site_of}
+use Rattle.vr_types.specs.Handling.{max_number}
+use Rattle.vr_log.specs.Running.{site_of}
 use Rattle.vr_site.specs.declared.life.Life.TheVariants.{Recovering, Up}
 use Rattle.vr_site.specs.Life.{IsWell}
 use Rattle.vr_site.specs.Replica.{shown, Handles}
