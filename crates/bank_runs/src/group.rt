@@ -8,7 +8,7 @@ use vr_types::{
     Status, Why,
 };
 
-type Site = Replica<Book, MemCell>;
+pub type Site = Replica<Book, MemCell>;
 
 /// The node of USD, whose pay-ins the sites execute.
 const NODE: u16 = 102;
@@ -99,7 +99,8 @@ fn setup(alloc: Global) -> Result<Setup, AllocError> {
     })
 }
 
-fn site(alloc: Global, me: u16, cell: MemCell) -> Result<Site, Fail> {
+/// A site of three over a cell, at most number 2.
+pub fn site(alloc: Global, me: u16, cell: MemCell) -> Result<Site, Fail> {
     let setup = setup(alloc)?;
     if me > 2 || setup.check().is_err() {
         return Err(Fail::new("no such site"));

@@ -4,4 +4,6 @@
 #[cfg(test)]
 mod group;
 #[cfg(test)]
+mod one_site;
+#[cfg(test)]
 mod tests;
