@@ -1,15 +1,14 @@
 -- Messages: what is taken is spelled so, and what is spelled so is read again.
-use Rattle.std.proofs.Common.{◌≡◌, ℕ, zero, suc, ◌<◌, ◌≤◌, ◌==◌, true, false, List, [], ◌∷◌, ◌++◌, drop, Option, Some, None, Ok, refl, sym, subst, if◌then◌else◌, arith}
+use Rattle.std.proofs.Common.{◌≡◌, ℕ, zero, suc, ◌<◌, ◌≤◌, ◌==◌, true, List, [], ◌∷◌, ◌++◌, drop, Option, Some, None, Ok, refl, sym, subst, if◌then◌else◌, arith}
 use Rattle.std.specs.List.{list_all}
-use Rattle.std.proofs.lemmas.Bool.{ne_eqb}
 use Rattle.pvp_types.specs.declared.command.Cmd.{Cmd}
 use Rattle.vr_types.specs.declared.message.MsgOf.TheVariants.{Request, Prepare, PrepareOk, Commit, StartViewChange, DoViewChange, StartView, GetState, NewState, Recovery, RecoveryResponse, Reply, PayOrder}
 use Rattle.vr_types.specs.declared.message.StateOf.{StateOf}
 use Rattle.pvp_wire.specs.Spelling.{number, kind, body, state, rows_of, rows_of_state, BankMsg, BankRow, has_client}
 use Rattle.pvp_wire.specs.Fits.{Fits, StateFits, MessageFits}
 use Rattle.pvp_wire.specs.Reading.{◌>>=◌, Reads, number_at, request_at, prepare_at, view_and_place_at, do_view_change_at, start_view_at, new_state_at, recovery_response_at, answer_at, order_at, state_at, option_at, message_at}
-use Rattle.pvp_wire.proofs.Formats.{Takes, TakesBy, IsFormat, ok_is, takes1, takes2, takes3, takes4, again1, again2, again3, again4}
-use Rattle.pvp_wire.proofs.Parts.{IsBytes-rest, tagged, refused, never, n2, n4, both, parted, command_format, reply_format, order_format, row_format, rows_format}
+use Rattle.pvp_wire.proofs.Formats.{IsBytes-rest, Takes, TakesBy, IsFormat, ok_is, takes1, takes2, takes3, takes4, again1, again2, again3, again4}
+use Rattle.pvp_wire.proofs.Parts.{off, tagged, refused, never, n2, n4, both, parted, command_format, reply_format, order_format, row_format, rows_format}
 
 -- ---- the state of a view
 
@@ -39,9 +38,6 @@ some-takes = takes1 state_format Some (λ o. drop 1 (state o)) (λ o. IsState o 
 
 abbrev bare_state : Option (StateOf Cmd) × List ℕ → Reads (Option (StateOf Cmd))
 bare_state x = Ok x
-
-off : (n k : ℕ) → k < n → (n == k) ≡ false
-off n k lt = ne_eqb n k (λ e. absurd (omega arith))
 
 never2 : {A : Type 0} (a b : Reads A) (flag : ℕ) (x : A × List ℕ) → 1 < flag → (if flag == 0 then a else if flag == 1 then b else refused) ≡ Ok x → ⊥
 never2 a b flag x above e = never x (rw (off flag 0 (omega arith), off flag 1 (omega arith)) at e)

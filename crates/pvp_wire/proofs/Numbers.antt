@@ -9,10 +9,7 @@ use Rattle.byteorder.specs.Numbers.{big_from-cons, big_from-take, big_from-lt, b
 use Rattle.pvp_wire.specs.declared.fault.WireFault.TheVariants.{Length}
 use Rattle.pvp_wire.specs.Spelling.{number}
 use Rattle.pvp_wire.specs.Reading.{number_at}
-use Rattle.pvp_wire.proofs.Formats.{IsBytes, IsBytes-drop, IsBytes-take, IsFormat, guard_ok}
-
-IsBytes-tail : (b : ℕ) (bytes : List ℕ) → IsBytes (b ∷ bytes) → IsBytes bytes
-IsBytes-tail b bytes h i = h (suc i)
+use Rattle.pvp_wire.proofs.Formats.{IsBytes, IsBytes-rest, IsBytes-drop, IsBytes-take, IsFormat, guard_ok}
 
 byte_at-lt : (i n : ℕ) → byte_at i n < 256
 byte_at-lt zero n = mod-lt n (omega arith)
@@ -39,8 +36,8 @@ one_number zero (x ∷ xs) ys lx ly hx hy e = absurd (omega arith)
 one_number (suc k) [] ys lx ly hx hy e = absurd (omega arith)
 one_number (suc k) (x ∷ xs) [] lx ly hx hy e = absurd (omega arith)
 one_number (suc k) (x ∷ xs) (y ∷ ys) lx ly hx hy e =
-    let tx = IsBytes-tail x xs hx in
-    let ty = IsBytes-tail y ys hy in
+    let tx = IsBytes-rest x xs hx in
+    let ty = IsBytes-rest y ys hy in
     let split : x * 256 ^ k + big_from 0 k xs ≡ y * 256 ^ k + big_from 0 k ys =
     ap (λ (n : ℕ). x * 256 ^ k + n) (sym (big_from-cons 0 k x xs)) ∙ e ∙ ap (λ (n : ℕ). y * 256 ^ k + n) (big_from-cons 0 k y ys) in
     let d = digits (256 ^ k) x (big_from 0 k xs) y (big_from 0 k ys) (big_from-lt 0 k xs tx) (big_from-lt 0 k ys ty) split in

@@ -17,11 +17,8 @@ use Rattle.pvp_wire.specs.declared.fault.WireFault.TheVariants.{Field}
 use Rattle.pvp_wire.specs.Spelling.{number, command, reply, reason_number, order, row, rows, BankRow, has_client}
 use Rattle.pvp_wire.specs.Fits.{Fits, CommandFits, ReplyFits, OrderFits, RowFits, EachFits, RowsFit}
 use Rattle.pvp_wire.specs.Reading.{◌>>=◌, Reads, number_at, listed_at, instruct_at, fund_at, pay_out_at, paid_at, command_at, reason_at, reply_at, order_at, row_at, rows_from, rows_at}
-use Rattle.pvp_wire.proofs.Formats.{IsBytes, Takes, Takes-then, TakesBy, IsFormat, bind_ok, wanted_ok, ok_is, takes1, takes2, takes3, takes4, takes6, again1, again2, again3, again4, again6}
+use Rattle.pvp_wire.proofs.Formats.{IsBytes, IsBytes-rest, Takes, Takes-then, TakesBy, IsFormat, bind_ok, wanted_ok, ok_is, takes1, takes2, takes3, takes4, takes6, again1, again2, again3, again4, again6}
 use Rattle.pvp_wire.proofs.Numbers.{number_format}
-
-pub IsBytes-rest : (b : ℕ) (bytes : List ℕ) → IsBytes (b ∷ bytes) → IsBytes bytes
-IsBytes-rest b bytes h i = h (suc i)
 
 -- a tag in front
 pub tagged : (tag : ℕ) (bytes text rest : List ℕ) → Takes bytes text rest → Takes (tag ∷ bytes) (tag ∷ text) rest
@@ -75,7 +72,7 @@ refused = Err Field
 pub never : {A : Type 0} (x : A × List ℕ) → refused ≡ Ok x → ⊥
 never x e = absurd cc
 
-off : (n k : ℕ) → k < n → (n == k) ≡ false
+pub off : (n k : ℕ) → k < n → (n == k) ≡ false
 off n k lt = ne_eqb n k (λ e. absurd (omega arith))
 
 -- no tag that is above all known ones is taken

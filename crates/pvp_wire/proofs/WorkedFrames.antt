@@ -1,10 +1,9 @@
 -- Worked frames, computed with the definitions.
-use Rattle.std.proofs.Common.{◌≡◌, ℕ, List, [], ◌∷◌, ◌++◌, ◌+◌, take, drop, Result, Ok, Err, refl}
+use Rattle.std.proofs.Common.{◌≡◌, ℕ, List, [], ◌∷◌, ◌++◌, ◌+◌, take, drop, Ok, Err, refl}
 use Rattle.pvp_types.specs.declared.command.Cmd.TheVariants.{Fund}
 use Rattle.pvp_types.specs.declared.command.Reason.TheVariants.{BankShort}
 use Rattle.pvp_types.specs.declared.command.Reply.TheVariants.{No}
 use Rattle.vr_types.specs.declared.message.MsgOf.TheVariants.{Request, Commit, Reply, PayOrder}
-use Rattle.pvp_wire.specs.declared.fault.WireFault.{WireFault}
 use Rattle.pvp_wire.specs.declared.fault.WireFault.TheVariants.{Short, TooLong, Version, Kind, Field, Length}
 use Rattle.pvp_wire.specs.declared.stamped.Stamped.{Stamped}
 use Rattle.pvp_wire.specs.Spelling.{BankMsg, spelling, number}
