@@ -79,7 +79,7 @@ impl<M: Machine> Kept<M> {
         ensures kept { OnOk result ((start : M) → KeepsExecuted self.old (take base self.old.log ++ rows) → IsKept M.Machine start self.old → IsKept M.Machine start self.new) }
         ensures ready { OnOk result (KeepsExecuted self.old (take base self.old.log ++ rows) → IsReady M.Machine self.old → IsReady M.Machine self.new) }
     {
-        self.log.take_rows(base, rows)?;
+        self.log.replace_from(base, rows)?;
         self.clients.rebuild(&self.log)?;
         Ok(())
     }

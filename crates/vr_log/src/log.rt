@@ -83,7 +83,7 @@ impl<C: Copy> LogOf<C> {
 
     /// The first `base` rows stay, and these come after them. Where none stays, the rows are moved, not copied.
     /// An `Err` leaves the log as it was.
-    pub fn take_rows(&mut self, base: usize, part: RowsOf<C>) -> Result<(), AllocError>
+    pub fn replace_from(&mut self, base: usize, part: RowsOf<C>) -> Result<(), AllocError>
         requires base { base ≤ length self.old }
         requires few { base + length part ≤ MAX_ROWS }
         ensures ok { OnOk result (self.new ≡ take base self.old ++ part) }

@@ -23,7 +23,7 @@ fn log_takes_rows_at_its_end_and_in_its_middle(rt: HostRuntime) -> Result<(), Fa
     let mut part = RowsOf::new(alloc);
     part.push(row(3))?;
     part.push(row(4))?;
-    log.take_rows(1, part)?;
+    log.replace_from(1, part)?;
     assert_eq!(rt; log.len(), 3);
     assert_eq!(rt; log.row(1), row(3));
     assert_eq!(rt; log.get(3), None);

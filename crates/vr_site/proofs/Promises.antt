@@ -6,6 +6,7 @@ use Rattle.std.specs.List.{list_any}
 use Rattle.std.proofs.lemmas.Bool.{ne_eqb}
 use Rattle.std.proofs.lemmas.Bool.Decides.{nat_tests}
 use Rattle.vr_types.specs.declared.cell.Boot.{Boot}
+use Rattle.vr_types.specs.declared.cell.BootCell.{Ghosts as Cell}
 use Rattle.vr_types.specs.declared.event.EventOf.{EventOf}
 use Rattle.vr_types.specs.declared.event.OutcomeOf.{OutcomeOf}
 use Rattle.vr_types.specs.declared.event.SiteFault.{SiteFault}
@@ -77,38 +78,38 @@ life_holds_view m start f boot Down well up = absurd (true≢false (sym up))
 life_holds_view m start f boot (Recovering r) well up = absurd (true≢false (sym up))
 life_holds_view m start f boot (Up r) well up = well.1
 
-module _ {H C R O S B : Type 0} (m : Ghosts H C R O S) (held : B → Boot) (old new : Shown C S B) (event : EventOf C R O) where
+module _ {H C R O S B : Type 0} (m : Ghosts H C R O S) (c : Cell B) (old new : Shown C S B) (event : EventOf C R O) where
   -- what is sent was saved before
-  pub handled_is_saved : (choose : Choice C) → IsRight old.f choose → (is_running old.volatile.status ≡ true → old.volatile.view ≡ (held old.cell).view) → (out : OutcomeOf C R O)
-      → Handles m held old new event (Ok out) → All (λ e. IsSavedFor (held new.cell) e.msg) out.sent.items
+  pub handled_is_saved : (choose : Choice C) → IsRight old.f choose → (is_running old.volatile.status ≡ true → old.volatile.view ≡ (c.held old.cell).view) → (out : OutcomeOf C R O)
+      → Handles m c old new event (Ok out) → All (λ e. IsSavedFor (c.held new.cell) e.msg) out.sent.items
   handled_is_saved choose right holds out h =
       let acks = acks_of old.volatile.acked in
-      let x = site_shown held old acks in
+      let x = site_shown c.held old acks in
       let step = site_step choose old.f old.me x event in
       let does = h.step choose acks right (acks_of_summed old.volatile.acked) in
       let saved = envelopes_saved m (m.start old.setup) old.me step (step_saved choose old.f old.me right x holds event) in
-      subst (λ es. All (λ e. IsSavedFor (held new.cell) e.msg) es) (sym does.sent)
+      subst (λ es. All (λ e. IsSavedFor (c.held new.cell) e.msg) es) (sym does.sent)
       (subst (λ b. All (λ e. IsSavedFor b e.msg) (envelopes m (m.start old.setup) old.me step)) (ap (λ y. y.cell) does.site) saved)
 
   -- the same of what came of it
-  pub result_is_saved : (choose : Choice C) → IsRight old.f choose → (is_running old.volatile.status ≡ true → old.volatile.view ≡ (held old.cell).view) → (result : Result (OutcomeOf C R O) SiteFault)
-      → Handles m held old new event result → IfOk result (λ out. All (λ e. IsSavedFor (held new.cell) e.msg) out.sent.items)
+  pub result_is_saved : (choose : Choice C) → IsRight old.f choose → (is_running old.volatile.status ≡ true → old.volatile.view ≡ (c.held old.cell).view) → (result : Result (OutcomeOf C R O) SiteFault)
+      → Handles m c old new event result → IfOk result (λ out. All (λ e. IsSavedFor (c.held new.cell) e.msg) out.sent.items)
   result_is_saved choose right holds (Ok out) h = handled_is_saved choose right holds out h
   result_is_saved choose right holds (Err fault) h = tt
 
-  dropped_not_refused : (o : Option SiteFault) → refusal old.f old.me (site_shown held old []) event ≡ o → (fault : SiteFault) → Handles m held old new event (Err fault) → (choose : Choice C) (acks : List Ack) (why : Why)
-      → IsRight old.f choose → SumUp old.volatile.acked acks → (site_step choose old.f old.me (site_shown held old acks) event).ending ≡ Dropped why → ⊥
+  dropped_not_refused : (o : Option SiteFault) → refusal old.f old.me (site_shown c.held old []) event ≡ o → (fault : SiteFault) → Handles m c old new event (Err fault) → (choose : Choice C) (acks : List Ack) (why : Why)
+      → IsRight old.f choose → SumUp old.volatile.acked acks → (site_step choose old.f old.me (site_shown c.held old acks) event).ending ≡ Dropped why → ⊥
   dropped_not_refused None none fault h choose acks why right summed e = let handled = (h.fall none choose acks right summed).handled in absurd (cc)
   dropped_not_refused (Some other) some fault h choose acks why right summed e =
-      let refused : (site_step choose old.f old.me (site_shown held old acks) event).ending ≡ Refused other =
-      ap (λ o. (refused_or (site_shown held old acks) o (on_event choose old.f old.me (site_shown held old acks) event)).ending) some in
+      let refused : (site_step choose old.f old.me (site_shown c.held old acks) event).ending ≡ Refused other =
+      ap (λ o. (refused_or (site_shown c.held old acks) o (on_event choose old.f old.me (site_shown c.held old acks) event)).ending) some in
       absurd (cc)
 
   -- what is dropped is handled
-  pub dropped_is_ok : (result : Result (OutcomeOf C R O) SiteFault) → Handles m held old new event result → (choose : Choice C) (acks : List Ack) (why : Why) → IsRight old.f choose → SumUp old.volatile.acked acks
-      → (site_step choose old.f old.me (site_shown held old acks) event).ending ≡ Dropped why → IsOk result
+  pub dropped_is_ok : (result : Result (OutcomeOf C R O) SiteFault) → Handles m c old new event result → (choose : Choice C) (acks : List Ack) (why : Why) → IsRight old.f choose → SumUp old.volatile.acked acks
+      → (site_step choose old.f old.me (site_shown c.held old acks) event).ending ≡ Dropped why → IsOk result
   dropped_is_ok (Ok out) h choose acks why right summed e = refl
-  dropped_is_ok (Err fault) h choose acks why right summed e = absurd (dropped_not_refused (refusal old.f old.me (site_shown held old []) event) refl fault h choose acks why right summed e)
+  dropped_is_ok (Err fault) h choose acks why right summed e = absurd (dropped_not_refused (refusal old.f old.me (site_shown c.held old []) event) refl fault h choose acks why right summed e)
 
 -- commands can be told apart, so there is a right choice
 pub any_choice : {C : Type 0} (f : ℕ) (eq : C → C → Bool) → 1 ≤ f → IsEquivalence eq → ((a b : C) → eq a b ≡ true → a ≡ b) → (choose : Choice C) × IsRight f choose

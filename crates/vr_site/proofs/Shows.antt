@@ -5,6 +5,7 @@ use Rattle.std.specs.declared.alloc.AllocError.{AllocError}
 use Rattle.std.proofs.lemmas.Bool.{ne_eqb}
 use Rattle.std.proofs.lemmas.Bool.Decides.{nat_tests}
 use Rattle.vr_types.specs.declared.cell.Boot.{Boot}
+use Rattle.vr_types.specs.declared.cell.BootCell.{Ghosts as Cell}
 use Rattle.vr_types.specs.declared.event.EventOf.{EventOf}
 use Rattle.vr_types.specs.declared.event.EventOf.TheVariants.{Deliver, Timer, Beat, Crash}
 use Rattle.vr_types.specs.declared.event.OutcomeOf.{OutcomeOf}
@@ -28,6 +29,7 @@ use Rattle.vr_site.specs.declared.life.Life.{Life}
 use Rattle.vr_site.specs.declared.life.Life.TheVariants as life
 use Rattle.vr_site.specs.Life.{Volatile, resting, volatile_of, site_with, IsWell}
 use Rattle.vr_site.specs.Replica.{Shown, site_shown, Does, Falls, Handles, Serves}
+use Rattle.vr_site.specs.Saving.{IsOneSave, IsSavedAtMostOnce}
 
 -- no acknowledgement sums up no numbers
 pub none_summed : SumUp [] []
@@ -38,10 +40,10 @@ pub err_is : {T E : Type 0} (result : Result T E) (x y : E) → IsErrAnd result 
 err_is (Ok value) x y h same = absurd h
 err_is (Err error) x y h same = ap (λ e. Err e) (h ∙ same)
 
-module _ {H C R O S B : Type 0} (m : Ghosts H C R O S) (held : B → Boot) where
+module _ {H C R O S B : Type 0} (m : Ghosts H C R O S) (c : Cell B) where
   -- an event that is refused, and changes nothing
-  pub refused_handles : (old new : Shown C S B) (event : EventOf C R O) (fault : SiteFault) → new ≡ old → refusal old.f old.me (site_shown held old []) event ≡ Some fault
-      → Handles {H = H} {C = C} {R = R} {O = O} m held old new event (Err fault)
+  pub refused_handles : (old new : Shown C S B) (event : EventOf C R O) (fault : SiteFault) → new ≡ old → refusal old.f old.me (site_shown c.held old []) event ≡ Some fault
+      → Handles {H = H} {C = C} {R = R} {O = O} m c old new event (Err fault)
   refused_handles old new event fault same refused = record {
     step = tt;
     refused = λ other e. (let one : Some fault ≡ Some other = sym refused ∙ e in (cc, same));
@@ -49,38 +51,39 @@ module _ {H C R O S B : Type 0} (m : Ghosts H C R O S) (held : B → Boot) where
   }
 
   -- an event that is not refused, and takes its step
-  pub stepped_handles : (old new : Shown C S B) (event : EventOf C R O) (out : OutcomeOf C R O) → refusal old.f old.me (site_shown held old []) event ≡ None
-      → ((choose : Choice C) (acks : List Ack) → IsRight old.f choose → SumUp old.volatile.acked acks → Does m held old new out (on_event choose old.f old.me (site_shown held old acks) event))
-      → Handles m held old new event (Ok out)
+  pub stepped_handles : (old new : Shown C S B) (event : EventOf C R O) (out : OutcomeOf C R O) → refusal old.f old.me (site_shown c.held old []) event ≡ None
+      → ((choose : Choice C) (acks : List Ack) → IsRight old.f choose → SumUp old.volatile.acked acks → Does m c old new out (on_event choose old.f old.me (site_shown c.held old acks) event))
+      → Handles m c old new event (Ok out)
   stepped_handles old new event out none step = record {
     step = λ choose acks right summed.
-        subst (Does m held old new out) (sym (ap (λ o. refused_or (site_shown held old acks) o (on_event choose old.f old.me (site_shown held old acks) event)) none)) (step choose acks right summed);
+        subst (Does m c old new out) (sym (ap (λ o. refused_or (site_shown c.held old acks) o (on_event choose old.f old.me (site_shown c.held old acks) event)) none)) (step choose acks right summed);
     refused = λ fault e. (let clash : None ≡ Some fault = sym none ∙ e in absurd (cc));
     fall = λ _. tt;
   }
 
   -- an event that is not refused, and in place of which the site fell
-  pub fell_handles : (old new : Shown C S B) (event : EventOf C R O) (fault : SiteFault) → refusal old.f old.me (site_shown held old []) event ≡ None
+  pub fell_handles : (old new : Shown C S B) (event : EventOf C R O) (fault : SiteFault) → refusal old.f old.me (site_shown c.held old []) event ≡ None
       → ((choose : Choice C) (acks : List Ack) → IsRight old.f choose → SumUp old.volatile.acked acks
-      → Falls held old new (site_shown held old acks) (on_event choose old.f old.me (site_shown held old acks) event) fault)
-      → Handles m held old new event (Err fault)
+      → Falls c old new (site_shown c.held old acks) (on_event choose old.f old.me (site_shown c.held old acks) event) fault)
+      → Handles m c old new event (Err fault)
   fell_handles old new event fault none falls = record {
     step = tt;
     refused = λ other e. (let clash : None ≡ Some other = sym none ∙ e in absurd (cc));
     fall = λ _ choose acks right summed.
-        subst (λ s. Falls held old new (site_shown held old acks) s fault)
-        (sym (ap (λ o. refused_or (site_shown held old acks) o (on_event choose old.f old.me (site_shown held old acks) event)) none)) (falls choose acks right summed);
+        subst (λ s. Falls c old new (site_shown c.held old acks) s fault)
+        (sym (ap (λ o. refused_or (site_shown c.held old acks) o (on_event choose old.f old.me (site_shown c.held old acks) event)) none)) (falls choose acks right summed);
   }
 
   -- a fall of a site that is down by now over the old cell
-  pub down_falls : (base : Shown C S B) (v : Volatile C) (x : Site C) (step : Step C R O) → base.volatile ≡ resting status.Down [] → x.cell ≡ held base.cell → step.ending ≡ Handled
-      → Falls held (record base { volatile = v }) base x step NoMemory
+  pub down_falls : (base : Shown C S B) (v : Volatile C) (x : Site C) (step : Step C R O) → base.volatile ≡ resting status.Down [] → x.cell ≡ c.held base.cell → step.ending ≡ Handled
+      → Falls c (record base { volatile = v }) base x step NoMemory
   down_falls base v x step volatile cell handled = record {
     f = refl;
     me = refl;
     setup = refl;
     acks = subst (λ (u : Volatile C). SumUp u.acked []) (sym volatile) none_summed;
-    site = record { allowed = ap is_refused handled; down = inl (ap (λ u. site_with u [] (held base.cell)) volatile ∙ ap (λ b. over b status.Down) (sym cell)) };
+    site = record { allowed = ap is_refused handled; down = inl (ap (λ u. site_with u [] (c.held base.cell)) volatile ∙ ap (λ b. over b status.Down) (sym cell)) };
+    saved = inl refl;
     handled = handled;
     fault = inl refl;
   }
@@ -88,48 +91,51 @@ module _ {H C R O S B : Type 0} (m : Ghosts H C R O S) (held : B → Boot) where
   module _ (base : Shown C S B) (r n : Running H C R O S) (event : EventOf C R O) where
     -- a growth was refused while it ran
     pub ran_short : (done : Result (OutcomeOf C R O) AllocError) → ((out : OutcomeOf C R O) → done ≡ Ok out → ⊥) → base.volatile ≡ resting status.Down []
-        → Serves m (m.start base.setup) base.f base.me (held base.cell) r n done event
-        → Handles m held (record base { volatile = volatile_of (life.Up r) }) base event (Err NoMemory)
+        → Serves m (m.start base.setup) base.f base.me (c.held base.cell) r n done event
+        → Handles m c (record base { volatile = volatile_of (life.Up r) }) base event (Err NoMemory)
     ran_short (Ok out) not_ok volatile serves = absurd (not_ok out refl)
     ran_short (Err error) not_ok volatile serves =
         fell_handles (record base { volatile = volatile_of (life.Up r) }) base event NoMemory serves.allowed
-        (λ choose acks right summed. down_falls base (volatile_of (life.Up r)) (site_of r acks (held base.cell)) _ volatile refl
+        (λ choose acks right summed. down_falls base (volatile_of (life.Up r)) (site_of r acks (c.held base.cell)) _ volatile refl
         (serves.follows choose acks right (record { sound = serves.sound; summed = summed })))
 
     -- it runs on, and its view is saved
     pub ran_on : (new : Shown C S B) (out : OutcomeOf C R O) → (new.f ≡ base.f) × (new.me ≡ base.me) × (new.setup ≡ base.setup)
-        → new.volatile ≡ volatile_of (life.Up n) → held new.cell ≡ record { boots = (held base.cell).boots; view = n.view }
-        → Serves m (m.start base.setup) base.f base.me (held base.cell) r n (Ok out) event
-        → Handles m held (record base { volatile = volatile_of (life.Up r) }) new event (Ok out)
-    ran_on new out config volatile cell serves =
+        → new.volatile ≡ volatile_of (life.Up n) → c.held new.cell ≡ record { boots = (c.held base.cell).boots; view = n.view }
+        → IsSavedAtMostOnce c base.cell (record { boots = (c.held base.cell).boots; view = n.view }) new.cell
+        → Serves m (m.start base.setup) base.f base.me (c.held base.cell) r n (Ok out) event
+        → Handles m c (record base { volatile = volatile_of (life.Up r) }) new event (Ok out)
+    ran_on new out config volatile cell saved serves =
         stepped_handles (record base { volatile = volatile_of (life.Up r) }) new event out serves.allowed (λ choose acks right summed.
-        let step = on_event choose base.f base.me (site_of r acks (held base.cell)) event in
+        let step = on_event choose base.f base.me (site_of r acks (c.held base.cell)) event in
         let meets : Meets m (m.start base.setup) base.f base.me n out step = serves.follows choose acks right (record { sound = serves.sound; summed = summed }) in
         let view : step.site.view ≡ n.view = ap (λ x. x.view) meets.site in
-        let holds : step.site.cell ≡ held new.cell = (serves.saves choose acks).same ∙ ap (λ v. record { boots = (held base.cell).boots; view = v }) view ∙ sym cell in
+        let holds : step.site.cell ≡ c.held new.cell = (serves.saves choose acks).same ∙ ap (λ v. record { boots = (c.held base.cell).boots; view = v }) view ∙ sym cell in
         record {
           f = config.0;
           me = config.1;
           setup = config.2;
           acks = subst (λ (u : Volatile C). SumUp u.acked step.site.collected.acks) (sym volatile) meets.running.summed;
-          site = meets.site ∙ ap (site_of n step.site.collected.acks) holds ∙ ap (λ u. site_with u step.site.collected.acks (held new.cell)) (sym volatile);
+          site = meets.site ∙ ap (site_of n step.site.collected.acks) holds ∙ ap (λ u. site_with u step.site.collected.acks (c.held new.cell)) (sym volatile);
+          saved = subst (λ b. IsSavedAtMostOnce c base.cell b new.cell) (sym (holds ∙ cell)) saved;
           sent = meets.sent;
           ending = meets.ending;
         })
 
     -- its view is another, and the cell did not save it
     pub ran_unsaved : (new : Shown C S B) (out : OutcomeOf C R O) → (new.f ≡ base.f) × (new.me ≡ base.me) × (new.setup ≡ base.setup)
-        → new.volatile ≡ resting status.Down [] → (held new.cell ≡ held base.cell) ⊎ (held new.cell ≡ record { boots = (held base.cell).boots; view = n.view })
-        → n.view ≢ (held base.cell).view
-        → Serves m (m.start base.setup) base.f base.me (held base.cell) r n (Ok out) event
-        → Handles m held (record base { volatile = volatile_of (life.Up r) }) new event (Err CellFault)
-    ran_unsaved new out config volatile cell other serves =
+        → new.volatile ≡ resting status.Down [] → (c.held new.cell ≡ c.held base.cell) ⊎ (c.held new.cell ≡ record { boots = (c.held base.cell).boots; view = n.view })
+        → n.view ≢ (c.held base.cell).view
+        → IsOneSave c base.cell (record { boots = (c.held base.cell).boots; view = n.view }) new.cell
+        → Serves m (m.start base.setup) base.f base.me (c.held base.cell) r n (Ok out) event
+        → Handles m c (record base { volatile = volatile_of (life.Up r) }) new event (Err CellFault)
+    ran_unsaved new out config volatile cell other saved serves =
         fell_handles (record base { volatile = volatile_of (life.Up r) }) new event CellFault serves.allowed (λ choose acks right summed.
-        let x = site_of r acks (held base.cell) in
+        let x = site_of r acks (c.held base.cell) in
         let step = on_event choose base.f base.me x event in
         let meets : Meets m (m.start base.setup) base.f base.me n out step = serves.follows choose acks right (record { sound = serves.sound; summed = summed }) in
         let view : step.site.view ≡ n.view = ap (λ y. y.view) meets.site in
-        let holds : step.site.cell ≡ record { boots = (held base.cell).boots; view = n.view } = (serves.saves choose acks).same ∙ ap (λ v. record { boots = (held base.cell).boots; view = v }) view in
+        let holds : step.site.cell ≡ record { boots = (c.held base.cell).boots; view = n.view } = (serves.saves choose acks).same ∙ ap (λ v. record { boots = (c.held base.cell).boots; view = v }) view in
         let changed : (why : Why) → step.ending ≡ Dropped why → ⊥ = λ why e. other (sym view ∙ ap (λ y. y.view) (serves.quiet choose acks why e) ∙ serves.view) in
         let handled = by_dropped step out.dropped meets.ending changed in
         record {
@@ -141,19 +147,20 @@ module _ {H C R O S B : Type 0} (m : Ghosts H C R O S) (held : B → Boot) where
             allowed = ap is_refused handled;
             down = by_cell x step holds cell volatile;
           };
+          saved = inr (subst (λ b. IsOneSave c base.cell b new.cell) (sym holds) saved);
           handled = handled;
-          fault = inr refl;
+          fault = inr (refl, subst (λ b. IsOneSave c base.cell b new.cell) (sym holds) saved);
         })
       where
         by_dropped : (step : Step C R O) (o : Option Why) → step.ending ≡ ended o → ((why : Why) → step.ending ≡ Dropped why → ⊥) → step.ending ≡ Handled
         by_dropped step None e changed = e
         by_dropped step (Some why) e changed = absurd (changed why e)
 
-        by_cell : (x : Site C) (step : Step C R O) → step.site.cell ≡ record { boots = (held base.cell).boots; view = n.view }
-            → (held new.cell ≡ held base.cell) ⊎ (held new.cell ≡ record { boots = (held base.cell).boots; view = n.view }) → new.volatile ≡ resting status.Down []
-            → (site_shown held new [] ≡ over (held base.cell) status.Down) ⊎ (site_shown held new [] ≡ over step.site.cell status.Down)
-        by_cell x step holds (inl e) down = inl (ap (λ u. site_with u [] (held new.cell)) down ∙ ap (λ b. over b status.Down) e)
-        by_cell x step holds (inr e) down = inr (ap (λ u. site_with u [] (held new.cell)) down ∙ ap (λ b. over b status.Down) (e ∙ sym holds))
+        by_cell : (x : Site C) (step : Step C R O) → step.site.cell ≡ record { boots = (c.held base.cell).boots; view = n.view }
+            → (c.held new.cell ≡ c.held base.cell) ⊎ (c.held new.cell ≡ record { boots = (c.held base.cell).boots; view = n.view }) → new.volatile ≡ resting status.Down []
+            → (site_shown c.held new [] ≡ over (c.held base.cell) status.Down) ⊎ (site_shown c.held new [] ≡ over step.site.cell status.Down)
+        by_cell x step holds (inl e) down = inl (ap (λ u. site_with u [] (c.held new.cell)) down ∙ ap (λ b. over b status.Down) e)
+        by_cell x step holds (inr e) down = inr (ap (λ u. site_with u [] (c.held new.cell)) down ∙ ap (λ b. over b status.Down) (e ∙ sym holds))
 
 -- what runs is not down
 pub up_is_not_down : (s : Status) → is_running s ≡ true → is_down s ≡ false

@@ -3,6 +3,7 @@ use Rattle.std.proofs.Common.{◌≡◌, ◌⊎◌, inl, inr, List, [], refl, sy
 use Rattle.std.specs.Prelude.{Result, Ok, Err}
 use Rattle.std.specs.declared.alloc.AllocError.{AllocError}
 use Rattle.vr_types.specs.declared.cell.Boot.{Boot}
+use Rattle.vr_types.specs.declared.cell.BootCell.{Ghosts as Cell}
 use Rattle.vr_types.specs.declared.event.EventOf.{EventOf}
 use Rattle.vr_types.specs.declared.event.OutcomeOf.{OutcomeOf}
 use Rattle.vr_types.specs.declared.event.SiteFault.TheVariants.{NoMemory, CellFault}
@@ -20,85 +21,92 @@ use Rattle.vr_recover.specs.Recovering.{responses_of, recovering_site}
 use Rattle.vr_site.specs.declared.life.Life.TheVariants as life
 use Rattle.vr_site.specs.Life.{Volatile, resting, volatile_of, site_with}
 use Rattle.vr_site.specs.Replica.{Shown, site_shown, Does, Falls, Handles, Awaits}
+use Rattle.vr_site.specs.Saving.{IsOneSave, IsSavedAtMostOnce}
 use Rattle.vr_site.proofs.Shows.{none_summed, stepped_handles, fell_handles, down_falls}
 
-module _ {H C R O S B : Type 0} (m : Ghosts H C R O S) (held : B → Boot) (base : Shown C S B) (before now : List (ResponseOf C)) (event : EventOf C R O) where
+module _ {H C R O S B : Type 0} (m : Ghosts H C R O S) (c : Cell B) (base : Shown C S B) (before now : List (ResponseOf C)) (event : EventOf C R O) where
   -- the replica before
   abbrev first : Shown C S B
   first = record base { volatile = resting status.Recovering (responses_of before) }
 
   -- a growth was refused
   pub waited_short : (progress : Result (Progress H C R O S) AllocError) → ((p : Progress H C R O S) → progress ≡ Ok p → ⊥) → base.volatile ≡ resting status.Down []
-      → Awaits base.f base.me (held base.cell) before now progress event → Handles m held first base event (Err NoMemory)
+      → Awaits base.f base.me (c.held base.cell) before now progress event → Handles m c first base event (Err NoMemory)
   waited_short (Ok p) not_ok volatile awaits = absurd (not_ok p refl)
   waited_short (Err error) not_ok volatile awaits =
-      fell_handles m held first base event NoMemory awaits.allowed
-      (λ choose acks right summed. down_falls m held base first.volatile (recovering_site before acks (held base.cell)) _ volatile refl (awaits.follows choose acks right))
+      fell_handles m c first base event NoMemory awaits.allowed
+      (λ choose acks right summed. down_falls m c base first.volatile (recovering_site before acks (c.held base.cell)) _ volatile refl (awaits.follows choose acks right))
 
   module _ (new : Shown C S B) (config : (new.f ≡ base.f) × (new.me ≡ base.me) × (new.setup ≡ base.setup)) where
     -- the event was dropped
     pub waited_dropped : (out : OutcomeOf C R O) (why : Why) → new.volatile ≡ resting status.Recovering (responses_of now) → new.cell ≡ base.cell → Drops out why
-        → Awaits {H = H} {C = C} {R = R} {O = O} {S = S} base.f base.me (held base.cell) before now (Ok (Dropped why)) event → Handles m held first new event (Ok out)
-    waited_dropped out why volatile cell d awaits = stepped_handles m held first new event out awaits.allowed (λ choose acks right summed.
-        subst (Does m held first new out) (sym (awaits.follows choose acks right))
+        → Awaits {H = H} {C = C} {R = R} {O = O} {S = S} base.f base.me (c.held base.cell) before now (Ok (Dropped why)) event → Handles m c first new event (Ok out)
+    waited_dropped out why volatile cell d awaits = stepped_handles m c first new event out awaits.allowed (λ choose acks right summed.
+        subst (Does m c first new out) (sym (awaits.follows choose acks right))
         (record {
           f = config.0;
           me = config.1;
           setup = config.2;
           acks = subst (λ (u : Volatile C). SumUp u.acked acks) (sym volatile) summed;
-          site = ap (λ b. recovering_site now acks (held b)) (sym cell) ∙ ap (λ u. site_with u acks (held new.cell)) (sym volatile);
+          site = ap (λ b. recovering_site now acks (c.held b)) (sym cell) ∙ ap (λ u. site_with u acks (c.held new.cell)) (sym volatile);
+          saved = inl cell;
           sent = d.mails;
           ending = ap ended (sym d.dropped);
         }))
 
     -- the response was kept
     pub waited_on : (out : OutcomeOf C R O) → new.volatile ≡ resting status.Recovering (responses_of now) → new.cell ≡ base.cell → Sends out []
-        → Awaits {H = H} {C = C} {R = R} {O = O} {S = S} base.f base.me (held base.cell) before now (Ok Waits) event → Handles m held first new event (Ok out)
-    waited_on out volatile cell s awaits = stepped_handles m held first new event out awaits.allowed (λ choose acks right summed.
-        subst (Does m held first new out) (sym (awaits.follows choose acks right))
+        → Awaits {H = H} {C = C} {R = R} {O = O} {S = S} base.f base.me (c.held base.cell) before now (Ok Waits) event → Handles m c first new event (Ok out)
+    waited_on out volatile cell s awaits = stepped_handles m c first new event out awaits.allowed (λ choose acks right summed.
+        subst (Does m c first new out) (sym (awaits.follows choose acks right))
         (record {
           f = config.0;
           me = config.1;
           setup = config.2;
           acks = subst (λ (u : Volatile C). SumUp u.acked acks) (sym volatile) summed;
-          site = ap (λ b. recovering_site now acks (held b)) (sym cell) ∙ ap (λ u. site_with u acks (held new.cell)) (sym volatile);
+          site = ap (λ b. recovering_site now acks (c.held b)) (sym cell) ∙ ap (λ u. site_with u acks (c.held new.cell)) (sym volatile);
+          saved = inl cell;
           sent = s.mails;
           ending = ap ended (sym s.dropped);
         }))
 
     -- the state was regained, and its view saved
     pub regained_on : (out : OutcomeOf C R O) (r : Running H C R O S) → IsRunning m (m.start base.setup) base.f r [] → new.volatile ≡ volatile_of (life.Up r)
-        → held new.cell ≡ record { boots = (held base.cell).boots; view = r.view } → Sends out []
-        → Awaits base.f base.me (held base.cell) before now (Ok (Regained r)) event → Handles m held first new event (Ok out)
-    regained_on out r runs volatile cell s awaits = stepped_handles m held first new event out awaits.allowed (λ choose acks right summed.
-        subst (Does m held first new out) (sym (awaits.follows choose acks right))
+        → c.held new.cell ≡ record { boots = (c.held base.cell).boots; view = r.view }
+        → IsSavedAtMostOnce c base.cell (record { boots = (c.held base.cell).boots; view = r.view }) new.cell → Sends out []
+        → Awaits base.f base.me (c.held base.cell) before now (Ok (Regained r)) event → Handles m c first new event (Ok out)
+    regained_on out r runs volatile cell saved s awaits = stepped_handles m c first new event out awaits.allowed (λ choose acks right summed.
+        subst (Does m c first new out) (sym (awaits.follows choose acks right))
         (record {
           f = config.0;
           me = config.1;
           setup = config.2;
           acks = subst (λ (u : Volatile C). SumUp u.acked []) (sym volatile) runs.summed;
-          site = ap (site_of r []) (sym cell) ∙ ap (λ u. site_with u [] (held new.cell)) (sym volatile);
+          site = ap (site_of r []) (sym cell) ∙ ap (λ u. site_with u [] (c.held new.cell)) (sym volatile);
+          saved = saved;
           sent = s.mails;
           ending = ap ended (sym s.dropped);
         }))
 
     -- the state was regained, and the cell did not save its view
     pub regained_unsaved : (r : Running H C R O S) → new.volatile ≡ resting status.Down []
-        → (held new.cell ≡ held base.cell) ⊎ (held new.cell ≡ record { boots = (held base.cell).boots; view = r.view })
-        → Awaits base.f base.me (held base.cell) before now (Ok (Regained r)) event → Handles m held first new event (Err CellFault)
-    regained_unsaved r volatile cell awaits = fell_handles m held first new event CellFault awaits.allowed (λ choose acks right summed.
-        subst (λ step. Falls held first new (site_shown held first acks) step CellFault) (sym (awaits.follows choose acks right))
+        → (c.held new.cell ≡ c.held base.cell) ⊎ (c.held new.cell ≡ record { boots = (c.held base.cell).boots; view = r.view })
+        → IsOneSave c base.cell (record { boots = (c.held base.cell).boots; view = r.view }) new.cell
+        → Awaits base.f base.me (c.held base.cell) before now (Ok (Regained r)) event → Handles m c first new event (Err CellFault)
+    regained_unsaved r volatile cell saved awaits = fell_handles m c first new event CellFault awaits.allowed (λ choose acks right summed.
+        subst (λ step. Falls c first new (site_shown c.held first acks) step CellFault) (sym (awaits.follows choose acks right))
         (record {
           f = config.0;
           me = config.1;
           setup = config.2;
           acks = subst (λ (u : Volatile C). SumUp u.acked []) (sym volatile) none_summed;
           site = record { allowed = refl; down = by_cell cell };
+          saved = inr saved;
           handled = refl;
-          fault = inr refl;
+          fault = inr (refl, saved);
         }))
       where
-        by_cell : (held new.cell ≡ held base.cell) ⊎ (held new.cell ≡ record { boots = (held base.cell).boots; view = r.view })
-            → (site_shown held new [] ≡ over (held base.cell) status.Down) ⊎ (site_shown held new [] ≡ over (record { boots = (held base.cell).boots; view = r.view }) status.Down)
-        by_cell (inl e) = inl (ap (λ u. site_with u [] (held new.cell)) volatile ∙ ap (λ b. over b status.Down) e)
-        by_cell (inr e) = inr (ap (λ u. site_with u [] (held new.cell)) volatile ∙ ap (λ b. over b status.Down) e)
+        by_cell : (c.held new.cell ≡ c.held base.cell) ⊎ (c.held new.cell ≡ record { boots = (c.held base.cell).boots; view = r.view })
+            → (site_shown c.held new [] ≡ over (c.held base.cell) status.Down) ⊎ (site_shown c.held new [] ≡ over (record { boots = (c.held base.cell).boots; view = r.view }) status.Down)
+        by_cell (inl e) = inl (ap (λ u. site_with u [] (c.held new.cell)) volatile ∙ ap (λ b. over b status.Down) e)
+        by_cell (inr e) = inr (ap (λ u. site_with u [] (c.held new.cell)) volatile ∙ ap (λ b. over b status.Down) e)

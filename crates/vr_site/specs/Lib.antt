@@ -1,3 +1,4 @@
 pub mod Life
 pub mod Replica
 pub mod Tally
+pub mod Saving

@@ -2,6 +2,7 @@
 use Rattle.std.specs.Prelude.{◌≡◌, ◌⊎◌, ℕ, List, [], Some, None, Result, Err, IfOk, IfErr}
 use Rattle.std.specs.declared.alloc.AllocError.{AllocError}
 use Rattle.vr_types.specs.declared.cell.Boot.{Boot}
+use Rattle.vr_types.specs.declared.cell.BootCell.{Ghosts as Cell}
 use Rattle.vr_types.specs.declared.event.EventOf.{EventOf}
 use Rattle.vr_types.specs.declared.event.OutcomeOf.{OutcomeOf}
 use Rattle.vr_types.specs.declared.event.SiteFault.{SiteFault}
@@ -22,6 +23,7 @@ use Rattle.vr_recover.specs.Progress.{FollowsProgress}
 use Rattle.vr_recover.specs.Recovering.{recovering_site}
 use Rattle.vr_site.specs.declared.life.Life.{Life}
 use Rattle.vr_site.specs.Life.{Volatile, volatile_of, site_with}
+use Rattle.vr_site.specs.Saving.{IsOneSave, IsSavedAtMostOnce}
 
 -- what a replica shows: B is the type of its cell
 pub record Shown (C S B : Type 0) : Type 0 where
@@ -39,33 +41,38 @@ shown f me setup cell life = record { f = f; me = me; setup = setup; cell = cell
 abbrev pub site_shown : {C S B : Type 0} → (B → Boot) → Shown C S B → List Ack → Site C
 site_shown held v acks = site_with v.volatile acks (held v.cell)
 
--- What was done is the step: what is shown is the site after it, the outcome is the step's, and the rest is as before.
-pub record Does {H C R O S B : Type 0} (m : Ghosts H C R O S) (held : B → Boot) (old new : Shown C S B) (out : OutcomeOf C R O) (step : Step C R O) : Type 0 where
+-- What was done is the step: what is shown is the site after it, the outcome is the step's, and the rest is as before. The cell is saved where it held another value, and there once.
+pub record Does {H C R O S B : Type 0} (m : Ghosts H C R O S) (c : Cell B) (old new : Shown C S B) (out : OutcomeOf C R O) (step : Step C R O) : Type 0 where
   pub f : new.f ≡ old.f
   pub me : new.me ≡ old.me
   pub setup : new.setup ≡ old.setup
   pub acks : SumUp new.volatile.acked step.site.collected.acks
-  pub site : step.site ≡ site_shown held new step.site.collected.acks
+  pub site : step.site ≡ site_shown c.held new step.site.collected.acks
+  pub saved : IsSavedAtMostOnce c old.cell step.site.cell new.cell
   pub sent : out.sent.items ≡ envelopes m (m.start old.setup) old.me step
   pub ending : step.ending ≡ ended out.dropped
 
--- The site fell in place of the step, for want of memory or by its cell's fault: only where the event is handled and not dropped.
-pub record Falls {C R O S B : Type 0} (held : B → Boot) (old new : Shown C S B) (x : Site C) (step : Step C R O) (why : SiteFault) : Type 0 where
+-- The site fell in place of the step, only where the event is handled and not dropped: for want of memory, or as the one save of the step's value failed.
+pub record Falls {C R O S B : Type 0} (c : Cell B) (old new : Shown C S B) (x : Site C) (step : Step C R O) (why : SiteFault) : Type 0 where
   pub f : new.f ≡ old.f
   pub me : new.me ≡ old.me
   pub setup : new.setup ≡ old.setup
   pub acks : SumUp new.volatile.acked []
-  pub site : IsFall x step (site_shown held new [])
+  pub site : IsFall x step (site_shown c.held new [])
+  pub saved : IsSavedAtMostOnce c old.cell step.site.cell new.cell
   pub handled : step.ending ≡ Handled
-  pub fault : (why ≡ NoMemory) ⊎ (why ≡ CellFault)
+  pub fault : (why ≡ NoMemory) ⊎ ((why ≡ CellFault) × IsOneSave c old.cell step.site.cell new.cell)
 
--- An event was handled as the site step says: an outcome is the step's; an event that is refused changes nothing, and no other is; any other fault is a fall.
-pub record Handles {H C R O S B : Type 0} (m : Ghosts H C R O S) (held : B → Boot) (old new : Shown C S B) (event : EventOf C R O) (result : Result (OutcomeOf C R O) SiteFault) : Type 0 where
+-- An event was handled as the site step says, for any right choice and any acknowledgements that the kept numbers sum up.
+pub record Handles {H C R O S B : Type 0} (m : Ghosts H C R O S) (c : Cell B) (old new : Shown C S B) (event : EventOf C R O) (result : Result (OutcomeOf C R O) SiteFault) : Type 0 where
+  -- an outcome is the step's
   pub step : IfOk result (λ out. (choose : Choice C) (acks : List Ack) → IsRight old.f choose → SumUp old.volatile.acked acks →
-      Does m held old new out (site_step choose old.f old.me (site_shown held old acks) event))
-  pub refused : (fault : SiteFault) → refusal old.f old.me (site_shown held old []) event ≡ Some fault → (result ≡ Err fault) × (new ≡ old)
-  pub fall : refusal old.f old.me (site_shown held old []) event ≡ None → IfErr result (λ fault. (choose : Choice C) (acks : List Ack) → IsRight old.f choose → SumUp old.volatile.acked acks →
-      Falls held old new (site_shown held old acks) (site_step choose old.f old.me (site_shown held old acks) event) fault)
+      Does m c old new out (site_step choose old.f old.me (site_shown c.held old acks) event))
+  -- an event that is refused changes nothing, and the fault is the refusal
+  pub refused : (fault : SiteFault) → refusal old.f old.me (site_shown c.held old []) event ≡ Some fault → (result ≡ Err fault) × (new ≡ old)
+  -- any other fault is a fall
+  pub fall : refusal old.f old.me (site_shown c.held old []) event ≡ None → IfErr result (λ fault. (choose : Choice C) (acks : List Ack) → IsRight old.f choose → SumUp old.volatile.acked acks →
+      Falls c old new (site_shown c.held old acks) (site_step choose old.f old.me (site_shown c.held old acks) event) fault)
 
 -- What ran follows the step of an event that is not refused: what runs by now, and what was done. The step saves the view that it leads to, and changes nothing where it drops the event.
 pub record Serves {H C R O S : Type 0} (m : Ghosts H C R O S) (start : H) (f me : ℕ) (cell : Boot) (old new : Running H C R O S) (done : Result (OutcomeOf C R O) AllocError) (event : EventOf C R O) : Type 0 where

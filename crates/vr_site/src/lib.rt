@@ -12,4 +12,6 @@ mod waiting;
 pub use replica::Replica;
 
 #[cfg(test)]
+mod refused;
+#[cfg(test)]
 mod tests;

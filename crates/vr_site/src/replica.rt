@@ -12,6 +12,7 @@ ghost use Rattle.vr_recover.specs.declared.recovering.ResponseOf.{ResponseOf};
 ghost use Rattle.vr_recover.specs.Progress.{IsSoundProgress};
 ghost use Rattle.vr_recover.specs.Recovering.{responses_of, IsOneEach};
 ghost use Rattle.vr_site.specs.Life.{resting, volatile_of};
+ghost use Rattle.vr_site.specs.Saving.{IsOneSave, IsSavedAtMostOnce};
 
 use crate::addressing::is_mine;
 use crate::life::Life;
@@ -88,16 +89,7 @@ impl<M: Machine, C: BootCell> Replica<M, C> {
     /// event, which then changes nothing. `NoMemory` and `CellFault` leave the site down with nothing sent; the cell
     /// holds the old value, or the one that the event saves. A crash, and an event that is dropped, take no memory.
     pub fn handle(&mut self, alloc: Global, event: Event<M>) -> Result<Outcome<M>, SiteFault>
-        // What was done is the step.
-        ensures step { IfOk result (λ out. (choose : Choice M.Cmd) (acks : List Ack) → IsRight self.old.f choose → SumUp self.old.volatile.acked acks →
-            Does M.Machine C.held self.old self.new out (site_step choose self.old.f self.old.me (site_shown C.held self.old acks) event)) }
-        // A refused event changes nothing, and it is the right refusal.
-        ensures refused { (fault : SiteFault) → refusal self.old.f self.old.me (site_shown C.held self.old []) event ≡ Some fault →
-            (result ≡ Err fault) × (self.new ≡ self.old) }
-        // Any other fault is a fall, in place of a step that handles the event.
-        ensures fall { refusal self.old.f self.old.me (site_shown C.held self.old []) event ≡ None → IfErr result (λ fault. (choose : Choice M.Cmd) (acks : List Ack) →
-            IsRight self.old.f choose → SumUp self.old.volatile.acked acks →
-            Falls C.held self.old self.new (site_shown C.held self.old acks) (site_step choose self.old.f self.old.me (site_shown C.held self.old acks) event) fault) }
+        ensures handles { Handles M.Machine C.BootCell self.old self.new event result }
         // A crash takes no memory, nor does an event that is dropped.
         ensures crash { event ≡ AnyEvent.Crash → self.old.volatile.status ≢ Status.Down → IsOk result }
         ensures dropped { (choose : Choice M.Cmd) (acks : List Ack) (why : Why) → IsRight self.old.f choose → SumUp self.old.volatile.acked acks →
@@ -121,7 +113,7 @@ impl<M: Machine, C: BootCell> Replica<M, C> {
 
     /// Takes a message.
     fn deliver(&mut self, alloc: Global, envelope: Envelope<M>) -> Result<Outcome<M>, SiteFault>
-        ensures handles { Handles M.Machine C.held self.old self.new (EventOf.Deliver envelope) result }
+        ensures handles { Handles M.Machine C.BootCell self.old self.new (EventOf.Deliver envelope) result }
         ensures cause { IsErrOf result SiteFault.CellFault → HasRisen (C.faults self.old.cell) (C.faults self.new.cell) }
         ensures reliable { C.is_reliable self.old.cell → C.is_reliable self.new.cell × (result ≢ Err SiteFault.CellFault) }
     {
@@ -155,7 +147,7 @@ impl<M: Machine, C: BootCell> Replica<M, C> {
         requires down { self.old.volatile ≡ resting Status.Down [] }
         requires well { IsSound M.Machine (M.start self.old.setup) self.old.f running × (running.view ≡ (C.held self.old.cell).view) }
         requires mine { is_addressed self.old.f self.old.me envelope ≡ true }
-        ensures handles { Handles M.Machine C.held (record self.old { volatile = volatile_of (Life.Up running) }) self.new (EventOf.Deliver envelope) result }
+        ensures handles { Handles M.Machine C.BootCell (record self.old { volatile = volatile_of (Life.Up running) }) self.new (EventOf.Deliver envelope) result }
         ensures cause { IsErrOf result SiteFault.CellFault → HasRisen (C.faults self.old.cell) (C.faults self.new.cell) }
         ensures reliable { C.is_reliable self.old.cell → C.is_reliable self.new.cell × (result ≢ Err SiteFault.CellFault) }
     {
@@ -180,7 +172,7 @@ impl<M: Machine, C: BootCell> Replica<M, C> {
         requires one_each { IsOneEach recovering.responses.items }
         requires admits { M.admits self.old.setup }
         requires mine { is_addressed self.old.f self.old.me envelope ≡ true }
-        ensures handles { Handles M.Machine C.held (record self.old { volatile = resting Status.Recovering (responses_of recovering.responses.items) }) self.new (EventOf.Deliver envelope) result }
+        ensures handles { Handles M.Machine C.BootCell (record self.old { volatile = resting Status.Recovering (responses_of recovering.responses.items) }) self.new (EventOf.Deliver envelope) result }
         ensures cause { IsErrOf result SiteFault.CellFault → HasRisen (C.faults self.old.cell) (C.faults self.new.cell) }
         ensures reliable { C.is_reliable self.old.cell → C.is_reliable self.new.cell × (result ≢ Err SiteFault.CellFault) }
     {
@@ -199,7 +191,7 @@ impl<M: Machine, C: BootCell> Replica<M, C> {
 
     /// The site changes to the next view.
     fn timer(&mut self, alloc: Global) -> Result<Outcome<M>, SiteFault>
-        ensures handles { Handles M.Machine C.held self.old self.new EventOf.Timer result }
+        ensures handles { Handles M.Machine C.BootCell self.old self.new EventOf.Timer result }
         ensures cause { IsErrOf result SiteFault.CellFault → HasRisen (C.faults self.old.cell) (C.faults self.new.cell) }
         ensures reliable { C.is_reliable self.old.cell → C.is_reliable self.new.cell × (result ≢ Err SiteFault.CellFault) }
     {
@@ -221,7 +213,7 @@ impl<M: Machine, C: BootCell> Replica<M, C> {
 
     /// Says again what may have been lost.
     fn beat(&mut self, alloc: Global) -> Result<Outcome<M>, SiteFault>
-        ensures handles { Handles M.Machine C.held self.old self.new EventOf.Beat result }
+        ensures handles { Handles M.Machine C.BootCell self.old self.new EventOf.Beat result }
         ensures cause { IsErrOf result SiteFault.CellFault → HasRisen (C.faults self.old.cell) (C.faults self.new.cell) }
         ensures reliable { C.is_reliable self.old.cell → C.is_reliable self.new.cell × (result ≢ Err SiteFault.CellFault) }
     {
@@ -244,7 +236,7 @@ impl<M: Machine, C: BootCell> Replica<M, C> {
 
     /// Loses all but the cell.
     fn crash(&mut self, alloc: Global) -> Result<Outcome<M>, SiteFault>
-        ensures handles { Handles M.Machine C.held self.old self.new EventOf.Crash result }
+        ensures handles { Handles M.Machine C.BootCell self.old self.new EventOf.Crash result }
         ensures cell { self.new.cell ≡ self.old.cell }
         ensures up { self.old.volatile.status ≢ Status.Down → IsOk result }
         ensures no_cell_fault { result ≢ Err SiteFault.CellFault }
@@ -257,7 +249,7 @@ impl<M: Machine, C: BootCell> Replica<M, C> {
 
     /// Comes up again, and asks all others for the state.
     fn restart(&mut self, alloc: Global) -> Result<Outcome<M>, SiteFault>
-        ensures handles { Handles M.Machine C.held self.old self.new EventOf.Restart result }
+        ensures handles { Handles M.Machine C.BootCell self.old self.new EventOf.Restart result }
         ensures cause { IsErrOf result SiteFault.CellFault → HasRisen (C.faults self.old.cell) (C.faults self.new.cell) }
         ensures reliable { C.is_reliable self.old.cell → C.is_reliable self.new.cell × (result ≢ Err SiteFault.CellFault) }
     {
@@ -296,7 +288,7 @@ impl<M: Machine, C: BootCell> Replica<M, C> {
         requires sound { OnOk done (IsSound M.Machine (M.start self.old.setup) self.old.f running) }
         ensures handles { (before : AnyRunning M M.Cmd M.Reply M.Order M.Setup) (event : AnyEvent M.Cmd M.Reply M.Order) →
             Serves M.Machine (M.start self.old.setup) self.old.f self.old.me (C.held self.old.cell) before running done event →
-            Handles M.Machine C.held (record self.old { volatile = volatile_of (Life.Up before) }) self.new event result }
+            Handles M.Machine C.BootCell (record self.old { volatile = volatile_of (Life.Up before) }) self.new event result }
         ensures cause { IsErrOf result SiteFault.CellFault → HasRisen (C.faults self.old.cell) (C.faults self.new.cell) }
         ensures reliable { C.is_reliable self.old.cell → C.is_reliable self.new.cell × (result ≢ Err SiteFault.CellFault) }
     {
@@ -318,7 +310,7 @@ impl<M: Machine, C: BootCell> Replica<M, C> {
         requires sound { IfOk progress (λ progress. IsSoundProgress M.Machine (M.start self.old.setup) self.old.f recovering.responses.items progress) }
         ensures handles { (before : List (ResponseOf M.Cmd)) (event : AnyEvent M.Cmd M.Reply M.Order) →
             Awaits self.old.f self.old.me (C.held self.old.cell) before recovering.responses.items progress event →
-            Handles M.Machine C.held (record self.old { volatile = resting Status.Recovering (responses_of before) }) self.new event result }
+            Handles M.Machine C.BootCell (record self.old { volatile = resting Status.Recovering (responses_of before) }) self.new event result }
         ensures cause { IsErrOf result SiteFault.CellFault → HasRisen (C.faults self.old.cell) (C.faults self.new.cell) }
         ensures reliable { C.is_reliable self.old.cell → C.is_reliable self.new.cell × (result ≢ Err SiteFault.CellFault) }
     {
@@ -347,10 +339,12 @@ impl<M: Machine, C: BootCell> Replica<M, C> {
         ensures config { (self.new.f ≡ self.old.f) × (self.new.me ≡ self.old.me) × (self.new.setup ≡ self.old.setup) }
         ensures up { OnOk result (self.new.volatile ≡ volatile_of (Life.Up running)) }
         ensures saved { OnOk result (C.held self.new.cell ≡ record { boots = (C.held self.old.cell).boots; view = running.view }) }
+        ensures once { OnOk result (IsSavedAtMostOnce C.BootCell self.old.cell (record { boots = (C.held self.old.cell).boots; view = running.view }) self.new.cell) }
         ensures down { OnErr result (self.new.volatile ≡ resting Status.Down []) }
         ensures fault { IfErr result (λ fault. fault ≡ SiteFault.CellFault) }
         ensures cell { OnErr result ((C.held self.new.cell ≡ C.held self.old.cell) ⊎ (C.held self.new.cell ≡ record { boots = (C.held self.old.cell).boots; view = running.view })) }
         ensures other { OnErr result (running.view ≢ (C.held self.old.cell).view) }
+        ensures failed { OnErr result (IsOneSave C.BootCell self.old.cell (record { boots = (C.held self.old.cell).boots; view = running.view }) self.new.cell) }
         ensures cause { OnErr result (HasRisen (C.faults self.old.cell) (C.faults self.new.cell)) }
         ensures reliable { C.is_reliable self.old.cell → C.is_reliable self.new.cell × IsOk result }
     {
@@ -442,6 +436,7 @@ impl<M: Machine, C: BootCell> Replica<M, C> {
 fn save<C: BootCell>(cell: &mut C, boot: Boot) -> Result<(), SiteFault>
     ensures ok { OnOk result (C.held cell.new ≡ boot) }
     ensures err { OnErr result ((C.held cell.new ≡ C.held cell.old) ⊎ (C.held cell.new ≡ boot)) }
+    ensures saves { C.saves cell.old boot cell.new }
     ensures fault { IfErr result (λ fault. fault ≡ SiteFault.CellFault) }
     ensures cause { OnErr result (HasRisen (C.faults cell.old) (C.faults cell.new)) }
     ensures reliable { C.is_reliable cell.old → IsOk result × C.is_reliable cell.new }

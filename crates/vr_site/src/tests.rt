@@ -9,7 +9,7 @@ use vr_types::{
     RowsOf, SiteFault, StateOf, Status, Why,
 };
 
-type Site = Replica<Tally, MemCell>;
+pub type Site = Replica<Tally, MemCell>;
 
 /// What a message says, and how many rows it carries.
 #[derive(Clone, Copy, Debug, PartialEq, Eq)]
@@ -96,21 +96,21 @@ fn fails(alloc: Global, site: &mut Site, event: Event<Tally>, fault: SiteFault) 
 }
 
 /// A site of three over a cell, whose tally begins at 7.
-fn over(alloc: Global, me: u16, cell: MemCell) -> Result<Site, AllocError>
+pub fn over(alloc: Global, me: u16, cell: MemCell) -> Result<Site, AllocError>
     requires { me ≤ 2 }
 {
     Replica::new(alloc, Config { f: 1, me }, 7, cell)
 }
 
 /// The same over a new cell.
-fn site(alloc: Global, me: u16) -> Result<Site, AllocError>
+pub fn site(alloc: Global, me: u16) -> Result<Site, AllocError>
     requires { me ≤ 2 }
 {
     over(alloc, me, MemCell::new())
 }
 
 /// An envelope to a site.
-fn to(site: u16, from: u16, msg: Msg<Tally>) -> Event<Tally>
+pub fn to(site: u16, from: u16, msg: Msg<Tally>) -> Event<Tally>
     requires { site ≤ 2 }
 {
     EventOf::Deliver(EnvelopeOf {
@@ -130,7 +130,7 @@ fn row_of(number: u32) -> RowOf<Ask> {
 }
 
 /// Client 5 asks to add 3.
-fn add_3(site: u16, number: u32) -> Event<Tally>
+pub fn add_3(site: u16, number: u32) -> Event<Tally>
     requires { site ≤ 2 }
 {
     let cmd = Ask::Add(3);
@@ -138,12 +138,12 @@ fn add_3(site: u16, number: u32) -> Event<Tally>
 }
 
 /// PREPAREOK(0, 1) to the primary.
-fn acknowledged(from: u16) -> Event<Tally> {
+pub fn acknowledged(from: u16) -> Event<Tally> {
     to(0, from, MsgOf::PrepareOk { view: 0, place: 1 })
 }
 
 /// PREPARE(view, place, done, row) to a site, of client 5's request of that number.
-fn prepare(site: u16, view: u32, place: u16, done: u16) -> Event<Tally>
+pub fn prepare(site: u16, view: u32, place: u16, done: u16) -> Event<Tally>
     requires { site ≤ 2 }
 {
     let row = row_of(place as u32);
@@ -324,7 +324,7 @@ fn number_that_was_kept_is_not_used_again(rt: HostRuntime) -> Result<(), Fail> {
 }
 
 /// A cell that holds this, and no save of which fails.
-fn cell_of(boots: u32, view: u32) -> Result<MemCell, CellFault> {
+pub fn cell_of(boots: u32, view: u32) -> Result<MemCell, CellFault> {
     let mut cell = MemCell::new();
     cell.save(Boot { boots, view })?;
     Ok(cell)
@@ -362,7 +362,7 @@ fn greatest_view_is_not_passed(rt: HostRuntime) -> Result<(), Fail> {
 }
 
 /// RECOVERY(1) of site 2.
-fn asked(site: u16) -> Event<Tally>
+pub fn asked(site: u16) -> Event<Tally>
     requires { site ≤ 2 }
 {
     to(site, 202, MsgOf::Recovery { nonce: 1 })
@@ -381,14 +381,14 @@ fn primary_alone_answers_with_its_state(rt: HostRuntime) -> Result<(), Fail> {
 }
 
 /// Client 5's first request, as the rows of a message.
-fn one_row(alloc: Global) -> Result<RowsOf<Ask>, AllocError> {
+pub fn one_row(alloc: Global) -> Result<RowsOf<Ask>, AllocError> {
     let mut rows = RowsOf::new(alloc);
     rows.push(row_of(1))?;
     Ok(rows)
 }
 
 /// RECOVERYRESPONSE(0, nonce) of the primary to site 2.
-fn answer(alloc: Global, nonce: u32) -> Result<Event<Tally>, AllocError> {
+pub fn answer(alloc: Global, nonce: u32) -> Result<Event<Tally>, AllocError> {
     let rows = one_row(alloc)?;
     let state = Some(StateOf { done: 1, rows });
     let view = 0;
@@ -451,7 +451,7 @@ fn backup_votes_for_the_next_view(rt: HostRuntime) -> Result<(), Fail> {
 }
 
 /// DOVIEWCHANGE of site 0 to site 1.
-fn vote(view: u32, last_normal: u32, done: u16, rows: RowsOf<Ask>) -> Event<Tally> {
+pub fn vote(view: u32, last_normal: u32, done: u16, rows: RowsOf<Ask>) -> Event<Tally> {
     to(
         1,
         200,
@@ -503,7 +503,7 @@ fn log_of_the_later_view_is_taken(rt: HostRuntime) -> Result<(), Fail> {
 }
 
 /// NEWSTATE(1, base, 3, 4 - base rows) of site 1 to site 2.
-fn new_state(alloc: Global, base: u16) -> Result<Event<Tally>, AllocError>
+pub fn new_state(alloc: Global, base: u16) -> Result<Event<Tally>, AllocError>
     requires { base ≤ 1 }
 {
     let mut rows = one_row(alloc)?;

@@ -1,7 +1,7 @@
 ghost use Rattle.std.specs.Prelude.{◌≡◌, ℕ, ◌-◌, ◌⊎◌, ◌==◌, if◌then◌else◌, OnOk, OnErr, IsOk, IsErr, IsTrue, ◌↔◌, Some, None};
 ghost use Rattle.vr_types.specs.declared.cell.Boot.{Boot};
 ghost use Rattle.vr_types.specs.Cell.{HasRisen};
-ghost use Rattle.vr_types.specs.MemoryCell.{held_by, faults_of, saves_before_fault, keeps_at_fault, fault_after_save, IsReliable};
+ghost use Rattle.vr_types.specs.MemoryCell.{held_by, faults_of, saves_before_fault, keeps_at_fault, after_save, IsReliable};
 
 /// What outlives a crash: how often the site was restarted, and the greatest view that it has spoken of.
 #[derive(Clone, Copy, Debug, PartialEq, Eq)]
@@ -25,6 +25,9 @@ pub trait BootCell: Drop {
     /// Holds of a cell no save of which fails.
     ghost is_reliable: { Self → Type 0 };
 
+    /// Holds of a cell, a value, and what one save of the value, failed or not, leaves of the cell.
+    ghost saves: { Self → Boot → Self → Type 0 };
+
     fn load(&self) -> Boot
         ensures { result ≡ held self.now };
 
@@ -32,7 +35,9 @@ pub trait BootCell: Drop {
     fn save(&mut self, boot: Boot) -> Result<(), CellFault>
         ensures ok { OnOk result (held self.new ≡ boot) }
         ensures err { OnErr result ((held self.new ≡ held self.old) ⊎ (held self.new ≡ boot)) }
+        ensures saves { saves self.old boot self.new }
         ensures cause { OnErr result (HasRisen (faults self.old) (faults self.new)) }
+        ensures count { OnOk result (faults self.new ≡ faults self.old) }
         ensures reliable { is_reliable self.old → IsOk result × is_reliable self.new };
 
     /// How many saves have failed.
@@ -56,6 +61,7 @@ impl MemCell {
     pub fn new() -> Self
         ensures held { held_by result ≡ record { boots = 0; view = 0 } }
         ensures reliable { IsReliable result }
+        ensures faults { faults_of result ≡ 0 }
     {
         MemCell::failing(0, false)
     }
@@ -65,7 +71,8 @@ impl MemCell {
     pub fn failing(at: u64, keep: bool) -> Self
         ensures held { held_by result ≡ record { boots = 0; view = 0 } }
         ensures before_fault { saves_before_fault result ≡ (if at == 0 then None else Some (at - 1)) }
-        ensures keeps { IsTrue (keeps_at_fault result) ↔ IsTrue keep }
+        ensures keeps { keeps_at_fault result ≡ keep }
+        ensures faults { faults_of result ≡ 0 }
     {
         MemCell {
             boot: Boot { boots: 0, view: 0 },
@@ -83,6 +90,8 @@ impl BootCell for MemCell {
 
     ghost is_reliable = { IsReliable };
 
+    ghost saves = { λ old boot new. new ≡ after_save old boot };
+
     fn load(&self) -> Boot {
         self.boot
     }
@@ -91,12 +100,11 @@ impl BootCell for MemCell {
         ensures ok { OnOk result (held_by self.new ≡ boot) }
         ensures err { OnErr result ((held_by self.new ≡ held_by self.old) ⊎ (held_by self.new ≡ boot)) }
         ensures cause { OnErr result (HasRisen (faults_of self.old) (faults_of self.new)) }
+        ensures count { OnOk result (faults_of self.new ≡ faults_of self.old) }
         ensures reliable { IsReliable self.old → IsOk result × IsReliable self.new }
         // Which save fails, and what it leaves.
-        ensures before_fault { saves_before_fault self.new ≡ fault_after_save (saves_before_fault self.old) }
         ensures fails { IsErr result ↔ (saves_before_fault self.old ≡ Some 0) }
-        ensures kept { OnErr result (held_by self.new ≡ (if keeps_at_fault self.old then boot else held_by self.old)) }
-        ensures keeps { keeps_at_fault self.new ≡ keeps_at_fault self.old }
+        ensures saves { self.new ≡ after_save self.old boot }
     {
         match self.before_fault {
             Some(0) => {

@@ -24,7 +24,7 @@ returns-in-Up-clause-handles g c =
     let r = c.in-Up.running in
     let was : at.life ≡ Up r = sym c.replace.ensures.value ∙ c.in-Up.is in
     let well = subst (λ l. IsWell m (m.start at.setup) f cell l) was c.self.invariant.1 in
-    subst (λ v. Handles m held v c.finish.new.self Beat c.finish.result) (ap (shown f me at.setup at.cell) (sym was) ∙ c.self.view_is)
+    subst (λ v. Handles m g.C.BootCell v c.finish.new.self Beat c.finish.result) (ap (shown f me at.setup at.cell) (sym was) ∙ c.self.view_is)
     (c.finish.ensures.handles r Beat (record {
       sound = well.0;
       view = well.1;
@@ -41,7 +41,7 @@ returns-in_default-clause-handles g c =
     let view = c.self.view_is in
     let was : at.life ≡ Recovering c.in-Recovering.recovering = sym c.replace.ensures.value ∙ c.in-Recovering.is in
     let recovers : old.volatile.status ≡ status.Recovering = sym (ap (λ v. v.volatile.status) view) ∙ ap (λ l. (volatile_of l).status) was in
-    asked_nobody g.M.Machine g.C.BootCell.held old _ (ap (λ v. v.f) view, ap (λ v. v.me) view, ap (λ v. v.setup) view) recovers
+    asked_nobody g.M.Machine g.C.BootCell old _ (ap (λ v. v.f) view, ap (λ v. v.me) view, ap (λ v. v.setup) view) recovers
     (ap volatile_of c.replace.ensures.after) (ap (λ v. v.cell) view)
 
 pub returns-in-Ok-clause-handles : goal.returns-in-Ok-clause-handles
@@ -53,6 +53,6 @@ returns-in-Ok-clause-handles g c =
     let was : at.life ≡ Recovering c.in-Recovering.recovering = sym c.replace.ensures.value ∙ c.in-Recovering.is in
     let recovers : old.volatile.status ≡ status.Recovering = sym (ap (λ v. v.volatile.status) view) ∙ ap (λ l. (volatile_of l).status) was in
     let told = subst (λ v. Sends c.in-Ok.out (to_all v.f v.me (msg.Recovery c.load-boot.result.boots))) view c.in-Ok.ensures in
-    asked_again g.M.Machine held old _ (ap (λ v. v.f) view, ap (λ v. v.me) view, ap (λ v. v.setup) view) recovers c.in-Ok.out
+    asked_again g.M.Machine g.C.BootCell old _ (ap (λ v. v.f) view, ap (λ v. v.me) view, ap (λ v. v.setup) view) recovers c.in-Ok.out
     (ap volatile_of (sym was) ∙ ap (λ v. v.volatile) view) (ap (λ v. v.cell) view)
     (subst (λ b. Sends c.in-Ok.out (to_all old.f old.me (msg.Recovery b.boots))) (c.load-boot.ensures ∙ ap (λ v. held v.cell) view) told)

@@ -8,34 +8,25 @@ use Rattle.vr_site.specs.Replica.{site_shown}
 use Rattle.vr_site.proofs.Promises.{any_choice, dropped_is_ok, life_holds_view, result_is_saved}
 use Rattle.vr_site.proofs.replica.Replica.handle.Goals as goal
 
-pub returns-in-Timer-clause-fall : goal.returns-in-Timer-clause-fall
-returns-in-Timer-clause-fall g c = rw c.in-Timer.is c.timer.ensures.handles.fall
-
 pub returns-in-Timer-clause-dropped : goal.returns-in-Timer-clause-dropped
 returns-in-Timer-clause-dropped g c = λ choose acks why right summed e.
     let old = c.args.self.now in
     let held = g.C.BootCell.held in
-    dropped_is_ok g.M.Machine held old _ Timer c.timer.result c.timer.ensures.handles choose acks why right summed
+    dropped_is_ok g.M.Machine g.C.BootCell old _ Timer c.timer.result c.timer.ensures.handles choose acks why right summed
     (subst (λ event. (site_step choose old.f old.me (site_shown held old acks) event).ending ≡ Dropped why) c.in-Timer.is e)
-
-pub returns-in-Beat-clause-fall : goal.returns-in-Beat-clause-fall
-returns-in-Beat-clause-fall g c = rw c.in-Beat.is c.beat.ensures.handles.fall
 
 pub returns-in-Beat-clause-dropped : goal.returns-in-Beat-clause-dropped
 returns-in-Beat-clause-dropped g c = λ choose acks why right summed e.
     let old = c.args.self.now in
     let held = g.C.BootCell.held in
-    dropped_is_ok g.M.Machine held old _ Beat c.beat.result c.beat.ensures.handles choose acks why right summed
+    dropped_is_ok g.M.Machine g.C.BootCell old _ Beat c.beat.result c.beat.ensures.handles choose acks why right summed
     (subst (λ event. (site_step choose old.f old.me (site_shown held old acks) event).ending ≡ Dropped why) c.in-Beat.is e)
-
-pub returns-in-Restart-clause-fall : goal.returns-in-Restart-clause-fall
-returns-in-Restart-clause-fall g c = rw c.in-Restart.is c.restart.ensures.handles.fall
 
 pub returns-in-Restart-clause-dropped : goal.returns-in-Restart-clause-dropped
 returns-in-Restart-clause-dropped g c = λ choose acks why right summed e.
     let old = c.args.self.now in
     let held = g.C.BootCell.held in
-    dropped_is_ok g.M.Machine held old _ Restart c.restart.result c.restart.ensures.handles choose acks why right summed
+    dropped_is_ok g.M.Machine g.C.BootCell old _ Restart c.restart.result c.restart.ensures.handles choose acks why right summed
     (subst (λ event. (site_step choose old.f old.me (site_shown held old acks) event).ending ≡ Dropped why) c.in-Restart.is e)
 
 pub returns-in-Deliver-clause-saved_first : goal.returns-in-Deliver-clause-saved_first
@@ -44,7 +35,7 @@ returns-in-Deliver-clause-saved_first g c =
     let m = g.M.Machine in
     let at = c.self.inside in
     let right = any_choice at.config.f g.M.Cmd.PartialEq.eq at.config.some g.met.M.Cmd.Eq.laws g.met.M.Machine.same_cmd in
-    result_is_saved m held c.args.self.now _ (Deliver c.in-Deliver.envelope) right.0 (subst (λ v. IsRight v.f right.0) c.self.view_is right.1)
+    result_is_saved m g.C.BootCell c.args.self.now _ (Deliver c.in-Deliver.envelope) right.0 (subst (λ v. IsRight v.f right.0) c.self.view_is right.1)
     (subst (λ v. HoldsView (site_shown held v [])) c.self.view_is (life_holds_view m (m.start at.setup) at.config.f (held at.cell) at.life c.self.invariant.1))
     c.deliver.result c.deliver.ensures.handles
 
@@ -54,7 +45,7 @@ returns-in-Timer-clause-saved_first g c =
     let m = g.M.Machine in
     let at = c.self.inside in
     let right = any_choice at.config.f g.M.Cmd.PartialEq.eq at.config.some g.met.M.Cmd.Eq.laws g.met.M.Machine.same_cmd in
-    result_is_saved m held c.args.self.now _ Timer right.0 (subst (λ v. IsRight v.f right.0) c.self.view_is right.1)
+    result_is_saved m g.C.BootCell c.args.self.now _ Timer right.0 (subst (λ v. IsRight v.f right.0) c.self.view_is right.1)
     (subst (λ v. HoldsView (site_shown held v [])) c.self.view_is (life_holds_view m (m.start at.setup) at.config.f (held at.cell) at.life c.self.invariant.1))
     c.timer.result c.timer.ensures.handles
 
@@ -64,7 +55,7 @@ returns-in-Beat-clause-saved_first g c =
     let m = g.M.Machine in
     let at = c.self.inside in
     let right = any_choice at.config.f g.M.Cmd.PartialEq.eq at.config.some g.met.M.Cmd.Eq.laws g.met.M.Machine.same_cmd in
-    result_is_saved m held c.args.self.now _ Beat right.0 (subst (λ v. IsRight v.f right.0) c.self.view_is right.1)
+    result_is_saved m g.C.BootCell c.args.self.now _ Beat right.0 (subst (λ v. IsRight v.f right.0) c.self.view_is right.1)
     (subst (λ v. HoldsView (site_shown held v [])) c.self.view_is (life_holds_view m (m.start at.setup) at.config.f (held at.cell) at.life c.self.invariant.1))
     c.beat.result c.beat.ensures.handles
 
@@ -74,7 +65,7 @@ returns-in-Crash-clause-saved_first g c =
     let m = g.M.Machine in
     let at = c.self.inside in
     let right = any_choice at.config.f g.M.Cmd.PartialEq.eq at.config.some g.met.M.Cmd.Eq.laws g.met.M.Machine.same_cmd in
-    result_is_saved m held c.args.self.now _ Crash right.0 (subst (λ v. IsRight v.f right.0) c.self.view_is right.1)
+    result_is_saved m g.C.BootCell c.args.self.now _ Crash right.0 (subst (λ v. IsRight v.f right.0) c.self.view_is right.1)
     (subst (λ v. HoldsView (site_shown held v [])) c.self.view_is (life_holds_view m (m.start at.setup) at.config.f (held at.cell) at.life c.self.invariant.1))
     c.crash.result c.crash.ensures.handles
 
@@ -84,6 +75,6 @@ returns-in-Restart-clause-saved_first g c =
     let m = g.M.Machine in
     let at = c.self.inside in
     let right = any_choice at.config.f g.M.Cmd.PartialEq.eq at.config.some g.met.M.Cmd.Eq.laws g.met.M.Machine.same_cmd in
-    result_is_saved m held c.args.self.now _ Restart right.0 (subst (λ v. IsRight v.f right.0) c.self.view_is right.1)
+    result_is_saved m g.C.BootCell c.args.self.now _ Restart right.0 (subst (λ v. IsRight v.f right.0) c.self.view_is right.1)
     (subst (λ v. HoldsView (site_shown held v [])) c.self.view_is (life_holds_view m (m.start at.setup) at.config.f (held at.cell) at.life c.self.invariant.1))
     c.restart.result c.restart.ensures.handles

@@ -12,7 +12,7 @@ use Rattle.vr_site.proofs.replica.Replica.proceed.Goals as goal
 
 pub returns-in_default-clause-handles : goal.returns-in_default-clause-handles
 returns-in_default-clause-handles g c = λ before event awaits.
-    waited_short g.M.Machine g.C.BootCell.held c.args.self.now before c.args.recovering.responses.items event c.args.progress c.in_default.not-Ok c.requires.down awaits
+    waited_short g.M.Machine g.C.BootCell c.args.self.now before c.args.recovering.responses.items event c.args.progress c.in_default.not-Ok c.requires.down awaits
 
 pub returns-in-Dropped-clause-handles : goal.returns-in-Dropped-clause-handles
 returns-in-Dropped-clause-handles g c = λ before event awaits.
@@ -20,7 +20,7 @@ returns-in-Dropped-clause-handles g c = λ before event awaits.
     let held = g.C.BootCell.held in
     let base = c.args.self.now in
     let now = c.args.recovering.responses.items in
-    waited_dropped m held base before now event _ (ap (λ v. v.f) c.self.view_is, ap (λ v. v.me) c.self.view_is, ap (λ v. v.setup) c.self.view_is)
+    waited_dropped m g.C.BootCell base before now event _ (ap (λ v. v.f) c.self.view_is, ap (λ v. v.me) c.self.view_is, ap (λ v. v.setup) c.self.view_is)
     c.dropped.result c.in-Dropped.why refl (ap (λ v. v.cell) c.self.view_is) c.dropped.ensures
     (subst (λ p. Awaits base.f base.me (held base.cell) before now p event) (c.in-Ok.is ∙ ap (λ p. Ok p) c.in-Dropped.is) awaits)
 
@@ -31,7 +31,7 @@ returns-in-Waits-clause-handles g c = λ before event awaits.
     let base = c.args.self.now in
     let now = c.args.recovering.responses.items in
     let view = c.self-in-Waits.view_is in
-    waited_on m held base before now event _ (ap (λ v. v.f) view, ap (λ v. v.me) view, ap (λ v. v.setup) view)
+    waited_on m g.C.BootCell base before now event _ (ap (λ v. v.f) view, ap (λ v. v.me) view, ap (λ v. v.setup) view)
     c.silent.result refl (ap (λ v. v.cell) view) c.silent.ensures
     (subst (λ p. Awaits base.f base.me (held base.cell) before now p event) (c.in-Ok.is ∙ ap (λ p. Ok p) c.in-Waits.is) awaits)
 
@@ -42,9 +42,9 @@ returns-in_err-go_on-in-Regained-clause-handles g c = λ before event awaits.
     let base = c.args.self.now in
     let now = c.args.recovering.responses.items in
     let after = c.in_err-go_on-in-Regained.ensures in
-    subst (Handles m held (record base { volatile = resting status.Recovering (responses_of before) }) c.go_on.new.self event)
+    subst (Handles m g.C.BootCell (record base { volatile = resting status.Recovering (responses_of before) }) c.go_on.new.self event)
     (sym (err_is c.from_residual.result c.in_err-go_on-in-Regained.field-0.0 CellFault c.from_residual.ensures.1 after.fault))
-    (regained_unsaved m held base before now event _ c.go_on.ensures.config c.in-Regained.running after.down after.cell
+    (regained_unsaved m g.C.BootCell base before now event _ c.go_on.ensures.config c.in-Regained.running after.down after.cell after.failed
     (subst (λ p. Awaits base.f base.me (held base.cell) before now p event) (c.in-Ok.is ∙ ap (λ p. Ok p) c.in-Regained.is) awaits))
 
 pub returns-in_ok-go_on-in-Regained-clause-handles : goal.returns-in_ok-go_on-in-Regained-clause-handles
@@ -54,7 +54,7 @@ returns-in_ok-go_on-in-Regained-clause-handles g c = λ before event awaits.
     let base = c.args.self.now in
     let now = c.args.recovering.responses.items in
     let after = c.in_ok-go_on-in-Regained.ensures in
-    regained_on m held base before now event _ c.go_on.ensures.config _ c.in-Regained.running
+    regained_on m g.C.BootCell base before now event _ c.go_on.ensures.config _ c.in-Regained.running
     (subst (λ p. IfOk p (λ q. IsSoundProgress m (m.start base.setup) base.f now q)) (c.in-Ok.is ∙ ap (λ p. Ok p) c.in-Regained.is) c.requires.sound)
-    after.up after.saved c.silent-in-Regained.ensures
+    after.up after.saved after.once c.silent-in-Regained.ensures
     (subst (λ p. Awaits base.f base.me (held base.cell) before now p event) (c.in-Ok.is ∙ ap (λ p. Ok p) c.in-Regained.is) awaits)

@@ -18,7 +18,7 @@ returns-in-Recovering-clause-handles g c =
     let at = c.self.inside in
     let was : at.life ≡ Recovering c.in-Recovering.recovering = sym c.replace.ensures.value ∙ c.in-Recovering.is in
     let kept = c.in-Recovering.recovering.responses.items in
-    subst (λ v. Handles m held v c.proceed.new.self Timer c.proceed.result) (ap (shown at.config.f at.config.me at.setup at.cell) (sym was) ∙ c.self.view_is)
+    subst (λ v. Handles m g.C.BootCell v c.proceed.new.self Timer c.proceed.result) (ap (shown at.config.f at.config.me at.setup at.cell) (sym was) ∙ c.self.view_is)
     (c.proceed.ensures.handles kept Timer (record { allowed = refl; follows = λ choose acks right. timer_is at.config.f at.config.me kept acks (held at.cell) }))
 
 pub finish-requires-clause-sound : goal.finish-requires-clause-sound
@@ -41,7 +41,7 @@ returns-else-running-clause-handles g c =
     let was : at.life ≡ Up r = sym c.replace.ensures.value ∙ c.in-Up.is in
     let well = subst (λ l. IsWell m (m.start at.setup) f cell l) was c.self.invariant.1 in
     let more : r.view ≢ max_number = c.if-running.false in
-    subst (λ v. Handles m held v c.finish.new.self Timer c.finish.result) (ap (shown f me at.setup at.cell) (sym was) ∙ c.self.view_is)
+    subst (λ v. Handles m g.C.BootCell v c.finish.new.self Timer c.finish.result) (ap (shown f me at.setup at.cell) (sym was) ∙ c.self.view_is)
     (c.finish.ensures.handles r Timer (record {
       sound = well.0;
       view = well.1;
