@@ -58,6 +58,10 @@ pub struct Group {
     events: usize,
     /// After so many events the site of this number crashes and restarts.
     crash: Option<(usize, usize)>,
+    /// How often memory was refused, to a site or for an envelope, which is then lost.
+    refusals: usize,
+    /// Whether each site that was refused memory fell as it has to.
+    fell_well: bool,
 }
 
 fn currency(alloc: Global, code: &str, rate: u64, haircut: u64) -> Result<Currency, AllocError> {
@@ -99,6 +103,17 @@ fn setup(alloc: Global) -> Result<Setup, AllocError> {
     })
 }
 
+/// Whether a cell holds what it held before an event, or what the event may save: the next number at a restart, a later
+/// view at any other event.
+fn is_kept_or_saved(before: Boot, after: Boot, restarts: bool) -> bool {
+    if restarts {
+        after.view == before.view
+            && (after.boots == before.boots || after.boots == before.boots.saturating_add(1))
+    } else {
+        after.boots == before.boots && after.view >= before.view
+    }
+}
+
 /// A site of three over a cell, at most number 2.
 pub fn site(alloc: Global, me: u16, cell: MemCell) -> Result<Site, Fail> {
     let setup = setup(alloc)?;
@@ -114,11 +129,14 @@ impl Group {
         Group::with(alloc, [MemCell::new(), MemCell::new(), MemCell::new()])
     }
 
-    /// Three sites over new cells, of which site 1's fails its save of this number alone, and keeps the new value or
+    /// Three sites over new cells, of which one site's fails its save of this number alone, and keeps the new value or
     /// the old one.
-    pub fn failing(alloc: Global, at: u64, keep: bool) -> Result<Self, Fail> {
-        let failing = MemCell::failing(at, keep);
-        Group::with(alloc, [MemCell::new(), failing, MemCell::new()])
+    pub fn failing(alloc: Global, site: usize, at: u64, keep: bool) -> Result<Self, Fail> {
+        let mut cells = [MemCell::new(), MemCell::new(), MemCell::new()];
+        if let Some(cell) = cells.get_mut(site) {
+            *cell = MemCell::failing(at, keep);
+        }
+        Group::with(alloc, cells)
     }
 
     fn with(alloc: Global, cells: [MemCell; 3]) -> Result<Self, Fail> {
@@ -138,6 +156,8 @@ impl Group {
             answered: 0,
             events: 0,
             crash: None,
+            refusals: 0,
+            fell_well: true,
         })
     }
 
@@ -191,20 +211,49 @@ impl Group {
         }
     }
 
-    /// A site handles an event. What it sends goes on the post.
+    /// A site handles an event. Where memory is refused to it, it restarts.
     fn handle(&mut self, site: usize, event: Event<Book>) -> Result<(), Fail> {
-        let Some(site) = self.sites.get_mut(site) else {
+        let Some(alive) = self.attempt(site, event) else {
             return Err(Fail::new("no such site"));
         };
+        if !alive {
+            self.attempt(site, EventOf::Restart);
+        }
+        Ok(())
+    }
+
+    /// A site handles an event, and what it sends goes on the post. Whether it was refused no memory; none where there
+    /// is no such site.
+    fn attempt(&mut self, site: usize, event: Event<Book>) -> Option<bool> {
+        let site = self.sites.get_mut(site)?;
+        let restarts = matches!(&event, EventOf::Restart);
+        let before = site.boot();
         match site.handle(self.alloc, event) {
             Ok(out) => {
-                for envelope in out.sent {
-                    self.post.push(Some(envelope))?;
-                }
-                Ok(())
+                self.send_all(out.sent);
+                Some(true)
             }
-            Err(SiteFault::NoMemory) => Err(Fail::new("memory was refused")),
-            Err(_) => Ok(()),
+            Err(SiteFault::NoMemory) => {
+                let fell = site.status() == Status::Down && site.machine().is_none();
+                let kept = is_kept_or_saved(before, site.boot(), restarts);
+                self.refusals = self.refusals.saturating_add(1);
+                self.fell_well = self.fell_well && fell && kept;
+                Some(false)
+            }
+            Err(_) => Some(true),
+        }
+    }
+
+    fn send_all(&mut self, sent: Vec<Envelope<Book>>) {
+        for envelope in sent {
+            self.send(envelope);
+        }
+    }
+
+    /// An envelope goes on the post; it is lost where there is no room.
+    fn send(&mut self, envelope: Envelope<Book>) {
+        if self.post.push(Some(envelope)).is_err() {
+            self.refusals = self.refusals.saturating_add(1);
         }
     }
 
@@ -285,13 +334,23 @@ impl Group {
                 number: self.noticed,
                 cmd,
             };
-            self.post.push(Some(EnvelopeOf {
+            self.send(EnvelopeOf {
                 from: NODE,
                 to,
                 msg,
-            }))?;
+            });
         }
         Ok(())
+    }
+
+    /// How often memory was refused.
+    pub fn refusals(&self) -> usize {
+        self.refusals
+    }
+
+    /// Whether each site that was refused memory was then down, over a cell as it was or as the event saves it.
+    pub fn fell_well(&self) -> bool {
+        self.fell_well
     }
 
     /// How many envelopes were sent.

@@ -1,77 +1,16 @@
-use crate::group::{Site, site};
+use crate::group::site;
+use crate::said::{Said, deliver, drops, request, row, sends};
 use pvp_book::Book;
-use pvp_types::{Cmd, Reply};
-use std::alloc::Global;
+use pvp_types::Reply;
 use std::test::Fail;
-use vr_types::{EnvelopeOf, Event, EventOf, MemCell, Msg, MsgOf, RowOf, Why};
-
-/// What a message says, as far as these tests tell messages apart.
-#[derive(Clone, Copy, Debug, PartialEq, Eq)]
-enum Said {
-    Prepare(u16),
-    PrepareOk(u16),
-    Commit(u16),
-    Reply(u32, Reply),
-    GetState(u16),
-    Other,
-}
-
-fn word_of(msg: &Msg<Book>) -> Said {
-    match msg {
-        MsgOf::Prepare { place, .. } => Said::Prepare(*place),
-        MsgOf::PrepareOk { place, .. } => Said::PrepareOk(*place),
-        MsgOf::Commit { done, .. } => Said::Commit(*done),
-        MsgOf::Reply { number, reply, .. } => Said::Reply(*number, *reply),
-        MsgOf::GetState { base, .. } => Said::GetState(*base),
-        _ => Said::Other,
-    }
-}
-
-/// Whether an event is handled and sends exactly this, to these actors.
-fn sends(site: &mut Site, alloc: Global, event: Event<Book>, wanted: &[(u16, Said)]) -> bool {
-    match site.handle(alloc, event) {
-        Err(_) => false,
-        Ok(out) => {
-            out.dropped.is_none()
-                && out.sent.len() == wanted.len()
-                && out.sent.iter().zip(wanted).all(|(envelope, (to, word))| envelope.to == *to
-                    && word_of(&envelope.msg) == *word)
-        }
-    }
-}
-
-/// Why an event is dropped.
-fn drops(site: &mut Site, alloc: Global, event: Event<Book>) -> Option<Why> {
-    site.handle(alloc, event).ok()?.dropped
-}
-
-/// The first pay-in of 1200 for member 1.
-const FUND: Cmd = Cmd::Fund {
-    ccy: 1,
-    pay: 1,
-    member: 1,
-    amt: 1_200,
-};
-
-fn deliver(from: u16, to: u16, msg: Msg<Book>) -> Event<Book> {
-    EventOf::Deliver(EnvelopeOf { from, to, msg })
-}
-
-fn request(to: u16, number: u32) -> Event<Book> {
-    deliver(102, to, MsgOf::Request { number, cmd: FUND })
-}
+use vr_types::{Event, EventOf, MemCell, MsgOf, Why};
 
 fn prepare(place: u16) -> Event<Book> {
-    let row = RowOf {
-        client: 102,
-        number: 1,
-        cmd: FUND,
-    };
     let msg = MsgOf::Prepare {
         view: 0,
         place,
         done: 0,
-        row,
+        row: row(1),
     };
     deliver(200, 201, msg)
 }
@@ -84,12 +23,12 @@ fn acknowledge(from: u16) -> Event<Book> {
 fn a_primary_executes_what_one_other_acknowledged(rt: HostRuntime) -> Result<(), Fail> {
     let alloc = rt.alloc();
     let mut primary = site(alloc, 0, MemCell::new())?;
-    let prepares = [(201, Said::Prepare(1)), (202, Said::Prepare(1))];
+    let prepares = [(201, Said::Prepare(0, 1)), (202, Said::Prepare(0, 1))];
     assert!(rt; sends(&mut primary, alloc, request(200, 1), &prepares));
-    let reply = [(102, Said::Reply(1, Reply::Done))];
+    let reply = [(102, Said::Reply(0, 1, Reply::Done))];
     assert!(rt; sends(&mut primary, alloc, acknowledge(201), &reply));
     assert!(rt; sends(&mut primary, alloc, acknowledge(202), &[]));
-    let commits = [(201, Said::Commit(1)), (202, Said::Commit(1))];
+    let commits = [(201, Said::Commit(0, 1)), (202, Said::Commit(0, 1))];
     assert!(rt; sends(&mut primary, alloc, EventOf::Beat, &commits));
     assert!(rt; sends(&mut primary, alloc, request(200, 1), &reply));
     Ok(())
@@ -103,8 +42,22 @@ fn a_backup_acknowledges_and_asks_for_what_it_lacks(rt: HostRuntime) -> Result<(
         drops(&mut backup, alloc, request(201, 1)),
         Some(Why::NotPrimary)
     );
-    assert!(rt; sends(&mut backup, alloc, prepare(3), &[(200, Said::GetState(0))]));
-    assert!(rt; sends(&mut backup, alloc, prepare(1), &[(200, Said::PrepareOk(1))]));
+    assert!(rt;
+        sends(
+            &mut backup,
+            alloc,
+            prepare(3),
+            &[(200, Said::GetState(0, 0))]
+        )
+    );
+    assert!(rt;
+        sends(
+            &mut backup,
+            alloc,
+            prepare(1),
+            &[(200, Said::PrepareOk(0, 1))]
+        )
+    );
     Ok(())
 }
 

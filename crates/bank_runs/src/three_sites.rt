@@ -41,7 +41,9 @@ fn a_view_change_with_a_site_cut_off(rt: HostRuntime) -> Result<(), Fail> {
         Step::Drain(2),
     ])?;
     assert_eq!(rt; group.shows(2), normal(0, 0, 0, 0, 0));
-    group.run(&[Step::Crash(2), Step::Restart(2), Step::Drain(100)])?;
+    group.run(&[Step::Crash(2), Step::Deliver(38)])?;
+    assert_eq!(rt; group.shows(2), showing(Status::Down, 0, 0, 0, 0, 0));
+    group.run(&[Step::Restart(2), Step::Drain(100)])?;
     assert_eq!(rt; group.shows(0), normal(1, 4, 3, 0, 1));
     assert_eq!(rt; group.shows(1), normal(1, 4, 4, 0, 1));
     assert_eq!(rt; group.shows(2), normal(1, 4, 4, 1, 1));
@@ -171,14 +173,46 @@ fn a_crash_at_any_event_leaves_the_books_equal(rt: HostRuntime) -> Result<(), Fa
 
 #[test]
 fn a_failing_save_leaves_the_books_equal(rt: HostRuntime) -> Result<(), Fail> {
-    for keep in [false, true] {
+    for site in 0..3 {
         for at in 1..8 {
-            let mut group = Group::failing(rt.alloc(), at, keep)?;
-            group.crash_after(30, 1);
-            group.run(&LONG)?;
-            group.run(&[Step::Restart(1), Step::Drain(100)])?;
-            assert!(rt; group.agrees(), "save {at} failed");
+            for keep in [false, true] {
+                let mut group = Group::failing(rt.alloc(), site, at, keep)?;
+                group.crash_after(30, site);
+                group.run(&LONG)?;
+                group.run(&[Step::Restart(site), Step::Drain(100)])?;
+                assert!(rt; group.agrees(), "site {site}, save {at}, kept {keep}");
+            }
         }
     }
+    Ok(())
+}
+
+/// A crash and a restart of a backup, with a beat before it is normal again.
+const AGAIN: [Step; 6] = [
+    Step::Crash(2),
+    Step::Restart(2),
+    Step::Beat(2),
+    Step::Drain(100),
+    Step::Beat(0),
+    Step::Drain(100),
+];
+
+#[test]
+fn no_site_is_refused_memory(rt: HostRuntime) -> Result<(), Fail> {
+    let mut group = Group::new(rt.alloc())?;
+    group.run(&LONG)?;
+    group.run(&AGAIN)?;
+    assert_eq!(rt; group.refusals(), 0);
+    Ok(())
+}
+
+/// The same run, of which the assertions hold whichever request for memory is refused.
+#[test]
+fn refused_memory_is_a_fall(rt: HostRuntime) -> Result<(), Fail> {
+    let mut group = Group::new(rt.alloc())?;
+    group.run(&LONG)?;
+    group.run(&AGAIN)?;
+    assert!(rt; group.fell_well());
+    assert!(rt; group.agrees());
     Ok(())
 }

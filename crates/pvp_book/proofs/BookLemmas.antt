@@ -16,7 +16,8 @@ use Rattle.pvp_book.specs.declared.pair.Pair.{Pair}
 use Rattle.pvp_book.specs.declared.pair.PairState.TheVariants.{Unmatched}
 use Rattle.pvp_book.specs.Pairs.{opened_by, pairs, pair_of}
 use Rattle.pvp_book.specs.Settlement.{candidates, pass, taken_by, settled_after, settled}
-use Rattle.pvp_book.specs.Ledger.{Ledger, opening, IsKept, IsSmall, state_of, is_state}
+use Rattle.pvp_book.specs.Ledger.{Ledger, opening, state_of, is_state}
+use Rattle.pvp_book.specs.Bounds.{IsKept, IsSmall}
 use Rattle.pvp_book.specs.Answer.{answer, answer_to, after, with_entry, is_walk, is_refusal, is_mirror, on_mirror, on_instruct, is_member_number, has_member, has_currency, is_amount}
 use Rattle.pvp_book.proofs.SettlementLemmas.{append-nil, settled-push, IsWithinMatched-nil}
 use Rattle.pvp_book.proofs.LedgerLemmas.{IsSmall-ledger, IsLedger-accepted}

@@ -24,7 +24,8 @@ use Rattle.pvp_book.specs.Accounts.{paid_in_to, paid_out_of, pay_ins, pay_outs, 
 use Rattle.pvp_book.specs.declared.pair.PairState.{PairState}
 use Rattle.pvp_book.specs.Pairs.{opened_by, pairs, matched_by, matched}
 use Rattle.pvp_book.specs.Settlement.{candidates, settled}
-use Rattle.pvp_book.specs.Ledger.{Ledger, IsLedger, IsWithinMatched, IsSmall, most_amount, most_total, IsWithin, amount_of, total, node_of, order_by, orders, open_orders, has_payment, state_with, is_state, sum_of_balances, outstanding_in, outstanding_from}
+use Rattle.pvp_book.specs.Ledger.{Ledger, most_amount, node_of, order_by, orders, open_orders, has_payment, state_with, is_state, sum_of_balances, outstanding_in, outstanding_from}
+use Rattle.pvp_book.specs.Bounds.{IsLedger, IsWithinMatched, IsSmall, most_total, IsWithin, amount_of, total}
 use Rattle.pvp_book.specs.Answer.{answer, answer_to, on_instruct, on_fund, on_pay_out, has_currency, has_member, is_member_number, is_refusal, is_amount}
 use Rattle.pvp_book.proofs.SettlementLemmas.{at_most, settled-push, IsWithinMatched-push}
 

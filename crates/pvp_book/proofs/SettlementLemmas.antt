@@ -13,7 +13,7 @@ use Rattle.pvp_book.specs.declared.entry.Entry.{Entry}
 use Rattle.pvp_book.specs.declared.pair.Pair.{Pair}
 use Rattle.pvp_book.specs.Pairs.{matched_by, matched, has_reference, has_asked, is_rescission, both_have_asked}
 use Rattle.pvp_book.specs.Settlement.{both_pass, candidates, pass, taken_by, settled_after, settled}
-use Rattle.pvp_book.specs.Ledger.{IsWithinMatched}
+use Rattle.pvp_book.specs.Bounds.{IsWithinMatched}
 
 pub append-nil : {X : Type 0} (xs : List X) → xs ++ [] ≡ xs
 append-nil [] = refl

@@ -16,7 +16,8 @@ use Rattle.pvp_book.specs.declared.pair.Pair.{Pair}
 use Rattle.pvp_book.specs.declared.pair.PairState.TheVariants as state
 use Rattle.pvp_book.specs.Pairs.{opened_by, matched_by, pairs, matched, pair_of, has_reference, is_matched, is_rescission, has_asked, both_have_asked, is_rescinded}
 use Rattle.pvp_book.specs.Settlement.{both_pass, candidates, pass, taken_by, settled_after, settled}
-use Rattle.pvp_book.specs.Ledger.{IsWithinMatched, state_with, state_of, is_state}
+use Rattle.pvp_book.specs.Ledger.{state_with, state_of, is_state}
+use Rattle.pvp_book.specs.Bounds.{IsWithinMatched}
 use Rattle.pvp_book.specs.Answer.{Row, answer, is_refusal, on_instruct, on_mirror, on_rescind, on_pair, is_mirror, is_side, has_member, has_currency, is_amount, is_member_number, book_of}
 use Rattle.pvp_book.specs.Laws.{IsExchange}
 use Rattle.pvp_book.proofs.SettlementLemmas.{append-nil, settled-push, IsWithinMatched-push, IsWithinMatched-nil, same-self}

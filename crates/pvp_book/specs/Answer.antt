@@ -7,6 +7,7 @@ use Rattle.pvp_types.specs.declared.command.Cmd.TheVariants.{Instruct, Rescind, 
 use Rattle.pvp_types.specs.declared.command.Reply.{Reply}
 use Rattle.pvp_types.specs.declared.command.Reply.TheVariants.{Done, Matched, Settled, Order, No}
 use Rattle.pvp_types.specs.declared.command.Reason.TheVariants.{NotYours, UnknownMember, UnknownCurrency, BadAmount, Repeated, Mismatch, UnknownReference, Late, Short, TestFails, BankShort}
+use Rattle.vr_types.specs.declared.row.RowOf.{RowOf}
 use Rattle.pvp_types.specs.Setup.{is_between}
 use Rattle.pvp_book.specs.declared.entry.Entry.{Entry}
 use Rattle.pvp_book.specs.declared.pair.Pair.{Pair}
@@ -151,10 +152,8 @@ after held client cmd = record {
 }
 
 -- a command as a log has it: its sender, the sender's number for it, and what it asks
-pub record Row : Type 0 where
-  pub client : ℕ
-  pub number : ℕ
-  pub cmd : Cmd
+abbrev pub Row : Type 0
+Row = RowOf Cmd
 
 abbrev pub after_rows : Ledger → List Row → Ledger
 after_rows held [] = held

@@ -1,8 +1,9 @@
 pub mod Accounts
-pub mod Pairs
-pub mod Limits
-pub mod Settlement
-pub mod Ledger
 pub mod Answer
-pub mod Open
+pub mod Bounds
 pub mod Laws
+pub mod Ledger
+pub mod Limits
+pub mod Open
+pub mod Pairs
+pub mod Settlement

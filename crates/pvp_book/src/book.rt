@@ -33,7 +33,8 @@ pub struct Book {
 }
 
 impl Model for Book {
-    ghost use Rattle.pvp_book.specs.Ledger.{Ledger, IsKept};
+    ghost use Rattle.pvp_book.specs.Ledger.{Ledger};
+    ghost use Rattle.pvp_book.specs.Bounds.{IsKept};
 
     ghost Value = { Ledger };
 

@@ -1,7 +1,8 @@
 ghost use Rattle.std.specs.Prelude.{◌≡◌, ◌<◌, ◌≤◌, ◌^◌, length, sum_by, if◌then◌else◌};
 ghost use Rattle.std.specs.List.{list_any};
 ghost use Rattle.pvp_book.specs.Accounts.{paid_in_to, paid_out_of, pay_ins, pay_outs, bought, sold, received, given, balance_with};
-ghost use Rattle.pvp_book.specs.Ledger.{node_of, sum_of_balances, most_total, IsWithin, IsSmall, is_pay_in, has_pay_in, order_by, orders, is_payment, has_payment, open_orders};
+ghost use Rattle.pvp_book.specs.Ledger.{node_of, sum_of_balances, is_pay_in, has_pay_in, order_by, orders, is_payment, has_payment, open_orders};
+ghost use Rattle.pvp_book.specs.Bounds.{most_total, IsWithin, IsSmall};
 ghost use Rattle.pvp_book.specs.Answer.{has_order};
 
 use crate::entry::Entry;
