@@ -16,7 +16,7 @@ use Rattle.agreement.specs.Worlds.{Replied}
 use Rattle.agreement.specs.Promises.{Agree, IsRising, Begins, answered_rows, Tells}
 use Rattle.agreement.proofs.Beginnings.{begins-take, begins-trans, begins_whole}
 use Rattle.agreement.proofs.Histories.{History, Committed, none, chosen}
-use Rattle.agreement.proofs.Standing.{IsRunning}
+use Rattle.agreement.proofs.Standing.{StandsRunning}
 use Rattle.agreement.proofs.Invariant.{Holds}
 use Rattle.agreement.proofs.Prior.{committed_opening, committed_both}
 use Rattle.agreement.proofs.Reached.{IsAnswered}
@@ -81,7 +81,7 @@ module _ {C R O : Type 0} (f : ℕ) (g : History C R O) (s : ℕ → Site C) (ho
   -- what is committed in a view begins the log of a site normal in a later view
   pub committed_lasts : (top : ℕ) (rows : List (RowOf C)) (i : ℕ) → Committed f g top rows → (s i).status ≡ Normal → top < (s i).view → Begins rows (s i).log
   committed_lasts top rows i c normal low =
-      let r : IsRunning f g i (s i) = (holds.sites i).running (normal_runs _ normal) in
+      let r : StandsRunning f g i (s i) = (holds.sites i).running (normal_runs _ normal) in
       let last = r.normal normal in
       begins-trans (committed_opening f g s holds top (s i).last_normal rows c (omega arith) r.log_of.opened) r.log_of.lower
 

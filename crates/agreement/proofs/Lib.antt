@@ -33,10 +33,14 @@ mod Reached
 -- the laws
 mod Agreeing
 pub mod Laws
+-- a legal list leads to one world
+mod Singles
 pub mod Unique
 -- nothing is invented
 mod KeptRows
 mod Rows
 pub mod Asked
+pub mod Senders
+pub mod Answering
 -- a legal list, computed
 mod Worked

@@ -14,7 +14,7 @@ use Rattle.agreement.proofs.Beginnings.{begins_itself}
 use Rattle.agreement.proofs.Histories.{History, Prepared, acknowledged, led, Committed}
 use Rattle.agreement.proofs.Votes.{IsChange}
 use Rattle.agreement.proofs.Vouched.{IsVouched}
-use Rattle.agreement.proofs.Standing.{IsRunning, Stands}
+use Rattle.agreement.proofs.Standing.{StandsRunning, Stands}
 use Rattle.agreement.proofs.Invariant.{Holds}
 use Rattle.agreement.proofs.Put.{put, put_put, put_self, put_here}
 use Rattle.agreement.proofs.Later.{IsLater, committed_later, running_later}
@@ -164,7 +164,7 @@ module _ {C R O : Type 0} (f : ℕ) (g : History C R O) (me : ℕ) (msg : MsgOf 
     prepared = λ j view n p. inl (prepared_say j view n p);
   }
 
-  pub running_say : (j : ℕ) (x : Site C) → IsRunning f g j x → IsRunning f (say es g) j x
+  pub running_say : (j : ℕ) (x : Site C) → StandsRunning f g j x → StandsRunning f (say es g) j x
   running_say j x r = running_later f g (say es g) me 0 (later_say 0) j x (λ view n. prepared_say j view n) (λ _. refl) r
 
   pub stands_say : (j : ℕ) (x : Site C) → Stands f g j x → Stands f (say es g) j x

@@ -20,7 +20,7 @@ use Rattle.agreement.proofs.Beginnings.{begins_itself, begins-trans, begins_from
 use Rattle.agreement.proofs.Quorums.{with_one, one_more}
 use Rattle.agreement.proofs.Histories.{History, Prepared, acknowledged, led, IsChosen, Committed, none, chosen, IsCommittedTo}
 use Rattle.agreement.proofs.Vouched.{IsPlaced}
-use Rattle.agreement.proofs.Standing.{IsRunning}
+use Rattle.agreement.proofs.Standing.{StandsRunning}
 use Rattle.agreement.proofs.Invariant.{Holds}
 use Rattle.agreement.proofs.Prior.{prepared_fewer}
 use Rattle.agreement.proofs.Later.{IsLater, committed_later}
@@ -36,7 +36,7 @@ module _ {C R O : Type 0} (f me : ℕ) where
     kept_asks w base = kept_tell f g s me holds (GetState w base) (asks_state f me w base) tt (says_one me (primary f w) (GetState w base)) (λ to in'. tt)
 
     module _ (normal : (s me).status ≡ Normal) where
-      r : IsRunning f g me (s me)
+      r : StandsRunning f g me (s me)
       r = (holds.sites me).running (normal_runs _ normal)
 
       -- what a normal site has executed is committed in its view, also when more is said
@@ -99,7 +99,7 @@ module _ {C R O : Type 0} (f me : ℕ) where
 
         at : (j : ℕ) (b : Bool) → (j == me) ≡ b → (b || has_acknowledged acks top j) ≡ true → Prepared f g j (s me).view n
         at j true e h =
-            let r : IsRunning f g me (s me) = (holds.sites me).running (normal_runs _ normal) in
+            let r : StandsRunning f g me (s me) = (holds.sites me).running (normal_runs _ normal) in
             led (sym (ap g.opened (r.normal normal)) ∙ r.log_of.opened) (eq_of _ _ e ∙ leads) (subst (λ (l : List (RowOf C)). n ≤ length l) (r.leads normal leads) fits)
         at j false e h = of_test j (top == 0) refl h
 
@@ -108,7 +108,7 @@ module _ {C R O : Type 0} (f me : ℕ) where
         → Kept f g s me (does (executed_to top (s me)) [])
     executes_acknowledged acks top same normal leads small enough = kept_executes f g s me holds (normal_runs _ normal) top (by_test (top == 0) refl)
       where
-        r : IsRunning f g me (s me)
+        r : StandsRunning f g me (s me)
         r = (holds.sites me).running (normal_runs _ normal)
 
         rows : List (RowOf C)
@@ -173,7 +173,7 @@ module _ {C R O : Type 0} (f me : ℕ) where
             (executes_as g s holds is.0 w k is.1 c) (λ h t grown e later. tells h t (nat_lt (length (s me).log) k) later)
 
     module _ (from w place k : ℕ) (row : RowOf C) (good : IsPlaced f g w place k row) (other : from ≢ me) (from_primary : primary f w ≡ from) (normal : (s me).status ≡ Normal) (at : w ≡ (s me).view) where
-      r₂ : IsRunning f g me (s me)
+      r₂ : StandsRunning f g me (s me)
       r₂ = (holds.sites me).running (normal_runs _ normal)
 
       last : w ≡ (s me).last_normal
@@ -243,11 +243,11 @@ module _ {C R O : Type 0} (f me : ℕ) where
 
     news_kept : (s me).status ≡ Normal → me ≡ primary f (s me).view → (next : Option (RowOf C)) → slice_get (s me).log (s me).done ≡ next → Kept f g s me (does (s me) (to_all f me (news (s me) next)))
     news_kept normal leads (Some row) e =
-        let r : IsRunning f g me (s me) = (holds.sites me).running (normal_runs _ normal) in
+        let r : StandsRunning f g me (s me) = (holds.sites me).running (normal_runs _ normal) in
         tells_row g s holds normal leads (take (s me).done (s me).log) row ((s me).done + 1)
         (let l = length-take-le (s me).done (s me).log r.within in omega arith) (begins_to _ _ _ e).0
     news_kept normal leads None e =
-        let r : IsRunning f g me (s me) = (holds.sites me).running (normal_runs _ normal) in
+        let r : StandsRunning f g me (s me) = (holds.sites me).running (normal_runs _ normal) in
         let msg : MsgOf C R O = Commit (s me).view (s me).done in
         let es = to_all f me msg in
         let says : Says me msg es = says_to_all f me msg in

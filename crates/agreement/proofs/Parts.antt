@@ -22,7 +22,7 @@ use Rattle.agreement.proofs.Beginnings.{begins-trans, begins-length, begins-take
 use Rattle.agreement.proofs.Histories.{History, Prepared, Committed, none, chosen, IsCommittedTo, IsLogOf, IsUpto}
 use Rattle.agreement.proofs.Votes.{IsChange, IsAhead, works_upto, works_from, worked_stays, same_cell, saved_ahead, goes_on, still_recovers}
 use Rattle.agreement.proofs.Vouched.{IsVouched}
-use Rattle.agreement.proofs.Standing.{IsRunning, Stands}
+use Rattle.agreement.proofs.Standing.{StandsRunning, Stands}
 use Rattle.agreement.proofs.Invariant.{Holds}
 use Rattle.agreement.proofs.Prior.{chosen_fewer, committed_logs}
 use Rattle.agreement.proofs.Put.{put_self}
@@ -37,17 +37,17 @@ pub upto_more : (v n u m m' : ℕ) → m ≤ m' → IsUpto v n u m → IsUpto v 
 upto_more v n u m m' l (inl h) = inl h
 upto_more v n u m m' l (inr h) = let low = h.1 in inr (h.0, omega arith)
 
-last_by : {C R O : Type 0} (f : ℕ) (g : History C R O) (j : ℕ) (x : Site C) (st : Status) → x.status ≡ st → is_running st ≡ true → IsRunning f g j x → x.last_normal ≤ x.view
+last_by : {C R O : Type 0} (f : ℕ) (g : History C R O) (j : ℕ) (x : Site C) (st : Status) → x.status ≡ st → is_running st ≡ true → StandsRunning f g j x → x.last_normal ≤ x.view
 last_by f g j x Normal e run r = let h = r.normal e in omega arith
 last_by f g j x Change e run r = let h = r.change e in omega arith
 last_by f g j x Recovering e run r = absurd (true≢false (sym run))
 last_by f g j x Down e run r = absurd (true≢false (sym run))
 
 -- a running site was last normal in no later view than its own
-pub last_within : {C R O : Type 0} (f : ℕ) (g : History C R O) (j : ℕ) (x : Site C) → is_running x.status ≡ true → IsRunning f g j x → x.last_normal ≤ x.view
+pub last_within : {C R O : Type 0} (f : ℕ) (g : History C R O) (j : ℕ) (x : Site C) → is_running x.status ≡ true → StandsRunning f g j x → x.last_normal ≤ x.view
 last_within f g j x run r = last_by f g j x x.status refl run r
 
-pub stands_running : {C R O : Type 0} (f : ℕ) (g : History C R O) (j : ℕ) (x : Site C) → is_running x.status ≡ true → IsRunning f g j x → Stands f g j x
+pub stands_running : {C R O : Type 0} (f : ℕ) (g : History C R O) (j : ℕ) (x : Site C) → is_running x.status ≡ true → StandsRunning f g j x → Stands f g j x
 stands_running f g j x run r = record {
   running = λ _. r;
   rests = λ e. absurd (true≢false (sym run ∙ e));
@@ -101,7 +101,7 @@ module _ {C R O : Type 0} (f : ℕ) (g : History C R O) (s : ℕ → Site C) (me
       (λ to in'. tt) (λ e in'. in')
 
   -- a site goes on to run, over a cell that is not behind
-  pub kept_runs : (y : Site C) → IsAhead (s me) y → is_running y.status ≡ true → IsRunning f g me y → Kept f g s me (does y [])
+  pub kept_runs : (y : Site C) → IsAhead (s me) y → is_running y.status ≡ true → StandsRunning f g me y → Kept f g s me (does y [])
   kept_runs y ahead run r = kept_quiet y (goes_on (s me) y ahead (λ e. recovering_rests y.status e run)) (stands_running f g me y run r)
 
   -- a site is down, over a cell that is not behind
@@ -115,7 +115,7 @@ module _ {C R O : Type 0} (f : ℕ) (g : History C R O) (s : ℕ → Site C) (me
       })
 
   module _ (run : is_running (s me).status ≡ true) where
-    r : IsRunning f g me (s me)
+    r : StandsRunning f g me (s me)
     r = (holds.sites me).running run
 
     -- more is executed

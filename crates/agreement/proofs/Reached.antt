@@ -15,11 +15,11 @@ use Rattle.vr_types.specs.Choice.{Choice, IsRight}
 use Rattle.vr_types.specs.Step.{Step, does}
 use Rattle.vr_types.specs.Handling.{site_step, IsFall}
 use Rattle.vr_types.proofs.ChoosingPick.{Contains-cases, Contains-none}
-use Rattle.agreement.specs.Worlds.{Replied, Ordered, ordered, World, Course, Ends, Falls, Happening, MayHappen, replied, stepped, fallen, EndsIn, Happens, IsRun, opening_world, IsLegal}
+use Rattle.agreement.specs.Worlds.{Replied, Ordered, ordered, World, Course, Ends, FallsOver, Happening, MayHappen, replied, stepped, fallen, EndsIn, Happens, IsRun, opening_world, IsLegal}
 use Rattle.agreement.proofs.Members.{map-has}
 use Rattle.agreement.proofs.Beginnings.{nothing_begins, take_begins_take}
 use Rattle.agreement.proofs.Histories.{History, Prepared, acknowledged, led, Committed, none}
-use Rattle.agreement.proofs.Standing.{IsRunning, Stands}
+use Rattle.agreement.proofs.Standing.{StandsRunning, Stands}
 use Rattle.agreement.proofs.Invariant.{Holds}
 use Rattle.agreement.proofs.Put.{put, put_cases, put_here}
 use Rattle.agreement.proofs.Moves.{IsGrown, grown_itself, grown-trans, Kept}
@@ -74,7 +74,7 @@ module _ {C R O : Type 0} (f : ℕ) where
   replied_answered g s i step holds sound reply in' =
       let t = map-has (λ place. record { from = i; sender = step.site; place = place }) step.replies reply in' in
       let is = sound.each t.0 t.1 in
-      let r : IsRunning f g i step.site = subst (λ (x : Site C). is_running x.status ≡ true → IsRunning f g i x) (put_here s i step.site) ((holds.sites i).running) (normal_runs _ is.0) in
+      let r : StandsRunning f g i step.site = subst (λ (x : Site C). is_running x.status ≡ true → StandsRunning f g i x) (put_here s i step.site) ((holds.sites i).running) (normal_runs _ is.0) in
       subst (λ (a : Replied C). IsAnswered f g a) t.2 (record {
         normal = is.0;
         counted = is.1;
@@ -158,7 +158,7 @@ module _ {C R O : Type 0} (f : ℕ) where
 
         by_course : (course : Course) → EndsIn world h.site p.before (site_step choose f h.site p.before h.event) course after → IsReached f g after
         by_course Ends ends = subst (λ (w : World C R O). IsReached f g w) (sym ends.1) (after_step g world h.site _ holds small kept (step_sound choose f h.site p.before h.event))
-        by_course (Falls cell) ends = subst (λ (w : World C R O). IsReached f g w) (sym ends.1)
+        by_course (FallsOver cell) ends = subst (λ (w : World C R O). IsReached f g w) (sym ends.1)
             (after_fall g world h.site cell holds small (fall_kept f h.site g (site_at world) _ cell holds.holds kept
             (subst (λ (x : Site C). IsFall x (site_step choose f h.site p.before h.event) (over cell Down)) (sym is) ends.0)))
 

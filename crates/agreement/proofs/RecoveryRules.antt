@@ -19,7 +19,7 @@ use Rattle.agreement.proofs.Members.{filter-has}
 use Rattle.agreement.proofs.Histories.{History, IsLogOf}
 use Rattle.agreement.proofs.Votes.{HasAsked, same_cell, still_recovers}
 use Rattle.agreement.proofs.Vouched.{MayBeState}
-use Rattle.agreement.proofs.Standing.{IsRunning}
+use Rattle.agreement.proofs.Standing.{StandsRunning}
 use Rattle.agreement.proofs.Invariant.{Holds}
 use Rattle.agreement.proofs.Prior.{prepared_within}
 use Rattle.agreement.proofs.Later.{log_of_later}
@@ -69,7 +69,7 @@ module _ {C R O : Type 0} (f me : ℕ) (g : History C R O) (s : ℕ → Site C) 
           says : Says me (msg (Some state)) es
           says = says_one me from (msg (Some state))
 
-          r : IsRunning f g me (s me)
+          r : StandsRunning f g me (s me)
           r = (holds.sites me).running (normal_runs _ normal)
 
   pub kept_beat_recovering : Kept f g s me (beats_recovering f me (s me))

@@ -9,7 +9,7 @@ use Rattle.agreement.proofs.Votes.{IsAtView, MayHaveWorked}
 use Rattle.agreement.proofs.Histories.{History, IsLogOf, Prepared, Committed, IsUpto}
 
 -- a running site: its log is of its last normal view, what it has executed is committed, and what it prepared is not past its log
-pub record IsRunning {C R O : Type 0} (f : ℕ) (g : History C R O) (j : ℕ) (x : Site C) : Type 0 where
+pub record StandsRunning {C R O : Type 0} (f : ℕ) (g : History C R O) (j : ℕ) (x : Site C) : Type 0 where
   pub at_view : IsAtView x
   pub normal : x.status ≡ Normal → x.last_normal ≡ x.view
   pub change : x.status ≡ Change → x.last_normal < x.view
@@ -23,7 +23,7 @@ pub record IsRunning {C R O : Type 0} (f : ℕ) (g : History C R O) (j : ℕ) (x
 
 -- any site: one that does not run has no log; what it prepared is in a view in which it may have worked; a response that a recovering site keeps came from another site, after this restart
 pub record Stands {C R O : Type 0} (f : ℕ) (g : History C R O) (j : ℕ) (x : Site C) : Type 0 where
-  pub running : is_running x.status ≡ true → IsRunning f g j x
+  pub running : is_running x.status ≡ true → StandsRunning f g j x
   pub rests : is_running x.status ≡ false → (x.log ≡ []) × (x.done ≡ 0)
   pub prepared : (view n : ℕ) → Prepared f g j view n → MayHaveWorked x view
   pub responses : x.status ≡ Recovering → (a : Response C) → Contains x.collected.responses a

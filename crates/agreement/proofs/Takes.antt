@@ -17,7 +17,7 @@ use Rattle.agreement.proofs.Beginnings.{begins-trans, begins_at, take_begins, be
 use Rattle.agreement.proofs.Histories.{History, Prepared, none, IsCommittedTo, IsUpto, IsLogOf}
 use Rattle.agreement.proofs.Votes.{MayWork, HasAsked, works_from, saved_ahead, regains_above, restarts}
 use Rattle.agreement.proofs.Vouched.{IsState}
-use Rattle.agreement.proofs.Standing.{IsRunning}
+use Rattle.agreement.proofs.Standing.{StandsRunning}
 use Rattle.agreement.proofs.Invariant.{Holds}
 use Rattle.agreement.proofs.Prior.{committed_opening, upto-trans}
 use Rattle.agreement.proofs.Put.{put, put_here}
@@ -39,7 +39,7 @@ module _ {C R O : Type 0} (f : ℕ) (g : History C R O) (s : ℕ → Site C) (me
 
   module _ (w k : ℕ) (log : List (RowOf C)) (o : IsLogOf g w log) (c : IsCommittedTo f g w k) (apart : me ≢ primary f w) where
     module _ (run : is_running (s me).status ≡ true) (up : IsUpto (s me).last_normal (length (s me).log) w (length log)) where
-      r : IsRunning f g me (s me)
+      r : StandsRunning f g me (s me)
       r = (holds.sites me).running run
 
       -- the log begins with what the site has executed

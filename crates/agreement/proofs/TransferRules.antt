@@ -18,7 +18,7 @@ use Rattle.agreement.specs.Promises.{Begins}
 use Rattle.agreement.proofs.Beginnings.{begins_itself, begins-trans, begins-length, begins_from, begins_at, append_begins, take_begins, begins_same, begins_shorter}
 use Rattle.agreement.proofs.Histories.{History, IsLogOf}
 use Rattle.agreement.proofs.Vouched.{IsOpening, IsPart}
-use Rattle.agreement.proofs.Standing.{IsRunning}
+use Rattle.agreement.proofs.Standing.{StandsRunning}
 use Rattle.agreement.proofs.Invariant.{Holds}
 use Rattle.agreement.proofs.Prior.{committed_opening}
 use Rattle.agreement.proofs.Moves.{Kept, kept_same, kept_if, Says, says_one, say, later_say}
@@ -53,7 +53,7 @@ module _ {C R O : Type 0} (f me : ℕ) (g : History C R O) (s : ℕ → Site C) 
       answers : (s me).status ≡ Normal → me ≡ primary f (s me).view → base ≤ length (s me).log → Kept f g s me (does (s me) es)
       answers normal leads fits = kept_tell f g s me holds msg es tt says (λ to in'. good)
         where
-          r : IsRunning f g me (s me)
+          r : StandsRunning f g me (s me)
           r = (holds.sites me).running (normal_runs _ normal)
 
           good : IsPart f (say es g) (s me).view base (s me).done (drop base (s me).log)
@@ -71,7 +71,7 @@ module _ {C R O : Type 0} (f me : ℕ) (g : History C R O) (s : ℕ → Site C) 
   last_before : (w : ℕ) → is_running (s me).status ≡ true → nat_lt w (s me).view ≡ false → (is_normal (s me).status && (w == (s me).view)) ≡ false → (s me).last_normal < w
   last_before w run late other = by_view (cases_lt (s me).view w)
     where
-      r : IsRunning f g me (s me)
+      r : StandsRunning f g me (s me)
       r = (holds.sites me).running run
 
       by_view : ((s me).view < w) ⊎ (w ≤ (s me).view) → (s me).last_normal < w
@@ -122,7 +122,7 @@ module _ {C R O : Type 0} (f me : ℕ) (g : History C R O) (s : ℕ → Site C) 
           kept_takes_log f g s me holds w k _ (patched w base k rows (s me).log good (begins_at (ap g.logs last) r.log_of.upper) fits) good.done (λ p. other (sym from_primary ∙ sym p)) run
           (inr (last, (let a = length-append (take base (s me).log) rows in let b = length-take-le base (s me).log fits in omega arith))) choose (ge_of _ _ late)
         where
-          r : IsRunning f g me (s me)
+          r : StandsRunning f g me (s me)
           r = (holds.sites me).running run
 
           last : (s me).last_normal ≡ w
@@ -138,5 +138,5 @@ module _ {C R O : Type 0} (f me : ℕ) (g : History C R O) (s : ℕ → Site C) 
           (let h = length-take-le (s me).done (s me).log r.within in omega arith)))
           good.done (λ p. other (sym from_primary ∙ sym p)) run (inl before) choose (ge_of _ _ late)
         where
-          r : IsRunning f g me (s me)
+          r : StandsRunning f g me (s me)
           r = (holds.sites me).running run

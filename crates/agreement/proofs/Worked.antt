@@ -15,7 +15,7 @@ use Rattle.vr_types.specs.Normal.{on_request, on_prepare, on_prepare_ok}
 use Rattle.vr_types.specs.Change.{on_timer}
 use Rattle.vr_types.specs.Handling.{site_step}
 use Rattle.vr_types.proofs.Choosing.{choice_of}
-use Rattle.agreement.specs.Worlds.{World, Happening, Ends, Falls, stepped, fallen, opening_world, IsLegal}
+use Rattle.agreement.specs.Worlds.{World, Happening, Ends, FallsOver, stepped, fallen, opening_world, IsLegal}
 use Rattle.agreement.specs.Promises.{Tells, WasAsked}
 
 abbrev choose : Choice ℕ
@@ -47,7 +47,7 @@ events =
     record { site = 0; event = Deliver request; course = Ends }
     ∷ record { site = 1; event = Deliver prepare; course = Ends }
     ∷ record { site = 0; event = Deliver acknowledgement; course = Ends }
-    ∷ record { site = 2; event = Timer; course = Falls (record { boots = 0; view = 1 }) } ∷ []
+    ∷ record { site = 2; event = Timer; course = FallsOver (record { boots = 0; view = 1 }) } ∷ []
 
 abbrev site_at : World ℕ ℕ ℕ → ℕ → Site ℕ
 site_at world i = get_or world.sites i (over new_cell Down)
