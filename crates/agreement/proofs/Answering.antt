@@ -1,6 +1,6 @@
 -- WHAT CLIENTS ARE TOLD: every REPLY carries the machine's answer to a row that its sender had executed, and every order is open after the rows that its sender had executed.
 use Rattle.std.proofs.Common.{◌≡◌, ◌⊎◌, inl, inr, ℕ, ◌-◌, Bool, true, false, if◌then◌else◌, List, [], ◌∷◌, ◌++◌, map, take, slice_get, Option, Some, None, option_map, refl, sym, ap, ◌∙◌, subst, append-nil, arith}
-use Rattle.std.specs.Prelude.{Contains, ◌↔◌}
+use Rattle.std.specs.Prelude.{All, Contains, ◌↔◌}
 use Rattle.std.specs.List.{filter_map, flat_map, cons_option}
 use Rattle.std.proofs.lemmas.Grind.{flat_map-append}
 use Rattle.std.proofs.lemmas.List.Elements.{filter_map-append, Contains-append_left, Contains-append_right, Contains-append_cases}
@@ -17,7 +17,7 @@ use Rattle.vr_types.specs.Handling.{machine_of, reply_to, order_to, envelopes}
 use Rattle.vr_types.proofs.ChoosingPick.{Contains-cases, Contains-none, Contains-here, Contains-there}
 use Rattle.agreement.specs.Worlds.{Replied, Ordered, World, stepped, replied, ordered, LegalList}
 use Rattle.agreement.specs.Promises.{Begins, IsExecuted, replies_sent, orders_sent, all_sent, IsRightReply, IsOpenOrder}
-use Rattle.agreement.proofs.Members.{map-has}
+use Rattle.agreement.proofs.Members.{map-has, All-from_has}
 use Rattle.agreement.proofs.Beginnings.{begins-take, nothing_begins, take_begins}
 use Rattle.agreement.proofs.Rises.{begins_has}
 use Rattle.agreement.proofs.Laws.{executed, normal_orders}
@@ -73,9 +73,9 @@ module _ {H C R O S : Type 0} (m : Ghosts H C R O S) (start : H) where
       → reply_to m start i x place ≡ Some (record { from = actor_of i; to = row.client; msg = Reply x.view row.number (answer_at m start x.log place row) })
   reply-at i x place row there = ap (λ (found : Option (RowOf C)). option_map (λ (r : RowOf C). record { from = actor_of i; to = r.client; msg = Reply x.view r.number (answer_at m start x.log place r) }) found) there
 
-  module _ {f : ℕ} (list : LegalList C R O f) (envelope : EnvelopeOf C R O) where
-    pub replies_are_right : Contains (replies_sent m start list.world) envelope → IsRightReply m start list envelope
-    replies_are_right in' = record {
+  module _ {f : ℕ} (list : LegalList C R O f) where
+    reply_is_right : (envelope : EnvelopeOf C R O) → Contains (replies_sent m start list.world) envelope → IsRightReply m start list envelope
+    reply_is_right envelope in' = record {
       site = reply.from;
       sender = reply.sender;
       took = replied_took list reply sent.1;
@@ -104,8 +104,8 @@ module _ {H C R O S : Type 0} (m : Ghosts H C R O S) (start : H) where
         same : answer ≡ envelope
         same = some-same answer envelope (sym (reply-at reply.from reply.sender reply.place is.row (begins_has (executed_rows reply.sender) reply.sender.log (executed_begins reply.sender) (reply.place - 1) is.row is.is_there)) ∙ sent.2)
 
-    pub orders_are_open : Contains (orders_sent m start list.world) envelope → IsOpenOrder m start list envelope
-    orders_are_open in' = record {
+    order_is_open : (envelope : EnvelopeOf C R O) → Contains (orders_sent m start list.world) envelope → IsOpenOrder m start list envelope
+    order_is_open envelope in' = record {
       site = order.from;
       sender = order.sender;
       took = ordered_took list order sent.1;
@@ -124,6 +124,12 @@ module _ {H C R O S : Type 0} (m : Ghosts H C R O S) (start : H) where
 
         due : (d : ℕ × O) × Contains (m.orders (machine_of m start order.sender)) d × (order_to order.from d ≡ envelope)
         due = map-has (order_to order.from) (m.orders (machine_of m start order.sender)) envelope sent.2
+
+    pub replies_are_right : All (IsRightReply m start list) (replies_sent m start list.world)
+    replies_are_right = All-from_has (IsRightReply m start list) (replies_sent m start list.world) reply_is_right
+
+    pub orders_are_open : All (IsOpenOrder m start list) (orders_sent m start list.world)
+    orders_are_open = All-from_has (IsOpenOrder m start list) (orders_sent m start list.world) order_is_open
 
   -- ALL THAT WAS SENT is what the steps sent
   module _ (world : World C R O) (i : ℕ) (step : Step C R O) (envelope : EnvelopeOf C R O) where

@@ -10,7 +10,7 @@ use Rattle.vr_types.specs.Choice.{Choice}
 use Rattle.vr_types.specs.Step.{Step}
 use Rattle.vr_types.specs.Handling.{site_step}
 use Rattle.vr_types.proofs.ChoosingPick.{Contains-cases, Contains-none}
-use Rattle.agreement.specs.Worlds.{Replied, Ordered, World, Course, Ends, FallsOver, Happening, replied, ordered, stepped, fallen, EndsIn, Happens, IsRun, opening_world, LegalList}
+use Rattle.agreement.specs.Worlds.{Replied, Ordered, World, Course, Ends, FallsOver, Happening, step_of, replied, ordered, stepped, fallen, EndsIn, Happens, IsRun, opening_world, LegalList}
 use Rattle.agreement.specs.Promises.{Took}
 use Rattle.agreement.proofs.Members.{map-has}
 
@@ -19,10 +19,6 @@ slice_get-slice_set : {A : Type 0} (xs : List A) (i : ℕ) (y : A) → i < lengt
 slice_get-slice_set {A} xs i y small =
     slice_get-get_or (slice_set xs i y) i y (let same = length-set xs i y in omega arith)
     ∙ ap (λ (z : A). Some z) (get_or-set_same xs i y y small)
-
--- site i takes a step
-abbrev step_of : {C R O : Type 0} → ℕ → EventOf C R O → Happening C R O
-step_of i event = record { site = i; event = event; course = Ends }
 
 module _ {C R O : Type 0} (choose : Choice C) (f : ℕ) where
   -- site i took a step on the way from a world to another, and was x after it

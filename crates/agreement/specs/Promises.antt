@@ -1,5 +1,5 @@
 -- What holds of sites under every legal list. Places are counted from 1.
-use Rattle.std.specs.Prelude.{◌≡◌, ℕ, ◌-◌, ◌<◌, ◌≤◌, ◌⊎◌, List, [], ◌∷◌, ◌++◌, length, take, map, slice_get, Contains, All, Option, Some, None, ⊤}
+use Rattle.std.specs.Prelude.{◌≡◌, ℕ, ◌-◌, ◌<◌, ◌≤◌, ◌⊎◌, ◌↔◌, List, [], ◌∷◌, ◌++◌, length, take, map, slice_get, Contains, All, Option, Some, None, ⊤}
 use Rattle.std.specs.List.{filter_map, flat_map}
 use Rattle.vr_types.specs.declared.event.EventOf.{EventOf}
 use Rattle.vr_types.specs.declared.event.EventOf.TheVariants.{Deliver}
@@ -13,8 +13,9 @@ use Rattle.vr_types.specs.declared.row.RowOf.{RowOf}
 use Rattle.vr_types.specs.Execution.{held_after, answer_at}
 use Rattle.vr_types.specs.Group.{actor_of}
 use Rattle.vr_types.specs.Site.{Site, executed_rows}
-use Rattle.vr_types.specs.Handling.{machine_of, reply_to, order_to}
-use Rattle.agreement.specs.Worlds.{World, Replied, Ordered, Happening, Ends, IsRun, IsLegal, LegalList, IsNoRestart}
+use Rattle.vr_types.specs.Step.{Step}
+use Rattle.vr_types.specs.Handling.{machine_of, reply_to, order_to, envelopes}
+use Rattle.agreement.specs.Worlds.{World, Replied, Ordered, Happening, step_of, stepped, IsRun, IsLegal, LegalList, IsNoRestart}
 
 -- the row at a place
 abbrev pub row_at : {C : Type 0} → List (RowOf C) → ℕ → Option (RowOf C)
@@ -24,12 +25,14 @@ row_at rows place = slice_get rows (place - 1)
 
 -- two lists have the same row at each place that both have
 abbrev pub Agree : {C : Type 0} → List (RowOf C) → List (RowOf C) → Type 0
-Agree {C} xs ys = (n : ℕ) (x y : RowOf C) → slice_get xs n ≡ Some x → slice_get ys n ≡ Some y → x ≡ y
+Agree {C} xs ys =
+    (n : ℕ) (x y : RowOf C) → slice_get xs n ≡ Some x → slice_get ys n ≡ Some y → x ≡ y
 
 -- any site of the one world and any of the other have executed the same row at each place that both have
 abbrev pub SitesAgree : {C R O : Type 0} → World C R O → World C R O → Type 0
 SitesAgree {C} early late =
-    (x y : Site C) → Contains early.sites x → Contains late.sites y → Agree (executed_rows x) (executed_rows y)
+    (x y : Site C) → Contains early.sites x → Contains late.sites y
+    → Agree (executed_rows x) (executed_rows y)
 
 -- so the first n rows of both are the same, where both have n
 abbrev pub FirstRowsAgree : {C R O : Type 0} → World C R O → World C R O → Type 0
@@ -88,31 +91,39 @@ RepliesAgree {C} world =
 -- all replies to one request carry one answer
 abbrev pub AnswersAgree : {H C R O S : Type 0} → Ghosts H C R O S → H → World C R O → Type 0
 AnswersAgree {H} {C} {R} m start world =
-    (a b : Replied C) (client number : ℕ) (x y : R) → Contains world.replies a → Contains world.replies b
+    (a b : Replied C) (client number : ℕ) (x y : R)
+    → Contains world.replies a → Contains world.replies b
     → Tells m start a client number x → Tells m start b client number y → x ≡ y
 
 -- every answer is the machine's, at the place of that request's row in the executed rows of any site of either world
-abbrev pub AnswersAreRight : {H C R O S : Type 0} → Ghosts H C R O S → H → World C R O → World C R O → Type 0
+abbrev pub AnswersAreRight : {H C R O S : Type 0}
+    → Ghosts H C R O S → H → World C R O → World C R O → Type 0
 AnswersAreRight {H} {C} {R} m start early late =
-    (reply : Replied C) (answer : R) (x : Site C) (place : ℕ) (row : RowOf C) → Contains late.replies reply
-    → Contains early.sites x ⊎ Contains late.sites x → 1 ≤ place → row_at (executed_rows x) place ≡ Some row
+    (reply : Replied C) (answer : R) (x : Site C) (place : ℕ) (row : RowOf C)
+    → Contains late.replies reply → Contains early.sites x ⊎ Contains late.sites x
+    → 1 ≤ place → row_at (executed_rows x) place ≡ Some row
     → Tells m start reply row.client row.number answer
     → answer ≡ answer_at m start (executed_rows x) place row
 
 -- the rows up to one that was ever answered in a view begin the log of every site that is normal in a later view
 abbrev pub AnsweredRowsStay : {C R O : Type 0} → World C R O → World C R O → Type 0
 AnsweredRowsStay {C} early late =
-    (reply : Replied C) (x : Site C) → Contains late.replies reply
-    → Contains early.sites x ⊎ Contains late.sites x → x.status ≡ Normal → reply.sender.view < x.view
+    (reply : Replied C) (x : Site C)
+    → Contains late.replies reply → Contains early.sites x ⊎ Contains late.sites x
+    → x.status ≡ Normal → reply.sender.view < x.view
     → Begins (answered_rows reply) x.log
 
 -- NOTHING IS INVENTED
+
+-- a client's REQUEST for a row
+abbrev pub request_of : {C R O : Type 0} → ℕ → RowOf C → EnvelopeOf C R O
+request_of to row = record { from = row.client; to = to; msg = Request row.number row.cmd }
 
 -- a row came by a REQUEST of its client, with its number and its command, that a site took
 pub record WasAsked {C R O : Type 0} (events : List (Happening C R O)) (row : RowOf C) : Type 0 where
   pub site : ℕ
   pub to : ℕ
-  pub taken : Contains events (record { site = site; event = Deliver (record { from = row.client; to = to; msg = Request row.number row.cmd }); course = Ends })
+  pub taken : Contains events (step_of site (Deliver (request_of to row)))
 
 abbrev pub rows_of_state : {C : Type 0} → Option (StateOf C) → List (RowOf C)
 rows_of_state None = []
@@ -136,12 +147,14 @@ RowsAre P (PayOrder order) = ⊤
 
 -- each row of every log was asked for
 abbrev pub LogsWereAsked : {C R O : Type 0} → List (Happening C R O) → World C R O → Type 0
-LogsWereAsked {C} events world = (x : Site C) → Contains world.sites x → All (WasAsked events) x.log
+LogsWereAsked {C} events world =
+    (x : Site C) → Contains world.sites x → All (WasAsked events) x.log
 
 -- each row in every message that was ever sent was asked for
 abbrev pub MessagesWereAsked : {C R O : Type 0} → List (Happening C R O) → World C R O → Type 0
 MessagesWereAsked {C} {R} {O} events world =
-    (envelope : EnvelopeOf C R O) → Contains world.sent envelope → RowsAre (WasAsked events) envelope.msg
+    (envelope : EnvelopeOf C R O) → Contains world.sent envelope
+    → RowsAre (WasAsked events) envelope.msg
 
 -- Site i took a step in the list, and was x after it: the list is what came before the step, the step, and what came
 -- after it, and in the world that it leads to up to the step, site i is x.
@@ -149,16 +162,17 @@ pub record Took {C R O : Type 0} {f : ℕ} (list : LegalList C R O f) (i : ℕ) 
   pub before : List (Happening C R O)
   pub event : EventOf C R O
   pub after : List (Happening C R O)
-  pub parts : before ++ record { site = i; event = event; course = Ends } ∷ after ≡ list.events
+  pub parts : before ++ step_of i event ∷ after ≡ list.events
   pub world : World C R O
-  pub legal : IsLegal list.choose f list.cells (before ++ record { site = i; event = event; course = Ends } ∷ []) world
+  pub legal : IsLegal list.choose f list.cells (before ++ step_of i event ∷ []) world
   pub rest : IsRun list.choose f world after list.world
   pub is : slice_get world.sites i ≡ Some x
 
 -- every REPLY was sent by a site as it was after a step of the list, for a row that it had executed by then
 abbrev pub RepliesAreFromSites : {C R O : Type 0} {f : ℕ} → LegalList C R O f → Type 0
 RepliesAreFromSites {C} list =
-    (reply : Replied C) → Contains list.world.replies reply → Took list reply.from reply.sender × IsExecuted reply
+    (reply : Replied C) → Contains list.world.replies reply
+    → Took list reply.from reply.sender × IsExecuted reply
 
 -- open orders were ever sent by a site as it was after a step of the list, and normal then
 abbrev pub OrdersAreFromSites : {C R O : Type 0} {f : ℕ} → LegalList C R O f → Type 0
@@ -167,17 +181,30 @@ OrdersAreFromSites {C} list =
     → Took list order.from order.sender × (order.sender.status ≡ Normal)
 
 -- the REPLYs that were ever sent, as envelopes
-abbrev pub replies_sent : {H C R O S : Type 0} → Ghosts H C R O S → H → World C R O → List (EnvelopeOf C R O)
-replies_sent m start world = filter_map (λ reply. reply_to m start reply.from reply.sender reply.place) world.replies
+abbrev pub replies_sent : {H C R O S : Type 0}
+    → Ghosts H C R O S → H → World C R O → List (EnvelopeOf C R O)
+replies_sent m start world =
+    filter_map (λ reply. reply_to m start reply.from reply.sender reply.place) world.replies
 
 -- the open orders that were ever sent, as envelopes
-abbrev pub orders_sent : {H C R O S : Type 0} → Ghosts H C R O S → H → World C R O → List (EnvelopeOf C R O)
+abbrev pub orders_sent : {H C R O S : Type 0}
+    → Ghosts H C R O S → H → World C R O → List (EnvelopeOf C R O)
 orders_sent m start world =
-    flat_map (λ order. map (order_to order.from) (m.orders (machine_of m start order.sender))) world.orders
+    flat_map
+    (λ order. map (order_to order.from) (m.orders (machine_of m start order.sender)))
+    world.orders
 
 -- all that was ever sent, to sites and to clients
-abbrev pub all_sent : {H C R O S : Type 0} → Ghosts H C R O S → H → World C R O → List (EnvelopeOf C R O)
+abbrev pub all_sent : {H C R O S : Type 0}
+    → Ghosts H C R O S → H → World C R O → List (EnvelopeOf C R O)
 all_sent m start world = world.sent ++ replies_sent m start world ++ orders_sent m start world
+
+-- after a step of a site, what was ever sent is what was sent before, and what the step sends
+abbrev pub GrowsByStep : {H C R O S : Type 0}
+    → Ghosts H C R O S → H → World C R O → ℕ → Step C R O → Type 0
+GrowsByStep {H} {C} {R} {O} m start world site step =
+    (envelope : EnvelopeOf C R O) → Contains (all_sent m start (stepped world site step)) envelope
+    ↔ (Contains (all_sent m start world) envelope ⊎ Contains (envelopes m start site step) envelope)
 
 -- The envelope is a REPLY of a site as it was after a step of the list, to the client of a row that it had executed by
 -- then, with the machine's answer at the row's place in its executed rows.
@@ -191,7 +218,8 @@ pub record IsRightReply {H C R O S : Type 0} (m : Ghosts H C R O S) (start : H) 
   pub executed : row_at (executed_rows sender) place ≡ Some row
   pub from : envelope.from ≡ actor_of site
   pub to : envelope.to ≡ row.client
-  pub msg : envelope.msg ≡ Reply sender.view row.number (answer_at m start (executed_rows sender) place row)
+  pub msg : envelope.msg
+      ≡ Reply sender.view row.number (answer_at m start (executed_rows sender) place row)
 
 -- The envelope is an order, from a site as it was after a step of the list, that is open for this client after the rows
 -- that the site had executed by then.

@@ -41,6 +41,10 @@ pub record Happening (C R O : Type 0) : Type 0 where
   pub event : EventOf C R O
   pub course : Course
 
+-- an event at a site that ends as its step says
+abbrev pub step_of : {C R O : Type 0} → ℕ → EventOf C R O → Happening C R O
+step_of i event = record { site = i; event = event; course = Ends }
+
 -- a client's request
 abbrev pub is_request : {C R O : Type 0} → MsgOf C R O → Bool
 is_request (Request number cmd) = true
@@ -87,11 +91,14 @@ abbrev pub fallen : {C R O : Type 0} → World C R O → ℕ → Boot → World 
 fallen world i cell = record world { sites = slice_set world.sites i (over cell Down) }
 
 -- a step that is not refused ends, or is a fall
-abbrev pub EndsIn : {C R O : Type 0} → World C R O → ℕ → Site C → Step C R O → Course → World C R O → Type 0
+abbrev pub EndsIn : {C R O : Type 0}
+    → World C R O → ℕ → Site C → Step C R O → Course → World C R O → Type 0
 EndsIn world i x step Ends after = (is_refused step.ending ≡ false) × (after ≡ stepped world i step)
-EndsIn world i x step (FallsOver cell) after = IsFall x step (over cell Down) × (after ≡ fallen world i cell)
+EndsIn world i x step (FallsOver cell) after =
+    IsFall x step (over cell Down) × (after ≡ fallen world i cell)
 
--- It happens in this world, and leads to that one. What the site refuses does not happen; so an envelope reaches the site that it is addressed to, and no other.
+-- It happens in this world, and leads to that one. What the site refuses does not happen; so an envelope reaches the
+-- site that it is addressed to, and no other.
 pub record Happens {C R O : Type 0} (choose : Choice C) (f : ℕ) (world : World C R O) (h : Happening C R O) (after : World C R O) : Type 0 where
   pub before : Site C
   pub is_there : slice_get world.sites h.site ≡ Some before
@@ -99,13 +106,16 @@ pub record Happens {C R O : Type 0} (choose : Choice C) (f : ℕ) (world : World
   pub ends : EndsIn world h.site before (site_step choose f h.site before h.event) h.course after
 
 -- a list of what happens leads from a world to another
-abbrev pub IsRun : {C R O : Type 0} → Choice C → ℕ → World C R O → List (Happening C R O) → World C R O → Type 0
+abbrev pub IsRun : {C R O : Type 0}
+    → Choice C → ℕ → World C R O → List (Happening C R O) → World C R O → Type 0
 IsRun choose f world [] after = after ≡ world
-IsRun {C} {R} {O} choose f world (h ∷ hs) after = (next : World C R O) × Happens choose f world h next × IsRun choose f next hs after
+IsRun {C} {R} {O} choose f world (h ∷ hs) after =
+    (next : World C R O) × Happens choose f world h next × IsRun choose f next hs after
 
 -- at the opening nothing was sent, and each site is over its cell
 abbrev pub opening_world : {C R O : Type 0} → List Boot → World C R O
-opening_world cells = record { sites = map opening_site cells; sent = []; replies = []; orders = [] }
+opening_world cells =
+    record { sites = map opening_site cells; sent = []; replies = []; orders = [] }
 
 -- a legal list of 2f+1 sites leads to this world, from an opening over these cells
 pub record IsLegal {C R O : Type 0} (choose : Choice C) (f : ℕ) (cells : List Boot) (events : List (Happening C R O)) (world : World C R O) : Type 0 where

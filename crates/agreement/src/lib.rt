@@ -7,14 +7,12 @@
 //! on. Each promise is a word of `specs/Promises.antt`.
 #![tactic(auto)]
 
-ghost use Rattle.std.specs.Prelude.{◌≡◌, ℕ, ◌++◌, ◌⊎◌, ◌↔◌, List, Contains};
+ghost use Rattle.std.specs.Prelude.{◌≡◌, ℕ, ◌++◌, List, All};
 ghost use Rattle.vr_types.specs.declared.cell.Boot.{Boot};
-ghost use Rattle.vr_types.specs.declared.message.EnvelopeOf.{EnvelopeOf};
 ghost use Rattle.vr_types.specs.Choice.{Choice};
-ghost use Rattle.vr_types.specs.Handling.{envelopes};
 ghost use Rattle.vr_types.specs.Step.{Step};
-ghost use Rattle.agreement.specs.Worlds.{World, Happening, stepped, IsLegal, LegalList, Continued};
-ghost use Rattle.agreement.specs.Promises.{SitesAgree, FirstRowsAgree, NeverRestarts, LogsRise, AnsweredRowsStay, RepliesAgree, AnswersAgree, AnswersAreRight, LogsWereAsked, MessagesWereAsked, RepliesAreFromSites, OrdersAreFromSites, replies_sent, orders_sent, all_sent, IsRightReply, IsOpenOrder};
+ghost use Rattle.agreement.specs.Worlds.{World, Happening, fallen, IsLegal, LegalList, Continued};
+ghost use Rattle.agreement.specs.Promises.{SitesAgree, FirstRowsAgree, NeverRestarts, LogsRise, AnsweredRowsStay, RepliesAgree, AnswersAgree, AnswersAreRight, LogsWereAsked, MessagesWereAsked, RepliesAreFromSites, OrdersAreFromSites, replies_sent, orders_sent, all_sent, GrowsByStep, IsRightReply, IsOpenOrder};
 
 use vr_types::Machine;
 
@@ -48,10 +46,12 @@ pub fn lasting<C, R, O>()
 /// Every REPLY that was ever sent for one request of a client is for the same place, after the same rows, and carries
 /// the same answer: the machine's, at the place of that request's row in the executed rows of any site, at any moment.
 pub fn replies_agree<M: Machine>()
-    ensures one_place { (f : ℕ) (list : LegalList M.Cmd M.Reply M.Order f) → RepliesAgree list.world }
+    ensures one_place { (f : ℕ) (list : LegalList M.Cmd M.Reply M.Order f) →
+        RepliesAgree list.world }
     ensures one_answer { (f : ℕ) (list : LegalList M.Cmd M.Reply M.Order f) (start : M) →
         AnswersAgree M.Machine start list.world }
-    ensures right_answer { (f : ℕ) (early : LegalList M.Cmd M.Reply M.Order f) (late : Continued early) (start : M) →
+    ensures right_answer { (f : ℕ) (early : LegalList M.Cmd M.Reply M.Order f) →
+        (late : Continued early) (start : M) →
         AnswersAreRight M.Machine start early.world late.world }
 {}
 
@@ -61,28 +61,24 @@ pub fn replies_agree<M: Machine>()
 /// executed, and a site that sends orders was normal.
 pub fn invented<C, R, O>()
     ensures logs { (f : ℕ) (list : LegalList C R O f) → LogsWereAsked list.events list.world }
-    ensures messages { (f : ℕ) (list : LegalList C R O f) → MessagesWereAsked list.events list.world }
+    ensures messages { (f : ℕ) (list : LegalList C R O f) →
+        MessagesWereAsked list.events list.world }
     ensures replies { (f : ℕ) (list : LegalList C R O f) → RepliesAreFromSites list }
     ensures orders { (f : ℕ) (list : LegalList C R O f) → OrdersAreFromSites list }
 {}
 
 /// What clients are told: every REPLY ever sent carries the machine's answer to a row that its sender had executed, and
 /// every order ever sent was open after the rows that its sender had executed. What was ever sent is what the steps of
-/// the list send.
+/// sites send, and nothing else.
 pub fn told<M: Machine>()
-    ensures replies { (f : ℕ) (list : LegalList M.Cmd M.Reply M.Order f) (start : M)
-        (envelope : EnvelopeOf M.Cmd M.Reply M.Order) →
-        Contains (replies_sent M.Machine start list.world) envelope →
-        IsRightReply M.Machine start list envelope }
-    ensures orders { (f : ℕ) (list : LegalList M.Cmd M.Reply M.Order f) (start : M)
-        (envelope : EnvelopeOf M.Cmd M.Reply M.Order) →
-        Contains (orders_sent M.Machine start list.world) envelope →
-        IsOpenOrder M.Machine start list envelope }
-    ensures all { (world : World M.Cmd M.Reply M.Order) (site : ℕ) (step : Step M.Cmd M.Reply M.Order)
-        (start : M) (envelope : EnvelopeOf M.Cmd M.Reply M.Order) →
-        Contains (all_sent M.Machine start (stepped world site step)) envelope ↔
-        (Contains (all_sent M.Machine start world) envelope ⊎
-        Contains (envelopes M.Machine start site step) envelope) }
+    ensures replies { (f : ℕ) (list : LegalList M.Cmd M.Reply M.Order f) (start : M) →
+        All (IsRightReply M.Machine start list) (replies_sent M.Machine start list.world) }
+    ensures orders { (f : ℕ) (list : LegalList M.Cmd M.Reply M.Order f) (start : M) →
+        All (IsOpenOrder M.Machine start list) (orders_sent M.Machine start list.world) }
+    ensures steps { (world : World M.Cmd M.Reply M.Order) (site : ℕ) (start : M) →
+        (step : Step M.Cmd M.Reply M.Order) → GrowsByStep M.Machine start world site step }
+    ensures falls { (world : World M.Cmd M.Reply M.Order) (site : ℕ) (start : M) (cell : Boot) →
+        all_sent M.Machine start (fallen world site cell) ≡ all_sent M.Machine start world }
 {}
 
 /// A list that is legal over these cells leads to one world, whatever right choices its steps take as given: a fall
@@ -90,6 +86,7 @@ pub fn told<M: Machine>()
 pub fn one_world<C, R, O>()
     ensures right_choices { (f : ℕ) (a b : LegalList C R O f) →
         a.cells ≡ b.cells → a.events ≡ b.events → a.world ≡ b.world }
-    ensures one_choice { (choose : Choice C) (f : ℕ) (cells : List Boot) (events : List (Happening C R O)) (a b : World C R O) →
-        IsLegal choose f cells events a → IsLegal choose f cells events b → a ≡ b }
+    ensures one_choice { (choose : Choice C) (f : ℕ) (cells : List Boot) (a b : World C R O) →
+        (events : List (Happening C R O)) → IsLegal choose f cells events a →
+        IsLegal choose f cells events b → a ≡ b }
 {}
