@@ -1,5 +1,5 @@
 -- What holds of sites under every legal list. Places are counted from 1.
-use Rattle.std.specs.Prelude.{◌≡◌, ℕ, ◌-◌, ◌<◌, ◌≤◌, ◌⊎◌, ◌↔◌, List, [], ◌∷◌, ◌++◌, length, take, map, slice_get, Contains, All, Option, Some, None, ⊤}
+use Rattle.std.specs.Prelude.{◌≡◌, ℕ, ◌-◌, ◌<◌, ◌≤◌, ◌⊎◌, ◌↔◌, true, List, [], ◌∷◌, ◌++◌, length, take, map, slice_get, Contains, All, Option, Some, None, ⊤}
 use Rattle.std.specs.List.{filter_map, flat_map}
 use Rattle.vr_types.specs.declared.event.EventOf.{EventOf}
 use Rattle.vr_types.specs.declared.event.EventOf.TheVariants.{Deliver}
@@ -14,7 +14,7 @@ use Rattle.vr_types.specs.Execution.{held_after, answer_at}
 use Rattle.vr_types.specs.Group.{actor_of}
 use Rattle.vr_types.specs.Site.{Site, executed_rows}
 use Rattle.vr_types.specs.Step.{Step}
-use Rattle.vr_types.specs.Handling.{machine_of, reply_to, order_to, envelopes}
+use Rattle.vr_types.specs.Handling.{site_step, machine_of, reply_to, order_to, envelopes}
 use Rattle.agreement.specs.Worlds.{World, Replied, Ordered, Happening, step_of, stepped, IsRun, IsLegal, LegalList, IsNoRestart}
 
 -- the row at a place
@@ -156,29 +156,46 @@ MessagesWereAsked {C} {R} {O} events world =
     (envelope : EnvelopeOf C R O) → Contains world.sent envelope
     → RowsAre (WasAsked events) envelope.msg
 
--- Site i took a step in the list, and was x after it: the list is what came before the step, the step, and what came
--- after it, and in the world that it leads to up to the step, site i is x.
-pub record Took {C R O : Type 0} {f : ℕ} (list : LegalList C R O f) (i : ℕ) (x : Site C) : Type 0 where
+-- Site i took this step in the list: what came before it leads to a world in which it is the site's step, and what came
+-- after it goes on from the world after the step, in which the site is as the step leaves it.
+pub record Took {C R O : Type 0} {f : ℕ} (list : LegalList C R O f) (i : ℕ) (step : Step C R O) : Type 0 where
   pub before : List (Happening C R O)
   pub event : EventOf C R O
   pub after : List (Happening C R O)
   pub parts : before ++ step_of i event ∷ after ≡ list.events
   pub world : World C R O
-  pub legal : IsLegal list.choose f list.cells (before ++ step_of i event ∷ []) world
-  pub rest : IsRun list.choose f world after list.world
-  pub is : slice_get world.sites i ≡ Some x
+  pub legal : IsLegal list.choose f list.cells before world
+  pub site : Site C
+  pub was : slice_get world.sites i ≡ Some site
+  pub is : step ≡ site_step list.choose f i site event
+  pub stands : slice_get (stepped world i step).sites i ≡ Some step.site
+  pub rest : IsRun list.choose f (stepped world i step) after list.world
 
--- every REPLY was sent by a site as it was after a step of the list, for a row that it had executed by then
-abbrev pub RepliesAreFromSites : {C R O : Type 0} {f : ℕ} → LegalList C R O f → Type 0
-RepliesAreFromSites {C} list =
-    (reply : Replied C) → Contains list.world.replies reply
-    → Took list reply.from reply.sender × IsExecuted reply
+-- a REPLY was sent in a step of the list, by a site that had executed the row by then
+pub record WasReplied {C R O : Type 0} {f : ℕ} (list : LegalList C R O f) (reply : Replied C) : Type 0 where
+  pub step : Step C R O
+  pub took : Took list reply.from step
+  pub sender : reply.sender ≡ step.site
+  pub sent : Contains step.replies reply.place
+  pub executed : IsExecuted reply
 
--- open orders were ever sent by a site as it was after a step of the list, and normal then
-abbrev pub OrdersAreFromSites : {C R O : Type 0} {f : ℕ} → LegalList C R O f → Type 0
-OrdersAreFromSites {C} list =
-    (order : Ordered C) → Contains list.world.orders order
-    → Took list order.from order.sender × (order.sender.status ≡ Normal)
+-- open orders were sent in a step of the list, by a site that is normal after it
+pub record WasOrdered {C R O : Type 0} {f : ℕ} (list : LegalList C R O f) (order : Ordered C) : Type 0 where
+  pub step : Step C R O
+  pub took : Took list order.from step
+  pub sender : order.sender ≡ step.site
+  pub sent : step.orders ≡ true
+  pub normal : order.sender.status ≡ Normal
+
+-- every REPLY was sent so
+abbrev pub RepliesWereSent : {C R O : Type 0} {f : ℕ} → LegalList C R O f → Type 0
+RepliesWereSent {C} list =
+    (reply : Replied C) → Contains list.world.replies reply → WasReplied list reply
+
+-- open orders were sent so each time
+abbrev pub OrdersWereSent : {C R O : Type 0} {f : ℕ} → LegalList C R O f → Type 0
+OrdersWereSent {C} list =
+    (order : Ordered C) → Contains list.world.orders order → WasOrdered list order
 
 -- the REPLYs that were ever sent, as envelopes
 abbrev pub replies_sent : {H C R O S : Type 0}
@@ -206,29 +223,31 @@ GrowsByStep {H} {C} {R} {O} m start world site step =
     (envelope : EnvelopeOf C R O) → Contains (all_sent m start (stepped world site step)) envelope
     ↔ (Contains (all_sent m start world) envelope ⊎ Contains (envelopes m start site step) envelope)
 
--- The envelope is a REPLY of a site as it was after a step of the list, to the client of a row that it had executed by
--- then, with the machine's answer at the row's place in its executed rows.
+-- The envelope is a REPLY that a step of the list sent, to the client of a row that the site had executed by then, with
+-- the machine's answer at the row's place in its executed rows.
 pub record IsRightReply {H C R O S : Type 0} (m : Ghosts H C R O S) (start : H) {f : ℕ} (list : LegalList C R O f) (envelope : EnvelopeOf C R O) : Type 0 where
   pub site : ℕ
-  pub sender : Site C
-  pub took : Took list site sender
+  pub step : Step C R O
+  pub took : Took list site step
   pub place : ℕ
+  pub sent : Contains step.replies place
   pub row : RowOf C
   pub counted : 1 ≤ place
-  pub executed : row_at (executed_rows sender) place ≡ Some row
+  pub executed : row_at (executed_rows step.site) place ≡ Some row
   pub from : envelope.from ≡ actor_of site
   pub to : envelope.to ≡ row.client
   pub msg : envelope.msg
-      ≡ Reply sender.view row.number (answer_at m start (executed_rows sender) place row)
+      ≡ Reply step.site.view row.number (answer_at m start (executed_rows step.site) place row)
 
--- The envelope is an order, from a site as it was after a step of the list, that is open for this client after the rows
--- that the site had executed by then.
+-- The envelope is an order that a step of the list sent, open for this client after the rows that the site had executed
+-- by then.
 pub record IsOpenOrder {H C R O S : Type 0} (m : Ghosts H C R O S) (start : H) {f : ℕ} (list : LegalList C R O f) (envelope : EnvelopeOf C R O) : Type 0 where
   pub site : ℕ
-  pub sender : Site C
-  pub took : Took list site sender
-  pub normal : sender.status ≡ Normal
+  pub step : Step C R O
+  pub took : Took list site step
+  pub sent : step.orders ≡ true
+  pub normal : step.site.status ≡ Normal
   pub order : O
-  pub is_open : Contains (m.orders (held_after m start (executed_rows sender))) (envelope.to, order)
+  pub is_open : Contains (m.orders (held_after m start (executed_rows step.site))) (envelope.to, order)
   pub from : envelope.from ≡ actor_of site
   pub msg : envelope.msg ≡ PayOrder order

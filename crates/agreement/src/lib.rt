@@ -12,7 +12,7 @@ ghost use Rattle.vr_types.specs.declared.cell.Boot.{Boot};
 ghost use Rattle.vr_types.specs.Choice.{Choice};
 ghost use Rattle.vr_types.specs.Step.{Step};
 ghost use Rattle.agreement.specs.Worlds.{World, Happening, fallen, IsLegal, LegalList, Continued};
-ghost use Rattle.agreement.specs.Promises.{SitesAgree, FirstRowsAgree, NeverRestarts, LogsRise, AnsweredRowsStay, RepliesAgree, AnswersAgree, AnswersAreRight, LogsWereAsked, MessagesWereAsked, RepliesAreFromSites, OrdersAreFromSites, replies_sent, orders_sent, all_sent, GrowsByStep, IsRightReply, IsOpenOrder};
+ghost use Rattle.agreement.specs.Promises.{SitesAgree, FirstRowsAgree, NeverRestarts, LogsRise, AnsweredRowsStay, RepliesAgree, AnswersAgree, AnswersAreRight, LogsWereAsked, MessagesWereAsked, RepliesWereSent, OrdersWereSent, replies_sent, orders_sent, all_sent, GrowsByStep, IsRightReply, IsOpenOrder};
 
 use vr_types::Machine;
 
@@ -57,19 +57,19 @@ pub fn replies_agree<M: Machine>()
 
 /// Nothing is invented: each row of every log, and of every message that was ever sent, came by a REQUEST of that client
 /// with that number and command that a site took before; each REPLY that was ever sent, and each time that open orders
-/// were sent, came from a site of the list, as it was after a step of the list; a REPLY is for a row that this site had
-/// executed, and a site that sends orders was normal.
+/// were sent, it was in a step that a site of the list took, and what the REPLY and the orders say of the site is what it
+/// was after that step: a REPLY is for a row that it had executed by then, and a site that sends orders is normal.
 pub fn invented<C, R, O>()
     ensures logs { (f : ℕ) (list : LegalList C R O f) → LogsWereAsked list.events list.world }
     ensures messages { (f : ℕ) (list : LegalList C R O f) →
         MessagesWereAsked list.events list.world }
-    ensures replies { (f : ℕ) (list : LegalList C R O f) → RepliesAreFromSites list }
-    ensures orders { (f : ℕ) (list : LegalList C R O f) → OrdersAreFromSites list }
+    ensures replies { (f : ℕ) (list : LegalList C R O f) → RepliesWereSent list }
+    ensures orders { (f : ℕ) (list : LegalList C R O f) → OrdersWereSent list }
 {}
 
 /// What clients are told: every REPLY ever sent carries the machine's answer to a row that its sender had executed, and
-/// every order ever sent was open after the rows that its sender had executed. What was ever sent is what the steps of
-/// sites send, and nothing else.
+/// every order ever sent was open after the rows that its sender had executed, the sender as it was after the step that
+/// sent it. What was ever sent is what the steps of sites send, and nothing else.
 pub fn told<M: Machine>()
     ensures replies { (f : ℕ) (list : LegalList M.Cmd M.Reply M.Order f) (start : M) →
         All (IsRightReply M.Machine start list) (replies_sent M.Machine start list.world) }

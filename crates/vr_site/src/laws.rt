@@ -10,7 +10,7 @@ ghost use Rattle.std.specs.Prelude.{◌≡◌, ℕ, ◌++◌, All};
 ghost use Rattle.vr_types.specs.declared.cell.Boot.{Boot};
 ghost use Rattle.vr_types.specs.Step.{Step};
 ghost use Rattle.agreement.specs.Worlds.{World, fallen, LegalList, Continued};
-ghost use Rattle.agreement.specs.Promises.{SitesAgree, FirstRowsAgree, NeverRestarts, LogsRise, AnsweredRowsStay, RepliesAgree, AnswersAgree, AnswersAreRight, LogsWereAsked, MessagesWereAsked, RepliesAreFromSites, OrdersAreFromSites, replies_sent, orders_sent, all_sent, GrowsByStep, IsRightReply, IsOpenOrder};
+ghost use Rattle.agreement.specs.Promises.{SitesAgree, FirstRowsAgree, NeverRestarts, LogsRise, AnsweredRowsStay, RepliesAgree, AnswersAgree, AnswersAreRight, LogsWereAsked, MessagesWereAsked, RepliesWereSent, OrdersWereSent, replies_sent, orders_sent, all_sent, GrowsByStep, IsRightReply, IsOpenOrder};
 
 use vr_types::Machine;
 
@@ -53,8 +53,8 @@ pub fn agreement<M: Machine>()
 /// Nothing is invented: each row of every log, and of every message that was ever sent, came by a REQUEST of that client
 /// with that number and command that a site took before. Each REPLY that was ever sent carries the machine's answer to a
 /// row that its sender had executed, and each order that was ever sent was open after the rows that its sender had
-/// executed; the sender is a site of the list, as it was after a step of the list. What was ever sent is what the steps
-/// of sites send, and nothing else.
+/// executed; the sender is a site of the list, as it was after the step that sent it. What was ever sent is what the
+/// steps of sites send, and nothing else.
 pub fn invented<M: Machine>()
     ensures logs { (f : ℕ) (list : LegalList M.Cmd M.Reply M.Order f) →
         LogsWereAsked list.events list.world }
@@ -64,10 +64,10 @@ pub fn invented<M: Machine>()
         All (IsRightReply M.Machine start list) (replies_sent M.Machine start list.world) }
     ensures orders { (f : ℕ) (list : LegalList M.Cmd M.Reply M.Order f) (start : M) →
         All (IsOpenOrder M.Machine start list) (orders_sent M.Machine start list.world) }
-    ensures repliers { (f : ℕ) (list : LegalList M.Cmd M.Reply M.Order f) →
-        RepliesAreFromSites list }
-    ensures orderers { (f : ℕ) (list : LegalList M.Cmd M.Reply M.Order f) →
-        OrdersAreFromSites list }
+    ensures reply_steps { (f : ℕ) (list : LegalList M.Cmd M.Reply M.Order f) →
+        RepliesWereSent list }
+    ensures order_steps { (f : ℕ) (list : LegalList M.Cmd M.Reply M.Order f) →
+        OrdersWereSent list }
     ensures steps { (world : World M.Cmd M.Reply M.Order) (site : ℕ) (start : M) →
         (step : Step M.Cmd M.Reply M.Order) → GrowsByStep M.Machine start world site step }
     ensures falls { (world : World M.Cmd M.Reply M.Order) (site : ℕ) (start : M) (cell : Boot) →
