@@ -74,7 +74,7 @@ module _ {C R O : Type 0} (f : ℕ) (g h : History C R O) (i at : ℕ) (l : IsLa
     running = λ r. running_later j x (λ view n. prepared_apart j view n apart) same (o.running r);
     rests = o.rests;
     prepared = λ view n p. o.prepared view n (prepared_apart j view n apart p);
-    responses = λ r a in'. let t = o.responses r a in' in (t.0, l.said _ t.1);
+    responses = λ nonce r a in'. let t = o.responses nonce r a in' in (t.0, l.said _ t.1);
   }
     where
       same : (j ≡ primary f x.view) → h.logs x.view ≡ g.logs x.view

@@ -181,7 +181,7 @@ module _ {C R O : Type 0} (f : ℕ) where
     running = λ r. absurd (true≢false (sym r));
     rests = λ _. (refl, refl);
     prepared = λ view n p. let h = first_prepared j view n p in let e = h.0 in omega arith;
-    responses = λ e. absurd (let e' : Down ≡ Recovering = e in cc);
+    responses = λ nonce e. absurd (let e' : Down ≡ Recovering = e.status in cc);
   }
 
   opening_stands : (j : ℕ) (cell : Boot) → Stands f at_first j (opening_site cell)
@@ -203,7 +203,7 @@ module _ {C R O : Type 0} (f : ℕ) where
         };
         rests = λ r. absurd (true≢false r);
         prepared = λ view n p. let h = first_prepared j view n p in let z = h.0 in omega arith;
-        responses = λ c. absurd (let c' : Normal ≡ Recovering = c in cc);
+        responses = λ nonce c. absurd (let c' : Normal ≡ Recovering = c.status in cc);
       }
       by_test true false e = down_stands j cell
       by_test false b e = down_stands j cell

@@ -1,11 +1,11 @@
 -- HOW A SITE STANDS to the history.
 use Rattle.std.proofs.Common.{◌≡◌, ◌≢◌, ℕ, ◌<◌, ◌≤◌, min, true, false, [], length, take}
 use Rattle.std.specs.Prelude.{Contains}
-use Rattle.vr_types.specs.declared.event.Status.TheVariants.{Normal, Change, Recovering}
+use Rattle.vr_types.specs.declared.event.Status.TheVariants.{Normal, Change}
 use Rattle.vr_types.specs.declared.message.MsgOf.TheVariants.{DoViewChange, RecoveryResponse}
 use Rattle.vr_types.specs.Group.{primary, mail}
 use Rattle.vr_types.specs.Site.{Ack, Vote, Response, Site, is_running}
-use Rattle.agreement.proofs.Votes.{IsAtView, MayHaveWorked}
+use Rattle.agreement.proofs.Votes.{IsAtView, MayHaveWorked, RecoversBy}
 use Rattle.agreement.proofs.Histories.{History, IsLogOf, Prepared, Committed, IsUpto}
 
 -- a running site: its log is of its last normal view, what it has executed is committed, and what it prepared is not past its log
@@ -26,5 +26,5 @@ pub record Stands {C R O : Type 0} (f : ℕ) (g : History C R O) (j : ℕ) (x : 
   pub running : is_running x.status ≡ true → StandsRunning f g j x
   pub rests : is_running x.status ≡ false → (x.log ≡ []) × (x.done ≡ 0)
   pub prepared : (view n : ℕ) → Prepared f g j view n → MayHaveWorked x view
-  pub responses : x.status ≡ Recovering → (a : Response C) → Contains x.collected.responses a
-      → (a.from ≢ j) × Contains g.said (mail a.from j (RecoveryResponse a.view x.cell.boots a.state))
+  pub responses : (nonce : ℕ) → RecoversBy x nonce → (a : Response C) → Contains x.collected.responses a
+      → (a.from ≢ j) × Contains g.said (mail a.from j (RecoveryResponse a.view nonce a.state))

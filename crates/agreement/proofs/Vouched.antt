@@ -1,7 +1,6 @@
 -- WHAT A MESSAGE VOUCHES FOR, said by site j to another.
 use Rattle.std.proofs.Common.{◌≡◌, ℕ, ◌+◌, ◌<◌, ◌≤◌, true, List, [], ◌∷◌, ◌++◌, length, take, Option, Some, None}
 use Rattle.std.specs.Prelude.{⊤}
-use Rattle.vr_types.specs.declared.event.Status.TheVariants.{Recovering}
 use Rattle.vr_types.specs.declared.message.MsgOf.{MsgOf}
 use Rattle.vr_types.specs.declared.message.MsgOf.TheVariants.{Request, Prepare, PrepareOk, Commit, StartViewChange, DoViewChange, StartView, GetState, NewState, Recovery, RecoveryResponse, Reply, PayOrder}
 use Rattle.vr_types.specs.declared.message.StateOf.{StateOf}
@@ -9,7 +8,7 @@ use Rattle.vr_types.specs.declared.row.RowOf.{RowOf}
 use Rattle.vr_types.specs.Site.{Site}
 use Rattle.agreement.specs.Promises.{Begins}
 use Rattle.agreement.proofs.Histories.{History, IsLogOf, Prepared, Committed, IsCommittedTo, IsUpto}
-use Rattle.agreement.proofs.Votes.{HasAsked, IsPromised}
+use Rattle.agreement.proofs.Votes.{HasAsked, IsPromised, RecoversBy}
 
 -- PREPARE: the row stands at this place in the view's log, and so many rows are committed
 pub record IsPlaced {C R O : Type 0} (f : ℕ) (g : History C R O) (view place k : ℕ) (row : RowOf C) : Type 0 where
@@ -52,7 +51,7 @@ pub record IsPart {C R O : Type 0} (f : ℕ) (g : History C R O) (view base k : 
 pub record IsState {C R O : Type 0} (f : ℕ) (g : History C R O) (s : ℕ → Site C) (to view nonce k : ℕ) (log : List (RowOf C)) : Type 0 where
   pub log_of : IsLogOf g view log
   pub done : IsCommittedTo f g view k
-  pub covers : (s to).status ≡ Recovering → (s to).cell.boots ≡ nonce → (n : ℕ) → Prepared f g to view n → n ≤ length log
+  pub covers : RecoversBy (s to) nonce → (n : ℕ) → Prepared f g to view n → n ≤ length log
 
 abbrev pub MayBeState : {C R O : Type 0} → ℕ → History C R O → (ℕ → Site C) → ℕ → ℕ → ℕ → Option (StateOf C) → Type 0
 MayBeState f g s to view nonce None = ⊤
