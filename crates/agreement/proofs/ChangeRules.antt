@@ -14,8 +14,10 @@ use Rattle.vr_types.specs.Step.{does, executed_to, normal_in, begins_with_execut
 use Rattle.vr_types.specs.Change.{Part, with_start, with_vote, with_voted, own_vote, sends_vote, is_to_vote, is_to_open, starts_view, starts_later_view, votes_where_due, opened_with, opens_where_due, on_start_view_change, on_do_view_change, on_timer, beats_in_change}
 use Rattle.vr_types.proofs.ChoosingPick.{Contains-cases, Contains-none, Contains-here, not_before, IsNotBefore}
 use Rattle.agreement.proofs.Quorums.{quorums_meet}
-use Rattle.agreement.proofs.Histories.{History, Committed, IsUpto}
-use Rattle.agreement.proofs.Vouched.{IsVote}
+use Rattle.agreement.proofs.Histories.{History}
+use Rattle.agreement.proofs.PreparedRows.{IsUpto}
+use Rattle.agreement.proofs.CommittedRows.{Committed}
+use Rattle.agreement.proofs.VotesCover.{IsVote}
 use Rattle.agreement.proofs.Standing.{StandsRunning}
 use Rattle.agreement.proofs.Elections.{IsElector}
 use Rattle.agreement.proofs.Votes.{IsAhead, IsPromised, vote_promises, same_cell, goes_on}

@@ -10,9 +10,12 @@ use Rattle.vr_types.specs.Group.{mail}
 use Rattle.vr_types.specs.Site.{Site}
 use Rattle.agreement.specs.Promises.{Begins, IsRising}
 use Rattle.agreement.proofs.Beginnings.{begins-trans, begins-length, begins_from}
-use Rattle.agreement.proofs.Histories.{History, Prepared}
+use Rattle.agreement.proofs.Histories.{History}
+use Rattle.agreement.proofs.PreparedRows.{Prepared}
 use Rattle.agreement.proofs.Votes.{IsChange, IsPromised, HasAsked, RecoversBy, asked_stays, promise_stays, promise_binds, recovers_by}
-use Rattle.agreement.proofs.Vouched.{IsVote, IsState, MayBeState, IsVouched}
+use Rattle.agreement.proofs.VotesCover.{IsVote}
+use Rattle.agreement.proofs.StatesCover.{IsState, MayBeState}
+use Rattle.agreement.proofs.Vouched.{IsVouched}
 use Rattle.agreement.proofs.Standing.{Stands}
 use Rattle.agreement.proofs.Elections.{IsElected}
 use Rattle.agreement.proofs.Invariant.{Holds}

@@ -7,7 +7,10 @@ use Rattle.vr_types.specs.Group.{primary}
 use Rattle.vr_types.specs.Site.{Site}
 use Rattle.agreement.specs.Promises.{Begins}
 use Rattle.agreement.proofs.Beginnings.{begins-trans, begins-length, begins_from}
-use Rattle.agreement.proofs.Histories.{History, IsLogOf, Prepared, acknowledged, led, IsChosen, Committed, none, chosen, IsCommittedTo}
+use Rattle.agreement.proofs.Histories.{History}
+use Rattle.agreement.proofs.OneLog.{IsLogOf}
+use Rattle.agreement.proofs.PreparedRows.{Prepared, acknowledged, led}
+use Rattle.agreement.proofs.CommittedRows.{IsChosen, Committed, none, chosen, IsCommittedTo}
 use Rattle.agreement.proofs.Standing.{StandsRunning, Stands}
 use Rattle.agreement.proofs.Elections.{IsElector, IsElected}
 

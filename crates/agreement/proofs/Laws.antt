@@ -13,11 +13,12 @@ use Rattle.vr_types.specs.Site.{Site, executed_rows}
 use Rattle.agreement.specs.Worlds.{Replied, Ordered, World, Happening, IsRun, IsLegal}
 use Rattle.agreement.specs.Promises.{row_at, Agree, IsRising, answered_rows, Begins, IsExecuted, Tells}
 use Rattle.agreement.proofs.Beginnings.{take_begins, begins-trans}
-use Rattle.agreement.proofs.Histories.{Committed}
+use Rattle.agreement.proofs.CommittedRows.{Committed}
 use Rattle.agreement.proofs.Standing.{StandsRunning}
 use Rattle.agreement.proofs.Prior.{committed_opening, committed_both}
 use Rattle.agreement.proofs.Parts.{committed_fewer}
-use Rattle.agreement.proofs.Reached.{site_at, IsAnswered, IsReached, first, legal_holds, run_holds, has_number}
+use Rattle.agreement.proofs.AnsweredRows.{IsAnswered}
+use Rattle.agreement.proofs.Reached.{site_at, IsReached, first, legal_holds, run_holds, has_number}
 use Rattle.agreement.proofs.Agreeing.{agree_begins, take_begins_same, executed_committed, log_rises, committed_lasts, IsTold, told_by, IsOne, answered_at, told_is}
 use Rattle.agreement.proofs.Tests.{normal_runs}
 

@@ -6,10 +6,16 @@ mod Tests
 mod Put
 -- what holds at every moment: the history, and each invariant
 mod Histories
+mod OneLog
+mod PreparedRows
+mod CommittedRows
 mod Votes
+mod VotesCover
+mod StatesCover
 mod Vouched
 mod Standing
 mod Elections
+mod AnsweredRows
 mod Invariant
 -- it stays true, and chosen rows begin every later view
 mod Later

@@ -11,7 +11,9 @@ use Rattle.vr_types.specs.Site.{Site}
 use Rattle.vr_types.specs.Step.{Step, does}
 use Rattle.vr_types.proofs.ChoosingPick.{Contains-cases, Contains-none}
 use Rattle.agreement.proofs.Beginnings.{begins_itself}
-use Rattle.agreement.proofs.Histories.{History, Prepared, acknowledged, led, Committed}
+use Rattle.agreement.proofs.Histories.{History}
+use Rattle.agreement.proofs.PreparedRows.{Prepared, acknowledged, led}
+use Rattle.agreement.proofs.CommittedRows.{Committed}
 use Rattle.agreement.proofs.Votes.{IsChange, saved_view}
 use Rattle.agreement.proofs.Vouched.{IsVouched}
 use Rattle.agreement.proofs.Standing.{StandsRunning, Stands}

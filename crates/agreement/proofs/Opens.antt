@@ -12,7 +12,10 @@ use Rattle.vr_types.specs.Step.{does, executed_to, normal_in}
 use Rattle.vr_types.proofs.ChoosingPick.{Contains-none}
 use Rattle.agreement.specs.Promises.{Begins, IsRising}
 use Rattle.agreement.proofs.Beginnings.{begins_itself, nothing_begins, begins-length, begins_from, begins_at, begins_is_take}
-use Rattle.agreement.proofs.Histories.{History, Prepared, acknowledged, led, Committed, none, IsUpto, IsLogOf}
+use Rattle.agreement.proofs.Histories.{History}
+use Rattle.agreement.proofs.OneLog.{IsLogOf}
+use Rattle.agreement.proofs.PreparedRows.{Prepared, acknowledged, led, IsUpto}
+use Rattle.agreement.proofs.CommittedRows.{Committed, none}
 use Rattle.agreement.proofs.Votes.{works_from, same_cell, goes_on, prepares_there}
 use Rattle.agreement.proofs.Vouched.{IsOpening}
 use Rattle.agreement.proofs.Standing.{StandsRunning}

@@ -19,7 +19,10 @@ use Rattle.vr_types.specs.Change.{starts_view}
 use Rattle.vr_types.proofs.ChoosingPick.{Contains-cases, Contains-none}
 use Rattle.agreement.specs.Promises.{Begins}
 use Rattle.agreement.proofs.Beginnings.{begins-trans, begins-length, begins-take, take_begins, begins_from, append_begins}
-use Rattle.agreement.proofs.Histories.{History, Prepared, Committed, none, chosen, IsCommittedTo, IsLogOf, IsUpto}
+use Rattle.agreement.proofs.Histories.{History}
+use Rattle.agreement.proofs.OneLog.{IsLogOf}
+use Rattle.agreement.proofs.PreparedRows.{Prepared, IsUpto}
+use Rattle.agreement.proofs.CommittedRows.{Committed, none, chosen, IsCommittedTo}
 use Rattle.agreement.proofs.Votes.{IsChange, IsAhead, works_upto, works_from, worked_stays, same_cell, saved_ahead, goes_on, still_recovers, saves_new, saved_view}
 use Rattle.agreement.proofs.Vouched.{IsVouched}
 use Rattle.agreement.proofs.Standing.{StandsRunning, Stands}

@@ -16,7 +16,9 @@ use Rattle.vr_types.specs.Normal.{with_row}
 use Rattle.vr_types.proofs.ChoosingPick.{Contains-cases, Contains-there, Contains-here, Contains-none}
 use Rattle.agreement.specs.Promises.{Begins, IsRising}
 use Rattle.agreement.proofs.Beginnings.{begins_itself, begins-trans, begins-length, begins_from, begins_at, append_begins}
-use Rattle.agreement.proofs.Histories.{History, Prepared, acknowledged, led, Committed, IsUpto}
+use Rattle.agreement.proofs.Histories.{History}
+use Rattle.agreement.proofs.PreparedRows.{Prepared, acknowledged, led, IsUpto}
+use Rattle.agreement.proofs.CommittedRows.{Committed}
 use Rattle.agreement.proofs.Votes.{works_from, prepares_there}
 use Rattle.agreement.proofs.Vouched.{IsWithin, IsVouched}
 use Rattle.agreement.proofs.Standing.{StandsRunning}

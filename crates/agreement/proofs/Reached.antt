@@ -18,7 +18,10 @@ use Rattle.vr_types.proofs.ChoosingPick.{Contains-cases, Contains-none}
 use Rattle.agreement.specs.Worlds.{Replied, Ordered, ordered, World, Course, Ends, FallsOver, Happening, MayHappen, replied, stepped, fallen, EndsIn, Happens, IsRun, opening_world, IsLegal}
 use Rattle.agreement.proofs.Members.{map-has}
 use Rattle.agreement.proofs.Beginnings.{nothing_begins, take_begins_take}
-use Rattle.agreement.proofs.Histories.{History, Prepared, acknowledged, led, Committed, none}
+use Rattle.agreement.proofs.Histories.{History}
+use Rattle.agreement.proofs.PreparedRows.{Prepared, acknowledged, led}
+use Rattle.agreement.proofs.CommittedRows.{Committed, none}
+use Rattle.agreement.proofs.AnsweredRows.{IsAnswered}
 use Rattle.agreement.proofs.Standing.{StandsRunning, Stands}
 use Rattle.agreement.proofs.Invariant.{Holds}
 use Rattle.agreement.proofs.Put.{put, put_cases, put_here}
@@ -36,14 +39,7 @@ nobody = over (record { boots = 0; view = 0 }) Down
 abbrev pub site_at : {C R O : Type 0} → World C R O → ℕ → Site C
 site_at world i = get_or world.sites i nobody
 
--- A REPLY IS FOR COMMITTED ROWS, in its view.
-pub record IsAnswered {C R O : Type 0} (f : ℕ) (g : History C R O) (reply : Replied C) : Type 0 where
-  pub normal : reply.sender.status ≡ Normal
-  pub counted : 1 ≤ reply.place
-  pub executed : reply.place ≤ reply.sender.done
-  pub within : reply.sender.done ≤ length reply.sender.log
-  pub done : Committed f g reply.sender.view (take reply.place reply.sender.log)
-
+-- what holds of a world, with its history
 pub record HoldsAt {C R O : Type 0} (f : ℕ) (g : History C R O) (world : World C R O) : Type 0 where
   pub holds : Holds f g (site_at world)
   pub said : (e : EnvelopeOf C R O) → Contains world.sent e → Contains g.said e
@@ -51,6 +47,7 @@ pub record HoldsAt {C R O : Type 0} (f : ℕ) (g : History C R O) (world : World
   pub orders : (order : Ordered C) → Contains world.orders order → order.sender.status ≡ Normal
   pub size : length world.sites ≡ 2 * f + 1
 
+-- a world that is reached from a history, which grew
 pub record IsReached {C R O : Type 0} (f : ℕ) (g : History C R O) (world : World C R O) : Type 0 where
   pub history : History C R O
   pub holds : HoldsAt f history world

@@ -16,9 +16,10 @@ use Rattle.vr_types.specs.Step.{does}
 use Rattle.vr_types.specs.Recovery.{on_recovery, has_as_late, with_response, regains, on_recovery_response, beats_recovering, on_crash}
 use Rattle.vr_types.proofs.ChoosingPick.{Contains-cases, Contains-none}
 use Rattle.agreement.proofs.Members.{filter-has}
-use Rattle.agreement.proofs.Histories.{History, IsLogOf}
+use Rattle.agreement.proofs.Histories.{History}
+use Rattle.agreement.proofs.OneLog.{IsLogOf}
 use Rattle.agreement.proofs.Votes.{HasAsked, RecoversBy, nonce_of, asks_now, recovers_now, same_cell, still_recovers}
-use Rattle.agreement.proofs.Vouched.{MayBeState}
+use Rattle.agreement.proofs.StatesCover.{MayBeState}
 use Rattle.agreement.proofs.Standing.{StandsRunning}
 use Rattle.agreement.proofs.Invariant.{Holds}
 use Rattle.agreement.proofs.Prior.{prepared_within}

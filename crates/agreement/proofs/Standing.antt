@@ -6,7 +6,10 @@ use Rattle.vr_types.specs.declared.message.MsgOf.TheVariants.{DoViewChange, Reco
 use Rattle.vr_types.specs.Group.{primary, mail}
 use Rattle.vr_types.specs.Site.{Ack, Vote, Response, Site, is_running}
 use Rattle.agreement.proofs.Votes.{IsAtView, MayHaveWorked, RecoversBy}
-use Rattle.agreement.proofs.Histories.{History, IsLogOf, Prepared, Committed, IsUpto}
+use Rattle.agreement.proofs.Histories.{History}
+use Rattle.agreement.proofs.OneLog.{IsLogOf}
+use Rattle.agreement.proofs.PreparedRows.{Prepared, IsUpto}
+use Rattle.agreement.proofs.CommittedRows.{Committed}
 
 -- a running site: its log is of its last normal view, what it has executed is committed, and what it prepared is not past its log
 pub record StandsRunning {C R O : Type 0} (f : ℕ) (g : History C R O) (j : ℕ) (x : Site C) : Type 0 where

@@ -14,9 +14,12 @@ use Rattle.vr_types.specs.Recovery.{regains, on_restart}
 use Rattle.vr_types.proofs.ChoosingPick.{Contains-none}
 use Rattle.agreement.specs.Promises.{Begins}
 use Rattle.agreement.proofs.Beginnings.{begins-trans, begins_at, take_begins, begins_shorter}
-use Rattle.agreement.proofs.Histories.{History, Prepared, none, IsCommittedTo, IsUpto, IsLogOf}
+use Rattle.agreement.proofs.Histories.{History}
+use Rattle.agreement.proofs.OneLog.{IsLogOf}
+use Rattle.agreement.proofs.PreparedRows.{Prepared, IsUpto}
+use Rattle.agreement.proofs.CommittedRows.{none, IsCommittedTo}
 use Rattle.agreement.proofs.Votes.{MayWork, HasAsked, IsSaved, Saves, nonce_of, saved_view, works_from, asks_now, recovers_now, saved_ahead, saved_at, saved_if, saved_if_later, regains_above, restarted, restarts}
-use Rattle.agreement.proofs.Vouched.{IsState}
+use Rattle.agreement.proofs.StatesCover.{IsState}
 use Rattle.agreement.proofs.Standing.{StandsRunning}
 use Rattle.agreement.proofs.Invariant.{Holds}
 use Rattle.agreement.proofs.Prior.{committed_opening, upto-trans}
@@ -32,11 +35,6 @@ abbrev taken : {C : Type 0} → ℕ → ℕ → List (RowOf C) → Boot → Site
 taken w k log cell x = executed_to k (normal_in w log (record x { cell = cell }))
 
 module _ {C R O : Type 0} (f : ℕ) (g : History C R O) (s : ℕ → Site C) (me : ℕ) (holds : Holds f g s) where
-  -- a normal site acknowledges what it took, or has no need to
-  acknowledges_if : (b : Bool) → (s me).status ≡ Normal → Kept f g s me (does (s me) (if b then acknowledges_all f me (s me) else []))
-  acknowledges_if true normal = kept_acknowledges f g s me holds normal (primary f (s me).view)
-  acknowledges_if false normal = kept_same f g s me holds _ refl refl
-
   module _ (w k : ℕ) (log : List (RowOf C)) (o : IsLogOf g w log) (c : IsCommittedTo f g w k) (apart : me ≢ primary f w) where
     module _ (run : is_running (s me).status ≡ true) (up : IsUpto (s me).last_normal (length (s me).log) w (length log)) where
       r : StandsRunning f g me (s me)
