@@ -46,7 +46,7 @@ pub mod Unique
 mod KeptRows
 mod Rows
 pub mod Asked
-pub mod Senders
+mod Senders
 pub mod Answering
 -- a legal list, computed
 mod Worked

@@ -73,7 +73,8 @@ pub record IsExecuted {C : Type 0} (reply : Replied C) : Type 0 where
   pub is_there : row_at (executed_rows reply.sender) reply.place ≡ Some row
 
 -- a REPLY of a machine's site says that this is the answer to a client's request
-pub record Tells {H C R O S : Type 0} (m : Ghosts H C R O S) (start : H) (reply : Replied C) (client number : ℕ) (answer : R) : Type 0 where
+pub record Tells {H C R O S : Type 0} (m : Ghosts H C R O S) (start : H)
+    (reply : Replied C) (client number : ℕ) (answer : R) : Type 0 where
   pub envelope : EnvelopeOf C R O
   pub is : reply_to m start reply.from reply.sender reply.place ≡ Some envelope
   pub to : envelope.to ≡ client
@@ -120,7 +121,8 @@ abbrev pub request_of : {C R O : Type 0} → ℕ → RowOf C → EnvelopeOf C R 
 request_of to row = record { from = row.client; to = to; msg = Request row.number row.cmd }
 
 -- a row came by a REQUEST of its client, with its number and its command, that a site took
-pub record WasAsked {C R O : Type 0} (events : List (Happening C R O)) (row : RowOf C) : Type 0 where
+pub record WasAsked {C R O : Type 0} (events : List (Happening C R O))
+    (row : RowOf C) : Type 0 where
   pub site : ℕ
   pub to : ℕ
   pub taken : Contains events (step_of site (Deliver (request_of to row)))
@@ -158,7 +160,8 @@ MessagesWereAsked {C} {R} {O} events world =
 
 -- Site i took this step in the list: what came before it leads to a world in which it is the site's step, and what came
 -- after it goes on from the world after the step, in which the site is as the step leaves it.
-pub record Took {C R O : Type 0} {f : ℕ} (list : LegalList C R O f) (i : ℕ) (step : Step C R O) : Type 0 where
+pub record Took {C R O : Type 0} {f : ℕ} (list : LegalList C R O f)
+    (i : ℕ) (step : Step C R O) : Type 0 where
   pub before : List (Happening C R O)
   pub event : EventOf C R O
   pub after : List (Happening C R O)
@@ -172,7 +175,8 @@ pub record Took {C R O : Type 0} {f : ℕ} (list : LegalList C R O f) (i : ℕ) 
   pub rest : IsRun list.choose f (stepped world i step) after list.world
 
 -- a REPLY was sent in a step of the list, by a site that had executed the row by then
-pub record WasReplied {C R O : Type 0} {f : ℕ} (list : LegalList C R O f) (reply : Replied C) : Type 0 where
+pub record WasReplied {C R O : Type 0} {f : ℕ} (list : LegalList C R O f)
+    (reply : Replied C) : Type 0 where
   pub step : Step C R O
   pub took : Took list reply.from step
   pub sender : reply.sender ≡ step.site
@@ -180,7 +184,8 @@ pub record WasReplied {C R O : Type 0} {f : ℕ} (list : LegalList C R O f) (rep
   pub executed : IsExecuted reply
 
 -- open orders were sent in a step of the list, by a site that is normal after it
-pub record WasOrdered {C R O : Type 0} {f : ℕ} (list : LegalList C R O f) (order : Ordered C) : Type 0 where
+pub record WasOrdered {C R O : Type 0} {f : ℕ} (list : LegalList C R O f)
+    (order : Ordered C) : Type 0 where
   pub step : Step C R O
   pub took : Took list order.from step
   pub sender : order.sender ≡ step.site
@@ -225,7 +230,8 @@ GrowsByStep {H} {C} {R} {O} m start world site step =
 
 -- The envelope is a REPLY that a step of the list sent, to the client of a row that the site had executed by then, with
 -- the machine's answer at the row's place in its executed rows.
-pub record IsRightReply {H C R O S : Type 0} (m : Ghosts H C R O S) (start : H) {f : ℕ} (list : LegalList C R O f) (envelope : EnvelopeOf C R O) : Type 0 where
+pub record IsRightReply {H C R O S : Type 0} (m : Ghosts H C R O S) (start : H)
+    {f : ℕ} (list : LegalList C R O f) (envelope : EnvelopeOf C R O) : Type 0 where
   pub site : ℕ
   pub step : Step C R O
   pub took : Took list site step
@@ -241,7 +247,8 @@ pub record IsRightReply {H C R O S : Type 0} (m : Ghosts H C R O S) (start : H) 
 
 -- The envelope is an order that a step of the list sent, open for this client after the rows that the site had executed
 -- by then.
-pub record IsOpenOrder {H C R O S : Type 0} (m : Ghosts H C R O S) (start : H) {f : ℕ} (list : LegalList C R O f) (envelope : EnvelopeOf C R O) : Type 0 where
+pub record IsOpenOrder {H C R O S : Type 0} (m : Ghosts H C R O S) (start : H)
+    {f : ℕ} (list : LegalList C R O f) (envelope : EnvelopeOf C R O) : Type 0 where
   pub site : ℕ
   pub step : Step C R O
   pub took : Took list site step

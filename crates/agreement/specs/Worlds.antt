@@ -99,7 +99,8 @@ EndsIn world i x step (FallsOver cell) after =
 
 -- It happens in this world, and leads to that one. What the site refuses does not happen; so an envelope reaches the
 -- site that it is addressed to, and no other.
-pub record Happens {C R O : Type 0} (choose : Choice C) (f : ℕ) (world : World C R O) (h : Happening C R O) (after : World C R O) : Type 0 where
+pub record Happens {C R O : Type 0} (choose : Choice C) (f : ℕ) (world : World C R O)
+    (h : Happening C R O) (after : World C R O) : Type 0 where
   pub before : Site C
   pub is_there : slice_get world.sites h.site ≡ Some before
   pub may_happen : MayHappen world.sent h.event
@@ -118,7 +119,8 @@ opening_world cells =
     record { sites = map opening_site cells; sent = []; replies = []; orders = [] }
 
 -- a legal list of 2f+1 sites leads to this world, from an opening over these cells
-pub record IsLegal {C R O : Type 0} (choose : Choice C) (f : ℕ) (cells : List Boot) (events : List (Happening C R O)) (world : World C R O) : Type 0 where
+pub record IsLegal {C R O : Type 0} (choose : Choice C) (f : ℕ) (cells : List Boot)
+    (events : List (Happening C R O)) (world : World C R O) : Type 0 where
   pub all : length cells ≡ 2 * f + 1
   pub run : IsRun choose f (opening_world cells) events world
 

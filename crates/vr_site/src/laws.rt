@@ -10,7 +10,10 @@ ghost use Rattle.std.specs.Prelude.{◌≡◌, ℕ, ◌++◌, All};
 ghost use Rattle.vr_types.specs.declared.cell.Boot.{Boot};
 ghost use Rattle.vr_types.specs.Step.{Step};
 ghost use Rattle.agreement.specs.Worlds.{World, fallen, LegalList, Continued};
-ghost use Rattle.agreement.specs.Promises.{SitesAgree, FirstRowsAgree, NeverRestarts, LogsRise, AnsweredRowsStay, RepliesAgree, AnswersAgree, AnswersAreRight, LogsWereAsked, MessagesWereAsked, RepliesWereSent, OrdersWereSent, replies_sent, orders_sent, all_sent, GrowsByStep, IsRightReply, IsOpenOrder};
+ghost use Rattle.agreement.specs.Promises.{SitesAgree, FirstRowsAgree, NeverRestarts, LogsRise};
+ghost use Rattle.agreement.specs.Promises.{AnsweredRowsStay, RepliesAgree, AnswersAgree, AnswersAreRight};
+ghost use Rattle.agreement.specs.Promises.{LogsWereAsked, MessagesWereAsked, RepliesWereSent, OrdersWereSent};
+ghost use Rattle.agreement.specs.Promises.{replies_sent, orders_sent, all_sent, GrowsByStep, IsRightReply, IsOpenOrder};
 
 use vr_types::Machine;
 
