@@ -59,9 +59,8 @@ pub fn replies_agree<M: Machine>()
 {}
 
 /// Nothing is invented: each row of every log, and of every message that was ever sent, came by a REQUEST of that client
-/// with that number and command that a site took before; each REPLY that was ever sent, and each time that open orders
-/// were sent, it was in a step that a site of the list took, and what the REPLY and the orders say of the site is what it
-/// was after that step: a REPLY is for a row that it had executed by then, and a site that sends orders is normal.
+/// with that number and command that a site took before; each REPLY was sent in a step that a site of the list took, for
+/// a row that this site had executed by then; and so were open orders each time, by a site that is normal after the step.
 pub fn invented<C, R, O>()
     ensures logs { (f : ℕ) (list : LegalList C R O f) → LogsWereAsked list.events list.world }
     ensures messages { (f : ℕ) (list : LegalList C R O f) →

@@ -34,8 +34,7 @@ pub fn agreement<M: Machine>()
     ensures rows { (f : ℕ) (early : LegalList M.Cmd M.Reply M.Order f) (late : Continued early) →
         SitesAgree early.world late.world }
     ensures first_rows { (f : ℕ) (early : LegalList M.Cmd M.Reply M.Order f) →
-        (late : Continued early) →
-        FirstRowsAgree early.world late.world }
+        (late : Continued early) → FirstRowsAgree early.world late.world }
     ensures rising { (f : ℕ) (list : LegalList M.Cmd M.Reply M.Order f) → LogsRise list.world }
     ensures one_place { (f : ℕ) (list : LegalList M.Cmd M.Reply M.Order f) →
         RepliesAgree list.world }
