@@ -1,5 +1,5 @@
 -- What was asked for in a legal list is all that there is.
-use Rattle.std.proofs.Common.{◌≡◌, ◌⊎◌, inl, inr, ℕ, zero, suc, true, List, [], ◌∷◌, slice_set, ◌==◌, ◌&&◌, if◌then◌else◌, refl, sym, ap, ◌∙◌, subst, true≢false}
+use Rattle.std.proofs.Common.{◌≡◌, ◌⊎◌, inl, inr, ℕ, true, List, [], ◌∷◌, slice_set, ◌==◌, ◌&&◌, if◌then◌else◌, refl, sym, ap, ◌∙◌, subst, true≢false}
 use Rattle.std.specs.Prelude.{All, Contains}
 use Rattle.std.proofs.lemmas.List.Elements.{All-contains, Contains-append_cases}
 use Rattle.std.proofs.lemmas.Option.{slice_get_within, get_or_from_slice_get}
@@ -14,10 +14,10 @@ use Rattle.vr_types.specs.declared.row.RowOf.{RowOf}
 use Rattle.vr_types.specs.Site.{Site, opening_site}
 use Rattle.vr_types.specs.Choice.{Choice, IsRight}
 use Rattle.vr_types.specs.Handling.{site_step}
-use Rattle.vr_types.proofs.ChoosingPick.{Contains-cases, Contains-none, Contains-here, Contains-there}
-use Rattle.agreement.specs.Worlds.{World, stepped, Course, Ends, Falls, Happening, is_request, MayHappen, EndsIn, Happens, IsRun, opening_world, IsLegal}
+use Rattle.vr_types.proofs.ChoosingPick.{Contains-none, Contains-here, Contains-there}
+use Rattle.agreement.specs.Worlds.{World, stepped, Course, Ends, FallsOver, Happening, is_request, MayHappen, EndsIn, Happens, IsRun, opening_world, IsLegal}
 use Rattle.agreement.specs.Promises.{WasAsked, RowsAre}
-use Rattle.agreement.proofs.Members.{map-has}
+use Rattle.agreement.proofs.Members.{map-has, set-has}
 use Rattle.agreement.proofs.KeptRows.{Keeps, over_rows}
 use Rattle.agreement.proofs.Rows.{HasRows, Brings, step_rows}
 
@@ -30,23 +30,6 @@ pub record RowsHold {C R O : Type 0} (P : RowOf C → Type 0) (world : World C R
 abbrev Asks : {C R O : Type 0} → (RowOf C → Type 0) → Happening C R O → Type 0
 Asks {C} {R} {O} P h = (site to client number : ℕ) (cmd : C) → h ≡ record { site = site; event = Deliver (record { from = client; to = to; msg = Request number cmd }); course = Ends }
     → P (record { client = client; number = number; cmd = cmd })
-
-set-has : {A : Type 0} (xs : List A) (i : ℕ) (y x : A) → Contains (slice_set xs i y) x → (y ≡ x) ⊎ Contains xs x
-set-has [] i y x in' = absurd (Contains-none x in')
-set-has {A} (z ∷ xs) zero y x in' = by_place (Contains-cases y x xs in')
-  where
-    by_place : (y ≡ x) ⊎ Contains xs x → (y ≡ x) ⊎ Contains (z ∷ xs) x
-    by_place (inl e) = inl e
-    by_place (inr there) = inr (Contains-there z x xs there)
-set-has {A} (z ∷ xs) (suc i) y x in' = by_place (Contains-cases z x (slice_set xs i y) in') (set-has xs i y x)
-  where
-    by_rest : (y ≡ x) ⊎ Contains xs x → (y ≡ x) ⊎ Contains (z ∷ xs) x
-    by_rest (inl e) = inl e
-    by_rest (inr there) = inr (Contains-there z x xs there)
-
-    by_place : (z ≡ x) ⊎ Contains (slice_set xs i y) x → (Contains (slice_set xs i y) x → (y ≡ x) ⊎ Contains xs x) → (y ≡ x) ⊎ Contains (z ∷ xs) x
-    by_place (inl e) rest = inr (subst (λ (a : A). Contains (z ∷ xs) a) e (Contains-here z xs))
-    by_place (inr there) rest = by_rest (rest there)
 
 module _ {C R O : Type 0} (P : RowOf C → Type 0) where
   -- a request has no rows of a log
@@ -110,7 +93,7 @@ module _ {C R O : Type 0} (P : RowOf C → Type 0) where
 
         by_course : (course : Course) → h.course ≡ course → EndsIn world h.site p.before (site_step choose f h.site p.before h.event) course after → RowsHold P after
         by_course Ends is ends = subst (λ (w : World C R O). RowsHold P w) (sym ends.1) (stepped_rows is)
-        by_course (Falls cell) is ends = subst (λ (w : World C R O). RowsHold P w) (sym ends.1) (record { sites = site_rows world rows h.site _ (over_rows P cell Down); sent = rows.sent })
+        by_course (FallsOver cell) is ends = subst (λ (w : World C R O). RowsHold P w) (sym ends.1) (record { sites = site_rows world rows h.site _ (over_rows P cell Down); sent = rows.sent })
 
     run_rows : (world : World C R O) (events : List (Happening C R O)) (after : World C R O) → RowsHold P world → ((h : Happening C R O) → Contains events h → Asks P h) → IsRun choose f world events after → RowsHold P after
     run_rows world [] after rows asks e = subst (λ (w : World C R O). RowsHold P w) (sym e) rows

@@ -14,9 +14,11 @@ use Rattle.vr_types.specs.Step.{does, executed_to, normal_in, begins_with_execut
 use Rattle.vr_types.specs.Change.{Part, with_start, with_vote, with_voted, own_vote, sends_vote, is_to_vote, is_to_open, starts_view, starts_later_view, votes_where_due, opened_with, opens_where_due, on_start_view_change, on_do_view_change, on_timer, beats_in_change}
 use Rattle.vr_types.proofs.ChoosingPick.{Contains-cases, Contains-none, Contains-here, not_before, IsNotBefore}
 use Rattle.agreement.proofs.Quorums.{quorums_meet}
-use Rattle.agreement.proofs.Histories.{History, Committed, IsUpto}
-use Rattle.agreement.proofs.Vouched.{IsVote}
-use Rattle.agreement.proofs.Standing.{IsRunning}
+use Rattle.agreement.proofs.Histories.{History}
+use Rattle.agreement.proofs.PreparedRows.{IsUpto}
+use Rattle.agreement.proofs.CommittedRows.{Committed}
+use Rattle.agreement.proofs.VotesCover.{IsVote}
+use Rattle.agreement.proofs.Standing.{StandsRunning}
 use Rattle.agreement.proofs.Elections.{IsElector}
 use Rattle.agreement.proofs.Votes.{IsAhead, IsPromised, vote_promises, same_cell, goes_on}
 use Rattle.agreement.proofs.Invariant.{Holds}
@@ -47,7 +49,7 @@ module _ {C R O : Type 0} (f me : ℕ) where
 
   module _ (g : History C R O) (s : ℕ → Site C) (holds : Holds f g s) where
     module _ (change : (s me).status ≡ Change) where
-      r : IsRunning f g me (s me)
+      r : StandsRunning f g me (s me)
       r = (holds.sites me).running (change_runs _ change)
 
       abbrev msg : MsgOf C R O
@@ -95,7 +97,7 @@ module _ {C R O : Type 0} (f me : ℕ) where
           y : Site C
           y = record (s me) { collected = collected }
 
-          told : IsRunning f (say es g) me (s me)
+          told : StandsRunning f (say es g) me (s me)
           told = running_say f g me msg es tt says me (s me) r
 
           said : (v : Vote C) → Contains (s me).collected.votes v ⊎ (own_vote me (s me) ≡ v) → (to : ℕ) × Contains (es ++ g.said) (mail v.from to (DoViewChange (s me).view v.last_normal v.done v.log))
@@ -161,7 +163,7 @@ module _ {C R O : Type 0} (f me : ℕ) where
         (subst (λ (n : ℕ). Committed f g most.1.last_normal (take n most.1.log)) most.4 (good most.1 in_most).done)
         (let w = (good most.1 in_most).within in let e = most.4 in omega arith) (good most.1 in_most).below
       where
-        run : IsRunning f g me (s me)
+        run : StandsRunning f g me (s me)
         run = (holds.sites me).running (change_runs _ change)
 
         one : Found (λ (v : Vote C). v.from == (quorums_meet f (has_vote votes) (has_vote votes) many many).site) votes

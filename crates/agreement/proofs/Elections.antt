@@ -4,7 +4,9 @@ use Rattle.std.specs.Prelude.{Contains}
 use Rattle.vr_types.specs.declared.message.MsgOf.TheVariants.{DoViewChange}
 use Rattle.vr_types.specs.declared.row.RowOf.{RowOf}
 use Rattle.vr_types.specs.Group.{sites, mail}
-use Rattle.agreement.proofs.Histories.{History, IsLogOf, IsUpto}
+use Rattle.agreement.proofs.Histories.{History}
+use Rattle.agreement.proofs.OneLog.{IsLogOf}
+use Rattle.agreement.proofs.PreparedRows.{IsUpto}
 
 -- site j voted for view w with a log that is not past the one of this length in view `last`
 pub record IsElector {C R O : Type 0} (g : History C R O) (w last rows j : ℕ) : Type 0 where

@@ -1,5 +1,5 @@
 -- What is left to show where one site changes and prepares in one view: that all else that holds stays so.
-use Rattle.std.proofs.Common.{◌≡◌, ◌⊎◌, inl, inr, ℕ, ◌<◌, ◌≤◌, true, false, List, [], ◌++◌, length, Option, Some, None, sym, ap, ◌∙◌, subst, refl, arith}
+use Rattle.std.proofs.Common.{◌≡◌, ◌⊎◌, inl, inr, ℕ, ◌<◌, ◌≤◌, true, false, List, [], ◌++◌, length, Option, Some, None, sym, ◌∙◌, subst, refl, arith}
 use Rattle.std.specs.Prelude.{Contains}
 use Rattle.vr_types.specs.declared.event.Status.TheVariants.{Recovering}
 use Rattle.vr_types.specs.declared.message.MsgOf.{MsgOf}
@@ -10,9 +10,12 @@ use Rattle.vr_types.specs.Group.{mail}
 use Rattle.vr_types.specs.Site.{Site}
 use Rattle.agreement.specs.Promises.{Begins, IsRising}
 use Rattle.agreement.proofs.Beginnings.{begins-trans, begins-length, begins_from}
-use Rattle.agreement.proofs.Histories.{History, Prepared}
-use Rattle.agreement.proofs.Votes.{IsChange, IsPromised, HasAsked, asked_stays, promise_stays, promise_binds, recovers_by}
-use Rattle.agreement.proofs.Vouched.{IsVote, IsState, MayBeState, IsVouched}
+use Rattle.agreement.proofs.Histories.{History}
+use Rattle.agreement.proofs.PreparedRows.{Prepared}
+use Rattle.agreement.proofs.Votes.{IsChange, IsPromised, HasAsked, RecoversBy, asked_stays, promise_stays, promise_binds, recovers_by}
+use Rattle.agreement.proofs.VotesCover.{IsVote}
+use Rattle.agreement.proofs.StatesCover.{IsState, MayBeState}
+use Rattle.agreement.proofs.Vouched.{IsVouched}
 use Rattle.agreement.proofs.Standing.{Stands}
 use Rattle.agreement.proofs.Elections.{IsElected}
 use Rattle.agreement.proofs.Invariant.{Holds}
@@ -48,15 +51,14 @@ module _ {C R O : Type 0} (f : ℕ) (g h : History C R O) (i at : ℕ) (l : IsLa
   state_later to view nonce k log fresh o = record {
     log_of = log_of_later f g h i at l _ _ o.log_of;
     done = committed_to_later f g h i at l _ _ o.done;
-    covers = put_cases s i y (λ j x. j ≡ to → x.status ≡ Recovering → x.cell.boots ≡ nonce → (n : ℕ) → Prepared f h j view n → n ≤ length log) to
-        here (λ apart e r b n p. o.covers r b n (prepared_apart f g h i at l to view n apart p)) refl;
+    covers = put_cases s i y (λ j x. j ≡ to → RecoversBy x nonce → (n : ℕ) → Prepared f h j view n → n ≤ length log) to
+        here (λ apart e r n p. o.covers r n (prepared_apart f g h i at l to view n apart p)) refl;
   }
     where
-      here : i ≡ to → y.status ≡ Recovering → y.cell.boots ≡ nonce → (n : ℕ) → Prepared f h i view n → n ≤ length log
-      here e r b n p =
-          let was = recovers_by (s i) y at nonce t (subst (λ (k : ℕ). HasAsked (s k) nonce) (sym e) fresh) r b in
-          o.covers (sym (ap (λ (k : ℕ). (s k).status) e) ∙ was.0) (sym (ap (λ (k : ℕ). (s k).cell.boots) e) ∙ was.1) n
-          (subst (λ (k : ℕ). Prepared f g k view n) e (quiet r view n p))
+      here : i ≡ to → RecoversBy y nonce → (n : ℕ) → Prepared f h i view n → n ≤ length log
+      here e r n p =
+          let was = recovers_by (s i) y at nonce t (subst (λ (k : ℕ). HasAsked (s k) nonce) (sym e) fresh) r in
+          o.covers (subst (λ (k : ℕ). RecoversBy (s k) nonce) e was) n (subst (λ (k : ℕ). Prepared f g k view n) e (quiet r.status view n p))
 
   may_be_state_later : (to view nonce : ℕ) (state : Option (StateOf C)) → HasAsked (s to) nonce → MayBeState f g s to view nonce state → MayBeState f h (put s i y) to view nonce state
   may_be_state_later to view nonce None fresh o = tt

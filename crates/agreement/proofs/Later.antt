@@ -7,8 +7,11 @@ use Rattle.vr_types.specs.Group.{primary}
 use Rattle.vr_types.specs.Site.{Site}
 use Rattle.agreement.specs.Promises.{Begins}
 use Rattle.agreement.proofs.Beginnings.{begins-trans, begins-length, begins_from}
-use Rattle.agreement.proofs.Histories.{History, IsLogOf, Prepared, acknowledged, led, IsChosen, Committed, none, chosen, IsCommittedTo}
-use Rattle.agreement.proofs.Standing.{IsRunning, Stands}
+use Rattle.agreement.proofs.Histories.{History}
+use Rattle.agreement.proofs.OneLog.{IsLogOf}
+use Rattle.agreement.proofs.PreparedRows.{Prepared, acknowledged, led}
+use Rattle.agreement.proofs.CommittedRows.{IsChosen, Committed, none, chosen, IsCommittedTo}
+use Rattle.agreement.proofs.Standing.{StandsRunning, Stands}
 use Rattle.agreement.proofs.Elections.{IsElector, IsElected}
 
 -- From g to h more was said and logged. Site i alone prepared anything, in one view, whose log alone may be longer.
@@ -55,7 +58,7 @@ module _ {C R O : Type 0} (f : ℕ) (g h : History C R O) (i at : ℕ) (l : IsLa
 
   -- a site that stays as it is, and prepares nothing
   pub running_later : (j : ℕ) (x : Site C) → ((view n : ℕ) → Prepared f h j view n → Prepared f g j view n)
-      → ((j ≡ primary f x.view) → h.logs x.view ≡ g.logs x.view) → IsRunning f g j x → IsRunning f h j x
+      → ((j ≡ primary f x.view) → h.logs x.view ≡ g.logs x.view) → StandsRunning f g j x → StandsRunning f h j x
   running_later j x old same r = record {
     at_view = r.at_view;
     normal = r.normal;
@@ -74,7 +77,7 @@ module _ {C R O : Type 0} (f : ℕ) (g h : History C R O) (i at : ℕ) (l : IsLa
     running = λ r. running_later j x (λ view n. prepared_apart j view n apart) same (o.running r);
     rests = o.rests;
     prepared = λ view n p. o.prepared view n (prepared_apart j view n apart p);
-    responses = λ r a in'. let t = o.responses r a in' in (t.0, l.said _ t.1);
+    responses = λ nonce r a in'. let t = o.responses nonce r a in' in (t.0, l.said _ t.1);
   }
     where
       same : (j ≡ primary f x.view) → h.logs x.view ≡ g.logs x.view

@@ -13,11 +13,12 @@ use Rattle.vr_types.specs.Site.{Site, executed_rows}
 use Rattle.agreement.specs.Worlds.{Replied, Ordered, World, Happening, IsRun, IsLegal}
 use Rattle.agreement.specs.Promises.{row_at, Agree, IsRising, answered_rows, Begins, IsExecuted, Tells}
 use Rattle.agreement.proofs.Beginnings.{take_begins, begins-trans}
-use Rattle.agreement.proofs.Histories.{Committed}
-use Rattle.agreement.proofs.Standing.{IsRunning}
+use Rattle.agreement.proofs.CommittedRows.{Committed}
+use Rattle.agreement.proofs.Standing.{StandsRunning}
 use Rattle.agreement.proofs.Prior.{committed_opening, committed_both}
 use Rattle.agreement.proofs.Parts.{committed_fewer}
-use Rattle.agreement.proofs.Reached.{site_at, IsAnswered, IsReached, first, legal_holds, run_holds, has_number}
+use Rattle.agreement.proofs.AnsweredRows.{IsAnswered}
+use Rattle.agreement.proofs.Reached.{site_at, IsReached, first, legal_holds, run_holds, has_number}
 use Rattle.agreement.proofs.Agreeing.{agree_begins, take_begins_same, executed_committed, log_rises, committed_lasts, IsTold, told_by, IsOne, answered_at, told_is}
 use Rattle.agreement.proofs.Tests.{normal_runs}
 
@@ -68,7 +69,7 @@ module _ {C R O : Type 0} (choose : Choice C) (f : ℕ) (right : IsRight f choos
     opening_begins : (x : Site C) → Contains early.sites x → x.status ≡ Normal → (b.history.opened x.view ≡ true) × Begins (b.history.opening x.view) x.log
     opening_begins x in' normal =
         let i = has_number f early x in' in
-        let r : IsRunning f a.history i.0 x = subst (λ (y : Site C). y.status ≡ Normal → IsRunning f a.history i.0 y) i.1 (λ e. (a.holds.holds.sites i.0).running (normal_runs _ e)) normal in
+        let r : StandsRunning f a.history i.0 x = subst (λ (y : Site C). y.status ≡ Normal → StandsRunning f a.history i.0 y) i.1 (λ e. (a.holds.holds.sites i.0).running (normal_runs _ e)) normal in
         let o = b.grown.opened x.view (ap a.history.opened (sym (r.normal normal)) ∙ r.log_of.opened) in
         (o.0, subst (λ (l : List (RowOf C)). Begins l x.log) (sym (o.1 ∙ ap a.history.opening (sym (r.normal normal)))) r.log_of.lower)
 

@@ -6,10 +6,16 @@ mod Tests
 mod Put
 -- what holds at every moment: the history, and each invariant
 mod Histories
+mod OneLog
+mod PreparedRows
+mod CommittedRows
 mod Votes
+mod VotesCover
+mod StatesCover
 mod Vouched
 mod Standing
 mod Elections
+mod AnsweredRows
 mod Invariant
 -- it stays true, and chosen rows begin every later view
 mod Later
@@ -33,10 +39,14 @@ mod Reached
 -- the laws
 mod Agreeing
 pub mod Laws
+-- a legal list leads to one world
+mod Singles
 pub mod Unique
 -- nothing is invented
 mod KeptRows
 mod Rows
 pub mod Asked
+mod Senders
+pub mod Answering
 -- a legal list, computed
 mod Worked

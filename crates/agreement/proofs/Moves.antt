@@ -11,10 +11,12 @@ use Rattle.vr_types.specs.Site.{Site}
 use Rattle.vr_types.specs.Step.{Step, does}
 use Rattle.vr_types.proofs.ChoosingPick.{Contains-cases, Contains-none}
 use Rattle.agreement.proofs.Beginnings.{begins_itself}
-use Rattle.agreement.proofs.Histories.{History, Prepared, acknowledged, led, Committed}
-use Rattle.agreement.proofs.Votes.{IsChange}
+use Rattle.agreement.proofs.Histories.{History}
+use Rattle.agreement.proofs.PreparedRows.{Prepared, acknowledged, led}
+use Rattle.agreement.proofs.CommittedRows.{Committed}
+use Rattle.agreement.proofs.Votes.{IsChange, saved_view}
 use Rattle.agreement.proofs.Vouched.{IsVouched}
-use Rattle.agreement.proofs.Standing.{IsRunning, Stands}
+use Rattle.agreement.proofs.Standing.{StandsRunning, Stands}
 use Rattle.agreement.proofs.Invariant.{Holds}
 use Rattle.agreement.proofs.Put.{put, put_put, put_self, put_here}
 use Rattle.agreement.proofs.Later.{IsLater, committed_later, running_later}
@@ -164,7 +166,7 @@ module _ {C R O : Type 0} (f : ℕ) (g : History C R O) (me : ℕ) (msg : MsgOf 
     prepared = λ j view n p. inl (prepared_say j view n p);
   }
 
-  pub running_say : (j : ℕ) (x : Site C) → IsRunning f g j x → IsRunning f (say es g) j x
+  pub running_say : (j : ℕ) (x : Site C) → StandsRunning f g j x → StandsRunning f (say es g) j x
   running_say j x r = running_later f g (say es g) me 0 (later_say 0) j x (λ view n. prepared_say j view n) (λ _. refl) r
 
   pub stands_say : (j : ℕ) (x : Site C) → Stands f g j x → Stands f (say es g) j x
@@ -172,19 +174,19 @@ module _ {C R O : Type 0} (f : ℕ) (g : History C R O) (me : ℕ) (msg : MsgOf 
     running = λ r. running_say j x (o.running r);
     rests = o.rests;
     prepared = λ view n p. o.prepared view n (prepared_say j view n p);
-    responses = λ r a in'. let t = o.responses r a in' in (t.0, Contains-append_right es g.said _ t.1);
+    responses = λ nonce r a in'. let t = o.responses nonce r a in' in (t.0, Contains-append_right es g.said _ t.1);
   }
 
   -- a move in which one message is said, and nothing is prepared
-  pub kept_say : (s : ℕ → Site C) (sent : List (EnvelopeOf C R O)) (y : Site C) → Holds f g s → IsChange (s me) y (s me).cell.view → Stands f (say es g) me y
+  pub kept_say : (s : ℕ → Site C) (sent : List (EnvelopeOf C R O)) (y : Site C) → Holds f g s → IsChange (s me) y (saved_view (s me)) → Stands f (say es g) me y
       → ((to : ℕ) → Contains es (mail me to msg) → IsVouched f (say es g) (put s me y) me to msg)
       → ((e : EnvelopeOf C R O) → Contains sent e → Contains es e)
       → Kept f g s me (does y sent)
   kept_say s sent y holds change here vouched within = record {
     history = say es g;
-    holds = keeps f g (say es g) me (s me).cell.view (later_say (s me).cell.view) s y change (λ _ view n p. prepared_say me view n p) holds here
+    holds = keeps f g (say es g) me (saved_view (s me)) (later_say (saved_view (s me))) s y change (λ _ view n p. prepared_say me view n p) holds here
         (λ j to m in'. news j to m (Contains-append_cases es g.said _ in')) (λ view o. inl o) holds.unopened holds.rising;
-    grown = grown_later f g (say es g) me (s me).cell.view (later_say (s me).cell.view);
+    grown = grown_later f g (say es g) me (saved_view (s me)) (later_say (saved_view (s me)));
     sent = λ e in'. Contains-append_left es g.said e (within e in');
   }
     where

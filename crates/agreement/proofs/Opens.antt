@@ -12,10 +12,13 @@ use Rattle.vr_types.specs.Step.{does, executed_to, normal_in}
 use Rattle.vr_types.proofs.ChoosingPick.{Contains-none}
 use Rattle.agreement.specs.Promises.{Begins, IsRising}
 use Rattle.agreement.proofs.Beginnings.{begins_itself, nothing_begins, begins-length, begins_from, begins_at, begins_is_take}
-use Rattle.agreement.proofs.Histories.{History, Prepared, acknowledged, led, Committed, none, IsUpto, IsLogOf}
+use Rattle.agreement.proofs.Histories.{History}
+use Rattle.agreement.proofs.OneLog.{IsLogOf}
+use Rattle.agreement.proofs.PreparedRows.{Prepared, acknowledged, led, IsUpto}
+use Rattle.agreement.proofs.CommittedRows.{Committed, none}
 use Rattle.agreement.proofs.Votes.{works_from, same_cell, goes_on, prepares_there}
 use Rattle.agreement.proofs.Vouched.{IsOpening}
-use Rattle.agreement.proofs.Standing.{IsRunning}
+use Rattle.agreement.proofs.Standing.{StandsRunning}
 use Rattle.agreement.proofs.Elections.{IsElector, IsElected}
 use Rattle.agreement.proofs.Invariant.{Holds}
 use Rattle.agreement.proofs.Prior.{committed_opening}
@@ -65,7 +68,7 @@ kept_opening_told {C} {R} {O} f g s me holds normal is d within done =
     })))
     (λ to in'. good) (λ e in'. in')
   where
-    r : IsRunning f g me (s me)
+    r : StandsRunning f g me (s me)
     r = (holds.sites me).running (normal_runs _ normal)
 
     msg : MsgOf C R O
@@ -93,7 +96,7 @@ module _ {C R O : Type 0} (f : ℕ) (g : History C R O) (s : ℕ → Site C) (me
     (holds : Holds f g s) (change : (s me).status ≡ Change) (leads : me ≡ primary f (s me).view)
     (below : last < (s me).view) (log_of : IsLogOf g last log) (many : f < count_by who (sites f))
     (each : (j : ℕ) → who j ≡ true → IsElector g (s me).view last (length log) j) where
-  r : IsRunning f g me (s me)
+  r : StandsRunning f g me (s me)
   r = (holds.sites me).running (change_runs _ change)
 
   abbrev w : ℕ
@@ -140,7 +143,7 @@ module _ {C R O : Type 0} (f : ℕ) (g : History C R O) (s : ℕ → Site C) (me
   abbrev opened_site : Site C
   opened_site = record (normal_in w log (s me)) { done = 0 }
 
-  opened_running : IsRunning f opened_history me opened_site
+  opened_running : StandsRunning f opened_history me opened_site
   opened_running = record {
     at_view = r.at_view;
     normal = λ _. refl;

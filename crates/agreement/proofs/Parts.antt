@@ -19,10 +19,13 @@ use Rattle.vr_types.specs.Change.{starts_view}
 use Rattle.vr_types.proofs.ChoosingPick.{Contains-cases, Contains-none}
 use Rattle.agreement.specs.Promises.{Begins}
 use Rattle.agreement.proofs.Beginnings.{begins-trans, begins-length, begins-take, take_begins, begins_from, append_begins}
-use Rattle.agreement.proofs.Histories.{History, Prepared, Committed, none, chosen, IsCommittedTo, IsLogOf, IsUpto}
-use Rattle.agreement.proofs.Votes.{IsChange, IsAhead, works_upto, works_from, worked_stays, same_cell, saved_ahead, goes_on, still_recovers}
+use Rattle.agreement.proofs.Histories.{History}
+use Rattle.agreement.proofs.OneLog.{IsLogOf}
+use Rattle.agreement.proofs.PreparedRows.{Prepared, IsUpto}
+use Rattle.agreement.proofs.CommittedRows.{Committed, none, chosen, IsCommittedTo}
+use Rattle.agreement.proofs.Votes.{IsChange, IsAhead, works_upto, works_from, worked_stays, same_cell, saved_ahead, goes_on, still_recovers, saves_new, saved_view}
 use Rattle.agreement.proofs.Vouched.{IsVouched}
-use Rattle.agreement.proofs.Standing.{IsRunning, Stands}
+use Rattle.agreement.proofs.Standing.{StandsRunning, Stands}
 use Rattle.agreement.proofs.Invariant.{Holds}
 use Rattle.agreement.proofs.Prior.{chosen_fewer, committed_logs}
 use Rattle.agreement.proofs.Put.{put_self}
@@ -37,17 +40,17 @@ pub upto_more : (v n u m m' : ℕ) → m ≤ m' → IsUpto v n u m → IsUpto v 
 upto_more v n u m m' l (inl h) = inl h
 upto_more v n u m m' l (inr h) = let low = h.1 in inr (h.0, omega arith)
 
-last_by : {C R O : Type 0} (f : ℕ) (g : History C R O) (j : ℕ) (x : Site C) (st : Status) → x.status ≡ st → is_running st ≡ true → IsRunning f g j x → x.last_normal ≤ x.view
+last_by : {C R O : Type 0} (f : ℕ) (g : History C R O) (j : ℕ) (x : Site C) (st : Status) → x.status ≡ st → is_running st ≡ true → StandsRunning f g j x → x.last_normal ≤ x.view
 last_by f g j x Normal e run r = let h = r.normal e in omega arith
 last_by f g j x Change e run r = let h = r.change e in omega arith
 last_by f g j x Recovering e run r = absurd (true≢false (sym run))
 last_by f g j x Down e run r = absurd (true≢false (sym run))
 
 -- a running site was last normal in no later view than its own
-pub last_within : {C R O : Type 0} (f : ℕ) (g : History C R O) (j : ℕ) (x : Site C) → is_running x.status ≡ true → IsRunning f g j x → x.last_normal ≤ x.view
+pub last_within : {C R O : Type 0} (f : ℕ) (g : History C R O) (j : ℕ) (x : Site C) → is_running x.status ≡ true → StandsRunning f g j x → x.last_normal ≤ x.view
 last_within f g j x run r = last_by f g j x x.status refl run r
 
-pub stands_running : {C R O : Type 0} (f : ℕ) (g : History C R O) (j : ℕ) (x : Site C) → is_running x.status ≡ true → IsRunning f g j x → Stands f g j x
+pub stands_running : {C R O : Type 0} (f : ℕ) (g : History C R O) (j : ℕ) (x : Site C) → is_running x.status ≡ true → StandsRunning f g j x → Stands f g j x
 stands_running f g j x run r = record {
   running = λ _. r;
   rests = λ e. absurd (true≢false (sym run ∙ e));
@@ -55,7 +58,7 @@ stands_running f g j x run r = record {
       let low = upto-view view n x.last_normal (length x.log) (r.prepared view n p) in
       let last = last_within f g j x run r in
       works_upto x view r.at_view (omega arith);
-  responses = λ e. absurd (recovering_rests x.status e run);
+  responses = λ nonce e. absurd (recovering_rests x.status e.status run);
 }
 
 pub committed_fewer : {C R O : Type 0} (f : ℕ) (g : History C R O) (top : ℕ) (xs ys : List (RowOf C)) → Begins ys xs → Committed f g top xs → Committed f g top ys
@@ -95,13 +98,13 @@ module _ {C R O : Type 0} (f : ℕ) (g : History C R O) (s : ℕ → Site C) (me
       (λ e in'. in')
 
   -- the site changes, and says nothing
-  pub kept_quiet : (y : Site C) → IsChange (s me) y (s me).cell.view → Stands f g me y → Kept f g s me (does y [])
+  pub kept_quiet : (y : Site C) → IsChange (s me) y (saved_view (s me)) → Stands f g me y → Kept f g s me (does y [])
   kept_quiet y change here =
       kept_say f g me (GetState 0 0) [] tt (says_none me (GetState 0 0)) s [] y holds change (stands_say f g me (GetState 0 0) [] tt (says_none me (GetState 0 0)) me y here)
       (λ to in'. tt) (λ e in'. in')
 
   -- a site goes on to run, over a cell that is not behind
-  pub kept_runs : (y : Site C) → IsAhead (s me) y → is_running y.status ≡ true → IsRunning f g me y → Kept f g s me (does y [])
+  pub kept_runs : (y : Site C) → IsAhead (s me) y → is_running y.status ≡ true → StandsRunning f g me y → Kept f g s me (does y [])
   kept_runs y ahead run r = kept_quiet y (goes_on (s me) y ahead (λ e. recovering_rests y.status e run)) (stands_running f g me y run r)
 
   -- a site is down, over a cell that is not behind
@@ -111,11 +114,11 @@ module _ {C R O : Type 0} (f : ℕ) (g : History C R O) (s : ℕ → Site C) (me
         running = λ run. absurd (true≢false (sym run));
         rests = λ _. (refl, refl);
         prepared = λ view n p. worked_stays (s me) (over cell Down) view ahead ((holds.sites me).prepared view n p);
-        responses = λ e. absurd (let e' : Down ≡ Recovering = e in cc);
+        responses = λ nonce e. absurd (let e' : Down ≡ Recovering = e.status in cc);
       })
 
   module _ (run : is_running (s me).status ≡ true) where
-    r : IsRunning f g me (s me)
+    r : StandsRunning f g me (s me)
     r = (holds.sites me).running run
 
     -- more is executed
@@ -205,7 +208,7 @@ module _ {C R O : Type 0} (f : ℕ) (g : History C R O) (s : ℕ → Site C) (me
         let y = (starts_view {R = R} {O = O} f me w (s me)).site in
         let last = last_within f g me (s me) run r in
         kept_say f g me (StartViewChange w) es tt says s es y holds
-        (goes_on (s me) y (saved_ahead (s me) y w refl refl (works_from (s me) w r.at_view (omega arith))) (λ e. let same : Change ≡ Recovering = e in cc))
+        (goes_on (s me) y (saved_ahead (s me) y w (saves_new (s me) w) (works_from (s me) w r.at_view (omega arith))) (λ e. let same : Change ≡ Recovering = e in cc))
         (stands_running f (say es g) me y refl
         (running_say f g me (StartViewChange w) es tt says me y (record {
           at_view = refl;

@@ -16,10 +16,12 @@ use Rattle.vr_types.specs.Normal.{with_row}
 use Rattle.vr_types.proofs.ChoosingPick.{Contains-cases, Contains-there, Contains-here, Contains-none}
 use Rattle.agreement.specs.Promises.{Begins, IsRising}
 use Rattle.agreement.proofs.Beginnings.{begins_itself, begins-trans, begins-length, begins_from, begins_at, append_begins}
-use Rattle.agreement.proofs.Histories.{History, Prepared, acknowledged, led, Committed, IsUpto}
+use Rattle.agreement.proofs.Histories.{History}
+use Rattle.agreement.proofs.PreparedRows.{Prepared, acknowledged, led, IsUpto}
+use Rattle.agreement.proofs.CommittedRows.{Committed}
 use Rattle.agreement.proofs.Votes.{works_from, prepares_there}
 use Rattle.agreement.proofs.Vouched.{IsWithin, IsVouched}
-use Rattle.agreement.proofs.Standing.{IsRunning}
+use Rattle.agreement.proofs.Standing.{StandsRunning}
 use Rattle.agreement.proofs.Invariant.{Holds}
 use Rattle.agreement.proofs.Put.{put, put_cases, put_here}
 use Rattle.agreement.proofs.Later.{IsLater, committed_later, prepared_later}
@@ -33,7 +35,7 @@ module _ {C R O : Type 0} (f : ℕ) (g : History C R O) (s : ℕ → Site C) (me
   runs : is_running (s me).status ≡ true
   runs = normal_runs (s me).status normal
 
-  r : IsRunning f g me (s me)
+  r : StandsRunning f g me (s me)
   r = (holds.sites me).running runs
 
   not_recovering : (s me).status ≡ Recovering → ⊥
@@ -79,7 +81,7 @@ module _ {C R O : Type 0} (f : ℕ) (g : History C R O) (s : ℕ → Site C) (me
         by_case j view n (inl p) = inl p
         by_case j view n (inr e) = inr (e.0, e.1)
 
-    ok_running : IsRunning f told me (s me)
+    ok_running : StandsRunning f told me (s me)
     ok_running = record {
       at_view = r.at_view;
       normal = r.normal;
@@ -160,7 +162,7 @@ module _ {C R O : Type 0} (f : ℕ) (g : History C R O) (s : ℕ → Site C) (me
     more : length ((s me).log ++ row ∷ []) ≡ suc (length (s me).log)
     more = let l = length-append (s me).log (row ∷ []) in omega arith
 
-    appended_running : IsRunning f longer me y
+    appended_running : StandsRunning f longer me y
     appended_running = record {
       at_view = r.at_view;
       normal = r.normal;

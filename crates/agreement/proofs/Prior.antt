@@ -6,8 +6,12 @@ use Rattle.vr_types.specs.Site.{Site}
 use Rattle.agreement.specs.Promises.{Begins}
 use Rattle.agreement.proofs.Beginnings.{nothing_begins, begins-trans, begins_shorter, begins_from, begins_at}
 use Rattle.agreement.proofs.Quorums.{Both, quorums_meet}
-use Rattle.agreement.proofs.Histories.{History, Prepared, acknowledged, led, IsChosen, Committed, none, chosen, IsUpto, IsLogOf}
-use Rattle.agreement.proofs.Vouched.{IsWithin, IsVote}
+use Rattle.agreement.proofs.Histories.{History}
+use Rattle.agreement.proofs.OneLog.{IsLogOf}
+use Rattle.agreement.proofs.PreparedRows.{Prepared, acknowledged, led, IsUpto}
+use Rattle.agreement.proofs.CommittedRows.{IsChosen, Committed, none, chosen}
+use Rattle.agreement.proofs.VotesCover.{IsVote}
+use Rattle.agreement.proofs.Vouched.{IsWithin}
 use Rattle.agreement.proofs.Elections.{IsElector, IsElected}
 use Rattle.agreement.proofs.Invariant.{Holds}
 

@@ -15,11 +15,14 @@ use Rattle.vr_types.specs.Choice.{Choice, IsRight}
 use Rattle.vr_types.specs.Step.{Step, does}
 use Rattle.vr_types.specs.Handling.{site_step, IsFall}
 use Rattle.vr_types.proofs.ChoosingPick.{Contains-cases, Contains-none}
-use Rattle.agreement.specs.Worlds.{Replied, Ordered, ordered, World, Course, Ends, Falls, Happening, MayHappen, replied, stepped, fallen, EndsIn, Happens, IsRun, opening_world, IsLegal}
+use Rattle.agreement.specs.Worlds.{Replied, Ordered, ordered, World, Course, Ends, FallsOver, Happening, MayHappen, replied, stepped, fallen, EndsIn, Happens, IsRun, opening_world, IsLegal}
 use Rattle.agreement.proofs.Members.{map-has}
 use Rattle.agreement.proofs.Beginnings.{nothing_begins, take_begins_take}
-use Rattle.agreement.proofs.Histories.{History, Prepared, acknowledged, led, Committed, none}
-use Rattle.agreement.proofs.Standing.{IsRunning, Stands}
+use Rattle.agreement.proofs.Histories.{History}
+use Rattle.agreement.proofs.PreparedRows.{Prepared, acknowledged, led}
+use Rattle.agreement.proofs.CommittedRows.{Committed, none}
+use Rattle.agreement.proofs.AnsweredRows.{IsAnswered}
+use Rattle.agreement.proofs.Standing.{StandsRunning, Stands}
 use Rattle.agreement.proofs.Invariant.{Holds}
 use Rattle.agreement.proofs.Put.{put, put_cases, put_here}
 use Rattle.agreement.proofs.Moves.{IsGrown, grown_itself, grown-trans, Kept}
@@ -36,14 +39,7 @@ nobody = over (record { boots = 0; view = 0 }) Down
 abbrev pub site_at : {C R O : Type 0} → World C R O → ℕ → Site C
 site_at world i = get_or world.sites i nobody
 
--- A REPLY IS FOR COMMITTED ROWS, in its view.
-pub record IsAnswered {C R O : Type 0} (f : ℕ) (g : History C R O) (reply : Replied C) : Type 0 where
-  pub normal : reply.sender.status ≡ Normal
-  pub counted : 1 ≤ reply.place
-  pub executed : reply.place ≤ reply.sender.done
-  pub within : reply.sender.done ≤ length reply.sender.log
-  pub done : Committed f g reply.sender.view (take reply.place reply.sender.log)
-
+-- what holds of a world, with its history
 pub record HoldsAt {C R O : Type 0} (f : ℕ) (g : History C R O) (world : World C R O) : Type 0 where
   pub holds : Holds f g (site_at world)
   pub said : (e : EnvelopeOf C R O) → Contains world.sent e → Contains g.said e
@@ -51,6 +47,7 @@ pub record HoldsAt {C R O : Type 0} (f : ℕ) (g : History C R O) (world : World
   pub orders : (order : Ordered C) → Contains world.orders order → order.sender.status ≡ Normal
   pub size : length world.sites ≡ 2 * f + 1
 
+-- a world that is reached from a history, which grew
 pub record IsReached {C R O : Type 0} (f : ℕ) (g : History C R O) (world : World C R O) : Type 0 where
   pub history : History C R O
   pub holds : HoldsAt f history world
@@ -74,7 +71,7 @@ module _ {C R O : Type 0} (f : ℕ) where
   replied_answered g s i step holds sound reply in' =
       let t = map-has (λ place. record { from = i; sender = step.site; place = place }) step.replies reply in' in
       let is = sound.each t.0 t.1 in
-      let r : IsRunning f g i step.site = subst (λ (x : Site C). is_running x.status ≡ true → IsRunning f g i x) (put_here s i step.site) ((holds.sites i).running) (normal_runs _ is.0) in
+      let r : StandsRunning f g i step.site = subst (λ (x : Site C). is_running x.status ≡ true → StandsRunning f g i x) (put_here s i step.site) ((holds.sites i).running) (normal_runs _ is.0) in
       subst (λ (a : Replied C). IsAnswered f g a) t.2 (record {
         normal = is.0;
         counted = is.1;
@@ -158,7 +155,7 @@ module _ {C R O : Type 0} (f : ℕ) where
 
         by_course : (course : Course) → EndsIn world h.site p.before (site_step choose f h.site p.before h.event) course after → IsReached f g after
         by_course Ends ends = subst (λ (w : World C R O). IsReached f g w) (sym ends.1) (after_step g world h.site _ holds small kept (step_sound choose f h.site p.before h.event))
-        by_course (Falls cell) ends = subst (λ (w : World C R O). IsReached f g w) (sym ends.1)
+        by_course (FallsOver cell) ends = subst (λ (w : World C R O). IsReached f g w) (sym ends.1)
             (after_fall g world h.site cell holds small (fall_kept f h.site g (site_at world) _ cell holds.holds kept
             (subst (λ (x : Site C). IsFall x (site_step choose f h.site p.before h.event) (over cell Down)) (sym is) ends.0)))
 
@@ -181,7 +178,7 @@ module _ {C R O : Type 0} (f : ℕ) where
     running = λ r. absurd (true≢false (sym r));
     rests = λ _. (refl, refl);
     prepared = λ view n p. let h = first_prepared j view n p in let e = h.0 in omega arith;
-    responses = λ e. absurd (let e' : Down ≡ Recovering = e in cc);
+    responses = λ nonce e. absurd (let e' : Down ≡ Recovering = e.status in cc);
   }
 
   opening_stands : (j : ℕ) (cell : Boot) → Stands f at_first j (opening_site cell)
@@ -203,7 +200,7 @@ module _ {C R O : Type 0} (f : ℕ) where
         };
         rests = λ r. absurd (true≢false r);
         prepared = λ view n p. let h = first_prepared j view n p in let z = h.0 in omega arith;
-        responses = λ c. absurd (let c' : Normal ≡ Recovering = c in cc);
+        responses = λ nonce c. absurd (let c' : Normal ≡ Recovering = c.status in cc);
       }
       by_test true false e = down_stands j cell
       by_test false b e = down_stands j cell

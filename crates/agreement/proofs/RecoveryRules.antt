@@ -1,5 +1,5 @@
 -- The rules of a recovery keep what holds.
-use Rattle.std.proofs.Common.{◌≡◌, ◌≢◌, ◌⊎◌, inl, inr, ℕ, ◌≤◌, Bool, true, false, not, ◌==◌, if◌then◌else◌, List, [], ◌∷◌, length, Option, Some, None, refl, sym, ap, ◌∙◌, subst, arith}
+use Rattle.std.proofs.Common.{◌≡◌, ◌≢◌, ◌⊎◌, inl, inr, ℕ, ◌≤◌, Bool, true, false, not, ◌==◌, if◌then◌else◌, List, [], ◌∷◌, length, Option, Some, None, refl, sym, ap, ◌∙◌, subst}
 use Rattle.std.specs.Prelude.{Contains, MatchOption}
 use Rattle.std.specs.List.{filter}
 use Rattle.std.proofs.lemmas.List.Elements.{Contains-append_cases}
@@ -16,10 +16,11 @@ use Rattle.vr_types.specs.Step.{does}
 use Rattle.vr_types.specs.Recovery.{on_recovery, has_as_late, with_response, regains, on_recovery_response, beats_recovering, on_crash}
 use Rattle.vr_types.proofs.ChoosingPick.{Contains-cases, Contains-none}
 use Rattle.agreement.proofs.Members.{filter-has}
-use Rattle.agreement.proofs.Histories.{History, IsLogOf}
-use Rattle.agreement.proofs.Votes.{HasAsked, same_cell, still_recovers}
-use Rattle.agreement.proofs.Vouched.{MayBeState}
-use Rattle.agreement.proofs.Standing.{IsRunning}
+use Rattle.agreement.proofs.Histories.{History}
+use Rattle.agreement.proofs.OneLog.{IsLogOf}
+use Rattle.agreement.proofs.Votes.{HasAsked, RecoversBy, nonce_of, asks_now, recovers_now, same_cell, still_recovers}
+use Rattle.agreement.proofs.StatesCover.{MayBeState}
+use Rattle.agreement.proofs.Standing.{StandsRunning}
 use Rattle.agreement.proofs.Invariant.{Holds}
 use Rattle.agreement.proofs.Prior.{prepared_within}
 use Rattle.agreement.proofs.Later.{log_of_later}
@@ -56,7 +57,7 @@ module _ {C R O : Type 0} (f me : ℕ) (g : History C R O) (s : ℕ → Site C) 
       answers true e normal = tells (Some state) (record {
         log_of = log_of_later f g (say es g) me 0 (later_say f g me (msg (Some state)) es tt says 0) _ _ (subst (λ (v : ℕ). IsLogOf g v (s me).log) (r.normal normal) r.log_of);
         done = done_later f me g s holds normal (msg (Some state)) es (later_say f g me (msg (Some state)) es tt says);
-        covers = λ _ _ n p. subst (λ (l : List (RowOf C)). n ≤ length l) (sym (r.leads normal (sym (eq_of _ _ e))))
+        covers = λ _ n p. subst (λ (l : List (RowOf C)). n ≤ length l) (sym (r.leads normal (sym (eq_of _ _ e))))
             (prepared_within f g s holds from (s me).view n (prepared_say f g me (msg (Some state)) es tt says from (s me).view n p)).within;
       })
         where
@@ -69,14 +70,14 @@ module _ {C R O : Type 0} (f me : ℕ) (g : History C R O) (s : ℕ → Site C) 
           says : Says me (msg (Some state)) es
           says = says_one me from (msg (Some state))
 
-          r : IsRunning f g me (s me)
+          r : StandsRunning f g me (s me)
           r = (holds.sites me).running (normal_runs _ normal)
 
   pub kept_beat_recovering : Kept f g s me (beats_recovering f me (s me))
   unfolding beats_recovering
   kept_beat_recovering =
-      let msg : MsgOf C R O = Recovery (s me).cell.boots in
-      kept_tell f g s me holds msg (to_all f me msg) tt (says_to_all f me msg) (λ to in'. omega arith)
+      let msg : MsgOf C R O = Recovery (nonce_of (s me)) in
+      kept_tell f g s me holds msg (to_all f me msg) tt (says_to_all f me msg) (λ to in'. asks_now (s me))
 
   pub kept_crash : Kept f g s me (on_crash (s me))
   kept_crash = kept_down f g s me holds (s me).cell (same_cell (s me) (over (s me).cell Down) refl)
@@ -86,7 +87,7 @@ module _ {C R O : Type 0} (f me : ℕ) (g : History C R O) (s : ℕ → Site C) 
       → MatchOption regained ((x : Regained C) → ¬ IsRegained f (s me).cell.view responses x) (IsRegained f (s me).cell.view responses) → Kept f g s me (regains (s me) regained)
   regains_kept responses None same recovering right = kept_same f g s me holds _ refl refl
   regains_kept responses (Some regained) same recovering right =
-      let said = (holds.sites me).responses recovering _ (subst (λ (l : List (Response C)). Contains l (record { from = primary f regained.view; view = regained.view; state = Some regained.state })) (sym same) right.answered) in
+      let said = (holds.sites me).responses (nonce_of (s me)) (recovers_now (s me) recovering) _ (subst (λ (l : List (Response C)). Contains l (record { from = primary f regained.view; view = regained.view; state = Some regained.state })) (sym same) right.answered) in
       let vouched = holds.said _ _ _ said.1 in
       kept_regains f g s me holds regained recovering vouched.1 right.not_below (λ e. said.0 (sym e))
 
@@ -106,16 +107,16 @@ module _ {C R O : Type 0} (f me : ℕ) (g : History C R O) (s : ℕ → Site C) 
       chosen : Option (Regained C)
       chosen = choose.regained y.cell.view y.collected.responses
 
-      each : (s me).status ≡ Recovering → nonce ≡ (s me).cell.boots → (a : Response C) → Contains y.collected.responses a → (a.from ≢ me) × Contains g.said (mail a.from me (RecoveryResponse a.view (s me).cell.boots a.state))
-      each recovering is a there = by_part (Contains-append_cases (filter (λ old. not (old.from == response.from)) (s me).collected.responses) (response ∷ []) a there)
+      each : (own : ℕ) → RecoversBy (s me) own → nonce ≡ own → (a : Response C) → Contains y.collected.responses a → (a.from ≢ me) × Contains g.said (mail a.from me (RecoveryResponse a.view own a.state))
+      each own by is a there = by_part (Contains-append_cases (filter (λ old. not (old.from == response.from)) (s me).collected.responses) (response ∷ []) a there)
         where
-          this : (response ≡ a) ⊎ Contains [] a → (a.from ≢ me) × Contains g.said (mail a.from me (RecoveryResponse a.view (s me).cell.boots a.state))
-          this (inl e) = subst (λ (b : Response C). (b.from ≢ me) × Contains g.said (mail b.from me (RecoveryResponse b.view (s me).cell.boots b.state))) e
+          this : (response ≡ a) ⊎ Contains [] a → (a.from ≢ me) × Contains g.said (mail a.from me (RecoveryResponse a.view own a.state))
+          this (inl e) = subst (λ (b : Response C). (b.from ≢ me) × Contains g.said (mail b.from me (RecoveryResponse b.view own b.state))) e
               (other, subst (λ (n : ℕ). Contains g.said (mail response.from me (RecoveryResponse response.view n response.state))) is in')
           this (inr none) = absurd (Contains-none a none)
 
-          by_part : Contains (filter (λ old. not (old.from == response.from)) (s me).collected.responses) a ⊎ Contains (response ∷ []) a → (a.from ≢ me) × Contains g.said (mail a.from me (RecoveryResponse a.view (s me).cell.boots a.state))
-          by_part (inl old) = (holds.sites me).responses recovering a (filter-has _ (s me).collected.responses a old)
+          by_part : Contains (filter (λ old. not (old.from == response.from)) (s me).collected.responses) a ⊎ Contains (response ∷ []) a → (a.from ≢ me) × Contains g.said (mail a.from me (RecoveryResponse a.view own a.state))
+          by_part (inl old) = (holds.sites me).responses own by a (filter-has _ (s me).collected.responses a old)
           by_part (inr new) = this (Contains-cases response a [] new)
 
       regains_then : (s me).status ≡ Recovering → nonce ≡ (s me).cell.boots → Kept f g s me (regains y chosen)
@@ -126,7 +127,7 @@ module _ {C R O : Type 0} (f me : ℕ) (g : History C R O) (s : ℕ → Site C) 
             running = λ run. absurd (recovering_rests (s me).status recovering run);
             rests = (holds.sites me).rests;
             prepared = (holds.sites me).prepared;
-            responses = λ _ a there. each recovering is a there;
+            responses = λ own by a there. each own (record { status = recovering; boots = by.boots }) (is ∙ by.boots) a there;
           })
 
           regains_by : (regained : Option (Regained C)) → MatchOption regained ((x : Regained C) → ¬ IsRegained f y.cell.view y.collected.responses x) (IsRegained f y.cell.view y.collected.responses) → Kept f g s me (regains y regained)

@@ -1,15 +1,16 @@
--- WHAT A MESSAGE VOUCHES FOR, said by site j to another.
-use Rattle.std.proofs.Common.{◌≡◌, ℕ, ◌+◌, ◌<◌, ◌≤◌, true, List, [], ◌∷◌, ◌++◌, length, take, Option, Some, None}
+-- WHAT A MESSAGE VOUCHES FOR, said by site j to another: of each kind what its sender knew of the view's log.
+use Rattle.std.proofs.Common.{◌≡◌, ℕ, ◌+◌, ◌≤◌, true, List, [], ◌∷◌, ◌++◌, length}
 use Rattle.std.specs.Prelude.{⊤}
-use Rattle.vr_types.specs.declared.event.Status.TheVariants.{Recovering}
 use Rattle.vr_types.specs.declared.message.MsgOf.{MsgOf}
 use Rattle.vr_types.specs.declared.message.MsgOf.TheVariants.{Request, Prepare, PrepareOk, Commit, StartViewChange, DoViewChange, StartView, GetState, NewState, Recovery, RecoveryResponse, Reply, PayOrder}
-use Rattle.vr_types.specs.declared.message.StateOf.{StateOf}
 use Rattle.vr_types.specs.declared.row.RowOf.{RowOf}
 use Rattle.vr_types.specs.Site.{Site}
 use Rattle.agreement.specs.Promises.{Begins}
-use Rattle.agreement.proofs.Histories.{History, IsLogOf, Prepared, Committed, IsCommittedTo, IsUpto}
-use Rattle.agreement.proofs.Votes.{HasAsked, IsPromised}
+use Rattle.agreement.proofs.Histories.{History}
+use Rattle.agreement.proofs.CommittedRows.{IsCommittedTo}
+use Rattle.agreement.proofs.VotesCover.{IsVote}
+use Rattle.agreement.proofs.StatesCover.{MayBeState}
+use Rattle.agreement.proofs.Votes.{HasAsked}
 
 -- PREPARE: the row stands at this place in the view's log, and so many rows are committed
 pub record IsPlaced {C R O : Type 0} (f : ℕ) (g : History C R O) (view place k : ℕ) (row : RowOf C) : Type 0 where
@@ -23,15 +24,6 @@ pub record IsPlaced {C R O : Type 0} (f : ℕ) (g : History C R O) (view place k
 pub record IsWithin {C R O : Type 0} (g : History C R O) (view n : ℕ) : Type 0 where
   pub opened : g.opened view ≡ true
   pub within : n ≤ length (g.logs view)
-
--- A VOTE STANDS FOR THE PAST: a DOVIEWCHANGE for view w covers whatever its sender prepares below w, then and later.
-pub record IsVote {C R O : Type 0} (f : ℕ) (g : History C R O) (s : ℕ → Site C) (j w u k : ℕ) (log : List (RowOf C)) : Type 0 where
-  pub promised : IsPromised (s j) w
-  pub below : u < w
-  pub log_of : IsLogOf g u log
-  pub within : k ≤ length log
-  pub done : Committed f g u (take k log)
-  pub covers : (view n : ℕ) → view < w → Prepared f g j view n → IsUpto view n u (length log)
 
 -- STARTVIEW: the log is the one with which the view was opened
 pub record IsOpening {C R O : Type 0} (f : ℕ) (g : History C R O) (w k : ℕ) (log : List (RowOf C)) : Type 0 where
@@ -48,16 +40,7 @@ pub record IsPart {C R O : Type 0} (f : ℕ) (g : History C R O) (view base k : 
   pub covers : length (g.opening view) ≤ length (before ++ rows)
   pub done : IsCommittedTo f g view k
 
--- RECOVERYRESPONSE with a state: the log is of the view, and has all that the receiver prepared there before this restart
-pub record IsState {C R O : Type 0} (f : ℕ) (g : History C R O) (s : ℕ → Site C) (to view nonce k : ℕ) (log : List (RowOf C)) : Type 0 where
-  pub log_of : IsLogOf g view log
-  pub done : IsCommittedTo f g view k
-  pub covers : (s to).status ≡ Recovering → (s to).cell.boots ≡ nonce → (n : ℕ) → Prepared f g to view n → n ≤ length log
-
-abbrev pub MayBeState : {C R O : Type 0} → ℕ → History C R O → (ℕ → Site C) → ℕ → ℕ → ℕ → Option (StateOf C) → Type 0
-MayBeState f g s to view nonce None = ⊤
-MayBeState f g s to view nonce (Some state) = IsState f g s to view nonce state.done state.rows
-
+-- what a message vouches for, by its kind
 abbrev pub IsVouched : {C R O : Type 0} → ℕ → History C R O → (ℕ → Site C) → ℕ → ℕ → MsgOf C R O → Type 0
 IsVouched f g s j to (Request number cmd) = ⊤
 IsVouched f g s j to (Prepare view place k row) = IsPlaced f g view place k row

@@ -15,8 +15,9 @@ use Rattle.vr_types.specs.Normal.{on_request, on_prepare, on_prepare_ok}
 use Rattle.vr_types.specs.Change.{on_timer}
 use Rattle.vr_types.specs.Handling.{site_step}
 use Rattle.vr_types.proofs.Choosing.{choice_of}
-use Rattle.agreement.specs.Worlds.{World, Happening, Ends, Falls, stepped, fallen, opening_world, IsLegal}
-use Rattle.agreement.specs.Promises.{Tells, WasAsked}
+use Rattle.vr_types.proofs.ChoosingRight.{choice_of-right}
+use Rattle.agreement.specs.Worlds.{World, Happening, Ends, FallsOver, stepped, fallen, opening_world, IsLegal, LegalList}
+use Rattle.agreement.specs.Promises.{Tells, WasAsked, replies_sent}
 
 abbrev choose : Choice ℕ
 choose = choice_of (λ a b. a == b) 1
@@ -47,7 +48,7 @@ events =
     record { site = 0; event = Deliver request; course = Ends }
     ∷ record { site = 1; event = Deliver prepare; course = Ends }
     ∷ record { site = 0; event = Deliver acknowledgement; course = Ends }
-    ∷ record { site = 2; event = Timer; course = Falls (record { boots = 0; view = 1 }) } ∷ []
+    ∷ record { site = 2; event = Timer; course = FallsOver (record { boots = 0; view = 1 }) } ∷ []
 
 abbrev site_at : World ℕ ℕ ℕ → ℕ → Site ℕ
 site_at world i = get_or world.sites i (over new_cell Down)
@@ -120,6 +121,15 @@ counter = record {
 tells : Tells counter 0 (record { from = 0; sender = site_at end 0; place = 1 }) 1 1 7
 unfolding on_request on_prepare on_prepare_ok on_timer
 tells = record { envelope = record { from = 200; to = 1; msg = Reply 0 1 7 }; is = refl; to = refl; view = 0; msg = refl }
+
+-- the one REPLY that was sent
+one_reply : replies_sent counter 0 end ≡ record { from = 200; to = 1; msg = Reply 0 1 7 } ∷ []
+unfolding on_request on_prepare on_prepare_ok on_timer
+one_reply = refl
+
+-- the list is one of which the laws speak
+listed : LegalList ℕ ℕ ℕ 1
+listed = record { choose = choose; right = choice_of-right 1 (λ a b. a == b) (omega arith) (λ a b. (λ e. grind (arith, e), λ e. grind (arith, e))); cells = cells; events = events; world = end; legal = is_legal }
 
 was_asked : WasAsked events row
 was_asked = record { site = 0; to = 200; taken = (0, omega arith, refl) }

@@ -8,7 +8,7 @@ use Rattle.vr_types.specs.declared.message.EnvelopeOf.{EnvelopeOf}
 use Rattle.vr_types.specs.declared.message.MsgOf.{MsgOf}
 use Rattle.vr_types.specs.declared.message.MsgOf.TheVariants.{Request, Prepare, PrepareOk, Commit, StartViewChange, DoViewChange, StartView, GetState, NewState, Recovery, RecoveryResponse, Reply, PayOrder}
 use Rattle.vr_types.specs.Site.{Site, over, opening_site}
-use Rattle.vr_types.specs.Choice.{Choice}
+use Rattle.vr_types.specs.Choice.{Choice, IsRight}
 use Rattle.vr_types.specs.Step.{Step}
 use Rattle.vr_types.specs.Handling.{site_step, is_refused, IsFall}
 
@@ -30,16 +30,20 @@ pub record World (C R O : Type 0) : Type 0 where
   pub replies : List (Replied C)  -- every REPLY that was ever sent
   pub orders : List (Ordered C)  -- each time that open orders were sent
 
--- an event at a site ends as its step says, or in a fall over a cell of this value
+-- an event at a site ends as its step says, or the site falls, over a cell of this value
 pub data Course : Type 0 where
   Ends : Course
-  Falls : Boot → Course
+  FallsOver : Boot → Course
 
 -- what happens: an event, at which site, and how it ends
 pub record Happening (C R O : Type 0) : Type 0 where
   pub site : ℕ
   pub event : EventOf C R O
   pub course : Course
+
+-- an event at a site that ends as its step says
+abbrev pub step_of : {C R O : Type 0} → ℕ → EventOf C R O → Happening C R O
+step_of i event = record { site = i; event = event; course = Ends }
 
 -- a client's request
 abbrev pub is_request : {C R O : Type 0} → MsgOf C R O → Bool
@@ -87,30 +91,54 @@ abbrev pub fallen : {C R O : Type 0} → World C R O → ℕ → Boot → World 
 fallen world i cell = record world { sites = slice_set world.sites i (over cell Down) }
 
 -- a step that is not refused ends, or is a fall
-abbrev pub EndsIn : {C R O : Type 0} → World C R O → ℕ → Site C → Step C R O → Course → World C R O → Type 0
+abbrev pub EndsIn : {C R O : Type 0}
+    → World C R O → ℕ → Site C → Step C R O → Course → World C R O → Type 0
 EndsIn world i x step Ends after = (is_refused step.ending ≡ false) × (after ≡ stepped world i step)
-EndsIn world i x step (Falls cell) after = IsFall x step (over cell Down) × (after ≡ fallen world i cell)
+EndsIn world i x step (FallsOver cell) after =
+    IsFall x step (over cell Down) × (after ≡ fallen world i cell)
 
--- It happens in this world, and leads to that one. What the site refuses does not happen; so an envelope reaches the site that it is addressed to, and no other.
-pub record Happens {C R O : Type 0} (choose : Choice C) (f : ℕ) (world : World C R O) (h : Happening C R O) (after : World C R O) : Type 0 where
+-- It happens in this world, and leads to that one. What the site refuses does not happen; so an envelope reaches the
+-- site that it is addressed to, and no other.
+pub record Happens {C R O : Type 0} (choose : Choice C) (f : ℕ) (world : World C R O)
+    (h : Happening C R O) (after : World C R O) : Type 0 where
   pub before : Site C
   pub is_there : slice_get world.sites h.site ≡ Some before
   pub may_happen : MayHappen world.sent h.event
   pub ends : EndsIn world h.site before (site_step choose f h.site before h.event) h.course after
 
 -- a list of what happens leads from a world to another
-abbrev pub IsRun : {C R O : Type 0} → Choice C → ℕ → World C R O → List (Happening C R O) → World C R O → Type 0
+abbrev pub IsRun : {C R O : Type 0}
+    → Choice C → ℕ → World C R O → List (Happening C R O) → World C R O → Type 0
 IsRun choose f world [] after = after ≡ world
-IsRun {C} {R} {O} choose f world (h ∷ hs) after = (next : World C R O) × Happens choose f world h next × IsRun choose f next hs after
+IsRun {C} {R} {O} choose f world (h ∷ hs) after =
+    (next : World C R O) × Happens choose f world h next × IsRun choose f next hs after
 
 -- at the opening nothing was sent, and each site is over its cell
 abbrev pub opening_world : {C R O : Type 0} → List Boot → World C R O
-opening_world cells = record { sites = map opening_site cells; sent = []; replies = []; orders = [] }
+opening_world cells =
+    record { sites = map opening_site cells; sent = []; replies = []; orders = [] }
 
 -- a legal list of 2f+1 sites leads to this world, from an opening over these cells
-pub record IsLegal {C R O : Type 0} (choose : Choice C) (f : ℕ) (cells : List Boot) (events : List (Happening C R O)) (world : World C R O) : Type 0 where
+pub record IsLegal {C R O : Type 0} (choose : Choice C) (f : ℕ) (cells : List Boot)
+    (events : List (Happening C R O)) (world : World C R O) : Type 0 where
   pub all : length cells ≡ 2 * f + 1
   pub run : IsRun choose f (opening_world cells) events world
+
+-- WHAT EVERY LAW IS SAID OF: any legal list of 2f+1 sites, from an opening over cells of any value, where the choices
+-- that the steps take as given are right; and the world that it leads to.
+pub record LegalList (C R O : Type 0) (f : ℕ) : Type 0 where
+  pub choose : Choice C
+  pub right : IsRight f choose
+  pub cells : List Boot
+  pub events : List (Happening C R O)
+  pub world : World C R O
+  pub legal : IsLegal choose f cells events world
+
+-- any way in which a legal list goes on, and the world that this leads to
+pub record Continued {C R O : Type 0} {f : ℕ} (list : LegalList C R O f) : Type 0 where
+  pub events : List (Happening C R O)
+  pub world : World C R O
+  pub run : IsRun list.choose f list.world events world
 
 -- it is no restart
 abbrev pub IsNoRestart : {C R O : Type 0} → EventOf C R O → Type 0
