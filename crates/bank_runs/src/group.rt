@@ -8,6 +8,7 @@ use vr_types::{
     Status, Why,
 };
 
+/// A site of the bank.
 pub type Site = Replica<Book, MemCell>;
 
 /// The node of USD, whose pay-ins the sites execute.

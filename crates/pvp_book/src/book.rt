@@ -53,7 +53,7 @@ impl Book {
     ghost use Rattle.pvp_book.specs.Open.{orders_left};
     ghost use Rattle.pvp_book.specs.Answer.{answer_to, after, is_walk, balances_less, is_side, on_instruct, on_mirror, on_rescind, on_pair, on_fund, on_pay_out, on_paid, has_member, has_currency};
 
-    /// An empty book.
+    /// An empty book. `Err` where memory is refused.
     pub fn fresh(alloc: Global, setup: &Setup) -> Result<Self, AllocError>
         requires { IsValid setup.now }
         ensures { IfOk result (λ book. book ≡ opening setup.now) }

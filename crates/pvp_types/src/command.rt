@@ -87,8 +87,11 @@ pub enum Reason {
 #[derive(Clone, Copy, Debug, PartialEq, Eq)]
 pub struct PayOrder {
     pub ccy: u8,
+    /// Its number among the currency's orders, from 1 on.
     pub out: u32,
+    /// Whom it is paid to.
     pub member: u16,
+    /// How much, in minor units.
     pub amt: u64,
 }
 

@@ -2,6 +2,7 @@ ghost use Rattle.std.specs.Prelude.{◌≡◌, ◌<◌, ◌≤◌, ◌∷◌, []
 ghost use Rattle.vr_types.specs.declared.cell.Boot.{Boot};
 ghost use Rattle.vr_types.specs.Change.{on_timer, beats_in_change, sends_vote};
 ghost use Rattle.vr_types.specs.Group.{to_all};
+ghost use Rattle.vr_types.specs.Handling.{max_number};
 ghost use Rattle.vr_types.specs.Site.{Ack};
 ghost use Rattle.vr_log.specs.Running.{IsSound, IsRunning, Follows, SumUp, site_of};
 
@@ -16,7 +17,7 @@ pub fn timer<M: Machine>(
     config: Config,
     running: &mut Running<M>,
 ) -> Result<Outcome<M>, AllocError>
-    requires { running.old.view < 4294967295 }
+    requires { running.old.view < max_number }
     ensures sound { OnOk result ((start : M) → IsSound M.Machine start config.f running.old → IsSound M.Machine start config.f running.new) }
     ensures later { running.old.view ≤ running.new.view }
     ensures step { (start : M) (acks : List Ack) (cell : Boot) → IsRunning M.Machine start config.f running.old acks →

@@ -34,6 +34,7 @@ impl<C: Copy> LogOf<C> {
         }
     }
 
+    /// How many rows there are.
     pub fn len(&self) -> usize
         ensures length { result ≡ length self.now }
         ensures few { result ≤ MAX_ROWS }
@@ -41,6 +42,7 @@ impl<C: Copy> LogOf<C> {
         self.rows.len()
     }
 
+    /// Whether there is no row.
     pub fn is_empty(&self) -> bool
         ensures { result ≡ (length self.now == 0) }
     {

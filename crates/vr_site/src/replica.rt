@@ -87,8 +87,10 @@ impl<M: Machine, C: BootCell> Replica<M, C> {
     ///
     /// `NotUp`, `AlreadyUp`, `ViewsSpent`, `BootsSpent` and `NotMine` are answered exactly where the site refuses the
     /// event, which then changes nothing. `NoMemory` and `CellFault` leave the site down with nothing sent; the cell
-    /// holds the old value, or the one that the event saves. A crash, and an event that is dropped, take no memory.
+    /// holds the old value, or the one that the event saves. It is saved at most once, and only with a value that it
+    /// does not hold. A crash, and an event that is dropped, take no memory.
     pub fn handle(&mut self, alloc: Global, event: Event<M>) -> Result<Outcome<M>, SiteFault>
+        // The step, the refusals and the falls.
         ensures handles { Handles M.Machine C.BootCell self.old self.new event result }
         // A crash takes no memory, nor does an event that is dropped.
         ensures crash { event ≡ AnyEvent.Crash → self.old.volatile.status ≢ Status.Down → IsOk result }
@@ -363,6 +365,7 @@ impl<M: Machine, C: BootCell> Replica<M, C> {
         Ok(())
     }
 
+    /// What the site is doing.
     pub fn status(&self) -> Status
         ensures { result ≡ self.now.volatile.status }
     {
@@ -383,6 +386,7 @@ impl<M: Machine, C: BootCell> Replica<M, C> {
         }
     }
 
+    /// How many rows its log has, 0 at a site that is down or recovers.
     pub fn log_len(&self) -> usize
         ensures { result ≡ length self.now.volatile.log }
     {

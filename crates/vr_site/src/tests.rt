@@ -9,6 +9,7 @@ use vr_types::{
     RowsOf, SiteFault, StateOf, Status, Why,
 };
 
+/// A site that tallies.
 pub type Site = Replica<Tally, MemCell>;
 
 /// What a message says, and how many rows it carries.
