@@ -11,7 +11,7 @@ use Rattle.pvp_wire.specs.declared.stamped.Stamp.{Stamp}
 use Rattle.pvp_wire.specs.declared.stamped.Stamped.{Stamped}
 use Rattle.pvp_wire.specs.Spelling.{number, kind, body, stamp, head, spelling, rows_of, has_client, is_actor, BankMsg}
 use Rattle.pvp_wire.specs.Fits.{Fits, StampFits, IsSpelled}
-use Rattle.pvp_wire.specs.Reading.{◌>>=◌, number_at, stamp_at, envelope_at, all_read, counted_at, frame_at, most_length}
+use Rattle.pvp_wire.specs.Reading.{◌>>=◌, number_at, stamp_at, envelope_at, all_read, counted_at, frame_where, frame_at, most_length}
 use Rattle.pvp_wire.proofs.Formats.{IsBytes, IsBytes-drop, IsBytes-take, TakesBy, IsFormat, bind_ok, guard_ok, guarded, wanted_ok, not-false, takes3, again3}
 use Rattle.pvp_wire.proofs.Numbers.{length-number}
 use Rattle.pvp_wire.proofs.Parts.{n4, n8, both, parted, listed_format}
@@ -59,7 +59,7 @@ part s h =
     let c = parted (is_actor s.envelope.to) (list_all has_client (rows_of s.envelope.msg)) b.1 in
     record { stamp = (h.fits.0, b.0); to = (h.fits.1, c.0); msg = ((h.fits.2, c.1), refl); from = eqb-true s.envelope.from s.stamp.actor a.0 }
 
-envelope-takes : (k : ℕ) → 1 ≤ k → k ≤ 13 → TakesBy inside (Parts k) (envelope_at k)
+envelope-takes : (k : ℕ) → 1 ≤ k → k ≤ 13 → TakesBy inside (Parts k) (envelope_at false k)
 unfolding envelope_at
 envelope-takes k low high = takes3 stamp_format (listed_format is_actor) (message_format k low high) make_stamped inside (Parts k) (λ a b c. refl) (λ a b c ha hb hc. record { stamp = ha; to = hb; msg = hc; from = refl })
 
@@ -81,7 +81,7 @@ kinds (RecoveryResponse a b c) = (omega arith, omega arith)
 kinds (Reply a b c) = (omega arith, omega arith)
 kinds (PayOrder a) = (omega arith, omega arith)
 
-envelope-again : (s : Stamped) (rest : List ℕ) → IsSpelled s → envelope_at (kind s.envelope.msg) (inside s ++ rest) ≡ Ok (s, rest)
+envelope-again : (s : Stamped) (rest : List ℕ) → IsSpelled s → envelope_at false (kind s.envelope.msg) (inside s ++ rest) ≡ Ok (s, rest)
 unfolding envelope_at
 envelope-again s rest h =
     let p = part s h in
@@ -111,18 +111,18 @@ no_bytes [] e = refl
 no_bytes (b ∷ bytes) e = absurd (omega arith)
 
 -- what is read of the bytes that a length counts
-counted-takes : (bytes : List ℕ) (s : Stamped) → IsBytes bytes → counted_at bytes ≡ Ok s → (bytes ≡ head s ++ body s.envelope.msg) × IsSpelled s
+counted-takes : (bytes : List ℕ) (s : Stamped) → IsBytes bytes → counted_at false bytes ≡ Ok s → (bytes ≡ head s ++ body s.envelope.msg) × IsSpelled s
 unfolding counted_at
 counted-takes [] s fits e = absurd cc
 counted-takes (version ∷ []) s fits e = absurd cc
 counted-takes (version ∷ k ∷ bytes) s fits e =
-    let v = guarded (not (version == 1)) Version (if not (nat_le 1 k && nat_le k 13) then Err Kind else (envelope_at k bytes >>= all_read)) s e in
-    let w = guarded (not (nat_le 1 k && nat_le k 13)) Kind (envelope_at k bytes >>= all_read) s v.1 in
+    let v = guarded (not (version == 1)) Version (if not (nat_le 1 k && nat_le k 13) then Err Kind else (envelope_at false k bytes >>= all_read)) s e in
+    let w = guarded (not (nat_le 1 k && nat_le k 13)) Kind (envelope_at false k bytes >>= all_read) s v.1 in
     let version-is : version ≡ 1 = eqb-true version 1 (not-false (version == 1) v.0) in
     let bounds = parted (nat_le 1 k) (nat_le k 13) (not-false (nat_le 1 k && nat_le k 13) w.0) in
     let low : 1 ≤ k = leb-true 1 k bounds.0 in
     let high : k ≤ 13 = leb-true k 13 bounds.1 in
-    let m = bind_ok (envelope_at k bytes) all_read s w.1 in
+    let m = bind_ok (envelope_at false k bytes) all_read s w.1 in
     let t = envelope-takes k low high bytes m.0.0 m.0.1 (λ i. fits (suc (suc i))) m.1 in
     let a = all_read-ok m.0 s m.2 in
     let text : bytes ≡ inside m.0.0 = t.0.parts ∙ ap (λ (x : List ℕ). inside m.0.0 ++ x) (no_bytes m.0.1 a.1) ∙ append-nil (inside m.0.0) in
@@ -130,17 +130,17 @@ counted-takes (version ∷ k ∷ bytes) s fits e =
     ap (λ (n : ℕ). n ∷ k ∷ bytes) version-is ∙ ap (λ (n : ℕ). 1 ∷ n ∷ bytes) (sym t.1.msg.1) ∙ ap (λ (x : List ℕ). 1 ∷ kind m.0.0.envelope.msg ∷ x) text in
     subst (λ (x : Stamped). (version ∷ k ∷ bytes ≡ head x ++ body x.envelope.msg) × IsSpelled x) a.0 (whole, joined k m.0.0 t.1)
 
-counted-again : (s : Stamped) → IsSpelled s → counted_at (head s ++ body s.envelope.msg) ≡ Ok s
+counted-again : (s : Stamped) → IsSpelled s → counted_at false (head s ++ body s.envelope.msg) ≡ Ok s
 unfolding counted_at
 counted-again s h =
     let b = kinds s.envelope.msg in
     let known : (nat_le 1 (kind s.envelope.msg) && nat_le (kind s.envelope.msg) 13) ≡ true = both (nat_le 1 (kind s.envelope.msg)) (nat_le (kind s.envelope.msg) 13) (le-leb 1 (kind s.envelope.msg) b.0) (le-leb (kind s.envelope.msg) 13 b.1) in
-    let read : envelope_at (kind s.envelope.msg) (inside s) ≡ Ok (s, []) = ap (envelope_at (kind s.envelope.msg)) (sym (append-nil (inside s))) ∙ envelope-again s [] h in
+    let read : envelope_at false (kind s.envelope.msg) (inside s) ≡ Ok (s, []) = ap (envelope_at false (kind s.envelope.msg)) (sym (append-nil (inside s))) ∙ envelope-again s [] h in
     rw (known, read) refl
 
 -- the tests of a frame, from the last to the first
 abbrev counted_in : List ℕ → ℕ → Result (Stamped × ℕ) WireFault
-counted_in bytes len = counted_at (take len (drop 4 bytes)) >>= λ s. Ok (s, 4 + len)
+counted_in bytes len = counted_at false (take len (drop 4 bytes)) >>= λ s. Ok (s, 4 + len)
 
 abbrev whole_in : List ℕ → ℕ → Result (Stamped × ℕ) WireFault
 whole_in bytes len = if nat_lt (length bytes) (4 + len) then Err Short else counted_in bytes len
@@ -185,21 +185,21 @@ found bytes len s front long inner spelled =
     }
 
 pub frame-takes : (bytes : List ℕ) (s : Stamped) (n : ℕ) → IsBytes bytes → frame_at bytes ≡ Ok (s, n) → IsFound bytes s n
-unfolding frame_at
+unfolding frame_where
 frame-takes bytes s n fits e =
     let len = big_number 4 bytes in
     let a = guarded (nat_lt (length bytes) 4) Short (bounded_in bytes len) (s, n) e in
     let b = guarded (nat_lt most_length len) TooLong (long_in bytes len) (s, n) a.1 in
     let c = guarded (nat_lt len 18) Length (whole_in bytes len) (s, n) b.1 in
     let d = guarded (nat_lt (length bytes) (4 + len)) Short (counted_in bytes len) (s, n) c.1 in
-    let m = bind_ok (counted_at (take len (drop 4 bytes))) (λ x. Ok (x, 4 + len)) (s, n) d.1 in
+    let m = bind_ok (counted_at false (take len (drop 4 bytes))) (λ x. Ok (x, 4 + len)) (s, n) d.1 in
     let t = counted-takes (take len (drop 4 bytes)) m.0 (IsBytes-take len (drop 4 bytes) (IsBytes-drop 4 bytes fits)) m.1 in
     let f = found bytes len m.0 (first_number bytes (ltb-false (length bytes) 4 a.0) fits) (ltb-false (length bytes) (4 + len) d.0) t.0 t.1 in
     let same = pair_is (m.0, 4 + len) (s, n) m.2 in
     subst (λ (p : Stamped × ℕ). IsFound bytes p.0 p.1) same f
 
 pub frame-again : (s : Stamped) (rest : List ℕ) → IsSpelled s → frame_at (spelling s ++ rest) ≡ Ok (s, length (spelling s))
-unfolding frame_at
+unfolding frame_where
 frame-again s rest h =
     let msg = s.envelope.msg in
     let len = 18 + length (body msg) in

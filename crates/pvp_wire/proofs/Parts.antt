@@ -255,20 +255,20 @@ parted false b h = absurd cc
 abbrev pub AreRows : List BankRow → Type 0
 AreRows log = EachFits log × (list_all has_client log ≡ true)
 
-more-takes : (count : ℕ) (bytes : List ℕ) (log : List BankRow) (rest : List ℕ) → IsBytes bytes → rows_from count bytes ≡ Ok (log, rest) → Takes bytes (flat_map row log) rest × (AreRows log × (length log ≡ count))
+more-takes : (count : ℕ) (bytes : List ℕ) (log : List BankRow) (rest : List ℕ) → IsBytes bytes → rows_from false count bytes ≡ Ok (log, rest) → Takes bytes (flat_map row log) rest × (AreRows log × (length log ≡ count))
 unfolding rows_from
 more-takes zero bytes log rest fits e =
     subst (λ (p : List BankRow × List ℕ). Takes bytes (flat_map row p.0) p.1 × (AreRows p.0 × (length p.0 ≡ 0))) (ok_is ([], bytes) (log, rest) e) (record { parts = refl; rest_fits = fits }, ((tt, refl), refl))
 more-takes (suc count) bytes log rest fits e =
-    let m = bind_ok (row_at bytes) (λ r. rows_from count r.1 >>= λ others. Ok (r.0 ∷ others.0, others.1)) (log, rest) e in
+    let m = bind_ok (row_at bytes) (λ r. rows_from false count r.1 >>= λ others. Ok (r.0 ∷ others.0, others.1)) (log, rest) e in
     let t = row_format.takes bytes m.0.0 m.0.1 fits m.1 in
-    let o = bind_ok (rows_from count m.0.1) (λ others. Ok (m.0.0 ∷ others.0, others.1)) (log, rest) m.2 in
+    let o = bind_ok (rows_from false count m.0.1) (λ others. Ok (m.0.0 ∷ others.0, others.1)) (log, rest) m.2 in
     let u = more-takes count m.0.1 o.0.0 o.0.1 t.0.rest_fits o.1 in
     let whole = Takes-then bytes (row m.0.0) m.0.1 (flat_map row o.0.0) o.0.1 t.0 u.0 in
     subst (λ (p : List BankRow × List ℕ). Takes bytes (flat_map row p.0) p.1 × (AreRows p.0 × (length p.0 ≡ suc count))) (ok_is (m.0.0 ∷ o.0.0, o.0.1) (log, rest) o.2)
     (whole, (((t.1.0, u.1.0.0), both (has_client m.0.0) (list_all has_client o.0.0) t.1.1 u.1.0.1), ap suc u.1.1))
 
-more-again : (log : List BankRow) (rest : List ℕ) → AreRows log → rows_from (length log) (flat_map row log ++ rest) ≡ Ok (log, rest)
+more-again : (log : List BankRow) (rest : List ℕ) → AreRows log → rows_from false (length log) (flat_map row log ++ rest) ≡ Ok (log, rest)
 unfolding rows_from
 more-again [] rest h = refl
 more-again (r ∷ log) rest h =
@@ -279,11 +279,11 @@ more-again (r ∷ log) rest h =
 abbrev pub IsLog : List BankRow → Type 0
 IsLog log = RowsFit log × (list_all has_client log ≡ true)
 
-pub rows_format : IsFormat rows IsLog rows_at
+pub rows_format : IsFormat rows IsLog (rows_at false)
 unfolding rows_at
 rows_format = record {
   takes = λ bytes log rest fits e.
-      let m = bind_ok (number_at 2 bytes) (λ count. rows_from count.0 count.1) (log, rest) e in
+      let m = bind_ok (number_at 2 bytes) (λ count. rows_from false count.0 count.1) (log, rest) e in
       let t = n2.takes bytes m.0.0 m.0.1 fits m.1 in
       let u = more-takes m.0.0 m.0.1 log rest t.0.rest_fits m.2 in
       let whole = Takes-then bytes (number 2 m.0.0) m.0.1 (flat_map row log) rest t.0 u.0 in

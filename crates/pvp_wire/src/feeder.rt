@@ -33,7 +33,7 @@ impl Model for Feeder {
 
 impl Feeder {
     /// A feeder that has taken nothing. It takes no memory.
-    #[tactic(auto, unfolding(crate::specs::Reading::frame_at))]
+    #[tactic(auto, unfolding(crate::specs::Reading::frame_where))]
     pub fn new(alloc: Global) -> Self
         ensures { result ≡ empty }
     {
