@@ -1,5 +1,5 @@
 -- Frames one after the other at the front of a stream.
-use Rattle.std.proofs.Common.{◌≡◌, ◌⊎◌, inl, inr, ℕ, ◌+◌, ◌-◌, ◌<◌, ◌≤◌, List, [], ◌∷◌, ◌++◌, length, take, drop, Option, Some, None, Result, Ok, Err, refl, sym, ap, ◌∙◌, append_assoc, arith}
+use Rattle.std.proofs.Common.{◌≡◌, ◌⊎◌, inl, inr, ℕ, ◌+◌, ◌-◌, ◌<◌, ◌≤◌, List, [], ◌∷◌, ◌++◌, length, take, drop, Option, Some, None, Result, Ok, Err, refl, sym, ap, subst, ◌∙◌, append_assoc, arith}
 use Rattle.std.specs.Prelude.{All}
 use Rattle.std.specs.List.{flat_map}
 use Rattle.std.proofs.lemmas.Grind.{flat_map-append}
@@ -11,8 +11,8 @@ use Rattle.pvp_wire.specs.declared.fault.WireFault.TheVariants.{Short, TooLong, 
 use Rattle.pvp_wire.specs.declared.stamped.Stamped.{Stamped}
 use Rattle.pvp_wire.specs.Spelling.{number, body, head, spelling}
 use Rattle.pvp_wire.specs.Fits.{IsBytes, IsSpelled}
-use Rattle.pvp_wire.specs.Reading.{frame_at}
-use Rattle.pvp_wire.specs.Feeding.{Fed, Call, Splits, IsTold, FeedsAt, AreFed, empty, answered, all_answered, taken_by, taken_at, all_taken, after_calls}
+use Rattle.pvp_wire.specs.Reading.{frame_where, frame_at}
+use Rattle.pvp_wire.specs.Feeding.{Fed, IsAt, IsFed, Call, Splits, IsTold, FeedsAt, AreFed, empty, answered, all_answered, taken_by, taken_at, all_taken, after_calls}
 use Rattle.pvp_wire.proofs.Formats.{IsBytes-drop}
 use Rattle.pvp_wire.proofs.Numbers.{length-number}
 use Rattle.pvp_wire.proofs.Lengths.{length-head}
@@ -126,8 +126,60 @@ pub fed_all : (stream : List ℕ) (done : List Stamped) (fed : Fed) (calls : Lis
 fed_all stream done fed [] so_far h = rw (append-nil stream, append-nil done) so_far
 fed_all stream done fed (call ∷ calls) so_far h =
     let one = fed_once stream done fed call so_far h.0 in
-    let all = fed_all (stream ++ taken_at fed.fault call.answer call.piece) (done ++ answered call.answer) call.after calls one h.1 in
+    let all = fed_all (stream ++ taken_at fed.fault call.answer call.piece) (done ++ answered call.answer) call.after calls one h.2 in
     rw (← append_assoc stream (taken_at fed.fault call.answer call.piece) (all_taken call.after calls), ← append_assoc done (answered call.answer) (all_answered calls)) all
 
 pub fed_pieces : (calls : List Call) → AreFed empty calls → Splits (all_taken empty calls) (all_answered calls) (after_calls empty calls).held
 fed_pieces calls h = fed_all [] [] empty calls (record { whole = refl; each = All-nil IsSpelled }) h
+
+-- ---- what is left
+
+empty_fed : IsFed empty
+unfolding frame_where
+empty_fed = refl
+
+left : (fed : Fed) (calls : List Call) → IsFed fed → AreFed fed calls → IsFed (after_calls fed calls)
+left fed [] before h = before
+left fed (call ∷ calls) before h = left call.after calls h.1 h.2
+
+-- after any calls of a new feeder no whole frame is left, or a fault stands there
+pub fed_left : (calls : List Call) → AreFed empty calls → IsFed (after_calls empty calls)
+fed_left calls h = left empty calls empty_fed h
+
+-- so what is left is not read
+unread : (held : List ℕ) (fault : Option WireFault) → IsAt held fault → (f : WireFault) × (frame_at held ≡ Err f)
+unread held None h = (Short, h)
+unread held (Some fault) h = (fault, h.0)
+
+abbrev not_read : WireFault → Result (Stamped × ℕ) WireFault
+not_read fault = Err fault
+
+one_fault : (f g : WireFault) → not_read f ≡ not_read g → f ≡ g
+one_fault f g e = cc
+
+-- the bytes that are held determine the fault
+same_fault : (held : List ℕ) (a b : Option WireFault) → IsAt held a → IsAt held b → a ≡ b
+same_fault held None None ha hb = refl
+same_fault held None (Some g) ha hb = absurd (hb.1 (one_fault g Short (sym hb.0 ∙ ha)))
+same_fault held (Some f) None ha hb = absurd (ha.1 (one_fault f Short (sym ha.0 ∙ hb)))
+same_fault held (Some f) (Some g) ha hb = ap (λ (fault : WireFault). Some fault) (one_fault f g (sym ha.0 ∙ hb.0))
+
+abbrev fed_of : List ℕ → Option WireFault → Fed
+fed_of held fault = record { held = held; fault = fault }
+
+one_fed : (a b : Fed) → a.held ≡ b.held → IsFed a → IsFed b → a ≡ b
+one_fed a b e ha hb =
+    let fault-is : a.fault ≡ b.fault = same_fault b.held a.fault b.fault (subst (λ (held : List ℕ). IsAt held a.fault) e ha) hb in
+    ap (λ (held : List ℕ). fed_of held a.fault) e ∙ ap (fed_of b.held) fault-is
+
+-- pieces that are the same, joined, give the same
+pub fed_cuts : (a b : List Call) → AreFed empty a → AreFed empty b → all_taken empty a ≡ all_taken empty b → (all_answered a ≡ all_answered b) × (after_calls empty a ≡ after_calls empty b)
+fed_cuts a b ha hb e =
+    let sa = fed_pieces a ha in
+    let sb = fed_pieces b hb in
+    let la = fed_left a ha in
+    let lb = fed_left b hb in
+    let ua = unread (after_calls empty a).held (after_calls empty a).fault la in
+    let ub = unread (after_calls empty b).held (after_calls empty b).fault lb in
+    let one = one_split (all_answered a) (all_answered b) (after_calls empty a).held (after_calls empty b).held ua.0 ub.0 sa.each sb.each (sym sa.whole ∙ e ∙ sb.whole) ua.1 ub.1 in
+    (one.0, one_fed (after_calls empty a) (after_calls empty b) one.1 la lb)

@@ -6,7 +6,7 @@ ghost use Rattle.pvp_wire.specs.declared.stamped.Stamped.{Stamped};
 ghost use Rattle.pvp_wire.specs.Spelling.{spelling};
 ghost use Rattle.pvp_wire.specs.Fits.{IsBytes, IsSpelled};
 ghost use Rattle.pvp_wire.specs.Reading.{frame_at};
-ghost use Rattle.pvp_wire.specs.Feeding.{Splits, Call, AreFed, empty, all_taken, all_answered, after_calls};
+ghost use Rattle.pvp_wire.specs.Feeding.{Splits, Call, IsFed, AreFed, empty, all_taken, all_answered, after_calls};
 
 /// What is read is spelled so, to the byte; what has a spelling is read again from it, whatever follows; and no
 /// spelling begins another.
@@ -24,7 +24,15 @@ pub fn streams()
 {}
 
 /// After any calls of a new feeder the frames that it answered are those at the front of the pieces that it took,
-/// joined. What it holds is what is left.
+/// joined. What it holds is what is left: no whole frame, or the fault that it keeps stands there.
 pub fn pieces()
-    ensures { (calls : List Call) → AreFed empty calls → Splits (all_taken empty calls) (all_answered calls) (after_calls empty calls).held }
+    ensures front { (calls : List Call) → AreFed empty calls → Splits (all_taken empty calls) (all_answered calls) (after_calls empty calls).held }
+    ensures left { (calls : List Call) → AreFed empty calls → IsFed (after_calls empty calls) }
+{}
+
+/// It does not matter how the pieces were cut: where those that two new feeders took are the same, joined, they answered
+/// the same frames, and hold the same bytes and the same fault.
+pub fn cuts()
+    ensures { (a b : List Call) → AreFed empty a → AreFed empty b → all_taken empty a ≡ all_taken empty b →
+        (all_answered a ≡ all_answered b) × (after_calls empty a ≡ after_calls empty b) }
 {}
