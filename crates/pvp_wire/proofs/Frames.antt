@@ -9,7 +9,7 @@ use Rattle.pvp_wire.specs.declared.fault.WireFault.{WireFault}
 use Rattle.pvp_wire.specs.declared.fault.WireFault.TheVariants.{Short, TooLong, Version, Kind, Length}
 use Rattle.pvp_wire.specs.declared.stamped.Stamp.{Stamp}
 use Rattle.pvp_wire.specs.declared.stamped.Stamped.{Stamped}
-use Rattle.pvp_wire.specs.Spelling.{number, kind, body, stamp, head, spelling, rows_of, has_client, is_actor, BankMsg}
+use Rattle.pvp_wire.specs.Spelling.{number, kind, body, stamp, head, spelling, rows_of, has_client, is_actor, most_body, BankMsg}
 use Rattle.pvp_wire.specs.Fits.{Fits, StampFits, IsSpelled}
 use Rattle.pvp_wire.specs.Reading.{◌>>=◌, number_at, stamp_at, envelope_at, all_read, counted_at, frame_where, frame_at, most_length}
 use Rattle.pvp_wire.proofs.Formats.{IsBytes, IsBytes-drop, IsBytes-take, TakesBy, IsFormat, bind_ok, guard_ok, guarded, wanted_ok, not-false, takes3, again3}
@@ -205,7 +205,7 @@ frame-again s rest h =
     let len = 18 + length (body msg) in
     let inner = head s ++ body msg in
     let bytes = spelling s ++ rest in
-    let short : length (body msg) ≤ 2228203 = body-short msg h.fits.2 in
+    let short : length (body msg) ≤ most_body = body-short msg h.fits.2 in
     let fits : len < 256 ^ 4 = omega (arith, short) in
     let inner-len : length inner ≡ len = omega (arith, length-append (head s) (body msg), length-head s) in
     let shape : bytes ≡ number 4 len ++ (inner ++ rest) =
