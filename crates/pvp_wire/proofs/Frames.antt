@@ -10,9 +10,9 @@ use Rattle.pvp_wire.specs.declared.fault.WireFault.TheVariants.{Short, TooLong, 
 use Rattle.pvp_wire.specs.declared.stamped.Stamp.{Stamp}
 use Rattle.pvp_wire.specs.declared.stamped.Stamped.{Stamped}
 use Rattle.pvp_wire.specs.Spelling.{number, kind, body, stamp, head, spelling, rows_of, has_client, is_actor, most_body, BankMsg}
-use Rattle.pvp_wire.specs.Fits.{Fits, StampFits, IsSpelled}
+use Rattle.pvp_wire.specs.Fits.{IsBytes, Fits, StampFits, IsSpelled}
 use Rattle.pvp_wire.specs.Reading.{◌>>=◌, number_at, stamp_at, envelope_at, all_read, counted_at, frame_where, frame_at, most_length}
-use Rattle.pvp_wire.proofs.Formats.{IsBytes, IsBytes-drop, IsBytes-take, TakesBy, IsFormat, bind_ok, guard_ok, guarded, wanted_ok, not-false, takes3, again3}
+use Rattle.pvp_wire.proofs.Formats.{IsBytes-rest, IsBytes-drop, IsBytes-take, TakesBy, IsFormat, bind_ok, guard_ok, guarded, wanted_ok, not-false, ok_is, takes3, again3}
 use Rattle.pvp_wire.proofs.Numbers.{length-number}
 use Rattle.pvp_wire.proofs.Parts.{n4, n8, both, parted, listed_format}
 use Rattle.pvp_wire.proofs.MessageFormats.{IsOfKind, message_format}
@@ -89,12 +89,6 @@ envelope-again s rest h =
     again3 stamp_format (listed_format is_actor) (message_format (kind s.envelope.msg) b.0 b.1) make_stamped s.stamp s.envelope.to s.envelope.msg rest p.stamp p.to p.msg
     ∙ ap (λ (t : Stamped). Ok (t, rest)) (rebuilt s p.from)
 
-abbrev pair_done : Stamped × ℕ → Result (Stamped × ℕ) WireFault
-pair_done x = Ok x
-
-pair_is : (x y : Stamped × ℕ) → pair_done x ≡ pair_done y → x ≡ y
-pair_is x y e = cc
-
 number-parts : (bytes : List ℕ) (n : ℕ) (rest : List ℕ) → number_at 4 bytes ≡ Ok (n, rest) → (big_number 4 bytes ≡ n) × (drop 4 bytes ≡ rest)
 number-parts bytes n rest e =
     let g = guard_ok (nat_lt (length bytes) 4) Length (big_number 4 bytes, drop 4 bytes) (n, rest) e in
@@ -123,7 +117,7 @@ counted-takes (version ∷ k ∷ bytes) s fits e =
     let low : 1 ≤ k = leb-true 1 k bounds.0 in
     let high : k ≤ 13 = leb-true k 13 bounds.1 in
     let m = bind_ok (envelope_at false k bytes) all_read s w.1 in
-    let t = envelope-takes k low high bytes m.0.0 m.0.1 (λ i. fits (suc (suc i))) m.1 in
+    let t = envelope-takes k low high bytes m.0.0 m.0.1 (IsBytes-rest k bytes (IsBytes-rest version (k ∷ bytes) fits)) m.1 in
     let a = all_read-ok m.0 s m.2 in
     let text : bytes ≡ inside m.0.0 = t.0.parts ∙ ap (λ (x : List ℕ). inside m.0.0 ++ x) (no_bytes m.0.1 a.1) ∙ append-nil (inside m.0.0) in
     let whole : version ∷ k ∷ bytes ≡ head m.0.0 ++ body m.0.0.envelope.msg =
@@ -195,7 +189,7 @@ frame-takes bytes s n fits e =
     let m = bind_ok (counted_at false (take len (drop 4 bytes))) (λ x. Ok (x, 4 + len)) (s, n) d.1 in
     let t = counted-takes (take len (drop 4 bytes)) m.0 (IsBytes-take len (drop 4 bytes) (IsBytes-drop 4 bytes fits)) m.1 in
     let f = found bytes len m.0 (first_number bytes (ltb-false (length bytes) 4 a.0) fits) (ltb-false (length bytes) (4 + len) d.0) t.0 t.1 in
-    let same = pair_is (m.0, 4 + len) (s, n) m.2 in
+    let same = ok_is (m.0, 4 + len) (s, n) m.2 in
     subst (λ (p : Stamped × ℕ). IsFound bytes p.0 p.1) same f
 
 pub frame-again : (s : Stamped) (rest : List ℕ) → IsSpelled s → frame_at (spelling s ++ rest) ≡ Ok (s, length (spelling s))

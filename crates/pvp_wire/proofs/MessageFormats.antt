@@ -36,9 +36,6 @@ state_format = record { takes = state-takes; again = state-again }
 some-takes : TakesBy (λ (o : Option (StateOf Cmd)). drop 1 (state o)) (λ o. IsState o × (state o ≡ 1 ∷ drop 1 (state o))) (λ bytes. state_at false bytes >>= λ s. Ok (Some s.0, s.1))
 some-takes = takes1 state_format Some (λ o. drop 1 (state o)) (λ o. IsState o × (state o ≡ 1 ∷ drop 1 (state o))) (λ a. refl) (λ a ha. (ha, refl))
 
-abbrev bare_state : Option (StateOf Cmd) × List ℕ → Reads (Option (StateOf Cmd))
-bare_state x = Ok x
-
 never2 : {A : Type 0} (a b : Reads A) (flag : ℕ) (x : A × List ℕ) → 1 < flag → (if flag == 0 then a else if flag == 1 then b else refused) ≡ Ok x → ⊥
 never2 a b flag x above e = never x (rw (off flag 0 (omega arith), off flag 1 (omega arith)) at e)
 

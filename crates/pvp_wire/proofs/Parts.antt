@@ -15,9 +15,9 @@ use Rattle.pvp_types.specs.declared.command.Reply.TheVariants.{Done, Matched, Se
 use Rattle.vr_types.specs.Group.{is_client}
 use Rattle.pvp_wire.specs.declared.fault.WireFault.TheVariants.{Field}
 use Rattle.pvp_wire.specs.Spelling.{number, command, reply, reason_number, order, row, rows, BankRow, has_client}
-use Rattle.pvp_wire.specs.Fits.{Fits, CommandFits, ReplyFits, OrderFits, RowFits, EachFits, RowsFit}
+use Rattle.pvp_wire.specs.Fits.{IsBytes, Fits, CommandFits, ReplyFits, OrderFits, RowFits, EachFits, RowsFit}
 use Rattle.pvp_wire.specs.Reading.{◌>>=◌, Reads, number_at, listed_at, instruct_at, fund_at, pay_out_at, paid_at, command_at, reason_at, reply_at, order_at, row_at, rows_from, rows_at}
-use Rattle.pvp_wire.proofs.Formats.{IsBytes, IsBytes-rest, Takes, Takes-then, TakesBy, IsFormat, bind_ok, wanted_ok, ok_is, takes1, takes2, takes3, takes4, takes6, again1, again2, again3, again4, again6}
+use Rattle.pvp_wire.proofs.Formats.{IsBytes-rest, Takes, Takes-then, TakesBy, IsFormat, bind_ok, wanted_ok, done, ok_is, takes1, takes2, takes3, takes4, takes6, again1, again2, again3, again4, again6}
 use Rattle.pvp_wire.proofs.Numbers.{number_format}
 
 -- a tag in front
@@ -111,10 +111,7 @@ command_format = record { takes = command-takes; again = command-again }
 
 -- ---- answers
 
-abbrev given : Reason × List ℕ → Reads Reason
-given x = Ok x
-
-one_reason : (n : ℕ) (bytes : List ℕ) (known why : Reason) (rest : List ℕ) → IsBytes (n ∷ bytes) → reason_number known ≡ n → given (known, bytes) ≡ Ok (why, rest)
+one_reason : (n : ℕ) (bytes : List ℕ) (known why : Reason) (rest : List ℕ) → IsBytes (n ∷ bytes) → reason_number known ≡ n → done {A = Reason × List ℕ} (known, bytes) ≡ Ok (why, rest)
     → Takes (n ∷ bytes) (reason_number why ∷ []) rest × Unit {0}
 one_reason n bytes known why rest fits numbered e =
     let same = ok_is (known, bytes) (why, rest) e in
@@ -166,11 +163,8 @@ record IsAnswer (tag : ℕ) (r : replies.Reply) : Type 0 where
 answered : (tag : ℕ) (bytes : List ℕ) (r : replies.Reply) (rest : List ℕ) → Takes bytes (answer_fields r) rest × IsAnswer tag r → Takes (tag ∷ bytes) (reply r) rest × ReplyFits r
 answered tag bytes r rest t = (subst (λ (x : List ℕ). Takes (tag ∷ bytes) x rest) (sym t.1.text) (tagged tag bytes (answer_fields r) rest t.0), t.1.fits)
 
-abbrev bare_answer : replies.Reply × List ℕ → Reads replies.Reply
-bare_answer x = Ok x
-
 -- an answer without fields
-bare : (tag : ℕ) (bytes : List ℕ) (known r : replies.Reply) (rest : List ℕ) → IsBytes (tag ∷ bytes) → reply known ≡ tag ∷ [] → ReplyFits known → bare_answer (known, bytes) ≡ Ok (r, rest)
+bare : (tag : ℕ) (bytes : List ℕ) (known r : replies.Reply) (rest : List ℕ) → IsBytes (tag ∷ bytes) → reply known ≡ tag ∷ [] → ReplyFits known → done {A = replies.Reply × List ℕ} (known, bytes) ≡ Ok (r, rest)
     → Takes (tag ∷ bytes) (reply r) rest × ReplyFits r
 bare tag bytes known r rest fits text h e =
     subst (λ (p : replies.Reply × List ℕ). Takes (tag ∷ bytes) (reply p.0) p.1 × ReplyFits p.0) (ok_is (known, bytes) (r, rest) e) (record { parts = rw text refl; rest_fits = IsBytes-rest tag bytes fits }, h)

@@ -13,7 +13,7 @@ use Rattle.pvp_wire.specs.Spelling.{number, body, head, spelling}
 use Rattle.pvp_wire.specs.Fits.{IsBytes, IsSpelled}
 use Rattle.pvp_wire.specs.Reading.{frame_where, frame_at}
 use Rattle.pvp_wire.specs.Feeding.{Fed, IsAt, IsFed, Call, Splits, IsTold, FeedsAt, AreFed, empty, answered, all_answered, taken_by, taken_at, all_taken, after_calls}
-use Rattle.pvp_wire.proofs.Formats.{IsBytes-drop}
+use Rattle.pvp_wire.proofs.Formats.{IsBytes-drop, done, ok_is}
 use Rattle.pvp_wire.proofs.Numbers.{length-number}
 use Rattle.pvp_wire.proofs.Lengths.{length-head}
 use Rattle.pvp_wire.proofs.Frames.{frame-takes, frame-again}
@@ -48,16 +48,10 @@ takes_one bytes frames used s size fits inside splits cut =
       };
     }
 
-abbrev read_as : Stamped × ℕ → Result (Stamped × ℕ) WireFault
-read_as x = Ok x
-
-read_is : (x y : Stamped × ℕ) → read_as x ≡ read_as y → x ≡ y
-read_is x y e = cc
-
 -- no spelling begins another
 pub one_frame : (a b : Stamped) (x y : List ℕ) → IsSpelled a → IsSpelled b → spelling a ++ x ≡ spelling b ++ y → (a ≡ b) × (x ≡ y)
 one_frame a b x y ha hb e =
-    let both = read_is (a, length (spelling a)) (b, length (spelling b)) (sym (frame-again a x ha) ∙ ap frame_at e ∙ frame-again b y hb) in
+    let both = ok_is (a, length (spelling a)) (b, length (spelling b)) (sym (frame-again a x ha) ∙ ap frame_at e ∙ frame-again b y hb) in
     let same : a ≡ b = ap (λ (p : Stamped × ℕ). p.0) both in
     let size : length (spelling b) ≡ length (spelling a) = ap (λ (p : Stamped × ℕ). p.1) (sym both) in
     (same, sym (drop_at (spelling a) x (length (spelling a)) refl) ∙ ap (drop (length (spelling a))) e ∙ drop_at (spelling b) y (length (spelling a)) size)
@@ -65,7 +59,7 @@ one_frame a b x y ha hb e =
 -- bytes without a frame in front begin with no spelling
 no_frame : (s : Stamped) (more rest : List ℕ) (fault : WireFault) → IsSpelled s → rest ≡ spelling s ++ more → frame_at rest ≡ Err fault → ⊥
 no_frame s more rest fault h e failed =
-    let both : read_as (s, length (spelling s)) ≡ Err fault = sym (frame-again s more h) ∙ ap frame_at (sym e) ∙ failed in
+    let both : done {A = Stamped × ℕ} (s, length (spelling s)) ≡ Err fault = sym (frame-again s more h) ∙ ap frame_at (sym e) ∙ failed in
     absurd cc
 
 -- a stream is split in one way
