@@ -1,5 +1,5 @@
 -- Frames: what is taken is spelled so, and what is spelled so is read again, whatever follows it.
-use Rattle.std.proofs.Common.{◌≡◌, ℕ, suc, ◌+◌, ◌<◌, ◌≤◌, ◌^◌, ◌==◌, ◌&&◌, true, false, not, nat_lt, nat_le, List, [], ◌∷◌, ◌++◌, length, take, drop, Result, Ok, Err, refl, sym, ap, subst, ◌∙◌, if◌then◌else◌, append_assoc, arith}
+use Rattle.std.proofs.Common.{◌≡◌, ℕ, ◌+◌, ◌<◌, ◌≤◌, ◌^◌, ◌==◌, ◌&&◌, true, false, not, nat_lt, nat_le, List, [], ◌∷◌, ◌++◌, length, take, drop, Result, Ok, Err, refl, sym, ap, subst, ◌∙◌, if◌then◌else◌, append_assoc, arith}
 use Rattle.std.specs.List.{list_all}
 use Rattle.std.proofs.lemmas.Bool.{ltb-false, le-ltb, le-leb, leb-true, eq-eqb, eqb-true}
 use Rattle.std.proofs.lemmas.List.{append-nil, take_at, take-append-drop, length-append, length-take}
@@ -18,7 +18,7 @@ use Rattle.pvp_wire.proofs.Parts.{n4, n8, both, parted, listed_format}
 use Rattle.pvp_wire.proofs.MessageFormats.{IsOfKind, message_format}
 use Rattle.pvp_wire.proofs.Lengths.{length-head, body-short}
 
-abbrev make_stamp : ℕ → ℕ → ℕ → Stamp
+abbrev pub make_stamp : ℕ → ℕ → ℕ → Stamp
 make_stamp actor clock index = record { actor = actor; clock = clock; index = index }
 
 abbrev IsStamp : Stamp → Type 0
@@ -31,7 +31,7 @@ stamp_format = record {
   again = λ s rest h. again3 (listed_format is_actor) n8 n4 make_stamp s.actor s.clock s.index rest (h.0.0, h.1) h.0.1 h.0.2;
 }
 
-abbrev make_stamped : Stamp → ℕ → BankMsg → Stamped
+abbrev pub make_stamped : Stamp → ℕ → BankMsg → Stamped
 make_stamped s to msg = record { stamp = s; envelope = record { from = s.actor; to = to; msg = msg } }
 
 -- what stands after the version and the kind
@@ -95,7 +95,7 @@ number-parts bytes n rest e =
     (ap (λ (p : ℕ × List ℕ). p.0) g.1, ap (λ (p : ℕ × List ℕ). p.1) g.1)
 
 -- nothing is left
-all_read-ok : (x : Stamped × List ℕ) (s : Stamped) → all_read x ≡ Ok s → (x.0 ≡ s) × (length x.1 ≡ 0)
+pub all_read-ok : (x : Stamped × List ℕ) (s : Stamped) → all_read x ≡ Ok s → (x.0 ≡ s) × (length x.1 ≡ 0)
 all_read-ok x s e =
     let g = wanted_ok (length x.1 == 0) Length x.0 s e in
     (g.1, eqb-true (length x.1) 0 g.0)

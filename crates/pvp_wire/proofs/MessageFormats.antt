@@ -12,7 +12,7 @@ use Rattle.pvp_wire.proofs.Parts.{off, tagged, refused, never, n2, n4, both, par
 
 -- ---- the state of a view
 
-abbrev make_state : ℕ → List BankRow → StateOf Cmd
+abbrev pub make_state : ℕ → List BankRow → StateOf Cmd
 make_state k log = record { done = k; rows = log }
 
 -- a state that fits, its rows of clients
@@ -66,7 +66,7 @@ pair_text p = number 4 p.0 ++ number 2 p.1
 abbrev PairFits : ℕ × ℕ → Type 0
 PairFits p = Fits 4 p.0 × Fits 2 p.1
 
-abbrev make_pair : ℕ → ℕ → ℕ × ℕ
+abbrev pub make_pair : ℕ → ℕ → ℕ × ℕ
 make_pair a b = (a, b)
 
 pair_format : IsFormat pair_text PairFits view_and_place_at

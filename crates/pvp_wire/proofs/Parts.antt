@@ -202,7 +202,7 @@ reply_format = record { takes = reply-takes; again = reply-again }
 
 -- ---- orders and rows
 
-abbrev make_order : ℕ → ℕ → ℕ → ℕ → orders.PayOrder
+abbrev pub make_order : ℕ → ℕ → ℕ → ℕ → orders.PayOrder
 make_order ccy out member amt = record { ccy = ccy; out = out; member = member; amt = amt }
 
 pub order_format : IsFormat order OrderFits order_at
@@ -223,7 +223,7 @@ listed_format is_listed = record {
   again = λ x rest h. rw (n2.again x rest h.0, h.1) refl;
 }
 
-abbrev make_row : ℕ → ℕ → Cmd → BankRow
+abbrev pub make_row : ℕ → ℕ → Cmd → BankRow
 make_row client n cmd = record { client = client; number = n; cmd = cmd }
 
 -- a row that fits, of a client

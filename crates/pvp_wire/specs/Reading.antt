@@ -1,5 +1,5 @@
 -- How bytes are read as a stamped envelope: which fault comes first, and what is read where none comes.
-use Rattle.std.specs.Prelude.{ℕ, zero, suc, ◌+◌, ◌==◌, ◌&&◌, ◌≡◌, ◌⊎◌, Bool, true, false, not, nat_lt, nat_le, List, [], ◌∷◌, length, take, drop, Option, Some, None, Result, Ok, Err, if◌then◌else◌}
+use Rattle.std.specs.Prelude.{ℕ, zero, suc, ◌+◌, ◌==◌, ◌&&◌, ◌||◌, ◌≡◌, ◌⊎◌, Bool, true, false, not, nat_lt, nat_le, List, [], ◌∷◌, length, take, drop, Option, Some, None, Result, Ok, Err, if◌then◌else◌}
 use Rattle.byteorder.specs.Endian.{big_number}
 use Rattle.pvp_types.specs.declared.command.Cmd.{Cmd}
 use Rattle.pvp_types.specs.declared.command.Cmd.TheVariants.{Instruct, Rescind, Fund, Settle, PayOut, Paid}
@@ -288,6 +288,14 @@ frame_at bytes = frame_where false bytes
 -- Reading this frame takes memory: no test up to the first row of a list fails.
 abbrev pub TakesMemory : List ℕ → Type 0
 TakesMemory bytes = frame_where true bytes ≡ Err NoMemory
+
+-- the kinds of messages that carry a list of rows
+abbrev pub carries_rows : ℕ → Bool
+carries_rows kind = (kind == 6) || ((kind == 7) || ((kind == 9) || (kind == 11)))
+
+-- the faults of fields
+abbrev pub IsOfField : WireFault → Type 0
+IsOfField fault = (fault ≡ Field) ⊎ (fault ≡ Length)
 
 -- ---- what a function returned
 

@@ -1,11 +1,11 @@
 //! What holds of frames and streams: functions that do nothing, whose contracts say it.
-ghost use Rattle.std.specs.Prelude.{◌≡◌, ◌≤◌, ℕ, List, ◌++◌, All, Ok, Err, length, take};
+ghost use Rattle.std.specs.Prelude.{◌≡◌, ◌≢◌, ◌≤◌, ℕ, true, slice_index, List, [], ◌++◌, All, Ok, Err, length, take};
 ghost use Rattle.std.specs.List.{flat_map};
 ghost use Rattle.pvp_wire.specs.declared.fault.WireFault.{WireFault};
 ghost use Rattle.pvp_wire.specs.declared.stamped.Stamped.{Stamped};
-ghost use Rattle.pvp_wire.specs.Spelling.{spelling};
+ghost use Rattle.pvp_wire.specs.Spelling.{spelling, rows_of};
 ghost use Rattle.pvp_wire.specs.Fits.{IsBytes, IsSpelled};
-ghost use Rattle.pvp_wire.specs.Reading.{frame_at};
+ghost use Rattle.pvp_wire.specs.Reading.{frame_at, TakesMemory, carries_rows, IsOfField};
 ghost use Rattle.pvp_wire.specs.Feeding.{Splits, Call, IsFed, AreFed, empty, all_taken, all_answered, after_calls};
 
 /// What is read is spelled so, to the byte; what has a spelling is read again from it, whatever follows; and no
@@ -15,6 +15,14 @@ pub fn frames()
         (take size bytes ≡ spelling stamped) × (size ≡ length (spelling stamped)) × (size ≤ length bytes) × IsSpelled stamped }
     ensures again { (stamped : Stamped) (rest : List ℕ) → IsSpelled stamped → frame_at (spelling stamped ++ rest) ≡ Ok (stamped, length (spelling stamped)) }
     ensures one { (a b : Stamped) (x y : List ℕ) → IsSpelled a → IsSpelled b → spelling a ++ x ≡ spelling b ++ y → (a ≡ b) × (x ≡ y) }
+{}
+
+/// Memory is taken only for frames of the four kinds that carry a list of rows. One that is read has a row then; of one
+/// that is not, a field is at fault, or the frame's length.
+pub fn memory()
+    ensures kind { (bytes : List ℕ) → TakesMemory bytes → carries_rows (slice_index bytes 5) ≡ true }
+    ensures read { (bytes : List ℕ) (stamped : Stamped) (size : ℕ) → TakesMemory bytes → frame_at bytes ≡ Ok (stamped, size) → rows_of stamped.envelope.msg ≢ [] }
+    ensures fault { (bytes : List ℕ) (fault : WireFault) → TakesMemory bytes → frame_at bytes ≡ Err fault → IsOfField fault }
 {}
 
 /// A stream that goes on with no frame is split into frames in one way alone.

@@ -1,4 +1,4 @@
-use Rattle.std.proofs.Common.{◌≤◌, length, ap, arith}
+use Rattle.std.proofs.Common.{length, ap, arith}
 use Rattle.std.proofs.lemmas.List.{length-append}
 use Rattle.pvp_wire.specs.Spelling.{body}
 use Rattle.pvp_wire.proofs.Lengths.{body-short}
