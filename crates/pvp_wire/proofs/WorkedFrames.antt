@@ -1,13 +1,13 @@
 -- Worked frames, computed with the definitions.
-use Rattle.std.proofs.Common.{◌≡◌, ℕ, List, [], ◌∷◌, ◌++◌, ◌+◌, take, drop, Ok, Err, refl}
-use Rattle.pvp_types.specs.declared.command.Cmd.TheVariants.{Fund}
+use Rattle.std.proofs.Common.{◌≡◌, ℕ, true, List, [], ◌∷◌, ◌++◌, ◌+◌, take, drop, Ok, Err, refl}
+use Rattle.pvp_types.specs.declared.command.Cmd.TheVariants.{Fund, Settle}
 use Rattle.pvp_types.specs.declared.command.Reason.TheVariants.{BankShort}
 use Rattle.pvp_types.specs.declared.command.Reply.TheVariants.{No}
-use Rattle.vr_types.specs.declared.message.MsgOf.TheVariants.{Request, Commit, Reply, PayOrder}
+use Rattle.vr_types.specs.declared.message.MsgOf.TheVariants.{Request, Commit, StartView, Reply, PayOrder}
 use Rattle.pvp_wire.specs.declared.fault.WireFault.TheVariants.{Short, TooLong, Version, Kind, Field, Length}
 use Rattle.pvp_wire.specs.declared.stamped.Stamped.{Stamped}
 use Rattle.pvp_wire.specs.Spelling.{BankMsg, spelling, number}
-use Rattle.pvp_wire.specs.Reading.{frame_where, frame_at, counted_at, envelope_at, stamp_at, message_at, request_at, command_at, order_at, answer_at, reply_at}
+use Rattle.pvp_wire.specs.Reading.{frame_where, frame_at, TakesMemory, counted_at, envelope_at, stamp_at, message_at, request_at, start_view_at, rows_at, rows_from, row_at, command_at, order_at, answer_at, reply_at}
 
 abbrev sent : ℕ → ℕ → ℕ → ℕ → BankMsg → Stamped
 sent from clock index to msg = record { stamp = record { actor = from; clock = clock; index = index }; envelope = record { from = from; to = to; msg = msg } }
@@ -72,6 +72,41 @@ answer_is_spelled = refl
 answer_is_read : frame_at answer_bytes ≡ Ok (answer, 32)
 unfolding frame_where counted_at envelope_at stamp_at message_at answer_at reply_at
 answer_is_read = refl
+
+-- STARTVIEW of view 0 with one row, a Settle of the operator
+abbrev start_view : Stamped
+start_view = sent 200 9 0 201 (StartView 0 0 (record { client = 0; number = 1; cmd = Settle 8 } ∷ []))
+
+abbrev start_view_bytes : List ℕ
+start_view_bytes = 0 ∷ 0 ∷ 0 ∷ 37 ∷ 1 ∷ 7 ∷ 0 ∷ 200 ∷ 0 ∷ 0 ∷ 0 ∷ 0 ∷ 0 ∷ 0 ∷ 0 ∷ 9 ∷ 0 ∷ 0 ∷ 0 ∷ 0 ∷ 0 ∷ 201 ∷ 0 ∷ 0 ∷ 0 ∷ 0 ∷ 0 ∷ 0 ∷ 0 ∷ 1
+    ∷ 0 ∷ 0 ∷ 0 ∷ 0 ∷ 0 ∷ 1 ∷ 4 ∷ 0 ∷ 0 ∷ 0 ∷ 8 ∷ []
+
+start_view_is_spelled : spelling start_view ≡ start_view_bytes
+unfolding number
+start_view_is_spelled = refl
+
+start_view_is_read : frame_at start_view_bytes ≡ Ok (start_view, 41)
+unfolding frame_where counted_at envelope_at stamp_at message_at start_view_at rows_at rows_from row_at command_at
+start_view_is_read = refl
+
+-- ---- memory
+
+start_view_takes_memory : TakesMemory start_view_bytes
+unfolding frame_where counted_at envelope_at stamp_at message_at start_view_at rows_at rows_from row_at command_at
+start_view_takes_memory = refl
+
+-- a second row is counted and is not there: the first takes memory before that is seen
+abbrev cut_off : List ℕ
+cut_off = take 29 start_view_bytes ++ 2 ∷ drop 30 start_view_bytes
+
+cut_off_is_refused : (frame_at cut_off ≡ Err Length) × TakesMemory cut_off
+unfolding frame_where counted_at envelope_at stamp_at message_at start_view_at rows_at rows_from row_at command_at
+cut_off_is_refused = (refl, refl)
+
+-- at another version, or without a row, nothing does
+without_memory : (frame_where true (take 4 start_view_bytes ++ 2 ∷ drop 5 start_view_bytes) ≡ Err Version) × (frame_where true commit_bytes ≡ Ok (commit, 28))
+unfolding frame_where counted_at envelope_at stamp_at message_at
+without_memory = (refl, refl)
 
 -- ---- faults
 

@@ -218,7 +218,7 @@ answer_at bytes = do
   answer ← reply_at number.1
   Ok (Reply view.0 number.0 answer.0, answer.1)
 
--- the fields of a message of this kind, 1 to 13
+-- the fields of a message of this kind; no message has another than 1 to 13
 unfoldable pub message_at : Bool → ℕ → List ℕ → Reads BankMsg
 message_at refused kind bytes =
     if kind == 1 then request_at bytes
@@ -285,7 +285,7 @@ frame_where refused bytes =
 abbrev pub frame_at : List ℕ → Result (Stamped × ℕ) WireFault
 frame_at bytes = frame_where false bytes
 
--- Reading this frame takes memory: no test up to the first row of a list fails.
+-- Reading this frame takes memory: all tests up to a list of rows are passed, and its first row is read.
 abbrev pub TakesMemory : List ℕ → Type 0
 TakesMemory bytes = frame_where true bytes ≡ Err NoMemory
 
@@ -293,7 +293,7 @@ TakesMemory bytes = frame_where true bytes ≡ Err NoMemory
 abbrev pub carries_rows : ℕ → Bool
 carries_rows kind = (kind == 6) || ((kind == 7) || ((kind == 9) || (kind == 11)))
 
--- the faults of fields
+-- what is wrong with fields: one has a value that it may not have, or they end before the frame does, or after it
 abbrev pub IsOfField : WireFault → Type 0
 IsOfField fault = (fault ≡ Field) ⊎ (fault ≡ Length)
 

@@ -1,3 +1,5 @@
+//! Why bytes are no frame.
+
 use std::alloc::AllocError;
 use std::fmt;
 
@@ -16,7 +18,7 @@ pub enum WireFault {
     Field,
     /// F6: the fields end before the frame does, or after it.
     Length,
-    /// F7: memory was refused.
+    /// F7: memory was refused, by `decode` for a row of a list.
     NoMemory,
 }
 
@@ -40,6 +42,7 @@ impl fmt::Display for WireFault {
     }
 }
 
+/// A refusal of memory is F7.
 impl From<AllocError> for WireFault {
     ghost use Rattle.std.specs.Prelude.{◌≡◌};
     ghost use Rattle.pvp_wire.specs.declared.fault.WireFault.TheVariants.{NoMemory};

@@ -1,20 +1,21 @@
 //! What holds of frames and streams: functions that do nothing, whose contracts say it.
-ghost use Rattle.std.specs.Prelude.{◌≡◌, ◌≢◌, ◌≤◌, ℕ, true, slice_index, List, [], ◌++◌, All, Ok, Err, length, take};
+ghost use Rattle.std.specs.Prelude.{◌≡◌, ◌≢◌, ◌≤◌, ◌+◌, ℕ, true, slice_index, List, [], ◌++◌, All, Ok, Err, length, take};
 ghost use Rattle.std.specs.List.{flat_map};
 ghost use Rattle.pvp_wire.specs.declared.fault.WireFault.{WireFault};
 ghost use Rattle.pvp_wire.specs.declared.stamped.Stamped.{Stamped};
-ghost use Rattle.pvp_wire.specs.Spelling.{spelling, rows_of};
+ghost use Rattle.pvp_wire.specs.Spelling.{spelling, most_body, rows_of};
 ghost use Rattle.pvp_wire.specs.Fits.{IsBytes, IsSpelled};
 ghost use Rattle.pvp_wire.specs.Reading.{frame_at, TakesMemory, carries_rows, IsOfField};
 ghost use Rattle.pvp_wire.specs.Feeding.{Splits, Call, IsFed, AreFed, empty, all_taken, all_answered, after_calls};
 
-/// What is read is spelled so, to the byte; what has a spelling is read again from it, whatever follows; and no
-/// spelling begins another.
+/// What is read is spelled so, to the byte; what has a spelling is read again from it, whatever follows; no spelling
+/// begins another, and none is longer than one with a whole log, 2,031,620 bytes.
 pub fn frames()
     ensures read { (bytes : List ℕ) (stamped : Stamped) (size : ℕ) → IsBytes bytes → frame_at bytes ≡ Ok (stamped, size) →
         (take size bytes ≡ spelling stamped) × (size ≡ length (spelling stamped)) × (size ≤ length bytes) × IsSpelled stamped }
     ensures again { (stamped : Stamped) (rest : List ℕ) → IsSpelled stamped → frame_at (spelling stamped ++ rest) ≡ Ok (stamped, length (spelling stamped)) }
     ensures one { (a b : Stamped) (x y : List ℕ) → IsSpelled a → IsSpelled b → spelling a ++ x ≡ spelling b ++ y → (a ≡ b) × (x ≡ y) }
+    ensures short { (stamped : Stamped) → IsSpelled stamped → length (spelling stamped) ≤ 22 + most_body }
 {}
 
 /// Memory is taken only for frames of the four kinds that carry a list of rows. One that is read has a row then; of one

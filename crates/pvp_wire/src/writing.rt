@@ -13,7 +13,7 @@ use std::alloc::{AllocError, Global};
 use std::io::{self, Write};
 use vr_types::{MsgOf, RowOf, RowsOf, StateOf};
 
-/// Writes the one spelling of a stamped envelope.
+/// Writes the one spelling of a stamped envelope, which has to have one: `wireable` tells.
 ///
 /// An `Err` is the writer's, or says that memory was refused; how much was written then is not said.
 pub fn encode<W: Write>(alloc: Global, stamped: &Stamped, writer: &mut W) -> io::Result<()>
