@@ -55,6 +55,13 @@ done x = Ok x
 pub ok_is : {A : Type 0} (x y : A) → done x ≡ done y → x ≡ y
 ok_is x y e = cc
 
+-- what failed, at the same fault
+abbrev pub failed : {A : Type 0} → WireFault → Result A WireFault
+failed fault = Err fault
+
+pub fault_is : {A : Type 0} (f g : WireFault) → failed {A = A} f ≡ failed {A = A} g → f ≡ g
+fault_is f g e = cc
+
 -- what a reader took from the front
 pub record Takes (bytes text rest : List ℕ) : Type 0 where
   pub parts : bytes ≡ text ++ rest

@@ -15,16 +15,14 @@ use Rattle.pvp_wire.specs.declared.fault.WireFault.TheVariants.{Short, TooLong, 
 use Rattle.pvp_wire.specs.declared.stamped.Stamped.{Stamped}
 use Rattle.pvp_wire.specs.Spelling.{BankMsg, BankRow, is_actor, rows_of, rows_of_state}
 use Rattle.pvp_wire.specs.Reading.{◌>>=◌, Reads, number_at, listed_at, instruct_at, command_at, reason_at, reply_at, order_at, row_at, rows_from, rows_at, state_at, option_at, view_and_place_at, request_at, prepare_at, do_view_change_at, start_view_at, new_state_at, recovery_response_at, answer_at, message_at, stamp_at, envelope_at, all_read, counted_at, frame_where, most_length, carries_rows, IsOfField}
-use Rattle.pvp_wire.proofs.Formats.{ok_is, reads1, reads2, reads3, reads4}
+use Rattle.pvp_wire.proofs.Formats.{failed, ok_is, fault_is, reads1, reads2, reads3, reads4}
 use Rattle.pvp_wire.proofs.Parts.{make_order, make_row}
 use Rattle.pvp_wire.proofs.MessageFormats.{make_state, make_pair}
 use Rattle.pvp_wire.proofs.Frames.{make_stamp, make_stamped, all_read-ok}
 
-abbrev failed : {A : Type 0} → WireFault → Result A WireFault
-failed fault = Err fault
-
-fault_is : {A : Type 0} (f g : WireFault) → failed {A = A} f ≡ failed {A = A} g → f ≡ g
-fault_is f g e = cc
+-- the same fault of another reading
+elsewhere : {A B : Type 0} (f g : WireFault) → failed {A = A} f ≡ failed {A = A} g → failed {A = B} f ≡ failed {A = B} g
+elsewhere {A} f g e = ap (λ (fault : WireFault). Err fault) (fault_is {A = A} f g e)
 
 not_memory : IsOfField NoMemory → ⊥
 not_memory (inl e) = absurd cc
@@ -50,7 +48,7 @@ only_if false hx hy = hy
 
 only_then : {A B : Type 0} (read : Reads A) (k : A × List ℕ → Reads B) → Only read → ((x : A × List ℕ) → Only (k x)) → Only (read >>= k)
 only_then (Ok x) k h hk = hk x
-only_then {A} {B} (Err d) k h hk = record { faults = λ fault e. h.faults fault (ap (λ (g : WireFault). failed {A = A × List ℕ} g) (fault_is {A = B × List ℕ} d fault e)) }
+only_then {A} {B} (Err d) k h hk = record { faults = λ fault e. h.faults fault (elsewhere {A = B × List ℕ} {B = A × List ℕ} d fault e) }
 
 abbrev OnlyFields : {A : Type 0} → (List ℕ → Reads A) → Type 0
 OnlyFields read = (bytes : List ℕ) → Only (read bytes)
@@ -147,20 +145,20 @@ asked_map : {A B : Type 0} {So : Type 0} {Has : A → Type 0} (HasAfter : B → 
     → Asked So HasAfter (refused >>= λ x. Ok (make x)) (read >>= λ x. Ok (make x))
 asked_map HasAfter (Ok x) read make h keeps = unasked (λ e. absurd cc)
 asked_map {A} {B} HasAfter (Err d) (Ok x) make h keeps = record {
-  kind = λ e. h.kind (ap (λ (g : WireFault). failed {A = A} g) (fault_is {A = B} d NoMemory e));
-  found = λ y e same. subst HasAfter (ok_is (make x) y same) (keeps x (h.found x (ap (λ (g : WireFault). failed {A = A} g) (fault_is {A = B} d NoMemory e)) refl));
+  kind = λ e. h.kind (elsewhere {A = B} {B = A} d NoMemory e);
+  found = λ y e same. subst HasAfter (ok_is (make x) y same) (keeps x (h.found x (elsewhere {A = B} {B = A} d NoMemory e) refl));
   fault = λ f e same. absurd cc;
 }
 asked_map {A} {B} HasAfter (Err d) (Err g) make h keeps = record {
-  kind = λ e. h.kind (ap (λ (f : WireFault). failed {A = A} f) (fault_is {A = B} d NoMemory e));
+  kind = λ e. h.kind (elsewhere {A = B} {B = A} d NoMemory e);
   found = λ y e same. absurd cc;
-  fault = λ f e same. h.fault f (ap (λ (f : WireFault). failed {A = A} f) (fault_is {A = B} d NoMemory e)) (ap (λ (f : WireFault). failed {A = A} f) (fault_is {A = B} g f same));
+  fault = λ f e same. h.fault f (elsewhere {A = B} {B = A} d NoMemory e) (elsewhere {A = B} {B = A} g f same);
 }
 
 -- something is read before
 asked_then : {A B : Type 0} {So : Type 0} {Has : B × List ℕ → Type 0} (read : Reads A) (kr k : A × List ℕ → Reads B) → Only read → ((x : A × List ℕ) → Asked So Has (kr x) (k x)) → Asked So Has (read >>= kr) (read >>= k)
 asked_then (Ok x) kr k h hk = hk x
-asked_then {A} {B} (Err d) kr k h hk = unasked (λ e. not_memory (h.faults NoMemory (ap (λ (g : WireFault). failed {A = A × List ℕ} g) (fault_is {A = B × List ℕ} d NoMemory e))))
+asked_then {A} {B} (Err d) kr k h hk = unasked (λ e. not_memory (h.faults NoMemory (elsewhere {A = B × List ℕ} {B = A × List ℕ} d NoMemory e)))
 
 abbrev AskedFor : {A : Type 0} → Type 0 → (A → Type 0) → (List ℕ → Reads A) → (List ℕ → Reads A) → Type 0
 AskedFor So Has refused read = (bytes : List ℕ) → Asked So (λ x. Has x.0) (refused bytes) (read bytes)
@@ -319,14 +317,14 @@ too_long false s fault e = inr (sym (fault_is {A = Stamped} Length fault e))
 all_asked : {So : Type 0} (refused read : Reads Stamped) → Asked So (λ x. HasIn x.0) refused read → Asked So HasIn (refused >>= all_read) (read >>= all_read)
 all_asked (Ok x) read h = unasked (unrefused (length x.1 == 0) x.0)
 all_asked (Err d) (Ok x) h = record {
-  kind = λ e. h.kind (ap (λ (g : WireFault). failed {A = Stamped × List ℕ} g) (fault_is {A = Stamped} d NoMemory e));
-  found = λ s e same. subst HasIn (all_read-ok x s same).0 (h.found x (ap (λ (g : WireFault). failed {A = Stamped × List ℕ} g) (fault_is {A = Stamped} d NoMemory e)) refl);
+  kind = λ e. h.kind (elsewhere {A = Stamped} {B = Stamped × List ℕ} d NoMemory e);
+  found = λ s e same. subst HasIn (all_read-ok x s same).0 (h.found x (elsewhere {A = Stamped} {B = Stamped × List ℕ} d NoMemory e) refl);
   fault = λ f e same. too_long (length x.1 == 0) x.0 f same;
 }
 all_asked (Err d) (Err g) h = record {
-  kind = λ e. h.kind (ap (λ (f : WireFault). failed {A = Stamped × List ℕ} f) (fault_is {A = Stamped} d NoMemory e));
+  kind = λ e. h.kind (elsewhere {A = Stamped} {B = Stamped × List ℕ} d NoMemory e);
   found = λ s e same. absurd cc;
-  fault = λ f e same. h.fault f (ap (λ (f : WireFault). failed {A = Stamped × List ℕ} f) (fault_is {A = Stamped} d NoMemory e)) (ap (λ (f : WireFault). failed {A = Stamped × List ℕ} f) (fault_is {A = Stamped} g f same));
+  fault = λ f e same. h.fault f (elsewhere {A = Stamped} {B = Stamped × List ℕ} d NoMemory e) (elsewhere {A = Stamped} {B = Stamped × List ℕ} g f same);
 }
 
 counted_asked : (bytes : List ℕ) → Asked (carries_rows (get_or bytes 1 0) ≡ true) HasIn (counted_at true bytes) (counted_at false bytes)

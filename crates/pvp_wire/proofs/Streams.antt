@@ -13,7 +13,7 @@ use Rattle.pvp_wire.specs.Spelling.{number, body, head, spelling}
 use Rattle.pvp_wire.specs.Fits.{IsBytes, IsSpelled}
 use Rattle.pvp_wire.specs.Reading.{frame_where, frame_at}
 use Rattle.pvp_wire.specs.Feeding.{Fed, IsAt, IsFed, Call, Splits, IsTold, FeedsAt, AreFed, empty, answered, all_answered, taken_by, taken_at, all_taken, after_calls}
-use Rattle.pvp_wire.proofs.Formats.{IsBytes-drop, done, ok_is}
+use Rattle.pvp_wire.proofs.Formats.{IsBytes-drop, done, ok_is, fault_is}
 use Rattle.pvp_wire.proofs.Numbers.{length-number}
 use Rattle.pvp_wire.proofs.Lengths.{length-head}
 use Rattle.pvp_wire.proofs.Frames.{frame-takes, frame-again}
@@ -145,18 +145,12 @@ unread : (held : List ℕ) (fault : Option WireFault) → IsAt held fault → (f
 unread held None h = (Short, h)
 unread held (Some fault) h = (fault, h.0)
 
-abbrev not_read : WireFault → Result (Stamped × ℕ) WireFault
-not_read fault = Err fault
-
-one_fault : (f g : WireFault) → not_read f ≡ not_read g → f ≡ g
-one_fault f g e = cc
-
 -- the bytes that are held determine the fault
 same_fault : (held : List ℕ) (a b : Option WireFault) → IsAt held a → IsAt held b → a ≡ b
 same_fault held None None ha hb = refl
-same_fault held None (Some g) ha hb = absurd (hb.1 (one_fault g Short (sym hb.0 ∙ ha)))
-same_fault held (Some f) None ha hb = absurd (ha.1 (one_fault f Short (sym ha.0 ∙ hb)))
-same_fault held (Some f) (Some g) ha hb = ap (λ (fault : WireFault). Some fault) (one_fault f g (sym ha.0 ∙ hb.0))
+same_fault held None (Some g) ha hb = absurd (hb.1 (fault_is {A = Stamped × ℕ} g Short (sym hb.0 ∙ ha)))
+same_fault held (Some f) None ha hb = absurd (ha.1 (fault_is {A = Stamped × ℕ} f Short (sym ha.0 ∙ hb)))
+same_fault held (Some f) (Some g) ha hb = ap (λ (fault : WireFault). Some fault) (fault_is {A = Stamped × ℕ} f g (sym ha.0 ∙ hb.0))
 
 abbrev fed_of : List ℕ → Option WireFault → Fed
 fed_of held fault = record { held = held; fault = fault }
