@@ -1,9 +1,10 @@
 -- Frames: what is taken is spelled so, and what is spelled so is read again, whatever follows it.
-use Rattle.std.proofs.Common.{◌≡◌, ℕ, ◌+◌, ◌<◌, ◌≤◌, ◌^◌, ◌==◌, ◌&&◌, true, false, not, nat_lt, nat_le, List, [], ◌∷◌, ◌++◌, length, take, drop, Result, Ok, Err, refl, sym, ap, subst, ◌∙◌, if◌then◌else◌, append_assoc, arith}
+use Rattle.std.proofs.Common.{◌≡◌, ℕ, Bool, ◌+◌, ◌<◌, ◌≤◌, ◌^◌, ◌==◌, ◌&&◌, true, false, not, nat_lt, nat_le, List, [], ◌∷◌, ◌++◌, length, take, drop, Result, Ok, Err, refl, sym, ap, subst, ◌∙◌, if◌then◌else◌, append_assoc, arith}
 use Rattle.std.specs.List.{list_all}
 use Rattle.std.proofs.lemmas.Bool.{ltb-false, le-ltb, le-leb, leb-true, eq-eqb, eqb-true}
-use Rattle.std.proofs.lemmas.List.{append-nil, take_at, take-append-drop, length-append, length-take}
+use Rattle.std.proofs.lemmas.List.{append-nil, length-drop, drop-append-le, take-append-le, take_at, take-append-drop, length-append, length-take}
 use Rattle.byteorder.specs.Endian.{big_number}
+use Rattle.byteorder.specs.Numbers.{big_from-append}
 use Rattle.vr_types.specs.declared.message.MsgOf.TheVariants.{Request, Prepare, PrepareOk, Commit, StartViewChange, DoViewChange, StartView, GetState, NewState, Recovery, RecoveryResponse, Reply, PayOrder}
 use Rattle.pvp_wire.specs.declared.fault.WireFault.{WireFault}
 use Rattle.pvp_wire.specs.declared.fault.WireFault.TheVariants.{Short, TooLong, Version, Kind, Length}
@@ -12,7 +13,7 @@ use Rattle.pvp_wire.specs.declared.stamped.Stamped.{Stamped}
 use Rattle.pvp_wire.specs.Spelling.{number, kind, body, stamp, head, spelling, rows_of, has_client, is_actor, most_body, BankMsg}
 use Rattle.pvp_wire.specs.Fits.{IsBytes, Fits, StampFits, IsSpelled}
 use Rattle.pvp_wire.specs.Reading.{◌>>=◌, number_at, stamp_at, envelope_at, all_read, counted_at, frame_where, frame_at, most_length}
-use Rattle.pvp_wire.proofs.Formats.{IsBytes-rest, IsBytes-drop, IsBytes-take, TakesBy, IsFormat, bind_ok, guard_ok, guarded, wanted_ok, not-false, ok_is, takes3, again3}
+use Rattle.pvp_wire.proofs.Formats.{IsBytes-rest, IsBytes-drop, IsBytes-take, TakesBy, IsFormat, bind_ok, guard_ok, guarded, wanted_ok, not-false, ok_is, fault_is, takes3, again3}
 use Rattle.pvp_wire.proofs.Numbers.{length-number}
 use Rattle.pvp_wire.proofs.Parts.{n4, n8, both, parted, listed_format}
 use Rattle.pvp_wire.proofs.MessageFormats.{IsOfKind, message_format}
@@ -216,3 +217,35 @@ frame-again s rest h =
     let t3 : nat_lt len 18 ≡ false = le-ltb len 18 (omega arith) in
     let t4 : nat_lt (length bytes) (4 + len) ≡ false = le-ltb (length bytes) (4 + len) (omega arith) in
     rw (t1, number-is, t2, t3, t4, cut, counted-again s h, size) refl
+
+-- ---- what is wrong stays so
+
+not_short : (b : Bool) (read : Result (Stamped × ℕ) WireFault) (fault : WireFault) → (if b then Err Short else read) ≡ Err fault → (fault ≡ Short → ⊥) → (b ≡ false) × (read ≡ Err fault)
+not_short true read fault e other = absurd (other (sym (fault_is {A = Stamped × ℕ} Short fault e)))
+not_short false read fault e other = (refl, e)
+
+-- behind a test
+behind : (b : Bool) (d : WireFault) (x y : Result (Stamped × ℕ) WireFault) (fault : WireFault) → (x ≡ Err fault → y ≡ Err fault) → (if b then Err d else x) ≡ Err fault → (if b then Err d else y) ≡ Err fault
+behind true d x y fault h e = e
+behind false d x y fault h e = h e
+
+-- what comes after bytes mends no fault but that they are too few
+pub frame-lasts : (x more : List ℕ) (fault : WireFault) → frame_at x ≡ Err fault → (fault ≡ Short → ⊥) → frame_at (x ++ more) ≡ Err fault
+unfolding frame_where
+frame-lasts x more fault e other =
+    let len = big_number 4 x in
+    let a = not_short (nat_lt (length x) 4) (bounded_in x len) fault e other in
+    let long : 4 ≤ length x = ltb-false (length x) 4 a.0 in
+    let number-is : big_number 4 (x ++ more) ≡ len = big_from-append 4 x more long in
+    let total : length (x ++ more) ≡ length x + length more = length-append x more in
+    let t1 : nat_lt (length (x ++ more)) 4 ≡ false = le-ltb (length (x ++ more)) 4 (omega (arith, total, long)) in
+    let inner : whole_in x len ≡ Err fault → whole_in (x ++ more) len ≡ Err fault = λ f.
+    let d = not_short (nat_lt (length x) (4 + len)) (counted_in x len) fault f other in
+    let whole : 4 + len ≤ length x = ltb-false (length x) (4 + len) d.0 in
+    let t4 : nat_lt (length (x ++ more)) (4 + len) ≡ false = le-ltb (length (x ++ more)) (4 + len) (omega (arith, total, whole)) in
+    let room : len ≤ length (drop 4 x) = omega (arith, length-drop 4 x, whole) in
+    let cut : take len (drop 4 (x ++ more)) ≡ take len (drop 4 x) = ap (take len) (drop-append-le 4 x more long) ∙ take-append-le len (drop 4 x) more room in
+    rw (t4, cut) d.1 in
+    let bounded : bounded_in (x ++ more) len ≡ Err fault =
+    behind (nat_lt most_length len) TooLong (long_in x len) (long_in (x ++ more) len) fault (behind (nat_lt len 18) Length (whole_in x len) (whole_in (x ++ more) len) fault inner) a.1 in
+    rw (t1, number-is) bounded

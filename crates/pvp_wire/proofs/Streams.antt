@@ -12,11 +12,11 @@ use Rattle.pvp_wire.specs.declared.stamped.Stamped.{Stamped}
 use Rattle.pvp_wire.specs.Spelling.{number, body, head, spelling}
 use Rattle.pvp_wire.specs.Fits.{IsBytes, IsSpelled}
 use Rattle.pvp_wire.specs.Reading.{frame_where, frame_at}
-use Rattle.pvp_wire.specs.Feeding.{Fed, IsAt, IsFed, Call, Splits, IsTold, FeedsAt, AreFed, empty, answered, all_answered, taken_by, taken_at, all_taken, after_calls}
+use Rattle.pvp_wire.specs.Feeding.{Fed, IsAt, IsFed, Call, Splits, IsTold, FeedsAt, AreFed, empty, answered, all_answered, taken_by, taken_at, all_taken, all_given, after_calls}
 use Rattle.pvp_wire.proofs.Formats.{IsBytes-drop, done, ok_is, fault_is}
 use Rattle.pvp_wire.proofs.Numbers.{length-number}
 use Rattle.pvp_wire.proofs.Lengths.{length-head}
-use Rattle.pvp_wire.proofs.Frames.{frame-takes, frame-again}
+use Rattle.pvp_wire.proofs.Frames.{frame-takes, frame-again, frame-lasts}
 
 -- a frame has bytes
 pub length-spelling : (s : Stamped) → length (spelling s) ≡ 22 + length (body s.envelope.msg)
@@ -171,3 +171,58 @@ fed_cuts a b ha hb e =
     let ub = unread (after_calls empty b).held (after_calls empty b).fault lb in
     let one = one_split (all_answered a) (all_answered b) (after_calls empty a).held (after_calls empty b).held ua.0 ub.0 sa.each sb.each (sym sa.whole ∙ e ∙ sb.whole) ua.1 ub.1 in
     (one.0, one_fed (after_calls empty a) (after_calls empty b) one.1 la lb)
+
+-- ---- pieces that are given, also after a fault
+
+record IsRest (stream : List ℕ) (done : List Stamped) (fault : Option WireFault) : Type 0 where
+  rest : List ℕ
+  splits : Splits stream done rest
+  stands : IsAt rest fault
+
+-- after a fault nothing is answered
+stuck : (fault : WireFault) (fed : Fed) (calls : List Call) → fed.fault ≡ Some fault → AreFed fed calls → (all_answered calls ≡ []) × ((after_calls fed calls).fault ≡ Some fault)
+stuck fault fed [] e h = (refl, e)
+stuck fault fed (call ∷ calls) e h =
+    let one : (call.answer ≡ Err fault) × (call.after ≡ fed) = subst (λ (f : Option WireFault). FeedsAt f fed call.piece call.answer call.after) e h.0 in
+    let others = stuck fault call.after calls (ap (λ (x : Fed). x.fault) one.1 ∙ e) h.2 in
+    (rw (one.0, others.0) refl, others.1)
+
+given_more : (stream : List ℕ) (done : List Stamped) (fed : Fed) (call : Call) (calls : List Call) → Splits stream done fed.held → IsFed fed → AreFed fed (call ∷ calls)
+    → (Splits (stream ++ taken_by call.answer call.piece) (done ++ answered call.answer) call.after.held → IsRest ((stream ++ taken_by call.answer call.piece) ++ all_given calls) ((done ++ answered call.answer) ++ all_answered calls) (after_calls call.after calls).fault)
+    → (fault : Option WireFault) → fed.fault ≡ fault → IsRest (stream ++ all_given (call ∷ calls)) (done ++ all_answered (call ∷ calls)) (after_calls call.after calls).fault
+given_more stream done fed call calls so_far before h next None e =
+    let one = fed_once stream done fed call so_far h.0 in
+    let all = next (subst (λ (f : Option WireFault). Splits (stream ++ taken_at f call.answer call.piece) (done ++ answered call.answer) call.after.held) e one) in
+    rw (← append_assoc stream (taken_by call.answer call.piece) (all_given calls), ← append_assoc done (answered call.answer) (all_answered calls)) all
+given_more stream done fed call calls so_far before h next (Some fault) e =
+    let still = stuck fault fed (call ∷ calls) e h in
+    let stands : IsAt fed.held (Some fault) = subst (IsAt fed.held) e before in
+    let given = all_given (call ∷ calls) in
+    let nothing : done ++ all_answered (call ∷ calls) ≡ done = ap (λ (x : List Stamped). done ++ x) still.0 ∙ append-nil done in
+    record {
+      rest = fed.held ++ given;
+      splits = subst (λ (x : List Stamped). Splits (stream ++ given) x (fed.held ++ given)) (sym nothing) (record {
+        whole = ap (λ (x : List ℕ). x ++ given) so_far.whole ∙ append_assoc (flat_map spelling done) fed.held given;
+        each = so_far.each;
+      });
+      stands = subst (IsAt (fed.held ++ given)) (sym still.1) (frame-lasts fed.held given fault stands.0 stands.1, stands.1, stands.2);
+    }
+
+given_from : (stream : List ℕ) (done : List Stamped) (fed : Fed) (calls : List Call) → Splits stream done fed.held → IsFed fed → AreFed fed calls
+    → IsRest (stream ++ all_given calls) (done ++ all_answered calls) (after_calls fed calls).fault
+given_from stream done fed [] so_far before h = record { rest = fed.held; splits = rw (append-nil stream, append-nil done) so_far; stands = before }
+given_from stream done fed (call ∷ calls) so_far before h =
+    given_more stream done fed call calls so_far before h (λ one. given_from (stream ++ taken_by call.answer call.piece) (done ++ answered call.answer) call.after calls one h.1 h.2) fed.fault refl
+
+given_all : (calls : List Call) → AreFed empty calls → IsRest (all_given calls) (all_answered calls) (after_calls empty calls).fault
+given_all calls h = given_from [] [] empty calls (record { whole = refl; each = All-nil IsSpelled }) empty_fed h
+
+-- the same pieces, joined, are answered the same
+pub given_cuts : (a b : List Call) → AreFed empty a → AreFed empty b → all_given a ≡ all_given b → (all_answered a ≡ all_answered b) × ((after_calls empty a).fault ≡ (after_calls empty b).fault)
+given_cuts a b ha hb e =
+    let ra = given_all a ha in
+    let rb = given_all b hb in
+    let ua = unread ra.rest (after_calls empty a).fault ra.stands in
+    let ub = unread rb.rest (after_calls empty b).fault rb.stands in
+    let one = one_split (all_answered a) (all_answered b) ra.rest rb.rest ua.0 ub.0 ra.splits.each rb.splits.each (sym ra.splits.whole ∙ e ∙ rb.splits.whole) ua.1 ub.1 in
+    (one.0, same_fault rb.rest (after_calls empty a).fault (after_calls empty b).fault (subst (λ (rest : List ℕ). IsAt rest (after_calls empty a).fault) one.1 ra.stands) rb.stands)

@@ -108,3 +108,7 @@ taken_at (Some fault) answer piece = []
 abbrev pub all_taken : Fed → List Call → List ℕ
 all_taken fed [] = []
 all_taken fed (call ∷ calls) = taken_at fed.fault call.answer call.piece ++ all_taken call.after calls
+
+-- the pieces that were given, joined: also those that came after a fault, but none for which memory was refused
+abbrev pub all_given : List Call → List ℕ
+all_given calls = flat_map (λ call. taken_by call.answer call.piece) calls

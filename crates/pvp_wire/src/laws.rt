@@ -6,7 +6,7 @@ ghost use Rattle.pvp_wire.specs.declared.stamped.Stamped.{Stamped};
 ghost use Rattle.pvp_wire.specs.Spelling.{spelling, most_body, rows_of};
 ghost use Rattle.pvp_wire.specs.Fits.{IsBytes, IsSpelled};
 ghost use Rattle.pvp_wire.specs.Reading.{frame_at, TakesMemory, carries_rows, IsOfField};
-ghost use Rattle.pvp_wire.specs.Feeding.{Splits, Call, IsFed, AreFed, empty, all_taken, all_answered, after_calls};
+ghost use Rattle.pvp_wire.specs.Feeding.{Splits, Call, IsFed, AreFed, empty, all_taken, all_given, all_answered, after_calls};
 
 /// What is read is spelled so, to the byte; what has a spelling is read again from it, whatever follows; no spelling
 /// begins another, and none is longer than one with a whole log, 2,031,620 bytes.
@@ -39,9 +39,12 @@ pub fn pieces()
     ensures left { (calls : List Call) → AreFed empty calls → IsFed (after_calls empty calls) }
 {}
 
-/// It does not matter how the pieces were cut: where those that two new feeders took are the same, joined, they answered
-/// the same frames, and hold the same bytes and the same fault.
+/// It does not matter how the pieces were cut. Where those that two new feeders were given are the same, joined, they
+/// answered the same frames and keep the same fault. Where those that they took are the same, without any that came
+/// after a fault, they hold the same bytes too. A piece for which memory was refused does not count.
 pub fn cuts()
-    ensures { (a b : List Call) → AreFed empty a → AreFed empty b → all_taken empty a ≡ all_taken empty b →
+    ensures given { (a b : List Call) → AreFed empty a → AreFed empty b → all_given a ≡ all_given b →
+        (all_answered a ≡ all_answered b) × ((after_calls empty a).fault ≡ (after_calls empty b).fault) }
+    ensures taken { (a b : List Call) → AreFed empty a → AreFed empty b → all_taken empty a ≡ all_taken empty b →
         (all_answered a ≡ all_answered b) × (after_calls empty a ≡ after_calls empty b) }
 {}
