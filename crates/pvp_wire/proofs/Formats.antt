@@ -1,25 +1,28 @@
 -- What it is for a reader to be right: what it takes is spelled so, and what is spelled so it reads again. Readers one after the other are right where each is.
-use Rattle.std.proofs.Common.{◌≡◌, ℕ, ◌+◌, ◌<◌, Bool, true, false, cond, not, List, ◌++◌, get_or, take, drop, Result, Ok, Err, refl, sym, ap, subst, ◌∙◌, append_assoc, arith, inl, inr, suc, ◌∷◌}
-use Rattle.std.proofs.lemmas.Bool.{cases_lt}
-use Rattle.std.proofs.lemmas.List.{length-take, get_or-drop, get_or-take, get_or_past}
+use Rattle.std.proofs.Common.{◌≡◌, ℕ, ◌<◌, Bool, true, false, cond, not, List, ◌++◌, get_or, take, drop, Result, Ok, Err, refl, sym, ap, subst, ◌∙◌, append_assoc, arith, [], zero, suc, ◌∷◌}
+use Rattle.std.proofs.lemmas.List.Elements.{All-cons, All-nil, All-head, All-tail, All-drop, All-take}
 use Rattle.pvp_wire.specs.declared.fault.WireFault.{WireFault}
+use Rattle.pvp_wire.specs.Fits.{IsBytes}
 use Rattle.pvp_wire.specs.Reading.{◌>>=◌, Reads}
 
-abbrev pub IsBytes : List ℕ → Type 0
-IsBytes bytes = (i : ℕ) → get_or bytes i 0 < 256
+-- a list of bytes, as it is said of each index
+pub each_byte : (bytes : List ℕ) → IsBytes bytes → (i : ℕ) → get_or bytes i 0 < 256
+each_byte [] h i = omega arith
+each_byte (b ∷ bytes) h zero = All-head (λ (b : ℕ). b < 256) b bytes h
+each_byte (b ∷ bytes) h (suc i) = each_byte bytes (All-tail (λ (b : ℕ). b < 256) b bytes h) i
+
+pub all_bytes : (bytes : List ℕ) → ((i : ℕ) → get_or bytes i 0 < 256) → IsBytes bytes
+all_bytes [] h = All-nil (λ (b : ℕ). b < 256)
+all_bytes (b ∷ bytes) h = All-cons (λ (b : ℕ). b < 256) b bytes (h 0) (all_bytes bytes (λ i. h (suc i)))
 
 pub IsBytes-rest : (b : ℕ) (bytes : List ℕ) → IsBytes (b ∷ bytes) → IsBytes bytes
-IsBytes-rest b bytes h i = h (suc i)
+IsBytes-rest b bytes h = All-tail (λ (b : ℕ). b < 256) b bytes h
 
 pub IsBytes-drop : (n : ℕ) (bytes : List ℕ) → IsBytes bytes → IsBytes (drop n bytes)
-IsBytes-drop n bytes h i = rw get_or-drop (h (n + i))
+IsBytes-drop n bytes h = All-drop (λ (b : ℕ). b < 256) n bytes h
 
 pub IsBytes-take : (n : ℕ) (bytes : List ℕ) → IsBytes bytes → IsBytes (take n bytes)
-IsBytes-take n bytes h i =
-    elim (cases_lt i n) [
-      | inl lt ↦ rw (get_or-take n bytes i 0 lt) (h i)
-      | inr le ↦ rw (get_or_past (take n bytes) i 0 (omega (arith, length-take n bytes))) (omega arith)
-    ]
+IsBytes-take n bytes h = All-take (λ (b : ℕ). b < 256) n bytes h
 
 -- the value of a step that did not fail
 pub bind_ok : {A B : Type 0} (r : Result A WireFault) (f : A → Result B WireFault) (y : B) → (r >>= f) ≡ Ok y → (x : A) × (r ≡ Ok x) × (f x ≡ Ok y)
@@ -45,11 +48,19 @@ pub not-false : (b : Bool) → not b ≡ false → b ≡ true
 not-false true e = refl
 not-false false e = absurd cc
 
-abbrev done : {A : Type 0} → A → Result A WireFault
+-- what did not fail, and is the same
+abbrev pub done : {A : Type 0} → A → Result A WireFault
 done x = Ok x
 
 pub ok_is : {A : Type 0} (x y : A) → done x ≡ done y → x ≡ y
 ok_is x y e = cc
+
+-- what failed, at the same fault
+abbrev pub failed : {A : Type 0} → WireFault → Result A WireFault
+failed fault = Err fault
+
+pub fault_is : {A : Type 0} (f g : WireFault) → failed {A = A} f ≡ failed {A = A} g → f ≡ g
+fault_is f g e = cc
 
 -- what a reader took from the front
 pub record Takes (bytes text rest : List ℕ) : Type 0 where

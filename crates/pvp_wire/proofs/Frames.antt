@@ -1,24 +1,25 @@
 -- Frames: what is taken is spelled so, and what is spelled so is read again, whatever follows it.
-use Rattle.std.proofs.Common.{◌≡◌, ℕ, suc, ◌+◌, ◌<◌, ◌≤◌, ◌^◌, ◌==◌, ◌&&◌, true, false, not, nat_lt, nat_le, List, [], ◌∷◌, ◌++◌, length, take, drop, Result, Ok, Err, refl, sym, ap, subst, ◌∙◌, if◌then◌else◌, append_assoc, arith}
+use Rattle.std.proofs.Common.{◌≡◌, ℕ, Bool, ◌+◌, ◌<◌, ◌≤◌, ◌^◌, ◌==◌, ◌&&◌, true, false, not, nat_lt, nat_le, List, [], ◌∷◌, ◌++◌, length, take, drop, Result, Ok, Err, refl, sym, ap, subst, ◌∙◌, if◌then◌else◌, append_assoc, arith}
 use Rattle.std.specs.List.{list_all}
 use Rattle.std.proofs.lemmas.Bool.{ltb-false, le-ltb, le-leb, leb-true, eq-eqb, eqb-true}
-use Rattle.std.proofs.lemmas.List.{append-nil, take_at, take-append-drop, length-append, length-take}
+use Rattle.std.proofs.lemmas.List.{append-nil, length-drop, drop-append-le, take-append-le, take_at, take-append-drop, length-append, length-take}
 use Rattle.byteorder.specs.Endian.{big_number}
+use Rattle.byteorder.specs.Numbers.{big_from-append}
 use Rattle.vr_types.specs.declared.message.MsgOf.TheVariants.{Request, Prepare, PrepareOk, Commit, StartViewChange, DoViewChange, StartView, GetState, NewState, Recovery, RecoveryResponse, Reply, PayOrder}
 use Rattle.pvp_wire.specs.declared.fault.WireFault.{WireFault}
 use Rattle.pvp_wire.specs.declared.fault.WireFault.TheVariants.{Short, TooLong, Version, Kind, Length}
 use Rattle.pvp_wire.specs.declared.stamped.Stamp.{Stamp}
 use Rattle.pvp_wire.specs.declared.stamped.Stamped.{Stamped}
-use Rattle.pvp_wire.specs.Spelling.{number, kind, body, stamp, head, spelling, rows_of, has_client, is_actor, BankMsg}
-use Rattle.pvp_wire.specs.Fits.{Fits, StampFits, IsSpelled}
-use Rattle.pvp_wire.specs.Reading.{◌>>=◌, number_at, stamp_at, envelope_at, all_read, counted_at, frame_at, most_length}
-use Rattle.pvp_wire.proofs.Formats.{IsBytes, IsBytes-drop, IsBytes-take, TakesBy, IsFormat, bind_ok, guard_ok, guarded, wanted_ok, not-false, takes3, again3}
+use Rattle.pvp_wire.specs.Spelling.{number, kind, body, stamp, head, spelling, rows_of, has_client, is_actor, most_body, BankMsg}
+use Rattle.pvp_wire.specs.Fits.{IsBytes, Fits, StampFits, IsSpelled}
+use Rattle.pvp_wire.specs.Reading.{◌>>=◌, number_at, stamp_at, envelope_at, all_read, counted_at, frame_where, frame_at, most_length}
+use Rattle.pvp_wire.proofs.Formats.{IsBytes-rest, IsBytes-drop, IsBytes-take, TakesBy, IsFormat, bind_ok, guard_ok, guarded, wanted_ok, not-false, ok_is, fault_is, takes3, again3}
 use Rattle.pvp_wire.proofs.Numbers.{length-number}
 use Rattle.pvp_wire.proofs.Parts.{n4, n8, both, parted, listed_format}
 use Rattle.pvp_wire.proofs.MessageFormats.{IsOfKind, message_format}
 use Rattle.pvp_wire.proofs.Lengths.{length-head, body-short}
 
-abbrev make_stamp : ℕ → ℕ → ℕ → Stamp
+abbrev pub make_stamp : ℕ → ℕ → ℕ → Stamp
 make_stamp actor clock index = record { actor = actor; clock = clock; index = index }
 
 abbrev IsStamp : Stamp → Type 0
@@ -31,7 +32,7 @@ stamp_format = record {
   again = λ s rest h. again3 (listed_format is_actor) n8 n4 make_stamp s.actor s.clock s.index rest (h.0.0, h.1) h.0.1 h.0.2;
 }
 
-abbrev make_stamped : Stamp → ℕ → BankMsg → Stamped
+abbrev pub make_stamped : Stamp → ℕ → BankMsg → Stamped
 make_stamped s to msg = record { stamp = s; envelope = record { from = s.actor; to = to; msg = msg } }
 
 -- what stands after the version and the kind
@@ -59,7 +60,7 @@ part s h =
     let c = parted (is_actor s.envelope.to) (list_all has_client (rows_of s.envelope.msg)) b.1 in
     record { stamp = (h.fits.0, b.0); to = (h.fits.1, c.0); msg = ((h.fits.2, c.1), refl); from = eqb-true s.envelope.from s.stamp.actor a.0 }
 
-envelope-takes : (k : ℕ) → 1 ≤ k → k ≤ 13 → TakesBy inside (Parts k) (envelope_at k)
+envelope-takes : (k : ℕ) → 1 ≤ k → k ≤ 13 → TakesBy inside (Parts k) (envelope_at false k)
 unfolding envelope_at
 envelope-takes k low high = takes3 stamp_format (listed_format is_actor) (message_format k low high) make_stamped inside (Parts k) (λ a b c. refl) (λ a b c ha hb hc. record { stamp = ha; to = hb; msg = hc; from = refl })
 
@@ -81,7 +82,7 @@ kinds (RecoveryResponse a b c) = (omega arith, omega arith)
 kinds (Reply a b c) = (omega arith, omega arith)
 kinds (PayOrder a) = (omega arith, omega arith)
 
-envelope-again : (s : Stamped) (rest : List ℕ) → IsSpelled s → envelope_at (kind s.envelope.msg) (inside s ++ rest) ≡ Ok (s, rest)
+envelope-again : (s : Stamped) (rest : List ℕ) → IsSpelled s → envelope_at false (kind s.envelope.msg) (inside s ++ rest) ≡ Ok (s, rest)
 unfolding envelope_at
 envelope-again s rest h =
     let p = part s h in
@@ -89,19 +90,13 @@ envelope-again s rest h =
     again3 stamp_format (listed_format is_actor) (message_format (kind s.envelope.msg) b.0 b.1) make_stamped s.stamp s.envelope.to s.envelope.msg rest p.stamp p.to p.msg
     ∙ ap (λ (t : Stamped). Ok (t, rest)) (rebuilt s p.from)
 
-abbrev pair_done : Stamped × ℕ → Result (Stamped × ℕ) WireFault
-pair_done x = Ok x
-
-pair_is : (x y : Stamped × ℕ) → pair_done x ≡ pair_done y → x ≡ y
-pair_is x y e = cc
-
 number-parts : (bytes : List ℕ) (n : ℕ) (rest : List ℕ) → number_at 4 bytes ≡ Ok (n, rest) → (big_number 4 bytes ≡ n) × (drop 4 bytes ≡ rest)
 number-parts bytes n rest e =
     let g = guard_ok (nat_lt (length bytes) 4) Length (big_number 4 bytes, drop 4 bytes) (n, rest) e in
     (ap (λ (p : ℕ × List ℕ). p.0) g.1, ap (λ (p : ℕ × List ℕ). p.1) g.1)
 
 -- nothing is left
-all_read-ok : (x : Stamped × List ℕ) (s : Stamped) → all_read x ≡ Ok s → (x.0 ≡ s) × (length x.1 ≡ 0)
+pub all_read-ok : (x : Stamped × List ℕ) (s : Stamped) → all_read x ≡ Ok s → (x.0 ≡ s) × (length x.1 ≡ 0)
 all_read-ok x s e =
     let g = wanted_ok (length x.1 == 0) Length x.0 s e in
     (g.1, eqb-true (length x.1) 0 g.0)
@@ -111,36 +106,36 @@ no_bytes [] e = refl
 no_bytes (b ∷ bytes) e = absurd (omega arith)
 
 -- what is read of the bytes that a length counts
-counted-takes : (bytes : List ℕ) (s : Stamped) → IsBytes bytes → counted_at bytes ≡ Ok s → (bytes ≡ head s ++ body s.envelope.msg) × IsSpelled s
+counted-takes : (bytes : List ℕ) (s : Stamped) → IsBytes bytes → counted_at false bytes ≡ Ok s → (bytes ≡ head s ++ body s.envelope.msg) × IsSpelled s
 unfolding counted_at
 counted-takes [] s fits e = absurd cc
 counted-takes (version ∷ []) s fits e = absurd cc
 counted-takes (version ∷ k ∷ bytes) s fits e =
-    let v = guarded (not (version == 1)) Version (if not (nat_le 1 k && nat_le k 13) then Err Kind else (envelope_at k bytes >>= all_read)) s e in
-    let w = guarded (not (nat_le 1 k && nat_le k 13)) Kind (envelope_at k bytes >>= all_read) s v.1 in
+    let v = guarded (not (version == 1)) Version (if not (nat_le 1 k && nat_le k 13) then Err Kind else (envelope_at false k bytes >>= all_read)) s e in
+    let w = guarded (not (nat_le 1 k && nat_le k 13)) Kind (envelope_at false k bytes >>= all_read) s v.1 in
     let version-is : version ≡ 1 = eqb-true version 1 (not-false (version == 1) v.0) in
     let bounds = parted (nat_le 1 k) (nat_le k 13) (not-false (nat_le 1 k && nat_le k 13) w.0) in
     let low : 1 ≤ k = leb-true 1 k bounds.0 in
     let high : k ≤ 13 = leb-true k 13 bounds.1 in
-    let m = bind_ok (envelope_at k bytes) all_read s w.1 in
-    let t = envelope-takes k low high bytes m.0.0 m.0.1 (λ i. fits (suc (suc i))) m.1 in
+    let m = bind_ok (envelope_at false k bytes) all_read s w.1 in
+    let t = envelope-takes k low high bytes m.0.0 m.0.1 (IsBytes-rest k bytes (IsBytes-rest version (k ∷ bytes) fits)) m.1 in
     let a = all_read-ok m.0 s m.2 in
     let text : bytes ≡ inside m.0.0 = t.0.parts ∙ ap (λ (x : List ℕ). inside m.0.0 ++ x) (no_bytes m.0.1 a.1) ∙ append-nil (inside m.0.0) in
     let whole : version ∷ k ∷ bytes ≡ head m.0.0 ++ body m.0.0.envelope.msg =
     ap (λ (n : ℕ). n ∷ k ∷ bytes) version-is ∙ ap (λ (n : ℕ). 1 ∷ n ∷ bytes) (sym t.1.msg.1) ∙ ap (λ (x : List ℕ). 1 ∷ kind m.0.0.envelope.msg ∷ x) text in
     subst (λ (x : Stamped). (version ∷ k ∷ bytes ≡ head x ++ body x.envelope.msg) × IsSpelled x) a.0 (whole, joined k m.0.0 t.1)
 
-counted-again : (s : Stamped) → IsSpelled s → counted_at (head s ++ body s.envelope.msg) ≡ Ok s
+counted-again : (s : Stamped) → IsSpelled s → counted_at false (head s ++ body s.envelope.msg) ≡ Ok s
 unfolding counted_at
 counted-again s h =
     let b = kinds s.envelope.msg in
     let known : (nat_le 1 (kind s.envelope.msg) && nat_le (kind s.envelope.msg) 13) ≡ true = both (nat_le 1 (kind s.envelope.msg)) (nat_le (kind s.envelope.msg) 13) (le-leb 1 (kind s.envelope.msg) b.0) (le-leb (kind s.envelope.msg) 13 b.1) in
-    let read : envelope_at (kind s.envelope.msg) (inside s) ≡ Ok (s, []) = ap (envelope_at (kind s.envelope.msg)) (sym (append-nil (inside s))) ∙ envelope-again s [] h in
+    let read : envelope_at false (kind s.envelope.msg) (inside s) ≡ Ok (s, []) = ap (envelope_at false (kind s.envelope.msg)) (sym (append-nil (inside s))) ∙ envelope-again s [] h in
     rw (known, read) refl
 
 -- the tests of a frame, from the last to the first
 abbrev counted_in : List ℕ → ℕ → Result (Stamped × ℕ) WireFault
-counted_in bytes len = counted_at (take len (drop 4 bytes)) >>= λ s. Ok (s, 4 + len)
+counted_in bytes len = counted_at false (take len (drop 4 bytes)) >>= λ s. Ok (s, 4 + len)
 
 abbrev whole_in : List ℕ → ℕ → Result (Stamped × ℕ) WireFault
 whole_in bytes len = if nat_lt (length bytes) (4 + len) then Err Short else counted_in bytes len
@@ -185,27 +180,27 @@ found bytes len s front long inner spelled =
     }
 
 pub frame-takes : (bytes : List ℕ) (s : Stamped) (n : ℕ) → IsBytes bytes → frame_at bytes ≡ Ok (s, n) → IsFound bytes s n
-unfolding frame_at
+unfolding frame_where
 frame-takes bytes s n fits e =
     let len = big_number 4 bytes in
     let a = guarded (nat_lt (length bytes) 4) Short (bounded_in bytes len) (s, n) e in
     let b = guarded (nat_lt most_length len) TooLong (long_in bytes len) (s, n) a.1 in
     let c = guarded (nat_lt len 18) Length (whole_in bytes len) (s, n) b.1 in
     let d = guarded (nat_lt (length bytes) (4 + len)) Short (counted_in bytes len) (s, n) c.1 in
-    let m = bind_ok (counted_at (take len (drop 4 bytes))) (λ x. Ok (x, 4 + len)) (s, n) d.1 in
+    let m = bind_ok (counted_at false (take len (drop 4 bytes))) (λ x. Ok (x, 4 + len)) (s, n) d.1 in
     let t = counted-takes (take len (drop 4 bytes)) m.0 (IsBytes-take len (drop 4 bytes) (IsBytes-drop 4 bytes fits)) m.1 in
     let f = found bytes len m.0 (first_number bytes (ltb-false (length bytes) 4 a.0) fits) (ltb-false (length bytes) (4 + len) d.0) t.0 t.1 in
-    let same = pair_is (m.0, 4 + len) (s, n) m.2 in
+    let same = ok_is (m.0, 4 + len) (s, n) m.2 in
     subst (λ (p : Stamped × ℕ). IsFound bytes p.0 p.1) same f
 
 pub frame-again : (s : Stamped) (rest : List ℕ) → IsSpelled s → frame_at (spelling s ++ rest) ≡ Ok (s, length (spelling s))
-unfolding frame_at
+unfolding frame_where
 frame-again s rest h =
     let msg = s.envelope.msg in
     let len = 18 + length (body msg) in
     let inner = head s ++ body msg in
     let bytes = spelling s ++ rest in
-    let short : length (body msg) ≤ 2228203 = body-short msg h.fits.2 in
+    let short : length (body msg) ≤ most_body = body-short msg h.fits.2 in
     let fits : len < 256 ^ 4 = omega (arith, short) in
     let inner-len : length inner ≡ len = omega (arith, length-append (head s) (body msg), length-head s) in
     let shape : bytes ≡ number 4 len ++ (inner ++ rest) =
@@ -222,3 +217,35 @@ frame-again s rest h =
     let t3 : nat_lt len 18 ≡ false = le-ltb len 18 (omega arith) in
     let t4 : nat_lt (length bytes) (4 + len) ≡ false = le-ltb (length bytes) (4 + len) (omega arith) in
     rw (t1, number-is, t2, t3, t4, cut, counted-again s h, size) refl
+
+-- ---- what is wrong stays so
+
+not_short : (b : Bool) (read : Result (Stamped × ℕ) WireFault) (fault : WireFault) → (if b then Err Short else read) ≡ Err fault → (fault ≡ Short → ⊥) → (b ≡ false) × (read ≡ Err fault)
+not_short true read fault e other = absurd (other (sym (fault_is {A = Stamped × ℕ} Short fault e)))
+not_short false read fault e other = (refl, e)
+
+-- behind a test
+behind : (b : Bool) (d : WireFault) (x y : Result (Stamped × ℕ) WireFault) (fault : WireFault) → (x ≡ Err fault → y ≡ Err fault) → (if b then Err d else x) ≡ Err fault → (if b then Err d else y) ≡ Err fault
+behind true d x y fault h e = e
+behind false d x y fault h e = h e
+
+-- what comes after bytes mends no fault but that they are too few
+pub frame-lasts : (x more : List ℕ) (fault : WireFault) → frame_at x ≡ Err fault → (fault ≡ Short → ⊥) → frame_at (x ++ more) ≡ Err fault
+unfolding frame_where
+frame-lasts x more fault e other =
+    let len = big_number 4 x in
+    let a = not_short (nat_lt (length x) 4) (bounded_in x len) fault e other in
+    let long : 4 ≤ length x = ltb-false (length x) 4 a.0 in
+    let number-is : big_number 4 (x ++ more) ≡ len = big_from-append 4 x more long in
+    let total : length (x ++ more) ≡ length x + length more = length-append x more in
+    let t1 : nat_lt (length (x ++ more)) 4 ≡ false = le-ltb (length (x ++ more)) 4 (omega (arith, total, long)) in
+    let inner : whole_in x len ≡ Err fault → whole_in (x ++ more) len ≡ Err fault = λ f.
+    let d = not_short (nat_lt (length x) (4 + len)) (counted_in x len) fault f other in
+    let whole : 4 + len ≤ length x = ltb-false (length x) (4 + len) d.0 in
+    let t4 : nat_lt (length (x ++ more)) (4 + len) ≡ false = le-ltb (length (x ++ more)) (4 + len) (omega (arith, total, whole)) in
+    let room : len ≤ length (drop 4 x) = omega (arith, length-drop 4 x, whole) in
+    let cut : take len (drop 4 (x ++ more)) ≡ take len (drop 4 x) = ap (take len) (drop-append-le 4 x more long) ∙ take-append-le len (drop 4 x) more room in
+    rw (t4, cut) d.1 in
+    let bounded : bounded_in (x ++ more) len ≡ Err fault =
+    behind (nat_lt most_length len) TooLong (long_in x len) (long_in (x ++ more) len) fault (behind (nat_lt len 18) Length (whole_in x len) (whole_in (x ++ more) len) fault inner) a.1 in
+    rw (t1, number-is) bounded

@@ -9,7 +9,7 @@ use Rattle.pvp_types.specs.declared.command.Reply.TheVariants.{Done, Matched, Se
 use Rattle.vr_types.specs.declared.message.MsgOf.TheVariants.{Request, Prepare, PrepareOk, Commit, StartViewChange, DoViewChange, StartView, GetState, NewState, Recovery, RecoveryResponse, Reply, PayOrder}
 use Rattle.vr_types.specs.declared.message.StateOf.{StateOf}
 use Rattle.pvp_wire.specs.declared.stamped.Stamped.{Stamped}
-use Rattle.pvp_wire.specs.Spelling.{number, command, reply, row, rows, state, body, head, stamp, BankMsg, BankRow}
+use Rattle.pvp_wire.specs.Spelling.{number, command, reply, row, rows, state, body, head, stamp, most_command, most_row, most_rows, most_body, BankMsg, BankRow}
 use Rattle.pvp_wire.specs.Fits.{MessageFits, StateFits}
 use Rattle.pvp_wire.proofs.Numbers.{length-number}
 
@@ -20,7 +20,7 @@ two a b m n ha hb = omega (arith, length-append a b)
 num : (n x : ℕ) → length (number n x) ≤ n
 num n x = omega (arith, length-number n x)
 
-command-short : (cmd : Cmd) → length (command cmd) ≤ 28
+command-short : (cmd : Cmd) → length (command cmd) ≤ most_command
 command-short (Instruct a b c d e f) =
     let h = two _ _ _ _ (two _ _ _ _ (two _ _ _ _ (two _ _ _ _ (two _ _ _ _ (num 4 a) (num 2 b)) (num 1 c)) (num 8 d)) (num 1 e)) (num 8 f) in
     omega (arith, h)
@@ -37,24 +37,24 @@ reply-short (Settled a) = omega (arith, num 4 a)
 reply-short (Order a) = omega (arith, num 4 a)
 reply-short (No why) = omega arith
 
-row-short : (r : BankRow) → length (row r) ≤ 34
+row-short : (r : BankRow) → length (row r) ≤ most_row
 row-short r = omega (arith, two _ _ _ _ (two _ _ _ _ (num 2 r.client) (num 4 r.number)) (command-short r.cmd))
 
-each-short : (log : List BankRow) → length (flat_map row log) ≤ 34 * length log
+each-short : (log : List BankRow) → length (flat_map row log) ≤ most_row * length log
 each-short [] = omega arith
 each-short (r ∷ log) = omega (arith, length-append (row r) (flat_map row log), row-short r, each-short log)
 
-rows-short : (log : List BankRow) → length log < 65536 → length (rows log) ≤ 2228192
+rows-short : (log : List BankRow) → length log < 65536 → length (rows log) ≤ most_rows
 rows-short log few = omega (arith, two _ _ _ _ (num 2 (length log)) (each-short log))
 
-state-short : (s : Option (StateOf Cmd)) → StateFits s → length (state s) ≤ 2228195
+state-short : (s : Option (StateOf Cmd)) → StateFits s → length (state s) ≤ 3 + most_rows
 state-short None h = omega arith
 state-short (Some s) h =
     let few : length s.rows < 65536 = h.1.0 in
     omega (arith, two _ _ _ _ (num 2 s.done) (rows-short s.rows few))
 
 -- a message that fits takes less than a frame may
-pub body-short : (m : BankMsg) → MessageFits m → length (body m) ≤ 2228203
+pub body-short : (m : BankMsg) → MessageFits m → length (body m) ≤ most_body
 body-short (Request a b) h = omega (arith, two _ _ _ _ (num 4 a) (command-short b))
 body-short (Prepare a b c d) h = omega (arith, two _ _ _ _ (two _ _ _ _ (two _ _ _ _ (num 4 a) (num 2 b)) (num 2 c)) (row-short d))
 body-short (PrepareOk a b) h = omega (arith, two _ _ _ _ (num 4 a) (num 2 b))

@@ -5,5 +5,6 @@ pub mod Parts
 pub mod MessageFormats
 pub mod Lengths
 pub mod Frames
+pub mod Refusals
 pub mod Streams
 pub mod WorkedFrames

@@ -1,5 +1,5 @@
 -- Messages: what is taken is spelled so, and what is spelled so is read again.
-use Rattle.std.proofs.Common.{◌≡◌, ℕ, zero, suc, ◌<◌, ◌≤◌, ◌==◌, true, List, [], ◌∷◌, ◌++◌, drop, Option, Some, None, Ok, refl, sym, subst, if◌then◌else◌, arith}
+use Rattle.std.proofs.Common.{◌≡◌, ℕ, zero, suc, ◌<◌, ◌≤◌, ◌==◌, true, false, List, [], ◌∷◌, ◌++◌, drop, Option, Some, None, Ok, refl, sym, subst, if◌then◌else◌, arith}
 use Rattle.std.specs.List.{list_all}
 use Rattle.pvp_types.specs.declared.command.Cmd.{Cmd}
 use Rattle.vr_types.specs.declared.message.MsgOf.TheVariants.{Request, Prepare, PrepareOk, Commit, StartViewChange, DoViewChange, StartView, GetState, NewState, Recovery, RecoveryResponse, Reply, PayOrder}
@@ -12,7 +12,7 @@ use Rattle.pvp_wire.proofs.Parts.{off, tagged, refused, never, n2, n4, both, par
 
 -- ---- the state of a view
 
-abbrev make_state : ℕ → List BankRow → StateOf Cmd
+abbrev pub make_state : ℕ → List BankRow → StateOf Cmd
 make_state k log = record { done = k; rows = log }
 
 -- a state that fits, its rows of clients
@@ -22,27 +22,24 @@ IsState s = StateFits s × (list_all has_client (rows_of_state s) ≡ true)
 abbrev spelled_state : StateOf Cmd → List ℕ
 spelled_state s = drop 1 (state (Some s))
 
-state-takes : TakesBy spelled_state (λ s. IsState (Some s)) state_at
+state-takes : TakesBy spelled_state (λ s. IsState (Some s)) (state_at false)
 unfolding state_at
 state-takes = takes2 n2 rows_format make_state spelled_state (λ s. IsState (Some s)) (λ a b. refl) (λ a b ha hb. ((ha, hb.0), hb.1))
 
-state-again : (s : StateOf Cmd) (rest : List ℕ) → IsState (Some s) → state_at (spelled_state s ++ rest) ≡ Ok (s, rest)
+state-again : (s : StateOf Cmd) (rest : List ℕ) → IsState (Some s) → state_at false (spelled_state s ++ rest) ≡ Ok (s, rest)
 unfolding state_at
 state-again s rest h = again2 n2 rows_format make_state s.done s.rows rest h.0.0 (h.0.1, h.1)
 
-state_format : IsFormat spelled_state (λ s. IsState (Some s)) state_at
+state_format : IsFormat spelled_state (λ s. IsState (Some s)) (state_at false)
 state_format = record { takes = state-takes; again = state-again }
 
-some-takes : TakesBy (λ (o : Option (StateOf Cmd)). drop 1 (state o)) (λ o. IsState o × (state o ≡ 1 ∷ drop 1 (state o))) (λ bytes. state_at bytes >>= λ s. Ok (Some s.0, s.1))
+some-takes : TakesBy (λ (o : Option (StateOf Cmd)). drop 1 (state o)) (λ o. IsState o × (state o ≡ 1 ∷ drop 1 (state o))) (λ bytes. state_at false bytes >>= λ s. Ok (Some s.0, s.1))
 some-takes = takes1 state_format Some (λ o. drop 1 (state o)) (λ o. IsState o × (state o ≡ 1 ∷ drop 1 (state o))) (λ a. refl) (λ a ha. (ha, refl))
-
-abbrev bare_state : Option (StateOf Cmd) × List ℕ → Reads (Option (StateOf Cmd))
-bare_state x = Ok x
 
 never2 : {A : Type 0} (a b : Reads A) (flag : ℕ) (x : A × List ℕ) → 1 < flag → (if flag == 0 then a else if flag == 1 then b else refused) ≡ Ok x → ⊥
 never2 a b flag x above e = never x (rw (off flag 0 (omega arith), off flag 1 (omega arith)) at e)
 
-option-takes : TakesBy state IsState option_at
+option-takes : TakesBy state IsState (option_at false)
 unfolding option_at
 option-takes [] o rest fits e = absurd cc
 option-takes (zero ∷ bytes) o rest fits e =
@@ -52,12 +49,12 @@ option-takes (suc zero ∷ bytes) o rest fits e =
     (subst (λ (x : List ℕ). Takes (1 ∷ bytes) x rest) (sym t.1.1) (tagged 1 bytes (drop 1 (state o)) rest t.0), t.1.0)
 option-takes (suc (suc flag) ∷ bytes) o rest fits e = absurd (never2 _ _ (suc (suc flag)) (o, rest) (omega arith) e)
 
-option-again : (o : Option (StateOf Cmd)) (rest : List ℕ) → IsState o → option_at (state o ++ rest) ≡ Ok (o, rest)
+option-again : (o : Option (StateOf Cmd)) (rest : List ℕ) → IsState o → option_at false (state o ++ rest) ≡ Ok (o, rest)
 unfolding option_at
 option-again None rest h = refl
 option-again (Some s) rest h = again1 state_format Some s rest h
 
-option_format : IsFormat state IsState option_at
+option_format : IsFormat state IsState (option_at false)
 option_format = record { takes = option-takes; again = option-again }
 
 -- ---- messages
@@ -69,7 +66,7 @@ pair_text p = number 4 p.0 ++ number 2 p.1
 abbrev PairFits : ℕ × ℕ → Type 0
 PairFits p = Fits 4 p.0 × Fits 2 p.1
 
-abbrev make_pair : ℕ → ℕ → ℕ × ℕ
+abbrev pub make_pair : ℕ → ℕ → ℕ × ℕ
 make_pair a b = (a, b)
 
 pair_format : IsFormat pair_text PairFits view_and_place_at
@@ -94,19 +91,19 @@ request-takes : TakesBy body (IsOfKind 1) request_at
 unfolding request_at
 request-takes = takes2 n4 command_format Request body (IsOfKind 1) (λ a b. refl) (λ a b ha hb. (((ha, hb), refl), refl))
 
-do_view_change-takes : TakesBy body (IsOfKind 6) do_view_change_at
+do_view_change-takes : TakesBy body (IsOfKind 6) (do_view_change_at false)
 unfolding do_view_change_at
 do_view_change-takes = takes4 n4 n4 n2 rows_format DoViewChange body (IsOfKind 6) (λ a b c d. refl) (λ a b c d ha hb hc hd. (((ha, hb, hc, hd.0), hd.1), refl))
 
-start_view-takes : TakesBy body (IsOfKind 7) start_view_at
+start_view-takes : TakesBy body (IsOfKind 7) (start_view_at false)
 unfolding start_view_at
 start_view-takes = takes3 n4 n2 rows_format StartView body (IsOfKind 7) (λ a b c. refl) (λ a b c ha hb hc. (((ha, hb, hc.0), hc.1), refl))
 
-new_state-takes : TakesBy body (IsOfKind 9) new_state_at
+new_state-takes : TakesBy body (IsOfKind 9) (new_state_at false)
 unfolding new_state_at
 new_state-takes = takes4 n4 n2 n2 rows_format NewState body (IsOfKind 9) (λ a b c d. refl) (λ a b c d ha hb hc hd. (((ha, hb, hc, hd.0), hd.1), refl))
 
-recovery_response-takes : TakesBy body (IsOfKind 11) recovery_response_at
+recovery_response-takes : TakesBy body (IsOfKind 11) (recovery_response_at false)
 unfolding recovery_response_at
 recovery_response-takes = takes3 n4 n4 option_format RecoveryResponse body (IsOfKind 11) (λ a b c. refl) (λ a b c ha hb hc. (((ha, hb, hc.0), hc.1), refl))
 
@@ -132,7 +129,7 @@ recovery-takes = takes1 n4 Recovery body (IsOfKind 10) (λ a. refl) (λ a h. ((h
 pay_order-takes : TakesBy body (IsOfKind 13) (λ bytes. order_at bytes >>= λ due. Ok (PayOrder due.0, due.1))
 pay_order-takes = takes1 order_format PayOrder body (IsOfKind 13) (λ a. refl) (λ a h. ((h, refl), refl))
 
-message-takes : (k : ℕ) → 1 ≤ k → k ≤ 13 → TakesBy body (IsOfKind k) (message_at k)
+message-takes : (k : ℕ) → 1 ≤ k → k ≤ 13 → TakesBy body (IsOfKind k) (message_at false k)
 unfolding message_at
 message-takes zero low high bytes m rest fits e = absurd (omega arith)
 message-takes (suc zero) low high bytes m rest fits e = request-takes bytes m rest fits e
@@ -150,7 +147,7 @@ message-takes (suc (suc (suc (suc (suc (suc (suc (suc (suc (suc (suc (suc zero))
 message-takes (suc (suc (suc (suc (suc (suc (suc (suc (suc (suc (suc (suc (suc zero))))))))))))) low high bytes m rest fits e = pay_order-takes bytes m rest fits e
 message-takes (suc (suc (suc (suc (suc (suc (suc (suc (suc (suc (suc (suc (suc (suc n)))))))))))))) low high bytes m rest fits e = absurd (omega arith)
 
-message-again : (m : BankMsg) (rest : List ℕ) → IsMessage m → message_at (kind m) (body m ++ rest) ≡ Ok (m, rest)
+message-again : (m : BankMsg) (rest : List ℕ) → IsMessage m → message_at false (kind m) (body m ++ rest) ≡ Ok (m, rest)
 unfolding message_at request_at prepare_at do_view_change_at start_view_at new_state_at recovery_response_at answer_at
 message-again (Request a b) rest h = again2 n4 command_format Request a b rest h.0.0 h.0.1
 message-again (Prepare a b c d) rest h = again4 n4 n2 n2 row_format Prepare a b c d rest h.0.0 h.0.1 h.0.2 (h.0.3, (parted (has_client d) true h.1).0)
@@ -166,8 +163,8 @@ message-again (RecoveryResponse a b c) rest h = again3 n4 n4 option_format Recov
 message-again (Reply a b c) rest h = again3 n4 n4 reply_format Reply a b c rest h.0.0 h.0.1 h.0.2
 message-again (PayOrder a) rest h = again1 order_format PayOrder a rest h.0
 
-pub message_format : (k : ℕ) → 1 ≤ k → k ≤ 13 → IsFormat body (IsOfKind k) (message_at k)
+pub message_format : (k : ℕ) → 1 ≤ k → k ≤ 13 → IsFormat body (IsOfKind k) (message_at false k)
 message_format k low high = record {
   takes = message-takes k low high;
-  again = λ m rest h. subst (λ (j : ℕ). message_at j (body m ++ rest) ≡ Ok (m, rest)) h.1 (message-again m rest h.0);
+  again = λ m rest h. subst (λ (j : ℕ). message_at false j (body m ++ rest) ≡ Ok (m, rest)) h.1 (message-again m rest h.0);
 }

@@ -15,9 +15,9 @@ use Rattle.pvp_types.specs.declared.command.Reply.TheVariants.{Done, Matched, Se
 use Rattle.vr_types.specs.Group.{is_client}
 use Rattle.pvp_wire.specs.declared.fault.WireFault.TheVariants.{Field}
 use Rattle.pvp_wire.specs.Spelling.{number, command, reply, reason_number, order, row, rows, BankRow, has_client}
-use Rattle.pvp_wire.specs.Fits.{Fits, CommandFits, ReplyFits, OrderFits, RowFits, EachFits, RowsFit}
+use Rattle.pvp_wire.specs.Fits.{IsBytes, Fits, CommandFits, ReplyFits, OrderFits, RowFits, EachFits, RowsFit}
 use Rattle.pvp_wire.specs.Reading.{◌>>=◌, Reads, number_at, listed_at, instruct_at, fund_at, pay_out_at, paid_at, command_at, reason_at, reply_at, order_at, row_at, rows_from, rows_at}
-use Rattle.pvp_wire.proofs.Formats.{IsBytes, IsBytes-rest, Takes, Takes-then, TakesBy, IsFormat, bind_ok, wanted_ok, ok_is, takes1, takes2, takes3, takes4, takes6, again1, again2, again3, again4, again6}
+use Rattle.pvp_wire.proofs.Formats.{IsBytes-rest, Takes, Takes-then, TakesBy, IsFormat, bind_ok, wanted_ok, done, ok_is, takes1, takes2, takes3, takes4, takes6, again1, again2, again3, again4, again6}
 use Rattle.pvp_wire.proofs.Numbers.{number_format}
 
 -- a tag in front
@@ -111,10 +111,7 @@ command_format = record { takes = command-takes; again = command-again }
 
 -- ---- answers
 
-abbrev given : Reason × List ℕ → Reads Reason
-given x = Ok x
-
-one_reason : (n : ℕ) (bytes : List ℕ) (known why : Reason) (rest : List ℕ) → IsBytes (n ∷ bytes) → reason_number known ≡ n → given (known, bytes) ≡ Ok (why, rest)
+one_reason : (n : ℕ) (bytes : List ℕ) (known why : Reason) (rest : List ℕ) → IsBytes (n ∷ bytes) → reason_number known ≡ n → done {A = Reason × List ℕ} (known, bytes) ≡ Ok (why, rest)
     → Takes (n ∷ bytes) (reason_number why ∷ []) rest × Unit {0}
 one_reason n bytes known why rest fits numbered e =
     let same = ok_is (known, bytes) (why, rest) e in
@@ -166,11 +163,8 @@ record IsAnswer (tag : ℕ) (r : replies.Reply) : Type 0 where
 answered : (tag : ℕ) (bytes : List ℕ) (r : replies.Reply) (rest : List ℕ) → Takes bytes (answer_fields r) rest × IsAnswer tag r → Takes (tag ∷ bytes) (reply r) rest × ReplyFits r
 answered tag bytes r rest t = (subst (λ (x : List ℕ). Takes (tag ∷ bytes) x rest) (sym t.1.text) (tagged tag bytes (answer_fields r) rest t.0), t.1.fits)
 
-abbrev bare_answer : replies.Reply × List ℕ → Reads replies.Reply
-bare_answer x = Ok x
-
 -- an answer without fields
-bare : (tag : ℕ) (bytes : List ℕ) (known r : replies.Reply) (rest : List ℕ) → IsBytes (tag ∷ bytes) → reply known ≡ tag ∷ [] → ReplyFits known → bare_answer (known, bytes) ≡ Ok (r, rest)
+bare : (tag : ℕ) (bytes : List ℕ) (known r : replies.Reply) (rest : List ℕ) → IsBytes (tag ∷ bytes) → reply known ≡ tag ∷ [] → ReplyFits known → done {A = replies.Reply × List ℕ} (known, bytes) ≡ Ok (r, rest)
     → Takes (tag ∷ bytes) (reply r) rest × ReplyFits r
 bare tag bytes known r rest fits text h e =
     subst (λ (p : replies.Reply × List ℕ). Takes (tag ∷ bytes) (reply p.0) p.1 × ReplyFits p.0) (ok_is (known, bytes) (r, rest) e) (record { parts = rw text refl; rest_fits = IsBytes-rest tag bytes fits }, h)
@@ -208,7 +202,7 @@ reply_format = record { takes = reply-takes; again = reply-again }
 
 -- ---- orders and rows
 
-abbrev make_order : ℕ → ℕ → ℕ → ℕ → orders.PayOrder
+abbrev pub make_order : ℕ → ℕ → ℕ → ℕ → orders.PayOrder
 make_order ccy out member amt = record { ccy = ccy; out = out; member = member; amt = amt }
 
 pub order_format : IsFormat order OrderFits order_at
@@ -229,7 +223,7 @@ listed_format is_listed = record {
   again = λ x rest h. rw (n2.again x rest h.0, h.1) refl;
 }
 
-abbrev make_row : ℕ → ℕ → Cmd → BankRow
+abbrev pub make_row : ℕ → ℕ → Cmd → BankRow
 make_row client n cmd = record { client = client; number = n; cmd = cmd }
 
 -- a row that fits, of a client
@@ -255,20 +249,20 @@ parted false b h = absurd cc
 abbrev pub AreRows : List BankRow → Type 0
 AreRows log = EachFits log × (list_all has_client log ≡ true)
 
-more-takes : (count : ℕ) (bytes : List ℕ) (log : List BankRow) (rest : List ℕ) → IsBytes bytes → rows_from count bytes ≡ Ok (log, rest) → Takes bytes (flat_map row log) rest × (AreRows log × (length log ≡ count))
+more-takes : (count : ℕ) (bytes : List ℕ) (log : List BankRow) (rest : List ℕ) → IsBytes bytes → rows_from false count bytes ≡ Ok (log, rest) → Takes bytes (flat_map row log) rest × (AreRows log × (length log ≡ count))
 unfolding rows_from
 more-takes zero bytes log rest fits e =
     subst (λ (p : List BankRow × List ℕ). Takes bytes (flat_map row p.0) p.1 × (AreRows p.0 × (length p.0 ≡ 0))) (ok_is ([], bytes) (log, rest) e) (record { parts = refl; rest_fits = fits }, ((tt, refl), refl))
 more-takes (suc count) bytes log rest fits e =
-    let m = bind_ok (row_at bytes) (λ r. rows_from count r.1 >>= λ others. Ok (r.0 ∷ others.0, others.1)) (log, rest) e in
+    let m = bind_ok (row_at bytes) (λ r. rows_from false count r.1 >>= λ others. Ok (r.0 ∷ others.0, others.1)) (log, rest) e in
     let t = row_format.takes bytes m.0.0 m.0.1 fits m.1 in
-    let o = bind_ok (rows_from count m.0.1) (λ others. Ok (m.0.0 ∷ others.0, others.1)) (log, rest) m.2 in
+    let o = bind_ok (rows_from false count m.0.1) (λ others. Ok (m.0.0 ∷ others.0, others.1)) (log, rest) m.2 in
     let u = more-takes count m.0.1 o.0.0 o.0.1 t.0.rest_fits o.1 in
     let whole = Takes-then bytes (row m.0.0) m.0.1 (flat_map row o.0.0) o.0.1 t.0 u.0 in
     subst (λ (p : List BankRow × List ℕ). Takes bytes (flat_map row p.0) p.1 × (AreRows p.0 × (length p.0 ≡ suc count))) (ok_is (m.0.0 ∷ o.0.0, o.0.1) (log, rest) o.2)
     (whole, (((t.1.0, u.1.0.0), both (has_client m.0.0) (list_all has_client o.0.0) t.1.1 u.1.0.1), ap suc u.1.1))
 
-more-again : (log : List BankRow) (rest : List ℕ) → AreRows log → rows_from (length log) (flat_map row log ++ rest) ≡ Ok (log, rest)
+more-again : (log : List BankRow) (rest : List ℕ) → AreRows log → rows_from false (length log) (flat_map row log ++ rest) ≡ Ok (log, rest)
 unfolding rows_from
 more-again [] rest h = refl
 more-again (r ∷ log) rest h =
@@ -279,11 +273,11 @@ more-again (r ∷ log) rest h =
 abbrev pub IsLog : List BankRow → Type 0
 IsLog log = RowsFit log × (list_all has_client log ≡ true)
 
-pub rows_format : IsFormat rows IsLog rows_at
+pub rows_format : IsFormat rows IsLog (rows_at false)
 unfolding rows_at
 rows_format = record {
   takes = λ bytes log rest fits e.
-      let m = bind_ok (number_at 2 bytes) (λ count. rows_from count.0 count.1) (log, rest) e in
+      let m = bind_ok (number_at 2 bytes) (λ count. rows_from false count.0 count.1) (log, rest) e in
       let t = n2.takes bytes m.0.0 m.0.1 fits m.1 in
       let u = more-takes m.0.0 m.0.1 log rest t.0.rest_fits m.2 in
       let whole = Takes-then bytes (number 2 m.0.0) m.0.1 (flat_map row log) rest t.0 u.0 in

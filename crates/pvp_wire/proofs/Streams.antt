@@ -1,5 +1,5 @@
 -- Frames one after the other at the front of a stream.
-use Rattle.std.proofs.Common.{◌≡◌, ◌⊎◌, inl, inr, ℕ, ◌+◌, ◌-◌, ◌<◌, ◌≤◌, List, [], ◌∷◌, ◌++◌, length, take, drop, Option, Some, None, Result, Ok, Err, refl, sym, ap, ◌∙◌, append_assoc, arith}
+use Rattle.std.proofs.Common.{◌≡◌, ◌⊎◌, inl, inr, ℕ, ◌+◌, ◌-◌, ◌<◌, ◌≤◌, List, [], ◌∷◌, ◌++◌, length, take, drop, Option, Some, None, Result, Ok, Err, refl, sym, ap, subst, ◌∙◌, append_assoc, arith}
 use Rattle.std.specs.Prelude.{All}
 use Rattle.std.specs.List.{flat_map}
 use Rattle.std.proofs.lemmas.Grind.{flat_map-append}
@@ -11,12 +11,12 @@ use Rattle.pvp_wire.specs.declared.fault.WireFault.TheVariants.{Short, TooLong, 
 use Rattle.pvp_wire.specs.declared.stamped.Stamped.{Stamped}
 use Rattle.pvp_wire.specs.Spelling.{number, body, head, spelling}
 use Rattle.pvp_wire.specs.Fits.{IsBytes, IsSpelled}
-use Rattle.pvp_wire.specs.Reading.{frame_at}
-use Rattle.pvp_wire.specs.Feeding.{Fed, Call, Splits, IsTold, FeedsAt, AreFed, empty, answered, all_answered, taken_by, taken_at, all_taken, after_calls}
-use Rattle.pvp_wire.proofs.Formats.{IsBytes-drop}
+use Rattle.pvp_wire.specs.Reading.{frame_where, frame_at}
+use Rattle.pvp_wire.specs.Feeding.{Fed, IsAt, IsFed, Call, Splits, IsTold, FeedsAt, AreFed, empty, answered, all_answered, taken_by, taken_at, all_taken, all_given, after_calls}
+use Rattle.pvp_wire.proofs.Formats.{IsBytes-drop, done, ok_is, fault_is}
 use Rattle.pvp_wire.proofs.Numbers.{length-number}
 use Rattle.pvp_wire.proofs.Lengths.{length-head}
-use Rattle.pvp_wire.proofs.Frames.{frame-takes, frame-again}
+use Rattle.pvp_wire.proofs.Frames.{frame-takes, frame-again, frame-lasts}
 
 -- a frame has bytes
 pub length-spelling : (s : Stamped) → length (spelling s) ≡ 22 + length (body s.envelope.msg)
@@ -48,16 +48,10 @@ takes_one bytes frames used s size fits inside splits cut =
       };
     }
 
-abbrev read_as : Stamped × ℕ → Result (Stamped × ℕ) WireFault
-read_as x = Ok x
-
-read_is : (x y : Stamped × ℕ) → read_as x ≡ read_as y → x ≡ y
-read_is x y e = cc
-
 -- no spelling begins another
 pub one_frame : (a b : Stamped) (x y : List ℕ) → IsSpelled a → IsSpelled b → spelling a ++ x ≡ spelling b ++ y → (a ≡ b) × (x ≡ y)
 one_frame a b x y ha hb e =
-    let both = read_is (a, length (spelling a)) (b, length (spelling b)) (sym (frame-again a x ha) ∙ ap frame_at e ∙ frame-again b y hb) in
+    let both = ok_is (a, length (spelling a)) (b, length (spelling b)) (sym (frame-again a x ha) ∙ ap frame_at e ∙ frame-again b y hb) in
     let same : a ≡ b = ap (λ (p : Stamped × ℕ). p.0) both in
     let size : length (spelling b) ≡ length (spelling a) = ap (λ (p : Stamped × ℕ). p.1) (sym both) in
     (same, sym (drop_at (spelling a) x (length (spelling a)) refl) ∙ ap (drop (length (spelling a))) e ∙ drop_at (spelling b) y (length (spelling a)) size)
@@ -65,7 +59,7 @@ one_frame a b x y ha hb e =
 -- bytes without a frame in front begin with no spelling
 no_frame : (s : Stamped) (more rest : List ℕ) (fault : WireFault) → IsSpelled s → rest ≡ spelling s ++ more → frame_at rest ≡ Err fault → ⊥
 no_frame s more rest fault h e failed =
-    let both : read_as (s, length (spelling s)) ≡ Err fault = sym (frame-again s more h) ∙ ap frame_at (sym e) ∙ failed in
+    let both : done {A = Stamped × ℕ} (s, length (spelling s)) ≡ Err fault = sym (frame-again s more h) ∙ ap frame_at (sym e) ∙ failed in
     absurd cc
 
 -- a stream is split in one way
@@ -126,8 +120,109 @@ pub fed_all : (stream : List ℕ) (done : List Stamped) (fed : Fed) (calls : Lis
 fed_all stream done fed [] so_far h = rw (append-nil stream, append-nil done) so_far
 fed_all stream done fed (call ∷ calls) so_far h =
     let one = fed_once stream done fed call so_far h.0 in
-    let all = fed_all (stream ++ taken_at fed.fault call.answer call.piece) (done ++ answered call.answer) call.after calls one h.1 in
+    let all = fed_all (stream ++ taken_at fed.fault call.answer call.piece) (done ++ answered call.answer) call.after calls one h.2 in
     rw (← append_assoc stream (taken_at fed.fault call.answer call.piece) (all_taken call.after calls), ← append_assoc done (answered call.answer) (all_answered calls)) all
 
 pub fed_pieces : (calls : List Call) → AreFed empty calls → Splits (all_taken empty calls) (all_answered calls) (after_calls empty calls).held
 fed_pieces calls h = fed_all [] [] empty calls (record { whole = refl; each = All-nil IsSpelled }) h
+
+-- ---- what is left
+
+empty_fed : IsFed empty
+unfolding frame_where
+empty_fed = refl
+
+left : (fed : Fed) (calls : List Call) → IsFed fed → AreFed fed calls → IsFed (after_calls fed calls)
+left fed [] before h = before
+left fed (call ∷ calls) before h = left call.after calls h.1 h.2
+
+-- after any calls of a new feeder no whole frame is left, or a fault stands there
+pub fed_left : (calls : List Call) → AreFed empty calls → IsFed (after_calls empty calls)
+fed_left calls h = left empty calls empty_fed h
+
+-- so what is left is not read
+unread : (held : List ℕ) (fault : Option WireFault) → IsAt held fault → (f : WireFault) × (frame_at held ≡ Err f)
+unread held None h = (Short, h)
+unread held (Some fault) h = (fault, h.0)
+
+-- the bytes that are held determine the fault
+same_fault : (held : List ℕ) (a b : Option WireFault) → IsAt held a → IsAt held b → a ≡ b
+same_fault held None None ha hb = refl
+same_fault held None (Some g) ha hb = absurd (hb.1 (fault_is {A = Stamped × ℕ} g Short (sym hb.0 ∙ ha)))
+same_fault held (Some f) None ha hb = absurd (ha.1 (fault_is {A = Stamped × ℕ} f Short (sym ha.0 ∙ hb)))
+same_fault held (Some f) (Some g) ha hb = ap (λ (fault : WireFault). Some fault) (fault_is {A = Stamped × ℕ} f g (sym ha.0 ∙ hb.0))
+
+abbrev fed_of : List ℕ → Option WireFault → Fed
+fed_of held fault = record { held = held; fault = fault }
+
+one_fed : (a b : Fed) → a.held ≡ b.held → IsFed a → IsFed b → a ≡ b
+one_fed a b e ha hb =
+    let fault-is : a.fault ≡ b.fault = same_fault b.held a.fault b.fault (subst (λ (held : List ℕ). IsAt held a.fault) e ha) hb in
+    ap (λ (held : List ℕ). fed_of held a.fault) e ∙ ap (fed_of b.held) fault-is
+
+-- pieces that are the same, joined, give the same
+pub fed_cuts : (a b : List Call) → AreFed empty a → AreFed empty b → all_taken empty a ≡ all_taken empty b → (all_answered a ≡ all_answered b) × (after_calls empty a ≡ after_calls empty b)
+fed_cuts a b ha hb e =
+    let sa = fed_pieces a ha in
+    let sb = fed_pieces b hb in
+    let la = fed_left a ha in
+    let lb = fed_left b hb in
+    let ua = unread (after_calls empty a).held (after_calls empty a).fault la in
+    let ub = unread (after_calls empty b).held (after_calls empty b).fault lb in
+    let one = one_split (all_answered a) (all_answered b) (after_calls empty a).held (after_calls empty b).held ua.0 ub.0 sa.each sb.each (sym sa.whole ∙ e ∙ sb.whole) ua.1 ub.1 in
+    (one.0, one_fed (after_calls empty a) (after_calls empty b) one.1 la lb)
+
+-- ---- pieces that are given, also after a fault
+
+record IsRest (stream : List ℕ) (done : List Stamped) (fault : Option WireFault) : Type 0 where
+  rest : List ℕ
+  splits : Splits stream done rest
+  stands : IsAt rest fault
+
+-- after a fault nothing is answered
+stuck : (fault : WireFault) (fed : Fed) (calls : List Call) → fed.fault ≡ Some fault → AreFed fed calls → (all_answered calls ≡ []) × ((after_calls fed calls).fault ≡ Some fault)
+stuck fault fed [] e h = (refl, e)
+stuck fault fed (call ∷ calls) e h =
+    let one : (call.answer ≡ Err fault) × (call.after ≡ fed) = subst (λ (f : Option WireFault). FeedsAt f fed call.piece call.answer call.after) e h.0 in
+    let others = stuck fault call.after calls (ap (λ (x : Fed). x.fault) one.1 ∙ e) h.2 in
+    (rw (one.0, others.0) refl, others.1)
+
+given_more : (stream : List ℕ) (done : List Stamped) (fed : Fed) (call : Call) (calls : List Call) → Splits stream done fed.held → IsFed fed → AreFed fed (call ∷ calls)
+    → (Splits (stream ++ taken_by call.answer call.piece) (done ++ answered call.answer) call.after.held → IsRest ((stream ++ taken_by call.answer call.piece) ++ all_given calls) ((done ++ answered call.answer) ++ all_answered calls) (after_calls call.after calls).fault)
+    → (fault : Option WireFault) → fed.fault ≡ fault → IsRest (stream ++ all_given (call ∷ calls)) (done ++ all_answered (call ∷ calls)) (after_calls call.after calls).fault
+given_more stream done fed call calls so_far before h next None e =
+    let one = fed_once stream done fed call so_far h.0 in
+    let all = next (subst (λ (f : Option WireFault). Splits (stream ++ taken_at f call.answer call.piece) (done ++ answered call.answer) call.after.held) e one) in
+    rw (← append_assoc stream (taken_by call.answer call.piece) (all_given calls), ← append_assoc done (answered call.answer) (all_answered calls)) all
+given_more stream done fed call calls so_far before h next (Some fault) e =
+    let still = stuck fault fed (call ∷ calls) e h in
+    let stands : IsAt fed.held (Some fault) = subst (IsAt fed.held) e before in
+    let given = all_given (call ∷ calls) in
+    let nothing : done ++ all_answered (call ∷ calls) ≡ done = ap (λ (x : List Stamped). done ++ x) still.0 ∙ append-nil done in
+    record {
+      rest = fed.held ++ given;
+      splits = subst (λ (x : List Stamped). Splits (stream ++ given) x (fed.held ++ given)) (sym nothing) (record {
+        whole = ap (λ (x : List ℕ). x ++ given) so_far.whole ∙ append_assoc (flat_map spelling done) fed.held given;
+        each = so_far.each;
+      });
+      stands = subst (IsAt (fed.held ++ given)) (sym still.1) (frame-lasts fed.held given fault stands.0 stands.1, stands.1, stands.2);
+    }
+
+given_from : (stream : List ℕ) (done : List Stamped) (fed : Fed) (calls : List Call) → Splits stream done fed.held → IsFed fed → AreFed fed calls
+    → IsRest (stream ++ all_given calls) (done ++ all_answered calls) (after_calls fed calls).fault
+given_from stream done fed [] so_far before h = record { rest = fed.held; splits = rw (append-nil stream, append-nil done) so_far; stands = before }
+given_from stream done fed (call ∷ calls) so_far before h =
+    given_more stream done fed call calls so_far before h (λ one. given_from (stream ++ taken_by call.answer call.piece) (done ++ answered call.answer) call.after calls one h.1 h.2) fed.fault refl
+
+given_all : (calls : List Call) → AreFed empty calls → IsRest (all_given calls) (all_answered calls) (after_calls empty calls).fault
+given_all calls h = given_from [] [] empty calls (record { whole = refl; each = All-nil IsSpelled }) empty_fed h
+
+-- the same pieces, joined, are answered the same
+pub given_cuts : (a b : List Call) → AreFed empty a → AreFed empty b → all_given a ≡ all_given b → (all_answered a ≡ all_answered b) × ((after_calls empty a).fault ≡ (after_calls empty b).fault)
+given_cuts a b ha hb e =
+    let ra = given_all a ha in
+    let rb = given_all b hb in
+    let ua = unread ra.rest (after_calls empty a).fault ra.stands in
+    let ub = unread rb.rest (after_calls empty b).fault rb.stands in
+    let one = one_split (all_answered a) (all_answered b) ra.rest rb.rest ua.0 ub.0 ra.splits.each rb.splits.each (sym ra.splits.whole ∙ e ∙ rb.splits.whole) ua.1 ub.1 in
+    (one.0, same_fault rb.rest (after_calls empty a).fault (after_calls empty b).fault (subst (λ (rest : List ℕ). IsAt rest (after_calls empty a).fault) one.1 ra.stands) rb.stands)

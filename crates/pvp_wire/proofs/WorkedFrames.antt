@@ -1,13 +1,13 @@
 -- Worked frames, computed with the definitions.
-use Rattle.std.proofs.Common.{◌≡◌, ℕ, List, [], ◌∷◌, ◌++◌, ◌+◌, take, drop, Ok, Err, refl}
-use Rattle.pvp_types.specs.declared.command.Cmd.TheVariants.{Fund}
+use Rattle.std.proofs.Common.{◌≡◌, ℕ, true, List, [], ◌∷◌, ◌++◌, ◌+◌, take, drop, Ok, Err, refl}
+use Rattle.pvp_types.specs.declared.command.Cmd.TheVariants.{Fund, Settle}
 use Rattle.pvp_types.specs.declared.command.Reason.TheVariants.{BankShort}
 use Rattle.pvp_types.specs.declared.command.Reply.TheVariants.{No}
-use Rattle.vr_types.specs.declared.message.MsgOf.TheVariants.{Request, Commit, Reply, PayOrder}
+use Rattle.vr_types.specs.declared.message.MsgOf.TheVariants.{Request, Commit, StartView, Reply, PayOrder}
 use Rattle.pvp_wire.specs.declared.fault.WireFault.TheVariants.{Short, TooLong, Version, Kind, Field, Length}
 use Rattle.pvp_wire.specs.declared.stamped.Stamped.{Stamped}
 use Rattle.pvp_wire.specs.Spelling.{BankMsg, spelling, number}
-use Rattle.pvp_wire.specs.Reading.{frame_at, counted_at, envelope_at, stamp_at, message_at, request_at, command_at, order_at, answer_at, reply_at}
+use Rattle.pvp_wire.specs.Reading.{frame_where, frame_at, TakesMemory, counted_at, envelope_at, stamp_at, message_at, request_at, start_view_at, rows_at, rows_from, row_at, command_at, order_at, answer_at, reply_at}
 
 abbrev sent : ℕ → ℕ → ℕ → ℕ → BankMsg → Stamped
 sent from clock index to msg = record { stamp = record { actor = from; clock = clock; index = index }; envelope = record { from = from; to = to; msg = msg } }
@@ -24,7 +24,7 @@ unfolding number
 commit_is_spelled = refl
 
 commit_is_read : frame_at commit_bytes ≡ Ok (commit, 28)
-unfolding frame_at counted_at envelope_at stamp_at message_at
+unfolding frame_where counted_at envelope_at stamp_at message_at
 commit_is_read = refl
 
 -- REQUEST 1 of USD's node: its pay-in 1 brought 1200 for member 1
@@ -40,7 +40,7 @@ unfolding number
 request_is_spelled = refl
 
 request_is_read : frame_at request_bytes ≡ Ok (request, 42)
-unfolding frame_at counted_at envelope_at stamp_at message_at request_at command_at
+unfolding frame_where counted_at envelope_at stamp_at message_at request_at command_at
 request_is_read = refl
 
 -- PAYORDER 1 of USD: 200 for member 1, from site 0 to USD's node
@@ -55,7 +55,7 @@ unfolding number
 order_is_spelled = refl
 
 order_is_read : frame_at order_bytes ≡ Ok (order, 37)
-unfolding frame_at counted_at envelope_at stamp_at message_at order_at
+unfolding frame_where counted_at envelope_at stamp_at message_at order_at
 order_is_read = refl
 
 -- REPLY of view 0 to request 3 of member 1: refused, as the bank is short
@@ -70,8 +70,43 @@ unfolding number
 answer_is_spelled = refl
 
 answer_is_read : frame_at answer_bytes ≡ Ok (answer, 32)
-unfolding frame_at counted_at envelope_at stamp_at message_at answer_at reply_at
+unfolding frame_where counted_at envelope_at stamp_at message_at answer_at reply_at
 answer_is_read = refl
+
+-- STARTVIEW of view 0 with one row, a Settle of the operator
+abbrev start_view : Stamped
+start_view = sent 200 9 0 201 (StartView 0 0 (record { client = 0; number = 1; cmd = Settle 8 } ∷ []))
+
+abbrev start_view_bytes : List ℕ
+start_view_bytes = 0 ∷ 0 ∷ 0 ∷ 37 ∷ 1 ∷ 7 ∷ 0 ∷ 200 ∷ 0 ∷ 0 ∷ 0 ∷ 0 ∷ 0 ∷ 0 ∷ 0 ∷ 9 ∷ 0 ∷ 0 ∷ 0 ∷ 0 ∷ 0 ∷ 201 ∷ 0 ∷ 0 ∷ 0 ∷ 0 ∷ 0 ∷ 0 ∷ 0 ∷ 1
+    ∷ 0 ∷ 0 ∷ 0 ∷ 0 ∷ 0 ∷ 1 ∷ 4 ∷ 0 ∷ 0 ∷ 0 ∷ 8 ∷ []
+
+start_view_is_spelled : spelling start_view ≡ start_view_bytes
+unfolding number
+start_view_is_spelled = refl
+
+start_view_is_read : frame_at start_view_bytes ≡ Ok (start_view, 41)
+unfolding frame_where counted_at envelope_at stamp_at message_at start_view_at rows_at rows_from row_at command_at
+start_view_is_read = refl
+
+-- ---- memory
+
+start_view_takes_memory : TakesMemory start_view_bytes
+unfolding frame_where counted_at envelope_at stamp_at message_at start_view_at rows_at rows_from row_at command_at
+start_view_takes_memory = refl
+
+-- a second row is counted and is not there: the first takes memory before that is seen
+abbrev cut_off : List ℕ
+cut_off = take 29 start_view_bytes ++ 2 ∷ drop 30 start_view_bytes
+
+cut_off_is_refused : (frame_at cut_off ≡ Err Length) × TakesMemory cut_off
+unfolding frame_where counted_at envelope_at stamp_at message_at start_view_at rows_at rows_from row_at command_at
+cut_off_is_refused = (refl, refl)
+
+-- at another version, or without a row, nothing does
+without_memory : (frame_where true (take 4 start_view_bytes ++ 2 ∷ drop 5 start_view_bytes) ≡ Err Version) × (frame_where true commit_bytes ≡ Ok (commit, 28))
+unfolding frame_where counted_at envelope_at stamp_at message_at
+without_memory = (refl, refl)
 
 -- ---- faults
 
@@ -80,42 +115,42 @@ abbrev with_byte : ℕ → ℕ → List ℕ
 with_byte place byte = take place commit_bytes ++ byte ∷ drop (place + 1) commit_bytes
 
 another_version : frame_at (with_byte 4 2) ≡ Err Version
-unfolding frame_at counted_at
+unfolding frame_where counted_at
 another_version = refl
 
 no_kind : frame_at (with_byte 5 0) ≡ Err Kind
-unfolding frame_at counted_at
+unfolding frame_where counted_at
 no_kind = refl
 
 no_actor : frame_at (with_byte 7 99) ≡ Err Field
-unfolding frame_at counted_at envelope_at stamp_at
+unfolding frame_where counted_at envelope_at stamp_at
 no_actor = refl
 
 a_byte_more : frame_at (take 3 commit_bytes ++ 25 ∷ drop 4 commit_bytes ++ 0 ∷ []) ≡ Err Length
-unfolding frame_at counted_at envelope_at stamp_at message_at
+unfolding frame_where counted_at envelope_at stamp_at message_at
 a_byte_more = refl
 
 -- the version is tested before the kind, and both before the fields
 version_first : frame_at (take 4 commit_bytes ++ 2 ∷ 0 ∷ 0 ∷ 99 ∷ drop 8 commit_bytes) ≡ Err Version
-unfolding frame_at counted_at
+unfolding frame_where counted_at
 version_first = refl
 
 kind_before_actor : frame_at (take 5 commit_bytes ++ 0 ∷ 0 ∷ 99 ∷ drop 8 commit_bytes) ≡ Err Kind
-unfolding frame_at counted_at
+unfolding frame_where counted_at
 kind_before_actor = refl
 
 a_front : frame_at (take 27 commit_bytes) ≡ Err Short
-unfolding frame_at
+unfolding frame_where
 a_front = refl
 
 longest : frame_at (0 ∷ 64 ∷ 0 ∷ 0 ∷ []) ≡ Err Short
-unfolding frame_at
+unfolding frame_where
 longest = refl
 
 too_long : frame_at (0 ∷ 64 ∷ 0 ∷ 1 ∷ []) ≡ Err TooLong
-unfolding frame_at
+unfolding frame_where
 too_long = refl
 
 too_short : frame_at (0 ∷ 0 ∷ 0 ∷ 17 ∷ []) ≡ Err Length
-unfolding frame_at
+unfolding frame_where
 too_short = refl

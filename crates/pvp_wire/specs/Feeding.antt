@@ -28,11 +28,12 @@ lasting NoMemory = Some NoMemory
 abbrev pub empty : Fed
 empty = record { held = []; fault = None }
 
--- no fault stands there, and what is held is no whole frame; or one does
+-- No fault stands there, and what is held is no whole frame. Or one does: it is what is wrong with the bytes that are held, whatever comes after them.
 abbrev pub IsAt : List ℕ → Option WireFault → Type 0
 IsAt held None = frame_at held ≡ Err Short
 IsAt held (Some fault) = (frame_at held ≡ Err fault) × (fault ≢ Short) × (fault ≢ NoMemory)
 
+-- every feeder is so between its calls
 abbrev pub IsFed : Fed → Type 0
 IsFed fed = IsAt fed.held fed.fault
 
@@ -69,10 +70,10 @@ pub record Call : Type 0 where
   pub answer : Result (Vec Stamped) WireFault
   pub after : Fed
 
--- calls one after the other of a feeder that holds this at first
+-- Calls one after the other of a feeder that holds this at first. After each the feeder is such as every feeder is.
 abbrev pub AreFed : Fed → List Call → Type 0
 AreFed fed [] = Unit {0}
-AreFed fed (call ∷ calls) = Feeds fed call.piece call.answer call.after × AreFed call.after calls
+AreFed fed (call ∷ calls) = Feeds fed call.piece call.answer call.after × IsFed call.after × AreFed call.after calls
 
 -- what is held after them
 abbrev pub after_calls : Fed → List Call → Fed
@@ -107,3 +108,7 @@ taken_at (Some fault) answer piece = []
 abbrev pub all_taken : Fed → List Call → List ℕ
 all_taken fed [] = []
 all_taken fed (call ∷ calls) = taken_at fed.fault call.answer call.piece ++ all_taken call.after calls
+
+-- the pieces that were given, joined: also those that came after a fault, but none for which memory was refused
+abbrev pub all_given : List Call → List ℕ
+all_given calls = flat_map (λ call. taken_by call.answer call.piece) calls

@@ -1,5 +1,5 @@
 -- What fits its fields: each number fits the bytes that it has.
-use Rattle.std.specs.Prelude.{◌≡◌, ℕ, ◌^◌, ◌<◌, true, slice_index, List, [], ◌∷◌, length, Option, Some, None}
+use Rattle.std.specs.Prelude.{◌≡◌, ℕ, ◌^◌, ◌<◌, true, All, List, [], ◌∷◌, length, Option, Some, None}
 use Rattle.pvp_types.specs.declared.command.Cmd.{Cmd}
 use Rattle.pvp_types.specs.declared.command.Cmd.TheVariants.{Instruct, Rescind, Fund, Settle, PayOut, Paid}
 use Rattle.pvp_types.specs.declared.command.PayOrder as orders
@@ -71,7 +71,7 @@ StampedFits s = StampFits s.stamp × Fits 2 s.envelope.to × MessageFits s.envel
 
 -- a list of bytes
 abbrev pub IsBytes : List ℕ → Type 0
-IsBytes bytes = (i : ℕ) → slice_index bytes i < 256
+IsBytes bytes = All (λ b. b < 256) bytes
 
 -- what has a spelling: it fits, and its actors and the clients of its rows are such
 pub record IsSpelled (s : Stamped) : Type 0 where

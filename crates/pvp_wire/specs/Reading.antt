@@ -1,5 +1,5 @@
 -- How bytes are read as a stamped envelope: which fault comes first, and what is read where none comes.
-use Rattle.std.specs.Prelude.{ℕ, zero, suc, ◌+◌, ◌==◌, ◌&&◌, ◌≡◌, ◌⊎◌, ◌<◌, Bool, not, nat_lt, nat_le, List, [], ◌∷◌, length, take, drop, Option, Some, None, Result, Ok, Err, MatchResult, if◌then◌else◌}
+use Rattle.std.specs.Prelude.{ℕ, zero, suc, ◌+◌, ◌==◌, ◌&&◌, ◌||◌, ◌≡◌, ◌⊎◌, Bool, true, false, not, nat_lt, nat_le, List, [], ◌∷◌, length, take, drop, Option, Some, None, Result, Ok, Err, if◌then◌else◌}
 use Rattle.byteorder.specs.Endian.{big_number}
 use Rattle.pvp_types.specs.declared.command.Cmd.{Cmd}
 use Rattle.pvp_types.specs.declared.command.Cmd.TheVariants.{Instruct, Rescind, Fund, Settle, PayOut, Paid}
@@ -124,31 +124,38 @@ row_at bytes = do
   cmd ← command_at number.1
   Ok (record { client = client.0; number = number.0; cmd = cmd.0 }, cmd.1)
 
+-- ---- lists of rows. Each row that was read is kept, which alone takes memory: what follows is read as if memory were refused there, or as if it were not.
+
+-- a row is kept
+abbrev pub kept : Bool → BankRow → Result BankRow WireFault
+kept refused r = if refused then Err NoMemory else Ok r
+
 -- so many rows
-unfoldable pub rows_from : ℕ → List ℕ → Reads (List BankRow)
-rows_from zero bytes = Ok ([], bytes)
-rows_from (suc count) bytes = do
+unfoldable pub rows_from : Bool → ℕ → List ℕ → Reads (List BankRow)
+rows_from refused zero bytes = Ok ([], bytes)
+rows_from refused (suc count) bytes = do
   r ← row_at bytes
-  others ← rows_from count r.1
-  Ok (r.0 ∷ others.0, others.1)
+  first ← kept refused r.0
+  others ← rows_from refused count r.1
+  Ok (first ∷ others.0, others.1)
 
 -- a count, and that many rows
-unfoldable pub rows_at : List ℕ → Reads (List BankRow)
-rows_at bytes = number_at 2 bytes >>= λ count. rows_from count.0 count.1
+unfoldable pub rows_at : Bool → List ℕ → Reads (List BankRow)
+rows_at refused bytes = number_at 2 bytes >>= λ count. rows_from refused count.0 count.1
 
 -- a state: how many rows are executed, and the rows
-unfoldable pub state_at : List ℕ → Reads (StateOf Cmd)
-state_at bytes = do
+unfoldable pub state_at : Bool → List ℕ → Reads (StateOf Cmd)
+state_at refused bytes = do
   k ← number_at 2 bytes
-  log ← rows_at k.1
+  log ← rows_at refused k.1
   Ok (record { done = k.0; rows = log.0 }, log.1)
 
 -- a flag, and the state where it is 1
-unfoldable pub option_at : List ℕ → Reads (Option (StateOf Cmd))
-option_at [] = Err Length
-option_at (flag ∷ bytes) =
+unfoldable pub option_at : Bool → List ℕ → Reads (Option (StateOf Cmd))
+option_at refused [] = Err Length
+option_at refused (flag ∷ bytes) =
     if flag == 0 then Ok (None, bytes)
-    else if flag == 1 then (state_at bytes >>= λ s. Ok (Some s.0, s.1))
+    else if flag == 1 then (state_at refused bytes >>= λ s. Ok (Some s.0, s.1))
     else Err Field
 
 -- ---- messages, by their kinds
@@ -174,34 +181,34 @@ view_and_place_at bytes = do
   place ← number_at 2 view.1
   Ok ((view.0, place.0), place.1)
 
-unfoldable pub do_view_change_at : List ℕ → Reads BankMsg
-do_view_change_at bytes = do
+unfoldable pub do_view_change_at : Bool → List ℕ → Reads BankMsg
+do_view_change_at refused bytes = do
   view ← number_at 4 bytes
   last_normal ← number_at 4 view.1
   k ← number_at 2 last_normal.1
-  log ← rows_at k.1
+  log ← rows_at refused k.1
   Ok (DoViewChange view.0 last_normal.0 k.0 log.0, log.1)
 
-unfoldable pub start_view_at : List ℕ → Reads BankMsg
-start_view_at bytes = do
+unfoldable pub start_view_at : Bool → List ℕ → Reads BankMsg
+start_view_at refused bytes = do
   view ← number_at 4 bytes
   k ← number_at 2 view.1
-  log ← rows_at k.1
+  log ← rows_at refused k.1
   Ok (StartView view.0 k.0 log.0, log.1)
 
-unfoldable pub new_state_at : List ℕ → Reads BankMsg
-new_state_at bytes = do
+unfoldable pub new_state_at : Bool → List ℕ → Reads BankMsg
+new_state_at refused bytes = do
   view ← number_at 4 bytes
   base ← number_at 2 view.1
   k ← number_at 2 base.1
-  log ← rows_at k.1
+  log ← rows_at refused k.1
   Ok (NewState view.0 base.0 k.0 log.0, log.1)
 
-unfoldable pub recovery_response_at : List ℕ → Reads BankMsg
-recovery_response_at bytes = do
+unfoldable pub recovery_response_at : Bool → List ℕ → Reads BankMsg
+recovery_response_at refused bytes = do
   view ← number_at 4 bytes
   nonce ← number_at 4 view.1
-  s ← option_at nonce.1
+  s ← option_at refused nonce.1
   Ok (RecoveryResponse view.0 nonce.0 s.0, s.1)
 
 unfoldable pub answer_at : List ℕ → Reads BankMsg
@@ -211,22 +218,23 @@ answer_at bytes = do
   answer ← reply_at number.1
   Ok (Reply view.0 number.0 answer.0, answer.1)
 
--- the fields of a message of this kind, 1 to 13
-unfoldable pub message_at : ℕ → List ℕ → Reads BankMsg
-message_at kind bytes =
+-- the fields of a message of this kind; no message has another than 1 to 13
+unfoldable pub message_at : Bool → ℕ → List ℕ → Reads BankMsg
+message_at refused kind bytes =
     if kind == 1 then request_at bytes
     else if kind == 2 then prepare_at bytes
     else if kind == 3 then (view_and_place_at bytes >>= λ x. Ok (PrepareOk x.0.0 x.0.1, x.1))
     else if kind == 4 then (view_and_place_at bytes >>= λ x. Ok (Commit x.0.0 x.0.1, x.1))
     else if kind == 5 then (number_at 4 bytes >>= λ view. Ok (StartViewChange view.0, view.1))
-    else if kind == 6 then do_view_change_at bytes
-    else if kind == 7 then start_view_at bytes
+    else if kind == 6 then do_view_change_at refused bytes
+    else if kind == 7 then start_view_at refused bytes
     else if kind == 8 then (view_and_place_at bytes >>= λ x. Ok (GetState x.0.0 x.0.1, x.1))
-    else if kind == 9 then new_state_at bytes
+    else if kind == 9 then new_state_at refused bytes
     else if kind == 10 then (number_at 4 bytes >>= λ nonce. Ok (Recovery nonce.0, nonce.1))
-    else if kind == 11 then recovery_response_at bytes
+    else if kind == 11 then recovery_response_at refused bytes
     else if kind == 12 then answer_at bytes
-    else (order_at bytes >>= λ due. Ok (PayOrder due.0, due.1))
+    else if kind == 13 then (order_at bytes >>= λ due. Ok (PayOrder due.0, due.1))
+    else Err Kind
 
 -- ---- frames
 
@@ -239,11 +247,11 @@ stamp_at bytes = do
   Ok (record { actor = actor.0; clock = clock.0; index = index.0 }, index.1)
 
 -- what stands after the version and the kind
-unfoldable pub envelope_at : ℕ → List ℕ → Reads Stamped
-envelope_at kind bytes = do
+unfoldable pub envelope_at : Bool → ℕ → List ℕ → Reads Stamped
+envelope_at refused kind bytes = do
   stamp ← stamp_at bytes
   to ← listed_at is_actor stamp.1
-  msg ← message_at kind to.1
+  msg ← message_at refused kind to.1
   Ok (record { stamp = stamp.0; envelope = record { from = stamp.0.actor; to = to.0; msg = msg.0 } }, msg.1)
 
 -- nothing may be left of a frame
@@ -251,27 +259,43 @@ abbrev pub all_read : {A : Type 0} → A × List ℕ → Result A WireFault
 all_read x = if length x.1 == 0 then Ok x.0 else Err Length
 
 -- the bytes that a frame's length counts, at least two: version, kind and the rest
-unfoldable pub counted_at : List ℕ → Result Stamped WireFault
-counted_at [] = Err Length
-counted_at (version ∷ []) = Err Length
-counted_at (version ∷ kind ∷ bytes) =
+unfoldable pub counted_at : Bool → List ℕ → Result Stamped WireFault
+counted_at refused [] = Err Length
+counted_at refused (version ∷ []) = Err Length
+counted_at refused (version ∷ kind ∷ bytes) =
     if not (version == 1) then Err Version
     else if not (nat_le 1 kind && nat_le kind 13) then Err Kind
-    else (envelope_at kind bytes >>= all_read)
+    else (envelope_at refused kind bytes >>= all_read)
 
 -- the longest frame, after its length
 abbrev pub most_length : ℕ
 most_length = 4194304
 
--- THE FRAME at the front of bytes, and how many bytes it takes; else what is wrong, the first of these tests that fails
-unfoldable pub frame_at : List ℕ → Result (Stamped × ℕ) WireFault
-frame_at bytes =
+-- the frame at the front of bytes, and how many bytes it takes; else what is wrong, the first of these tests that fails
+unfoldable pub frame_where : Bool → List ℕ → Result (Stamped × ℕ) WireFault
+frame_where refused bytes =
     let len = big_number 4 bytes in
     if nat_lt (length bytes) 4 then Err Short
     else if nat_lt most_length len then Err TooLong
     else if nat_lt len 18 then Err Length
     else if nat_lt (length bytes) (4 + len) then Err Short
-    else (counted_at (take len (drop 4 bytes)) >>= λ s. Ok (s, 4 + len))
+    else (counted_at refused (take len (drop 4 bytes)) >>= λ s. Ok (s, 4 + len))
+
+-- THE FRAME at the front of bytes
+abbrev pub frame_at : List ℕ → Result (Stamped × ℕ) WireFault
+frame_at bytes = frame_where false bytes
+
+-- Reading this frame takes memory: all tests up to a list of rows are passed, and its first row is read.
+abbrev pub TakesMemory : List ℕ → Type 0
+TakesMemory bytes = frame_where true bytes ≡ Err NoMemory
+
+-- the kinds of messages that carry a list of rows
+abbrev pub carries_rows : ℕ → Bool
+carries_rows kind = (kind == 6) || ((kind == 7) || ((kind == 9) || (kind == 11)))
+
+-- what is wrong with fields: one has a value that it may not have, or they end before the frame does, or after it
+abbrev pub IsOfField : WireFault → Type 0
+IsOfField fault = (fault ≡ Field) ⊎ (fault ≡ Length)
 
 -- ---- what a function returned
 
@@ -280,14 +304,7 @@ abbrev pub Finds : {X Y : Type 0} → (X → Y) → Result X WireFault → Resul
 Finds view (Ok x) read = read ≡ Ok (view x)
 Finds view (Err fault) read = read ≡ Err fault
 
--- Memory was refused, which comes only at rows: where something is read, rows are among it.
-abbrev pub IsRefusedAt : {Y : Type 0} → (Y → List BankRow) → Result Y WireFault → Type 0
-IsRefusedAt rows read = MatchResult read (λ y. 0 < length (rows y)) (λ fault. Unit {0})
-
-abbrev pub MayRefuse : {Y : Type 0} → (Y → List BankRow) → WireFault → Result Y WireFault → Type 0
-MayRefuse rows fault read = (read ≡ Err fault) ⊎ ((fault ≡ NoMemory) × IsRefusedAt rows read)
-
--- What a function that takes memory for rows returned is what reading gives, unless memory was refused.
-abbrev pub Gives : {X Y : Type 0} → (Y → List BankRow) → (X → Y) → Result X WireFault → Result Y WireFault → Type 0
-Gives rows view (Ok x) read = read ≡ Ok (view x)
-Gives rows view (Err fault) read = MayRefuse rows fault read
+-- What a function that takes memory for rows returned is what reading gives where memory is not refused. Only where reading meets a row that it has to keep may it tell that memory was refused.
+abbrev pub Gives : {X Y : Type 0} → (X → Y) → Result X WireFault → (Bool → Result Y WireFault) → Type 0
+Gives view (Ok x) read = read false ≡ Ok (view x)
+Gives view (Err fault) read = (read false ≡ Err fault) ⊎ ((fault ≡ NoMemory) × (read true ≡ Err NoMemory))

@@ -1,5 +1,5 @@
 -- How a stamped envelope is spelled in bytes. All numbers are big-endian.
-use Rattle.std.specs.Prelude.{ℕ, ◌+◌, ◌==◌, ◌&&◌, ◌||◌, Bool, nat_le, List, [], ◌∷◌, ◌++◌, length, Option, Some, None}
+use Rattle.std.specs.Prelude.{ℕ, ◌+◌, ◌*◌, ◌==◌, ◌&&◌, ◌||◌, Bool, nat_le, List, [], ◌∷◌, ◌++◌, length, Option, Some, None}
 use Rattle.std.specs.List.{flat_map, list_all}
 use Rattle.byteorder.specs.Endian.{big_bytes}
 use Rattle.pvp_types.specs.declared.command.Cmd.{Cmd}
@@ -113,6 +113,19 @@ stamp s = number 2 s.actor ++ number 8 s.clock ++ number 4 s.index
 -- what stands between a frame's length and its message: version 1, the kind, the stamp, to whom it goes
 abbrev pub head : Stamped → List ℕ
 head s = 1 ∷ kind s.envelope.msg ∷ stamp s.stamp ++ number 2 s.envelope.to
+
+-- the most bytes that a command, a row, rows and the fields of a message have: an Instruct, and a RECOVERYRESPONSE with as many rows as a log has
+abbrev pub most_command : ℕ
+most_command = 25
+
+abbrev pub most_row : ℕ
+most_row = 6 + most_command
+
+abbrev pub most_rows : ℕ
+most_rows = 2 + 65535 * most_row
+
+abbrev pub most_body : ℕ
+most_body = 11 + most_rows
 
 -- THE FRAME: the length of what follows, the head, the message
 abbrev pub spelling : Stamped → List ℕ

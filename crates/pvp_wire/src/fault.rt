@@ -1,3 +1,5 @@
+//! Why bytes are no frame.
+
 use std::alloc::AllocError;
 use std::fmt;
 
@@ -16,25 +18,31 @@ pub enum WireFault {
     Field,
     /// F6: the fields end before the frame does, or after it.
     Length,
-    /// F7: memory was refused.
+    /// F7: memory was refused, by `decode` for a row of a list.
     NoMemory,
 }
 
 /// Writes the code as `F1` to `F7`.
 impl fmt::Display for WireFault {
+    ghost use Rattle.std.specs.Prelude.{Some};
+    ghost use Rattle.pvp_wire.specs.Fault.{fault_code_text};
+
+    ghost output = { λ fault. Some (fault_code_text fault) };
+
     fn fmt<W: fmt::Write>(&self, f: &mut fmt::Formatter<W>) -> fmt::Result {
-        f.write_str(match self {
-            WireFault::Short => "F1",
-            WireFault::TooLong => "F2",
-            WireFault::Version => "F3",
-            WireFault::Kind => "F4",
-            WireFault::Field => "F5",
-            WireFault::Length => "F6",
-            WireFault::NoMemory => "F7",
-        })
+        match self {
+            WireFault::Short => f.write_str("F1"),
+            WireFault::TooLong => f.write_str("F2"),
+            WireFault::Version => f.write_str("F3"),
+            WireFault::Kind => f.write_str("F4"),
+            WireFault::Field => f.write_str("F5"),
+            WireFault::Length => f.write_str("F6"),
+            WireFault::NoMemory => f.write_str("F7"),
+        }
     }
 }
 
+/// A refusal of memory is F7.
 impl From<AllocError> for WireFault {
     ghost use Rattle.std.specs.Prelude.{◌≡◌};
     ghost use Rattle.pvp_wire.specs.declared.fault.WireFault.TheVariants.{NoMemory};

@@ -33,7 +33,7 @@ impl Model for Feeder {
 
 impl Feeder {
     /// A feeder that has taken nothing. It takes no memory.
-    #[tactic(auto, unfolding(crate::specs::Reading::frame_at))]
+    #[tactic(auto, unfolding(crate::specs::Reading::frame_where))]
     pub fn new(alloc: Global) -> Self
         ensures { result ≡ empty }
     {
@@ -47,9 +47,10 @@ impl Feeder {
     /// Takes the next piece of the stream, and answers the frames that are whole now, in order.
     ///
     /// A piece with good frames before a fault answers these, and the fault comes at the next call; without one it comes
-    /// at once. After F2 to F6 every call answers the same fault, and no piece is taken. After F7 the feeder is unchanged,
-    /// and the piece is not taken. F1 never comes: a frame that is not whole waits for more. What is held is neither
-    /// moved nor looked at again until its frame is whole.
+    /// at once. After F2 to F6 every call answers the same fault, and no piece is taken. F7 comes where memory for the
+    /// piece, the frames or their rows was refused and no fault stands; then the feeder is unchanged, and the piece is not
+    /// taken. F1 never comes: a frame that is not whole waits for more. What is held is neither moved nor looked at again
+    /// until its frame is whole.
     pub fn feed(&mut self, piece: &[u8]) -> Result<Vec<Stamped>, WireFault>
         ensures { Feeds self.old piece.now result self.new }
     {

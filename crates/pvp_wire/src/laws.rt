@@ -1,20 +1,29 @@
 //! What holds of frames and streams: functions that do nothing, whose contracts say it.
-ghost use Rattle.std.specs.Prelude.{◌≡◌, ◌≤◌, ℕ, List, ◌++◌, All, Ok, Err, length, take};
+ghost use Rattle.std.specs.Prelude.{◌≡◌, ◌≢◌, ◌≤◌, ◌+◌, ℕ, true, slice_index, List, [], ◌++◌, All, Ok, Err, length, take};
 ghost use Rattle.std.specs.List.{flat_map};
 ghost use Rattle.pvp_wire.specs.declared.fault.WireFault.{WireFault};
 ghost use Rattle.pvp_wire.specs.declared.stamped.Stamped.{Stamped};
-ghost use Rattle.pvp_wire.specs.Spelling.{spelling};
+ghost use Rattle.pvp_wire.specs.Spelling.{spelling, most_body, rows_of};
 ghost use Rattle.pvp_wire.specs.Fits.{IsBytes, IsSpelled};
-ghost use Rattle.pvp_wire.specs.Reading.{frame_at};
-ghost use Rattle.pvp_wire.specs.Feeding.{Splits, Call, AreFed, empty, all_taken, all_answered, after_calls};
+ghost use Rattle.pvp_wire.specs.Reading.{frame_at, TakesMemory, carries_rows, IsOfField};
+ghost use Rattle.pvp_wire.specs.Feeding.{Splits, Call, IsFed, AreFed, empty, all_taken, all_given, all_answered, after_calls};
 
-/// What is read is spelled so, to the byte; what has a spelling is read again from it, whatever follows; and no
-/// spelling begins another.
+/// What is read is spelled so, to the byte; what has a spelling is read again from it, whatever follows; no spelling
+/// begins another, and none is longer than one with a whole log, 2,031,620 bytes.
 pub fn frames()
     ensures read { (bytes : List ℕ) (stamped : Stamped) (size : ℕ) → IsBytes bytes → frame_at bytes ≡ Ok (stamped, size) →
         (take size bytes ≡ spelling stamped) × (size ≡ length (spelling stamped)) × (size ≤ length bytes) × IsSpelled stamped }
     ensures again { (stamped : Stamped) (rest : List ℕ) → IsSpelled stamped → frame_at (spelling stamped ++ rest) ≡ Ok (stamped, length (spelling stamped)) }
     ensures one { (a b : Stamped) (x y : List ℕ) → IsSpelled a → IsSpelled b → spelling a ++ x ≡ spelling b ++ y → (a ≡ b) × (x ≡ y) }
+    ensures short { (stamped : Stamped) → IsSpelled stamped → length (spelling stamped) ≤ 22 + most_body }
+{}
+
+/// Memory is taken only for frames of the four kinds that carry a list of rows. One that is read has a row then; of one
+/// that is not, a field is at fault, or the frame's length.
+pub fn memory()
+    ensures kind { (bytes : List ℕ) → TakesMemory bytes → carries_rows (slice_index bytes 5) ≡ true }
+    ensures read { (bytes : List ℕ) (stamped : Stamped) (size : ℕ) → TakesMemory bytes → frame_at bytes ≡ Ok (stamped, size) → rows_of stamped.envelope.msg ≢ [] }
+    ensures fault { (bytes : List ℕ) (fault : WireFault) → TakesMemory bytes → frame_at bytes ≡ Err fault → IsOfField fault }
 {}
 
 /// A stream that goes on with no frame is split into frames in one way alone.
@@ -24,7 +33,18 @@ pub fn streams()
 {}
 
 /// After any calls of a new feeder the frames that it answered are those at the front of the pieces that it took,
-/// joined. What it holds is what is left.
+/// joined. What it holds is what is left: no whole frame, or the fault that it keeps stands there.
 pub fn pieces()
-    ensures { (calls : List Call) → AreFed empty calls → Splits (all_taken empty calls) (all_answered calls) (after_calls empty calls).held }
+    ensures front { (calls : List Call) → AreFed empty calls → Splits (all_taken empty calls) (all_answered calls) (after_calls empty calls).held }
+    ensures left { (calls : List Call) → AreFed empty calls → IsFed (after_calls empty calls) }
+{}
+
+/// It does not matter how the pieces were cut. Where those that two new feeders were given are the same, joined, they
+/// answered the same frames and keep the same fault. Where those that they took are the same, without any that came
+/// after a fault, they hold the same bytes too. A piece for which memory was refused does not count.
+pub fn cuts()
+    ensures given { (a b : List Call) → AreFed empty a → AreFed empty b → all_given a ≡ all_given b →
+        (all_answered a ≡ all_answered b) × ((after_calls empty a).fault ≡ (after_calls empty b).fault) }
+    ensures taken { (a b : List Call) → AreFed empty a → AreFed empty b → all_taken empty a ≡ all_taken empty b →
+        (all_answered a ≡ all_answered b) × (after_calls empty a ≡ after_calls empty b) }
 {}

@@ -1,7 +1,5 @@
 //! The fields of messages, one function a kind.
-ghost use Rattle.std.specs.Prelude.{◌≤◌};
 ghost use Rattle.pvp_wire.specs.Reading.{Finds, Gives, request_at, prepare_at, do_view_change_at, start_view_at, new_state_at, recovery_response_at, answer_at, message_at};
-ghost use Rattle.pvp_wire.specs.Spelling.{rows_of};
 
 use crate::fault::WireFault;
 use crate::fields::{command_at, order_at, reply_at, row_at, u16_at, u32_at, view_and_place_at};
@@ -10,11 +8,10 @@ use crate::stamped::Message;
 use std::alloc::Global;
 use vr_types::MsgOf;
 
-/// A message of a kind from 1 to 13.
+/// The fields of a message of a kind.
 #[tactic(auto, unfolding(crate::specs::Reading::message_at))]
 pub fn message_at(alloc: Global, kind: u8, bytes: &[u8]) -> Result<(Message, &[u8]), WireFault>
-    requires { kind ≤ 13 }
-    ensures { Gives (λ y. rows_of y.0) (λ x. (x.0, x.1.now)) result (message_at kind bytes.now) }
+    ensures { Gives (λ x. (x.0, x.1.now)) result (λ refused. message_at refused kind bytes.now) }
 {
     match kind {
         1 => request_at(bytes),
@@ -44,10 +41,11 @@ pub fn message_at(alloc: Global, kind: u8, bytes: &[u8]) -> Result<(Message, &[u
         }
         11 => recovery_response_at(alloc, bytes),
         12 => answer_at(bytes),
-        _ => {
+        13 => {
             let (order, rest) = order_at(bytes)?;
             Ok((MsgOf::PayOrder(order), rest))
         }
+        _ => Err(WireFault::Kind),
     }
 }
 
@@ -79,7 +77,7 @@ fn prepare_at(bytes: &[u8]) -> Result<(Message, &[u8]), WireFault>
 
 #[tactic(auto, unfolding(crate::specs::Reading::do_view_change_at))]
 fn do_view_change_at(alloc: Global, bytes: &[u8]) -> Result<(Message, &[u8]), WireFault>
-    ensures { Gives (λ y. rows_of y.0) (λ x. (x.0, x.1.now)) result (do_view_change_at bytes.now) }
+    ensures { Gives (λ x. (x.0, x.1.now)) result (λ refused. do_view_change_at refused bytes.now) }
 {
     let (view, rest) = u32_at(bytes)?;
     let (last_normal, rest) = u32_at(rest)?;
@@ -96,7 +94,7 @@ fn do_view_change_at(alloc: Global, bytes: &[u8]) -> Result<(Message, &[u8]), Wi
 
 #[tactic(auto, unfolding(crate::specs::Reading::start_view_at))]
 fn start_view_at(alloc: Global, bytes: &[u8]) -> Result<(Message, &[u8]), WireFault>
-    ensures { Gives (λ y. rows_of y.0) (λ x. (x.0, x.1.now)) result (start_view_at bytes.now) }
+    ensures { Gives (λ x. (x.0, x.1.now)) result (λ refused. start_view_at refused bytes.now) }
 {
     let (view, rest) = u32_at(bytes)?;
     let (done, rest) = u16_at(rest)?;
@@ -106,7 +104,7 @@ fn start_view_at(alloc: Global, bytes: &[u8]) -> Result<(Message, &[u8]), WireFa
 
 #[tactic(auto, unfolding(crate::specs::Reading::new_state_at))]
 fn new_state_at(alloc: Global, bytes: &[u8]) -> Result<(Message, &[u8]), WireFault>
-    ensures { Gives (λ y. rows_of y.0) (λ x. (x.0, x.1.now)) result (new_state_at bytes.now) }
+    ensures { Gives (λ x. (x.0, x.1.now)) result (λ refused. new_state_at refused bytes.now) }
 {
     let (view, rest) = u32_at(bytes)?;
     let (base, rest) = u16_at(rest)?;
@@ -123,7 +121,7 @@ fn new_state_at(alloc: Global, bytes: &[u8]) -> Result<(Message, &[u8]), WireFau
 
 #[tactic(auto, unfolding(crate::specs::Reading::recovery_response_at))]
 fn recovery_response_at(alloc: Global, bytes: &[u8]) -> Result<(Message, &[u8]), WireFault>
-    ensures { Gives (λ y. rows_of y.0) (λ x. (x.0, x.1.now)) result (recovery_response_at bytes.now) }
+    ensures { Gives (λ x. (x.0, x.1.now)) result (λ refused. recovery_response_at refused bytes.now) }
 {
     let (view, rest) = u32_at(bytes)?;
     let (nonce, rest) = u32_at(rest)?;

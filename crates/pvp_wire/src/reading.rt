@@ -1,7 +1,5 @@
 //! Frames: their length, version and kind, and the envelope in them.
-ghost use Rattle.pvp_wire.specs.Reading.{Gives, envelope_at, counted_at, frame_at};
-ghost use Rattle.pvp_wire.specs.Spelling.{rows_of};
-ghost use Rattle.std.specs.Prelude.{◌≤◌};
+ghost use Rattle.pvp_wire.specs.Reading.{Gives, envelope_at, counted_at, frame_where};
 
 use crate::fault::WireFault;
 use crate::fields::{actor_at, stamp_at};
@@ -21,11 +19,14 @@ const LEAST_LENGTH: usize = 18;
 ///
 /// Of several faults the first is told: F1 fewer than 4 bytes; F2 a length above 4,194,304; F6 a length below 18; F1
 /// fewer bytes than the length says; F3 the version; F4 the kind; then the fields in their order, F6 where the
-/// frame's end cuts one off and F5 where it has a value that it may not have; F6 bytes after the body. F7 comes
-/// only where memory for a row was refused; a frame without rows takes none.
-#[tactic(auto, unfolding(crate::specs::Reading::frame_at))]
+/// frame's end cuts one off and F5 where it has a value that it may not have; F6 bytes after the body.
+///
+/// Memory is taken for the rows of a list alone, each as it was read. So F7 comes only from a DOVIEWCHANGE, STARTVIEW,
+/// NEWSTATE or RECOVERYRESPONSE of which at least the first row was read, in place of the envelope or of a fault
+/// behind that row.
+#[tactic(auto, unfolding(crate::specs::Reading::frame_where))]
 pub fn decode(alloc: Global, bytes: &[u8]) -> Result<(Stamped, usize), WireFault>
-    ensures { Gives (λ y. rows_of y.0.envelope.msg) (λ x. x) result (frame_at bytes.now) }
+    ensures { Gives (λ x. x) result (λ refused. frame_where refused bytes.now) }
 {
     if bytes.len() < 4 {
         return Err(WireFault::Short);
@@ -47,7 +48,7 @@ pub fn decode(alloc: Global, bytes: &[u8]) -> Result<(Stamped, usize), WireFault
 /// The envelope in the bytes that a frame's length counts.
 #[tactic(auto, unfolding(crate::specs::Reading::counted_at))]
 fn counted_at(alloc: Global, bytes: &[u8]) -> Result<Stamped, WireFault>
-    ensures { Gives (λ y. rows_of y.envelope.msg) (λ x. x) result (counted_at bytes.now) }
+    ensures { Gives (λ x. x) result (λ refused. counted_at refused bytes.now) }
 {
     let [version, kind, rest @ ..] = bytes else {
         return Err(WireFault::Length);
@@ -68,8 +69,7 @@ fn counted_at(alloc: Global, bytes: &[u8]) -> Result<Stamped, WireFault>
 /// The stamp, to whom the envelope goes, and its message.
 #[tactic(auto, unfolding(crate::specs::Reading::envelope_at))]
 fn envelope_at(alloc: Global, kind: u8, bytes: &[u8]) -> Result<(Stamped, &[u8]), WireFault>
-    requires { kind ≤ 13 }
-    ensures { Gives (λ y. rows_of y.0.envelope.msg) (λ x. (x.0, x.1.now)) result (envelope_at kind bytes.now) }
+    ensures { Gives (λ x. (x.0, x.1.now)) result (λ refused. envelope_at refused kind bytes.now) }
 {
     let (stamp, rest) = stamp_at(bytes)?;
     let (to, rest) = actor_at(rest)?;

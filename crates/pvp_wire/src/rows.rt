@@ -1,7 +1,6 @@
 //! Rows of a log, and the state that a primary answers with.
 ghost use Rattle.std.specs.Prelude.{◌≡◌};
 ghost use Rattle.pvp_wire.specs.Reading.{Gives, rows_from, rows_at, state_at, option_at};
-ghost use Rattle.pvp_wire.specs.Spelling.{rows_of_state};
 
 use crate::fault::WireFault;
 use crate::fields::{row_at, u16_at};
@@ -11,7 +10,7 @@ use vr_types::{RowsOf, StateOf};
 
 /// So many rows.
 fn rows_from(alloc: Global, count: u16, bytes: &[u8]) -> Result<(RowsOf<Cmd>, &[u8]), WireFault>
-    ensures { Gives (λ y. y.0) (λ x. (x.0, x.1.now)) result (rows_from count bytes.now) }
+    ensures { Gives (λ x. (x.0, x.1.now)) result (λ refused. rows_from refused count bytes.now) }
 {
     let mut rows = RowsOf::new(alloc);
     let mut rest = bytes;
@@ -26,7 +25,7 @@ fn rows_from(alloc: Global, count: u16, bytes: &[u8]) -> Result<(RowsOf<Cmd>, &[
 /// A count, and that many rows.
 #[tactic(auto, unfolding(crate::specs::Reading::rows_at))]
 pub fn rows_at(alloc: Global, bytes: &[u8]) -> Result<(RowsOf<Cmd>, &[u8]), WireFault>
-    ensures { Gives (λ y. y.0) (λ x. (x.0, x.1.now)) result (rows_at bytes.now) }
+    ensures { Gives (λ x. (x.0, x.1.now)) result (λ refused. rows_at refused bytes.now) }
 {
     let (count, rest) = u16_at(bytes)?;
     rows_from(alloc, count, rest)
@@ -35,7 +34,7 @@ pub fn rows_at(alloc: Global, bytes: &[u8]) -> Result<(RowsOf<Cmd>, &[u8]), Wire
 /// A state: how many rows are executed, and the rows.
 #[tactic(auto, unfolding(crate::specs::Reading::state_at))]
 fn state_at(alloc: Global, bytes: &[u8]) -> Result<(StateOf<Cmd>, &[u8]), WireFault>
-    ensures { Gives (λ y. y.0.rows) (λ x. (x.0, x.1.now)) result (state_at bytes.now) }
+    ensures { Gives (λ x. (x.0, x.1.now)) result (λ refused. state_at refused bytes.now) }
 {
     let (done, rest) = u16_at(bytes)?;
     let (rows, rest) = rows_at(alloc, rest)?;
@@ -45,7 +44,7 @@ fn state_at(alloc: Global, bytes: &[u8]) -> Result<(StateOf<Cmd>, &[u8]), WireFa
 /// A flag, and the state where it is 1.
 #[tactic(auto, unfolding(crate::specs::Reading::option_at))]
 pub fn option_at(alloc: Global, bytes: &[u8]) -> Result<(Option<StateOf<Cmd>>, &[u8]), WireFault>
-    ensures { Gives (λ y. rows_of_state y.0) (λ x. (x.0, x.1.now)) result (option_at bytes.now) }
+    ensures { Gives (λ x. (x.0, x.1.now)) result (λ refused. option_at refused bytes.now) }
 {
     match bytes {
         [] => Err(WireFault::Length),

@@ -1,3 +1,5 @@
+//! What goes over a stream: envelopes, each with its stamp.
+
 use pvp_types::{Cmd, PayOrder, Reply};
 use vr_types::{EnvelopeOf, MsgOf};
 

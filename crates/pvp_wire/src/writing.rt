@@ -1,6 +1,8 @@
 //! The spelling of frames.
-ghost use Rattle.std.specs.Prelude.{◌≡◌, ◌+◌, ◌*◌, ◌≤◌, ◌++◌, ◌∷◌, [], true, OnOk, length};
+ghost use Rattle.std.specs.Prelude.{◌≡◌, ◌+◌, ◌≤◌, ◌++◌, ◌∷◌, [], true, OnOk};
 ghost use Rattle.std.specs.Io.KnownBytes.{Appends};
+ghost use Rattle.pvp_types.specs.declared.command.Cmd.TheVariants.{PayOut, Paid};
+ghost use Rattle.vr_types.specs.declared.message.MsgOf.TheVariants as message;
 ghost use Rattle.pvp_wire.specs.Spelling as spell;
 ghost use Rattle.pvp_wire.specs.Fits.{Fits, CommandFits, ReplyFits, OrderFits, RowFits, RowsFit, StateFits, MessageFits, StampFits, IsSpelled};
 
@@ -11,7 +13,7 @@ use std::alloc::{AllocError, Global};
 use std::io::{self, Write};
 use vr_types::{MsgOf, RowOf, RowsOf, StateOf};
 
-/// Writes the one spelling of a stamped envelope.
+/// Writes the one spelling of a stamped envelope, which has to have one: `wireable` tells.
 ///
 /// An `Err` is the writer's, or says that memory was refused; how much was written then is not said.
 pub fn encode<W: Write>(alloc: Global, stamped: &Stamped, writer: &mut W) -> io::Result<()>
@@ -30,7 +32,7 @@ pub fn encode<W: Write>(alloc: Global, stamped: &Stamped, writer: &mut W) -> io:
 
 /// The length of a frame whose body has so many bytes, and its head.
 fn push_head(out: &mut Vec<u8>, stamped: &Stamped, body: u32) -> Result<(), AllocError>
-    requires { body ≤ 4194304 }
+    requires { body ≤ spell.most_body }
     ensures bytes { OnOk result (out.new.items ≡ out.old.items ++ spell.number 4 (18 + body) ++ spell.head stamped.now) }
     ensures fits { OnOk result (StampFits stamped.now.stamp × Fits 2 stamped.now.envelope.to) }
 {
@@ -59,8 +61,7 @@ fn push_stamp(out: &mut Vec<u8>, stamp: Stamp) -> Result<(), AllocError>
 
 #[tactic(auto, unfolding(crate::specs::Spelling::number))]
 fn push_u8(out: &mut Vec<u8>, number: u8) -> Result<(), AllocError>
-    ensures bytes { OnOk result (out.new.items ≡ out.old.items ++ spell.number 1 number) }
-    ensures len { OnOk result (length out.new.items ≡ length out.old.items + 1) }
+    ensures { OnOk result (out.new.items ≡ out.old.items ++ spell.number 1 number) }
 {
     out.push(number)?;
     Ok(())
@@ -68,8 +69,7 @@ fn push_u8(out: &mut Vec<u8>, number: u8) -> Result<(), AllocError>
 
 #[tactic(auto, unfolding(crate::specs::Spelling::number))]
 fn push_u16(out: &mut Vec<u8>, number: u16) -> Result<(), AllocError>
-    ensures bytes { OnOk result (out.new.items ≡ out.old.items ++ spell.number 2 number) }
-    ensures len { OnOk result (length out.new.items ≡ length out.old.items + 2) }
+    ensures { OnOk result (out.new.items ≡ out.old.items ++ spell.number 2 number) }
 {
     let mut field = [0; 2];
     BigEndian::write_u16(&mut field, number);
@@ -78,8 +78,7 @@ fn push_u16(out: &mut Vec<u8>, number: u16) -> Result<(), AllocError>
 
 #[tactic(auto, unfolding(crate::specs::Spelling::number))]
 fn push_u32(out: &mut Vec<u8>, number: u32) -> Result<(), AllocError>
-    ensures bytes { OnOk result (out.new.items ≡ out.old.items ++ spell.number 4 number) }
-    ensures len { OnOk result (length out.new.items ≡ length out.old.items + 4) }
+    ensures { OnOk result (out.new.items ≡ out.old.items ++ spell.number 4 number) }
 {
     let mut field = [0; 4];
     BigEndian::write_u32(&mut field, number);
@@ -88,8 +87,7 @@ fn push_u32(out: &mut Vec<u8>, number: u32) -> Result<(), AllocError>
 
 #[tactic(auto, unfolding(crate::specs::Spelling::number))]
 fn push_u64(out: &mut Vec<u8>, number: u64) -> Result<(), AllocError>
-    ensures bytes { OnOk result (out.new.items ≡ out.old.items ++ spell.number 8 number) }
-    ensures len { OnOk result (length out.new.items ≡ length out.old.items + 8) }
+    ensures { OnOk result (out.new.items ≡ out.old.items ++ spell.number 8 number) }
 {
     let mut field = [0; 8];
     BigEndian::write_u64(&mut field, number);
@@ -98,8 +96,7 @@ fn push_u64(out: &mut Vec<u8>, number: u64) -> Result<(), AllocError>
 
 /// A byte that tells what follows.
 fn push_tag(out: &mut Vec<u8>, tag: u8) -> Result<(), AllocError>
-    ensures bytes { OnOk result (out.new.items ≡ out.old.items ++ tag ∷ []) }
-    ensures len { OnOk result (length out.new.items ≡ length out.old.items + 1) }
+    ensures { OnOk result (out.new.items ≡ out.old.items ++ tag ∷ []) }
 {
     out.push(tag)?;
     Ok(())
@@ -108,7 +105,6 @@ fn push_tag(out: &mut Vec<u8>, tag: u8) -> Result<(), AllocError>
 /// A command: its tag, then its fields.
 fn push_command(out: &mut Vec<u8>, cmd: Cmd) -> Result<(), AllocError>
     ensures bytes { OnOk result (out.new.items ≡ out.old.items ++ spell.command cmd) }
-    ensures len { OnOk result (length out.new.items ≤ length out.old.items + 28) }
     ensures fits { OnOk result (CommandFits cmd) }
 {
     match cmd {
@@ -136,22 +132,31 @@ fn push_command(out: &mut Vec<u8>, cmd: Cmd) -> Result<(), AllocError>
             push_payment(out, ccy, pay, member, amt)
         }
         Cmd::Settle { most } => push_tagged(out, 4, most),
-        Cmd::PayOut { ccy, amt } => {
-            push_tag(out, 5)?;
-            push_leg(out, ccy, amt)
-        }
-        Cmd::Paid { ccy, out: number } => {
-            push_tag(out, 6)?;
-            push_u8(out, ccy)?;
-            push_u32(out, number)
-        }
+        Cmd::PayOut { ccy, amt } => push_pay_out(out, ccy, amt),
+        Cmd::Paid { ccy, out: number } => push_paid(out, ccy, number),
     }
+}
+
+/// That a member asks for a pay-out.
+fn push_pay_out(out: &mut Vec<u8>, ccy: u8, amt: u64) -> Result<(), AllocError>
+    ensures { OnOk result (out.new.items ≡ out.old.items ++ spell.command (PayOut ccy amt)) }
+{
+    push_tag(out, 5)?;
+    push_leg(out, ccy, amt)
+}
+
+/// That a pay-out is paid.
+fn push_paid(out: &mut Vec<u8>, ccy: u8, number: u32) -> Result<(), AllocError>
+    ensures { OnOk result (out.new.items ≡ out.old.items ++ spell.command (Paid ccy number)) }
+{
+    push_tag(out, 6)?;
+    push_u8(out, ccy)?;
+    push_u32(out, number)
 }
 
 /// A tag and a number of four bytes.
 fn push_tagged(out: &mut Vec<u8>, tag: u8, number: u32) -> Result<(), AllocError>
-    ensures bytes { OnOk result (out.new.items ≡ out.old.items ++ tag ∷ spell.number 4 number) }
-    ensures len { OnOk result (length out.new.items ≡ length out.old.items + 5) }
+    ensures { OnOk result (out.new.items ≡ out.old.items ++ tag ∷ spell.number 4 number) }
 {
     push_tag(out, tag)?;
     push_u32(out, number)
@@ -159,8 +164,7 @@ fn push_tagged(out: &mut Vec<u8>, tag: u8, number: u32) -> Result<(), AllocError
 
 /// A currency and an amount.
 fn push_leg(out: &mut Vec<u8>, ccy: u8, amt: u64) -> Result<(), AllocError>
-    ensures bytes { OnOk result (out.new.items ≡ out.old.items ++ spell.number 1 ccy ++ spell.number 8 amt) }
-    ensures len { OnOk result (length out.new.items ≡ length out.old.items + 9) }
+    ensures { OnOk result (out.new.items ≡ out.old.items ++ spell.number 1 ccy ++ spell.number 8 amt) }
 {
     push_u8(out, ccy)?;
     push_u64(out, amt)
@@ -174,8 +178,7 @@ fn push_payment(
     member: u16,
     amt: u64,
 ) -> Result<(), AllocError>
-    ensures bytes { OnOk result (out.new.items ≡ out.old.items ++ spell.number 1 ccy ++ spell.number 4 number ++ spell.number 2 member ++ spell.number 8 amt) }
-    ensures len { OnOk result (length out.new.items ≡ length out.old.items + 15) }
+    ensures { OnOk result (out.new.items ≡ out.old.items ++ spell.number 1 ccy ++ spell.number 4 number ++ spell.number 2 member ++ spell.number 8 amt) }
 {
     push_u8(out, ccy)?;
     push_u32(out, number)?;
@@ -205,7 +208,6 @@ fn reason_number(reason: Reason) -> u8
 /// An answer: its tag, then its field.
 fn push_reply(out: &mut Vec<u8>, reply: Reply) -> Result<(), AllocError>
     ensures bytes { OnOk result (out.new.items ≡ out.old.items ++ spell.reply reply) }
-    ensures len { OnOk result (length out.new.items ≤ length out.old.items + 5) }
     ensures fits { OnOk result (ReplyFits reply) }
 {
     match reply {
@@ -223,7 +225,6 @@ fn push_reply(out: &mut Vec<u8>, reply: Reply) -> Result<(), AllocError>
 /// A pay-out's order.
 fn push_order(out: &mut Vec<u8>, order: PayOrder) -> Result<(), AllocError>
     ensures bytes { OnOk result (out.new.items ≡ out.old.items ++ spell.order order) }
-    ensures len { OnOk result (length out.new.items ≡ length out.old.items + 15) }
     ensures fits { OnOk result (OrderFits order) }
 {
     push_payment(out, order.ccy, order.out, order.member, order.amt)
@@ -231,7 +232,6 @@ fn push_order(out: &mut Vec<u8>, order: PayOrder) -> Result<(), AllocError>
 
 fn push_row(out: &mut Vec<u8>, row: &RowOf<Cmd>) -> Result<(), AllocError>
     ensures bytes { OnOk result (out.new.items ≡ out.old.items ++ spell.row row.now) }
-    ensures len { OnOk result (length out.new.items ≤ length out.old.items + 34) }
     ensures fits { OnOk result (RowFits row.now) }
 {
     push_u16(out, row.client)?;
@@ -242,7 +242,6 @@ fn push_row(out: &mut Vec<u8>, row: &RowOf<Cmd>) -> Result<(), AllocError>
 /// A count, and the rows.
 fn push_rows(out: &mut Vec<u8>, rows: &RowsOf<Cmd>) -> Result<(), AllocError>
     ensures bytes { OnOk result (out.new.items ≡ out.old.items ++ spell.rows rows.now) }
-    ensures len { OnOk result (length out.new.items ≤ length out.old.items + 2228192) }
     ensures fits { OnOk result (RowsFit rows.now) }
 {
     push_u16(out, rows.len() as u16)?;
@@ -255,7 +254,6 @@ fn push_rows(out: &mut Vec<u8>, rows: &RowsOf<Cmd>) -> Result<(), AllocError>
 /// 0, or 1 and the state.
 fn push_state(out: &mut Vec<u8>, state: &Option<StateOf<Cmd>>) -> Result<(), AllocError>
     ensures bytes { OnOk result (out.new.items ≡ out.old.items ++ spell.state state.now) }
-    ensures len { OnOk result (length out.new.items ≤ length out.old.items + 2228195) }
     ensures fits { OnOk result (StateFits state.now) }
 {
     match state {
@@ -291,8 +289,7 @@ fn kind_of(msg: &Message) -> u8
 
 /// A view and a number of two bytes.
 fn push_view_and_place(out: &mut Vec<u8>, view: u32, place: u16) -> Result<(), AllocError>
-    ensures bytes { OnOk result (out.new.items ≡ out.old.items ++ spell.number 4 view ++ spell.number 2 place) }
-    ensures len { OnOk result (length out.new.items ≡ length out.old.items + 6) }
+    ensures { OnOk result (out.new.items ≡ out.old.items ++ spell.number 4 view ++ spell.number 2 place) }
 {
     push_u32(out, view)?;
     push_u16(out, place)
@@ -301,24 +298,16 @@ fn push_view_and_place(out: &mut Vec<u8>, view: u32, place: u16) -> Result<(), A
 /// The fields of a message.
 fn push_body(out: &mut Vec<u8>, msg: &Message) -> Result<(), AllocError>
     ensures bytes { OnOk result (out.new.items ≡ out.old.items ++ spell.body msg.now) }
-    ensures len { OnOk result (length out.new.items ≤ length out.old.items + 2228203) }
     ensures fits { OnOk result (MessageFits msg.now) }
 {
     match msg {
-        MsgOf::Request { number, cmd } => {
-            push_u32(out, *number)?;
-            push_command(out, *cmd)
-        }
+        MsgOf::Request { number, cmd } => push_request(out, *number, *cmd),
         MsgOf::Prepare {
             view,
             place,
             done,
             row,
-        } => {
-            push_view_and_place(out, *view, *place)?;
-            push_u16(out, *done)?;
-            push_row(out, row)
-        }
+        } => push_prepare(out, *view, *place, *done, row),
         MsgOf::PrepareOk { view, place } => push_view_and_place(out, *view, *place),
         MsgOf::Commit { view, done } => push_view_and_place(out, *view, *done),
         MsgOf::StartViewChange { view } => push_u32(out, *view),
@@ -327,41 +316,113 @@ fn push_body(out: &mut Vec<u8>, msg: &Message) -> Result<(), AllocError>
             last_normal,
             done,
             rows,
-        } => {
-            push_u32(out, *view)?;
-            push_view_and_place(out, *last_normal, *done)?;
-            push_rows(out, rows)
-        }
-        MsgOf::StartView { view, done, rows } => {
-            push_view_and_place(out, *view, *done)?;
-            push_rows(out, rows)
-        }
+        } => push_do_view_change(out, *view, *last_normal, *done, rows),
+        MsgOf::StartView { view, done, rows } => push_start_view(out, *view, *done, rows),
         MsgOf::GetState { view, base } => push_view_and_place(out, *view, *base),
         MsgOf::NewState {
             view,
             base,
             done,
             rows,
-        } => {
-            push_view_and_place(out, *view, *base)?;
-            push_u16(out, *done)?;
-            push_rows(out, rows)
-        }
+        } => push_new_state(out, *view, *base, *done, rows),
         MsgOf::Recovery { nonce } => push_u32(out, *nonce),
-        MsgOf::RecoveryResponse { view, nonce, state } => {
-            push_u32(out, *view)?;
-            push_u32(out, *nonce)?;
-            push_state(out, state)
-        }
+        MsgOf::RecoveryResponse { view, nonce, state } => push_regained(out, *view, *nonce, state),
         MsgOf::Reply {
             view,
             number,
             reply,
-        } => {
-            push_u32(out, *view)?;
-            push_u32(out, *number)?;
-            push_reply(out, *reply)
-        }
+        } => push_answer(out, *view, *number, *reply),
         MsgOf::PayOrder(order) => push_order(out, *order),
     }
+}
+
+fn push_request(out: &mut Vec<u8>, number: u32, cmd: Cmd) -> Result<(), AllocError>
+    ensures bytes { OnOk result (out.new.items ≡ out.old.items ++ spell.body (message.Request number cmd)) }
+    ensures fits { OnOk result (CommandFits cmd) }
+{
+    push_u32(out, number)?;
+    push_command(out, cmd)
+}
+
+fn push_prepare(
+    out: &mut Vec<u8>,
+    view: u32,
+    place: u16,
+    done: u16,
+    row: &RowOf<Cmd>,
+) -> Result<(), AllocError>
+    ensures bytes { OnOk result (out.new.items ≡ out.old.items ++ spell.body (message.Prepare view place done row.now)) }
+    ensures fits { OnOk result (RowFits row.now) }
+{
+    push_view_and_place(out, view, place)?;
+    push_u16(out, done)?;
+    push_row(out, row)
+}
+
+fn push_do_view_change(
+    out: &mut Vec<u8>,
+    view: u32,
+    last_normal: u32,
+    done: u16,
+    rows: &RowsOf<Cmd>,
+) -> Result<(), AllocError>
+    ensures bytes { OnOk result (out.new.items ≡ out.old.items ++ spell.body (message.DoViewChange view last_normal done rows.now)) }
+    ensures fits { OnOk result (RowsFit rows.now) }
+{
+    push_u32(out, view)?;
+    push_view_and_place(out, last_normal, done)?;
+    push_rows(out, rows)
+}
+
+fn push_start_view(
+    out: &mut Vec<u8>,
+    view: u32,
+    done: u16,
+    rows: &RowsOf<Cmd>,
+) -> Result<(), AllocError>
+    ensures bytes { OnOk result (out.new.items ≡ out.old.items ++ spell.body (message.StartView view done rows.now)) }
+    ensures fits { OnOk result (RowsFit rows.now) }
+{
+    push_view_and_place(out, view, done)?;
+    push_rows(out, rows)
+}
+
+fn push_new_state(
+    out: &mut Vec<u8>,
+    view: u32,
+    base: u16,
+    done: u16,
+    rows: &RowsOf<Cmd>,
+) -> Result<(), AllocError>
+    ensures bytes { OnOk result (out.new.items ≡ out.old.items ++ spell.body (message.NewState view base done rows.now)) }
+    ensures fits { OnOk result (RowsFit rows.now) }
+{
+    push_view_and_place(out, view, base)?;
+    push_u16(out, done)?;
+    push_rows(out, rows)
+}
+
+/// What a site answers to a recovering one.
+fn push_regained(
+    out: &mut Vec<u8>,
+    view: u32,
+    nonce: u32,
+    state: &Option<StateOf<Cmd>>,
+) -> Result<(), AllocError>
+    ensures bytes { OnOk result (out.new.items ≡ out.old.items ++ spell.body (message.RecoveryResponse view nonce state.now)) }
+    ensures fits { OnOk result (StateFits state.now) }
+{
+    push_u32(out, view)?;
+    push_u32(out, nonce)?;
+    push_state(out, state)
+}
+
+/// What a client is answered.
+fn push_answer(out: &mut Vec<u8>, view: u32, number: u32, reply: Reply) -> Result<(), AllocError>
+    ensures bytes { OnOk result (out.new.items ≡ out.old.items ++ spell.body (message.Reply view number reply)) }
+    ensures fits { OnOk result (ReplyFits reply) }
+{
+    push_u32(out, view)?;
+    push_u32(out, number)?;
+    push_reply(out, reply)
 }

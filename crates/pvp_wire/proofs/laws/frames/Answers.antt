@@ -1,5 +1,7 @@
+use Rattle.std.proofs.Common.{arith}
 use Rattle.pvp_wire.proofs.Frames.{frame-takes, frame-again}
-use Rattle.pvp_wire.proofs.Streams.{one_frame}
+use Rattle.pvp_wire.proofs.Lengths.{body-short}
+use Rattle.pvp_wire.proofs.Streams.{length-spelling, one_frame}
 use Rattle.pvp_wire.proofs.laws.frames.Goals as goal
 
 pub returns-clause-read : goal.returns-clause-read
@@ -10,3 +12,6 @@ returns-clause-again c = frame-again
 
 pub returns-clause-one : goal.returns-clause-one
 returns-clause-one c = one_frame
+
+pub returns-clause-short : goal.returns-clause-short
+returns-clause-short c = λ s spelled. omega (arith, length-spelling s, body-short s.envelope.msg spelled.fits.2)

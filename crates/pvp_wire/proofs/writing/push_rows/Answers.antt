@@ -1,4 +1,4 @@
-use Rattle.std.proofs.Common.{◌++◌, length, List, ℕ, ap, sym, ◌∙◌, append_assoc, take, get_or, arith}
+use Rattle.std.proofs.Common.{◌++◌, length, List, ℕ, ap, sym, ◌∙◌, append_assoc, take, get_or}
 use Rattle.std.specs.List.{flat_map}
 use Rattle.pvp_types.specs.declared.command.Cmd.TheVariants.{Instruct}
 use Rattle.pvp_wire.specs.Spelling.{BankRow, number, row}
@@ -18,5 +18,4 @@ loop-row-preserved c =
     let front = c.args.out.now.items ++ number 2 (length rows) in (
       grown ∙ ap (λ (x : List ℕ). x ++ row (get_or rows j no_row)) c.loop-row.invariant.0 ∙ append_assoc front (flat_map row (take j rows)) (row (get_or rows j no_row)) ∙ ap (λ (x : List ℕ). front ++ x) (sym (flat_more rows j no_row lt)),
       each_more rows j no_row lt c.loop-row.invariant.1 fits,
-      omega (arith, c.in_ok-push_row.ensures.len, c.loop-row.invariant.2),
     )

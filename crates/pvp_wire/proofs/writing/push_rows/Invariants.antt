@@ -1,4 +1,4 @@
-use Rattle.std.proofs.Common.{◌≡◌, ◌+◌, ◌*◌, ◌≤◌, ◌++◌, length, take}
+use Rattle.std.proofs.Common.{◌≡◌, ◌++◌, length, take}
 use Rattle.std.specs.List.{flat_map}
 use Rattle.pvp_wire.specs.Spelling.{number, row}
 use Rattle.pvp_wire.specs.Fits.{EachFits}
@@ -8,4 +8,3 @@ abbrev pub invariant-loop-row : goal.invariant-loop-row
 invariant-loop-row l =
     (l.out.items ≡ l.fn.out.items ++ number 2 (length l.rows) ++ flat_map row (take l.row-index l.rows))
     × EachFits (take l.row-index l.rows)
-    × (length l.out.items ≤ length l.fn.out.items + 2 + 34 * l.row-index)
