@@ -8,11 +8,11 @@ use Rattle.pvp_text.specs.declared.script.Kind.{Kind}
 use Rattle.pvp_text.specs.declared.script.Kind.TheVariants.{Book}
 use Rattle.pvp_text.specs.declared.script.Line.{Line}
 use Rattle.pvp_text.specs.declared.script.LineCode.{LineCode}
-use Rattle.pvp_text.specs.declared.script.LineCode.TheVariants.{Byte, UnknownWord, WordCount, LineLength, LineCount, NoMemory}
+use Rattle.pvp_text.specs.declared.script.LineCode.TheVariants.{Byte, UnknownWord, WordCount, Number, UnknownName, LineLength, LineCount, NoMemory}
 use Rattle.pvp_text.specs.declared.script.LineFault.{LineFault}
 use Rattle.pvp_text.specs.declared.script.Statement.{Statement}
 use Rattle.pvp_text.specs.declared.script.Statement.TheVariants.{Do, Print}
-use Rattle.pvp_text.specs.ScriptFields.{◌>>=◌, number_at, reference_at, client_of, member_of, currency_of}
+use Rattle.pvp_text.specs.ScriptFields.{◌>>=◌, number_at, reference_at, client_of, currency_of}
 use Rattle.pvp_text.specs.ScriptWords.{is_empty, lines, words}
 
 -- Of each form a malformed number comes before an unknown name, so first each word is read, and then the
@@ -29,7 +29,7 @@ instruct_at setup who (reference ∷ other ∷ sell ∷ sell_amt ∷ buy ∷ buy
   buy ← reference_at (2 ^ 8) buy
   buy_amt ← number_at (2 ^ 64) buy_amt
   client ← client_of setup who
-  other ← member_of setup other
+  other ← client_of setup other
   sell ← currency_of setup sell
   buy ← currency_of setup buy
   Ok (Do client (Instruct reference other sell sell_amt buy buy_amt))
@@ -63,7 +63,7 @@ fund_at setup who (ccy ∷ pay ∷ member ∷ amt ∷ []) = do
   amt ← number_at (2 ^ 64) amt
   client ← client_of setup who
   ccy ← currency_of setup ccy
-  member ← member_of setup member
+  member ← client_of setup member
   Ok (Do client (Fund ccy pay member amt))
 fund_at setup who _ = Err WordCount
 
@@ -156,3 +156,14 @@ script_at kind setup bytes =
 abbrev pub Gives : Result (Vec Line) LineFault → Result (List Line) LineFault → Type 0
 Gives (Ok found) read = read ≡ Ok found.items
 Gives (Err fault) read = fault.code ≢ NoMemory → read ≡ Err fault
+
+-- what is printed of a code
+abbrev pub line_code_text : LineCode → List ℕ
+line_code_text Byte = codes "L1"
+line_code_text UnknownWord = codes "L2"
+line_code_text WordCount = codes "L3"
+line_code_text Number = codes "L4"
+line_code_text UnknownName = codes "L5"
+line_code_text LineLength = codes "L6"
+line_code_text LineCount = codes "L7"
+line_code_text NoMemory = codes "L8"

@@ -4,7 +4,7 @@ use Rattle.std.specs.Char.{is_ascii_digit}
 use Rattle.std.specs.List.{list_all}
 use Rattle.std.specs.Str.Parse.{digits_value}
 use Rattle.pvp_types.specs.declared.setup.Setup.{Setup}
-use Rattle.pvp_types.specs.Names.{client_number, currency_number, member_number}
+use Rattle.pvp_types.specs.Names.{client_number, currency_number}
 use Rattle.pvp_text.specs.declared.script.LineCode.{LineCode}
 use Rattle.pvp_text.specs.declared.script.LineCode.TheVariants.{Number, UnknownName}
 use Rattle.pvp_text.specs.declared.script.fields.Reference.{Reference}
@@ -28,7 +28,7 @@ is_number word = not ((length word == 0) || has_leading_zero word) && list_all i
 abbrev pub number_at : ℕ → List ℕ → Result ℕ LineCode
 number_at limit word = if is_number word && nat_lt (digits_value 10 word) limit then Ok (digits_value 10 word) else Err Number
 
--- a client, a member or a currency as a line spells it
+-- a client or a currency as a line spells it
 pub data Spelled : Type 0 where
   numbered : ℕ → Spelled
   named : List ℕ → Spelled
@@ -42,12 +42,9 @@ abbrev pub number_of : (List ℕ → Option ℕ) → Spelled → Result ℕ Line
 number_of number_named (numbered n) = Ok n
 number_of number_named (named name) = ok_or (number_named name) UnknownName
 
--- whose command it is: the operator's, a member's or a node's
+-- the operator, a member or a currency's node
 abbrev pub client_of : Setup → Spelled → Result ℕ LineCode
 client_of setup who = number_of (client_number setup) who
-
-abbrev pub member_of : Setup → Spelled → Result ℕ LineCode
-member_of setup member = number_of (member_number setup) member
 
 abbrev pub currency_of : Setup → Spelled → Result ℕ LineCode
 currency_of setup ccy = number_of (currency_number setup) ccy

@@ -15,9 +15,9 @@
 //! ```
 //!
 //! A number is decimal digits without a leading zero, but for `0` itself: of 64 bits for AMT, and of 32
-//! otherwise. WHO is `OP` for the operator, a member's name or a currency's code for its node, MEMBER and
-//! OTHER a member's name, and CCY, SELL and BUY a currency's code. Each of them may be `@` and its number
-//! instead, up to 65535 for a client or a member and up to 255 for a currency, in the setup or not.
+//! otherwise. WHO, OTHER and MEMBER are a client: `OP` for the operator, a member's name, or a currency's
+//! code for its node. CCY, SELL and BUY are a currency's code. Each of them may be `@` and its number
+//! instead, up to 65535 for a client and up to 255 for a currency, in the setup or not.
 ghost use Rattle.std.specs.Prelude.{◌≡◌, ◌≤◌, length};
 ghost use Rattle.pvp_text.specs.Script.{Gives, script_at, lines_at, of_line, prints};
 ghost use Rattle.pvp_text.specs.ScriptWords.{lines};
@@ -92,6 +92,11 @@ pub enum LineCode {
 
 /// Writes the code as `L1` to `L8`.
 impl fmt::Display for LineCode {
+    ghost use Rattle.std.specs.Prelude.{Some};
+    ghost use Rattle.pvp_text.specs.Script.{line_code_text};
+
+    ghost output = { λ code. Some (line_code_text code) };
+
     fn fmt<W: fmt::Write>(&self, f: &mut fmt::Formatter<W>) -> fmt::Result {
         f.write_str(match self {
             LineCode::Byte => "L1",
