@@ -91,7 +91,8 @@ Tells fault (Err RunFaults.NoMemory) = Unit {0}
 Tells fault (Err RunFaults.Output) = ⊥
 
 -- How a run over what reading a script gave ends. A faulty script leaves the writer as it was.
-abbrev pub RunEnds : {W : Type 0} → (W → Option (List ℕ)) → Setup → Result (List Line) LineFault → Result (Unit {0}) RunFault → W → W → Type 0
+abbrev pub RunEnds : {W : Type 0} → (W → Option (List ℕ)) → Setup → Result (List Line) LineFault
+    → Result (Unit {0}) RunFault → W → W → Type 0
 RunEnds contents setup (Ok lines) result old new = LinesEnd (opening setup) lines result (contents old) (contents new)
 RunEnds contents setup (Err fault) result old new = Tells fault result × (new ≡ old)
 

@@ -9,12 +9,7 @@ use Rattle.pvp_text.specs.declared.script.LineCode.{LineCode}
 use Rattle.pvp_text.specs.declared.script.LineCode.TheVariants.{Number, UnknownName}
 use Rattle.pvp_text.specs.declared.script.fields.Reference.{Reference}
 use Rattle.pvp_text.specs.declared.script.fields.Reference.TheVariants as references
-
--- one step after another, up to the first that fails
-infixl 10 ◌>>=◌
-abbrev pub ◌>>=◌ : {A B E : Type 0} → Result A E → (A → Result B E) → Result B E
-(Ok x) >>= f = f x
-(Err e) >>= f = Err e
+use Rattle.pvp_text.specs.Reading.{◌>>=◌}
 
 -- a zero in front of another digit
 abbrev pub has_leading_zero : List ℕ → Bool

@@ -46,7 +46,8 @@ pub fn run_book<W: Write>(
     writer: &mut W,
 ) -> Result<(), RunFault>
     requires { IsValid setup.now }
-    ensures { RunEnds W.contents setup.now (script_at kinds.Book setup.now script.now) result writer.old writer.new }
+    ensures { RunEnds W.contents setup.now (script_at kinds.Book setup.now script.now) result
+        writer.old writer.new }
 {
     let lines = read_lines(alloc, setup, script)?;
     let mut book = Book::fresh(alloc, setup)?;
@@ -101,7 +102,8 @@ fn push_statement(
     statement: Statement,
 ) -> Result<(), AllocError>
     requires { book.old.applied < 65535 }
-    ensures printed { OnOk result (string_bytes text.new ≡ string_bytes text.old ++ statement_text book.old statement) }
+    ensures printed { OnOk result (string_bytes text.new
+        ≡ string_bytes text.old ++ statement_text book.old statement) }
     ensures after { OnOk result (book.new ≡ after_statement book.old statement) }
 {
     match statement {
@@ -159,7 +161,8 @@ fn push_members(text: &mut String, book: &Book) -> Result<(), AllocError>
 
 /// Appends a member's name and balances.
 fn push_member(text: &mut String, book: &Book, m: u16, member: &Member) -> Result<(), AllocError>
-    ensures { OnOk result (string_bytes text.new ≡ string_bytes text.old ++ member_line book.now (m, member.now)) }
+    ensures { OnOk result (string_bytes text.new
+        ≡ string_bytes text.old ++ member_line book.now (m, member.now)) }
 {
     text.push_str(member.name.as_str())?;
     push_balances(text, book, m)?;

@@ -19,7 +19,8 @@
 //! code for its node. CCY, SELL and BUY are a currency's code. Each of them may be `@` and its number
 //! instead, up to 65535 for a client and up to 255 for a currency, in the setup or not.
 ghost use Rattle.std.specs.Prelude.{◌≡◌, ◌≤◌, length};
-ghost use Rattle.pvp_text.specs.Script.{Gives, script_at, lines_at, of_line, prints};
+ghost use Rattle.pvp_text.specs.Script.{script_at, lines_at, of_line, prints, line_fault_is_memory, lines_in};
+ghost use Rattle.pvp_text.specs.Reading.{Reads};
 ghost use Rattle.pvp_text.specs.ScriptWords.{lines};
 ghost use Rattle.pvp_text.specs.declared.script.LineCode.TheVariants.{NoMemory};
 
@@ -143,7 +144,7 @@ pub fn read_script(
     kind: Kind,
     bytes: &[u8],
 ) -> Result<Vec<Line>, LineFault>
-    ensures { Gives result (script_at kind setup.now bytes.now) }
+    ensures { Reads lines_in line_fault_is_memory result (script_at kind setup.now bytes.now) }
 {
     if count_lines(bytes) > LINES {
         return Err(LineFault {
@@ -168,7 +169,8 @@ fn count_lines(text: &[u8]) -> usize
 
 fn read_lines(alloc: Global, setup: &Setup, kind: Kind, text: &[u8]) -> Result<Vec<Line>, LineFault>
     requires { length (lines text.now) ≤ 65535 }
-    ensures { Gives result (lines_at kind setup.now 1 (lines text.now)) }
+    ensures { Reads lines_in line_fault_is_memory result
+        (lines_at kind setup.now 1 (lines text.now)) }
 {
     let mut found = Vec::new(alloc);
     let mut number = 1;
