@@ -107,7 +107,8 @@ fn book<F: Files, O: Write>(
     script: &str,
     out: &mut O,
 ) -> Result<(), Fault>
-    ensures { OnOk result (IfSome (F.known files.now setup.now) (λ setup_bytes. IfSome (F.known files.now script.now) (λ script_bytes.
+    ensures { OnOk result (IfSome (F.known files.now setup.now) (λ setup_bytes.
+        IfSome (F.known files.now script.now) (λ script_bytes.
         BookWrites setup_bytes script_bytes (O.contents out.old) (O.contents out.new)))) }
 {
     let setup = files.read(alloc, setup)?;
