@@ -1,10 +1,10 @@
 -- The parts of a book's text, one part more.
-use Rattle.std.proofs.Common.{◌≡◌, ℕ, ◌+◌, ◌<◌, List, [], ◌∷◌, ◌++◌, zero, suc, length, take, get_or, append_assoc, add-one, drop, drop-cons, length-drop, subst, ◌≤◌, Option, Some, None, ap, sym, ◌∙◌, arith}
+use Rattle.std.proofs.Common.{◌≡◌, ℕ, ◌+◌, ◌<◌, List, [], ◌∷◌, ◌++◌, zero, suc, length, take, get_or, append_assoc, add-one, drop, length-drop, subst, ◌≤◌, Option, Some, None, refl, ap, sym, ◌∙◌, arith}
 use Rattle.std.specs.Fmt.{signed_decimal}
 use Rattle.std.specs.List.{flat_map, enumerate_from}
 use Rattle.std.proofs.Common.{ℤ, to_z, of_z, w64, FitsSigned}
 use Rattle.std.proofs.lemmas.Int.{to_z-of_z}
-use Rattle.std.proofs.lemmas.List.{append-nil}
+use Rattle.std.proofs.lemmas.List.{append-nil, take_more}
 use Rattle.pvp_types.specs.declared.setup.Member.{Member}
 use Rattle.pvp_types.proofs.Lists.{flat_map-range_with_len_more}
 use Rattle.pvp_book.specs.Ledger.{Ledger, balance, figure}
@@ -56,17 +56,43 @@ Appends-append (Some a) None end xs ys first second = absurd first
 Appends-append (Some a) (Some b) None xs ys first second = absurd second
 Appends-append (Some a) (Some b) (Some c) xs ys first second = second ∙ ap (λ t. t ++ ys) first ∙ append_assoc a xs ys
 
--- one line, and then those after it
-pub text_of-next : (old mid end : Option (List ℕ)) (held next : Ledger) (lines : List Line) (i : ℕ) (d : Line) (text : List ℕ) → i < length lines
-    → Appends old mid text → text ≡ statement_text held (get_or lines i d).statement → next ≡ after_statement held (get_or lines i d).statement
-    → Appends mid end (text_of next (drop (i + 1) lines)) → Appends old end (text_of held (drop i lines))
-text_of-next old mid end held next lines i d text within written printed after rest =
-    let front : drop i lines ≡ get_or lines i d ∷ drop (i + 1) lines =
-    drop-cons lines i d within ∙ ap (λ k. get_or lines i d ∷ drop k lines) (sym (add-one i)) in
-    subst (λ ls. Appends old end (text_of held ls)) (sym front)
-    (Appends-append old mid end (statement_text held (get_or lines i d).statement) (text_of (after_statement held (get_or lines i d).statement) (drop (i + 1) lines))
-    (subst (Appends old mid) printed written)
-    (subst (λ h. Appends mid end (text_of h (drop (i + 1) lines))) after rest))
+-- what is held after lines
+abbrev pub after_lines : Ledger → List Line → Ledger
+after_lines held [] = held
+after_lines held (line ∷ lines) = after_lines (after_statement held line.statement) lines
+
+after_lines-append : (held : Ledger) (xs ys : List Line) → after_lines held (xs ++ ys) ≡ after_lines (after_lines held xs) ys
+after_lines-append held [] ys = refl
+after_lines-append held (x ∷ xs) ys = after_lines-append (after_statement held x.statement) xs ys
+
+text_of-append : (held : Ledger) (xs ys : List Line) → text_of held (xs ++ ys) ≡ text_of held xs ++ text_of (after_lines held xs) ys
+text_of-append held [] ys = refl
+text_of-append held (x ∷ xs) ys =
+    let next = after_statement held x.statement in
+    ap (λ t. statement_text held x.statement ++ t) (text_of-append next xs ys)
+    ∙ sym (append_assoc (statement_text held x.statement) (text_of next xs) (text_of (after_lines next xs) ys))
+
+-- what is held after one line more
+pub ran-next : (first held next : Ledger) (lines : List Line) (i : ℕ) (d : Line) → i < length lines
+    → held ≡ after_lines first (take i lines) → next ≡ after_statement held (get_or lines i d).statement
+    → next ≡ after_lines first (take (i + 1) lines)
+ran-next first held next lines i d within ran after =
+    let line = get_or lines i d in
+    after ∙ ap (λ h. after_statement h line.statement) ran ∙ sym (after_lines-append first (take i lines) (line ∷ []))
+    ∙ ap (after_lines first) (sym (take_more lines i d within))
+
+-- what is written after one line more
+pub written-next : (old mid new : Option (List ℕ)) (first held : Ledger) (lines : List Line) (i : ℕ) (d : Line) (text : List ℕ) → i < length lines
+    → held ≡ after_lines first (take i lines) → text ≡ statement_text held (get_or lines i d).statement
+    → Appends old mid (text_of first (take i lines)) → Appends mid new text → Appends old new (text_of first (take (i + 1) lines))
+written-next old mid new first held lines i d text within ran printed so_far written =
+    let line = get_or lines i d in
+    let front = take i lines in
+    let last : statement_text (after_lines first front) line.statement ++ [] ≡ text =
+    append-nil (statement_text (after_lines first front) line.statement) ∙ ap (λ h. statement_text h line.statement) (sym ran) ∙ sym printed in
+    let whole : text_of first (take (i + 1) lines) ≡ text_of first front ++ text =
+    ap (text_of first) (take_more lines i d within) ∙ text_of-append first front (line ∷ []) ∙ ap (λ t. text_of first front ++ t) last in
+    subst (Appends old new) (sym whole) (Appends-append old mid new (text_of first front) text so_far written)
 
 -- what is appended to nothing
 pub alone : (text new blank piece : List ℕ) → text ≡ new → new ≡ blank ++ piece → blank ≡ [] → text ≡ piece

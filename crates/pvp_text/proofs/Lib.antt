@@ -1,5 +1,6 @@
-pub mod SetupTextFaults
+pub mod ReadingLemmas
 pub mod SetupTextItems
+pub mod SetupTextTree
 pub mod SetupTextWorked
 pub mod ScriptLength
 pub mod ScriptNumbers

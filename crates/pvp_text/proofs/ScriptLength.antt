@@ -9,7 +9,7 @@ use Rattle.pvp_text.specs.declared.script.Line.{Line}
 use Rattle.pvp_text.specs.declared.script.LineFault.{LineFault}
 use Rattle.pvp_text.specs.declared.script.Statement.{Statement}
 use Rattle.pvp_text.specs.Script.{line_at, of_line, lines_at, script_at}
-use Rattle.pvp_text.specs.ScriptFields.{◌>>=◌}
+use Rattle.pvp_text.specs.Reading.{◌>>=◌}
 use Rattle.pvp_text.specs.ScriptWords.{lines}
 
 one_more : (n number : ℕ) (said : Result (Option Statement) LineFault) (read : Result (List Line) LineFault) (found : List Line)

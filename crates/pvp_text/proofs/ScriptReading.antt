@@ -10,7 +10,7 @@ use Rattle.pvp_text.specs.declared.script.Line.{Line}
 use Rattle.pvp_text.specs.declared.script.LineFault.{LineFault}
 use Rattle.pvp_text.specs.declared.script.Statement.{Statement}
 use Rattle.pvp_text.specs.Script.{is_printable, statement_at, line_at, of_line, lines_at}
-use Rattle.pvp_text.specs.ScriptFields.{◌>>=◌}
+use Rattle.pvp_text.specs.Reading.{◌>>=◌}
 use Rattle.pvp_text.specs.ScriptWords.{words}
 
 -- a line that is not skipped, not long and of printable bytes says what its words say

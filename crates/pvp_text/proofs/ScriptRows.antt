@@ -95,10 +95,18 @@ amount_before_name : one (codes "do ALFA instruct 1 CARL USD 1 EUR 01") ≡ faul
 unfolding script_at lines_at line_at statement_at do_at instruct_at
 amount_before_name = refl
 
--- the operator is no other side
-operator_is_no_side : one (codes "do ALFA instruct 1 OP USD 1 EUR 1") ≡ fault UnknownName
+-- the operator and a node are told by name wherever a client is, as the book refuses what they may not be
+operator_as_a_side : one (codes "do ALFA instruct 1 OP USD 1 EUR 1") ≡ Ok (at 1 (Do 1 (Instruct 1 0 1 1 0 1)) ∷ [])
 unfolding script_at lines_at line_at statement_at do_at instruct_at
-operator_is_no_side = refl
+operator_as_a_side = refl
+
+node_as_a_side : one (codes "do ALFA instruct 1 USD USD 1 EUR 1") ≡ Ok (at 1 (Do 1 (Instruct 1 102 1 1 0 1)) ∷ [])
+unfolding script_at lines_at line_at statement_at do_at instruct_at
+node_as_a_side = refl
+
+nobody_as_a_side : one (codes "do ALFA instruct 1 CARL USD 1 EUR 1") ≡ fault UnknownName
+unfolding script_at lines_at line_at statement_at do_at instruct_at
+nobody_as_a_side = refl
 
 instruction_lacks_a_word : one (codes "do ALFA instruct 1 BETA USD 1 EUR") ≡ fault WordCount
 unfolding script_at lines_at line_at statement_at do_at instruct_at
@@ -112,9 +120,17 @@ negative_count : one (codes "do OP settle -1") ≡ fault Number
 unfolding script_at lines_at line_at statement_at do_at settle_at
 negative_count = refl
 
-operator_is_no_member : one (codes "do USD fund USD 1 OP 5") ≡ fault UnknownName
+operator_as_a_member : one (codes "do USD fund USD 1 OP 5") ≡ Ok (at 1 (Do 102 (Fund 1 1 0 5)) ∷ [])
 unfolding script_at lines_at line_at statement_at do_at fund_at
-operator_is_no_member = refl
+operator_as_a_member = refl
+
+node_as_a_member : one (codes "do USD fund USD 1 JPY 5") ≡ Ok (at 1 (Do 102 (Fund 1 1 103 5)) ∷ [])
+unfolding script_at lines_at line_at statement_at do_at fund_at
+node_as_a_member = refl
+
+nobody_as_a_member : one (codes "do USD fund USD 1 CARL 5") ≡ fault UnknownName
+unfolding script_at lines_at line_at statement_at do_at fund_at
+nobody_as_a_member = refl
 
 -- skipped lines count, and the last line may lack its end
 skipped_lines_count : script_at Book setup (codes "# a comment" ++ lf ++ lf ++ codes "   " ++ lf ++ codes "  print ") ≡ Ok (at 4 Print ∷ [])

@@ -1,11 +1,13 @@
 -- Worked texts, computed.
-use Rattle.std.proofs.Common.{◌≡◌, ℕ, List, [], ◌∷◌, Option, Some, None, option_and_then, Ok, Err, codes, refl}
+use Rattle.std.proofs.Common.{◌≡◌, ℕ, List, [], ◌∷◌, Result, Ok, Err, codes, refl}
 use Rattle.std.specs.Str.{is_utf8, chars}
 use Rattle.serde_json.proofs.OnLiterals.{serde_json_on_literals}
 use Rattle.pvp_types.specs.declared.setup.Setup.{Setup}
 use Rattle.pvp_types.specs.declared.setup.SetupFault.TheVariants.{SiteCount, CurrencyCode, ListLength}
 use Rattle.pvp_types.specs.Setup.{meets}
+use Rattle.pvp_text.specs.declared.setup.TextFault.{TextFault}
 use Rattle.pvp_text.specs.declared.setup.TextFault.TheVariants.{NotJson, BadMember, BadSetup}
+use Rattle.pvp_text.specs.Reading.{◌>>=◌}
 use Rattle.pvp_text.specs.SetupText.{tree, number, currency, bank_member, setup, setup_text}
 
 -- a bank in three currencies with two members
@@ -62,45 +64,45 @@ unfolding setup_text setup currency bank_member meets serde_json_on_literals is_
 short_list = refl
 
 -- which number a text is, if it is one in digits alone, below 2 ^ 64
-abbrev number_in : List ℕ → Option ℕ
-number_in bytes = option_and_then number (tree bytes)
+abbrev number_in : List ℕ → Result ℕ TextFault
+number_in bytes = tree bytes >>= number
 
-zero : number_in (codes "0") ≡ Some 0
+zero : number_in (codes "0") ≡ Ok 0
 unfolding serde_json_on_literals is_utf8 chars
 zero = refl
 
-greatest : number_in (codes "18446744073709551615") ≡ Some 18446744073709551615
+greatest : number_in (codes "18446744073709551615") ≡ Ok 18446744073709551615
 unfolding serde_json_on_literals is_utf8 chars
 greatest = refl
 
-past_greatest : number_in (codes "18446744073709551616") ≡ None
+past_greatest : number_in (codes "18446744073709551616") ≡ Err BadMember
 unfolding serde_json_on_literals is_utf8 chars
 past_greatest = refl
 
-minus_zero : number_in (codes "-0") ≡ None
+minus_zero : number_in (codes "-0") ≡ Err BadMember
 unfolding serde_json_on_literals is_utf8 chars
 minus_zero = refl
 
-negative : number_in (codes "-1") ≡ None
+negative : number_in (codes "-1") ≡ Err BadMember
 unfolding serde_json_on_literals is_utf8 chars
 negative = refl
 
-with_point : number_in (codes "3.0") ≡ None
+with_point : number_in (codes "3.0") ≡ Err BadMember
 unfolding serde_json_on_literals is_utf8 chars
 with_point = refl
 
-with_exponent : number_in (codes "1e2") ≡ None
+with_exponent : number_in (codes "1e2") ≡ Err BadMember
 unfolding serde_json_on_literals is_utf8 chars
 with_exponent = refl
 
-in_quotes : number_in (codes "\"3\"") ≡ None
+in_quotes : number_in (codes "\"3\"") ≡ Err BadMember
 unfolding serde_json_on_literals is_utf8 chars
 in_quotes = refl
 
-no_number : number_in (codes "null") ≡ None
+no_number : number_in (codes "null") ≡ Err BadMember
 unfolding serde_json_on_literals is_utf8 chars
 no_number = refl
 
-leading_zero : number_in (codes "03") ≡ None
+leading_zero : number_in (codes "03") ≡ Err NotJson
 unfolding serde_json_on_literals is_utf8 chars
 leading_zero = refl

@@ -1,5 +1,5 @@
 -- The printed text of a book. Every line ends with LF.
-use Rattle.std.specs.Prelude.{ℕ, ◌+◌, List, [], ◌∷◌, ◌++◌, length, codes, decimal, ◌≡◌, ◌≤◌, Option, Result, Ok, Err, IsOk}
+use Rattle.std.specs.Prelude.{ℕ, ◌+◌, List, [], ◌∷◌, ◌++◌, length, codes, decimal, take, ◌≡◌, ◌≤◌, Option, Result, Ok, Err}
 use Rattle.std.specs.Fmt.{signed_decimal}
 use Rattle.std.specs.List.{flat_map, range_with_len, enumerate_from}
 use Rattle.pvp_types.specs.declared.setup.Setup.{Setup}
@@ -75,20 +75,26 @@ text_of held (line ∷ lines) = statement_text held line.statement ++ text_of (a
 abbrev pub book_text : Setup → List Line → List ℕ
 book_text setup lines = text_of (opening setup) lines
 
--- what ends a run of lines early
-abbrev pub IsLateFault : RunFault → Type 0
-IsLateFault RunFaults.NoMemory = Unit {0}
-IsLateFault RunFaults.Output = Unit {0}
-IsLateFault (RunFaults.Line fault) = ⊥
+-- How a run of lines ends: with what all of them write; or with what the first of them write, where memory
+-- was refused. How much was written before the writer failed is not said.
+abbrev pub LinesEnd : Ledger → List Line → Result (Unit {0}) RunFault → Option (List ℕ) → Option (List ℕ) → Type 0
+LinesEnd held lines (Ok _) old new = Appends old new (text_of held lines)
+LinesEnd held lines (Err RunFaults.NoMemory) old new = (n : ℕ) × Appends old new (text_of held (take n lines))
+LinesEnd held lines (Err RunFaults.Output) old new = Unit {0}
+LinesEnd held lines (Err (RunFaults.Line fault)) old new = ⊥
 
--- How a run over what reading a script gave ends: a faulty line is told before anything is written, and
--- the writer's fault comes after a script without one.
-abbrev pub RunEnds : {W : Type 0} → (W → Option (List ℕ)) → Setup → Result (List Line) LineFault → Result (Unit {0}) RunFault → W → W → Type 0
-RunEnds contents setup (Ok lines) (Ok _) old new = Appends (contents old) (contents new) (book_text setup lines)
-RunEnds contents setup (Err fault) (Ok _) old new = ⊥
-RunEnds contents setup read (Err (RunFaults.Line fault)) old new = (read ≡ Err fault) × (new ≡ old)
-RunEnds contents setup read (Err RunFaults.Output) old new = IsOk read
-RunEnds contents setup read (Err RunFaults.NoMemory) old new = Unit {0}
+-- what is told of a faulty script: its faulty line, or that memory was refused
+abbrev pub Tells : LineFault → Result (Unit {0}) RunFault → Type 0
+Tells fault (Ok _) = ⊥
+Tells fault (Err (RunFaults.Line told)) = told ≡ fault
+Tells fault (Err RunFaults.NoMemory) = Unit {0}
+Tells fault (Err RunFaults.Output) = ⊥
+
+-- How a run over what reading a script gave ends. A faulty script leaves the writer as it was.
+abbrev pub RunEnds : {W : Type 0} → (W → Option (List ℕ)) → Setup → Result (List Line) LineFault
+    → Result (Unit {0}) RunFault → W → W → Type 0
+RunEnds contents setup (Ok lines) result old new = LinesEnd (opening setup) lines result (contents old) (contents new)
+RunEnds contents setup (Err fault) result old new = Tells fault result × (new ≡ old)
 
 -- what a script was read as: its lines, of which there are not too many for one book
 abbrev pub ReadEnds : Result (Vec Line) RunFault → Result (List Line) LineFault → Type 0

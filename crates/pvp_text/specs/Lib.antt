@@ -1,3 +1,4 @@
+pub mod Reading
 pub mod SetupText
 pub mod ScriptWords
 pub mod ScriptFields

@@ -1,5 +1,5 @@
 -- What a script says.
-use Rattle.std.specs.Prelude.{◌≡◌, ◌≢◌, ℕ, ◌+◌, ◌^◌, ◌==◌, ◌&&◌, ◌||◌, Bool, true, not, List, [], ◌∷◌, length, slice_index, Option, Some, None, option_map, Result, Ok, Err, codes, bytes_eq, nat_lt, nat_le, if◌then◌else◌}
+use Rattle.std.specs.Prelude.{ℕ, ◌+◌, ◌^◌, ◌==◌, ◌&&◌, ◌||◌, Bool, true, false, not, List, [], ◌∷◌, length, slice_index, Option, Some, None, option_map, Result, Ok, Err, codes, bytes_eq, nat_lt, nat_le, if◌then◌else◌}
 use Rattle.std.specs.Global.{Vec}
 use Rattle.std.specs.List.{list_all, cons_option}
 use Rattle.pvp_types.specs.declared.command.Cmd.TheVariants.{Instruct, Rescind, Fund, Settle, PayOut, Paid}
@@ -8,11 +8,12 @@ use Rattle.pvp_text.specs.declared.script.Kind.{Kind}
 use Rattle.pvp_text.specs.declared.script.Kind.TheVariants.{Book}
 use Rattle.pvp_text.specs.declared.script.Line.{Line}
 use Rattle.pvp_text.specs.declared.script.LineCode.{LineCode}
-use Rattle.pvp_text.specs.declared.script.LineCode.TheVariants.{Byte, UnknownWord, WordCount, LineLength, LineCount, NoMemory}
+use Rattle.pvp_text.specs.declared.script.LineCode.TheVariants.{Byte, UnknownWord, WordCount, Number, UnknownName, LineLength, LineCount, NoMemory}
 use Rattle.pvp_text.specs.declared.script.LineFault.{LineFault}
 use Rattle.pvp_text.specs.declared.script.Statement.{Statement}
 use Rattle.pvp_text.specs.declared.script.Statement.TheVariants.{Do, Print}
-use Rattle.pvp_text.specs.ScriptFields.{◌>>=◌, number_at, reference_at, client_of, member_of, currency_of}
+use Rattle.pvp_text.specs.Reading.{◌>>=◌}
+use Rattle.pvp_text.specs.ScriptFields.{number_at, reference_at, client_of, currency_of}
 use Rattle.pvp_text.specs.ScriptWords.{is_empty, lines, words}
 
 -- Of each form a malformed number comes before an unknown name, so first each word is read, and then the
@@ -29,7 +30,7 @@ instruct_at setup who (reference ∷ other ∷ sell ∷ sell_amt ∷ buy ∷ buy
   buy ← reference_at (2 ^ 8) buy
   buy_amt ← number_at (2 ^ 64) buy_amt
   client ← client_of setup who
-  other ← member_of setup other
+  other ← client_of setup other
   sell ← currency_of setup sell
   buy ← currency_of setup buy
   Ok (Do client (Instruct reference other sell sell_amt buy buy_amt))
@@ -63,7 +64,7 @@ fund_at setup who (ccy ∷ pay ∷ member ∷ amt ∷ []) = do
   amt ← number_at (2 ^ 64) amt
   client ← client_of setup who
   ccy ← currency_of setup ccy
-  member ← member_of setup member
+  member ← client_of setup member
   Ok (Do client (Fund ccy pay member amt))
 fund_at setup who _ = Err WordCount
 
@@ -152,7 +153,25 @@ script_at kind setup bytes =
     if nat_lt 65535 (length (lines bytes)) then Err (record { line = 65536; code = LineCount })
     else lines_at kind setup 1 (lines bytes)
 
--- What was returned is what reading gives, unless memory ran out.
-abbrev pub Gives : Result (Vec Line) LineFault → Result (List Line) LineFault → Type 0
-Gives (Ok found) read = read ≡ Ok found.items
-Gives (Err fault) read = fault.code ≢ NoMemory → read ≡ Err fault
+abbrev pub is_memory_code : LineCode → Bool
+is_memory_code NoMemory = true
+is_memory_code _ = false
+
+-- a fault for want of memory
+abbrev pub line_fault_is_memory : LineFault → Bool
+line_fault_is_memory fault = is_memory_code fault.code
+
+-- the lines in a vector
+abbrev pub lines_in : Vec Line → List Line
+lines_in found = found.items
+
+-- what is printed of a code
+abbrev pub line_code_text : LineCode → List ℕ
+line_code_text Byte = codes "L1"
+line_code_text UnknownWord = codes "L2"
+line_code_text WordCount = codes "L3"
+line_code_text Number = codes "L4"
+line_code_text UnknownName = codes "L5"
+line_code_text LineLength = codes "L6"
+line_code_text LineCount = codes "L7"
+line_code_text NoMemory = codes "L8"

@@ -4,17 +4,12 @@ use Rattle.std.specs.Char.{is_ascii_digit}
 use Rattle.std.specs.List.{list_all}
 use Rattle.std.specs.Str.Parse.{digits_value}
 use Rattle.pvp_types.specs.declared.setup.Setup.{Setup}
-use Rattle.pvp_types.specs.Names.{client_number, currency_number, member_number}
+use Rattle.pvp_types.specs.Names.{client_number, currency_number}
 use Rattle.pvp_text.specs.declared.script.LineCode.{LineCode}
 use Rattle.pvp_text.specs.declared.script.LineCode.TheVariants.{Number, UnknownName}
 use Rattle.pvp_text.specs.declared.script.fields.Reference.{Reference}
 use Rattle.pvp_text.specs.declared.script.fields.Reference.TheVariants as references
-
--- one step after another, up to the first that fails
-infixl 10 ◌>>=◌
-abbrev pub ◌>>=◌ : {A B E : Type 0} → Result A E → (A → Result B E) → Result B E
-(Ok x) >>= f = f x
-(Err e) >>= f = Err e
+use Rattle.pvp_text.specs.Reading.{◌>>=◌}
 
 -- a zero in front of another digit
 abbrev pub has_leading_zero : List ℕ → Bool
@@ -28,7 +23,7 @@ is_number word = not ((length word == 0) || has_leading_zero word) && list_all i
 abbrev pub number_at : ℕ → List ℕ → Result ℕ LineCode
 number_at limit word = if is_number word && nat_lt (digits_value 10 word) limit then Ok (digits_value 10 word) else Err Number
 
--- a client, a member or a currency as a line spells it
+-- a client or a currency as a line spells it
 pub data Spelled : Type 0 where
   numbered : ℕ → Spelled
   named : List ℕ → Spelled
@@ -42,12 +37,9 @@ abbrev pub number_of : (List ℕ → Option ℕ) → Spelled → Result ℕ Line
 number_of number_named (numbered n) = Ok n
 number_of number_named (named name) = ok_or (number_named name) UnknownName
 
--- whose command it is: the operator's, a member's or a node's
+-- the operator, a member or a currency's node
 abbrev pub client_of : Setup → Spelled → Result ℕ LineCode
 client_of setup who = number_of (client_number setup) who
-
-abbrev pub member_of : Setup → Spelled → Result ℕ LineCode
-member_of setup member = number_of (member_number setup) member
 
 abbrev pub currency_of : Setup → Spelled → Result ℕ LineCode
 currency_of setup ccy = number_of (currency_number setup) ccy

@@ -7,7 +7,7 @@ ghost use Rattle.pvp_types.specs.Setup.{IsValid};
 ghost use Rattle.pvp_text.specs.declared.book.RunFault.TheVariants.{NoMemory, Output};
 ghost use Rattle.pvp_text.specs.declared.script.Kind.TheVariants as kinds;
 ghost use Rattle.pvp_text.specs.Script.{script_at};
-ghost use Rattle.pvp_text.specs.BookText.{balances_text, counts_text, figures_text, member_line, member_lines, block, statement_text, after_statement, text_of, IsLateFault, RunEnds, ReadEnds};
+ghost use Rattle.pvp_text.specs.BookText.{balances_text, counts_text, figures_text, member_line, member_lines, block, statement_text, after_statement, LinesEnd, RunEnds, ReadEnds};
 
 use crate::script::{Kind, Line, LineCode, LineFault, Statement, read_script};
 use pvp_book::{Book, PairState};
@@ -36,8 +36,9 @@ impl From<AllocError> for RunFault {
 
 /// Runs a script on a book of its own, and writes what its lines print.
 ///
-/// The script is read whole first, so that a faulty line writes nothing. How much of the text was
-/// written where the writer fails, or memory is refused, is not said.
+/// The script is read whole first, so that a faulty one writes nothing. Where memory is refused in the
+/// run, what was written is what the script's first lines print. How much was written where the writer
+/// fails is not said.
 pub fn run_book<W: Write>(
     alloc: Global,
     setup: &Setup,
@@ -45,7 +46,8 @@ pub fn run_book<W: Write>(
     writer: &mut W,
 ) -> Result<(), RunFault>
     requires { IsValid setup.now }
-    ensures { RunEnds W.contents setup.now (script_at kinds.Book setup.now script.now) result writer.old writer.new }
+    ensures { RunEnds W.contents setup.now (script_at kinds.Book setup.now script.now) result
+        writer.old writer.new }
 {
     let lines = read_lines(alloc, setup, script)?;
     let mut book = Book::fresh(alloc, setup)?;
@@ -71,8 +73,7 @@ fn run_lines<W: Write>(
     writer: &mut W,
 ) -> Result<(), RunFault>
     requires { book.old.applied + length lines.now ≤ 65535 }
-    ensures written { OnOk result (Appends (W.contents writer.old) (W.contents writer.new) (text_of book.old lines.now)) }
-    ensures fault { IfErr result IsLateFault }
+    ensures { LinesEnd book.old lines.now result (W.contents writer.old) (W.contents writer.new) }
 {
     let mut text = String::new(alloc);
     for line in lines {
@@ -101,7 +102,8 @@ fn push_statement(
     statement: Statement,
 ) -> Result<(), AllocError>
     requires { book.old.applied < 65535 }
-    ensures printed { OnOk result (string_bytes text.new ≡ string_bytes text.old ++ statement_text book.old statement) }
+    ensures printed { OnOk result (string_bytes text.new
+        ≡ string_bytes text.old ++ statement_text book.old statement) }
     ensures after { OnOk result (book.new ≡ after_statement book.old statement) }
 {
     match statement {
@@ -159,7 +161,8 @@ fn push_members(text: &mut String, book: &Book) -> Result<(), AllocError>
 
 /// Appends a member's name and balances.
 fn push_member(text: &mut String, book: &Book, m: u16, member: &Member) -> Result<(), AllocError>
-    ensures { OnOk result (string_bytes text.new ≡ string_bytes text.old ++ member_line book.now (m, member.now)) }
+    ensures { OnOk result (string_bytes text.new
+        ≡ string_bytes text.old ++ member_line book.now (m, member.now)) }
 {
     text.push_str(member.name.as_str())?;
     push_balances(text, book, m)?;

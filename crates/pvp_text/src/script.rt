@@ -15,11 +15,12 @@
 //! ```
 //!
 //! A number is decimal digits without a leading zero, but for `0` itself: of 64 bits for AMT, and of 32
-//! otherwise. WHO is `OP` for the operator, a member's name or a currency's code for its node, MEMBER and
-//! OTHER a member's name, and CCY, SELL and BUY a currency's code. Each of them may be `@` and its number
-//! instead, up to 65535 for a client or a member and up to 255 for a currency, in the setup or not.
+//! otherwise. WHO, OTHER and MEMBER are a client: `OP` for the operator, a member's name, or a currency's
+//! code for its node. CCY, SELL and BUY are a currency's code. Each of them may be `@` and its number
+//! instead, up to 65535 for a client and up to 255 for a currency, in the setup or not.
 ghost use Rattle.std.specs.Prelude.{◌≡◌, ◌≤◌, length};
-ghost use Rattle.pvp_text.specs.Script.{Gives, script_at, lines_at, of_line, prints};
+ghost use Rattle.pvp_text.specs.Script.{script_at, lines_at, of_line, prints, line_fault_is_memory, lines_in};
+ghost use Rattle.pvp_text.specs.Reading.{Reads};
 ghost use Rattle.pvp_text.specs.ScriptWords.{lines};
 ghost use Rattle.pvp_text.specs.declared.script.LineCode.TheVariants.{NoMemory};
 
@@ -92,6 +93,11 @@ pub enum LineCode {
 
 /// Writes the code as `L1` to `L8`.
 impl fmt::Display for LineCode {
+    ghost use Rattle.std.specs.Prelude.{Some};
+    ghost use Rattle.pvp_text.specs.Script.{line_code_text};
+
+    ghost output = { λ code. Some (line_code_text code) };
+
     fn fmt<W: fmt::Write>(&self, f: &mut fmt::Formatter<W>) -> fmt::Result {
         f.write_str(match self {
             LineCode::Byte => "L1",
@@ -138,7 +144,7 @@ pub fn read_script(
     kind: Kind,
     bytes: &[u8],
 ) -> Result<Vec<Line>, LineFault>
-    ensures { Gives result (script_at kind setup.now bytes.now) }
+    ensures { Reads lines_in line_fault_is_memory result (script_at kind setup.now bytes.now) }
 {
     if count_lines(bytes) > LINES {
         return Err(LineFault {
@@ -163,7 +169,8 @@ fn count_lines(text: &[u8]) -> usize
 
 fn read_lines(alloc: Global, setup: &Setup, kind: Kind, text: &[u8]) -> Result<Vec<Line>, LineFault>
     requires { length (lines text.now) ≤ 65535 }
-    ensures { Gives result (lines_at kind setup.now 1 (lines text.now)) }
+    ensures { Reads lines_in line_fault_is_memory result
+        (lines_at kind setup.now 1 (lines text.now)) }
 {
     let mut found = Vec::new(alloc);
     let mut number = 1;

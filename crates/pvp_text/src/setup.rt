@@ -1,10 +1,11 @@
 //! Setup files: JSON texts that say what a bank is set up with.
 
-ghost use Rattle.std.specs.Prelude.{◌≡◌, IfOk, IfErr};
+ghost use Rattle.std.specs.Prelude.{◌≡◌, IfOk};
 ghost use Rattle.pvp_types.specs.Setup.{IsValid};
 ghost use Rattle.serde_json.specs.View.{view};
 ghost use Rattle.pvp_text.specs.declared.setup.TextFault.TheVariants.{NoMemory};
-ghost use Rattle.pvp_text.specs.SetupText.{Fails, Gives, tree, setup_text};
+ghost use Rattle.pvp_text.specs.Reading.{Reads};
+ghost use Rattle.pvp_text.specs.SetupText.{tree, setup_text, text_fault_is_memory, itself};
 
 #[cfg(test)]
 mod tests;
@@ -59,8 +60,9 @@ impl fmt::Display for TextFault {
 ///
 /// Members of an object that a setup does not have are ignored, and of a name that stands twice
 /// the last value counts.
+#[tactic(auto, unfolding(crate::specs::SetupText::setup_text))]
 pub fn read_setup(alloc: Global, bytes: &[u8]) -> Result<Setup, TextFault>
-    ensures exact { Gives result (setup_text bytes.now) }
+    ensures exact { Reads itself text_fault_is_memory result (setup_text bytes.now) }
     ensures valid { IfOk result IsValid }
 {
     let tree = read_tree(alloc, bytes)?;
@@ -73,8 +75,7 @@ pub fn read_setup(alloc: Global, bytes: &[u8]) -> Result<Setup, TextFault>
 
 /// The tree of a JSON text.
 fn read_tree(alloc: Global, bytes: &[u8]) -> Result<Value, TextFault>
-    ensures ok { IfOk result (λ t. tree bytes.now ≡ Some (view t)) }
-    ensures err { IfErr result (λ fault. Fails fault (setup_text bytes.now)) }
+    ensures { Reads view text_fault_is_memory result (tree bytes.now) }
 {
     match Value::from_slice(alloc, bytes) {
         Ok(tree) => Ok(tree),

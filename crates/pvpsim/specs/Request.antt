@@ -15,4 +15,5 @@ CheckWrites setup old new = IsOk (setup_text setup) × Appends old new (codes "s
 -- the text of one book over the script's lines
 abbrev pub BookWrites : List ℕ → List ℕ → Option (List ℕ) → Option (List ℕ) → Type 0
 BookWrites setup script old new =
-    (s : Setup) × (setup_text setup ≡ Ok s) × (lines : List Line) × (script_at Book s script ≡ Ok lines) × Appends old new (book_text s lines)
+    (s : Setup) × (setup_text setup ≡ Ok s) × (lines : List Line) × (script_at Book s script ≡ Ok lines)
+    × Appends old new (book_text s lines)

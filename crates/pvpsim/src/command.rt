@@ -1,16 +1,16 @@
 //! The whole program, over its words, its files and its two outputs.
 
-ghost use Rattle.std.specs.Prelude.{◌≡◌, OnOk, IfSome};
+ghost use Rattle.std.specs.Prelude.{◌≡◌, ◌≢◌, OnOk, IfSome};
 ghost use Rattle.pvpsim.specs.Request.{CheckWrites, BookWrites};
 
 use crate::fault::Fault;
 use crate::files::Files;
 use crate::request::{Request, parse};
-use clap::error::ErrorKind;
+use clap::error;
 use pvp_text::{read_setup, run_book};
 use std::alloc::Global;
 use std::convert::AsStr;
-use std::io::Write;
+use std::io::{ErrorKind, Write};
 
 /// The status of a run that ended as it should.
 const DONE: u8 = 0;
@@ -34,7 +34,7 @@ pub fn command<S: AsStr, F: Files, O: Write, E: Write>(
         Ok(Some(request)) => run(alloc, request, files, out),
         Ok(None) => return NO_FORM,
         Err(refusal) => {
-            if refusal.kind() != ErrorKind::OutOfMemory {
+            if refusal.kind() != error::ErrorKind::OutOfMemory {
                 let _ = write!(err, "{refusal}");
                 return NO_FORM;
             }
@@ -46,6 +46,24 @@ pub fn command<S: AsStr, F: Files, O: Write, E: Write>(
         Err(fault) => {
             let _ = write!(err, "{fault}\n");
             FAULT
+        }
+    }
+}
+
+/// Tells why the words of the command line were not had, and answers the status: 1 where memory was
+/// refused, and 2 for a word that is no text, as no form has one.
+pub fn no_words<E: Write>(refusal: ErrorKind, err: &mut E) -> u8
+    ensures memory { refusal ≡ ErrorKind.OutOfMemory → result ≡ 1 }
+    ensures no_text { refusal ≢ ErrorKind.OutOfMemory → result ≡ 2 }
+{
+    match refusal {
+        ErrorKind::OutOfMemory => {
+            let _ = write!(err, "{}\n", Fault::NoMemory);
+            FAULT
+        }
+        _ => {
+            let _ = err.write_all(b"error: a word is not UTF-8\n");
+            NO_FORM
         }
     }
 }
@@ -89,7 +107,8 @@ fn book<F: Files, O: Write>(
     script: &str,
     out: &mut O,
 ) -> Result<(), Fault>
-    ensures { OnOk result (IfSome (F.known files.now setup.now) (λ setup_bytes. IfSome (F.known files.now script.now) (λ script_bytes.
+    ensures { OnOk result (IfSome (F.known files.now setup.now) (λ setup_bytes.
+        IfSome (F.known files.now script.now) (λ script_bytes.
         BookWrites setup_bytes script_bytes (O.contents out.old) (O.contents out.new)))) }
 {
     let setup = files.read(alloc, setup)?;

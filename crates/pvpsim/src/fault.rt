@@ -4,16 +4,22 @@ use crate::files::FileFault;
 use pvp_text::{LineCode, RunFault, TextFault};
 use thiserror::Error;
 
+/// Why a run ended, printed as the line that tells it.
 #[derive(Clone, Copy, Debug, PartialEq, Eq, Error)]
 pub enum Fault {
+    /// The setup is no JSON, or breaks a rule.
     #[error("fault {0}")]
     Setup(TextFault),
+    /// A line of the script is faulty.
     #[error("fault line {line} {code}")]
     Line { line: u32, code: LineCode },
+    /// A file could not be read.
     #[error("fault file")]
     File,
+    /// Standard output could not be written.
     #[error("fault output")]
     Output,
+    /// Memory was refused, in whichever part.
     #[error("fault memory")]
     NoMemory,
 }

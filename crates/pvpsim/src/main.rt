@@ -9,31 +9,25 @@ mod request;
 mod tests;
 
 use crate::files::Disk;
-use std::env;
 use std::process::ExitCode;
+use std::{env, io};
 
 fn main(rt: HostRuntime) -> ExitCode {
-    let alloc = rt.alloc();
-    let words: Vec<String> = match env::args(&rt) {
-        Ok(words) => match words.collect(alloc) {
-            Ok(words) => words,
-            Err(_) => return no_memory(&rt),
-        },
-        Err(_) => return no_memory(&rt),
-    };
     let files = Disk { rt: &rt };
-    let status = command::command(
-        alloc,
-        words.as_slice(),
-        &files,
-        &mut rt.stdout(),
-        &mut rt.stderr(),
-    );
+    let status = match words(&rt) {
+        Ok(words) => command::command(
+            rt.alloc(),
+            words.as_slice(),
+            &files,
+            &mut rt.stdout(),
+            &mut rt.stderr(),
+        ),
+        Err(refusal) => command::no_words(refusal.kind(), &mut rt.stderr()),
+    };
     ExitCode::from(status)
 }
 
-/// Tells that there is no memory for the words.
-fn no_memory(rt: &impl Eprint) -> ExitCode {
-    let _ = rt.eprintln("fault memory");
-    ExitCode::from(1)
+/// The words of the command line, the program's own name first.
+fn words<R: env::Env + AllocGlobal>(rt: &R) -> io::Result<Vec<String>> {
+    Ok(env::args(rt)?.collect(rt.alloc())?)
 }

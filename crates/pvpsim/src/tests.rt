@@ -1,8 +1,11 @@
-use crate::command::command;
+mod worked;
+
+use crate::command::{command, no_words};
 use crate::files::{FileFault, Files};
+use crate::tests::worked::ROWS;
 use std::alloc::Global;
 use std::io;
-use std::io::Write;
+use std::io::{ErrorKind, Write};
 use std::process::Abort;
 use std::test::Fail;
 
@@ -54,7 +57,7 @@ struct Failing {
 impl Write for Failing {
     fn write(&mut self, buf: &[u8]) -> io::Result<usize> {
         if self.left == 0 {
-            return Err(io::Error::from(io::ErrorKind::Other));
+            return Err(io::Error::from(ErrorKind::Other));
         }
         self.left -= 1;
         Ok(buf.len())
@@ -65,91 +68,45 @@ impl Write for Failing {
     }
 }
 
-/// Runs `book` and compares all that comes out of it.
-fn runs_book<R: Abort + AllocGlobal>(
+/// The status, what is written to standard output, and what to standard error.
+type Outcome<'a> = (u8, &'a str, &'a str);
+
+/// Runs the program on its words and files, and compares all that comes out of it.
+fn runs<R: Abort + AllocGlobal>(
     rt: &R,
-    setup: &str,
-    script: &str,
-    status: u8,
-    printed: &str,
-    told: &str,
+    words: &[&str],
+    files: &TwoFiles<'_>,
+    want: Outcome<'_>,
 ) -> Result<(), Fail> {
     let alloc = rt.alloc();
-    let files = TwoFiles { setup, script };
+    let script = files.script;
+    let (status, printed, told) = want;
     let mut out: Vec<u8> = Vec::new(alloc);
     let mut err: Vec<u8> = Vec::new(alloc);
-    let words = ["pvpsim", "book", "setup.json", "script.txt"];
-    let got = command(alloc, words.as_slice(), &files, &mut out, &mut err);
+    let got = command(alloc, words, files, &mut out, &mut err);
     assert_eq!(rt; out.as_slice(), printed.as_bytes(), "of {script}");
     assert_eq!(rt; err.as_slice(), told.as_bytes(), "of {script}");
     assert_eq!(rt; got, status, "of {script}");
     Ok(())
 }
 
-#[test]
-fn prints_a_pay_out(rt: HostRuntime) -> Result<(), Fail> {
-    let script = "do USD fund USD 1 ALFA 1200
-do ALFA payout USD 200
-do USD paid USD 1
-print
-";
-    let printed = "1 done
-2 order 1
-3 done
-ALFA 0 1000 0
-BETA 0 0 0
-pairs 0 0 0 0
-figure 0 1000 0
-open 0
-";
-    runs_book(&rt, SETUP, script, 0, printed, "")
+/// Runs `book` on a setup and a script.
+fn runs_book<R: Abort + AllocGlobal>(
+    rt: &R,
+    setup: &str,
+    script: &str,
+    want: Outcome<'_>,
+) -> Result<(), Fail> {
+    let words = ["pvpsim", "book", "setup.json", "script.txt"];
+    runs(rt, words.as_slice(), &TwoFiles { setup, script }, want)
 }
 
 #[test]
-fn refuses_in_order(rt: HostRuntime) -> Result<(), Fail> {
-    let script = "do BETA fund USD 1 ALFA 5
-do USD fund USD 1 @3 5
-do ALFA payout @3 1
-do USD fund USD 1 ALFA 1000000000001
-do USD fund USD 0 ALFA 5
-do USD fund USD 1 ALFA 1000000000000
-do USD fund USD 1 ALFA 5
-do BETA payout USD 1
-do USD paid USD 1";
-    let printed = "1 no B1
-2 no B2
-3 no B3
-4 no B4
-5 no B7
-6 done
-7 no B5
-8 no B9
-9 no B7
-";
-    runs_book(&rt, SETUP, script, 0, printed, "")
-}
-
-#[test]
-fn prints_a_settlement(rt: HostRuntime) -> Result<(), Fail> {
-    let script = "do USD fund USD 1 ALFA 1200
-do EUR fund EUR 1 BETA 48
-do ALFA instruct 1 BETA USD 1100 EUR 1000
-do BETA instruct 1 ALFA EUR 1000 USD 1100
-do OP settle 10
-print
-";
-    let printed = "1 done
-2 done
-3 done
-4 matched
-5 settled 1
-ALFA 1000 100 0
-BETA -952 1100 0
-pairs 0 0 1 0
-figure 48 1200 0
-open 0
-";
-    runs_book(&rt, SETUP, script, 0, printed, "")
+fn runs_the_worked_scripts(rt: HostRuntime) -> Result<(), Fail> {
+    for (script, printed) in ROWS {
+        runs_book(&rt, SETUP, script, (0, printed, ""))?;
+    }
+    Ok(())
 }
 
 #[test]
@@ -176,7 +133,23 @@ pairs 1 1 0 1
 figure 0 0 0
 open 0
 ";
-    runs_book(&rt, SETUP, script, 0, printed, "")
+    runs_book(&rt, SETUP, script, (0, printed, ""))
+}
+
+/// A side and a member may be told by any client's name; the book refuses what is no member.
+#[test]
+fn reads_any_client_as_a_side(rt: HostRuntime) -> Result<(), Fail> {
+    let script = "do ALFA instruct 1 OP USD 1 EUR 1
+do ALFA instruct 1 USD USD 1 EUR 1
+do USD fund USD 1 OP 5
+do USD fund USD 1 JPY 5
+";
+    let printed = "1 no B2
+2 no B2
+3 no B2
+4 no B2
+";
+    runs_book(&rt, SETUP, script, (0, printed, ""))
 }
 
 #[test]
@@ -197,33 +170,50 @@ fn tells_a_fault_and_prints_nothing(rt: HostRuntime) -> Result<(), Fail> {
         ("{\"sites\":3}", "print", "fault json J2\n"),
     ];
     for (setup, script, told) in cases {
-        runs_book(&rt, setup, script, 1, "", told)?;
+        runs_book(&rt, setup, script, (1, "", told))?;
     }
     Ok(())
 }
 
 #[test]
 fn judges_words_and_files(rt: HostRuntime) -> Result<(), Fail> {
-    let alloc = rt.alloc();
     let files = TwoFiles {
         setup: SETUP,
         script: "",
     };
     let cases = [
-        (["pvpsim", "check", "setup.json"], 0, "setup ok\n", ""),
-        (["pvpsim", "check", "no such"], 1, "", "fault file\n"),
-        (["pvpsim", "check", "too large"], 1, "", "fault memory\n"),
+        (["pvpsim", "check", "setup.json"], (0, "setup ok\n", "")),
+        (["pvpsim", "check", "no such"], (1, "", "fault file\n")),
+        (["pvpsim", "check", "too large"], (1, "", "fault memory\n")),
     ];
-    for (words, status, printed, told) in cases {
-        let mut out: Vec<u8> = Vec::new(alloc);
-        let mut err: Vec<u8> = Vec::new(alloc);
-        let got = command(alloc, words.as_slice(), &files, &mut out, &mut err);
-        assert_eq!(rt; got, status);
-        assert_eq!(rt; out.as_slice(), printed.as_bytes());
-        assert_eq!(rt; err.as_slice(), told.as_bytes());
+    for (words, want) in cases {
+        runs(&rt, words.as_slice(), &files, want)?;
     }
     Ok(())
 }
+
+/// A faulty setup is told, though the script can not be read.
+#[test]
+fn judges_the_setup_before_the_script(rt: HostRuntime) -> Result<(), Fail> {
+    let words = ["pvpsim", "book", "setup.json", "no such"];
+    for (setup, told) in [(FOUR_SITES, "fault setup K1\n"), (SETUP, "fault file\n")] {
+        let files = TwoFiles { setup, script: "" };
+        runs(&rt, words.as_slice(), &files, (1, "", told))?;
+    }
+    Ok(())
+}
+
+/// Words of no form.
+const NO_FORMS: &[&[&str]] = &[
+    &["pvpsim"],
+    &["pvpsim", "play", "setup.json"],
+    &["pvpsim", "book", "setup.json"],
+    &["pvpsim", "check", "setup.json", "script.txt"],
+    &["pvpsim", "--fail", "setup.json"],
+    &["pvpsim", "check", "--help"],
+    &["pvpsim", "--help"],
+    &["pvpsim", "--version"],
+];
 
 #[test]
 fn refuses_words_of_no_form(rt: HostRuntime) -> Result<(), Fail> {
@@ -232,19 +222,27 @@ fn refuses_words_of_no_form(rt: HostRuntime) -> Result<(), Fail> {
         setup: SETUP,
         script: "",
     };
-    let cases = [
-        ["pvpsim", "play", "setup.json"],
-        ["pvpsim", "book", "setup.json"],
-        ["pvpsim", "--fail", "setup.json"],
-        ["pvpsim", "check", "--help"],
-    ];
-    for words in cases {
+    for words in NO_FORMS {
         let mut out: Vec<u8> = Vec::new(alloc);
         let mut err: Vec<u8> = Vec::new(alloc);
-        let got = command(alloc, words.as_slice(), &files, &mut out, &mut err);
+        let got = command(alloc, *words, &files, &mut out, &mut err);
         assert_eq!(rt; got, 2);
         assert_eq!(rt; out.len(), 0);
         assert!(rt; !err.is_empty());
+    }
+    Ok(())
+}
+
+#[test]
+fn tells_why_words_were_not_had(rt: HostRuntime) -> Result<(), Fail> {
+    let cases = [
+        (ErrorKind::OutOfMemory, 1, "fault memory\n"),
+        (ErrorKind::InvalidData, 2, "error: a word is not UTF-8\n"),
+    ];
+    for (refusal, status, told) in cases {
+        let mut err: Vec<u8> = Vec::new(rt.alloc());
+        assert_eq!(rt; no_words(refusal, &mut err), status);
+        assert_eq!(rt; err.as_slice(), told.as_bytes());
     }
     Ok(())
 }

@@ -2,13 +2,13 @@
 ghost use Rattle.std.specs.Prelude.{◌≡◌, ◌^◌};
 ghost use Rattle.std.specs.Char.{is_ascii_digit};
 ghost use Rattle.std.specs.List.{list_all};
-ghost use Rattle.pvp_text.specs.ScriptFields.{is_number, number_at, reference_at, client_of, member_of, currency_of, spelled, spelled_in};
+ghost use Rattle.pvp_text.specs.ScriptFields.{is_number, number_at, reference_at, client_of, currency_of, spelled, spelled_in};
 
 use crate::script::LineCode;
 use pvp_types::Setup;
 use std::str;
 
-/// A client, a member or a currency as a line spells it.
+/// A client or a currency as a line spells it.
 #[derive(Clone, Copy, Debug)]
 pub enum Reference<'a, N> {
     /// `@` and its number.
@@ -53,7 +53,7 @@ pub fn number(word: &[u8]) -> Result<u32, LineCode>
     u32::try_from(amount(word)?).or(Err(LineCode::Number))
 }
 
-/// A client or a member, which is not looked up yet.
+/// A client, which is not looked up yet.
 pub fn client_reference(word: &[u8]) -> Result<Reference<'_, u16>, LineCode>
     ensures { spelled_in result ≡ reference_at (2 ^ 16) word.now }
 {
@@ -86,16 +86,6 @@ pub fn client_of(setup: &Setup, who: Reference<u16>) -> Result<u16, LineCode>
     match who {
         Reference::Number(number) => Ok(number),
         Reference::Name(name) => setup.client(name).ok_or(LineCode::UnknownName),
-    }
-}
-
-/// The number of a member. One that is told by number is not looked up.
-pub fn member_of(setup: &Setup, member: Reference<u16>) -> Result<u16, LineCode>
-    ensures { result ≡ member_of setup.now (spelled member.entry) }
-{
-    match member {
-        Reference::Number(number) => Ok(number),
-        Reference::Name(name) => setup.member(name).ok_or(LineCode::UnknownName),
     }
 }
 

@@ -7,7 +7,7 @@ ghost use Rattle.pvp_text.specs.Script.{instruct_at, rescind_at, settle_at, fund
 ghost use Rattle.pvp_text.specs.ScriptWords.{words};
 
 use crate::script::fields::{
-    amount, client_of, client_reference, currency_of, currency_reference, member_of, number,
+    amount, client_of, client_reference, currency_of, currency_reference, number,
 };
 use crate::script::words::{end, is, next_word, word};
 use crate::script::{Kind, LineCode, Statement};
@@ -113,7 +113,7 @@ fn instruct(setup: &Setup, who: &[u8], fields: &[u8]) -> Result<Statement, LineC
     let buy = currency_reference(buy)?;
     let buy_amt = amount(buy_amt)?;
     let client = client_of(setup, who)?;
-    let other = member_of(setup, other)?;
+    let other = client_of(setup, other)?;
     let sell = currency_of(setup, sell)?;
     let buy = currency_of(setup, buy)?;
     Ok(Statement::Do {
@@ -178,7 +178,7 @@ fn fund(setup: &Setup, who: &[u8], fields: &[u8]) -> Result<Statement, LineCode>
     let amt = amount(amt)?;
     let client = client_of(setup, who)?;
     let ccy = currency_of(setup, ccy)?;
-    let member = member_of(setup, member)?;
+    let member = client_of(setup, member)?;
     Ok(Statement::Do {
         client,
         cmd: Cmd::Fund {

@@ -1,6 +1,7 @@
 use super::*;
 use pvp_types::{Currency, List, Member, Name};
 use std::alloc::AllocError;
+use std::process::Abort;
 use std::test::Fail;
 
 fn currency(alloc: Global, code: &str) -> Result<Currency, AllocError> {
@@ -37,12 +38,24 @@ fn setup(alloc: Global) -> Result<Setup, AllocError> {
     })
 }
 
+/// Reads a script, and compares its lines.
+fn says<R: Abort + AllocGlobal>(rt: &R, script: &str, want: &[Line]) -> Result<(), Fail> {
+    let setup = setup(rt.alloc())?;
+    let lines = read_script(rt.alloc(), &setup, Kind::Book, script.as_bytes())?;
+    assert_eq!(rt; lines.as_slice(), want);
+    Ok(())
+}
+
+/// A line that asks for a command.
+fn asks(number: u32, client: u16, cmd: Cmd) -> Line {
+    let statement = Statement::Do { client, cmd };
+    Line { number, statement }
+}
+
 #[test]
 fn reads_each_form(rt: HostRuntime) -> Result<(), Fail> {
-    let setup = setup(rt.alloc())?;
     let script =
         "do USD fund USD 1 ALFA 1200\ndo @1 payout @1 200\n\n# paid\ndo USD paid USD 1\nprint";
-    let lines = read_script(rt.alloc(), &setup, Kind::Book, script.as_bytes())?;
     let fund = Cmd::Fund {
         ccy: 1,
         pay: 1,
@@ -51,44 +64,24 @@ fn reads_each_form(rt: HostRuntime) -> Result<(), Fail> {
     };
     let payout = Cmd::PayOut { ccy: 1, amt: 200 };
     let paid = Cmd::Paid { ccy: 1, out: 1 };
-    let said = [
-        (
-            1,
-            Statement::Do {
-                client: 102,
-                cmd: fund,
-            },
-        ),
-        (
-            2,
-            Statement::Do {
-                client: 1,
-                cmd: payout,
-            },
-        ),
-        (
-            5,
-            Statement::Do {
-                client: 102,
-                cmd: paid,
-            },
-        ),
-        (6, Statement::Print),
+    let printed = Line {
+        number: 6,
+        statement: Statement::Print,
+    };
+    let want = [
+        asks(1, 102, fund),
+        asks(2, 1, payout),
+        asks(5, 102, paid),
+        printed,
     ];
-    assert_eq!(rt; lines.len(), said.len());
-    for (line, (number, statement)) in lines.iter().zip(&said) {
-        assert_eq!(rt; line.number, *number);
-        assert_eq!(rt; line.statement, *statement);
-    }
-    Ok(())
+    says(&rt, script, want.as_slice())
 }
 
 #[test]
 fn reads_the_forms_of_pairs(rt: HostRuntime) -> Result<(), Fail> {
-    let setup = setup(rt.alloc())?;
-    let script =
-        "do ALFA instruct 7 BETA USD 1100 @0 18446744073709551615\ndo @2 rescind 4294967295\ndo OP settle 0";
-    let lines = read_script(rt.alloc(), &setup, Kind::Book, script.as_bytes())?;
+    let script = "do ALFA instruct 7 BETA USD 1100 @0 18446744073709551615
+do @2 rescind 4294967295
+do OP settle 0";
     let instruct = Cmd::Instruct {
         reference: 7,
         other: 2,
@@ -100,16 +93,13 @@ fn reads_the_forms_of_pairs(rt: HostRuntime) -> Result<(), Fail> {
     let rescind = Cmd::Rescind {
         reference: u32::MAX,
     };
-    let said = [(1, instruct), (2, rescind), (0, Cmd::Settle { most: 0 })];
-    assert_eq!(rt; lines.len(), said.len());
-    for (line, (client, cmd)) in lines.iter().zip(&said) {
-        let statement = Statement::Do {
-            client: *client,
-            cmd: *cmd,
-        };
-        assert_eq!(rt; line.statement, statement);
-    }
-    Ok(())
+    let settle = Cmd::Settle { most: 0 };
+    let want = [
+        asks(1, 1, instruct),
+        asks(2, 2, rescind),
+        asks(3, 0, settle),
+    ];
+    says(&rt, script, want.as_slice())
 }
 
 #[test]

@@ -67,7 +67,8 @@ pub fn word(line: &[u8]) -> Result<(&[u8], &[u8]), LineCode>
 pub fn end(line: &[u8]) -> Result<(), LineCode>
     ensures { MatchResult result
         (λ _. words line.now ≡ [])
-        (λ code. (code ≡ WordCount) × (word : List ℕ) × (others : List (List ℕ)) × (words line.now ≡ word ∷ others)) }
+        (λ code. (code ≡ WordCount)
+        × (word : List ℕ) × (others : List (List ℕ)) × (words line.now ≡ word ∷ others)) }
 {
     match next_word(line) {
         None => Ok(()),

@@ -195,7 +195,7 @@ fn wrong_types(rt: HostRuntime) -> Result<(), Fail> {
     agree(&rt, rt.alloc(), WRONG_TYPES)
 }
 
-///
+/// The last value that a rule allows, and the first that it does not.
 const EACH_RULE_AT_ITS_BOUNDS: &[Row] = &[
     ("\"sites\":3", "\"sites\":2", "fault setup K1"),
     ("\"sites\":3", "\"sites\":4", "fault setup K1"),
@@ -398,58 +398,64 @@ fn told_of(alloc: Global, bank: &Small<'_>) -> Result<String, AllocError> {
     told(alloc, text.as_bytes())
 }
 
-/// Every fault at once, and then one fault less from row to row: the first counts.
+/// Every fault at once.
+const WORST: Small<'static> = Small {
+    sites: 4,
+    code: "eur",
+    rate: 0,
+    haircut: 10_000,
+    name: "",
+    short: "[]",
+    aggregate: 1_000_000_000_000_000_001,
+    deposit: "0",
+};
+
+/// What is told of the worst bank, and after each step of mending it.
+const TOLD: [&str; 9] = [
+    "fault json J2",
+    "fault setup K1",
+    "fault setup K3",
+    "fault setup K4",
+    "fault setup K5",
+    "fault setup K7",
+    "fault setup K8",
+    "fault setup K9",
+    "setup ok",
+];
+
+/// A bank with one fault less: the one that is told of it.
+fn mended(bank: Small<'static>, step: usize) -> Small<'static> {
+    match step {
+        1 => Small {
+            deposit: "[0]",
+            ..bank
+        },
+        2 => Small { sites: 3, ..bank },
+        3 => Small {
+            code: "EUR",
+            ..bank
+        },
+        4 => Small { rate: 1, ..bank },
+        5 => Small { haircut: 0, ..bank },
+        6 => Small { name: "A", ..bank },
+        7 => Small {
+            short: "[0]",
+            ..bank
+        },
+        8 => Small {
+            aggregate: 0,
+            ..bank
+        },
+        _ => bank,
+    }
+}
+
 #[test]
 fn first_of_several_faults(rt: HostRuntime) -> Result<(), Fail> {
-    let alloc = rt.alloc();
-    let worst = Small {
-        sites: 4,
-        code: "eur",
-        rate: 0,
-        haircut: 10_000,
-        name: "",
-        short: "[]",
-        aggregate: 1_000_000_000_000_000_001,
-        deposit: "0",
-    };
-    let readable = Small {
-        deposit: "[0]",
-        ..worst
-    };
-    let three_sites = Small {
-        sites: 3,
-        ..readable
-    };
-    let coded = Small {
-        code: "EUR",
-        ..three_sites
-    };
-    let rated = Small { rate: 1, ..coded };
-    let cut = Small {
-        haircut: 0,
-        ..rated
-    };
-    let named = Small { name: "A", ..cut };
-    let placed = Small {
-        short: "[0]",
-        ..named
-    };
-    let right = Small {
-        aggregate: 0,
-        ..placed
-    };
-    for (bank, want) in [
-        (worst, "fault json J2"),
-        (readable, "fault setup K1"),
-        (three_sites, "fault setup K3"),
-        (coded, "fault setup K4"),
-        (rated, "fault setup K5"),
-        (cut, "fault setup K7"),
-        (named, "fault setup K8"),
-        (placed, "fault setup K9"),
-        (right, "setup ok"),
-    ] {
-        assert_eq!(rt; told_of(alloc, &bank)?.as_str(), want);
+    let mut bank = WORST;
+    for (step, want) in TOLD.iter().enumerate() {
+        bank = mended(bank, step);
+        assert_eq!(rt; told_of(rt.alloc(), &bank)?.as_str(), *want);
     }
     Ok(())
 }

@@ -1,10 +1,12 @@
 //! Reading the parts of a JSON tree.
 
-ghost use Rattle.std.specs.Prelude.{◌≡◌, Option, option_and_then, option_map};
+ghost use Rattle.std.specs.Prelude.{Result};
 ghost use Rattle.serde_json.specs.Data.{Data};
 ghost use Rattle.serde_json.specs.Find.{as_array};
 ghost use Rattle.serde_json.specs.View.{view, items_view};
-ghost use Rattle.pvp_text.specs.SetupText.{Reads, number, text, list, member, currency, bank_member, setup};
+ghost use Rattle.pvp_text.specs.declared.setup.TextFault.{TextFault};
+ghost use Rattle.pvp_text.specs.Reading.{Reads};
+ghost use Rattle.pvp_text.specs.SetupText.{number, text, list, member, currency, bank_member, setup, text_fault_is_memory, itself};
 
 use crate::setup::TextFault;
 use pvp_types::{Currency, List, Member, Name, Setup};
@@ -13,15 +15,15 @@ use std::alloc::Global;
 
 /// What a part of the tree can be read as.
 pub(super) trait FromTree: Drop {
-    ghost kind: { Data → Option Self };
+    ghost kind: { Data → Result Self TextFault };
 
     fn from_tree(alloc: Global, tree: &Value) -> Result<Self, TextFault>
-        ensures { Reads result (kind (view tree.now)) };
+        ensures { Reads itself text_fault_is_memory result (kind (view tree.now)) };
 }
 
 /// An object's member of that name.
 fn member<T: FromTree>(alloc: Global, tree: &Value, name: &str) -> Result<T, TextFault>
-    ensures { Reads result (member T.kind name.now (view tree.now)) }
+    ensures { Reads itself text_fault_is_memory result (member T.kind name.now (view tree.now)) }
 {
     let part = tree.get(name).ok_or(TextFault::BadMember)?;
     T::from_tree(alloc, part)

@@ -1,12 +1,13 @@
-use Rattle.std.proofs.Common.{ℕ, ◌+◌, ◌≤◌, List, drop, length, Option}
+use Rattle.std.proofs.Common.{◌≡◌, ◌+◌, ◌≤◌, take, drop, length}
 use Rattle.std.specs.Io.KnownBytes.{Appends}
 use Rattle.pvp_text.specs.BookText.{text_of}
+use Rattle.pvp_text.proofs.BookTextLemmas.{after_lines}
 use Rattle.pvp_text.proofs.book.run_lines.Given as goal
 
--- The text of what is left completes the text of all.
+-- the lines so far were run, and what they write was written
 abbrev pub invariant-loop-line : goal.invariant-loop-line
 invariant-loop-line g l = record {
-  completes : (end : Option (List ℕ)) → Appends (g.W.Write.contents l.writer) end (text_of l.book (drop l.line-index l.lines))
-      → Appends (g.W.Write.contents l.fn.writer) end (text_of l.fn.book l.lines);
+  ran : l.book ≡ after_lines l.fn.book (take l.line-index l.lines);
+  written : Appends (g.W.Write.contents l.fn.writer) (g.W.Write.contents l.writer) (text_of l.fn.book (take l.line-index l.lines));
   room : l.book.applied + length (drop l.line-index l.lines) ≤ 65535;
 }

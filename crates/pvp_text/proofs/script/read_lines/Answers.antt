@@ -6,6 +6,7 @@ use Rattle.pvp_text.specs.declared.script.Statement.{Statement}
 use Rattle.std.proofs.lemmas.Result.{err_from_is_err_and}
 use Rattle.pvp_text.specs.Script.{of_line}
 use Rattle.pvp_text.specs.ScriptWords.{lines}
+use Rattle.pvp_text.proofs.ReadingLemmas.{always}
 use Rattle.pvp_text.proofs.ScriptReading.{line_of, goes_on, ends, is_done}
 use Rattle.pvp_text.proofs.script.read_lines.Goals as goal
 use Rattle.pvp_text.proofs.script.read_lines.Goals.{in-Some-2+in_ok-push, in_default-2}
@@ -15,7 +16,7 @@ returns-in_err-statement c =
     let p = err_from_is_err_and c.from_residual.result c.from_residual.ensures.1 in
     let failed = sym (c.in_err-statement.ensures ∙ ap (of_line c.loop-line.number) c.read_line.ensures) in
     let so_far = rw c.in-Some.ensures.some at c.loop-line.invariant.so_far in
-    rw (p.1, p.2) (λ _. ends c.args.kind c.args.setup.now c.loop-line.found.items c.loop-line.number c.in-Some.line.now (lines c.in-Some.after.now) _ _ failed so_far)
+    rw (p.1, p.2) (always _ (ends c.args.kind c.args.setup.now c.loop-line.found.items c.loop-line.number c.in-Some.line.now (lines c.in-Some.after.now) _ _ failed so_far))
 
 pub loop-line-preserved : goal.loop-line-preserved
 loop-line-preserved c =
