@@ -1,21 +1,20 @@
 -- What a book holds, and what it says of members, currencies, orders and pairs: sums and filters over its entries.
-use Rattle.std.specs.Prelude.{◌≡◌, ℕ, ◌+◌, ◌*◌, ◌^◌, ◌≤◌, ◌==◌, ◌&&◌, Bool, true, false, not, if◌then◌else◌, List, [], length, map, filter, fold, sum_by, Option, Some, None, ℤ, pos, ◌+ℤ◌, ◌≤ℤ◌, neg_ℤ}
+use Rattle.std.specs.Prelude.{ℕ, ◌+◌, ◌^◌, ◌==◌, ◌&&◌, Bool, true, false, not, if◌then◌else◌, List, [], length, map, filter, fold, Option, Some, None, ℤ, pos, ◌+ℤ◌}
 use Rattle.std.specs.List.{list_any, filter_map, flat_map, range_with_len}
 use Rattle.std.specs.Option.{option_map}
 use Rattle.pvp_types.specs.declared.setup.Setup.{Setup}
 use Rattle.pvp_types.specs.declared.command.Cmd.{Cmd}
-use Rattle.pvp_types.specs.declared.command.Cmd.TheVariants.{Instruct, Fund, PayOut, Paid}
+use Rattle.pvp_types.specs.declared.command.Cmd.TheVariants.{Fund, PayOut, Paid}
 use Rattle.pvp_types.specs.declared.command.Reply.{Reply}
 use Rattle.pvp_types.specs.declared.command.Reply.TheVariants.{Order}
 use Rattle.pvp_types.specs.declared.command.PayOrder.{PayOrder}
-use Rattle.pvp_types.specs.Setup.{IsValid}
 use Rattle.pvp_book.specs.declared.entry.Entry.{Entry}
 use Rattle.pvp_book.specs.declared.pair.Pair.{Pair}
 use Rattle.pvp_book.specs.declared.pair.PairState.{PairState}
 use Rattle.pvp_book.specs.declared.pair.PairState.TheVariants.{Unmatched, Matched, Settled, Rescinded}
-use Rattle.pvp_book.specs.Accounts.{received, given, balance_with}
-use Rattle.pvp_book.specs.Pairs.{pairs, matched, pair_of, has_reference, is_matched, is_rescinded}
-use Rattle.pvp_book.specs.Settlement.{candidates, settled}
+use Rattle.pvp_book.specs.Accounts.{balance_with}
+use Rattle.pvp_book.specs.Pairs.{pairs, pair_of, has_reference, is_matched, is_rescinded}
+use Rattle.pvp_book.specs.Settlement.{settled}
 
 -- the setup, the commands that were not refused, and how many commands came
 pub record Ledger : Type 0 where
