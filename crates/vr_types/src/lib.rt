@@ -18,3 +18,6 @@ pub use limits::MAX_ROWS;
 pub use machine::{Machine, is_same};
 pub use message::{Envelope, EnvelopeOf, Msg, MsgOf, State, StateOf};
 pub use row::{Row, RowOf, Rows, RowsOf};
+
+#[cfg(test)]
+mod tests;
