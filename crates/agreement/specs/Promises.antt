@@ -120,7 +120,7 @@ AnsweredRowsStay {C} early late =
 abbrev pub request_of : {C R O : Type 0} → ℕ → RowOf C → EnvelopeOf C R O
 request_of to row = record { from = row.client; to = to; msg = Request row.number row.cmd }
 
--- a row came by a REQUEST of its client, with its number and its command, that a site took
+-- a row came by a REQUEST of its client, with its number and its command, that was delivered
 pub record WasAsked {C R O : Type 0} (events : List (Happening C R O))
     (row : RowOf C) : Type 0 where
   pub site : ℕ

@@ -58,9 +58,10 @@ pub fn replies_agree<M: Machine>()
         AnswersAreRight M.Machine start early.world late.world }
 {}
 
-/// Nothing is invented: each row of every log, and of every message that was ever sent, came by a REQUEST of that client
-/// with that number and command that a site took before; each REPLY was sent in a step that a site of the list took, for
-/// a row that this site had executed by then; and so were open orders each time, by a site that is normal after the step.
+/// Nothing is invented: each row of every log, and of every message that was ever sent, came by a REQUEST of that
+/// client with that number and command that was delivered before; each REPLY was sent in a step that a site of the list
+/// took, for a row that this site had executed by then; and so were open orders each time, by a site that is normal
+/// after the step.
 pub fn invented<C, R, O>()
     ensures logs { (f : ℕ) (list : LegalList C R O f) → LogsWereAsked list.events list.world }
     ensures messages { (f : ℕ) (list : LegalList C R O f) →

@@ -52,11 +52,11 @@ pub fn agreement<M: Machine>()
     agreement::lasting::<M::Cmd, M::Reply, M::Order>();
 }
 
-/// Nothing is invented: each row of every log, and of every message that was ever sent, came by a REQUEST of that client
-/// with that number and command that a site took before. Each REPLY that was ever sent carries the machine's answer to a
-/// row that its sender had executed, and each order that was ever sent was open after the rows that its sender had
-/// executed; the sender is a site of the list, as it was after the step that sent it. What was ever sent is what the
-/// steps of sites send, and nothing else.
+/// Nothing is invented: each row of every log, and of every message that was ever sent, came by a REQUEST of that
+/// client with that number and command that was delivered before. Each REPLY that was ever sent carries the machine's
+/// answer to a row that its sender had executed, and each order that was ever sent was open after the rows that its
+/// sender had executed; the sender is a site of the list, as it was after the step that sent it. What was ever sent is
+/// what the steps of sites send, and nothing else.
 pub fn invented<M: Machine>()
     ensures logs { (f : ℕ) (list : LegalList M.Cmd M.Reply M.Order f) →
         LogsWereAsked list.events list.world }
