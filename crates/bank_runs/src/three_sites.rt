@@ -171,6 +171,39 @@ fn a_crash_at_any_event_leaves_the_books_equal(rt: HostRuntime) -> Result<(), Fa
     Ok(())
 }
 
+/// A view change with a site cut off, which then crashes and recovers.
+const VIEW_CHANGE: [Step; 14] = [
+    Step::Cut(202),
+    Step::PayIn,
+    Step::PayIn,
+    Step::PayIn,
+    Step::Drain(100),
+    Step::Timer(1),
+    Step::Drain(100),
+    Step::Heal,
+    Step::PayIn,
+    Step::Drain(5),
+    Step::Drain(2),
+    Step::Crash(2),
+    Step::Restart(2),
+    Step::Drain(100),
+];
+
+#[test]
+fn a_crash_at_any_event_of_a_view_change_leaves_the_books_equal(
+    rt: HostRuntime,
+) -> Result<(), Fail> {
+    for site in 0..3 {
+        for events in 1..70 {
+            let mut group = Group::new(rt.alloc())?;
+            group.crash_after(events, site);
+            group.run(&VIEW_CHANGE)?;
+            assert!(rt; group.agrees(), "site {site} crashed after {events}");
+        }
+    }
+    Ok(())
+}
+
 #[test]
 fn a_failing_save_leaves_the_books_equal(rt: HostRuntime) -> Result<(), Fail> {
     for site in 0..3 {
