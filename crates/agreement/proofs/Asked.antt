@@ -1,5 +1,5 @@
 -- What was asked for in a legal list is all that there is.
-use Rattle.std.proofs.Common.{◌≡◌, ◌⊎◌, inl, inr, ℕ, true, List, [], ◌∷◌, slice_set, ◌==◌, ◌&&◌, if◌then◌else◌, refl, sym, ap, ◌∙◌, subst, true≢false}
+use Rattle.std.proofs.Common.{◌≡◌, ◌⊎◌, inl, inr, ℕ, Bool, true, false, List, [], ◌∷◌, slice_set, ◌==◌, if◌then◌else◌, refl, sym, ap, ◌∙◌, subst, true≢false}
 use Rattle.std.specs.Prelude.{All, Contains}
 use Rattle.std.proofs.lemmas.List.Elements.{All-contains, Contains-append_cases}
 use Rattle.std.proofs.lemmas.Option.{slice_get_within, get_or_from_slice_get}
@@ -11,11 +11,12 @@ use Rattle.vr_types.specs.declared.message.EnvelopeOf.{EnvelopeOf}
 use Rattle.vr_types.specs.declared.message.MsgOf.{MsgOf}
 use Rattle.vr_types.specs.declared.message.MsgOf.TheVariants.{Request, Prepare, PrepareOk, Commit, StartViewChange, DoViewChange, StartView, GetState, NewState, Recovery, RecoveryResponse, Reply, PayOrder}
 use Rattle.vr_types.specs.declared.row.RowOf.{RowOf}
-use Rattle.vr_types.specs.Site.{Site, opening_site}
+use Rattle.vr_types.specs.Site.{Site, over, no_boots, opening_site}
 use Rattle.vr_types.specs.Choice.{Choice, IsRight}
 use Rattle.vr_types.specs.Handling.{site_step}
 use Rattle.vr_types.proofs.ChoosingPick.{Contains-none, Contains-here, Contains-there}
-use Rattle.agreement.specs.Worlds.{World, stepped, Course, Ends, FallsOver, Happening, is_request, MayHappen, EndsIn, Happens, IsRun, opening_world, IsLegal}
+use Rattle.vr_types.specs.Messages.{is_request}
+use Rattle.agreement.specs.Worlds.{World, stepped, Course, Ends, FallsOver, Happening, MayHappen, EndsIn, Happens, IsRun, opening_world, IsLegal}
 use Rattle.agreement.specs.Promises.{WasAsked, RowsAre}
 use Rattle.agreement.proofs.Members.{map-has, set-has}
 use Rattle.agreement.proofs.KeptRows.{Keeps, over_rows}
@@ -38,13 +39,13 @@ module _ {C R O : Type 0} (P : RowOf C → Type 0) where
   request_rows (Prepare view place k row) e = absurd (true≢false (sym e))
   request_rows (PrepareOk view place) e = tt
   request_rows (Commit view k) e = tt
-  request_rows (StartViewChange view) e = tt
-  request_rows (DoViewChange view last k rows) e = absurd (true≢false (sym e))
+  request_rows (StartViewChange view known) e = tt
+  request_rows (DoViewChange view last k rows known) e = absurd (true≢false (sym e))
   request_rows (StartView view k rows) e = absurd (true≢false (sym e))
   request_rows (GetState view base) e = tt
   request_rows (NewState view base k rows) e = absurd (true≢false (sym e))
   request_rows (Recovery nonce) e = tt
-  request_rows (RecoveryResponse view nonce state) e = absurd (true≢false (sym e))
+  request_rows (RecoveryResponse view nonce state known) e = absurd (true≢false (sym e))
   request_rows (Reply view number reply) e = tt
   request_rows (PayOrder order) e = tt
 
@@ -100,14 +101,18 @@ module _ {C R O : Type 0} (P : RowOf C → Type 0) where
     run_rows world (h ∷ events) after rows asks run =
         run_rows run.0 events after (happens_rows world h run.0 rows (asks h (Contains-here h events)) run.1) (λ k in'. asks k (Contains-there h k events in')) run.2
 
-    opening_rows : (cells : List Boot) → RowsHold P (opening_world {C = C} {R = R} {O = O} cells)
+    opening_rows : (cells : List Boot) → RowsHold P (opening_world {C = C} {R = R} {O = O} f cells)
     opening_rows cells = record {
-      sites = λ x in'. let t = map-has opening_site cells x in' in subst (λ (y : Site C). Keeps P y) t.2 (over_rows P t.0 (if (t.0.boots == 0) && (t.0.view == 0) then Normal else Down));
+      sites = λ x in'. let t = map-has (opening_site f) cells x in' in subst (λ (y : Site C). Keeps P y) t.2 (by_test t.0 (t.0.boots == 0));
       sent = λ e in'. absurd (Contains-none e in');
     }
+      where
+        by_test : (cell : Boot) (b : Bool) → Keeps P (if b then record (over cell Normal) { known = no_boots f } else over cell Down)
+        by_test cell true = let h = over_rows P cell Normal in record { log = h.log; votes = h.votes; responses = h.responses }
+        by_test cell false = over_rows P cell Down
 
 pub legal_rows : {C R O : Type 0} (choose : Choice C) (f : ℕ) → IsRight f choose → (cells : List Boot) (events : List (Happening C R O)) (world : World C R O) → IsLegal choose f cells events world → RowsHold (WasAsked events) world
 legal_rows {C} {R} {O} choose f right cells events world legal =
-    run_rows (WasAsked events) choose f right (opening_world cells) events world (opening_rows (WasAsked events) choose f right cells)
+    run_rows (WasAsked events) choose f right (opening_world f cells) events world (opening_rows (WasAsked events) choose f right cells)
     (λ h in' site to client number cmd is. record { site = site; to = to; taken = subst (λ (k : Happening C R O). Contains events k) is in' })
     legal.run

@@ -15,9 +15,11 @@ use Rattle.vr_types.specs.Group.{actor_of, site_of, is_other_site, may_send, is_
 use Rattle.vr_types.specs.Site.{Site, over, is_down, is_recovering}
 use Rattle.vr_types.specs.Choice.{Choice, IsRight}
 use Rattle.vr_types.specs.Step.{Step, does}
-use Rattle.vr_types.specs.Handling.{max_number, refused_or, on_message, on_beat, site_step, IsFall}
+use Rattle.vr_types.specs.Cell.{max_number}
+use Rattle.vr_types.specs.Handling.{refused_or, on_message, on_beat, site_step, IsFall}
 use Rattle.vr_types.proofs.ChoosingPick.{Contains-none}
-use Rattle.agreement.specs.Worlds.{is_request, MayHappen}
+use Rattle.vr_types.specs.Messages.{is_request}
+use Rattle.agreement.specs.Worlds.{MayHappen}
 use Rattle.agreement.proofs.Histories.{History}
 use Rattle.agreement.proofs.Votes.{IsAhead, same_cell}
 use Rattle.agreement.proofs.Invariant.{Holds}
@@ -32,19 +34,21 @@ use Rattle.agreement.proofs.RecoveryRules.{kept_recovery, kept_recovery_response
 use Rattle.agreement.proofs.Tests.{eq_of, ne_of, le_of, not_true, not_false, and_left, and_right}
 
 -- an actor that may send what goes between sites is a site, and another one
-record IsPeer (me actor : ℕ) : Type 0 where
+record IsPeer (f me actor : ℕ) : Type 0 where
+  small : site_of actor < 2 * f + 1
   is : actor ≡ actor_of (site_of actor)
   other : site_of actor ≢ me
 
-peer : (f me actor : ℕ) → is_other_site f me actor ≡ true → IsPeer me actor
+peer : (f me actor : ℕ) → is_other_site f me actor ≡ true → IsPeer f me actor
 peer f me actor e =
     let low : 200 ≤ actor = le_of (actor_of 0) actor (and_left _ _ e) in
     let apart : actor ≢ actor_of me = ne_of actor (actor_of me) (not_true _ (and_right (nat_le actor (actor_of (2 * f))) _ (and_right (nat_le (actor_of 0) actor) _ e))) in
-    record { is = omega arith; other = λ same. apart (omega arith) }
+    let high : actor ≤ 200 + 2 * f = le_of actor (actor_of (2 * f)) (and_left _ _ (and_right (nat_le (actor_of 0) actor) _ e)) in
+    record { small = omega arith; is = omega arith; other = λ same. apart (omega arith) }
 
 module _ {C R O : Type 0} (choose : Choice C) (f : ℕ) (right : IsRight f choose) (me : ℕ) (small : me < 2 * f + 1) (g : History C R O) (s : ℕ → Site C) (holds : Holds f g s) where
   -- a message that is no request was said by that site
-  said_by : (actor : ℕ) (msg : MsgOf C R O) → IsPeer me actor → is_request msg ≡ false → (is_request msg ≡ true) ⊎ Contains g.said (record { from = actor; to = actor_of me; msg = msg }) → Contains g.said (mail (site_of actor) me msg)
+  said_by : (actor : ℕ) (msg : MsgOf C R O) → IsPeer f me actor → is_request msg ≡ false → (is_request msg ≡ true) ⊎ Contains g.said (record { from = actor; to = actor_of me; msg = msg }) → Contains g.said (mail (site_of actor) me msg)
   said_by actor msg p other (inl request) = absurd (true≢false (sym request ∙ other))
   said_by actor msg p other (inr in') = subst (λ (a : ℕ). Contains g.said (record { from = a; to = actor_of me; msg = msg })) p.is in'
 
@@ -54,13 +58,13 @@ module _ {C R O : Type 0} (choose : Choice C) (f : ℕ) (right : IsRight f choos
   message_kept actor (Prepare w place k row) up may come = let p = peer f me actor may in kept_prepare f me g s holds _ w place k row up p.other (holds.said _ _ _ (said_by actor _ p refl come))
   message_kept actor (PrepareOk w place) up may come = let p = peer f me actor may in kept_prepare_ok f me g s holds choose right _ me w place small (said_by actor _ p refl come)
   message_kept actor (Commit w k) up may come = let p = peer f me actor may in kept_commit f me g s holds _ w k up (holds.said _ _ _ (said_by actor _ p refl come)).1
-  message_kept actor (StartViewChange w) up may come = kept_start_view_change f me g s holds choose right _ w up
-  message_kept actor (DoViewChange w last k log) up may come = let p = peer f me actor may in kept_do_view_change f me g s holds choose right me w _ up (said_by actor _ p refl come)
+  message_kept actor (StartViewChange w known) up may come = let p = peer f me actor (and_left _ _ may) in kept_start_view_change f me g s holds choose right me w (record { from = site_of actor; known = known }) up small (said_by actor _ p refl come)
+  message_kept actor (DoViewChange w last k log known) up may come = let p = peer f me actor (and_left _ _ may) in kept_do_view_change f me g s holds choose right me w _ up (said_by actor _ p refl come)
   message_kept actor (StartView w k log) up may come = let p = peer f me actor may in kept_start_view f me g s holds choose _ w k log up p.other (holds.said _ _ _ (said_by actor _ p refl come))
   message_kept actor (GetState w base) up may come = kept_get_state f me g s holds _ w base
   message_kept actor (NewState w base k rows) up may come = let p = peer f me actor may in kept_new_state f me g s holds choose _ w base k rows up p.other (holds.said _ _ _ (said_by actor _ p refl come))
-  message_kept actor (Recovery nonce) up may come = let p = peer f me actor may in kept_recovery f me g s holds _ nonce (holds.said _ _ _ (said_by actor _ p refl come))
-  message_kept actor (RecoveryResponse w nonce state) up may come = let p = peer f me actor may in kept_recovery_response f me g s holds choose right nonce _ p.other (said_by actor _ p refl come)
+  message_kept actor (Recovery nonce) up may come = let p = peer f me actor may in kept_recovery f me g s holds _ me nonce p.small (said_by actor _ p refl come)
+  message_kept actor (RecoveryResponse w nonce state known) up may come = let p = peer f me actor (and_left _ _ may) in kept_recovery_response f me g s holds choose right nonce _ p.other (said_by actor _ p refl come)
   message_kept actor (Reply view number reply) up may come = kept_same f g s me holds _ refl refl
   message_kept actor (PayOrder order) up may come = kept_same f g s me holds _ refl refl
 
@@ -97,7 +101,7 @@ module _ {C R O : Type 0} (choose : Choice C) (f : ℕ) (right : IsRight f choos
   step_kept Timer may = unless_down (is_down (s me).status) (not (is_recovering (s me).status) && ((s me).view == max_number)) ViewsSpent _ (λ up _. kept_timer f me g s holds up)
   step_kept Beat may = unless_down_alone (is_down (s me).status) _ (beat_kept (s me).status refl)
   step_kept Crash may = unless_down_alone (is_down (s me).status) _ (kept_crash f me g s holds)
-  step_kept Restart may = unless_up (not (is_down (s me).status)) ((s me).cell.boots == max_number) _ (kept_restart f g s me holds)
+  step_kept Restart may = unless_up (not (is_down (s me).status)) ((s me).cell.boots == max_number) _ (kept_restart f g s me holds small)
 
 -- a fall keeps what holds: it is the step with its messages said and not sent, and then the site is down
 pub fall_kept : {C R O : Type 0} (f me : ℕ) (g : History C R O) (s : ℕ → Site C) (step : Step C R O) (cell : Boot) → Holds f g s → Kept f g s me step → IsFall (s me) step (over cell Down) → Kept f g s me (does (over cell Down) [])

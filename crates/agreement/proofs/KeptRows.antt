@@ -7,14 +7,14 @@ use Rattle.vr_types.specs.declared.cell.Boot.{Boot}
 use Rattle.vr_types.specs.declared.event.Status.{Status}
 use Rattle.vr_types.specs.declared.row.RowOf.{RowOf}
 use Rattle.vr_types.specs.Group.{sites}
-use Rattle.vr_types.specs.Site.{Vote, Response, Site, over, has_start, has_vote}
+use Rattle.vr_types.specs.Site.{Start, Vote, Response, Site, over, has_start, has_vote}
 use Rattle.vr_types.specs.Choice.{Choice, IsRight}
-use Rattle.vr_types.specs.Step.{normal_in, executed_to}
+use Rattle.vr_types.specs.Step.{learns, normal_in, executed_to}
 use Rattle.vr_types.specs.Normal.{with_row}
 use Rattle.vr_types.specs.Change.{with_start, with_vote, with_voted}
 use Rattle.vr_types.specs.Recovery.{with_response}
 use Rattle.vr_types.proofs.ChoosingPick.{Contains-cases, Contains-none}
-use Rattle.agreement.specs.Promises.{rows_of_state}
+use Rattle.vr_types.specs.Messages.{rows_of_state}
 use Rattle.agreement.proofs.Members.{filter-has}
 use Rattle.agreement.proofs.Quorums.{quorums_meet}
 use Rattle.agreement.proofs.Tests.{found, Found}
@@ -50,10 +50,10 @@ module _ {C : Type 0} (P : RowOf C → Type 0) where
     pub row_kept : (row : RowOf C) → P row → Keeps P (with_row row x)
     row_kept row p = record { log = All-push P x.log row h.log p; votes = h.votes; responses = h.responses }
 
-    pub with_start_rows : (from : ℕ) → Keeps P (with_start from x)
-    with_start_rows from = by_test (has_start x.collected.starts from)
+    pub with_start_rows : (start : Start) → Keeps P (with_start start x)
+    with_start_rows start = by_test (has_start x.collected.starts start.from)
       where
-        by_test : (b : Bool) → Keeps P (if b then x else record x { collected = record (x.collected) { starts = x.collected.starts ++ from ∷ [] } })
+        by_test : (b : Bool) → Keeps P (if b then x else record x { collected = record (x.collected) { starts = x.collected.starts ++ start ∷ [] } })
         by_test true = h
         by_test false = record { log = h.log; votes = h.votes; responses = h.responses }
 
@@ -71,6 +71,13 @@ module _ {C : Type 0} (P : RowOf C → Type 0) where
         by_test : (b : Bool) → Keeps P (if b then x else record x { collected = record (x.collected) { votes = x.collected.votes ++ vote ∷ [] } })
         by_test true = h
         by_test false = record { log = h.log; votes = λ v in'. by_part v (Contains-append_cases x.collected.votes (vote ∷ []) v in'); responses = h.responses }
+
+    pub learns_rows : (told : List ℕ) → Keeps P (learns told x)
+    learns_rows told = record {
+      log = h.log;
+      votes = λ v in'. h.votes v (filter-has _ x.collected.votes v in');
+      responses = λ r in'. h.responses r (filter-has _ x.collected.responses r in');
+    }
 
     pub with_voted_rows : Keeps P (with_voted x)
     with_voted_rows = record { log = h.log; votes = h.votes; responses = h.responses }

@@ -2,25 +2,33 @@
 use Rattle.std.proofs.Common.{◌≡◌, ◌⊎◌, inl, inr, ℕ, zero, suc, ◌-◌, ◌<◌, ◌≤◌, Bool, true, if◌then◌else◌, List, [], ◌∷◌, length, take, slice_get, Option, Some, None, refl, sym, ap, ◌∙◌, subst, arith}
 use Rattle.std.specs.Prelude.{Contains}
 use Rattle.std.proofs.lemmas.List.{length-take-le}
-use Rattle.std.proofs.lemmas.Option.{slice_get_within}
+use Rattle.std.proofs.lemmas.Option.{slice_get_within, get_or_from_slice_get}
 use Rattle.vr_types.specs.declared.cell.Boot.{Boot}
-use Rattle.vr_types.specs.declared.event.Status.TheVariants.{Normal}
+use Rattle.vr_types.specs.declared.event.EventOf.TheVariants.{Deliver}
+use Rattle.vr_types.specs.declared.event.Status.TheVariants.{Normal, Change, Recovering}
 use Rattle.vr_types.specs.declared.machine.Machine.{Ghosts}
+use Rattle.vr_types.specs.declared.message.EnvelopeOf.{EnvelopeOf}
+use Rattle.vr_types.specs.declared.message.MsgOf.TheVariants.{DoViewChange}
 use Rattle.vr_types.specs.declared.row.RowOf.{RowOf}
-use Rattle.vr_types.specs.Choice.{Choice, IsRight}
+use Rattle.vr_types.specs.Group.{mail}
+use Rattle.vr_types.specs.Choice.{AreFresh, Choice, IsRight}
+use Rattle.vr_types.specs.Handling.{votes_used, responses_used, site_step}
+use Rattle.vr_types.specs.Step.{Handled}
 use Rattle.vr_types.specs.Execution.{answer_at}
-use Rattle.vr_types.specs.Site.{Site, executed_rows}
+use Rattle.vr_types.specs.Site.{Site, Vote, Response, is_running, executed_rows}
 use Rattle.agreement.specs.Worlds.{Replied, Ordered, World, Happening, IsRun, IsLegal}
-use Rattle.agreement.specs.Promises.{row_at, Agree, IsRising, answered_rows, Begins, IsExecuted, Tells}
+use Rattle.agreement.specs.Promises.{CollectedAreFresh, row_at, Agree, IsRising, answered_rows, Begins, IsExecuted, Tells}
 use Rattle.agreement.proofs.Beginnings.{take_begins, begins-trans}
 use Rattle.agreement.proofs.CommittedRows.{Committed}
 use Rattle.agreement.proofs.Standing.{StandsRunning}
 use Rattle.agreement.proofs.Prior.{committed_opening, committed_both}
 use Rattle.agreement.proofs.Parts.{committed_fewer}
 use Rattle.agreement.proofs.AnsweredRows.{IsAnswered}
-use Rattle.agreement.proofs.Reached.{site_at, IsReached, first, legal_holds, run_holds, has_number}
+use Rattle.agreement.proofs.Reached.{nobody, site_at, IsReached, first, legal_holds, run_holds, has_number}
 use Rattle.agreement.proofs.Agreeing.{agree_begins, take_begins_same, executed_committed, log_rises, committed_lasts, IsTold, told_by, IsOne, answered_at, told_is}
-use Rattle.agreement.proofs.Tests.{normal_runs}
+use Rattle.agreement.proofs.Tests.{normal_runs, change_runs}
+use Rattle.agreement.proofs.Used.{fresh_by, used_fresh, message_taken}
+use Rattle.agreement.proofs.Votes.{IsKeptVote, IsKeptResponse}
 
 -- where a list has no element, it has ended
 past_end : {A : Type 0} (xs : List A) (n : ℕ) → slice_get xs n ≡ None → length xs ≤ n
@@ -101,6 +109,49 @@ module _ {C R O : Type 0} (choose : Choice C) (f : ℕ) (right : IsRight f choos
     rising x in' =
         let i = has_number f world x in' in
         subst (λ (y : Site C). IsRising y.log) i.1 (log_rises f reached.history (site_at world) reached.holds.holds i.0)
+
+    pub votes_bind : (i to w u k : ℕ) (rows : List (RowOf C)) (known : List ℕ) (x : Site C) → Contains world.sent (mail i to (DoViewChange w u k rows known))
+        → slice_get world.sites i ≡ Some x → is_running x.status ≡ true → w ≤ x.view
+    votes_bind i to w u k rows known x in' there run =
+        let is = get_or_from_slice_get world.sites i x nobody there in
+        let r = (reached.holds.holds.sites i).running (ap (λ (y : Site C). is_running y.status) is ∙ run) in
+        let low = r.at_view.promised to w u k rows known (reached.holds.said _ in') in
+        let e = ap (λ (y : Site C). y.view) is in
+        omega arith
+
+    -- the messages that decide at a step
+    pub taken_fresh : (i : ℕ) (x : Site C) (e : EnvelopeOf C R O) → slice_get world.sites i ≡ Some x → (site_step choose f i x (Deliver e)).ending ≡ Handled
+        → AreFresh (λ vote. vote.from) (λ vote. vote.known) (votes_used f i x e.from e.msg) × AreFresh (λ response. response.from) (λ response. response.known) (responses_used x e.from e.msg)
+    taken_fresh i x e there handled =
+        let is : site_at world i ≡ x = get_or_from_slice_get world.sites i x nobody there in
+        let s = reached.holds.holds.sites i in
+        let taken = message_taken choose f i x e handled in
+        used_fresh R O choose f i x
+        (subst (λ (y : Site C). y.status ≡ Change → (v : Vote C) → Contains y.collected.votes v → IsKeptVote y.known v) is (λ c v in'. (s.running (change_runs _ c)).current c v in'))
+        (subst (λ (y : Site C). y.status ≡ Recovering → (r : Response C) → Contains y.collected.responses r → IsKeptResponse y.known r) is (λ c r in'. s.current c r in'))
+        e.from e.msg taken.0 taken.1
+
+    pub collected_fresh : CollectedAreFresh world
+    collected_fresh x in' =
+        let i = has_number f world x in' in
+        subst (λ (y : Site C). (y.status ≡ Change → AreFresh (λ start. start.from) (λ start. start.known) y.collected.starts × AreFresh (λ vote. vote.from) (λ vote. vote.known) y.collected.votes)
+        × (y.status ≡ Recovering → AreFresh (λ response. response.from) (λ response. response.known) y.collected.responses)) i.1
+        (at i.0)
+      where
+        at : (j : ℕ) → (
+            let y = site_at world j in
+            (y.status ≡ Change → AreFresh (λ start. start.from) (λ start. start.known) y.collected.starts × AreFresh (λ vote. vote.from) (λ vote. vote.known) y.collected.votes)
+            × (y.status ≡ Recovering → AreFresh (λ response. response.from) (λ response. response.known) y.collected.responses))
+        at j = (
+          λ e. (
+              let r = (reached.holds.holds.sites j).running (change_runs _ e) in (
+                fresh_by (λ start. start.from) (λ start. start.known) (site_at world j).known (site_at world j).collected.starts (λ a p. (r.at_view.starts e a p).within) (λ a p. (r.at_view.starts e a p).current),
+                fresh_by (λ vote. vote.from) (λ vote. vote.known) (site_at world j).known (site_at world j).collected.votes (λ a p. (r.current e a p).within) (λ a p. (r.current e a p).current),
+              )),
+          λ e. (
+              let s = reached.holds.holds.sites j in
+              fresh_by (λ response. response.from) (λ response. response.known) (site_at world j).known (site_at world j).collected.responses (λ a p. (s.current e a p).within) (λ a p. (s.current e a p).current)),
+        )
 
     -- of two replies to one request
     one_of : (p q : Replied C) (row other : RowOf C) → Contains world.replies p → Contains world.replies q → row_at p.sender.log p.place ≡ Some row → row_at q.sender.log q.place ≡ Some other

@@ -10,6 +10,7 @@ mod OneLog
 mod PreparedRows
 mod CommittedRows
 mod Votes
+mod Recoveries
 mod VotesCover
 mod StatesCover
 mod Vouched
@@ -27,6 +28,9 @@ mod Moves
 mod Parts
 mod Prepares
 mod Opens
+mod Regains
+mod Learns
+mod Used
 mod Takes
 -- the rules, the steps, and the worlds that a legal list reaches
 mod NormalRules

@@ -1,5 +1,5 @@
 -- What holds of every world that a legal list reaches.
-use Rattle.std.proofs.Common.{◌≡◌, ◌⊎◌, inl, inr, ℕ, zero, suc, ◌+◌, ◌*◌, ◌<◌, ◌≤◌, Bool, true, false, ◌&&◌, ◌==◌, if◌then◌else◌, List, [], ◌∷◌, length, take, map, set, get_or, Some, refl, sym, ap, ◌∙◌, subst, arith, true≢false, length-set, get_or-set_same, get_or-set_other}
+use Rattle.std.proofs.Common.{◌≡◌, ◌⊎◌, inl, inr, ℕ, zero, suc, ◌+◌, ◌*◌, ◌<◌, ◌≤◌, Bool, true, false, ◌==◌, if◌then◌else◌, List, [], ◌∷◌, length, take, map, set, get_or, Some, refl, sym, ap, ◌∙◌, subst, arith, true≢false, length-set, get_or-set_same, get_or-set_other}
 use Rattle.std.specs.Prelude.{Contains}
 use mathlib.Core.Path.{fun_ext}
 use Rattle.std.proofs.lemmas.List.{length-map}
@@ -10,7 +10,7 @@ use Rattle.vr_types.specs.declared.event.EventOf.{EventOf}
 use Rattle.vr_types.specs.declared.event.EventOf.TheVariants.{Deliver, Timer, Beat, Crash, Restart}
 use Rattle.vr_types.specs.declared.event.Status.TheVariants.{Normal, Change, Recovering, Down}
 use Rattle.vr_types.specs.declared.message.EnvelopeOf.{EnvelopeOf}
-use Rattle.vr_types.specs.Site.{Site, over, opening_site, is_running}
+use Rattle.vr_types.specs.Site.{Site, over, no_boots, opening_site, is_running}
 use Rattle.vr_types.specs.Choice.{Choice, IsRight}
 use Rattle.vr_types.specs.Step.{Step, does}
 use Rattle.vr_types.specs.Handling.{site_step, IsFall}
@@ -21,6 +21,8 @@ use Rattle.agreement.proofs.Beginnings.{nothing_begins, take_begins_take}
 use Rattle.agreement.proofs.Histories.{History}
 use Rattle.agreement.proofs.PreparedRows.{Prepared, acknowledged, led}
 use Rattle.agreement.proofs.CommittedRows.{Committed, none}
+use Rattle.vr_types.proofs.Vectors.{no_boots_is, no_boots_long}
+use Rattle.agreement.proofs.Votes.{Voted, started, voted, IsOrdered, never, first as first_life}
 use Rattle.agreement.proofs.AnsweredRows.{IsAnswered}
 use Rattle.agreement.proofs.Standing.{StandsRunning, Stands}
 use Rattle.agreement.proofs.Invariant.{Holds}
@@ -33,8 +35,8 @@ use Rattle.agreement.proofs.Events.{step_kept, fall_kept}
 use Rattle.agreement.proofs.Tests.{eq_of, normal_runs}
 
 -- what there is where no site is
-abbrev nobody : {C : Type 0} → Site C
-nobody = over (record { boots = 0; view = 0 }) Down
+abbrev pub nobody : {C : Type 0} → Site C
+nobody = over (record { boots = 0 }) Down
 
 abbrev pub site_at : {C R O : Type 0} → World C R O → ℕ → Site C
 site_at world i = get_or world.sites i nobody
@@ -60,7 +62,7 @@ set_is_put sites i x small = fun_ext (λ j. sym (put_cases (λ k. get_or sites k
 
 -- at the opening nothing was said, and view 0 is open
 abbrev pub first : {C R O : Type 0} → History C R O
-first = record { said = []; opened = λ view. view == 0; opening = λ view. []; logs = λ view. [] }
+first = record { said = []; opened = λ view. view == 0; electors = λ view j. false; opening = λ view. []; logs = λ view. []; regains = [] }
 
 module _ {C R O : Type 0} (f : ℕ) where
   answered_later : (g h : History C R O) (reply : Replied C) → IsGrown f g h → IsAnswered f g reply → IsAnswered f h reply
@@ -173,21 +175,46 @@ module _ {C R O : Type 0} (f : ℕ) where
   first_prepared j view n (acknowledged to m low in') = absurd (Contains-none _ in')
   first_prepared j view n (led o p low) = (eq_of _ _ o, low)
 
+  first_votes : (j w : ℕ) (a : List ℕ) → Voted at_first j w a → ⊥
+  first_votes j w a (started to in') = Contains-none _ in'
+  first_votes j w a (voted to u k log in') = Contains-none _ in'
+
+  first_ordered : (j : ℕ) → IsOrdered at_first j
+  first_ordered j = record {
+    votes = λ to x v w a b p q e. absurd (Contains-none _ p.said);
+    answers = λ to to' x y v v' a b p q e. absurd (Contains-none _ p.said);
+  }
+
   down_stands : (j : ℕ) (cell : Boot) → Stands f at_first j (over cell Down)
   down_stands j cell = record {
     running = λ r. absurd (true≢false (sym r));
     rests = λ _. (refl, refl);
-    prepared = λ view n p. let h = first_prepared j view n p in let e = h.0 in omega arith;
+    hears = record {
+      own = λ e. absurd (true≢false e);
+      long = λ e. absurd (true≢false e);
+      heard = λ k. never refl;
+      no_vote = λ e. absurd (let e' : Down ≡ Recovering = e in cc);
+      no_answer = λ e. absurd (let e' : Down ≡ Recovering = e in cc);
+      ordered = first_ordered j;
+    };
     responses = λ nonce e. absurd (let e' : Down ≡ Recovering = e.status in cc);
+    current = λ e. absurd (let e' : Down ≡ Recovering = e in cc);
   }
 
-  opening_stands : (j : ℕ) (cell : Boot) → Stands f at_first j (opening_site cell)
-  opening_stands j cell = by_test (cell.boots == 0) (cell.view == 0) refl
+  opening_stands : (j : ℕ) (cell : Boot) → Stands f at_first j (opening_site f cell)
+  opening_stands j cell = by_test (cell.boots == 0) refl
     where
-      by_test : (a b : Bool) → (cell.view == 0) ≡ b → Stands f at_first j (over cell (if a && b then Normal else Down))
-      by_test true true e = record {
+      by_test : (b : Bool) → (cell.boots == 0) ≡ b → Stands f at_first j (if b then record (over cell Normal) { known = no_boots f } else over cell Down)
+      by_test true e = record {
         running = λ _. record {
-          at_view = sym (eq_of _ _ e);
+          at_view = record {
+            lived = first_life (no_boots_is f j);
+            votes = λ w a v is. absurd (first_votes j w a v);
+            promised = λ to w u k log a in'. absurd (Contains-none _ in');
+            answers = λ to w x a v is. absurd (Contains-none _ v.said);
+            starts = λ _ a in'. absurd (Contains-none a in');
+            backed = λ _ made. absurd (true≢false (sym made));
+          };
           normal = λ _. refl;
           change = λ c. absurd (let c' : Normal ≡ Change = c in cc);
           log_of = record { opened = refl; lower = nothing_begins []; upper = nothing_begins [] };
@@ -197,20 +224,28 @@ module _ {C R O : Type 0} (f : ℕ) where
           prepared = λ view n p. inr (first_prepared j view n p);
           acks = λ _ a in'. absurd (Contains-none a in');
           votes = λ _ v in'. absurd (Contains-none v in');
+          current = λ _ v in'. absurd (Contains-none v in');
         };
         rests = λ r. absurd (true≢false r);
-        prepared = λ view n p. let h = first_prepared j view n p in let z = h.0 in omega arith;
+        hears = record {
+          own = λ _. (let h = no_boots_is f j in let is = eq_of _ _ e in omega arith);
+          long = λ _. (let h = no_boots_long f in omega arith);
+          heard = λ k. never (no_boots_is f k);
+          no_vote = λ c. absurd (let c' : Normal ≡ Recovering = c in cc);
+          no_answer = λ c. absurd (let c' : Normal ≡ Recovering = c in cc);
+          ordered = first_ordered j;
+        };
         responses = λ nonce c. absurd (let c' : Normal ≡ Recovering = c.status in cc);
+        current = λ c. absurd (let c' : Normal ≡ Recovering = c in cc);
       }
-      by_test true false e = down_stands j cell
-      by_test false b e = down_stands j cell
+      by_test false e = down_stands j cell
 
-  first_stands : (cells : List Boot) (i j : ℕ) → Stands f at_first j (get_or (map opening_site cells) i nobody)
-  first_stands [] i j = down_stands j (record { boots = 0; view = 0 })
+  first_stands : (cells : List Boot) (i j : ℕ) → Stands f at_first j (get_or (map (opening_site f) cells) i nobody)
+  first_stands [] i j = down_stands j (record { boots = 0 })
   first_stands (cell ∷ cells) zero j = opening_stands j cell
   first_stands (cell ∷ cells) (suc i) j = first_stands cells i j
 
-  opening_holds : (cells : List Boot) → length cells ≡ 2 * f + 1 → HoldsAt f at_first (opening_world cells)
+  opening_holds : (cells : List Boot) → length cells ≡ 2 * f + 1 → HoldsAt f at_first (opening_world f cells)
   opening_holds cells all = record {
     holds = record {
       sites = λ j. first_stands cells j j;
@@ -218,17 +253,19 @@ module _ {C R O : Type 0} (f : ℕ) where
       opens = λ view o. nothing_begins [];
       unopened = λ view o. refl;
       rising = λ view. rising_none;
+      regains = λ c in'. absurd (Contains-none c in');
+      times = λ c in'. absurd (Contains-none c in');
       elected = λ w p o. absurd (let e : w ≡ 0 = eq_of _ _ o in omega arith);
     };
     said = λ e in'. absurd (Contains-none e in');
     replies = λ reply in'. absurd (Contains-none reply in');
     orders = λ order in'. absurd (Contains-none order in');
-    size = length-map cells opening_site ∙ all;
+    size = length-map cells (opening_site f) ∙ all;
   }
 
   -- what holds of the world that a legal list leads to
   pub legal_holds : (choose : Choice C) → IsRight f choose → (cells : List Boot) (events : List (Happening C R O)) (world : World C R O) → IsLegal choose f cells events world → IsReached f at_first world
-  legal_holds choose right cells events world legal = run_holds choose right first (opening_world cells) world events (opening_holds cells legal.all) legal.run
+  legal_holds choose right cells events world legal = run_holds choose right first (opening_world f cells) world events (opening_holds cells legal.all) legal.run
 
   -- a site of the world has a number
   pub has_number : (world : World C R O) (x : Site C) → Contains world.sites x → (i : ℕ) × (site_at world i ≡ x)

@@ -16,18 +16,19 @@ use Rattle.vr_types.specs.declared.message.MsgOf.TheVariants.{Request, Prepare, 
 use Rattle.vr_types.specs.declared.row.RowOf.{RowOf}
 use Rattle.vr_types.specs.Group.{others, primary, mail, to_all}
 use Rattle.vr_types.specs.Rows.{newest, last_of}
-use Rattle.vr_types.specs.Site.{Vote, Response, Site, over, has_vote, is_normal, is_change, is_recovering}
+use Rattle.vr_types.specs.Site.{Start, Vote, Response, Site, over, boot_of, has_vote, is_normal, is_change, is_recovering}
 use Rattle.vr_types.specs.Choice.{Choice, Regained, IsRegained, IsRight}
-use Rattle.vr_types.specs.Step.{Step, does, drops, with_saved, normal_in, executed_to, begins_with_executed, asks_state, acknowledges_all, takes_log}
+use Rattle.vr_types.specs.Step.{Step, does, drops, is_outdated, learns, normal_in, executed_to, begins_with_executed, asks_state, acknowledges_all, takes_log}
 use Rattle.vr_types.specs.Normal.{with_row, answers_again, on_request, prepares, on_prepare, on_commit, on_prepare_ok, news, beats_normal}
 use Rattle.vr_types.specs.Change.{Part, with_start, with_vote, with_voted, own_vote, sends_vote, is_to_vote, is_to_open, starts_view, starts_later_view, votes_where_due, opens_where_due, on_start_view_change, on_do_view_change, on_start_view, on_timer, beats_in_change}
 use Rattle.vr_types.specs.Transfer.{on_get_state, on_new_state}
-use Rattle.vr_types.specs.Recovery.{state_of_view, has_as_late, with_response, on_recovery, on_recovery_response, regains, beats_recovering, on_crash, on_restart}
+use Rattle.vr_types.specs.Recovery.{notes, state_of_view, has_as_late, with_response, on_recovery, on_recovery_response, regains, beats_recovering, on_crash, on_restart}
 use Rattle.vr_types.specs.Handling.{refusal, refused_or, on_message, on_beat, site_step}
 use Rattle.vr_types.proofs.ChoosingPick.{Contains-none}
-use Rattle.agreement.specs.Promises.{rows_of_state, RowsAre}
+use Rattle.vr_types.specs.Messages.{rows_of_state}
+use Rattle.agreement.specs.Promises.{RowsAre}
 use Rattle.agreement.proofs.Tests.{lt_of, and_right, not_false}
-use Rattle.agreement.proofs.KeptRows.{Keeps, normal_rows, executed_rows_kept, row_kept, with_start_rows, with_vote_rows, with_voted_rows, with_response_rows, over_rows, picked_rows, state_rows}
+use Rattle.agreement.proofs.KeptRows.{Keeps, learns_rows, normal_rows, executed_rows_kept, row_kept, with_start_rows, with_vote_rows, with_voted_rows, with_response_rows, over_rows, picked_rows, state_rows}
 
 abbrev pub Sends : {C R O : Type 0} → (RowOf C → Type 0) → List (EnvelopeOf C R O) → Type 0
 Sends {C} {R} {O} P es = All (λ (e : EnvelopeOf C R O). RowsAre P e.msg) es
@@ -150,7 +151,7 @@ module _ {C R O : Type 0} (P : RowOf C → Type 0) where
     starts_rows : (w : ℕ) → HasPart P (starts_view {R = R} {O = O} f me w x)
     starts_rows w = record {
       site = record { log = h.log; votes = λ v in'. absurd (Contains-none v in'); responses = λ r in'. absurd (Contains-none r in') };
-      sent = sends_to_all f me (StartViewChange w) tt;
+      sent = sends_to_all f me (StartViewChange w x.known) tt;
     }
 
     starts_later_rows : (w : ℕ) → HasPart P (starts_later_view {R = R} {O = O} f me w x)
@@ -185,16 +186,18 @@ module _ {C R O : Type 0} (P : RowOf C → Type 0) where
             sent = sends_both part.sent _ k.sent (sends_to_all f me (StartView part.site.view (executed_to (choose.most_done part.site.collected.votes) (normal_in part.site.view (choose.pick part.site.collected.votes).log part.site)).done (choose.pick part.site.collected.votes).log) all);
           }))
 
-      start_view_change_rows : (from w : ℕ) → HasRows P (on_start_view_change {R = R} {O = O} choose f me x from w)
+      start_view_change_rows : (w : ℕ) (start : Start) → HasRows P (on_start_view_change {R = R} {O = O} choose f me x w start)
       unfolding on_start_view_change
-      start_view_change_rows from w =
+      start_view_change_rows w start =
           rows_if (is_recovering x.status) (λ _. same x h _ refl refl) (λ _.
           rows_if (nat_lt w x.view) (λ _. same x h _ refl refl) (λ _.
           rows_if (is_normal x.status && (w == x.view)) (λ _. same x h _ refl refl) (λ _.
-          let started = starts_later_view f me w x in
-          let part = starts_later_rows f me x h w in
-          opens_rows (votes_where_due f me (record started { site = with_start from started.site }))
-          (votes_rows (record started { site = with_start from started.site }) (record { site = with_start_rows P started.site part.site from; sent = part.sent })))))
+          rows_if (is_outdated x.known start.from start.known) (λ _. same x h _ refl refl) (λ _.
+          let y = learns start.known x in
+          let started = starts_later_view f me w y in
+          let part = starts_later_rows f me y (learns_rows P x h start.known) w in
+          opens_rows (votes_where_due f me (record started { site = with_start start started.site }))
+          (votes_rows (record started { site = with_start start started.site }) (record { site = with_start_rows P started.site part.site start; sent = part.sent }))))))
 
       do_view_change_rows : (w : ℕ) (vote : Vote C) → All P vote.log → HasRows P (on_do_view_change {R = R} {O = O} choose f me x w vote)
       unfolding on_do_view_change
@@ -203,23 +206,19 @@ module _ {C R O : Type 0} (P : RowOf C → Type 0) where
           rows_if (nat_lt w x.view) (λ _. same x h _ refl refl) (λ _.
           rows_if (not (primary f w == me)) (λ _. same x h _ refl refl) (λ _.
           rows_if (is_normal x.status && (w == x.view)) (λ _. same x h _ refl refl) (λ _.
-          let started = starts_later_view f me w x in
-          let part = starts_later_rows f me x h w in
-          opens_rows (record started { site = with_vote vote started.site }) (record { site = with_vote_rows P started.site part.site vote all; sent = part.sent })))))
+          rows_if (is_outdated x.known vote.from vote.known) (λ _. same x h _ refl refl) (λ _.
+          let y = learns vote.known x in
+          let started = starts_later_view f me w y in
+          let part = starts_later_rows f me y (learns_rows P x h vote.known) w in
+          opens_rows (record started { site = with_vote vote started.site }) (record { site = with_vote_rows P started.site part.site vote all; sent = part.sent }))))))
 
       taken_rows : (w k : ℕ) (log : List (RowOf C)) → All P log → HasRows P (takes_log {R = R} {O = O} choose f me x w k log)
-      taken_rows w k log all = by_test (nat_lt x.view w)
+      taken_rows w k log all = from_site _ (normal_rows P x h w k log all)
         where
           from_site : (y : Site C) → Keeps P y → HasRows P (
               if begins_with_executed choose.same x log then does {C = C} {R = R} {O = O} y (if nat_lt y.done (length y.log) then acknowledges_all f me y else []) else drops x Stale)
           from_site y kept = rows_if (begins_with_executed choose.same x log)
               (λ _. told y kept _ (sends_if (nat_lt y.done (length y.log)) _ _ (acknowledges_rows f me x h y) sends_none)) (λ _. same x h _ refl refl)
-
-          by_test : (b : Bool) → HasRows P (
-              let y = executed_to k (normal_in w log (if b then with_saved w x else x)) in
-              if begins_with_executed choose.same x log then does {C = C} {R = R} {O = O} y (if nat_lt y.done (length y.log) then acknowledges_all f me y else []) else drops x Stale)
-          by_test true = from_site _ (normal_rows P (with_saved w x) (record { log = h.log; votes = h.votes; responses = h.responses }) w k log all)
-          by_test false = from_site _ (normal_rows P x h w k log all)
 
       start_view_rows : (from w k : ℕ) (log : List (RowOf C)) → All P log → HasRows P (on_start_view {R = R} {O = O} choose f me x from w k log)
       unfolding on_start_view
@@ -239,7 +238,7 @@ module _ {C R O : Type 0} (P : RowOf C → Type 0) where
       beat_in_change_rows : HasRows P (beats_in_change {R = R} {O = O} f me x)
       unfolding beats_in_change
       beat_in_change_rows =
-          told x h _ (sends_both _ _ (sends_to_all f me (StartViewChange x.view) tt)
+          told x h _ (sends_both _ _ (sends_to_all f me (StartViewChange x.view x.known) tt)
           (sends_if (x.collected.voted && not (primary f x.view == me)) _ _ (vote_rows f me x h x h) sends_none))
 
       -- state transfer
@@ -271,28 +270,26 @@ module _ {C R O : Type 0} (P : RowOf C → Type 0) where
       unfolding on_recovery
       recovery_rows from nonce =
           rows_if (not (is_normal x.status)) (λ _. same x h _ refl refl) (λ _.
-          told x h _ (sends_one (mail me from (RecoveryResponse x.view nonce (state_of_view f me x))) (state_rows P x h (primary f x.view == me))))
+          rows_if (nat_lt nonce (boot_of x.known from)) (λ _. same x h _ refl refl) (λ _.
+          let y = notes from nonce x in
+          told y (record { log = h.log; votes = h.votes; responses = h.responses }) _
+          (sends_one (mail me from (RecoveryResponse y.view nonce (state_of_view f me y) y.known)) (state_rows P x h (primary f x.view == me)))))
 
       regains_rows : (y : Site C) → Keeps P y → (regained : Option (Regained C))
-          → MatchOption regained ((r : Regained C) → ¬ IsRegained f y.cell.view y.collected.responses r) (IsRegained f y.cell.view y.collected.responses) → HasRows P (regains {R = R} {O = O} y regained)
+          → MatchOption regained ((r : Regained C) → ¬ IsRegained f y.collected.responses r) (IsRegained f y.collected.responses) → HasRows P (regains {R = R} {O = O} y regained)
       regains_rows y k None none = record { site = k; sent = sends_none }
-      regains_rows y k (Some regained) fact = by_test (nat_lt y.cell.view regained.view)
-        where
-          all : All P regained.state.rows
-          all = k.responses _ fact.answered
-
-          by_test : (b : Bool) → HasRows P (does {C = C} {R = R} {O = O} (executed_to regained.state.done (normal_in regained.view regained.state.rows (if b then with_saved regained.view y else y))) [])
-          by_test true = told _ (normal_rows P (with_saved regained.view y) (record { log = k.log; votes = k.votes; responses = k.responses }) regained.view regained.state.done regained.state.rows all) [] sends_none
-          by_test false = told _ (normal_rows P y k regained.view regained.state.done regained.state.rows all) [] sends_none
+      regains_rows y k (Some regained) fact = told _ (normal_rows P y k regained.view regained.state.done regained.state.rows (k.responses _ fact.answered)) [] sends_none
 
       recovery_response_rows : (nonce : ℕ) (response : Response C) → All P (rows_of_state response.state) → HasRows P (on_recovery_response {R = R} {O = O} choose x nonce response)
       unfolding on_recovery_response
       recovery_response_rows nonce response all =
           rows_if (not (is_recovering x.status)) (λ _. same x h _ refl refl) (λ _.
           rows_if (not (nonce == x.cell.boots)) (λ _. same x h _ refl refl) (λ _.
-          rows_if (has_as_late x.collected.responses response) (λ _. same x h _ refl refl) (λ _.
-          let y = with_response response x in
-          regains_rows y (with_response_rows P x h response all) (choose.regained y.cell.view y.collected.responses) (right.regained y.cell.view y.collected.responses))))
+          rows_if (is_outdated x.known response.from response.known) (λ _. same x h _ refl refl) (λ _.
+          let y = learns response.known x in
+          let z = with_response response y in
+          rows_if (has_as_late y.collected.responses response) (λ _. same x h _ refl refl) (λ _.
+          regains_rows z (with_response_rows P y (learns_rows P x h response.known) response all) (choose.regained z.collected.responses) (right.regained z.collected.responses)))))
 
       beat_recovering_rows : HasRows P (beats_recovering {R = R} {O = O} f me x)
       unfolding beats_recovering
@@ -300,7 +297,9 @@ module _ {C R O : Type 0} (P : RowOf C → Type 0) where
 
       restart_rows : HasRows P (on_restart {R = R} {O = O} f me x)
       unfolding on_restart
-      restart_rows = told _ (over_rows P (record { boots = x.cell.boots + 1; view = x.cell.view }) Recovering) _ (sends_to_all f me (Recovery (x.cell.boots + 1)) tt)
+      restart_rows =
+          let k = over_rows P (record { boots = x.cell.boots + 1 }) Recovering in
+          told _ (record { log = k.log; votes = k.votes; responses = k.responses }) _ (sends_to_all f me (Recovery (x.cell.boots + 1)) tt)
 
       -- every event
 
@@ -309,13 +308,13 @@ module _ {C R O : Type 0} (P : RowOf C → Type 0) where
       message_rows actor (Prepare w place k row) rows asked = prepare_rows f me x h _ w place k row rows
       message_rows actor (PrepareOk w place) rows asked = prepare_ok_rows f me x h choose _ w place
       message_rows actor (Commit w k) rows asked = commit_rows f me x h _ w k
-      message_rows actor (StartViewChange w) rows asked = start_view_change_rows _ w
-      message_rows actor (DoViewChange w last k log) rows asked = do_view_change_rows w _ rows
+      message_rows actor (StartViewChange w known) rows asked = start_view_change_rows w _
+      message_rows actor (DoViewChange w last k log known) rows asked = do_view_change_rows w _ rows
       message_rows actor (StartView w k log) rows asked = start_view_rows _ w k log rows
       message_rows actor (GetState w base) rows asked = get_state_rows _ w base
       message_rows actor (NewState w base k more) rows asked = new_state_rows _ w base k more rows
       message_rows actor (Recovery nonce) rows asked = recovery_rows _ nonce
-      message_rows actor (RecoveryResponse w nonce state) rows asked = recovery_response_rows nonce _ rows
+      message_rows actor (RecoveryResponse w nonce state known) rows asked = recovery_response_rows nonce _ rows
       message_rows actor (Reply view number reply) rows asked = same x h _ refl refl
       message_rows actor (PayOrder order) rows asked = same x h _ refl refl
 

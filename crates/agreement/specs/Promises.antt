@@ -1,20 +1,21 @@
 -- What holds of sites under every legal list. Places are counted from 1.
-use Rattle.std.specs.Prelude.{◌≡◌, ℕ, ◌-◌, ◌<◌, ◌≤◌, ◌⊎◌, ◌↔◌, true, List, [], ◌∷◌, ◌++◌, length, take, map, slice_get, Contains, All, Option, Some, None, ⊤}
+use Rattle.std.specs.Prelude.{◌≡◌, ℕ, ◌-◌, ◌<◌, ◌≤◌, ◌⊎◌, ◌↔◌, true, List, ◌∷◌, ◌++◌, length, take, map, slice_get, Contains, All, Option, Some, ⊤}
 use Rattle.std.specs.List.{filter_map, flat_map}
 use Rattle.vr_types.specs.declared.event.EventOf.{EventOf}
 use Rattle.vr_types.specs.declared.event.EventOf.TheVariants.{Deliver}
-use Rattle.vr_types.specs.declared.event.Status.TheVariants.{Normal}
+use Rattle.vr_types.specs.declared.event.Status.TheVariants.{Normal, Change, Recovering}
 use Rattle.vr_types.specs.declared.machine.Machine.{Ghosts}
 use Rattle.vr_types.specs.declared.message.EnvelopeOf.{EnvelopeOf}
 use Rattle.vr_types.specs.declared.message.MsgOf.{MsgOf}
 use Rattle.vr_types.specs.declared.message.MsgOf.TheVariants.{Request, Prepare, PrepareOk, Commit, StartViewChange, DoViewChange, StartView, GetState, NewState, Recovery, RecoveryResponse, Reply, PayOrder}
-use Rattle.vr_types.specs.declared.message.StateOf.{StateOf}
 use Rattle.vr_types.specs.declared.row.RowOf.{RowOf}
 use Rattle.vr_types.specs.Execution.{held_after, answer_at}
-use Rattle.vr_types.specs.Group.{actor_of}
-use Rattle.vr_types.specs.Site.{Site, executed_rows}
-use Rattle.vr_types.specs.Step.{Step}
-use Rattle.vr_types.specs.Handling.{site_step, machine_of, reply_to, order_to, envelopes}
+use Rattle.vr_types.specs.Group.{actor_of, mail}
+use Rattle.vr_types.specs.Choice.{AreFresh}
+use Rattle.vr_types.specs.Messages.{rows_of_state}
+use Rattle.vr_types.specs.Site.{Site, is_running, executed_rows}
+use Rattle.vr_types.specs.Step.{Step, Handled}
+use Rattle.vr_types.specs.Handling.{votes_used, responses_used, site_step, machine_of, reply_to, order_to, envelopes}
 use Rattle.agreement.specs.Worlds.{World, Replied, Ordered, Happening, step_of, stepped, IsRun, IsLegal, LegalList, IsNoRestart}
 
 -- the row at a place
@@ -54,6 +55,23 @@ LogsRise {C} world = (x : Site C) → Contains world.sites x → IsRising x.log
 -- no event of the list is a restart
 abbrev pub NeverRestarts : {C R O : Type 0} → List (Happening C R O) → Type 0
 NeverRestarts events = All (λ h. IsNoRestart h.event) events
+
+-- WHAT IS COLLECTED, AND WHAT A VOTE BINDS TO
+
+-- the messages that a site collects for a view change are fresh, and so are those that it collects while it recovers
+abbrev pub CollectedAreFresh : {C R O : Type 0} → World C R O → Type 0
+CollectedAreFresh {C} world =
+    (x : Site C) → Contains world.sites x
+    → (x.status ≡ Change → AreFresh (λ start. start.from) (λ start. start.known) x.collected.starts
+    × AreFresh (λ vote. vote.from) (λ vote. vote.known) x.collected.votes)
+    × (x.status ≡ Recovering → AreFresh (λ response. response.from) (λ response. response.known) x.collected.responses)
+
+-- a site that ever sent a DOVIEWCHANGE runs in no view below it, whether or not it restarted since
+abbrev pub VotesBind : {C R O : Type 0} → World C R O → Type 0
+VotesBind {C} {R} {O} world =
+    (i to w last_normal done : ℕ) (rows : List (RowOf C)) (known : List ℕ) (x : Site C)
+    → Contains world.sent (mail i to (DoViewChange w last_normal done rows known))
+    → slice_get world.sites i ≡ Some x → is_running x.status ≡ true → w ≤ x.view
 
 -- WHAT CLIENTS ARE TOLD
 
@@ -127,23 +145,19 @@ pub record WasAsked {C R O : Type 0} (events : List (Happening C R O))
   pub to : ℕ
   pub taken : Contains events (step_of site (Deliver (request_of to row)))
 
-abbrev pub rows_of_state : {C : Type 0} → Option (StateOf C) → List (RowOf C)
-rows_of_state None = []
-rows_of_state (Some state) = state.rows
-
 -- the rows that a message between sites has
 abbrev pub RowsAre : {C R O : Type 0} → (RowOf C → Type 0) → MsgOf C R O → Type 0
 RowsAre P (Request number cmd) = ⊤
 RowsAre P (Prepare view place done row) = P row
 RowsAre P (PrepareOk view place) = ⊤
 RowsAre P (Commit view done) = ⊤
-RowsAre P (StartViewChange view) = ⊤
-RowsAre P (DoViewChange view last_normal done rows) = All P rows
+RowsAre P (StartViewChange view known) = ⊤
+RowsAre P (DoViewChange view last_normal done rows known) = All P rows
 RowsAre P (StartView view done rows) = All P rows
 RowsAre P (GetState view base) = ⊤
 RowsAre P (NewState view base done rows) = All P rows
 RowsAre P (Recovery nonce) = ⊤
-RowsAre P (RecoveryResponse view nonce state) = All P (rows_of_state state)
+RowsAre P (RecoveryResponse view nonce state known) = All P (rows_of_state state)
 RowsAre P (Reply view number reply) = ⊤
 RowsAre P (PayOrder order) = ⊤
 
@@ -173,6 +187,16 @@ pub record Took {C R O : Type 0} {f : ℕ} (list : LegalList C R O f)
   pub is : step ≡ site_step list.choose f i site event
   pub stands : slice_get (stepped world i step).sites i ≡ Some step.site
   pub rest : IsRun list.choose f (stepped world i step) after list.world
+
+-- The DOVIEWCHANGEs by which a step of the list decides whether a view opens are fresh, and so are the responses by which
+-- one decides whether a state is regained.
+abbrev pub UsedAreFresh : {C R O : Type 0} {f : ℕ} → LegalList C R O f → Type 0
+UsedAreFresh {C} {R} {O} {f} list =
+    (i : ℕ) (step : Step C R O) (took : Took list i step) (envelope : EnvelopeOf C R O)
+    → took.event ≡ Deliver envelope → step.ending ≡ Handled
+    → AreFresh (λ vote. vote.from) (λ vote. vote.known) (votes_used f i took.site envelope.from envelope.msg)
+    × AreFresh (λ response. response.from) (λ response. response.known)
+    (responses_used took.site envelope.from envelope.msg)
 
 -- a REPLY was sent in a step of the list, by a site that had executed the row by then
 pub record WasReplied {C R O : Type 0} {f : ℕ} (list : LegalList C R O f)

@@ -1,12 +1,11 @@
 -- Sites alone: all of them, and all that they ever sent, under any list of events.
-use Rattle.std.specs.Prelude.{◌≡◌, ℕ, ◌+◌, ◌*◌, ◌⊎◌, Bool, true, false, List, [], ◌∷◌, ◌++◌, length, map, slice_get, slice_set, Contains, Some, ⊤, if◌then◌else◌}
+use Rattle.std.specs.Prelude.{◌≡◌, ℕ, ◌+◌, ◌*◌, ◌⊎◌, true, false, List, [], ◌∷◌, ◌++◌, length, map, slice_get, slice_set, Contains, Some, ⊤, if◌then◌else◌}
 use Rattle.vr_types.specs.declared.cell.Boot.{Boot}
 use Rattle.vr_types.specs.declared.event.EventOf.{EventOf}
 use Rattle.vr_types.specs.declared.event.EventOf.TheVariants.{Deliver, Timer, Beat, Crash, Restart}
 use Rattle.vr_types.specs.declared.event.Status.TheVariants.{Down}
 use Rattle.vr_types.specs.declared.message.EnvelopeOf.{EnvelopeOf}
-use Rattle.vr_types.specs.declared.message.MsgOf.{MsgOf}
-use Rattle.vr_types.specs.declared.message.MsgOf.TheVariants.{Request, Prepare, PrepareOk, Commit, StartViewChange, DoViewChange, StartView, GetState, NewState, Recovery, RecoveryResponse, Reply, PayOrder}
+use Rattle.vr_types.specs.Messages.{is_request}
 use Rattle.vr_types.specs.Site.{Site, over, opening_site}
 use Rattle.vr_types.specs.Choice.{Choice, IsRight}
 use Rattle.vr_types.specs.Step.{Step}
@@ -44,22 +43,6 @@ pub record Happening (C R O : Type 0) : Type 0 where
 -- an event at a site that ends as its step says
 abbrev pub step_of : {C R O : Type 0} → ℕ → EventOf C R O → Happening C R O
 step_of i event = record { site = i; event = event; course = Ends }
-
--- a client's request
-abbrev pub is_request : {C R O : Type 0} → MsgOf C R O → Bool
-is_request (Request number cmd) = true
-is_request (Prepare view place done row) = false
-is_request (PrepareOk view place) = false
-is_request (Commit view done) = false
-is_request (StartViewChange view) = false
-is_request (DoViewChange view last_normal done rows) = false
-is_request (StartView view done rows) = false
-is_request (GetState view base) = false
-is_request (NewState view base done rows) = false
-is_request (Recovery nonce) = false
-is_request (RecoveryResponse view nonce state) = false
-is_request (Reply view number reply) = false
-is_request (PayOrder order) = false
 
 -- What arrives was sent, but a REQUEST of any client may arrive at any time. All else may happen at any time.
 abbrev pub MayHappen : {C R O : Type 0} → List (EnvelopeOf C R O) → EventOf C R O → Type 0
@@ -114,15 +97,15 @@ IsRun {C} {R} {O} choose f world (h ∷ hs) after =
     (next : World C R O) × Happens choose f world h next × IsRun choose f next hs after
 
 -- at the opening nothing was sent, and each site is over its cell
-abbrev pub opening_world : {C R O : Type 0} → List Boot → World C R O
-opening_world cells =
-    record { sites = map opening_site cells; sent = []; replies = []; orders = [] }
+abbrev pub opening_world : {C R O : Type 0} → ℕ → List Boot → World C R O
+opening_world f cells =
+    record { sites = map (opening_site f) cells; sent = []; replies = []; orders = [] }
 
 -- a legal list of 2f+1 sites leads to this world, from an opening over these cells
 pub record IsLegal {C R O : Type 0} (choose : Choice C) (f : ℕ) (cells : List Boot)
     (events : List (Happening C R O)) (world : World C R O) : Type 0 where
   pub all : length cells ≡ 2 * f + 1
-  pub run : IsRun choose f (opening_world cells) events world
+  pub run : IsRun choose f (opening_world f cells) events world
 
 -- WHAT EVERY LAW IS SAID OF: any legal list of 2f+1 sites, from an opening over cells of any value, where the choices
 -- that the steps take as given are right; and the world that it leads to.

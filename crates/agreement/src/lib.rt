@@ -12,7 +12,7 @@ ghost use Rattle.vr_types.specs.declared.cell.Boot.{Boot};
 ghost use Rattle.vr_types.specs.Choice.{Choice};
 ghost use Rattle.vr_types.specs.Step.{Step};
 ghost use Rattle.agreement.specs.Worlds.{World, Happening, fallen, IsLegal, LegalList, Continued};
-ghost use Rattle.agreement.specs.Promises.{SitesAgree, FirstRowsAgree, NeverRestarts, LogsRise};
+ghost use Rattle.agreement.specs.Promises.{SitesAgree, FirstRowsAgree, NeverRestarts, LogsRise, CollectedAreFresh, UsedAreFresh, VotesBind};
 ghost use Rattle.agreement.specs.Promises.{AnsweredRowsStay, RepliesAgree, AnswersAgree, AnswersAreRight};
 ghost use Rattle.agreement.specs.Promises.{LogsWereAsked, MessagesWereAsked, RepliesWereSent, OrdersWereSent};
 ghost use Rattle.agreement.specs.Promises.{replies_sent, orders_sent, all_sent, GrowsByStep, IsRightReply, IsOpenOrder};
@@ -37,6 +37,15 @@ pub fn agreement_running<C, R, O>()
 /// In every log the numbers of each client rise.
 pub fn rising<C, R, O>()
     ensures { (f : ℕ) (list : LegalList C R O f) → LogsRise list.world }
+{}
+
+/// A site that ever sent a DOVIEWCHANGE runs in no view below it, whether or not it restarted since. Of the messages that a
+/// site collects, none's sender knew a later boot of another's sender than that one's message is of; nor of those by which
+/// a step opens a view or regains a state.
+pub fn binding<C, R, O>()
+    ensures bind { (f : ℕ) (list : LegalList C R O f) → VotesBind list.world }
+    ensures fresh { (f : ℕ) (list : LegalList C R O f) → CollectedAreFresh list.world }
+    ensures used { (f : ℕ) (list : LegalList C R O f) → UsedAreFresh list }
 {}
 
 /// What was answered stays: the rows up to one that was ever answered in a view, as their sender had them, begin the log

@@ -1,6 +1,8 @@
+use fixtures::setup::three_currencies;
+use fixtures::{Said, said_by};
 use pvp_book::Book;
-use pvp_types::{Cmd, Currency, List, Member, Name, Setup};
-use std::alloc::{AllocError, Global};
+use pvp_types::{Cmd, Reply};
+use std::alloc::Global;
 use std::test::Fail;
 use vr_site::Replica;
 use vr_types::{
@@ -41,7 +43,20 @@ pub struct Shown {
     pub log: usize,
     pub done: usize,
     pub boots: u32,
-    pub saved: u32,
+    /// Of each site the greatest boot number that it has heard of.
+    pub known: [u32; 3],
+}
+
+impl Shown {
+    /// The same, over a cell that counts so many restarts.
+    pub fn over(self, boots: u32) -> Self {
+        Shown { boots, ..self }
+    }
+
+    /// The same, where these boots are known.
+    pub fn knows(self, known: [u32; 3]) -> Self {
+        Shown { known, ..self }
+    }
 }
 
 /// Three sites, the envelopes that were sent and not delivered yet, and USD's node with its notices.
@@ -63,64 +78,21 @@ pub struct Group {
     refusals: usize,
     /// Whether each site that was refused memory fell as it has to.
     fell_well: bool,
+    /// How often a site's cell failed.
+    failures: usize,
 }
 
-fn currency(alloc: Global, code: &str, rate: u64, haircut: u64) -> Result<Currency, AllocError> {
-    Ok(Currency {
-        code: Name::new(alloc, code)?,
-        rate,
-        haircut,
-    })
-}
-
-fn member(alloc: Global, name: &str) -> Result<Member, AllocError> {
-    let mut short = List::new(alloc);
-    let mut deposit = List::new(alloc);
-    for (limit, opening) in [(1_000, 10_000), (1_000, 10_000), (100_000, 1_000_000)] {
-        short.push(limit)?;
-        deposit.push(opening)?;
-    }
-    Ok(Member {
-        name: Name::new(alloc, name)?,
-        aggregate: 150_000,
-        short,
-        deposit,
-    })
-}
-
-/// Three currencies and two members.
-fn setup(alloc: Global) -> Result<Setup, AllocError> {
-    let mut currencies = List::new(alloc);
-    currencies.push(currency(alloc, "EUR", 110, 500)?)?;
-    currencies.push(currency(alloc, "USD", 100, 0)?)?;
-    currencies.push(currency(alloc, "JPY", 1, 1_000)?)?;
-    let mut members = List::new(alloc);
-    members.push(member(alloc, "ALFA")?)?;
-    members.push(member(alloc, "BETA")?)?;
-    Ok(Setup {
-        sites: 3,
-        currencies,
-        members,
-    })
-}
-
-/// Whether a cell holds what it held before an event, or what the event may save: the next number at a restart, a later
-/// view at any other event.
+/// Whether a cell holds what it held before an event, or the next number where the event is a restart.
 fn is_kept_or_saved(before: Boot, after: Boot, restarts: bool) -> bool {
-    if restarts {
-        after.view == before.view
-            && (after.boots == before.boots || after.boots == before.boots.saturating_add(1))
-    } else {
-        after.boots == before.boots && after.view >= before.view
-    }
+    after == before || restarts && before.raised() == Some(after)
 }
 
 /// A site of three over a cell, at most number 2.
 pub fn site(alloc: Global, me: u16, cell: MemCell) -> Result<Site, Fail> {
-    let setup = setup(alloc)?;
-    if me > 2 || setup.check().is_err() {
+    if me > 2 {
         return Err(Fail::new("no such site"));
     }
+    let setup = three_currencies(alloc)?;
     Ok(Replica::new(alloc, Config { f: 1, me }, setup, cell)?)
 }
 
@@ -159,6 +131,7 @@ impl Group {
             crash: None,
             refusals: 0,
             fell_well: true,
+            failures: 0,
         })
     }
 
@@ -240,6 +213,10 @@ impl Group {
                 self.refusals = self.refusals.saturating_add(1);
                 self.fell_well = self.fell_well && fell && kept;
                 Some(false)
+            }
+            Err(SiteFault::CellFault) => {
+                self.failures = self.failures.saturating_add(1);
+                Some(true)
             }
             Err(_) => Some(true),
         }
@@ -362,19 +339,27 @@ impl Group {
     /// What a site shows; a site that there is not is down.
     pub fn shows(&self, site: usize) -> Shown {
         match self.sites.get(site) {
-            None => showing(Status::Down, 0, 0, 0, 0, 0),
-            Some(site) => {
-                let Boot { boots, view } = site.boot();
-                showing(
-                    site.status(),
-                    site.view(),
-                    site.log_len(),
-                    site.done(),
-                    boots,
-                    view,
-                )
-            }
+            None => showing(Status::Down, 0, 0, 0),
+            Some(site) => Shown {
+                status: site.status(),
+                view: site.view(),
+                log: site.log_len(),
+                done: site.done(),
+                boots: site.boot().boots,
+                known: [site.known(0), site.known(1), site.known(2)],
+            },
         }
+    }
+
+    /// What an envelope says that was not delivered yet, with the actors that it goes between.
+    pub fn waits(&self, number: usize) -> Option<(u16, u16, Said<Reply>)> {
+        let envelope = self.post.get(number.checked_sub(1)?)?.as_ref()?;
+        Some((envelope.from, envelope.to, said_by(&envelope.msg)))
+    }
+
+    /// How often a site's cell failed.
+    pub fn failures(&self) -> usize {
+        self.failures
     }
 
     /// Whether each running site's book has the pay-ins that it executed: the first ones, each once.
@@ -395,21 +380,14 @@ impl Group {
     }
 }
 
-/// What a site shows.
-pub fn showing(
-    status: Status,
-    view: u32,
-    log: usize,
-    done: usize,
-    boots: u32,
-    saved: u32,
-) -> Shown {
+/// A site over a cell that was never saved, which knows of no boots.
+pub fn showing(status: Status, view: u32, log: usize, done: usize) -> Shown {
     Shown {
         status,
         view,
         log,
         done,
-        boots,
-        saved,
+        boots: 0,
+        known: [0, 0, 0],
     }
 }

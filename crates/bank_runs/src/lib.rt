@@ -1,15 +1,16 @@
-//! Runs of one site and of three that keep the bank's book, with envelopes handed over by hand: tests alone.
+//! Tests alone: of the bank's types, its book and its nodes, and runs of one site and of three that keep the book, with
+//! envelopes handed over by hand.
 #![tactic(auto)]
 
 #[cfg(test)]
-mod changing;
+mod book;
 #[cfg(test)]
 mod group;
 #[cfg(test)]
+mod nodes;
+#[cfg(test)]
 mod one_site;
 #[cfg(test)]
-mod recovering;
-#[cfg(test)]
-mod said;
+mod setups;
 #[cfg(test)]
 mod three_sites;

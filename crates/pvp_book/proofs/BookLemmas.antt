@@ -6,7 +6,7 @@ use Rattle.std.specs.Map.{lookup}
 use Rattle.std.proofs.lemmas.List.Elements.{filter_map-append}
 use Rattle.pvp_types.specs.declared.setup.Setup.{Setup}
 use Rattle.pvp_types.specs.declared.command.Cmd.{Cmd}
-use Rattle.pvp_types.specs.declared.command.Cmd.TheVariants.{Instruct, Rescind, Fund, Settle, PayOut, Paid}
+use Rattle.pvp_types.specs.declared.command.Cmd.TheVariants.{Instruct, Settle}
 use Rattle.pvp_types.specs.declared.command.Reply.{Reply}
 use Rattle.pvp_types.specs.declared.command.Reply.TheVariants.{Done, Matched, Settled, Order, No}
 use Rattle.pvp_types.specs.declared.command.Reason.TheVariants.{NotYours, UnknownMember, UnknownCurrency, BadAmount, UnknownReference, Repeated, Mismatch}
@@ -80,11 +80,7 @@ opened-new setup entries client (Instruct reference other sell sell_amt buy buy_
 opened-new setup entries client (Instruct reference other sell sell_amt buy buy_amt) (Settled n) p opened answered = absurd (cc opened)
 opened-new setup entries client (Instruct reference other sell sell_amt buy buy_amt) (Order n) p opened answered = absurd (cc opened)
 opened-new setup entries client (Instruct reference other sell sell_amt buy buy_amt) (No reason) p opened answered = absurd (cc opened)
-opened-new setup entries client (Rescind reference) reply p opened answered = absurd (cc opened)
-opened-new setup entries client (Fund ccy pay member amt) reply p opened answered = absurd (cc opened)
-opened-new setup entries client (Settle most) reply p opened answered = absurd (cc opened)
-opened-new setup entries client (PayOut ccy amt) reply p opened answered = absurd (cc opened)
-opened-new setup entries client (Paid ccy out) reply p opened answered = absurd (cc opened)
+opened-new setup entries client _ reply p opened answered = absurd (cc opened)
 
 -- an accepted command that is no walk settles nothing
 settles-none : (setup : Setup) (entries : List Entry) (done : List Pair) (client : ℕ) (cmd : Cmd)
@@ -96,11 +92,7 @@ settles-none setup entries done client (Settle most) other accepted = by (client
         → pass setup entries done most (candidates entries done) ≡ []
     by true other accepted = absurd (cc other)
     by false other accepted = absurd (cc accepted)
-settles-none setup entries done client (Instruct reference other sell sell_amt buy buy_amt) h accepted = refl
-settles-none setup entries done client (Rescind reference) h accepted = refl
-settles-none setup entries done client (Fund ccy pay member amt) h accepted = refl
-settles-none setup entries done client (PayOut ccy amt) h accepted = refl
-settles-none setup entries done client (Paid ccy out) h accepted = refl
+settles-none setup entries done client _ h accepted = refl
 
 -- an entry that is no walk adds at most a pair
 pub IsKept-accepted : (held : Ledger) (entry : Entry) (kept : List (ℕ × Pair)) (posted : List Pair) → IsKept held kept posted → held.applied < 65535

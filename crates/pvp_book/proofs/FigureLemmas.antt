@@ -1,27 +1,31 @@
 -- Legs and figures: what settled pairs bring is what they take.
 use Rattle.std.proofs.Common.{◌≡◌, ℕ, suc, zero, ◌+◌, ◌≤◌, ◌<◌, Bool, true, false, cond, List, [], ◌∷◌, ◌++◌, length, map, fold, arith, refl, ap, sym, subst, ◌∙◌, sum_by, ℤ, pos, ◌+ℤ◌, ◌-ℤ◌, ◌≤ℤ◌, neg_ℤ, add-one, eqb-true, ◌⊎◌, inl, inr}
-use Rattle.std.specs.Prelude.{not, ◌&&◌, ◌==◌, if◌then◌else◌, int_lt}
-use Rattle.std.specs.List.{flat_map, AllByRecursion}
+use Rattle.std.specs.Prelude.{◌&&◌, ◌||◌, ◌==◌, if◌then◌else◌, int_lt, Some, None}
+use Rattle.std.specs.List.{flat_map, cons_option, AllByRecursion}
 use Rattle.std.proofs.lemmas.Int.{ints}
 use Rattle.std.proofs.lemmas.Bool.{and_parts, leb-true, ne_eqb, eq-eqb, cases_eq}
 use Rattle.std.proofs.lemmas.List.Sums.{sum_by-cons, sum_by-append, fold-append}
-use Rattle.std.proofs.lemmas.List.Elements.{filter-append}
+use Rattle.std.proofs.lemmas.List.Folds.{list_any-append}
+use Rattle.std.proofs.lemmas.List.Elements.{filter-append, filter_map-append}
 use Rattle.pvp_types.specs.declared.setup.Setup.{Setup}
 use Rattle.pvp_types.specs.declared.command.Cmd.{Cmd}
-use Rattle.pvp_types.specs.declared.command.Cmd.TheVariants.{Instruct, Rescind, Fund, Settle, PayOut, Paid}
-use Rattle.pvp_types.specs.declared.command.Reply.TheVariants.{Done, Order, No}
-use Rattle.pvp_types.specs.declared.command.Reason.TheVariants.{NotYours, UnknownMember, UnknownCurrency, BadAmount, UnknownReference, Repeated, Short, TestFails, BankShort}
+use Rattle.pvp_types.specs.declared.command.Cmd.TheVariants.{Fund, PayOut}
+use Rattle.pvp_types.specs.declared.command.PayOrder.{PayOrder}
+use Rattle.pvp_types.specs.declared.command.Reply.{Reply}
+use Rattle.pvp_types.specs.declared.command.Reply.TheVariants.{Done, Matched, Settled, Order, No}
 use Rattle.pvp_book.specs.declared.entry.Entry.{Entry}
 use Rattle.pvp_book.specs.declared.pair.Pair.{Pair}
-use Rattle.pvp_book.specs.Accounts.{paid_in_to, paid_out_of, pay_ins, pay_outs, bought, sold, received, given, balance_with}
-use Rattle.pvp_book.specs.Limits.{passes}
+use Rattle.pvp_book.specs.Accounts.{paid_in_to, paid_out_of, pay_ins, pay_outs, returned, bought, sold, received, given, balance_with}
 use Rattle.pvp_book.specs.Settlement.{settled}
-use Rattle.pvp_book.specs.Ledger.{node_of, has_pay_in, orders, balance, figure, sum_of_balances}
-use Rattle.pvp_book.specs.Answer.{Row, answer, is_refusal, on_fund, on_pay_out, has_member, has_currency, is_amount, is_member_number, balances_less, book_of}
-use Rattle.pvp_book.specs.Laws.{Leg, legs, legs_at, sum_of_legs, IsExchange, IsEven, funded, paid_out, funds, all_paid_out, IsCovered}
-use Rattle.pvp_book.proofs.LedgerLemmas.{sum_of_balances-more}
+use Rattle.pvp_book.specs.Ledger.{figure, sum_of_balances}
+use Rattle.pvp_book.specs.Orders.{order_by, orders, is_return, has_return}
+use Rattle.pvp_book.specs.Answer.{Row, answer, is_refusal, on_fund, on_pay_out, has_member, has_currency, fund_checks, pay_out_checks, book_of}
+use Rattle.pvp_book.specs.Laws.{Leg, legs, legs_at, sum_of_legs, IsExchange, IsEven, funded, paid_out, funds, all_paid_out, all_returned, IsCovered}
+use Rattle.pvp_book.proofs.LedgerLemmas.{sum-le, sum_of_balances-more}
 use Rattle.pvp_book.proofs.Reached.{entry_of, reached}
+use Rattle.pvp_book.proofs.Checks.{passed, is-so}
 use Rattle.pvp_book.proofs.Counts.{each-append}
+use Rattle.pvp_book.proofs.Members.{upto, upto-add, upto-none, upto-sum, pick, is-member}
 use Rattle.pvp_book.proofs.StandingLemmas.{IsSound, IsSound-push, sound, each-settled}
 
 legs-append : (xs ys : List Leg) → sum_of_legs (xs ++ ys) ≡ sum_of_legs xs +ℤ sum_of_legs ys
@@ -98,54 +102,6 @@ legs-of-pairs m c (p ∷ ps) =
     let went = sum_by-cons (sold m c) p ps in
     both ∙ omega (arith, ints, here, rest, came, went)
 
--- the sum of a function at 1, 2, .. n
-upto : (ℕ → ℕ) → ℕ → ℕ
-upto f zero = 0
-upto f (suc n) = upto f n + f (suc n)
-
-upto-add : (f g : ℕ → ℕ) (n : ℕ) → upto (λ m. f m + g m) n ≡ upto f n + upto g n
-unfolding upto
-upto-add f g zero = refl
-upto-add f g (suc n) = let rest = upto-add f g n in omega arith
-
-upto-none : (n : ℕ) → upto (λ _. 0) n ≡ 0
-unfolding upto
-upto-none zero = refl
-upto-none (suc n) = let rest = upto-none n in omega arith
-
-upto-same : (f g : ℕ → ℕ) (n : ℕ) → ((m : ℕ) → f m ≡ g m) → upto f n ≡ upto g n
-unfolding upto
-upto-same f g zero same = refl
-upto-same f g (suc n) same = let rest = upto-same f g n same in let here = same (suc n) in omega arith
-
--- an amount that stands at one number
-pick-past : (k amt : ℕ) (b : Bool) (n : ℕ) → n < k → upto (λ m. if (k == m) && b then amt else 0) n ≡ 0
-unfolding upto
-pick-past k amt b zero past = refl
-pick-past k amt b (suc n) past =
-    let rest = pick-past k amt b n (omega arith) in
-    let here = ap (λ e. if e && b then amt else 0) (ne_eqb k (suc n) (λ same. absurd (omega arith))) in
-    omega arith
-
-pick : (k amt : ℕ) (b : Bool) (n : ℕ) → 1 ≤ k → k ≤ n → upto (λ m. if (k == m) && b then amt else 0) n ≡ (if b then amt else 0)
-unfolding upto
-pick k amt b zero low high = absurd (omega arith)
-pick k amt b (suc n) low high = by (cases_eq (suc n) k) (λ within. pick k amt b n low within)
-  where
-    by : (suc n ≡ k) ⊎ (suc n ≡ k → ⊥) → (k ≤ n → upto (λ m. if (k == m) && b then amt else 0) n ≡ (if b then amt else 0))
-        → upto (λ m. if (k == m) && b then amt else 0) n + (if (k == suc n) && b then amt else 0) ≡ (if b then amt else 0)
-    by (inl last) more =
-        let before = pick-past k amt b n (omega arith) in
-        let here = ap (λ e. if e && b then amt else 0) (eq-eqb k (suc n) (sym last)) in
-        omega arith
-    by (inr other) more =
-        let past = ap (λ e. if e && b then amt else 0) (ne_eqb k (suc n) (λ same. other (sym same))) in
-        let before = more (omega (arith, other)) in
-        omega arith
-
-is-member : (setup : Setup) (m : ℕ) → has_member setup m ≡ true → (1 ≤ m) × (m ≤ length setup.members)
-is-member setup m is = let both = and_parts _ _ is in (leb-true 1 m both.0, leb-true m (length setup.members) both.1)
-
 -- what all members buy by a pair is what they sell
 even-pair : (setup : Setup) (c : ℕ) (p : Pair) → IsExchange setup p → upto (λ m. bought m c p) (length setup.members) ≡ upto (λ m. sold m c p) (length setup.members)
 even-pair setup c p is =
@@ -158,16 +114,6 @@ even-pair setup c p is =
     let second_buys = pick p.second p.sell_amt (p.sell == c) n second.0 second.1 in
     let first_sells = pick p.first p.sell_amt (p.sell == c) n first.0 first.1 in
     let second_sells = pick p.second p.buy_amt (p.buy == c) n second.0 second.1 in
-    omega arith
-
--- sums in either order
-upto-sum : {X : Type 0} (f : ℕ → X → ℕ) (xs : List X) (n : ℕ) → upto (λ m. sum_by (f m) xs) n ≡ sum_by (λ x. upto (λ m. f m x) n) xs
-upto-sum f [] n = upto-none n
-upto-sum f (x ∷ xs) n =
-    let each = upto-same (λ m. sum_by (f m) (x ∷ xs)) (λ m. f m x + sum_by (f m) xs) n (λ m. sum_by-cons (f m) x xs) in
-    let both = upto-add (λ m. f m x) (λ m. sum_by (f m) xs) n in
-    let rest = upto-sum f xs n in
-    let all = sum_by-cons (λ y. upto (λ m. f m y) n) x xs in
     omega arith
 
 even-pairs : (setup : Setup) (c : ℕ) (ps : List Pair) → AllByRecursion (IsExchange setup) ps
@@ -215,6 +161,28 @@ all-funds setup c entries all = (
         let rest_outs = rest.1 in
         (omega arith, omega arith)
 
+-- an order is a member's
+IsMembers : Setup → PayOrder → Type 0
+IsMembers setup o = has_member setup o.member ≡ true
+
+all-returns : (setup : Setup) (c : ℕ) (entries : List Entry) → AllByRecursion (IsMembers setup) (orders entries c)
+    → upto (λ m. returned entries m c) (length setup.members) ≡ all_returned entries c
+unfolding IsMembers
+all-returns setup c entries all =
+    upto-sum (λ m (o : PayOrder). if (o.member == m) && has_return entries c o.out then o.amt else 0) (orders entries c) (length setup.members) ∙ each (orders entries c) all
+  where
+    each : (os : List PayOrder) → AllByRecursion (IsMembers setup) os
+        → sum_by (λ (o : PayOrder). upto (λ m. if (o.member == m) && has_return entries c o.out then o.amt else 0) (length setup.members)) os
+        ≡ sum_by (λ (o : PayOrder). if has_return entries c o.out then o.amt else 0) os
+    each [] all = refl
+    each (o ∷ os) all =
+        let known = is-member setup o.member all.0 in
+        let here = pick o.member o.amt (has_return entries c o.out) (length setup.members) known.0 known.1 in
+        let rest = each os all.1 in
+        let left = sum_by-cons (λ (p : PayOrder). upto (λ m. if (p.member == m) && has_return entries c p.out then p.amt else 0) (length setup.members)) o os in
+        let right = sum_by-cons (λ (p : PayOrder). if has_return entries c p.out then p.amt else 0) o os in
+        omega arith
+
 -- the balances of the first members, added up
 balances-upto : (entries : List Entry) (done : List Pair) (c n : ℕ)
     → sum_of_balances n entries done c ≡ pos (upto (λ m. received entries done m c) n) -ℤ pos (upto (λ m. given entries done m c) n)
@@ -230,58 +198,38 @@ balances-upto entries done c (suc n) =
     joined : (a b x y : ℕ) → (pos a -ℤ pos b) +ℤ (pos x -ℤ pos y) ≡ pos (a + x) -ℤ pos (b + y)
     joined a b x y = omega (arith, ints)
 
--- the figure is what was paid in less what was paid out
+-- the figure is what was paid in less what was paid out, with what was returned
 figure-is : (setup : Setup) (entries : List Entry) (c : ℕ) → AllByRecursion (IsExchange setup) (settled setup entries) → AllByRecursion (IsOfMember setup) entries
-    → figure setup entries c ≡ pos (funds entries c) -ℤ pos (all_paid_out entries c)
-figure-is setup entries c pairs_are all =
+    → AllByRecursion (IsMembers setup) (orders entries c)
+    → figure setup entries c ≡ (pos (funds entries c) -ℤ pos (all_paid_out entries c)) +ℤ pos (all_returned entries c)
+figure-is setup entries c pairs_are all theirs =
     let n = length setup.members in
     let done = settled setup entries in
-    let ins = upto-add (λ m. pay_ins entries m c) (λ m. sum_by (bought m c) done) n in
+    let back = all-returns setup c entries theirs in
+    let came = upto-add (λ m. pay_ins entries m c) (λ m. returned entries m c) n in
+    let ins = upto-add (λ m. pay_ins entries m c + returned entries m c) (λ m. sum_by (bought m c) done) n in
     let outs = upto-add (λ m. pay_outs entries m c) (λ m. sum_by (sold m c) done) n in
     let even = even-pairs setup c done pairs_are in
     let sums = all-funds setup c entries all in
     let funds_are = sums.0 in
     let outs_are = sums.1 in
     balances-upto entries done c n
-    ∙ difference (upto (λ m. received entries done m c) n) (upto (λ m. given entries done m c) n) (funds entries c) (all_paid_out entries c)
+    ∙ difference (upto (λ m. received entries done m c) n) (upto (λ m. given entries done m c) n) (funds entries c) (all_returned entries c) (all_paid_out entries c)
     (upto (λ m. sum_by (bought m c) done) n) (omega arith) (omega arith)
   where
-    difference : (a b x y z : ℕ) → a ≡ x + z → b ≡ y + z → pos a -ℤ pos b ≡ pos x -ℤ pos y
-    difference a b x y z left right = omega (arith, ints)
+    difference : (a b x r y z : ℕ) → a ≡ (x + r) + z → b ≡ y + z → pos a -ℤ pos b ≡ (pos x -ℤ pos y) +ℤ pos r
+    difference a b x r y z left right = omega (arith, ints)
 
 fund-member : (setup : Setup) (entries : List Entry) (client c pay member amt : ℕ)
     → is_refusal (on_fund setup entries client c pay member amt) ≡ false → has_member setup member ≡ true
 fund-member setup entries client c pay member amt e =
-    by (client == node_of c) (has_currency setup c) (has_member setup member) (is_amount amt) (pay == 0) (has_pay_in entries c pay) e
-  where
-    by : (yours currency known small none there : Bool)
-        → is_refusal (if not yours then No NotYours else if not (currency && known) then No UnknownMember else if not small then No BadAmount
-        else if none then No UnknownReference else if there then No Repeated else Done) ≡ false
-        → known ≡ true
-    by false currency known small none there e = absurd (cc e)
-    by true false known small none there e = absurd (cc e)
-    by true true false small none there e = absurd (cc e)
-    by true true true small none there e = refl
+    (and_parts (has_currency setup c) (has_member setup member) (is-so _ (passed (fund_checks setup entries client c pay member amt) Done e).1.0)).1
 
 -- a pay-out is a member's, and no more than the figure
 pay_out-member : (setup : Setup) (entries : List Entry) (client c amt : ℕ)
     → is_refusal (on_pay_out setup entries client c amt) ≡ false → (has_member setup client ≡ true) × (int_lt (figure setup entries c) (pos amt) ≡ false)
 pay_out-member setup entries client c amt e =
-    by (is_member_number client) (has_member setup client) (has_currency setup c) (is_amount amt) (int_lt (balance setup entries client c) (pos amt))
-    (passes setup client (balances_less setup entries (settled setup entries) client c amt)) (int_lt (figure setup entries c) (pos amt)) (length (orders entries c) + 1) e
-  where
-    by : (yours member currency small short passing bare : Bool) (n : ℕ)
-        → is_refusal (if not yours then No NotYours else if not member then No UnknownMember else if not currency then No UnknownCurrency else if not small then No BadAmount
-        else if short then No Short else if not passing then No TestFails else if bare then No BankShort else Order n) ≡ false
-        → (member ≡ true) × (bare ≡ false)
-    by true true true true false true false n e = (refl, refl)
-    by true true true true false true true n e = absurd (cc e)
-    by true true true true false false bare n e = absurd (cc e)
-    by true true true true true passing bare n e = absurd (cc e)
-    by true true true false short passing bare n e = absurd (cc e)
-    by true true false small short passing bare n e = absurd (cc e)
-    by true false currency small short passing bare n e = absurd (cc e)
-    by false member currency small short passing bare n e = absurd (cc e)
+    let t = passed (pay_out_checks setup entries client c amt) (Order (length (orders entries c) + 1)) e in (is-so _ t.1.0, t.1.1.1.1.1.1.0)
 
 of-member : (setup : Setup) (entries : List Entry) (client : ℕ) (cmd : Cmd) → is_refusal (answer setup entries client cmd) ≡ false
     → IsOfMember setup (entry_of setup entries client cmd)
@@ -292,10 +240,7 @@ of-member setup entries client (Fund ccy pay member amt) accepted c =
 of-member setup entries client (PayOut ccy amt) accepted c =
     let known = is-member setup client (pay_out-member setup entries client ccy amt accepted).0 in
     (upto-none (length setup.members), pick client amt (ccy == c) (length setup.members) known.0 known.1)
-of-member setup entries client (Instruct reference other sell sell_amt buy buy_amt) accepted c = (upto-none (length setup.members), upto-none (length setup.members))
-of-member setup entries client (Rescind reference) accepted c = (upto-none (length setup.members), upto-none (length setup.members))
-of-member setup entries client (Settle most) accepted c = (upto-none (length setup.members), upto-none (length setup.members))
-of-member setup entries client (Paid ccy out) accepted c = (upto-none (length setup.members), upto-none (length setup.members))
+of-member setup entries client _ accepted c = (upto-none (length setup.members), upto-none (length setup.members))
 
 of-members : (setup : Setup) (history : List Row) → AllByRecursion (IsOfMember setup) (book_of setup history)
 of-members setup history =
@@ -304,40 +249,81 @@ of-members setup history =
 
 -- what a command pays out is covered by what is left
 covers : (setup : Setup) (entries : List Entry) (client : ℕ) (cmd : Cmd) (c : ℕ) → is_refusal (answer setup entries client cmd) ≡ false
-    → ((d : ℕ) → figure setup entries d ≡ pos (funds entries d) -ℤ pos (all_paid_out entries d))
-    → all_paid_out entries c ≤ funds entries c → all_paid_out entries c + paid_out c cmd ≤ funds entries c + funded c cmd
+    → ((d : ℕ) → figure setup entries d ≡ (pos (funds entries d) -ℤ pos (all_paid_out entries d)) +ℤ pos (all_returned entries d))
+    → all_paid_out entries c ≤ funds entries c + all_returned entries c → all_paid_out entries c + paid_out c cmd ≤ (funds entries c + funded c cmd) + all_returned entries c
 unfolding answer
 covers setup entries client (PayOut ccy amt) c accepted figures held = by (ccy == c) refl
   where
-    bound : ccy ≡ c → all_paid_out entries c + amt ≤ funds entries c
+    bound : ccy ≡ c → all_paid_out entries c + amt ≤ funds entries c + all_returned entries c
     bound same =
         let enough = (pay_out-member setup entries client ccy amt accepted).1 in
         let here = ap (λ d. int_lt (figure setup entries d) (pos amt)) (sym same) ∙ enough in
-        difference (funds entries c) (all_paid_out entries c) amt (ap (λ z. int_lt z (pos amt)) (sym (figures c)) ∙ here)
+        difference (funds entries c) (all_returned entries c) (all_paid_out entries c) amt (ap (λ z. int_lt z (pos amt)) (sym (figures c)) ∙ here)
       where
-        difference : (x y z : ℕ) → int_lt (pos x -ℤ pos y) (pos z) ≡ false → y + z ≤ x
-        difference x y z e = grind (arith, ints)
+        difference : (x r y z : ℕ) → int_lt ((pos x -ℤ pos y) +ℤ pos r) (pos z) ≡ false → y + z ≤ x + r
+        difference x r y z e = grind (arith, ints)
 
-    by : (b : Bool) → (ccy == c) ≡ b → all_paid_out entries c + (if b then amt else 0) ≤ funds entries c + 0
+    by : (b : Bool) → (ccy == c) ≡ b → all_paid_out entries c + (if b then amt else 0) ≤ (funds entries c + 0) + all_returned entries c
     by true same = let enough = bound (eqb-true ccy c same) in omega arith
     by false other = omega arith
-covers setup entries client (Fund ccy pay member amt) c accepted figures held = omega arith
-covers setup entries client (Instruct reference other sell sell_amt buy buy_amt) c accepted figures held = omega arith
-covers setup entries client (Rescind reference) c accepted figures held = omega arith
-covers setup entries client (Settle most) c accepted figures held = omega arith
-covers setup entries client (Paid ccy out) c accepted figures held = omega arith
+covers setup entries client _ c accepted figures held = omega arith
+
+-- orders are made by members
+made-by : (setup : Setup) (c client ccy amt : ℕ) (reply : Reply) → has_member setup client ≡ true → AllByRecursion (IsMembers setup) (cons_option (order_by c client (PayOut ccy amt) reply) [])
+unfolding IsMembers
+made-by setup c client ccy amt (Order out) known = by (ccy == c)
+  where
+    by : (b : Bool) → AllByRecursion (λ (o : PayOrder). has_member setup o.member ≡ true) (cons_option (if b then Some (record { ccy = ccy; out = out; member = client; amt = amt }) else None) [])
+    by true = (known, tt)
+    by false = tt
+made-by setup c client ccy amt Done known = tt
+made-by setup c client ccy amt Matched known = tt
+made-by setup c client ccy amt (Settled count) known = tt
+made-by setup c client ccy amt (No reason) known = tt
+
+made-new : (setup : Setup) (entries : List Entry) (client : ℕ) (cmd : Cmd) (c : ℕ) → is_refusal (answer setup entries client cmd) ≡ false
+    → AllByRecursion (IsMembers setup) (cons_option (order_by c client cmd (answer setup entries client cmd)) [])
+unfolding answer
+made-new setup entries client (PayOut ccy amt) c accepted =
+    made-by setup c client ccy amt (on_pay_out setup entries client ccy amt) (pay_out-member setup entries client ccy amt accepted).0
+made-new setup entries client _ c accepted = tt
+
+made-more : (setup : Setup) (entries : List Entry) (client : ℕ) (cmd : Cmd) (c : ℕ) → is_refusal (answer setup entries client cmd) ≡ false
+    → AllByRecursion (IsMembers setup) (orders entries c) → AllByRecursion (IsMembers setup) (orders (entries ++ entry_of setup entries client cmd ∷ []) c)
+made-more setup entries client cmd c accepted held =
+    subst (AllByRecursion (IsMembers setup)) (sym (filter_map-append (λ (e : Entry). order_by c e.client e.cmd e.reply) entries (entry_of setup entries client cmd ∷ [])))
+    (each-append (IsMembers setup) (orders entries c) (orders (entry_of setup entries client cmd ∷ []) c) held (made-new setup entries client cmd c accepted))
+
+-- what is returned stays returned
+pub returns-more : (entries more : List Entry) (c : ℕ) → all_returned entries c ≤ all_returned (entries ++ more) c
+returns-more entries more c =
+    let longer = entries ++ more in
+    let os = filter_map-append (λ (e : Entry). order_by c e.client e.cmd e.reply) entries more in
+    let all = ap (λ (l : List PayOrder). sum_by (λ (o : PayOrder). if has_return longer c o.out then o.amt else 0) l) os in
+    let parts = sum_by-append (λ (o : PayOrder). if has_return longer c o.out then o.amt else 0) (orders entries c) (orders more c) in
+    let low = sum-le (λ (o : PayOrder). if has_return entries c o.out then o.amt else 0) (λ (o : PayOrder). if has_return longer c o.out then o.amt else 0)
+    (λ o. by (has_return entries c o.out) (has_return more c o.out) (has_return longer c o.out) o.amt (list_any-append (λ (e : Entry). is_return c o.out e.cmd) entries more)) (orders entries c) in
+    omega arith
+  where
+    by : (a b both : Bool) (amt : ℕ) → both ≡ (a || b) → (if a then amt else 0) ≤ (if both then amt else 0)
+    by true b true amt e = omega arith
+    by true b false amt e = absurd (cc e)
+    by false b both amt e = omega arith
 
 record IsCoveredSoFar (setup : Setup) (entries : List Entry) : Type 0 where
   sums : IsSound setup entries
   members : AllByRecursion (IsOfMember setup) entries
-  covered : (c : ℕ) → all_paid_out entries c ≤ funds entries c
+  orders : (c : ℕ) → AllByRecursion (IsMembers setup) (orders entries c)
+  covered : (c : ℕ) → all_paid_out entries c ≤ funds entries c + all_returned entries c
 
 covered-step : (setup : Setup) (entries : List Entry) (client : ℕ) (cmd : Cmd) → IsCoveredSoFar setup entries → is_refusal (answer setup entries client cmd) ≡ false
-    → (c : ℕ) → all_paid_out (entries ++ entry_of setup entries client cmd ∷ []) c ≤ funds (entries ++ entry_of setup entries client cmd ∷ []) c
+    → (c : ℕ) → all_paid_out (entries ++ entry_of setup entries client cmd ∷ []) c
+    ≤ funds (entries ++ entry_of setup entries client cmd ∷ []) c + all_returned (entries ++ entry_of setup entries client cmd ∷ []) c
 covered-step setup entries client cmd held accepted c =
     let e = entry_of setup entries client cmd in
     let here = covers setup entries client cmd c accepted
-    (λ d. figure-is setup entries d (each-settled (IsExchange setup) setup entries held.sums.exchange) held.members) (held.covered c) in
+    (λ d. figure-is setup entries d (each-settled (IsExchange setup) setup entries held.sums.exchange) held.members (held.orders d)) (held.covered c) in
+    let back = returns-more entries (e ∷ []) c in
     let ins = sum_by-append (λ (x : Entry). funded c x.cmd) entries (e ∷ []) in
     let outs = sum_by-append (λ (x : Entry). paid_out c x.cmd) entries (e ∷ []) in
     let one_in = sum_by-cons (λ (x : Entry). funded c x.cmd) e [] in
@@ -347,10 +333,11 @@ covered-step setup entries client cmd held accepted c =
 covered-so-far : (setup : Setup) (history : List Row) → IsCoveredSoFar setup (book_of setup history)
 covered-so-far setup history =
     reached setup (IsCoveredSoFar setup)
-    (record { sums = sound setup []; members = tt; covered = λ c. omega arith })
+    (record { sums = sound setup []; members = tt; orders = λ c. tt; covered = λ c. omega arith })
     (λ entries client cmd held accepted. record {
       sums = IsSound-push setup entries client cmd held.sums accepted;
       members = each-append (IsOfMember setup) entries (entry_of setup entries client cmd ∷ []) held.members (of-member setup entries client cmd accepted, tt);
+      orders = λ c. made-more setup entries client cmd c accepted (held.orders c);
       covered = covered-step setup entries client cmd held accepted;
     }) history
 
@@ -358,11 +345,11 @@ pub is-covered : (setup : Setup) (c : ℕ) (history : List Row) → IsCovered se
 is-covered setup c history =
     let entries = book_of setup history in
     let held = covered-so-far setup history in
-    let is = figure-is setup entries c (each-settled (IsExchange setup) setup entries held.sums.exchange) held.members in
-    record { difference = is; covered = subst (λ z. pos 0 ≤ℤ z) (sym is) (positive (funds entries c) (all_paid_out entries c) (held.covered c)) }
+    let is = figure-is setup entries c (each-settled (IsExchange setup) setup entries held.sums.exchange) held.members (held.orders c) in
+    record { difference = is; covered = subst (λ z. pos 0 ≤ℤ z) (sym is) (positive (funds entries c) (all_returned entries c) (all_paid_out entries c) (held.covered c)) }
   where
-    positive : (x y : ℕ) → y ≤ x → pos 0 ≤ℤ (pos x -ℤ pos y)
-    positive x y h = omega (arith, ints)
+    positive : (x r y : ℕ) → y ≤ x + r → pos 0 ≤ℤ ((pos x -ℤ pos y) +ℤ pos r)
+    positive x r y h = omega (arith, ints)
 
 -- a pair's legs in each of its currencies
 pub even-legs : (setup : Setup) (p : Pair) → IsExchange setup p → IsEven p

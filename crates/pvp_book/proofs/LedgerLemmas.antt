@@ -17,25 +17,31 @@ use Rattle.pvp_types.specs.declared.command.PayOrder.{PayOrder}
 use Rattle.pvp_types.specs.declared.command.Reply.{Reply}
 use Rattle.pvp_types.specs.declared.command.Reply.TheVariants.{Done, Matched, Settled, Order, No}
 use Rattle.pvp_types.specs.declared.command.Reason.TheVariants.{NotYours, UnknownMember, UnknownCurrency, BadAmount}
-use Rattle.pvp_types.specs.declared.command.Cmd.TheVariants.{Instruct, Rescind, Fund, Settle, PayOut, Paid}
+use Rattle.pvp_types.specs.declared.command.Cmd.TheVariants.{Instruct, Fund, PayOut}
 use Rattle.pvp_book.specs.declared.entry.Entry.{Entry}
 use Rattle.pvp_book.specs.declared.pair.Pair.{Pair}
-use Rattle.pvp_book.specs.Accounts.{paid_in_to, paid_out_of, pay_ins, pay_outs, bought, sold, balance_with}
+use Rattle.pvp_book.specs.Accounts.{paid_in_to, paid_out_of, pay_ins, pay_outs, returned, bought, sold, balance_with}
 use Rattle.pvp_book.specs.declared.pair.PairState.{PairState}
 use Rattle.pvp_book.specs.Pairs.{opened_by, pairs, matched_by, matched}
 use Rattle.pvp_book.specs.Settlement.{candidates, settled}
-use Rattle.pvp_book.specs.Ledger.{Ledger, most_amount, node_of, order_by, orders, open_orders, has_payment, state_with, is_state, sum_of_balances, outstanding_in, outstanding_from}
+use Rattle.pvp_book.specs.Ledger.{Ledger, most_amount, node_of, open_orders, state_with, is_state, sum_of_balances, outstanding_in, outstanding_from}
+use Rattle.pvp_book.specs.Orders.{order_by, orders, has_return, has_end}
 use Rattle.pvp_book.specs.Bounds.{IsLedger, IsWithinMatched, IsSmall, most_total, IsWithin, amount_of, total}
-use Rattle.pvp_book.specs.Answer.{answer, answer_to, on_instruct, on_fund, on_pay_out, has_currency, has_member, is_member_number, is_refusal, is_amount}
+use Rattle.pvp_book.specs.Answer.{answer, answer_to, on_instruct, on_fund, on_pay_out, has_currency, has_member, is_member_number, is_refusal, is_amount, fund_checks, pay_out_checks}
+use Rattle.pvp_book.proofs.Checks.{passed, is-so}
 use Rattle.pvp_book.proofs.SettlementLemmas.{at_most, settled-push, IsWithinMatched-push}
 
-sum-cons_option : (f : Pair → ℕ) (o : Option Pair) (ps : List Pair) → sum_by f (cons_option o ps) ≡ sum_by f (cons_option o []) + sum_by f ps
+sum-cons_option : {X : Type 0} (f : X → ℕ) (o : Option X) (ps : List X) → sum_by f (cons_option o ps) ≡ sum_by f (cons_option o []) + sum_by f ps
 sum-cons_option f None ps = omega arith
 sum-cons_option f (Some p) ps = let more = sum_by-cons f p ps in let one = sum_by-cons f p [] in omega arith
 
--- what an entry brings a member, by a pay-in or by the pair that it matches, is no more than it names
+-- what an order of a member's is worth to it
+abbrev ordered_by : ℕ → PayOrder → ℕ
+ordered_by m o = if o.member == m then o.amt else 0
+
+-- what an entry brings a member, by a pay-in, by the pair that it matches or, once it is returned, by the order that it makes, is no more than it names
 brought-le : (m c client : ℕ) (cmd : Cmd) (reply : Reply)
-    → paid_in_to m c cmd + sum_by (bought m c) (cons_option (matched_by client cmd reply) []) ≤ amount_of cmd
+    → (paid_in_to m c cmd + sum_by (ordered_by m) (cons_option (order_by c client cmd reply) [])) + sum_by (bought m c) (cons_option (matched_by client cmd reply) []) ≤ amount_of cmd
 brought-le m c client (Instruct reference other sell sell_amt buy buy_amt) Matched =
     let first = at_most ((other == m) && (sell == c)) sell_amt in
     let second = at_most ((client == m) && (buy == c)) buy_amt in
@@ -44,11 +50,17 @@ brought-le m c client (Instruct reference other sell sell_amt buy buy_amt) Done 
 brought-le m c client (Instruct reference other sell sell_amt buy buy_amt) (Settled n) = omega arith
 brought-le m c client (Instruct reference other sell sell_amt buy buy_amt) (Order n) = omega arith
 brought-le m c client (Instruct reference other sell sell_amt buy buy_amt) (No reason) = omega arith
-brought-le m c client (Rescind reference) reply = omega arith
 brought-le m c client (Fund ccy pay member amt) reply = let here = at_most ((member == m) && (ccy == c)) amt in omega arith
-brought-le m c client (Settle most) reply = omega arith
-brought-le m c client (PayOut ccy amt) reply = omega arith
-brought-le m c client (Paid ccy out) reply = omega arith
+brought-le m c client (PayOut ccy amt) (Order out) = by (ccy == c)
+  where
+    by : (b : Bool) → (0 + sum_by (ordered_by m) (cons_option (if b then Some (record { ccy = ccy; out = out; member = client; amt = amt }) else None) [])) + 0 ≤ amt
+    by true = let here = at_most (client == m) amt in omega arith
+    by false = omega arith
+brought-le m c client (PayOut ccy amt) Done = omega arith
+brought-le m c client (PayOut ccy amt) Matched = omega arith
+brought-le m c client (PayOut ccy amt) (Settled n) = omega arith
+brought-le m c client (PayOut ccy amt) (No reason) = omega arith
+brought-le m c client _ reply = omega arith
 
 taken-le : (m c client : ℕ) (cmd : Cmd) (reply : Reply)
     → paid_out_of m c client cmd + sum_by (sold m c) (cons_option (matched_by client cmd reply) []) ≤ amount_of cmd
@@ -60,22 +72,39 @@ taken-le m c client (Instruct reference other sell sell_amt buy buy_amt) Done = 
 taken-le m c client (Instruct reference other sell sell_amt buy buy_amt) (Settled n) = omega arith
 taken-le m c client (Instruct reference other sell sell_amt buy buy_amt) (Order n) = omega arith
 taken-le m c client (Instruct reference other sell sell_amt buy buy_amt) (No reason) = omega arith
-taken-le m c client (Rescind reference) reply = omega arith
-taken-le m c client (Fund ccy pay member amt) reply = omega arith
-taken-le m c client (Settle most) reply = omega arith
 taken-le m c client (PayOut ccy amt) reply = let here = at_most ((client == m) && (ccy == c)) amt in omega arith
-taken-le m c client (Paid ccy out) reply = omega arith
+taken-le m c client _ reply = omega arith
 
--- all pay-ins and all matched pairs together bring a member no more than the entries name
-all-brought-le : (entries : List Entry) (m c : ℕ) → pay_ins entries m c + sum_by (bought m c) (matched entries) ≤ total entries
+-- all pay-ins, all orders and all matched pairs together bring a member no more than the entries name
+all-brought-le : (entries : List Entry) (m c : ℕ) → (pay_ins entries m c + sum_by (ordered_by m) (orders entries c)) + sum_by (bought m c) (matched entries) ≤ total entries
 all-brought-le [] m c = omega arith
 all-brought-le (e ∷ es) m c =
     let rest = all-brought-le es m c in
     let here = brought-le m c e.client e.cmd e.reply in
     let paid = sum_by-cons (λ (x : Entry). paid_in_to m c x.cmd) e es in
+    let made = sum-cons_option (ordered_by m) (order_by c e.client e.cmd e.reply) (orders es c) in
     let pairs = sum-cons_option (bought m c) (matched_by e.client e.cmd e.reply) (matched es) in
     let all = sum_by-cons (λ (x : Entry). amount_of x.cmd) e es in
     omega arith
+
+-- what is returned was ordered
+pub sum-le : {X : Type 0} (f g : X → ℕ) → ((x : X) → f x ≤ g x) → (xs : List X) → sum_by f xs ≤ sum_by g xs
+sum-le f g low [] = omega arith
+sum-le f g low (x ∷ xs) =
+    let rest = sum-le f g low xs in
+    let here = low x in
+    let left = sum_by-cons f x xs in
+    let right = sum_by-cons g x xs in
+    omega arith
+
+returned-le : (entries : List Entry) (m c : ℕ) → returned entries m c ≤ sum_by (ordered_by m) (orders entries c)
+returned-le entries m c =
+    sum-le (λ (o : PayOrder). if (o.member == m) && has_return entries c o.out then o.amt else 0) (ordered_by m) (λ o. by (o.member == m) (has_return entries c o.out) o.amt) (orders entries c)
+  where
+    by : (a b : Bool) (amt : ℕ) → (if a && b then amt else 0) ≤ (if a then amt else 0)
+    by true true amt = omega arith
+    by true false amt = omega arith
+    by false b amt = omega arith
 
 all-taken-le : (entries : List Entry) (m c : ℕ) → pay_outs entries m c + sum_by (sold m c) (matched entries) ≤ total entries
 all-taken-le [] m c = omega arith
@@ -91,7 +120,7 @@ all-taken-le (e ∷ es) m c =
 pub IsSmall-within : (entries : List Entry) (done rest : List Pair) → IsWithinMatched done rest (matched entries) → total entries ≤ most_total
     → IsSmall entries done
 IsSmall-within entries done rest within small = record {
-  received = λ m c. let all = all-brought-le entries m c in let part = within.sums (bought m c) in omega arith;
+  received = λ m c. let all = all-brought-le entries m c in let back = returned-le entries m c in let part = within.sums (bought m c) in omega arith;
   given = λ m c. let all = all-taken-le entries m c in let part = within.sums (sold m c) in omega arith;
 }
 
@@ -135,30 +164,11 @@ amount-small amt e = leb-true _ _ (and_parts _ _ e).1
 
 fund-small : (setup : Setup) (entries : List Entry) (client c pay member amt : ℕ)
     → is_refusal (on_fund setup entries client c pay member amt) ≡ false → amt ≤ most_amount
-fund-small setup entries client c pay member amt e =
-    amount-small amt (cases (client == node_of c) (has_currency setup c && has_member setup member) (is_amount amt) _ e)
-  where
-    cases : (yours known small : Bool) (rest : Reply)
-        → is_refusal (if not yours then No NotYours else if not known then No UnknownMember else if not small then No BadAmount else rest) ≡ false
-        → small ≡ true
-    cases true true true rest e = refl
-    cases true true false rest e = absurd (cc)
-    cases true false small rest e = absurd (cc)
-    cases false known small rest e = absurd (cc)
+fund-small setup entries client c pay member amt e = amount-small amt (is-so _ (passed (fund_checks setup entries client c pay member amt) Done e).1.1.0)
 
 pay_out-small : (setup : Setup) (entries : List Entry) (client c amt : ℕ)
     → is_refusal (on_pay_out setup entries client c amt) ≡ false → amt ≤ most_amount
-pay_out-small setup entries client c amt e =
-    amount-small amt (cases (is_member_number client) (has_member setup client) (has_currency setup c) (is_amount amt) _ e)
-  where
-    cases : (yours member currency small : Bool) (rest : Reply)
-        → is_refusal (if not yours then No NotYours else if not member then No UnknownMember else if not currency then No UnknownCurrency else if not small then No BadAmount else rest) ≡ false
-        → small ≡ true
-    cases true true true true rest e = refl
-    cases true true true false rest e = absurd (cc)
-    cases true true false small rest e = absurd (cc)
-    cases true false currency small rest e = absurd (cc)
-    cases false member currency small rest e = absurd (cc)
+pay_out-small setup entries client c amt e = amount-small amt (is-so _ (passed (pay_out_checks setup entries client c amt) (Order (length (orders entries c) + 1)) e).1.1.1.0)
 
 instruct-small : (setup : Setup) (entries : List Entry) (client reference other sell sell_amt buy buy_amt : ℕ)
     → is_refusal (on_instruct setup entries client reference other sell sell_amt buy buy_amt) ≡ false → (is_amount sell_amt && is_amount buy_amt) ≡ true
@@ -184,11 +194,9 @@ accepted-small setup entries client (Instruct reference other sell sell_amt buy 
     let first = amount-small sell_amt both.0 in
     let second = amount-small buy_amt both.1 in
     omega arith
-accepted-small setup entries client (Rescind reference) e = omega arith
 accepted-small setup entries client (Fund ccy pay member amt) e = let one = fund-small setup entries client ccy pay member amt e in omega arith
-accepted-small setup entries client (Settle most) e = omega arith
 accepted-small setup entries client (PayOut ccy amt) e = let one = pay_out-small setup entries client ccy amt e in omega arith
-accepted-small setup entries client (Paid ccy out) e = omega arith
+accepted-small setup entries client _ e = omega arith
 
 -- a refusal keeps a ledger
 pub IsLedger-refused : (held : Ledger) → IsLedger held → held.applied < 65535
@@ -263,8 +271,8 @@ IsSum-more entries done n c sum more few is value small =
 pub length-open-le : (entries : List Entry) (c : ℕ) → length (open_orders entries c) ≤ length entries
 length-open-le entries c =
     let made = length-filter_map-le (λ (e : Entry). order_by c e.client e.cmd e.reply) entries in
-    let unpaid = length-filter (λ (order : PayOrder). not (has_payment entries c order.out)) (orders entries c) in
-    let part = count_by-le-length (λ (order : PayOrder). not (has_payment entries c order.out)) (orders entries c) in
+    let unpaid = length-filter (λ (order : PayOrder). not (has_end entries c order.out)) (orders entries c) in
+    let part = count_by-le-length (λ (order : PayOrder). not (has_end entries c order.out)) (orders entries c) in
     omega arith
 
 pub open-fits : (entries : List Entry) (c : ℕ) → length entries ≤ 65535 → 0 + length (open_orders entries c) < 2 ^ 64

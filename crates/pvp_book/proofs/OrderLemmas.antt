@@ -1,78 +1,38 @@
 -- Pay-ins count once, orders are numbered, and payments follow them.
 use Rattle.std.proofs.Common.{◌≡◌, ℕ, ◌+◌, ◌≤◌, Bool, true, false, List, [], ◌∷◌, ◌++◌, length, map, arith, refl, ap, sym, subst, ◌∙◌, Some, None, count_by, ◌⊎◌, inl, inr, length-append, eqb-true}
-use Rattle.std.specs.Prelude.{not, ◌&&◌, ◌==◌, if◌then◌else◌, pos, int_lt}
+use Rattle.std.specs.Prelude.{◌==◌, if◌then◌else◌}
 use Rattle.std.specs.List.{cons_option, range_with_len}
 use Rattle.std.proofs.lemmas.Bool.{and_parts}
 use Rattle.std.proofs.lemmas.List.Elements.{filter_map-append}
 use Rattle.std.proofs.lemmas.List.FromFn.{map-range_with_len_more}
 use Rattle.pvp_types.specs.declared.setup.Setup.{Setup}
 use Rattle.pvp_types.specs.declared.command.Cmd.{Cmd}
-use Rattle.pvp_types.specs.declared.command.Cmd.TheVariants.{Instruct, Rescind, Fund, Settle, PayOut, Paid}
+use Rattle.pvp_types.specs.declared.command.Cmd.TheVariants.{Fund, PayOut, Paid, Returned}
 use Rattle.pvp_types.specs.declared.command.PayOrder.{PayOrder}
-use Rattle.pvp_types.specs.declared.command.Reply.TheVariants.{Done, Order, No}
-use Rattle.pvp_types.specs.declared.command.Reason.TheVariants.{NotYours, UnknownMember, UnknownCurrency, BadAmount, UnknownReference, Repeated, Short, TestFails, BankShort}
+use Rattle.pvp_types.specs.declared.command.Reply.TheVariants.{Done, Order}
 use Rattle.pvp_book.specs.declared.entry.Entry.{Entry}
-use Rattle.pvp_book.specs.Limits.{passes}
-use Rattle.pvp_book.specs.Settlement.{settled}
-use Rattle.pvp_book.specs.Ledger.{node_of, is_pay_in, has_pay_in, is_payment, has_payment, order_by, orders, balance, figure}
-use Rattle.pvp_book.specs.Answer.{Row, answer, is_refusal, on_fund, on_pay_out, on_paid, has_member, has_currency, has_order, is_amount, is_member_number, balances_less, book_of}
+use Rattle.pvp_book.specs.Ledger.{is_pay_in, has_pay_in}
+use Rattle.pvp_book.specs.Orders.{is_end, has_end, order_by, orders}
+use Rattle.pvp_book.specs.Answer.{Row, answer, is_refusal, on_fund, on_pay_out, on_end, has_order, fund_checks, end_checks, pay_out_checks, book_of}
 use Rattle.pvp_book.specs.Laws.{PayInsOnce, AreOrdered}
+use Rattle.pvp_book.proofs.Checks.{passed, unless-is, is-so}
 use Rattle.pvp_book.proofs.Reached.{entry_of, reached}
 use Rattle.pvp_book.proofs.Counts.{count-push, split-push}
 
 -- a pay-in that is taken is new
 fund-new : (setup : Setup) (entries : List Entry) (client c pay member amt : ℕ)
     → is_refusal (on_fund setup entries client c pay member amt) ≡ false → has_pay_in entries c pay ≡ false
-fund-new setup entries client c pay member amt e =
-    by (client == node_of c) (has_currency setup c && has_member setup member) (is_amount amt) (pay == 0) (has_pay_in entries c pay) e
-  where
-    by : (yours known small none there : Bool)
-        → is_refusal (if not yours then No NotYours else if not known then No UnknownMember else if not small then No BadAmount
-        else if none then No UnknownReference else if there then No Repeated else Done) ≡ false
-        → there ≡ false
-    by true true true false false e = refl
-    by true true true false true e = absurd (cc e)
-    by true true true true there e = absurd (cc e)
-    by true true false none there e = absurd (cc e)
-    by true false small none there e = absurd (cc e)
-    by false known small none there e = absurd (cc e)
+fund-new setup entries client c pay member amt e = (passed (fund_checks setup entries client c pay member amt) Done e).1.1.1.1.0
 
--- a payment that is noted is of an order that was made and is not paid
-paid-known : (setup : Setup) (entries : List Entry) (client c out : ℕ)
-    → is_refusal (on_paid setup entries client c out) ≡ false → (has_order entries c out ≡ true) × (has_payment entries c out ≡ false)
-paid-known setup entries client c out e =
-    by (client == node_of c) (has_currency setup c) (has_order entries c out) (has_payment entries c out) e
-  where
-    by : (yours known made paid : Bool)
-        → is_refusal (if not yours then No NotYours else if not known then No UnknownMember else if not made then No UnknownReference
-        else if paid then No Repeated else Done) ≡ false
-        → (made ≡ true) × (paid ≡ false)
-    by true true true false e = (refl, refl)
-    by true true true true e = absurd (cc e)
-    by true true false paid e = absurd (cc e)
-    by true false made paid e = absurd (cc e)
-    by false known made paid e = absurd (cc e)
+-- a payment or return that is noted is of an order that was made and is neither paid nor returned
+end-known : (setup : Setup) (entries : List Entry) (client c out : ℕ)
+    → is_refusal (on_end setup entries client c out) ≡ false → (has_order entries c out ≡ true) × (has_end entries c out ≡ false)
+end-known setup entries client c out e = let t = passed (end_checks setup entries client c out) Done e in (is-so _ t.1.1.0, t.1.1.1.0)
 
 -- a pay-out that is taken makes the next order
 pay_out-order : (setup : Setup) (entries : List Entry) (client c amt : ℕ)
     → is_refusal (on_pay_out setup entries client c amt) ≡ false → on_pay_out setup entries client c amt ≡ Order (length (orders entries c) + 1)
-pay_out-order setup entries client c amt e =
-    by (is_member_number client) (has_member setup client) (has_currency setup c) (is_amount amt) (int_lt (balance setup entries client c) (pos amt))
-    (passes setup client (balances_less setup entries (settled setup entries) client c amt)) (int_lt (figure setup entries c) (pos amt)) (length (orders entries c) + 1) e
-  where
-    by : (yours member currency small short passing bare : Bool) (n : ℕ)
-        → is_refusal (if not yours then No NotYours else if not member then No UnknownMember else if not currency then No UnknownCurrency else if not small then No BadAmount
-        else if short then No Short else if not passing then No TestFails else if bare then No BankShort else Order n) ≡ false
-        → (if not yours then No NotYours else if not member then No UnknownMember else if not currency then No UnknownCurrency else if not small then No BadAmount
-        else if short then No Short else if not passing then No TestFails else if bare then No BankShort else Order n) ≡ Order n
-    by true true true true false true false n e = refl
-    by true true true true false true true n e = absurd (cc e)
-    by true true true true false false bare n e = absurd (cc e)
-    by true true true true true passing bare n e = absurd (cc e)
-    by true true true false short passing bare n e = absurd (cc e)
-    by true true false small short passing bare n e = absurd (cc e)
-    by true false currency small short passing bare n e = absurd (cc e)
-    by false member currency small short passing bare n e = absurd (cc e)
+pay_out-order setup entries client c amt e = unless-is (pay_out_checks setup entries client c amt) (Order (length (orders entries c) + 1)) e
 
 -- what a new pay-in is was not there
 pay_in-new : (setup : Setup) (entries : List Entry) (client : ℕ) (cmd : Cmd) (c k : ℕ) → is_refusal (answer setup entries client cmd) ≡ false
@@ -82,24 +42,20 @@ pay_in-new setup entries client (Fund ccy pay member amt) c k accepted is =
     let both = and_parts (ccy == c) (pay == k) is in
     subst (λ d. has_pay_in entries d k ≡ false) (eqb-true ccy c both.0)
     (subst (λ j. has_pay_in entries ccy j ≡ false) (eqb-true pay k both.1) (fund-new setup entries client ccy pay member amt accepted))
-pay_in-new setup entries client (Instruct reference other sell sell_amt buy buy_amt) c k accepted is = absurd (cc is)
-pay_in-new setup entries client (Rescind reference) c k accepted is = absurd (cc is)
-pay_in-new setup entries client (Settle most) c k accepted is = absurd (cc is)
-pay_in-new setup entries client (PayOut ccy amt) c k accepted is = absurd (cc is)
-pay_in-new setup entries client (Paid ccy out) c k accepted is = absurd (cc is)
+pay_in-new setup entries client _ c k accepted is = absurd (cc is)
 
-payment-new : (setup : Setup) (entries : List Entry) (client : ℕ) (cmd : Cmd) (c n : ℕ) → is_refusal (answer setup entries client cmd) ≡ false
-    → is_payment c n cmd ≡ true → (has_order entries c n ≡ true) × (has_payment entries c n ≡ false)
+end-new : (setup : Setup) (entries : List Entry) (client : ℕ) (cmd : Cmd) (c n : ℕ) → is_refusal (answer setup entries client cmd) ≡ false
+    → is_end c n cmd ≡ true → (has_order entries c n ≡ true) × (has_end entries c n ≡ false)
 unfolding answer
-payment-new setup entries client (Paid ccy out) c n accepted is =
+end-new setup entries client (Paid ccy out) c n accepted is =
     let both = and_parts (ccy == c) (out == n) is in
-    subst (λ d. (has_order entries d n ≡ true) × (has_payment entries d n ≡ false)) (eqb-true ccy c both.0)
-    (subst (λ j. (has_order entries ccy j ≡ true) × (has_payment entries ccy j ≡ false)) (eqb-true out n both.1) (paid-known setup entries client ccy out accepted))
-payment-new setup entries client (Instruct reference other sell sell_amt buy buy_amt) c n accepted is = absurd (cc is)
-payment-new setup entries client (Rescind reference) c n accepted is = absurd (cc is)
-payment-new setup entries client (Fund ccy pay member amt) c n accepted is = absurd (cc is)
-payment-new setup entries client (Settle most) c n accepted is = absurd (cc is)
-payment-new setup entries client (PayOut ccy amt) c n accepted is = absurd (cc is)
+    subst (λ d. (has_order entries d n ≡ true) × (has_end entries d n ≡ false)) (eqb-true ccy c both.0)
+    (subst (λ j. (has_order entries ccy j ≡ true) × (has_end entries ccy j ≡ false)) (eqb-true out n both.1) (end-known setup entries client ccy out accepted))
+end-new setup entries client (Returned ccy out) c n accepted is =
+    let both = and_parts (ccy == c) (out == n) is in
+    subst (λ d. (has_order entries d n ≡ true) × (has_end entries d n ≡ false)) (eqb-true ccy c both.0)
+    (subst (λ j. (has_order entries ccy j ≡ true) × (has_end entries ccy j ≡ false)) (eqb-true out n both.1) (end-known setup entries client ccy out accepted))
+end-new setup entries client _ c n accepted is = absurd (cc is)
 
 pub pay_ins-once : (setup : Setup) (history : List Row) → PayInsOnce (book_of setup history)
 pay_ins-once setup history =
@@ -152,11 +108,7 @@ numbered-more setup entries client (PayOut ccy amt) c accepted is =
         → IsNumbered (orders entries c ++ cons_option (if b then Some (record { ccy = ccy; out = length (orders entries ccy) + 1; member = client; amt = amt }) else None) [])
     by true same = numbered-push (orders entries c) (record { ccy = ccy; out = length (orders entries ccy) + 1; member = client; amt = amt }) (ap (λ d. length (orders entries d) + 1) (eqb-true ccy c same)) is
     by false other = numbered-nil (orders entries c) is
-numbered-more setup entries client (Instruct reference other sell sell_amt buy buy_amt) c accepted is = numbered-nil (orders entries c) is
-numbered-more setup entries client (Rescind reference) c accepted is = numbered-nil (orders entries c) is
-numbered-more setup entries client (Fund ccy pay member amt) c accepted is = numbered-nil (orders entries c) is
-numbered-more setup entries client (Settle most) c accepted is = numbered-nil (orders entries c) is
-numbered-more setup entries client (Paid ccy out) c accepted is = numbered-nil (orders entries c) is
+numbered-more setup entries client _ c accepted is = numbered-nil (orders entries c) is
 
 numbered : (setup : Setup) (c : ℕ) (history : List Row) → IsNumbered (orders (book_of setup history) c)
 unfolding IsNumbered
@@ -172,7 +124,7 @@ numbered setup c history =
 
 -- a payment follows its order
 Follows : ℕ → List Entry → Type 0
-Follows c entries = (earlier later : List Entry) (e : Entry) (n : ℕ) → entries ≡ earlier ++ e ∷ later → is_payment c n e.cmd ≡ true → has_order earlier c n ≡ true
+Follows c entries = (earlier later : List Entry) (e : Entry) (n : ℕ) → entries ≡ earlier ++ e ∷ later → is_end c n e.cmd ≡ true → has_order earlier c n ≡ true
 
 follows-push : (setup : Setup) (entries : List Entry) (client : ℕ) (cmd : Cmd) (c : ℕ) → is_refusal (answer setup entries client cmd) ≡ false
     → Follows c entries → Follows c (entries ++ entry_of setup entries client cmd ∷ [])
@@ -182,7 +134,7 @@ follows-push setup entries client cmd c accepted held earlier later e n same is 
     by : ((earlier ≡ entries) × (e ≡ entry_of setup entries client cmd)) ⊎ ((rest : List Entry) × (entries ≡ earlier ++ e ∷ rest)) → has_order earlier c n ≡ true
     by (inl last) =
         subst (λ es. has_order es c n ≡ true) (sym last.0)
-        (payment-new setup entries client cmd c n accepted (ap (λ (x : Entry). is_payment c n x.cmd) (sym last.1) ∙ is)).0
+        (end-new setup entries client cmd c n accepted (ap (λ (x : Entry). is_end c n x.cmd) (sym last.1) ∙ is)).0
     by (inr before) = held earlier before.0 e n before.1 is
 
 follows : (setup : Setup) (c : ℕ) (history : List Row) → Follows c (book_of setup history)
@@ -198,8 +150,8 @@ pub are-ordered : (setup : Setup) (c : ℕ) (history : List Row) → AreOrdered 
 unfolding IsNumbered Follows
 are-ordered setup c history = record {
   numbered = numbered setup c history;
-  once = λ n. reached setup (λ entries. count_by (λ (e : Entry). is_payment c n e.cmd) entries ≤ 1) (omega arith)
+  once = λ n. reached setup (λ entries. count_by (λ (e : Entry). is_end c n e.cmd) entries ≤ 1) (omega arith)
       (λ entries client cmd held accepted.
-      count-push (λ (e : Entry). is_payment c n e.cmd) entries (entry_of setup entries client cmd) held (λ is. (payment-new setup entries client cmd c n accepted is).1)) history;
+      count-push (λ (e : Entry). is_end c n e.cmd) entries (entry_of setup entries client cmd) held (λ is. (end-new setup entries client cmd c n accepted is).1)) history;
   after = follows setup c history;
 }

@@ -8,7 +8,7 @@ use Rattle.std.proofs.lemmas.List.Folds.{list_any-append}
 use Rattle.std.proofs.lemmas.Bool.{or_left}
 use Rattle.pvp_types.specs.declared.setup.Setup.{Setup}
 use Rattle.pvp_types.specs.declared.command.Cmd.{Cmd}
-use Rattle.pvp_types.specs.declared.command.Cmd.TheVariants.{Instruct, Rescind, Fund, Settle, PayOut, Paid}
+use Rattle.pvp_types.specs.declared.command.Cmd.TheVariants.{Settle}
 use Rattle.pvp_book.specs.declared.entry.Entry.{Entry}
 use Rattle.pvp_book.specs.declared.pair.Pair.{Pair}
 use Rattle.pvp_book.specs.Pairs.{matched_by, matched, has_reference, has_asked, is_rescission, both_have_asked}
@@ -41,11 +41,7 @@ pub taken_by-other : (setup : Setup) (entries : List Entry) (done : List Pair) (
     → taken_by setup entries done cmd ≡ []
 unfolding taken_by
 taken_by-other setup entries done (Settle most) other = absurd (other most refl)
-taken_by-other setup entries done (Instruct reference other sell sell_amt buy buy_amt) h = refl
-taken_by-other setup entries done (Rescind reference) h = refl
-taken_by-other setup entries done (Fund ccy pay member amt) h = refl
-taken_by-other setup entries done (PayOut ccy amt) h = refl
-taken_by-other setup entries done (Paid ccy out) h = refl
+taken_by-other setup entries done _ h = refl
 
 sum-filter-cons : (f : Pair → ℕ) (q : Pair → Bool) (p : Pair) (ps : List Pair)
     → sum_by f (filter q (p ∷ ps)) ≡ (if q p then f p else 0) + sum_by f (filter q ps)
@@ -156,11 +152,7 @@ taken-within : (setup : Setup) (entries : List Entry) (done : List Pair) (cmd : 
     sum_by f taken + sum_by f (without taken (candidates entries done)) ≤ sum_by f (candidates entries done)
 unfolding taken_by without
 taken-within setup entries done (Settle most) f = pass-within setup entries done most (candidates entries done) f
-taken-within setup entries done (Instruct reference other sell sell_amt buy buy_amt) f = let part = sum-filter-part f (λ _. true) (candidates entries done) in omega arith
-taken-within setup entries done (Rescind reference) f = let part = sum-filter-part f (λ _. true) (candidates entries done) in omega arith
-taken-within setup entries done (Fund ccy pay member amt) f = let part = sum-filter-part f (λ _. true) (candidates entries done) in omega arith
-taken-within setup entries done (PayOut ccy amt) f = let part = sum-filter-part f (λ _. true) (candidates entries done) in omega arith
-taken-within setup entries done (Paid ccy out) f = let part = sum-filter-part f (λ _. true) (candidates entries done) in omega arith
+taken-within setup entries done _ f = let part = sum-filter-part f (λ _. true) (candidates entries done) in omega arith
 
 -- a side that has asked has asked ever after
 has_asked-push : (entries : List Entry) (e : Entry) (client reference : ℕ)

@@ -7,7 +7,7 @@ use Rattle.std.proofs.lemmas.List.Elements.{filter_map-append}
 use Rattle.std.proofs.lemmas.List.Folds.{list_any-append}
 use Rattle.pvp_types.specs.declared.setup.Setup.{Setup}
 use Rattle.pvp_types.specs.declared.command.Cmd.{Cmd}
-use Rattle.pvp_types.specs.declared.command.Cmd.TheVariants.{Instruct, Rescind, Fund, Settle, PayOut, Paid}
+use Rattle.pvp_types.specs.declared.command.Cmd.TheVariants.{Instruct, Rescind, Settle}
 use Rattle.pvp_types.specs.declared.command.Reply.{Reply}
 use Rattle.pvp_types.specs.declared.command.Reply.TheVariants.{Done, Matched, Settled, Order, No}
 use Rattle.pvp_types.specs.declared.command.Reason.TheVariants.{NotYours, UnknownMember, UnknownCurrency, BadAmount, UnknownReference, Repeated, Mismatch, Late}
@@ -44,11 +44,7 @@ each-taken : (P : Pair → Type 0) (setup : Setup) (entries : List Entry) (done 
     → AllByRecursion P (candidates entries done) → AllByRecursion P (taken_by setup entries done cmd)
 unfolding taken_by
 each-taken P setup entries done (Settle most) all = each-pass P setup entries done most (candidates entries done) all
-each-taken P setup entries done (Instruct reference other sell sell_amt buy buy_amt) all = tt
-each-taken P setup entries done (Rescind reference) all = tt
-each-taken P setup entries done (Fund ccy pay member amt) all = tt
-each-taken P setup entries done (PayOut ccy amt) all = tt
-each-taken P setup entries done (Paid ccy out) all = tt
+each-taken P setup entries done _ all = tt
 
 -- what is so of each matched pair is so of each settled one
 each-settled-after : (P : Pair → Type 0) (setup : Setup) (entries : List Entry) (done : List Pair) (rest : List Entry)
@@ -194,11 +190,7 @@ newly-matched setup entries client (Instruct reference other sell sell_amt buy b
     by (Settled n) e = inl refl
     by (Order n) e = inl refl
     by (No reason) e = inl refl
-newly-matched setup entries client (Rescind reference) = inl refl
-newly-matched setup entries client (Fund ccy pay member amt) = inl refl
-newly-matched setup entries client (Settle most) = inl refl
-newly-matched setup entries client (PayOut ccy amt) = inl refl
-newly-matched setup entries client (Paid ccy out) = inl refl
+newly-matched setup entries client _ = inl refl
 
 each-always : (P : Pair → Type 0) (ps : List Pair) → ((p : Pair) → P p) → AllByRecursion P ps
 each-always P [] always = tt
@@ -235,22 +227,14 @@ unfolding answer
 none-taken-back setup entries client (Rescind reference) accepted =
     each-weaker (λ p. (p.reference == reference) ≡ false) (λ p. (reference == p.reference) ≡ false) (settled setup entries) (λ p e. turned reference p.reference ∙ e)
     (each-false (λ (p : Pair). p.reference == reference) (settled setup entries) (late-free setup entries client reference accepted))
-none-taken-back setup entries client (Instruct reference other sell sell_amt buy buy_amt) accepted = each-always (λ p. false ≡ false) (settled setup entries) (λ p. refl)
-none-taken-back setup entries client (Fund ccy pay member amt) accepted = each-always (λ p. false ≡ false) (settled setup entries) (λ p. refl)
-none-taken-back setup entries client (Settle most) accepted = each-always (λ p. false ≡ false) (settled setup entries) (λ p. refl)
-none-taken-back setup entries client (PayOut ccy amt) accepted = each-always (λ p. false ≡ false) (settled setup entries) (λ p. refl)
-none-taken-back setup entries client (Paid ccy out) accepted = each-always (λ p. false ≡ false) (settled setup entries) (λ p. refl)
+none-taken-back setup entries client _ accepted = each-always (λ p. false ≡ false) (settled setup entries) (λ p. refl)
 
 -- nor one that it settles
 none-back-taken : (setup : Setup) (entries : List Entry) (done : List Pair) (cmd : Cmd)
     → AllByRecursion (λ p. is_rescission p.reference cmd ≡ false) (taken_by setup entries done cmd)
 unfolding taken_by
 none-back-taken setup entries done (Settle most) = each-always (λ p. false ≡ false) (pass setup entries done most (candidates entries done)) (λ p. refl)
-none-back-taken setup entries done (Instruct reference other sell sell_amt buy buy_amt) = tt
-none-back-taken setup entries done (Rescind reference) = tt
-none-back-taken setup entries done (Fund ccy pay member amt) = tt
-none-back-taken setup entries done (PayOut ccy amt) = tt
-none-back-taken setup entries done (Paid ccy out) = tt
+none-back-taken setup entries done _ = tt
 
 asked-stays : (entries : List Entry) (e : Entry) (p : Pair) → is_rescission p.reference e.cmd ≡ false → both_have_asked entries p ≡ false
     → both_have_asked (entries ++ e ∷ []) p ≡ false

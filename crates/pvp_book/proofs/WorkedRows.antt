@@ -3,7 +3,7 @@ use Rattle.std.proofs.Common.{◌≡◌, ℕ, List, [], ◌∷◌, ◌++◌, ref
 use Rattle.pvp_types.specs.declared.setup.Setup.{Setup}
 use Rattle.pvp_types.specs.declared.setup.Member.{Member}
 use Rattle.pvp_types.specs.declared.command.Cmd.{Cmd}
-use Rattle.pvp_types.specs.declared.command.Cmd.TheVariants.{Instruct, Rescind, Fund, Settle, PayOut, Paid}
+use Rattle.pvp_types.specs.declared.command.Cmd.TheVariants.{Instruct, Rescind, Fund, Settle, PayOut, Paid, Returned}
 use Rattle.pvp_types.specs.declared.command.Reply.{Reply}
 use Rattle.pvp_types.specs.declared.command.Reply.TheVariants.{Done, Matched, Settled, Order, No}
 use Rattle.pvp_types.specs.declared.command.Reason.TheVariants.{NotYours, UnknownMember, UnknownCurrency, BadAmount, Repeated, Mismatch, UnknownReference, Late, Short, BankShort}
@@ -12,12 +12,11 @@ use Rattle.pvp_book.specs.Settlement.{both_pass, pass, taken_by, settled_after, 
 use Rattle.pvp_book.specs.Ledger.{Ledger, opening, balance, figure, outstanding}
 use Rattle.pvp_book.specs.Answer.{Row, answer, answer_to, after, book_of}
 
-member : List ℕ → Member
+abbrev pub member : List ℕ → Member
 member name = record { name = name; aggregate = 150000; short = 1000 ∷ 1000 ∷ 100000 ∷ []; deposit = 10000 ∷ 10000 ∷ 1000000 ∷ [] }
 
 -- three currencies, and two members with equal limits
-worked : Setup
-unfolding member
+abbrev pub worked : Setup
 worked = record {
   sites = 3;
   currencies = record { code = codes "EUR"; rate = 110; haircut = 500 }
@@ -27,7 +26,7 @@ worked = record {
 }
 
 worked_is_valid : IsValid worked
-unfolding worked member meets
+unfolding meets
 worked_is_valid = refl
 
 -- what the rows are answered, one after another
@@ -43,13 +42,32 @@ pays_out =
     ∷ record { client = 102; number = 2; cmd = Paid 1 1 } ∷ []
 
 pays_out_is_answered : answers (opening worked) pays_out ≡ Done ∷ Order 1 ∷ Done ∷ []
-unfolding answers worked member pays_out answer both_pass pass taken_by settled_after settled
+unfolding answers pays_out answer both_pass pass taken_by settled_after settled
 pays_out_is_answered = refl
 
 pays_out_leaves : (balance worked (book_of worked pays_out) 1 1 ≡ pos 1000) × (figure worked (book_of worked pays_out) 1 ≡ pos 1000)
     × (outstanding worked (book_of worked pays_out) ≡ [])
-unfolding worked member pays_out answer both_pass pass taken_by settled_after settled
+unfolding pays_out answer both_pass pass taken_by settled_after settled
 pays_out_leaves = (refl, refl, refl)
+
+-- the same, and the order is returned: the amount is the member's again, and the order is closed
+comes_back : List Row
+comes_back =
+    record { client = 102; number = 1; cmd = Fund 1 1 1 1200 }
+    ∷ record { client = 1; number = 1; cmd = PayOut 1 200 }
+    ∷ record { client = 102; number = 2; cmd = Returned 1 1 }
+    ∷ record { client = 102; number = 3; cmd = Returned 1 1 }
+    ∷ record { client = 102; number = 4; cmd = Paid 1 1 }
+    ∷ record { client = 102; number = 5; cmd = Returned 1 2 } ∷ []
+
+comes_back_is_answered : answers (opening worked) comes_back ≡ Done ∷ Order 1 ∷ Done ∷ No Repeated ∷ No Repeated ∷ No UnknownReference ∷ []
+unfolding answers comes_back answer both_pass pass taken_by settled_after settled
+comes_back_is_answered = refl
+
+comes_back_leaves : (balance worked (book_of worked comes_back) 1 1 ≡ pos 1200) × (figure worked (book_of worked comes_back) 1 ≡ pos 1200)
+    × (outstanding worked (book_of worked comes_back) ≡ [])
+unfolding comes_back answer both_pass pass taken_by settled_after settled
+comes_back_leaves = (refl, refl, refl)
 
 -- each check in its order
 refused : List Row
@@ -66,7 +84,7 @@ refused =
 
 refused_is_answered : answers (opening worked) refused
     ≡ No NotYours ∷ No UnknownMember ∷ No UnknownCurrency ∷ No BadAmount ∷ No UnknownReference ∷ Done ∷ No Repeated ∷ No Short ∷ No UnknownReference ∷ []
-unfolding answers worked member refused answer both_pass pass taken_by settled_after settled
+unfolding answers refused answer both_pass pass taken_by settled_after settled
 refused_is_answered = refl
 
 -- a client's command; the definitions read no number
@@ -84,19 +102,19 @@ exchange eur =
 
 -- with EUR 47 BETA's account would have a negative value
 one_short : answers (opening worked) (exchange 47) ≡ Done ∷ Done ∷ Done ∷ Matched ∷ Settled 0 ∷ []
-unfolding answers worked member row exchange answer both_pass pass taken_by settled_after settled
+unfolding answers row exchange answer both_pass pass taken_by settled_after settled
 one_short = refl
 
 -- with EUR 48 both legs are posted
 just_enough : answers (opening worked) (exchange 48) ≡ Done ∷ Done ∷ Done ∷ Matched ∷ Settled 1 ∷ []
-unfolding answers worked member row exchange answer both_pass pass taken_by settled_after settled
+unfolding answers row exchange answer both_pass pass taken_by settled_after settled
 just_enough = refl
 
 just_enough_leaves :
     let entries = book_of worked (exchange 48) in
     (balance worked entries 1 0 ≡ pos 1000) × (balance worked entries 1 1 ≡ pos 100) × (balance worked entries 2 0 ≡ negsuc 951)
     × (balance worked entries 2 1 ≡ pos 1100) × (figure worked entries 0 ≡ pos 48) × (figure worked entries 1 ≡ pos 1200)
-unfolding worked member row exchange answer both_pass pass taken_by settled_after settled
+unfolding row exchange answer both_pass pass taken_by settled_after settled
 just_enough_leaves = (refl, refl, refl, refl, refl, refl)
 
 -- the limit of JPY is met to the unit
@@ -108,18 +126,18 @@ short_limit jpy =
     ∷ row 0 (Settle 1) ∷ []
 
 short_limit_is_met : answers (opening worked) (short_limit 100000) ≡ Done ∷ Done ∷ Matched ∷ Settled 1 ∷ []
-unfolding answers worked member row short_limit answer both_pass pass taken_by settled_after settled
+unfolding answers row short_limit answer both_pass pass taken_by settled_after settled
 short_limit_is_met = refl
 
 short_limit_is_passed : answers (opening worked) (short_limit 100001) ≡ Done ∷ Done ∷ Matched ∷ Settled 0 ∷ []
-unfolding answers worked member row short_limit answer both_pass pass taken_by settled_after settled
+unfolding answers row short_limit answer both_pass pass taken_by settled_after settled
 short_limit_is_passed = refl
 
 -- the second side's words are not the mirror of the first's, and then they are
 mirrored : answers (opening worked)
     (row 1 (Instruct 3 2 1 10 0 9) ∷ row 2 (Instruct 3 1 0 9 1 11) ∷ row 2 (Instruct 3 1 0 9 1 10) ∷ row 1 (Instruct 3 2 1 10 0 9) ∷ [])
     ≡ Done ∷ No Mismatch ∷ Matched ∷ No Repeated ∷ []
-unfolding answers worked member row answer both_pass pass taken_by settled_after settled
+unfolding answers row answer both_pass pass taken_by settled_after settled
 mirrored = refl
 
 -- a matched pair, which its sides then take back
@@ -134,18 +152,18 @@ rescinded rest =
 -- one side alone does not keep it from settling
 one_side_asks : answers (opening worked) (rescinded (row 0 (Settle 9) ∷ row 2 (Rescind 3) ∷ []))
     ≡ Done ∷ Done ∷ Done ∷ Matched ∷ Done ∷ Settled 1 ∷ No Late ∷ []
-unfolding answers worked member row rescinded answer both_pass pass taken_by settled_after settled
+unfolding answers row rescinded answer both_pass pass taken_by settled_after settled
 one_side_asks = refl
 
 both_sides_ask : answers (opening worked) (rescinded (row 2 (Rescind 3) ∷ row 0 (Settle 9) ∷ row 1 (Rescind 3) ∷ []))
     ≡ Done ∷ Done ∷ Done ∷ Matched ∷ Done ∷ Done ∷ Settled 0 ∷ No Late ∷ []
-unfolding answers worked member row rescinded answer both_pass pass taken_by settled_after settled
+unfolding answers row rescinded answer both_pass pass taken_by settled_after settled
 both_sides_ask = refl
 
 -- the bank pays out no more than it holds
 bank_is_short : answers (opening worked) (exchange 48 ++ row 1 (PayOut 0 1000) ∷ row 1 (PayOut 0 48) ∷ row 101 (Paid 0 1) ∷ row 101 (Paid 0 1) ∷ [])
     ≡ Done ∷ Done ∷ Done ∷ Matched ∷ Settled 1 ∷ No BankShort ∷ Order 1 ∷ Done ∷ No Repeated ∷ []
-unfolding answers worked member row exchange answer both_pass pass taken_by settled_after settled
+unfolding answers row exchange answer both_pass pass taken_by settled_after settled
 bank_is_short = refl
 
 -- two pairs, of which the second meets the aggregate limit to the unit or passes it
@@ -160,11 +178,11 @@ aggregate_limit jpy =
     ∷ row 0 (Settle 9) ∷ []
 
 aggregate_limit_is_passed : answers (opening worked) (aggregate_limit 40001) ≡ Done ∷ Done ∷ Done ∷ Matched ∷ Done ∷ Matched ∷ Settled 1 ∷ []
-unfolding answers worked member row aggregate_limit answer both_pass pass taken_by settled_after settled
+unfolding answers row aggregate_limit answer both_pass pass taken_by settled_after settled
 aggregate_limit_is_passed = refl
 
 aggregate_limit_is_met : answers (opening worked) (aggregate_limit 40000) ≡ Done ∷ Done ∷ Done ∷ Matched ∷ Done ∷ Matched ∷ Settled 2 ∷ []
-unfolding answers worked member row aggregate_limit answer both_pass pass taken_by settled_after settled
+unfolding answers row aggregate_limit answer both_pass pass taken_by settled_after settled
 aggregate_limit_is_met = refl
 
 -- one walk meets each pair once: the second pair lets the first pass, but only in the next walk
@@ -172,5 +190,5 @@ one_walk : answers (opening worked)
     (row 102 (Fund 1 1 1 1200) ∷ row 101 (Fund 0 1 2 47) ∷ row 1 (Instruct 1 2 1 1100 0 1000) ∷ row 2 (Instruct 1 1 0 1000 1 1100)
     ∷ row 1 (Instruct 2 2 1 100 2 1) ∷ row 2 (Instruct 2 1 2 1 1 100) ∷ row 0 (Settle 10) ∷ row 0 (Settle 10) ∷ [])
     ≡ Done ∷ Done ∷ Done ∷ Matched ∷ Done ∷ Matched ∷ Settled 1 ∷ Settled 1 ∷ []
-unfolding answers worked member row answer both_pass pass taken_by settled_after settled
+unfolding answers row answer both_pass pass taken_by settled_after settled
 one_walk = refl

@@ -3,9 +3,10 @@ use Rattle.std.specs.Prelude.{ℕ, ◌+◌, ◌-ℤ◌, ◌==◌, ◌&&◌, ◌|
 use Rattle.std.specs.List.{list_any}
 use Rattle.pvp_types.specs.declared.setup.Setup.{Setup}
 use Rattle.pvp_types.specs.declared.command.Cmd.{Cmd}
-use Rattle.pvp_types.specs.declared.command.Cmd.TheVariants.{Instruct, Rescind, Fund, Settle, PayOut, Paid}
+use Rattle.pvp_types.specs.declared.command.Cmd.TheVariants.{Instruct, Rescind, Fund, Settle, PayOut, Paid, Returned}
 use Rattle.pvp_types.specs.declared.command.Reply.{Reply}
 use Rattle.pvp_types.specs.declared.command.Reply.TheVariants.{Done, Matched, Settled, Order, No}
+use Rattle.pvp_types.specs.declared.command.Reason.{Reason}
 use Rattle.pvp_types.specs.declared.command.Reason.TheVariants.{NotYours, UnknownMember, UnknownCurrency, BadAmount, Repeated, Mismatch, UnknownReference, Late, Short, TestFails, BankShort}
 use Rattle.vr_types.specs.declared.row.RowOf.{RowOf}
 use Rattle.pvp_types.specs.Setup.{is_between}
@@ -16,7 +17,8 @@ use Rattle.pvp_book.specs.Accounts.{balance_with}
 use Rattle.pvp_book.specs.Pairs.{pair_of, has_reference, is_matched, is_rescinded}
 use Rattle.pvp_book.specs.Limits.{passes, balances_with}
 use Rattle.pvp_book.specs.Settlement.{candidates, pass, settled}
-use Rattle.pvp_book.specs.Ledger.{Ledger, opening, most_amount, node_of, balance, figure, state_of, is_state, has_pay_in, orders, has_payment}
+use Rattle.pvp_book.specs.Ledger.{Ledger, opening, most_amount, node_of, balance, figure, state_of, is_state, has_pay_in}
+use Rattle.pvp_book.specs.Orders.{orders, has_end}
 
 -- members are numbered from 1
 abbrev pub has_member : Setup → ℕ → Bool
@@ -51,6 +53,11 @@ abbrev pub balances_less : Setup → List Entry → List Pair → ℕ → ℕ �
 balances_less setup entries settled m c amt =
     slice_set (balances_with setup entries settled m) c (balance_with entries settled m c -ℤ pos amt)
 
+-- the first check that fails is the answer
+abbrev pub unless : List (Bool × Reason) → Reply → Reply
+unless [] reply = reply
+unless ((fails, reason) ∷ more) reply = if fails then No reason else unless more reply
+
 -- Each command's checks in their order: the first that fails is the answer.
 module _ (setup : Setup) (entries : List Entry) (client : ℕ) where
   -- an instruction under a reference that has a pair, or has none
@@ -84,38 +91,45 @@ module _ (setup : Setup) (entries : List Entry) (client : ℕ) where
       else if not (has_member setup client) then No UnknownMember
       else on_pair (pair_of entries reference)
 
+  abbrev pub fund_checks : ℕ → ℕ → ℕ → ℕ → List (Bool × Reason)
+  fund_checks c pay member amt =
+      (not (client == node_of c), NotYours)
+      ∷ (not (has_currency setup c && has_member setup member), UnknownMember)
+      ∷ (not (is_amount amt), BadAmount)
+      ∷ (pay == 0, UnknownReference)
+      ∷ (has_pay_in entries c pay, Repeated) ∷ []
+
   abbrev pub on_fund : ℕ → ℕ → ℕ → ℕ → Reply
-  on_fund c pay member amt =
-      if not (client == node_of c) then No NotYours
-      else if not (has_currency setup c && has_member setup member) then No UnknownMember
-      else if not (is_amount amt) then No BadAmount
-      else if pay == 0 then No UnknownReference
-      else if has_pay_in entries c pay then No Repeated
-      else Done
+  on_fund c pay member amt = unless (fund_checks c pay member amt) Done
 
   abbrev pub on_settle : ℕ → Reply
   on_settle most =
       if not (client == 0) then No NotYours
       else Settled (length (pass setup entries (settled setup entries) most (candidates entries (settled setup entries))))
 
-  abbrev pub on_pay_out : ℕ → ℕ → Reply
-  on_pay_out c amt =
-      if not (is_member_number client) then No NotYours
-      else if not (has_member setup client) then No UnknownMember
-      else if not (has_currency setup c) then No UnknownCurrency
-      else if not (is_amount amt) then No BadAmount
-      else if int_lt (balance setup entries client c) (pos amt) then No Short
-      else if not (passes setup client (balances_less setup entries (settled setup entries) client c amt)) then No TestFails
-      else if int_lt (figure setup entries c) (pos amt) then No BankShort
-      else Order (length (orders entries c) + 1)
+  abbrev pub pay_out_checks : ℕ → ℕ → List (Bool × Reason)
+  pay_out_checks c amt =
+      (not (is_member_number client), NotYours)
+      ∷ (not (has_member setup client), UnknownMember)
+      ∷ (not (has_currency setup c), UnknownCurrency)
+      ∷ (not (is_amount amt), BadAmount)
+      ∷ (int_lt (balance setup entries client c) (pos amt), Short)
+      ∷ (not (passes setup client (balances_less setup entries (settled setup entries) client c amt)), TestFails)
+      ∷ (int_lt (figure setup entries c) (pos amt), BankShort) ∷ []
 
-  abbrev pub on_paid : ℕ → ℕ → Reply
-  on_paid c out =
-      if not (client == node_of c) then No NotYours
-      else if not (has_currency setup c) then No UnknownMember
-      else if not (has_order entries c out) then No UnknownReference
-      else if has_payment entries c out then No Repeated
-      else Done
+  abbrev pub on_pay_out : ℕ → ℕ → Reply
+  on_pay_out c amt = unless (pay_out_checks c amt) (Order (length (orders entries c) + 1))
+
+  -- the node's word on an order, that it paid it or returned it
+  abbrev pub end_checks : ℕ → ℕ → List (Bool × Reason)
+  end_checks c out =
+      (not (client == node_of c), NotYours)
+      ∷ (not (has_currency setup c), UnknownMember)
+      ∷ (not (has_order entries c out), UnknownReference)
+      ∷ (has_end entries c out, Repeated) ∷ []
+
+  abbrev pub on_end : ℕ → ℕ → Reply
+  on_end c out = unless (end_checks c out) Done
 
   unfoldable pub answer : Cmd → Reply
   answer (Instruct reference other sell sell_amt buy buy_amt) = on_instruct reference other sell sell_amt buy buy_amt
@@ -123,7 +137,8 @@ module _ (setup : Setup) (entries : List Entry) (client : ℕ) where
   answer (Fund ccy pay member amt) = on_fund ccy pay member amt
   answer (Settle most) = on_settle most
   answer (PayOut ccy amt) = on_pay_out ccy amt
-  answer (Paid ccy out) = on_paid ccy out
+  answer (Paid ccy out) = on_end ccy out
+  answer (Returned ccy out) = on_end ccy out
 
 -- the operator's word to settle
 abbrev pub is_walk : ℕ → Cmd → Bool

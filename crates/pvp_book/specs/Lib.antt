@@ -5,5 +5,6 @@ pub mod Laws
 pub mod Ledger
 pub mod Limits
 pub mod Open
+pub mod Orders
 pub mod Pairs
 pub mod Settlement

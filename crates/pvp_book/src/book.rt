@@ -4,15 +4,12 @@ ghost use Rattle.pvp_book.specs.Answer.{is_amount, is_refusal, is_mirror};
 use crate::entry::Entry;
 use crate::open::{self, OpenOrders};
 use crate::pair::{self, Pair, PairState};
-use crate::sums::{self, node_of};
-use crate::walk;
+use crate::terms::{has_member, is_amount, node_of};
+use crate::{sums, walk};
 use indexmap::IndexMap;
 use pvp_types::{Cmd, PayOrder, Reason, Reply, Setup};
 use std::alloc::{AllocError, Global};
 use std::marker::Model;
-
-/// The greatest amount of a command, in minor units.
-const MOST_AMOUNT: u64 = 1_000_000_000_000;
 
 /// The most members that a bank has.
 const MOST_MEMBERS: u16 = 64;
@@ -49,9 +46,10 @@ impl Book {
     ghost use Rattle.pvp_book.specs.Pairs.{pair_of, has_reference, is_rescinded};
     ghost use Rattle.pvp_book.specs.Limits.{passes};
     ghost use Rattle.pvp_book.specs.Settlement.{settled};
-    ghost use Rattle.pvp_book.specs.Ledger.{opening, balance, figure, open_orders, orders, has_pay_in, outstanding, state_of, pair_state, pairs_in};
+    ghost use Rattle.pvp_book.specs.Ledger.{opening, balance, figure, open_orders, has_pay_in, outstanding, state_of, pair_state, pairs_in};
+    ghost use Rattle.pvp_book.specs.Orders.{orders};
     ghost use Rattle.pvp_book.specs.Open.{orders_left};
-    ghost use Rattle.pvp_book.specs.Answer.{answer_to, after, is_walk, balances_less, is_side, on_instruct, on_mirror, on_rescind, on_pair, on_fund, on_pay_out, on_paid, has_member, has_currency};
+    ghost use Rattle.pvp_book.specs.Answer.{answer_to, after, is_walk, balances_less, is_side, on_instruct, on_mirror, on_rescind, on_pair, on_fund, on_pay_out, on_end, has_member, has_currency};
 
     /// An empty book. `Err` where memory is refused.
     pub fn fresh(alloc: Global, setup: &Setup) -> Result<Self, AllocError>
@@ -111,7 +109,7 @@ impl Book {
         open::outstanding_at(entries, self.setup.currency_count(), at)
     }
 
-    /// A currency's orders that are not paid, in the order in which they were made.
+    /// A currency's orders that are neither paid nor returned, in the order in which they were made.
     pub fn open_orders(&self, c: u8) -> OpenOrders<'_>
         ensures { orders_left result ≡ open_orders self.now.entries c }
     {
@@ -271,7 +269,7 @@ impl Book {
             } => self.on_fund(client, ccy, pay, member, amt),
             Cmd::Settle { .. } => Reply::No(Reason::NotYours),
             Cmd::PayOut { ccy, amt } => self.on_pay_out(client, ccy, amt),
-            Cmd::Paid { ccy, out } => self.on_paid(client, ccy, out),
+            Cmd::Paid { ccy, out } | Cmd::Returned { ccy, out } => self.on_end(client, ccy, out),
         }
     }
 
@@ -421,8 +419,9 @@ impl Book {
         )
     }
 
-    fn on_paid(&self, client: u16, c: u8, out: u32) -> Reply
-        ensures { result ≡ on_paid self.now.setup self.now.entries client c out }
+    /// Answers a node's word on an order, that it paid it or returned it.
+    fn on_end(&self, client: u16, c: u8, out: u32) -> Reply
+        ensures { result ≡ on_end self.now.setup self.now.entries client c out }
     {
         let entries = self.entries.as_slice();
         if client != node_of(c) {
@@ -431,7 +430,7 @@ impl Book {
             Reply::No(Reason::UnknownMember)
         } else if !sums::has_order(entries, c, out) {
             Reply::No(Reason::UnknownReference)
-        } else if sums::has_payment(entries, c, out) {
+        } else if sums::has_end(entries, c, out) {
             Reply::No(Reason::Repeated)
         } else {
             Reply::Done
@@ -441,7 +440,7 @@ impl Book {
     fn has_member(&self, m: u16) -> bool
         ensures { result ≡ has_member self.now.setup m }
     {
-        1 <= m && usize::from(m) <= self.setup.members.len()
+        has_member(&self.setup, m)
     }
 
     fn has_currency(&self, c: u8) -> bool
@@ -467,10 +466,4 @@ fn is_mirror(pair: &Pair, asked: &Pair) -> bool
         && pair.sell_amt == asked.buy_amt
         && pair.buy == asked.sell
         && pair.buy_amt == asked.sell_amt
-}
-
-fn is_amount(amt: u64) -> bool
-    ensures { result ≡ is_amount amt }
-{
-    (1..=MOST_AMOUNT).contains(&amt)
 }

@@ -12,8 +12,8 @@ pub fn both_legs()
     ensures { (setup : Setup) (history : List Row) → BothLegs setup (book_of setup history) }
 {}
 
-/// The bank's figure in a currency is what nodes paid in less what members had paid out, and never
-/// below 0: the bank pays out no more than it holds.
+/// The bank's figure in a currency is what nodes paid in less what members had paid out, with what
+/// was returned, and never below 0: the bank pays out no more than it holds.
 pub fn figure_is_funds_minus_pay_outs()
     ensures { (setup : Setup) (history : List Row) (c : ℕ) → IsCovered setup (book_of setup history) c }
 {}
@@ -23,8 +23,8 @@ pub fn pay_ins_count_once()
     ensures { (setup : Setup) (history : List Row) → PayInsOnce (book_of setup history) }
 {}
 
-/// The orders of a currency are numbered 1, 2, .. without a gap; each is paid at most once, and only
-/// after it was made.
+/// The orders of a currency are numbered 1, 2, .. without a gap; each is paid or returned at most
+/// once, and only after it was made.
 pub fn orders_are_numbered()
     ensures { (setup : Setup) (history : List Row) (c : ℕ) → AreOrdered (book_of setup history) c }
 {}

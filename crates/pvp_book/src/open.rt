@@ -2,10 +2,12 @@ ghost use Rattle.std.specs.Prelude.{◌≡◌, ◌≤◌, length, not, slice_get
 ghost use Rattle.pvp_book.specs.Ledger.{open_orders, outstanding_from};
 
 use crate::entry::Entry;
-use crate::sums::{has_payment, node_of, order_by};
+use crate::sums::{has_end, order_by};
+use crate::terms::node_of;
 use pvp_types::PayOrder;
 
-/// The orders of one currency that are not paid, in the order in which they were made.
+/// The orders of one currency that are neither paid nor returned, in the order in which they were
+/// made.
 #[derive(Debug, Drop)]
 pub struct OpenOrders<'a> {
     /// All entries of the book.
@@ -17,7 +19,7 @@ pub struct OpenOrders<'a> {
 
 impl<'a> OpenOrders<'a> {
     ghost use Rattle.pvp_book.specs.Open.{orders_left};
-    ghost use Rattle.pvp_book.specs.Ledger.{has_payment};
+    ghost use Rattle.pvp_book.specs.Orders.{has_end};
 
     pub(crate) fn new(entries: &'a [Entry], ccy: u8) -> Self
         ensures { orders_left result ≡ open_orders entries.now ccy }
@@ -29,11 +31,11 @@ impl<'a> OpenOrders<'a> {
         }
     }
 
-    /// Whether the order is not paid.
+    /// Whether the order is neither paid nor returned.
     fn is_open(&self, order: PayOrder) -> bool
-        ensures { result ≡ not (has_payment self.now.entries.now self.now.ccy order.out) }
+        ensures { result ≡ not (has_end self.now.entries.now self.now.ccy order.out) }
     {
-        !has_payment(self.entries, self.ccy, order.out)
+        !has_end(self.entries, self.ccy, order.out)
     }
 }
 
@@ -59,8 +61,8 @@ impl<'a> Iterator for OpenOrders<'a> {
     }
 }
 
-/// The order at a place among those of the first currencies that are not paid, and the client
-/// number of its node.
+/// The order at a place among the open ones of the first currencies, and the client number of its
+/// node.
 pub(crate) fn outstanding_at(
     entries: &[Entry],
     currencies: u8,
@@ -79,7 +81,7 @@ pub(crate) fn outstanding_at(
     None
 }
 
-/// How many orders of the first currencies are not paid.
+/// How many orders of the first currencies are open.
 pub(crate) fn count_outstanding(entries: &[Entry], currencies: u8) -> usize
     requires { length entries.now ≤ 65535 }
     ensures { result ≡ length (outstanding_from 0 currencies entries.now) }
@@ -91,14 +93,14 @@ pub(crate) fn count_outstanding(entries: &[Entry], currencies: u8) -> usize
     count
 }
 
-/// The order at a place among a currency's that are not paid.
+/// The order at a place among a currency's open ones.
 fn open_at(entries: &[Entry], ccy: u8, at: usize) -> Option<PayOrder>
     ensures { result ≡ slice_get (open_orders entries.now ccy) at }
 {
     OpenOrders::new(entries, ccy).nth(at)
 }
 
-/// How many orders of a currency are not paid.
+/// How many orders of a currency are open.
 fn count_open(entries: &[Entry], ccy: u8) -> usize
     requires { length entries.now ≤ 65535 }
     ensures { result ≡ length (open_orders entries.now ccy) }

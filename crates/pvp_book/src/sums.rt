@@ -1,23 +1,14 @@
 ghost use Rattle.std.specs.Prelude.{◌≡◌, ◌<◌, ◌≤◌, ◌^◌, length, sum_by, if◌then◌else◌};
 ghost use Rattle.std.specs.List.{list_any};
-ghost use Rattle.pvp_book.specs.Accounts.{paid_in_to, paid_out_of, pay_ins, pay_outs, bought, sold, received, given, balance_with};
-ghost use Rattle.pvp_book.specs.Ledger.{node_of, sum_of_balances, is_pay_in, has_pay_in, order_by, orders, is_payment, has_payment, open_orders};
+ghost use Rattle.pvp_book.specs.Accounts.{paid_in_to, paid_out_of, pay_ins, pay_outs, returned, bought, sold, received, given, balance_with};
+ghost use Rattle.pvp_book.specs.Ledger.{sum_of_balances, is_pay_in, has_pay_in, open_orders};
+ghost use Rattle.pvp_book.specs.Orders.{order_by, orders, is_return, has_return, is_end, has_end};
 ghost use Rattle.pvp_book.specs.Bounds.{most_total, IsWithin, IsSmall};
 ghost use Rattle.pvp_book.specs.Answer.{has_order};
 
 use crate::entry::Entry;
 use crate::pair::Pair;
 use pvp_types::{Cmd, PayOrder, Reply};
-
-/// The client number of a currency's node, less the currency's.
-const NODES: u16 = 101;
-
-/// The client number of a currency's node.
-pub fn node_of(c: u8) -> u16
-    ensures { result ≡ node_of c }
-{
-    NODES + u16::from(c)
-}
 
 /// What an entry pays in to a member in a currency.
 fn paid_in_to(entry: &Entry, m: u16, c: u8) -> u64
@@ -58,6 +49,18 @@ pub fn pay_outs(entries: &[Entry], m: u16, c: u8) -> u64
     ensures { result ≡ pay_outs entries.now m c }
 {
     entries.iter().map(|e| paid_out_of(e, m, c)).sum()
+}
+
+/// The sum of a member's orders in a currency that were returned.
+pub fn returned(entries: &[Entry], m: u16, c: u8) -> u64
+    requires { returned entries.now m c < 2 ^ 64 }
+    ensures { result ≡ returned entries.now m c }
+{
+    entries
+        .iter()
+        .filter_map(|e| order_by(e, c))
+        .map(|o| part(o.member == m && has_return(entries, c, o.out), o.amt))
+        .sum()
 }
 
 /// What a member buys in a currency by a pair.
@@ -116,7 +119,7 @@ fn received(entries: &[Entry], settled: &[Pair], m: u16, c: u8) -> u64
     requires { received entries.now settled.now m c < 2 ^ 64 }
     ensures { result ≡ received entries.now settled.now m c }
 {
-    pay_ins(entries, m, c) + all_bought(settled, m, c)
+    pay_ins(entries, m, c) + returned(entries, m, c) + all_bought(settled, m, c)
 }
 
 /// What went from a member in a currency, where some pairs are settled.
@@ -166,18 +169,34 @@ fn is_pay_in(entry: &Entry, c: u8, k: u32) -> bool
     }
 }
 
-/// Whether a currency's order of this number is paid.
-pub fn has_payment(entries: &[Entry], c: u8, n: u32) -> bool
-    ensures { result ≡ has_payment entries.now c n }
+/// Whether a currency's order of this number is returned.
+fn has_return(entries: &[Entry], c: u8, n: u32) -> bool
+    ensures { result ≡ has_return entries.now c n }
 {
-    entries.iter().any(|e| is_payment(e, c, n))
+    entries.iter().any(|e| is_return(e, c, n))
 }
 
-fn is_payment(entry: &Entry, c: u8, n: u32) -> bool
-    ensures { result ≡ is_payment c n entry.now.cmd }
+fn is_return(entry: &Entry, c: u8, n: u32) -> bool
+    ensures { result ≡ is_return c n entry.now.cmd }
 {
     match entry.cmd {
-        Cmd::Paid { ccy, out } => ccy == c && out == n,
+        Cmd::Returned { ccy, out } => ccy == c && out == n,
+        _ => false,
+    }
+}
+
+/// Whether a currency's order of this number is paid or returned.
+pub fn has_end(entries: &[Entry], c: u8, n: u32) -> bool
+    ensures { result ≡ has_end entries.now c n }
+{
+    entries.iter().any(|e| is_end(e, c, n))
+}
+
+fn is_end(entry: &Entry, c: u8, n: u32) -> bool
+    ensures { result ≡ is_end c n entry.now.cmd }
+{
+    match entry.cmd {
+        Cmd::Paid { ccy, out } | Cmd::Returned { ccy, out } => ccy == c && out == n,
         _ => false,
     }
 }

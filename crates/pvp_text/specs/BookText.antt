@@ -1,5 +1,5 @@
 -- The printed text of a book. Every line ends with LF.
-use Rattle.std.specs.Prelude.{ℕ, ◌+◌, List, [], ◌∷◌, ◌++◌, length, codes, decimal, take, ◌≡◌, ◌≤◌, Option, Result, Ok, Err}
+use Rattle.std.specs.Prelude.{ℕ, ◌+◌, List, [], ◌∷◌, ◌++◌, length, codes, decimal, take, ◌≡◌, ◌≢◌, ◌⊎◌, ◌<◌, ◌≤◌, true, Option, None, Result, Ok, Err}
 use Rattle.std.specs.Fmt.{signed_decimal}
 use Rattle.std.specs.List.{flat_map, range_with_len, enumerate_from}
 use Rattle.pvp_types.specs.declared.setup.Setup.{Setup}
@@ -17,6 +17,8 @@ use Rattle.pvp_text.specs.declared.script.Line.{Line}
 use Rattle.pvp_text.specs.declared.script.LineFault.{LineFault}
 use Rattle.pvp_text.specs.declared.script.Statement.{Statement}
 use Rattle.pvp_text.specs.declared.script.Statement.TheVariants.{Do, Print}
+use Rattle.pvp_text.specs.Reading.{Faults}
+use Rattle.pvp_text.specs.Script.{line_fault_is_memory}
 
 -- a space and a balance, for each currency
 abbrev pub balances_text : Ledger → ℕ → ℕ → List ℕ
@@ -44,7 +46,7 @@ figures_text held currencies = flat_map (λ c. 32 ∷ signed_decimal (figure hel
 abbrev pub figure_line : Ledger → List ℕ
 figure_line held = codes "figure" ++ figures_text held (length held.setup.currencies) ++ codes "\n"
 
--- how many orders are not paid
+-- how many orders are neither paid nor returned
 abbrev pub open_line : Ledger → List ℕ
 open_line held = codes "open " ++ decimal (length (outstanding held.setup held.entries)) ++ codes "\n"
 
@@ -75,30 +77,48 @@ text_of held (line ∷ lines) = statement_text held line.statement ++ text_of (a
 abbrev pub book_text : Setup → List Line → List ℕ
 book_text setup lines = text_of (opening setup) lines
 
--- How a run of lines ends: with what all of them write; or with what the first of them write, where memory
--- was refused. How much was written before the writer failed is not said.
+-- How a run of lines ends: with what all of them write; or with what the first of them write, where memory was refused
+-- for the next; or at a line that the writer failed to take. How much was written by then is not said.
 abbrev pub LinesEnd : Ledger → List Line → Result (Unit {0}) RunFault → Option (List ℕ) → Option (List ℕ) → Type 0
 LinesEnd held lines (Ok _) old new = Appends old new (text_of held lines)
-LinesEnd held lines (Err RunFaults.NoMemory) old new = (n : ℕ) × Appends old new (text_of held (take n lines))
-LinesEnd held lines (Err RunFaults.Output) old new = Unit {0}
+LinesEnd held lines (Err RunFaults.NoMemory) old new = (n : ℕ) × (n < length lines) × Appends old new (text_of held (take n lines))
+LinesEnd held lines (Err RunFaults.Output) old new = lines ≢ []
 LinesEnd held lines (Err (RunFaults.Line fault)) old new = ⊥
 
--- what is told of a faulty script: its faulty line, or that memory was refused
-abbrev pub Tells : LineFault → Result (Unit {0}) RunFault → Type 0
-Tells fault (Ok _) = ⊥
-Tells fault (Err (RunFaults.Line told)) = told ≡ fault
-Tells fault (Err RunFaults.NoMemory) = Unit {0}
-Tells fault (Err RunFaults.Output) = ⊥
+-- how a script is read: where memory is refused to a line, and that is told so, or where none is refused
+abbrev pub ScriptReading : Type 0
+ScriptReading = Option LineFault → Result (List Line) LineFault
 
--- How a run over what reading a script gave ends. A faulty script leaves the writer as it was.
-abbrev pub RunEnds : {W : Type 0} → (W → Option (List ℕ)) → Setup → Result (List Line) LineFault
+-- reading the script may tell that memory was refused
+abbrev pub MayTellMemory : ScriptReading → Type 0
+MayTellMemory read =
+    (fault : LineFault) × (line_fault_is_memory fault ≡ true) × Faults line_fault_is_memory fault read
+
+-- what is told of a faulty script: its faulty line, or that memory was refused to one before it
+abbrev pub Tells : ScriptReading → LineFault → Result (Unit {0}) RunFault → Type 0
+Tells read fault (Ok _) = ⊥
+Tells read fault (Err (RunFaults.Line told)) = told ≡ fault
+Tells read fault (Err RunFaults.NoMemory) = MayTellMemory read
+Tells read fault (Err RunFaults.Output) = ⊥
+
+-- nothing was run, as memory was refused before, and nothing is written
+abbrev pub IsNotBegun : {W : Type 0} → Result (Unit {0}) RunFault → W → W → Type 0
+IsNotBegun result old new = (result ≡ Err RunFaults.NoMemory) × (new ≡ old)
+
+-- how a run over what a script was read as ends: a faulty one leaves the writer as it was
+abbrev pub RunsOver : {W : Type 0} → (W → Option (List ℕ)) → Setup → ScriptReading → Result (List Line) LineFault
     → Result (Unit {0}) RunFault → W → W → Type 0
-RunEnds contents setup (Ok lines) result old new = LinesEnd (opening setup) lines result (contents old) (contents new)
-RunEnds contents setup (Err fault) result old new = Tells fault result × (new ≡ old)
+RunsOver contents setup read (Ok lines) result old new =
+    IsNotBegun result old new ⊎ LinesEnd (opening setup) lines result (contents old) (contents new)
+RunsOver contents setup read (Err fault) result old new = Tells read fault result × (new ≡ old)
+
+-- HOW A RUN of a script ends
+abbrev pub RunEnds : {W : Type 0} → (W → Option (List ℕ)) → Setup → ScriptReading → Result (Unit {0}) RunFault → W → W → Type 0
+RunEnds contents setup read result old new = RunsOver contents setup read (read None) result old new
 
 -- what a script was read as: its lines, of which there are not too many for one book
-abbrev pub ReadEnds : Result (Vec Line) RunFault → Result (List Line) LineFault → Type 0
-ReadEnds (Ok lines) read = (read ≡ Ok lines.items) × (length lines.items ≤ 65535)
-ReadEnds (Err (RunFaults.Line fault)) read = read ≡ Err fault
-ReadEnds (Err RunFaults.NoMemory) read = Unit {0}
+abbrev pub ReadEnds : Result (Vec Line) RunFault → ScriptReading → Type 0
+ReadEnds (Ok lines) read = (read None ≡ Ok lines.items) × (length lines.items ≤ 65535)
+ReadEnds (Err (RunFaults.Line fault)) read = read None ≡ Err fault
+ReadEnds (Err RunFaults.NoMemory) read = MayTellMemory read
 ReadEnds (Err RunFaults.Output) read = ⊥

@@ -1,5 +1,6 @@
 pub mod Reading
 pub mod SetupText
+pub mod Steadiness
 pub mod ScriptWords
 pub mod ScriptFields
 pub mod Script

@@ -1,8 +1,8 @@
 -- What a script says.
-use Rattle.std.specs.Prelude.{ℕ, ◌+◌, ◌^◌, ◌==◌, ◌&&◌, ◌||◌, Bool, true, false, not, List, [], ◌∷◌, length, slice_index, Option, Some, None, option_map, Result, Ok, Err, codes, bytes_eq, nat_lt, nat_le, if◌then◌else◌}
+use Rattle.std.specs.Prelude.{ℕ, ◌+◌, ◌^◌, ◌==◌, ◌&&◌, ◌||◌, Bool, true, false, not, List, [], ◌∷◌, ◌++◌, length, slice_index, Option, Some, None, option_map, option_to_list, Result, Ok, Err, codes, bytes_eq, nat_lt, nat_le, if◌then◌else◌}
 use Rattle.std.specs.Global.{Vec}
-use Rattle.std.specs.List.{list_all, cons_option}
-use Rattle.pvp_types.specs.declared.command.Cmd.TheVariants.{Instruct, Rescind, Fund, Settle, PayOut, Paid}
+use Rattle.std.specs.List.{list_all}
+use Rattle.pvp_types.specs.declared.command.Cmd.TheVariants.{Instruct, Rescind, Fund, Settle, PayOut, Paid, Returned}
 use Rattle.pvp_types.specs.declared.setup.Setup.{Setup}
 use Rattle.pvp_text.specs.declared.script.Kind.{Kind}
 use Rattle.pvp_text.specs.declared.script.Kind.TheVariants.{Book}
@@ -79,16 +79,28 @@ payout_at setup who (ccy ∷ amt ∷ []) = do
   Ok (Do client (PayOut ccy amt))
 payout_at setup who _ = Err WordCount
 
--- `do WHO paid CCY OUT`
-unfoldable pub paid_at : Setup → List ℕ → List (List ℕ) → Result Statement LineCode
-paid_at setup who (ccy ∷ out ∷ []) = do
+-- a client, a currency and the number of an order, as `WHO .. CCY OUT` tells them
+unfoldable pub order_at : Setup → List ℕ → List (List ℕ) → Result (ℕ × ℕ × ℕ) LineCode
+order_at setup who (ccy ∷ out ∷ []) = do
   who ← reference_at (2 ^ 16) who
   ccy ← reference_at (2 ^ 8) ccy
   out ← number_at (2 ^ 32) out
   client ← client_of setup who
   ccy ← currency_of setup ccy
-  Ok (Do client (Paid ccy out))
-paid_at setup who _ = Err WordCount
+  Ok (client, ccy, out)
+order_at setup who _ = Err WordCount
+
+-- `do WHO paid CCY OUT`
+unfoldable pub paid_at : Setup → List ℕ → List (List ℕ) → Result Statement LineCode
+paid_at setup who fields = do
+  order ← order_at setup who fields
+  Ok (Do order.0 (Paid order.1 order.2))
+
+-- `do WHO returned CCY OUT`
+unfoldable pub returned_at : Setup → List ℕ → List (List ℕ) → Result Statement LineCode
+returned_at setup who fields = do
+  order ← order_at setup who fields
+  Ok (Do order.0 (Returned order.1 order.2))
 
 -- `do WHO`, the command's word and its fields
 unfoldable pub do_at : Setup → List (List ℕ) → Result Statement LineCode
@@ -99,6 +111,7 @@ do_at setup (who ∷ command ∷ fields) =
     else if bytes_eq command (codes "fund") then fund_at setup who fields
     else if bytes_eq command (codes "payout") then payout_at setup who fields
     else if bytes_eq command (codes "paid") then paid_at setup who fields
+    else if bytes_eq command (codes "returned") then returned_at setup who fields
     else Err UnknownWord
 do_at setup _ = Err WordCount
 
@@ -139,19 +152,35 @@ abbrev pub of_line : {A : Type 0} → ℕ → Result A LineCode → Result A Lin
 of_line number (Ok x) = Ok x
 of_line number (Err code) = Err (record { line = number; code = code })
 
--- the lines that are not skipped, of those from a number on; else the first fault
-unfoldable pub lines_at : Kind → Setup → ℕ → List (List ℕ) → Result (List Line) LineFault
-lines_at kind setup number [] = Ok []
-lines_at kind setup number (line ∷ rest) = do
-  said ← of_line number (line_at kind setup line)
-  others ← lines_at kind setup (number + 1) rest
-  Ok (cons_option (option_map (λ statement. record { number = number; statement = statement }) said) others)
+-- the line that asks for something, or none
+abbrev pub line_of : ℕ → Option Statement → List Line
+line_of number said = option_to_list (option_map (λ statement. record { number = number; statement = statement }) said)
 
--- all of a script, which has at most 65535 lines
-unfoldable pub script_at : Kind → Setup → List ℕ → Result (List Line) LineFault
-script_at kind setup bytes =
+-- A line that asks for something is kept, which takes memory. Where that is refused to one line, the fault names it.
+abbrev pub kept_line : Option LineFault → ℕ → Option Statement → Result (List Line) LineFault
+kept_line None number said = Ok (line_of number said)
+kept_line (Some refusal) number None = Ok []
+kept_line (Some refusal) number (Some statement) =
+    if refusal.line == number then Err refusal else Ok (line_of number (Some statement))
+
+-- the lines that are not skipped, of those from a number on; else the first fault
+unfoldable pub lines_at : Option LineFault → Kind → Setup → ℕ → List (List ℕ) → Result (List Line) LineFault
+lines_at refused kind setup number [] = Ok []
+lines_at refused kind setup number (line ∷ rest) = do
+  said ← of_line number (line_at kind setup line)
+  first ← kept_line refused number said
+  others ← lines_at refused kind setup (number + 1) rest
+  Ok (first ++ others)
+
+-- all of a script, which has at most 65535 lines; where memory is refused so or not at all
+unfoldable pub script_where : Option LineFault → Kind → Setup → List ℕ → Result (List Line) LineFault
+script_where refused kind setup bytes =
     if nat_lt 65535 (length (lines bytes)) then Err (record { line = 65536; code = LineCount })
-    else lines_at kind setup 1 (lines bytes)
+    else lines_at refused kind setup 1 (lines bytes)
+
+-- ALL OF A SCRIPT, or its first fault
+abbrev pub script_at : Kind → Setup → List ℕ → Result (List Line) LineFault
+script_at kind setup bytes = script_where None kind setup bytes
 
 abbrev pub is_memory_code : LineCode → Bool
 is_memory_code NoMemory = true

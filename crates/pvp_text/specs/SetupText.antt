@@ -1,6 +1,8 @@
 -- Which setup a text is, and which fault a text has that is none.
-use Rattle.std.specs.Prelude.{ℕ, Bool, true, false, List, [], ◌∷◌, ◌++◌, Option, Some, None, option_and_then, ok_or, Result, Ok, Err, codes, if◌then◌else◌}
+use Rattle.std.specs.Prelude.{◌≡◌, ◌⊎◌, ℕ, Bool, true, false, List, [], ◌∷◌, ◌++◌, Option, Some, None, option_and_then, ok_or, Result, Ok, Err, codes, if◌then◌else◌}
 use Rattle.std.specs.Str.{is_utf8}
+use Rattle.serde_json.specs.declared.error.Error.{Error}
+use Rattle.serde_json.specs.Errors.{IsMemory}
 use Rattle.serde_json.specs.Data.{Data, Items, no_items, item}
 use Rattle.serde_json.specs.Read.{read}
 use Rattle.serde_json.specs.Find.{get, as_number, as_u64, as_str, as_array}
@@ -11,77 +13,96 @@ use Rattle.pvp_types.specs.declared.setup.SetupFault.{SetupFault}
 use Rattle.pvp_types.specs.Setup.{fault_of, rule_text}
 use Rattle.pvp_text.specs.declared.setup.TextFault.{TextFault}
 use Rattle.pvp_text.specs.declared.setup.TextFault.TheVariants.{NotJson, BadMember, NoMemory, BadSetup}
-use Rattle.pvp_text.specs.Reading.{◌>>=◌}
+use Rattle.pvp_text.specs.Reading.{◌>>=◌, kept}
 
 -- ---- what a part of the tree holds
+
+-- how a part of the tree is read, where memory is refused so or not at all
+abbrev pub Kind : Type 0 → Type 0
+Kind A = Option TextFault → Data → Result A TextFault
 
 -- what is there, or a bad member
 abbrev pub needed : {A : Type 0} → Option A → Result A TextFault
 needed held = ok_or held BadMember
 
 -- a number in digits alone, below 2 ^ 64
-abbrev pub number : Data → Result ℕ TextFault
-number d = needed (option_and_then as_u64 (as_number d))
+abbrev pub number : Kind ℕ
+number refused d = needed (option_and_then as_u64 (as_number d))
 
--- a string
-abbrev pub text : Data → Result (List ℕ) TextFault
-text d = needed (as_str d)
+-- a string, which is kept
+abbrev pub text : Kind (List ℕ)
+text refused d = needed (as_str d) >>= kept refused
 
--- the items, each of which is of that kind
-abbrev pub each_of : {A : Type 0} → (Data → Result A TextFault) → Items → Result (List A) TextFault
-each_of kind no_items = Ok []
-each_of kind (item d ds) = do
-  x ← kind d
-  xs ← each_of kind ds
-  Ok (x ∷ xs)
+-- the items, each of which is of that kind and is kept
+abbrev pub each_of : {A : Type 0} → Kind A → Option TextFault → Items → Result (List A) TextFault
+each_of kind refused no_items = Ok []
+each_of kind refused (item d ds) = do
+  x ← kind refused d
+  first ← kept refused x
+  others ← each_of kind refused ds
+  Ok (first ∷ others)
 
 -- an array, each of whose items is of that kind
-abbrev pub list : {A : Type 0} → (Data → Result A TextFault) → Data → Result (List A) TextFault
-list kind d = needed (as_array d) >>= each_of kind
+abbrev pub list : {A : Type 0} → Kind A → Kind (List A)
+list kind refused d = needed (as_array d) >>= each_of kind refused
 
 -- an object's member of that name, which is of that kind. Its other members are ignored.
-abbrev pub member : {A : Type 0} → (Data → Result A TextFault) → List ℕ → Data → Result A TextFault
-member kind name d = needed (get name d) >>= kind
+abbrev pub member : {A : Type 0} → Kind A → List ℕ → Kind A
+member kind name refused d = needed (get name d) >>= kind refused
 
-unfoldable pub currency : Data → Result Currency TextFault
-currency d = do
-  code ← member text (codes "code") d
-  rate ← member number (codes "rate") d
-  haircut ← member number (codes "haircut") d
+unfoldable pub currency : Kind Currency
+currency refused d = do
+  code ← member text (codes "code") refused d
+  rate ← member number (codes "rate") refused d
+  haircut ← member number (codes "haircut") refused d
   Ok (record { code = code; rate = rate; haircut = haircut })
 
-unfoldable pub bank_member : Data → Result Member TextFault
-bank_member d = do
-  name ← member text (codes "name") d
-  aggregate ← member number (codes "aggregate") d
-  short ← member (list number) (codes "short") d
-  deposit ← member (list number) (codes "deposit") d
+unfoldable pub bank_member : Kind Member
+bank_member refused d = do
+  name ← member text (codes "name") refused d
+  aggregate ← member number (codes "aggregate") refused d
+  short ← member (list number) (codes "short") refused d
+  deposit ← member (list number) (codes "deposit") refused d
   Ok (record { name = name; aggregate = aggregate; short = short; deposit = deposit })
 
-unfoldable pub setup : Data → Result Setup TextFault
-setup d = do
-  sites ← member number (codes "sites") d
-  currencies ← member (list currency) (codes "currencies") d
-  members ← member (list bank_member) (codes "members") d
+unfoldable pub setup : Kind Setup
+setup refused d = do
+  sites ← member number (codes "sites") refused d
+  currencies ← member (list currency) (codes "currencies") refused d
+  members ← member (list bank_member) (codes "members") refused d
   Ok (record { sites = sites; currencies = currencies; members = members })
 
 -- ---- the whole text
 
+-- memory is taken for any text but an empty one, whatever is wrong with it: more the JSON reader does not say
+abbrev pub taken : Option TextFault → List ℕ → Result (List ℕ) TextFault
+taken None bytes = Ok bytes
+taken (Some refusal) [] = Ok []
+taken (Some refusal) (b ∷ bytes) = Err refusal
+
 -- the tree of a text that is JSON. Of a name that stands twice in an object it has the last value.
-abbrev pub tree : List ℕ → Result Data TextFault
-tree bytes = ok_or (if is_utf8 bytes then read bytes else None) NotJson
+abbrev pub tree : Option TextFault → List ℕ → Result Data TextFault
+tree refused bytes = taken refused bytes >>= λ text. ok_or (if is_utf8 text then read text else None) NotJson
 
 -- a setup, given the first rule that it breaks
 abbrev pub unless_broken : Option SetupFault → Setup → Result Setup TextFault
 unless_broken (Some rule) s = Err (BadSetup rule)
 unless_broken None s = Ok s
 
--- the setup that a text is, or the first of its faults
-unfoldable pub setup_text : List ℕ → Result Setup TextFault
-setup_text bytes = do
-  d ← tree bytes
-  s ← setup d
+-- the setup that a text is, or the first of its faults; where memory is refused so or not at all
+unfoldable pub setup_where : Option TextFault → List ℕ → Result Setup TextFault
+setup_where refused bytes = do
+  d ← tree refused bytes
+  s ← setup refused d
   unless_broken (fault_of s) s
+
+-- THE SETUP that a text is, or the first of its faults
+abbrev pub setup_text : List ℕ → Result Setup TextFault
+setup_text bytes = setup_where None bytes
+
+-- what is told of an error of the JSON reader
+abbrev pub Tells : Error → TextFault → Type 0
+Tells error fault = (IsMemory error × (fault ≡ NoMemory)) ⊎ ((¬ IsMemory error) × (fault ≡ NotJson))
 
 -- a fault for want of memory
 abbrev pub text_fault_is_memory : TextFault → Bool

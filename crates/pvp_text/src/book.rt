@@ -6,7 +6,7 @@ ghost use Rattle.std.specs.Io.KnownBytes.{Appends};
 ghost use Rattle.pvp_types.specs.Setup.{IsValid};
 ghost use Rattle.pvp_text.specs.declared.book.RunFault.TheVariants.{NoMemory, Output};
 ghost use Rattle.pvp_text.specs.declared.script.Kind.TheVariants as kinds;
-ghost use Rattle.pvp_text.specs.Script.{script_at};
+ghost use Rattle.pvp_text.specs.Script.{script_where};
 ghost use Rattle.pvp_text.specs.BookText.{balances_text, counts_text, figures_text, member_line, member_lines, block, statement_text, after_statement, LinesEnd, RunEnds, ReadEnds};
 
 use crate::script::{Kind, Line, LineCode, LineFault, Statement, read_script};
@@ -36,9 +36,10 @@ impl From<AllocError> for RunFault {
 
 /// Runs a script on a book of its own, and writes what its lines print.
 ///
-/// The script is read whole first, so that a faulty one writes nothing. Where memory is refused in the
-/// run, what was written is what the script's first lines print. How much was written where the writer
-/// fails is not said.
+/// The script is read whole first, so that a faulty one writes nothing, and its first faulty line is
+/// told, or that memory was refused to keep a line before that. Where memory is refused in the run, what
+/// was written is what the script's first lines print, and not all of it. How much was written where the
+/// writer fails is not said.
 pub fn run_book<W: Write>(
     alloc: Global,
     setup: &Setup,
@@ -46,8 +47,9 @@ pub fn run_book<W: Write>(
     writer: &mut W,
 ) -> Result<(), RunFault>
     requires { IsValid setup.now }
-    ensures { RunEnds W.contents setup.now (script_at kinds.Book setup.now script.now) result
-        writer.old writer.new }
+    ensures { RunEnds W.contents setup.now
+        (λ refused. script_where refused kinds.Book setup.now script.now)
+        result writer.old writer.new }
 {
     let lines = read_lines(alloc, setup, script)?;
     let mut book = Book::fresh(alloc, setup)?;
@@ -56,7 +58,7 @@ pub fn run_book<W: Write>(
 
 /// The lines of a script.
 fn read_lines(alloc: Global, setup: &Setup, script: &[u8]) -> Result<Vec<Line>, RunFault>
-    ensures { ReadEnds result (script_at kinds.Book setup.now script.now) }
+    ensures { ReadEnds result (λ refused. script_where refused kinds.Book setup.now script.now) }
 {
     match read_script(alloc, setup, Kind::Book, script) {
         Ok(lines) => Ok(lines),

@@ -11,6 +11,7 @@
 //! do WHO fund CCY PAY MEMBER AMT
 //! do WHO payout CCY AMT
 //! do WHO paid CCY OUT
+//! do WHO returned CCY OUT
 //! print
 //! ```
 //!
@@ -19,7 +20,7 @@
 //! code for its node. CCY, SELL and BUY are a currency's code. Each of them may be `@` and its number
 //! instead, up to 65535 for a client and up to 255 for a currency, in the setup or not.
 ghost use Rattle.std.specs.Prelude.{◌≡◌, ◌≤◌, length};
-ghost use Rattle.pvp_text.specs.Script.{script_at, lines_at, of_line, prints, line_fault_is_memory, lines_in};
+ghost use Rattle.pvp_text.specs.Script.{script_where, lines_at, of_line, prints, line_fault_is_memory, lines_in};
 ghost use Rattle.pvp_text.specs.Reading.{Reads};
 ghost use Rattle.pvp_text.specs.ScriptWords.{lines};
 ghost use Rattle.pvp_text.specs.declared.script.LineCode.TheVariants.{NoMemory};
@@ -87,7 +88,7 @@ pub enum LineCode {
     LineLength,
     /// L7: the script has more than 65,535 lines.
     LineCount,
-    /// L8: memory ran out.
+    /// L8: memory to keep the line was refused.
     NoMemory,
 }
 
@@ -136,15 +137,17 @@ const LINES: usize = 65_535;
 
 /// The lines of a script that are not skipped, in their order. An `Err` tells L7 and line 65,536 where
 /// there are too many lines, and else the first faulty line and the first of its faults in the order
-/// L6, L1, L2, L3, L4, L5. Where memory runs out, L8 may stand in place of any of these answers.
-#[tactic(auto, unfolding(crate::specs::Script::script_at))]
+/// L6, L1, L2, L3, L4, L5. L8 may stand in place of the lines, or of a fault, at a line before it that
+/// asks for something: such a line is kept, which alone takes memory. So it never stands in place of L7.
+#[tactic(auto, unfolding(crate::specs::Script::script_where))]
 pub fn read_script(
     alloc: Global,
     setup: &Setup,
     kind: Kind,
     bytes: &[u8],
 ) -> Result<Vec<Line>, LineFault>
-    ensures { Reads lines_in line_fault_is_memory result (script_at kind setup.now bytes.now) }
+    ensures { Reads lines_in line_fault_is_memory result
+        (λ refused. script_where refused kind setup.now bytes.now) }
 {
     if count_lines(bytes) > LINES {
         return Err(LineFault {
@@ -170,7 +173,7 @@ fn count_lines(text: &[u8]) -> usize
 fn read_lines(alloc: Global, setup: &Setup, kind: Kind, text: &[u8]) -> Result<Vec<Line>, LineFault>
     requires { length (lines text.now) ≤ 65535 }
     ensures { Reads lines_in line_fault_is_memory result
-        (lines_at kind setup.now 1 (lines text.now)) }
+        (λ refused. lines_at refused kind setup.now 1 (lines text.now)) }
 {
     let mut found = Vec::new(alloc);
     let mut number = 1;

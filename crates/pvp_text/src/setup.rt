@@ -5,7 +5,7 @@ ghost use Rattle.pvp_types.specs.Setup.{IsValid};
 ghost use Rattle.serde_json.specs.View.{view};
 ghost use Rattle.pvp_text.specs.declared.setup.TextFault.TheVariants.{NoMemory};
 ghost use Rattle.pvp_text.specs.Reading.{Reads};
-ghost use Rattle.pvp_text.specs.SetupText.{tree, setup_text, text_fault_is_memory, itself};
+ghost use Rattle.pvp_text.specs.SetupText.{tree, setup_where, text_fault_is_memory, itself};
 
 #[cfg(test)]
 mod tests;
@@ -38,6 +38,21 @@ impl From<AllocError> for TextFault {
     }
 }
 
+/// J3 where memory was refused, and else J1.
+impl From<serde_json::Error> for TextFault {
+    ghost use Rattle.pvp_text.specs.SetupText.{Tells};
+
+    ghost from_gives = { λ refusal fault. Tells refusal fault };
+
+    fn from(refusal: serde_json::Error) -> TextFault {
+        if refusal.is_memory() {
+            TextFault::NoMemory
+        } else {
+            TextFault::NotJson
+        }
+    }
+}
+
 /// Prints what the program tells of the fault: `json J1`, `json J2`, `memory`, or `setup` and the
 /// rule's code.
 impl fmt::Display for TextFault {
@@ -59,10 +74,12 @@ impl fmt::Display for TextFault {
 /// The setup that a text is, which meets every rule of a setup.
 ///
 /// Members of an object that a setup does not have are ignored, and of a name that stands twice
-/// the last value counts.
-#[tactic(auto, unfolding(crate::specs::SetupText::setup_text))]
+/// the last value counts. J3 may come in place of any other answer, but for the text without bytes,
+/// which takes no memory.
+#[tactic(auto, unfolding(crate::specs::SetupText::setup_where))]
 pub fn read_setup(alloc: Global, bytes: &[u8]) -> Result<Setup, TextFault>
-    ensures exact { Reads itself text_fault_is_memory result (setup_text bytes.now) }
+    ensures exact { Reads itself text_fault_is_memory result
+        (λ refused. setup_where refused bytes.now) }
     ensures valid { IfOk result IsValid }
 {
     let tree = read_tree(alloc, bytes)?;
@@ -75,16 +92,7 @@ pub fn read_setup(alloc: Global, bytes: &[u8]) -> Result<Setup, TextFault>
 
 /// The tree of a JSON text.
 fn read_tree(alloc: Global, bytes: &[u8]) -> Result<Value, TextFault>
-    ensures { Reads view text_fault_is_memory result (tree bytes.now) }
+    ensures { Reads view text_fault_is_memory result (λ refused. tree refused bytes.now) }
 {
-    match Value::from_slice(alloc, bytes) {
-        Ok(tree) => Ok(tree),
-        Err(refusal) => {
-            if refusal.is_memory() {
-                Err(TextFault::NoMemory)
-            } else {
-                Err(TextFault::NotJson)
-            }
-        }
-    }
+    Ok(Value::from_slice(alloc, bytes)?)
 }

@@ -154,6 +154,25 @@ pub again4 : {A B C D Z : Type 0} {sa : A → List ℕ} {fa : A → Type 0} {ra 
 again4 {A} {B} {C} {D} {Z} {sa} {fa} {ra} {sb} {fb} {rb} {sc} {fc} {rc} {sd} {fd} {rd} pa pb pc pd make a b c d rest ha hb hc hd =
     ap (reads4 ra rb rc rd make) (append_assoc (sa a ++ sb b ++ sc c) (sd d) rest ∙ append_assoc (sa a ++ sb b) (sc c) (sd d ++ rest) ∙ append_assoc (sa a) (sb b) (sc c ++ (sd d ++ rest))) ∙ rw (pa.again a (sb b ++ (sc c ++ (sd d ++ rest))) ha, pb.again b (sc c ++ (sd d ++ rest)) hb, pc.again c (sd d ++ rest) hc, pd.again d rest hd) refl
 
+abbrev pub reads5 : {A B C D E Z : Type 0} (ra : List ℕ → Reads A) (rb : List ℕ → Reads B) (rc : List ℕ → Reads C) (rd : List ℕ → Reads D) (re : List ℕ → Reads E) → (A → B → C → D → E → Z) → List ℕ → Reads Z
+reads5 ra rb rc rd re make bytes = ra bytes >>= λ xa. (rb xa.1 >>= λ xb. (rc xb.1 >>= λ xc. (rd xc.1 >>= λ xd. (re xd.1 >>= λ xe. Ok (make xa.0 xb.0 xc.0 xd.0 xe.0, xe.1)))))
+
+pub takes5 : {A B C D E Z : Type 0} {sa : A → List ℕ} {fa : A → Type 0} {ra : List ℕ → Reads A} {sb : B → List ℕ} {fb : B → Type 0} {rb : List ℕ → Reads B} {sc : C → List ℕ} {fc : C → Type 0} {rc : List ℕ → Reads C} {sd : D → List ℕ} {fd : D → Type 0} {rd : List ℕ → Reads D} {se : E → List ℕ} {fe : E → Type 0} {re : List ℕ → Reads E} (pa : IsFormat sa fa ra) (pb : IsFormat sb fb rb) (pc : IsFormat sc fc rc) (pd : IsFormat sd fd rd) (pe : IsFormat se fe re) (make : A → B → C → D → E → Z) (spell : Z → List ℕ) (Fits : Z → Type 0)
+    → ((a : A) (b : B) (c : C) (d : D) (e : E) → spell (make a b c d e) ≡ sa a ++ sb b ++ sc c ++ sd d ++ se e) → ((a : A) (b : B) (c : C) (d : D) (e : E) → fa a → fb b → fc c → fd d → fe e → Fits (make a b c d e))
+    → TakesBy spell Fits (reads5 ra rb rc rd re make)
+takes5 {A} {B} {C} {D} {E} {Z} {sa} {fa} {ra} {sb} {fb} {rb} {sc} {fc} {rc} {sd} {fd} {rd} {se} {fe} {re} pa pb pc pd pe make spell Fits spelled fit bytes z rest fits e =
+    first_part pa (λ xa. (rb xa.1 >>= λ xb. (rc xb.1 >>= λ xc. (rd xc.1 >>= λ xd. (re xd.1 >>= λ xe. Ok (make xa.0 xb.0 xc.0 xd.0 xe.0, xe.1)))))) bytes z rest (Takes bytes (spell z) rest × Fits z) fits e (λ a aftera wa ha ea.
+    first_part pb (λ xb. (rc xb.1 >>= λ xc. (rd xc.1 >>= λ xd. (re xd.1 >>= λ xe. Ok (make a xb.0 xc.0 xd.0 xe.0, xe.1))))) aftera z rest (Takes bytes (spell z) rest × Fits z) wa.rest_fits ea (λ b afterb wb hb eb.
+    first_part pc (λ xc. (rd xc.1 >>= λ xd. (re xd.1 >>= λ xe. Ok (make a b xc.0 xd.0 xe.0, xe.1)))) afterb z rest (Takes bytes (spell z) rest × Fits z) wb.rest_fits eb (λ c afterc wc hc ec.
+    first_part pd (λ xd. (re xd.1 >>= λ xe. Ok (make a b c xd.0 xe.0, xe.1))) afterc z rest (Takes bytes (spell z) rest × Fits z) wc.rest_fits ec (λ d afterd wd hd ed.
+    first_part pe (λ xe. Ok (make a b c d xe.0, xe.1)) afterd z rest (Takes bytes (spell z) rest × Fits z) wd.rest_fits ed (λ f afterf wf hf ef.
+    subst (λ (p : Z × List ℕ). Takes bytes (spell p.0) p.1 × Fits p.0) (ok_is (make a b c d f, afterf) (z, rest) ef) (subst (λ (t : List ℕ). Takes bytes t afterf) (sym (spelled a b c d f)) (Takes-then bytes (sa a ++ sb b ++ sc c ++ sd d) afterd (se f) afterf (Takes-then bytes (sa a ++ sb b ++ sc c) afterc (sd d) afterd (Takes-then bytes (sa a ++ sb b) afterb (sc c) afterc (Takes-then bytes (sa a) aftera (sb b) afterb wa wb) wc) wd) wf), fit a b c d f ha hb hc hd hf))))))
+
+pub again5 : {A B C D E Z : Type 0} {sa : A → List ℕ} {fa : A → Type 0} {ra : List ℕ → Reads A} {sb : B → List ℕ} {fb : B → Type 0} {rb : List ℕ → Reads B} {sc : C → List ℕ} {fc : C → Type 0} {rc : List ℕ → Reads C} {sd : D → List ℕ} {fd : D → Type 0} {rd : List ℕ → Reads D} {se : E → List ℕ} {fe : E → Type 0} {re : List ℕ → Reads E} (pa : IsFormat sa fa ra) (pb : IsFormat sb fb rb) (pc : IsFormat sc fc rc) (pd : IsFormat sd fd rd) (pe : IsFormat se fe re) (make : A → B → C → D → E → Z) (a : A) (b : B) (c : C) (d : D) (e : E) (rest : List ℕ) → fa a → fb b → fc c → fd d → fe e
+    → reads5 ra rb rc rd re make ((sa a ++ sb b ++ sc c ++ sd d ++ se e) ++ rest) ≡ Ok (make a b c d e, rest)
+again5 {A} {B} {C} {D} {E} {Z} {sa} {fa} {ra} {sb} {fb} {rb} {sc} {fc} {rc} {sd} {fd} {rd} {se} {fe} {re} pa pb pc pd pe make a b c d e rest ha hb hc hd he =
+    ap (reads5 ra rb rc rd re make) (append_assoc (sa a ++ sb b ++ sc c ++ sd d) (se e) rest ∙ append_assoc (sa a ++ sb b ++ sc c) (sd d) (se e ++ rest) ∙ append_assoc (sa a ++ sb b) (sc c) (sd d ++ (se e ++ rest)) ∙ append_assoc (sa a) (sb b) (sc c ++ (sd d ++ (se e ++ rest)))) ∙ rw (pa.again a (sb b ++ (sc c ++ (sd d ++ (se e ++ rest)))) ha, pb.again b (sc c ++ (sd d ++ (se e ++ rest))) hb, pc.again c (sd d ++ (se e ++ rest)) hc, pd.again d (se e ++ rest) hd, pe.again e rest he) refl
+
 abbrev pub reads6 : {A B C D E F Z : Type 0} (ra : List ℕ → Reads A) (rb : List ℕ → Reads B) (rc : List ℕ → Reads C) (rd : List ℕ → Reads D) (re : List ℕ → Reads E) (rf : List ℕ → Reads F) → (A → B → C → D → E → F → Z) → List ℕ → Reads Z
 reads6 ra rb rc rd re rf make bytes = ra bytes >>= λ xa. (rb xa.1 >>= λ xb. (rc xb.1 >>= λ xc. (rd xc.1 >>= λ xd. (re xd.1 >>= λ xe. (rf xe.1 >>= λ xf. Ok (make xa.0 xb.0 xc.0 xd.0 xe.0 xf.0, xf.1))))))
 

@@ -6,18 +6,19 @@ use Rattle.std.proofs.lemmas.List.{append-nil, length-drop, drop-append-le, take
 use Rattle.byteorder.specs.Endian.{big_number}
 use Rattle.byteorder.specs.Numbers.{big_from-append}
 use Rattle.vr_types.specs.declared.message.MsgOf.TheVariants.{Request, Prepare, PrepareOk, Commit, StartViewChange, DoViewChange, StartView, GetState, NewState, Recovery, RecoveryResponse, Reply, PayOrder}
+use Rattle.vr_types.specs.Messages.{rows_in, known_in}
 use Rattle.pvp_wire.specs.declared.fault.WireFault.{WireFault}
 use Rattle.pvp_wire.specs.declared.fault.WireFault.TheVariants.{Short, TooLong, Version, Kind, Length}
 use Rattle.pvp_wire.specs.declared.stamped.Stamp.{Stamp}
 use Rattle.pvp_wire.specs.declared.stamped.Stamped.{Stamped}
-use Rattle.pvp_wire.specs.Spelling.{number, kind, body, stamp, head, spelling, rows_of, has_client, is_actor, most_body, BankMsg}
+use Rattle.pvp_wire.specs.Spelling.{number, version, kind, body, stamp, head, spelling, has_client, has_site_count, is_actor, most_body, BankMsg}
 use Rattle.pvp_wire.specs.Fits.{IsBytes, Fits, StampFits, IsSpelled}
 use Rattle.pvp_wire.specs.Reading.{◌>>=◌, number_at, stamp_at, envelope_at, all_read, counted_at, frame_where, frame_at, most_length}
 use Rattle.pvp_wire.proofs.Formats.{IsBytes-rest, IsBytes-drop, IsBytes-take, TakesBy, IsFormat, bind_ok, guard_ok, guarded, wanted_ok, not-false, ok_is, fault_is, takes3, again3}
 use Rattle.pvp_wire.proofs.Numbers.{length-number}
 use Rattle.pvp_wire.proofs.Parts.{n4, n8, both, parted, listed_format}
 use Rattle.pvp_wire.proofs.MessageFormats.{IsOfKind, message_format}
-use Rattle.pvp_wire.proofs.Lengths.{length-head, body-short}
+use Rattle.pvp_wire.proofs.Lengths.{length-head, spelled-short}
 
 abbrev pub make_stamp : ℕ → ℕ → ℕ → Stamp
 make_stamp actor clock index = record { actor = actor; clock = clock; index = index }
@@ -28,8 +29,8 @@ IsStamp s = StampFits s × (is_actor s.actor ≡ true)
 stamp_format : IsFormat stamp IsStamp stamp_at
 unfolding stamp_at
 stamp_format = record {
-  takes = takes3 (listed_format is_actor) n8 n4 make_stamp stamp IsStamp (λ a b c. refl) (λ a b c ha hb hc. ((ha.0, hb, hc), ha.1));
-  again = λ s rest h. again3 (listed_format is_actor) n8 n4 make_stamp s.actor s.clock s.index rest (h.0.0, h.1) h.0.1 h.0.2;
+  takes = takes3 (listed_format 2 is_actor) n8 n4 make_stamp stamp IsStamp (λ a b c. refl) (λ a b c ha hb hc. ((ha.0, hb, hc), ha.1));
+  again = λ s rest h. again3 (listed_format 2 is_actor) n8 n4 make_stamp s.actor s.clock s.index rest (h.0.0, h.1) h.0.1 h.0.2;
 }
 
 abbrev pub make_stamped : Stamp → ℕ → BankMsg → Stamped
@@ -46,23 +47,29 @@ record Parts (k : ℕ) (s : Stamped) : Type 0 where
   msg : IsOfKind k s.envelope.msg
   from : s.envelope.from ≡ s.stamp.actor
 
+-- its rows of clients, the boots that it tells of those of 1 to 7 sites
+abbrev is_admitted : BankMsg → Bool
+is_admitted m = list_all has_client (rows_in m) && has_site_count (known_in m)
+
 joined : (k : ℕ) (s : Stamped) → Parts k s → IsSpelled s
 joined k s p = record {
   fits = (p.stamp.0, p.to.0, p.msg.0.0);
-  wireable = both (s.envelope.from == s.stamp.actor) (is_actor s.stamp.actor && (is_actor s.envelope.to && list_all has_client (rows_of s.envelope.msg)))
-      (eq-eqb s.envelope.from s.stamp.actor p.from) (both (is_actor s.stamp.actor) (is_actor s.envelope.to && list_all has_client (rows_of s.envelope.msg)) p.stamp.1 (both (is_actor s.envelope.to) (list_all has_client (rows_of s.envelope.msg)) p.to.1 p.msg.0.1));
+  wireable = both (s.envelope.from == s.stamp.actor) (is_actor s.stamp.actor && (is_actor s.envelope.to && is_admitted s.envelope.msg)) (eq-eqb s.envelope.from s.stamp.actor p.from)
+      (both (is_actor s.stamp.actor) (is_actor s.envelope.to && is_admitted s.envelope.msg) p.stamp.1 (both (is_actor s.envelope.to) (is_admitted s.envelope.msg) p.to.1
+      (both (list_all has_client (rows_in s.envelope.msg)) (has_site_count (known_in s.envelope.msg)) p.msg.0.1.0 p.msg.0.1.1)));
 }
 
 part : (s : Stamped) → IsSpelled s → Parts (kind s.envelope.msg) s
 part s h =
-    let a = parted (s.envelope.from == s.stamp.actor) (is_actor s.stamp.actor && (is_actor s.envelope.to && list_all has_client (rows_of s.envelope.msg))) h.wireable in
-    let b = parted (is_actor s.stamp.actor) (is_actor s.envelope.to && list_all has_client (rows_of s.envelope.msg)) a.1 in
-    let c = parted (is_actor s.envelope.to) (list_all has_client (rows_of s.envelope.msg)) b.1 in
-    record { stamp = (h.fits.0, b.0); to = (h.fits.1, c.0); msg = ((h.fits.2, c.1), refl); from = eqb-true s.envelope.from s.stamp.actor a.0 }
+    let a = parted (s.envelope.from == s.stamp.actor) (is_actor s.stamp.actor && (is_actor s.envelope.to && is_admitted s.envelope.msg)) h.wireable in
+    let b = parted (is_actor s.stamp.actor) (is_actor s.envelope.to && is_admitted s.envelope.msg) a.1 in
+    let c = parted (is_actor s.envelope.to) (is_admitted s.envelope.msg) b.1 in
+    let d = parted (list_all has_client (rows_in s.envelope.msg)) (has_site_count (known_in s.envelope.msg)) c.1 in
+    record { stamp = (h.fits.0, b.0); to = (h.fits.1, c.0); msg = ((h.fits.2, (d.0, d.1)), refl); from = eqb-true s.envelope.from s.stamp.actor a.0 }
 
 envelope-takes : (k : ℕ) → 1 ≤ k → k ≤ 13 → TakesBy inside (Parts k) (envelope_at false k)
 unfolding envelope_at
-envelope-takes k low high = takes3 stamp_format (listed_format is_actor) (message_format k low high) make_stamped inside (Parts k) (λ a b c. refl) (λ a b c ha hb hc. record { stamp = ha; to = hb; msg = hc; from = refl })
+envelope-takes k low high = takes3 stamp_format (listed_format 2 is_actor) (message_format k low high) make_stamped inside (Parts k) (λ a b c. refl) (λ a b c ha hb hc. record { stamp = ha; to = hb; msg = hc; from = refl })
 
 rebuilt : (s : Stamped) → s.envelope.from ≡ s.stamp.actor → make_stamped s.stamp s.envelope.to s.envelope.msg ≡ s
 rebuilt s e = ap (λ (from : ℕ). record { stamp = s.stamp; envelope = record { from = from; to = s.envelope.to; msg = s.envelope.msg } }) (sym e)
@@ -72,13 +79,13 @@ kinds (Request a b) = (omega arith, omega arith)
 kinds (Prepare a b c d) = (omega arith, omega arith)
 kinds (PrepareOk a b) = (omega arith, omega arith)
 kinds (Commit a b) = (omega arith, omega arith)
-kinds (StartViewChange a) = (omega arith, omega arith)
-kinds (DoViewChange a b c d) = (omega arith, omega arith)
+kinds (StartViewChange a b) = (omega arith, omega arith)
+kinds (DoViewChange a b c d e) = (omega arith, omega arith)
 kinds (StartView a b c) = (omega arith, omega arith)
 kinds (GetState a b) = (omega arith, omega arith)
 kinds (NewState a b c d) = (omega arith, omega arith)
 kinds (Recovery a) = (omega arith, omega arith)
-kinds (RecoveryResponse a b c) = (omega arith, omega arith)
+kinds (RecoveryResponse a b c d) = (omega arith, omega arith)
 kinds (Reply a b c) = (omega arith, omega arith)
 kinds (PayOrder a) = (omega arith, omega arith)
 
@@ -87,7 +94,7 @@ unfolding envelope_at
 envelope-again s rest h =
     let p = part s h in
     let b = kinds s.envelope.msg in
-    again3 stamp_format (listed_format is_actor) (message_format (kind s.envelope.msg) b.0 b.1) make_stamped s.stamp s.envelope.to s.envelope.msg rest p.stamp p.to p.msg
+    again3 stamp_format (listed_format 2 is_actor) (message_format (kind s.envelope.msg) b.0 b.1) make_stamped s.stamp s.envelope.to s.envelope.msg rest p.stamp p.to p.msg
     ∙ ap (λ (t : Stamped). Ok (t, rest)) (rebuilt s p.from)
 
 number-parts : (bytes : List ℕ) (n : ℕ) (rest : List ℕ) → number_at 4 bytes ≡ Ok (n, rest) → (big_number 4 bytes ≡ n) × (drop 4 bytes ≡ rest)
@@ -109,21 +116,21 @@ no_bytes (b ∷ bytes) e = absurd (omega arith)
 counted-takes : (bytes : List ℕ) (s : Stamped) → IsBytes bytes → counted_at false bytes ≡ Ok s → (bytes ≡ head s ++ body s.envelope.msg) × IsSpelled s
 unfolding counted_at
 counted-takes [] s fits e = absurd cc
-counted-takes (version ∷ []) s fits e = absurd cc
-counted-takes (version ∷ k ∷ bytes) s fits e =
-    let v = guarded (not (version == 1)) Version (if not (nat_le 1 k && nat_le k 13) then Err Kind else (envelope_at false k bytes >>= all_read)) s e in
+counted-takes (n ∷ []) s fits e = absurd cc
+counted-takes (n ∷ k ∷ bytes) s fits e =
+    let v = guarded (not (n == version)) Version (if not (nat_le 1 k && nat_le k 13) then Err Kind else (envelope_at false k bytes >>= all_read)) s e in
     let w = guarded (not (nat_le 1 k && nat_le k 13)) Kind (envelope_at false k bytes >>= all_read) s v.1 in
-    let version-is : version ≡ 1 = eqb-true version 1 (not-false (version == 1) v.0) in
+    let version-is : n ≡ version = eqb-true n version (not-false (n == version) v.0) in
     let bounds = parted (nat_le 1 k) (nat_le k 13) (not-false (nat_le 1 k && nat_le k 13) w.0) in
     let low : 1 ≤ k = leb-true 1 k bounds.0 in
     let high : k ≤ 13 = leb-true k 13 bounds.1 in
     let m = bind_ok (envelope_at false k bytes) all_read s w.1 in
-    let t = envelope-takes k low high bytes m.0.0 m.0.1 (IsBytes-rest k bytes (IsBytes-rest version (k ∷ bytes) fits)) m.1 in
+    let t = envelope-takes k low high bytes m.0.0 m.0.1 (IsBytes-rest k bytes (IsBytes-rest n (k ∷ bytes) fits)) m.1 in
     let a = all_read-ok m.0 s m.2 in
     let text : bytes ≡ inside m.0.0 = t.0.parts ∙ ap (λ (x : List ℕ). inside m.0.0 ++ x) (no_bytes m.0.1 a.1) ∙ append-nil (inside m.0.0) in
-    let whole : version ∷ k ∷ bytes ≡ head m.0.0 ++ body m.0.0.envelope.msg =
-    ap (λ (n : ℕ). n ∷ k ∷ bytes) version-is ∙ ap (λ (n : ℕ). 1 ∷ n ∷ bytes) (sym t.1.msg.1) ∙ ap (λ (x : List ℕ). 1 ∷ kind m.0.0.envelope.msg ∷ x) text in
-    subst (λ (x : Stamped). (version ∷ k ∷ bytes ≡ head x ++ body x.envelope.msg) × IsSpelled x) a.0 (whole, joined k m.0.0 t.1)
+    let whole : n ∷ k ∷ bytes ≡ head m.0.0 ++ body m.0.0.envelope.msg =
+    ap (λ (v : ℕ). v ∷ k ∷ bytes) version-is ∙ ap (λ (j : ℕ). version ∷ j ∷ bytes) (sym t.1.msg.1) ∙ ap (λ (x : List ℕ). version ∷ kind m.0.0.envelope.msg ∷ x) text in
+    subst (λ (x : Stamped). (n ∷ k ∷ bytes ≡ head x ++ body x.envelope.msg) × IsSpelled x) a.0 (whole, joined k m.0.0 t.1)
 
 counted-again : (s : Stamped) → IsSpelled s → counted_at false (head s ++ body s.envelope.msg) ≡ Ok s
 unfolding counted_at
@@ -200,7 +207,7 @@ frame-again s rest h =
     let len = 18 + length (body msg) in
     let inner = head s ++ body msg in
     let bytes = spelling s ++ rest in
-    let short : length (body msg) ≤ most_body = body-short msg h.fits.2 in
+    let short : length (body msg) ≤ most_body = spelled-short s h.fits.2 h.wireable in
     let fits : len < 256 ^ 4 = omega (arith, short) in
     let inner-len : length inner ≡ len = omega (arith, length-append (head s) (body msg), length-head s) in
     let shape : bytes ≡ number 4 len ++ (inner ++ rest) =

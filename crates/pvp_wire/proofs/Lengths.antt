@@ -1,17 +1,31 @@
 -- How long frames are.
-use Rattle.std.proofs.Common.{◌≡◌, ℕ, ◌+◌, ◌*◌, ◌<◌, ◌≤◌, List, [], ◌∷◌, ◌++◌, length, Option, Some, None, arith}
-use Rattle.std.specs.List.{flat_map}
+use Rattle.std.proofs.Common.{◌≡◌, ℕ, ◌+◌, ◌*◌, ◌<◌, ◌≤◌, ◌==◌, ◌&&◌, nat_le, Bool, true, false, List, [], ◌∷◌, ◌++◌, length, Option, Some, None, arith}
+use Rattle.std.specs.List.{flat_map, list_all}
+use Rattle.std.proofs.lemmas.Bool.{leb-true}
 use Rattle.std.proofs.lemmas.List.{length-append}
 use Rattle.pvp_types.specs.declared.command.Cmd.{Cmd}
-use Rattle.pvp_types.specs.declared.command.Cmd.TheVariants.{Instruct, Rescind, Fund, Settle, PayOut, Paid}
+use Rattle.pvp_types.specs.declared.command.Cmd.TheVariants.{Instruct, Rescind, Fund, Settle, PayOut, Paid, Returned}
 use Rattle.pvp_types.specs.declared.command.Reply as replies
 use Rattle.pvp_types.specs.declared.command.Reply.TheVariants.{Done, Matched, Settled, Order, No}
 use Rattle.vr_types.specs.declared.message.MsgOf.TheVariants.{Request, Prepare, PrepareOk, Commit, StartViewChange, DoViewChange, StartView, GetState, NewState, Recovery, RecoveryResponse, Reply, PayOrder}
 use Rattle.vr_types.specs.declared.message.StateOf.{StateOf}
+use Rattle.vr_types.specs.Messages.{rows_in, known_in}
 use Rattle.pvp_wire.specs.declared.stamped.Stamped.{Stamped}
-use Rattle.pvp_wire.specs.Spelling.{number, command, reply, row, rows, state, body, head, stamp, most_command, most_row, most_rows, most_body, BankMsg, BankRow}
+use Rattle.pvp_wire.specs.Spelling.{number, command, reply, row, rows, boots, state, body, head, stamp, most_command, most_row, most_rows, most_boots, most_body, BankMsg, BankRow, is_actor, has_client, is_site_count, has_site_count, is_wireable}
 use Rattle.pvp_wire.specs.Fits.{MessageFits, StateFits}
 use Rattle.pvp_wire.proofs.Numbers.{length-number}
+
+and_right : (a b : Bool) → (a && b) ≡ true → b ≡ true
+and_right true b h = h
+and_right false b h = absurd cc
+
+-- the boots that it tells of are those of 1 to 7 sites
+pub site_counted : (s : Stamped) → is_wireable s ≡ true → has_site_count (known_in s.envelope.msg) ≡ true
+site_counted s h =
+    let a = and_right (s.envelope.from == s.stamp.actor) (is_actor s.stamp.actor && (is_actor s.envelope.to && (list_all has_client (rows_in s.envelope.msg) && has_site_count (known_in s.envelope.msg)))) h in
+    let b = and_right (is_actor s.stamp.actor) (is_actor s.envelope.to && (list_all has_client (rows_in s.envelope.msg) && has_site_count (known_in s.envelope.msg))) a in
+    let c = and_right (is_actor s.envelope.to) (list_all has_client (rows_in s.envelope.msg) && has_site_count (known_in s.envelope.msg)) b in
+    and_right (list_all has_client (rows_in s.envelope.msg)) (has_site_count (known_in s.envelope.msg)) c
 
 -- two parts
 two : (a b : List ℕ) (m n : ℕ) → length a ≤ m → length b ≤ n → length (a ++ b) ≤ m + n
@@ -29,6 +43,7 @@ command-short (Fund a b c d) = omega (arith, two _ _ _ _ (two _ _ _ _ (two _ _ _
 command-short (Settle a) = omega (arith, num 4 a)
 command-short (PayOut a b) = omega (arith, two _ _ _ _ (num 1 a) (num 8 b))
 command-short (Paid a b) = omega (arith, two _ _ _ _ (num 1 a) (num 4 b))
+command-short (Returned a b) = omega (arith, two _ _ _ _ (num 1 a) (num 4 b))
 
 reply-short : (r : replies.Reply) → length (reply r) ≤ 5
 reply-short Done = omega arith
@@ -53,27 +68,40 @@ state-short (Some s) h =
     let few : length s.rows < 65536 = h.1.0 in
     omega (arith, two _ _ _ _ (num 2 s.done) (rows-short s.rows few))
 
+each_boot-short : (known : List ℕ) → length (flat_map (number 4) known) ≤ 4 * length known
+each_boot-short [] = omega arith
+each_boot-short (n ∷ known) = omega (arith, length-append (number 4 n) (flat_map (number 4) known), num 4 n, each_boot-short known)
+
+boots-short : (known : List ℕ) → is_site_count (length known) ≡ true → length (boots known) ≤ most_boots
+boots-short known h =
+    let few : length known ≤ 7 = leb-true (length known) 7 (and_right (nat_le 1 (length known)) (nat_le (length known) 7) h) in
+    omega (arith, two _ _ _ _ (num 1 (length known)) (each_boot-short known))
+
 -- a message that fits takes less than a frame may
-pub body-short : (m : BankMsg) → MessageFits m → length (body m) ≤ most_body
-body-short (Request a b) h = omega (arith, two _ _ _ _ (num 4 a) (command-short b))
-body-short (Prepare a b c d) h = omega (arith, two _ _ _ _ (two _ _ _ _ (two _ _ _ _ (num 4 a) (num 2 b)) (num 2 c)) (row-short d))
-body-short (PrepareOk a b) h = omega (arith, two _ _ _ _ (num 4 a) (num 2 b))
-body-short (Commit a b) h = omega (arith, two _ _ _ _ (num 4 a) (num 2 b))
-body-short (StartViewChange a) h = omega (arith, num 4 a)
-body-short (DoViewChange a b c d) h =
-    let few : length d < 65536 = h.3.0 in
-    omega (arith, two _ _ _ _ (two _ _ _ _ (two _ _ _ _ (num 4 a) (num 4 b)) (num 2 c)) (rows-short d few))
-body-short (StartView a b c) h =
+pub body-short : (m : BankMsg) → MessageFits m → has_site_count (known_in m) ≡ true → length (body m) ≤ most_body
+body-short (Request a b) h k = omega (arith, two _ _ _ _ (num 4 a) (command-short b))
+body-short (Prepare a b c d) h k = omega (arith, two _ _ _ _ (two _ _ _ _ (two _ _ _ _ (num 4 a) (num 2 b)) (num 2 c)) (row-short d))
+body-short (PrepareOk a b) h k = omega (arith, two _ _ _ _ (num 4 a) (num 2 b))
+body-short (Commit a b) h k = omega (arith, two _ _ _ _ (num 4 a) (num 2 b))
+body-short (StartViewChange a b) h k = omega (arith, two _ _ _ _ (num 4 a) (boots-short b k))
+body-short (DoViewChange a b c d e) h k =
+    let few : length d < 65536 = h.4.0 in
+    omega (arith, two _ _ _ _ (two _ _ _ _ (two _ _ _ _ (two _ _ _ _ (num 4 a) (num 4 b)) (num 2 c)) (boots-short e k)) (rows-short d few))
+body-short (StartView a b c) h k =
     let few : length c < 65536 = h.2.0 in
     omega (arith, two _ _ _ _ (two _ _ _ _ (num 4 a) (num 2 b)) (rows-short c few))
-body-short (GetState a b) h = omega (arith, two _ _ _ _ (num 4 a) (num 2 b))
-body-short (NewState a b c d) h =
+body-short (GetState a b) h k = omega (arith, two _ _ _ _ (num 4 a) (num 2 b))
+body-short (NewState a b c d) h k =
     let few : length d < 65536 = h.3.0 in
     omega (arith, two _ _ _ _ (two _ _ _ _ (two _ _ _ _ (num 4 a) (num 2 b)) (num 2 c)) (rows-short d few))
-body-short (Recovery a) h = omega (arith, num 4 a)
-body-short (RecoveryResponse a b c) h = omega (arith, two _ _ _ _ (two _ _ _ _ (num 4 a) (num 4 b)) (state-short c h.2))
-body-short (Reply a b c) h = omega (arith, two _ _ _ _ (two _ _ _ _ (num 4 a) (num 4 b)) (reply-short c))
-body-short (PayOrder a) h = omega (arith, two _ _ _ _ (two _ _ _ _ (two _ _ _ _ (num 1 a.ccy) (num 4 a.out)) (num 2 a.member)) (num 8 a.amt))
+body-short (Recovery a) h k = omega (arith, num 4 a)
+body-short (RecoveryResponse a b c d) h k = omega (arith, two _ _ _ _ (two _ _ _ _ (two _ _ _ _ (num 4 a) (num 4 b)) (boots-short d k)) (state-short c h.3))
+body-short (Reply a b c) h k = omega (arith, two _ _ _ _ (two _ _ _ _ (num 4 a) (num 4 b)) (reply-short c))
+body-short (PayOrder a) h k = omega (arith, two _ _ _ _ (two _ _ _ _ (two _ _ _ _ (num 1 a.ccy) (num 4 a.out)) (num 2 a.member)) (num 8 a.amt))
+
+-- of an envelope that has a spelling
+pub spelled-short : (s : Stamped) → MessageFits s.envelope.msg → is_wireable s ≡ true → length (body s.envelope.msg) ≤ most_body
+spelled-short s h wireable = body-short s.envelope.msg h (site_counted s wireable)
 
 -- a head has 18 bytes
 pub length-head : (s : Stamped) → length (head s) ≡ 18

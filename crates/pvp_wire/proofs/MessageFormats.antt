@@ -4,11 +4,12 @@ use Rattle.std.specs.List.{list_all}
 use Rattle.pvp_types.specs.declared.command.Cmd.{Cmd}
 use Rattle.vr_types.specs.declared.message.MsgOf.TheVariants.{Request, Prepare, PrepareOk, Commit, StartViewChange, DoViewChange, StartView, GetState, NewState, Recovery, RecoveryResponse, Reply, PayOrder}
 use Rattle.vr_types.specs.declared.message.StateOf.{StateOf}
-use Rattle.pvp_wire.specs.Spelling.{number, kind, body, state, rows_of, rows_of_state, BankMsg, BankRow, has_client}
+use Rattle.vr_types.specs.Messages.{rows_in, rows_of_state, known_in}
+use Rattle.pvp_wire.specs.Spelling.{number, kind, body, state, BankMsg, BankRow, has_client, has_site_count}
 use Rattle.pvp_wire.specs.Fits.{Fits, StateFits, MessageFits}
-use Rattle.pvp_wire.specs.Reading.{◌>>=◌, Reads, number_at, request_at, prepare_at, view_and_place_at, do_view_change_at, start_view_at, new_state_at, recovery_response_at, answer_at, order_at, state_at, option_at, message_at}
-use Rattle.pvp_wire.proofs.Formats.{IsBytes-rest, Takes, TakesBy, IsFormat, ok_is, takes1, takes2, takes3, takes4, again1, again2, again3, again4}
-use Rattle.pvp_wire.proofs.Parts.{off, tagged, refused, never, n2, n4, both, parted, command_format, reply_format, order_format, row_format, rows_format}
+use Rattle.pvp_wire.specs.Reading.{◌>>=◌, Reads, number_at, request_at, prepare_at, view_and_place_at, start_view_change_at, do_view_change_at, start_view_at, new_state_at, recovery_response_at, answer_at, order_at, state_at, option_at, message_at}
+use Rattle.pvp_wire.proofs.Formats.{IsBytes-rest, Takes, TakesBy, IsFormat, ok_is, takes1, takes2, takes3, takes4, takes5, again1, again2, again3, again4, again5}
+use Rattle.pvp_wire.proofs.Parts.{off, tagged, refused, never, n2, n4, both, parted, command_format, reply_format, order_format, row_format, rows_format, boots_format}
 
 -- ---- the state of a view
 
@@ -75,9 +76,9 @@ pair_format = record {
   again = λ p rest h. again2 n4 n2 make_pair p.0 p.1 rest h.0 h.1;
 }
 
--- a message that fits, its rows of clients
+-- a message that fits, its rows of clients, the boots that it tells of those of 1 to 7 sites
 abbrev pub IsMessage : BankMsg → Type 0
-IsMessage m = MessageFits m × (list_all has_client (rows_of m) ≡ true)
+IsMessage m = MessageFits m × ((list_all has_client (rows_in m) ≡ true) × (has_site_count (known_in m) ≡ true))
 
 -- the same, of a kind
 abbrev pub IsOfKind : ℕ → BankMsg → Type 0
@@ -85,49 +86,57 @@ IsOfKind k m = IsMessage m × (kind m ≡ k)
 
 prepare-takes : TakesBy body (IsOfKind 2) prepare_at
 unfolding prepare_at
-prepare-takes = takes4 n4 n2 n2 row_format Prepare body (IsOfKind 2) (λ a b c d. refl) (λ a b c d ha hb hc hd. (((ha, hb, hc, hd.0), both (has_client d) true hd.1 refl), refl))
+prepare-takes = takes4 n4 n2 n2 row_format Prepare body (IsOfKind 2) (λ a b c d. refl) (λ a b c d ha hb hc hd. (((ha, hb, hc, hd.0), (both (has_client d) true hd.1 refl, refl)), refl))
 
 request-takes : TakesBy body (IsOfKind 1) request_at
 unfolding request_at
-request-takes = takes2 n4 command_format Request body (IsOfKind 1) (λ a b. refl) (λ a b ha hb. (((ha, hb), refl), refl))
+request-takes = takes2 n4 command_format Request body (IsOfKind 1) (λ a b. refl) (λ a b ha hb. (((ha, hb), (refl, refl)), refl))
+
+-- as the fields of these stand in a frame
+abbrev pub make_vote : ℕ → ℕ → ℕ → List ℕ → List BankRow → BankMsg
+make_vote view last_normal k known log = DoViewChange view last_normal k log known
+
+abbrev pub make_response : ℕ → ℕ → List ℕ → Option (StateOf Cmd) → BankMsg
+make_response view nonce known s = RecoveryResponse view nonce s known
+
+start_view_change-takes : TakesBy body (IsOfKind 5) (start_view_change_at false)
+unfolding start_view_change_at
+start_view_change-takes = takes2 n4 boots_format StartViewChange body (IsOfKind 5) (λ a b. refl) (λ a b ha hb. (((ha, hb.0), (refl, hb.1)), refl))
 
 do_view_change-takes : TakesBy body (IsOfKind 6) (do_view_change_at false)
 unfolding do_view_change_at
-do_view_change-takes = takes4 n4 n4 n2 rows_format DoViewChange body (IsOfKind 6) (λ a b c d. refl) (λ a b c d ha hb hc hd. (((ha, hb, hc, hd.0), hd.1), refl))
+do_view_change-takes = takes5 n4 n4 n2 boots_format rows_format make_vote body (IsOfKind 6) (λ a b c d e. refl) (λ a b c d e ha hb hc hd he. (((ha, hb, hc, hd.0, he.0), (he.1, hd.1)), refl))
 
 start_view-takes : TakesBy body (IsOfKind 7) (start_view_at false)
 unfolding start_view_at
-start_view-takes = takes3 n4 n2 rows_format StartView body (IsOfKind 7) (λ a b c. refl) (λ a b c ha hb hc. (((ha, hb, hc.0), hc.1), refl))
+start_view-takes = takes3 n4 n2 rows_format StartView body (IsOfKind 7) (λ a b c. refl) (λ a b c ha hb hc. (((ha, hb, hc.0), (hc.1, refl)), refl))
 
 new_state-takes : TakesBy body (IsOfKind 9) (new_state_at false)
 unfolding new_state_at
-new_state-takes = takes4 n4 n2 n2 rows_format NewState body (IsOfKind 9) (λ a b c d. refl) (λ a b c d ha hb hc hd. (((ha, hb, hc, hd.0), hd.1), refl))
+new_state-takes = takes4 n4 n2 n2 rows_format NewState body (IsOfKind 9) (λ a b c d. refl) (λ a b c d ha hb hc hd. (((ha, hb, hc, hd.0), (hd.1, refl)), refl))
 
 recovery_response-takes : TakesBy body (IsOfKind 11) (recovery_response_at false)
 unfolding recovery_response_at
-recovery_response-takes = takes3 n4 n4 option_format RecoveryResponse body (IsOfKind 11) (λ a b c. refl) (λ a b c ha hb hc. (((ha, hb, hc.0), hc.1), refl))
+recovery_response-takes = takes4 n4 n4 boots_format option_format make_response body (IsOfKind 11) (λ a b c d. refl) (λ a b c d ha hb hc hd. (((ha, hb, hc.0, hd.0), (hd.1, hc.1)), refl))
 
 answer-takes : TakesBy body (IsOfKind 12) answer_at
 unfolding answer_at
-answer-takes = takes3 n4 n4 reply_format Reply body (IsOfKind 12) (λ a b c. refl) (λ a b c ha hb hc. (((ha, hb, hc), refl), refl))
+answer-takes = takes3 n4 n4 reply_format Reply body (IsOfKind 12) (λ a b c. refl) (λ a b c ha hb hc. (((ha, hb, hc), (refl, refl)), refl))
 
 prepare_ok-takes : TakesBy body (IsOfKind 3) (λ bytes. view_and_place_at bytes >>= λ x. Ok (PrepareOk x.0.0 x.0.1, x.1))
-prepare_ok-takes = takes1 pair_format (λ p. PrepareOk p.0 p.1) body (IsOfKind 3) (λ p. refl) (λ p h. ((h, refl), refl))
+prepare_ok-takes = takes1 pair_format (λ p. PrepareOk p.0 p.1) body (IsOfKind 3) (λ p. refl) (λ p h. ((h, (refl, refl)), refl))
 
 commit-takes : TakesBy body (IsOfKind 4) (λ bytes. view_and_place_at bytes >>= λ x. Ok (Commit x.0.0 x.0.1, x.1))
-commit-takes = takes1 pair_format (λ p. Commit p.0 p.1) body (IsOfKind 4) (λ p. refl) (λ p h. ((h, refl), refl))
+commit-takes = takes1 pair_format (λ p. Commit p.0 p.1) body (IsOfKind 4) (λ p. refl) (λ p h. ((h, (refl, refl)), refl))
 
 get_state-takes : TakesBy body (IsOfKind 8) (λ bytes. view_and_place_at bytes >>= λ x. Ok (GetState x.0.0 x.0.1, x.1))
-get_state-takes = takes1 pair_format (λ p. GetState p.0 p.1) body (IsOfKind 8) (λ p. refl) (λ p h. ((h, refl), refl))
-
-start_view_change-takes : TakesBy body (IsOfKind 5) (λ bytes. number_at 4 bytes >>= λ view. Ok (StartViewChange view.0, view.1))
-start_view_change-takes = takes1 n4 StartViewChange body (IsOfKind 5) (λ a. refl) (λ a h. ((h, refl), refl))
+get_state-takes = takes1 pair_format (λ p. GetState p.0 p.1) body (IsOfKind 8) (λ p. refl) (λ p h. ((h, (refl, refl)), refl))
 
 recovery-takes : TakesBy body (IsOfKind 10) (λ bytes. number_at 4 bytes >>= λ nonce. Ok (Recovery nonce.0, nonce.1))
-recovery-takes = takes1 n4 Recovery body (IsOfKind 10) (λ a. refl) (λ a h. ((h, refl), refl))
+recovery-takes = takes1 n4 Recovery body (IsOfKind 10) (λ a. refl) (λ a h. ((h, (refl, refl)), refl))
 
 pay_order-takes : TakesBy body (IsOfKind 13) (λ bytes. order_at bytes >>= λ due. Ok (PayOrder due.0, due.1))
-pay_order-takes = takes1 order_format PayOrder body (IsOfKind 13) (λ a. refl) (λ a h. ((h, refl), refl))
+pay_order-takes = takes1 order_format PayOrder body (IsOfKind 13) (λ a. refl) (λ a h. ((h, (refl, refl)), refl))
 
 message-takes : (k : ℕ) → 1 ≤ k → k ≤ 13 → TakesBy body (IsOfKind k) (message_at false k)
 unfolding message_at
@@ -148,18 +157,18 @@ message-takes (suc (suc (suc (suc (suc (suc (suc (suc (suc (suc (suc (suc (suc z
 message-takes (suc (suc (suc (suc (suc (suc (suc (suc (suc (suc (suc (suc (suc (suc n)))))))))))))) low high bytes m rest fits e = absurd (omega arith)
 
 message-again : (m : BankMsg) (rest : List ℕ) → IsMessage m → message_at false (kind m) (body m ++ rest) ≡ Ok (m, rest)
-unfolding message_at request_at prepare_at do_view_change_at start_view_at new_state_at recovery_response_at answer_at
+unfolding message_at request_at prepare_at start_view_change_at do_view_change_at start_view_at new_state_at recovery_response_at answer_at
 message-again (Request a b) rest h = again2 n4 command_format Request a b rest h.0.0 h.0.1
-message-again (Prepare a b c d) rest h = again4 n4 n2 n2 row_format Prepare a b c d rest h.0.0 h.0.1 h.0.2 (h.0.3, (parted (has_client d) true h.1).0)
+message-again (Prepare a b c d) rest h = again4 n4 n2 n2 row_format Prepare a b c d rest h.0.0 h.0.1 h.0.2 (h.0.3, (parted (has_client d) true h.1.0).0)
 message-again (PrepareOk a b) rest h = again1 pair_format (λ p. PrepareOk p.0 p.1) (a, b) rest h.0
 message-again (Commit a b) rest h = again1 pair_format (λ p. Commit p.0 p.1) (a, b) rest h.0
-message-again (StartViewChange a) rest h = again1 n4 StartViewChange a rest h.0
-message-again (DoViewChange a b c d) rest h = again4 n4 n4 n2 rows_format DoViewChange a b c d rest h.0.0 h.0.1 h.0.2 (h.0.3, h.1)
-message-again (StartView a b c) rest h = again3 n4 n2 rows_format StartView a b c rest h.0.0 h.0.1 (h.0.2, h.1)
+message-again (StartViewChange a b) rest h = again2 n4 boots_format StartViewChange a b rest h.0.0 (h.0.1, h.1.1)
+message-again (DoViewChange a b c d e) rest h = again5 n4 n4 n2 boots_format rows_format make_vote a b c e d rest h.0.0 h.0.1 h.0.2 (h.0.3, h.1.1) (h.0.4, h.1.0)
+message-again (StartView a b c) rest h = again3 n4 n2 rows_format StartView a b c rest h.0.0 h.0.1 (h.0.2, h.1.0)
 message-again (GetState a b) rest h = again1 pair_format (λ p. GetState p.0 p.1) (a, b) rest h.0
-message-again (NewState a b c d) rest h = again4 n4 n2 n2 rows_format NewState a b c d rest h.0.0 h.0.1 h.0.2 (h.0.3, h.1)
+message-again (NewState a b c d) rest h = again4 n4 n2 n2 rows_format NewState a b c d rest h.0.0 h.0.1 h.0.2 (h.0.3, h.1.0)
 message-again (Recovery a) rest h = again1 n4 Recovery a rest h.0
-message-again (RecoveryResponse a b c) rest h = again3 n4 n4 option_format RecoveryResponse a b c rest h.0.0 h.0.1 (h.0.2, h.1)
+message-again (RecoveryResponse a b c d) rest h = again4 n4 n4 boots_format option_format make_response a b d c rest h.0.0 h.0.1 (h.0.2, h.1.1) (h.0.3, h.1.0)
 message-again (Reply a b c) rest h = again3 n4 n4 reply_format Reply a b c rest h.0.0 h.0.1 h.0.2
 message-again (PayOrder a) rest h = again1 order_format PayOrder a rest h.0
 

@@ -1,12 +1,12 @@
 -- Commands, answers, orders and rows: what is taken is spelled so, and what is spelled so is read again.
-use Rattle.std.proofs.Common.{◌≡◌, ℕ, zero, suc, ◌+◌, ◌<◌, ◌==◌, Bool, true, false, ◌&&◌, List, [], ◌∷◌, ◌++◌, length, get_or, take, drop, Ok, Err, refl, sym, ap, ◌∙◌, subst, if◌then◌else◌, append_assoc, arith}
+use Rattle.std.proofs.Common.{◌≡◌, ℕ, zero, suc, ◌+◌, ◌<◌, ◌≤◌, ◌==◌, nat_le, Bool, true, false, ◌&&◌, List, [], ◌∷◌, ◌++◌, length, get_or, take, drop, Ok, Err, refl, sym, ap, ◌∙◌, subst, if◌then◌else◌, append_assoc, arith}
 use Rattle.std.specs.List.{flat_map, list_all}
 use Rattle.std.proofs.Math.Seq.{take-suc}
 use Rattle.std.proofs.lemmas.Grind.{flat_map-append}
 use Rattle.std.proofs.lemmas.List.{append-nil}
-use Rattle.std.proofs.lemmas.Bool.{ne_eqb}
+use Rattle.std.proofs.lemmas.Bool.{ne_eqb, leb-true}
 use Rattle.pvp_types.specs.declared.command.Cmd.{Cmd}
-use Rattle.pvp_types.specs.declared.command.Cmd.TheVariants.{Instruct, Rescind, Fund, Settle, PayOut, Paid}
+use Rattle.pvp_types.specs.declared.command.Cmd.TheVariants.{Instruct, Rescind, Fund, Settle, PayOut, Paid, Returned}
 use Rattle.pvp_types.specs.declared.command.PayOrder as orders
 use Rattle.pvp_types.specs.declared.command.Reason.{Reason}
 use Rattle.pvp_types.specs.declared.command.Reason.TheVariants as reason
@@ -14,9 +14,9 @@ use Rattle.pvp_types.specs.declared.command.Reply as replies
 use Rattle.pvp_types.specs.declared.command.Reply.TheVariants.{Done, Matched, Settled, Order, No}
 use Rattle.vr_types.specs.Group.{is_client}
 use Rattle.pvp_wire.specs.declared.fault.WireFault.TheVariants.{Field}
-use Rattle.pvp_wire.specs.Spelling.{number, command, reply, reason_number, order, row, rows, BankRow, has_client}
-use Rattle.pvp_wire.specs.Fits.{IsBytes, Fits, CommandFits, ReplyFits, OrderFits, RowFits, EachFits, RowsFit}
-use Rattle.pvp_wire.specs.Reading.{◌>>=◌, Reads, number_at, listed_at, instruct_at, fund_at, pay_out_at, paid_at, command_at, reason_at, reply_at, order_at, row_at, rows_from, rows_at}
+use Rattle.pvp_wire.specs.Spelling.{number, command, reply, reason_number, order, row, rows, boots, BankRow, has_client, is_site_count}
+use Rattle.pvp_wire.specs.Fits.{IsBytes, Fits, CommandFits, ReplyFits, OrderFits, RowFits, EachFits, RowsFit, BootsFit}
+use Rattle.pvp_wire.specs.Reading.{◌>>=◌, Reads, number_at, listed_at, instruct_at, fund_at, pay_out_at, paid_at, returned_at, command_at, reason_at, reply_at, order_at, row_at, items_from, rows_at, boots_at}
 use Rattle.pvp_wire.proofs.Formats.{IsBytes-rest, Takes, Takes-then, TakesBy, IsFormat, bind_ok, wanted_ok, done, ok_is, takes1, takes2, takes3, takes4, takes6, again1, again2, again3, again4, again6}
 use Rattle.pvp_wire.proofs.Numbers.{number_format}
 
@@ -60,6 +60,9 @@ pay_out-takes = takes2 n1 n8 PayOut fields (IsTagged 5) (λ a b. refl) (λ a b h
 paid-takes : TakesBy fields (IsTagged 6) paid_at
 paid-takes = takes2 n1 n4 Paid fields (IsTagged 6) (λ a b. refl) (λ a b ha hb. record { fits = (ha, hb); text = refl })
 
+returned-takes : TakesBy fields (IsTagged 7) returned_at
+returned-takes = takes2 n1 n4 Returned fields (IsTagged 7) (λ a b. refl) (λ a b ha hb. record { fits = (ha, hb); text = refl })
+
 rescind-takes : TakesBy fields (IsTagged 2) (λ bytes. number_at 4 bytes >>= λ reference. Ok (Rescind reference.0, reference.1))
 rescind-takes = takes1 n4 Rescind fields (IsTagged 2) (λ a. refl) (λ a ha. record { fits = ha; text = refl })
 
@@ -79,8 +82,8 @@ off n k lt = ne_eqb n k (λ e. absurd (omega arith))
 never5 : {A : Type 0} (a b c d f : Reads A) (tag : ℕ) (x : A × List ℕ) → 5 < tag → (if tag == 1 then a else if tag == 2 then b else if tag == 3 then c else if tag == 4 then d else if tag == 5 then f else refused) ≡ Ok x → ⊥
 never5 a b c d f tag x above e = never x (rw (off tag 1 (omega arith), off tag 2 (omega arith), off tag 3 (omega arith), off tag 4 (omega arith), off tag 5 (omega arith)) at e)
 
-never6 : {A : Type 0} (a b c d f g : Reads A) (tag : ℕ) (x : A × List ℕ) → 6 < tag → (if tag == 1 then a else if tag == 2 then b else if tag == 3 then c else if tag == 4 then d else if tag == 5 then f else if tag == 6 then g else refused) ≡ Ok x → ⊥
-never6 a b c d f g tag x above e = never x (rw (off tag 1 (omega arith), off tag 2 (omega arith), off tag 3 (omega arith), off tag 4 (omega arith), off tag 5 (omega arith), off tag 6 (omega arith)) at e)
+never7 : {A : Type 0} (a b c d f g h : Reads A) (tag : ℕ) (x : A × List ℕ) → 7 < tag → (if tag == 1 then a else if tag == 2 then b else if tag == 3 then c else if tag == 4 then d else if tag == 5 then f else if tag == 6 then g else if tag == 7 then h else refused) ≡ Ok x → ⊥
+never7 a b c d f g h tag x above e = never x (rw (off tag 1 (omega arith), off tag 2 (omega arith), off tag 3 (omega arith), off tag 4 (omega arith), off tag 5 (omega arith), off tag 6 (omega arith), off tag 7 (omega arith)) at e)
 
 never11 : {A : Type 0} (a b c d f g h i j k l : Reads A) (tag : ℕ) (x : A × List ℕ) → 11 < tag → (if tag == 1 then a else if tag == 2 then b else if tag == 3 then c else if tag == 4 then d else if tag == 5 then f else if tag == 6 then g else if tag == 7 then h else if tag == 8 then i else if tag == 9 then j else if tag == 10 then k else if tag == 11 then l else refused) ≡ Ok x → ⊥
 never11 a b c d f g h i j k l tag x above e = never x (rw (off tag 1 (omega arith), off tag 2 (omega arith), off tag 3 (omega arith), off tag 4 (omega arith), off tag 5 (omega arith), off tag 6 (omega arith), off tag 7 (omega arith), off tag 8 (omega arith), off tag 9 (omega arith), off tag 10 (omega arith), off tag 11 (omega arith)) at e)
@@ -95,7 +98,8 @@ command-takes (suc (suc (suc zero)) ∷ bytes) cmd rest fits e = finish 3 bytes 
 command-takes (suc (suc (suc (suc zero))) ∷ bytes) cmd rest fits e = finish 4 bytes cmd rest (settle-takes bytes cmd rest (IsBytes-rest 4 bytes fits) e)
 command-takes (suc (suc (suc (suc (suc zero)))) ∷ bytes) cmd rest fits e = finish 5 bytes cmd rest (pay_out-takes bytes cmd rest (IsBytes-rest 5 bytes fits) e)
 command-takes (suc (suc (suc (suc (suc (suc zero))))) ∷ bytes) cmd rest fits e = finish 6 bytes cmd rest (paid-takes bytes cmd rest (IsBytes-rest 6 bytes fits) e)
-command-takes (suc (suc (suc (suc (suc (suc (suc tag)))))) ∷ bytes) cmd rest fits e = absurd (never6 _ _ _ _ _ _ (suc (suc (suc (suc (suc (suc (suc tag))))))) (cmd, rest) (omega arith) e)
+command-takes (suc (suc (suc (suc (suc (suc (suc zero)))))) ∷ bytes) cmd rest fits e = finish 7 bytes cmd rest (returned-takes bytes cmd rest (IsBytes-rest 7 bytes fits) e)
+command-takes (suc (suc (suc (suc (suc (suc (suc (suc tag))))))) ∷ bytes) cmd rest fits e = absurd (never7 _ _ _ _ _ _ _ (suc (suc (suc (suc (suc (suc (suc (suc tag)))))))) (cmd, rest) (omega arith) e)
 
 command-again : (cmd : Cmd) (rest : List ℕ) → CommandFits cmd → command_at (command cmd ++ rest) ≡ Ok (cmd, rest)
 unfolding command_at
@@ -105,6 +109,7 @@ command-again (Fund a b c d) rest h = again4 n1 n4 n2 n8 Fund a b c d rest h.0 h
 command-again (Settle a) rest h = again1 n4 Settle a rest h
 command-again (PayOut a b) rest h = again2 n1 n8 PayOut a b rest h.0 h.1
 command-again (Paid a b) rest h = again2 n1 n4 Paid a b rest h.0 h.1
+command-again (Returned a b) rest h = again2 n1 n4 Returned a b rest h.0 h.1
 
 pub command_format : IsFormat command CommandFits command_at
 command_format = record { takes = command-takes; again = command-again }
@@ -213,14 +218,14 @@ order_format = record {
 }
 
 -- a number of a list
-pub listed_format : (is_listed : ℕ → Bool) → IsFormat (number 2) (λ x. Fits 2 x × (is_listed x ≡ true)) (listed_at is_listed)
-listed_format is_listed = record {
+pub listed_format : (n : ℕ) (is_listed : ℕ → Bool) → IsFormat (number n) (λ x. Fits n x × (is_listed x ≡ true)) (listed_at n is_listed)
+listed_format n is_listed = record {
   takes = λ bytes x rest fits e.
-      let m = bind_ok (number_at 2 bytes) (λ n. if is_listed n.0 then Ok n else Err Field) (x, rest) e in
-      let t = n2.takes bytes m.0.0 m.0.1 fits m.1 in
+      let m = bind_ok (number_at n bytes) (λ y. if is_listed y.0 then Ok y else Err Field) (x, rest) e in
+      let t = (number_format n).takes bytes m.0.0 m.0.1 fits m.1 in
       let g = wanted_ok (is_listed m.0.0) Field m.0 (x, rest) m.2 in
-      subst (λ (p : ℕ × List ℕ). Takes bytes (number 2 p.0) p.1 × (Fits 2 p.0 × (is_listed p.0 ≡ true))) g.1 (t.0, (t.1, g.0));
-  again = λ x rest h. rw (n2.again x rest h.0, h.1) refl;
+      subst (λ (p : ℕ × List ℕ). Takes bytes (number n p.0) p.1 × (Fits n p.0 × (is_listed p.0 ≡ true))) g.1 (t.0, (t.1, g.0));
+  again = λ x rest h. rw ((number_format n).again x rest h.0, h.1) refl;
 }
 
 abbrev pub make_row : ℕ → ℕ → Cmd → BankRow
@@ -233,8 +238,8 @@ IsRow r = RowFits r × (has_client r ≡ true)
 pub row_format : IsFormat row IsRow row_at
 unfolding row_at
 row_format = record {
-  takes = takes3 (listed_format is_client) n4 command_format make_row row IsRow (λ a b c. refl) (λ a b c ha hb hc. ((ha.0, hb, hc), ha.1));
-  again = λ r rest h. again3 (listed_format is_client) n4 command_format make_row r.client r.number r.cmd rest (h.0.0, h.1) h.0.1 h.0.2;
+  takes = takes3 (listed_format 2 is_client) n4 command_format make_row row IsRow (λ a b c. refl) (λ a b c ha hb hc. ((ha.0, hb, hc), ha.1));
+  again = λ r rest h. again3 (listed_format 2 is_client) n4 command_format make_row r.client r.number r.cmd rest (h.0.0, h.1) h.0.1 h.0.2;
 }
 
 pub both : (a b : Bool) → a ≡ true → b ≡ true → (a && b) ≡ true
@@ -245,29 +250,36 @@ pub parted : (a b : Bool) → (a && b) ≡ true → (a ≡ true) × (b ≡ true)
 parted true b h = (refl, h)
 parted false b h = absurd cc
 
--- rows that fit, of clients
-abbrev pub AreRows : List BankRow → Type 0
-AreRows log = EachFits log × (list_all has_client log ≡ true)
+-- ---- lists: the items of a format one after the other
 
-more-takes : (count : ℕ) (bytes : List ℕ) (log : List BankRow) (rest : List ℕ) → IsBytes bytes → rows_from false count bytes ≡ Ok (log, rest) → Takes bytes (flat_map row log) rest × (AreRows log × (length log ≡ count))
-unfolding rows_from
-more-takes zero bytes log rest fits e =
-    subst (λ (p : List BankRow × List ℕ). Takes bytes (flat_map row p.0) p.1 × (AreRows p.0 × (length p.0 ≡ 0))) (ok_is ([], bytes) (log, rest) e) (record { parts = refl; rest_fits = fits }, ((tt, refl), refl))
-more-takes (suc count) bytes log rest fits e =
-    let m = bind_ok (row_at bytes) (λ r. rows_from false count r.1 >>= λ others. Ok (r.0 ∷ others.0, others.1)) (log, rest) e in
-    let t = row_format.takes bytes m.0.0 m.0.1 fits m.1 in
-    let o = bind_ok (rows_from false count m.0.1) (λ others. Ok (m.0.0 ∷ others.0, others.1)) (log, rest) m.2 in
-    let u = more-takes count m.0.1 o.0.0 o.0.1 t.0.rest_fits o.1 in
-    let whole = Takes-then bytes (row m.0.0) m.0.1 (flat_map row o.0.0) o.0.1 t.0 u.0 in
-    subst (λ (p : List BankRow × List ℕ). Takes bytes (flat_map row p.0) p.1 × (AreRows p.0 × (length p.0 ≡ suc count))) (ok_is (m.0.0 ∷ o.0.0, o.0.1) (log, rest) o.2)
-    (whole, (((t.1.0, u.1.0.0), both (has_client m.0.0) (list_all has_client o.0.0) t.1.1 u.1.0.1), ap suc u.1.1))
+more-takes : {A : Type 0} {spell : A → List ℕ} {ItemFits : A → Type 0} {item_at : List ℕ → Reads A} → IsFormat spell ItemFits item_at → (count : ℕ) (bytes : List ℕ) (xs : List A) (rest : List ℕ) → IsBytes bytes → items_from item_at false count bytes ≡ Ok (xs, rest)
+    → Takes bytes (flat_map spell xs) rest × (EachFits ItemFits xs × (length xs ≡ count))
+unfolding items_from
+more-takes {A} {spell} {ItemFits} {item_at} format zero bytes xs rest fits e =
+    subst (λ (p : List A × List ℕ). Takes bytes (flat_map spell p.0) p.1 × (EachFits ItemFits p.0 × (length p.0 ≡ 0))) (ok_is ([], bytes) (xs, rest) e) (record { parts = refl; rest_fits = fits }, (tt, refl))
+more-takes {A} {spell} {ItemFits} {item_at} format (suc count) bytes xs rest fits e =
+    let m = bind_ok (item_at bytes) (λ x. items_from item_at false count x.1 >>= λ others. Ok (x.0 ∷ others.0, others.1)) (xs, rest) e in
+    let t = format.takes bytes m.0.0 m.0.1 fits m.1 in
+    let o = bind_ok (items_from item_at false count m.0.1) (λ others. Ok (m.0.0 ∷ others.0, others.1)) (xs, rest) m.2 in
+    let u = more-takes format count m.0.1 o.0.0 o.0.1 t.0.rest_fits o.1 in
+    let whole = Takes-then bytes (spell m.0.0) m.0.1 (flat_map spell o.0.0) o.0.1 t.0 u.0 in
+    subst (λ (p : List A × List ℕ). Takes bytes (flat_map spell p.0) p.1 × (EachFits ItemFits p.0 × (length p.0 ≡ suc count))) (ok_is (m.0.0 ∷ o.0.0, o.0.1) (xs, rest) o.2)
+    (whole, ((t.1, u.1.0), ap suc u.1.1))
 
-more-again : (log : List BankRow) (rest : List ℕ) → AreRows log → rows_from false (length log) (flat_map row log ++ rest) ≡ Ok (log, rest)
-unfolding rows_from
-more-again [] rest h = refl
-more-again (r ∷ log) rest h =
-    let p = parted (has_client r) (list_all has_client log) h.1 in
-    rw (append_assoc (row r) (flat_map row log) rest, row_format.again r (flat_map row log ++ rest) (h.0.0, p.0), more-again log rest (h.0.1, p.1)) refl
+more-again : {A : Type 0} {spell : A → List ℕ} {ItemFits : A → Type 0} {item_at : List ℕ → Reads A} → IsFormat spell ItemFits item_at → (xs : List A) (rest : List ℕ) → EachFits ItemFits xs → items_from item_at false (length xs) (flat_map spell xs ++ rest) ≡ Ok (xs, rest)
+unfolding items_from
+more-again format [] rest h = refl
+more-again {A} {spell} {ItemFits} {item_at} format (x ∷ xs) rest h =
+    rw (append_assoc (spell x) (flat_map spell xs) rest, format.again x (flat_map spell xs ++ rest) h.0, more-again format xs rest h.1) refl
+
+-- rows that fit, and rows of clients
+rows-fit : (log : List BankRow) → EachFits IsRow log → EachFits RowFits log × (list_all has_client log ≡ true)
+rows-fit [] h = (tt, refl)
+rows-fit (r ∷ log) h = let others = rows-fit log h.1 in ((h.0.0, others.0), both (has_client r) (list_all has_client log) h.0.1 others.1)
+
+are-rows : (log : List BankRow) → EachFits RowFits log → list_all has_client log ≡ true → EachFits IsRow log
+are-rows [] h e = tt
+are-rows (r ∷ log) h e = let p = parted (has_client r) (list_all has_client log) e in ((h.0, p.0), are-rows log h.1 p.1)
 
 -- rows that fit, of clients, and not too many
 abbrev pub IsLog : List BankRow → Type 0
@@ -277,27 +289,49 @@ pub rows_format : IsFormat rows IsLog (rows_at false)
 unfolding rows_at
 rows_format = record {
   takes = λ bytes log rest fits e.
-      let m = bind_ok (number_at 2 bytes) (λ count. rows_from false count.0 count.1) (log, rest) e in
+      let m = bind_ok (number_at 2 bytes) (λ count. items_from row_at false count.0 count.1) (log, rest) e in
       let t = n2.takes bytes m.0.0 m.0.1 fits m.1 in
-      let u = more-takes m.0.0 m.0.1 log rest t.0.rest_fits m.2 in
+      let u = more-takes row_format m.0.0 m.0.1 log rest t.0.rest_fits m.2 in
+      let each = rows-fit log u.1.0 in
       let whole = Takes-then bytes (number 2 m.0.0) m.0.1 (flat_map row log) rest t.0 u.0 in
-      (subst (λ (k : ℕ). Takes bytes (number 2 k ++ flat_map row log) rest) (sym u.1.1) whole, ((subst (λ (k : ℕ). Fits 2 k) (sym u.1.1) t.1, u.1.0.0), u.1.0.1));
-  again = λ log rest h. rw (append_assoc (number 2 (length log)) (flat_map row log) rest, n2.again (length log) (flat_map row log ++ rest) h.0.0) (more-again log rest (h.0.1, h.1));
+      (subst (λ (k : ℕ). Takes bytes (number 2 k ++ flat_map row log) rest) (sym u.1.1) whole, ((subst (λ (k : ℕ). Fits 2 k) (sym u.1.1) t.1, each.0), each.1));
+  again = λ log rest h. rw (append_assoc (number 2 (length log)) (flat_map row log) rest, n2.again (length log) (flat_map row log ++ rest) h.0.0) (more-again row_format log rest (are-rows log h.0.1 h.1));
 }
 
--- ---- one more row
+-- the boots of 1 to 7 sites, that fit
+abbrev pub AreBoots : List ℕ → Type 0
+AreBoots known = BootsFit known × (is_site_count (length known) ≡ true)
 
-each_suc : (log : List BankRow) (j : ℕ) (d : BankRow) → j < length log → EachFits (take j log) → RowFits (get_or log j d) → EachFits (take (suc j) log)
-each_suc [] j d lt h r = absurd (omega arith)
-each_suc (x ∷ log) zero d lt h r = (r, tt)
-each_suc (x ∷ log) (suc j) d lt h r = (h.0, each_suc log j d (omega arith) h.1 r)
+count_fits : (count : ℕ) → is_site_count count ≡ true → Fits 1 count
+count_fits count h = let few : count ≤ 7 = leb-true count 7 (parted (nat_le 1 count) (nat_le count 7) h).1 in omega arith
 
-pub each_more : (log : List BankRow) (j : ℕ) (d : BankRow) → j < length log → EachFits (take j log) → RowFits (get_or log j d) → EachFits (take (j + 1) log)
-each_more log j d lt h r =
+pub boots_format : IsFormat boots AreBoots (boots_at false)
+unfolding boots_at
+boots_format = record {
+  takes = λ bytes known rest fits e.
+      let m = bind_ok (listed_at 1 is_site_count bytes) (λ count. items_from (number_at 4) false count.0 count.1) (known, rest) e in
+      let t = (listed_format 1 is_site_count).takes bytes m.0.0 m.0.1 fits m.1 in
+      let u = more-takes n4 m.0.0 m.0.1 known rest t.0.rest_fits m.2 in
+      let whole = Takes-then bytes (number 1 m.0.0) m.0.1 (flat_map (number 4) known) rest t.0 u.0 in
+      (subst (λ (k : ℕ). Takes bytes (number 1 k ++ flat_map (number 4) known) rest) (sym u.1.1) whole, (u.1.0, ap is_site_count u.1.1 ∙ t.1.1));
+  again = λ known rest h.
+      rw (append_assoc (number 1 (length known)) (flat_map (number 4) known) rest, (listed_format 1 is_site_count).again (length known) (flat_map (number 4) known ++ rest) (count_fits (length known) h.1, h.1))
+      (more-again n4 known rest h.0);
+}
+
+-- ---- one more item
+
+each_suc : {A : Type 0} (ItemFits : A → Type 0) (xs : List A) (j : ℕ) (d : A) → j < length xs → EachFits ItemFits (take j xs) → ItemFits (get_or xs j d) → EachFits ItemFits (take (suc j) xs)
+each_suc ItemFits [] j d lt h r = absurd (omega arith)
+each_suc ItemFits (x ∷ xs) zero d lt h r = (r, tt)
+each_suc ItemFits (x ∷ xs) (suc j) d lt h r = (h.0, each_suc ItemFits xs j d (omega arith) h.1 r)
+
+pub each_more : {A : Type 0} (ItemFits : A → Type 0) (xs : List A) (j : ℕ) (d : A) → j < length xs → EachFits ItemFits (take j xs) → ItemFits (get_or xs j d) → EachFits ItemFits (take (j + 1) xs)
+each_more ItemFits xs j d lt h r =
     let k : suc j ≡ j + 1 = omega arith in
-    subst (λ (i : ℕ). EachFits (take i log)) k (each_suc log j d lt h r)
+    subst (λ (i : ℕ). EachFits ItemFits (take i xs)) k (each_suc ItemFits xs j d lt h r)
 
-pub flat_more : (log : List BankRow) (j : ℕ) (d : BankRow) → j < length log → flat_map row (take (j + 1) log) ≡ flat_map row (take j log) ++ row (get_or log j d)
-flat_more log j d lt =
+pub flat_more : {A : Type 0} (spell : A → List ℕ) (xs : List A) (j : ℕ) (d : A) → j < length xs → flat_map spell (take (j + 1) xs) ≡ flat_map spell (take j xs) ++ spell (get_or xs j d)
+flat_more spell xs j d lt =
     let k : j + 1 ≡ suc j = omega arith in
-    ap (λ (i : ℕ). flat_map row (take i log)) k ∙ ap (flat_map row) (take-suc log j d lt) ∙ flat_map-append row (take j log) (get_or log j d ∷ []) ∙ ap (λ (x : List ℕ). flat_map row (take j log) ++ x) (append-nil (row (get_or log j d)))
+    ap (λ (i : ℕ). flat_map spell (take i xs)) k ∙ ap (flat_map spell) (take-suc xs j d lt) ∙ flat_map-append spell (take j xs) (get_or xs j d ∷ []) ∙ ap (λ (x : List ℕ). flat_map spell (take j xs) ++ x) (append-nil (spell (get_or xs j d)))

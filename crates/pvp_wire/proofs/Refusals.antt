@@ -1,23 +1,24 @@
--- Where reading takes memory: only where a row of a list was read.
+-- Where reading takes memory: only where an item of a list was read.
 use Rattle.std.proofs.Common.{◌≡◌, ◌≢◌, inl, inr, ℕ, zero, suc, ◌+◌, ◌<◌, ◌≤◌, ◌==◌, ◌&&◌, ◌||◌, Bool, true, false, not, nat_lt, nat_le, List, [], ◌∷◌, length, get_or, take, drop, Option, Some, Result, Ok, Err, refl, sym, ap, ◌∙◌, subst, if◌then◌else◌, arith}
-use Rattle.std.proofs.lemmas.Bool.{ltb-false}
+use Rattle.std.proofs.lemmas.Bool.{ltb-false, leb-true}
 use Rattle.std.proofs.lemmas.List.{get_or-drop, get_or-take}
 use Rattle.byteorder.specs.Endian.{big_number}
 use Rattle.pvp_types.specs.declared.command.Cmd.{Cmd}
-use Rattle.pvp_types.specs.declared.command.Cmd.TheVariants.{Instruct, Rescind, Fund, Settle, PayOut, Paid}
+use Rattle.pvp_types.specs.declared.command.Cmd.TheVariants.{Instruct, Rescind, Fund, Settle, PayOut, Paid, Returned}
 use Rattle.pvp_types.specs.declared.command.Reason.{Reason}
 use Rattle.pvp_types.specs.declared.command.Reply.TheVariants.{Settled, Order, No}
 use Rattle.vr_types.specs.declared.message.MsgOf.TheVariants.{Request, Prepare, PrepareOk, Commit, StartViewChange, DoViewChange, StartView, GetState, NewState, Recovery, RecoveryResponse, Reply, PayOrder}
 use Rattle.vr_types.specs.declared.message.StateOf.{StateOf}
 use Rattle.vr_types.specs.Group.{is_client}
+use Rattle.vr_types.specs.Messages.{rows_in, known_in}
 use Rattle.pvp_wire.specs.declared.fault.WireFault.{WireFault}
 use Rattle.pvp_wire.specs.declared.fault.WireFault.TheVariants.{Short, TooLong, Version, Kind, Field, Length, NoMemory}
 use Rattle.pvp_wire.specs.declared.stamped.Stamped.{Stamped}
-use Rattle.pvp_wire.specs.Spelling.{BankMsg, BankRow, is_actor, rows_of, rows_of_state}
-use Rattle.pvp_wire.specs.Reading.{◌>>=◌, Reads, number_at, listed_at, instruct_at, command_at, reason_at, reply_at, order_at, row_at, rows_from, rows_at, state_at, option_at, view_and_place_at, request_at, prepare_at, do_view_change_at, start_view_at, new_state_at, recovery_response_at, answer_at, message_at, stamp_at, envelope_at, all_read, counted_at, frame_where, most_length, carries_rows, IsOfField}
-use Rattle.pvp_wire.proofs.Formats.{failed, ok_is, fault_is, reads1, reads2, reads3, reads4}
-use Rattle.pvp_wire.proofs.Parts.{make_order, make_row}
-use Rattle.pvp_wire.proofs.MessageFormats.{make_state, make_pair}
+use Rattle.pvp_wire.specs.Spelling.{BankMsg, BankRow, version, is_actor, is_site_count}
+use Rattle.pvp_wire.specs.Reading.{◌>>=◌, Reads, number_at, listed_at, instruct_at, command_at, reason_at, reply_at, order_at, row_at, items_from, rows_at, boots_at, state_at, option_at, view_and_place_at, request_at, prepare_at, start_view_change_at, do_view_change_at, start_view_at, new_state_at, recovery_response_at, answer_at, message_at, stamp_at, envelope_at, all_read, counted_at, frame_where, most_length, carries_a_list, HasAnItem, IsOfField, frame_at}
+use Rattle.pvp_wire.proofs.Formats.{failed, done, bind_ok, wanted_ok, ok_is, fault_is, reads1, reads2, reads3, reads4, reads5}
+use Rattle.pvp_wire.proofs.Parts.{make_order, make_row, parted}
+use Rattle.pvp_wire.proofs.MessageFormats.{make_state, make_pair, make_vote, make_response}
 use Rattle.pvp_wire.proofs.Frames.{make_stamp, make_stamped, all_read-ok}
 
 -- the same fault of another reading
@@ -65,11 +66,14 @@ only3 {A} {B} {C} {Z} {ra} {rb} {rc} ha hb hc make bytes = only_then (ra bytes) 
 only4 : {A B C D Z : Type 0} {ra : List ℕ → Reads A} {rb : List ℕ → Reads B} {rc : List ℕ → Reads C} {rd : List ℕ → Reads D} → OnlyFields ra → OnlyFields rb → OnlyFields rc → OnlyFields rd → (make : A → B → C → D → Z) → OnlyFields (reads4 ra rb rc rd make)
 only4 {A} {B} {C} {D} {Z} {ra} {rb} {rc} {rd} ha hb hc hd make bytes = only_then (ra bytes) (λ xa. reads3 rb rc rd (make xa.0) xa.1) (ha bytes) (λ xa. only3 hb hc hd (make xa.0) xa.1)
 
+only5 : {A B C D E Z : Type 0} {ra : List ℕ → Reads A} {rb : List ℕ → Reads B} {rc : List ℕ → Reads C} {rd : List ℕ → Reads D} {re : List ℕ → Reads E} → OnlyFields ra → OnlyFields rb → OnlyFields rc → OnlyFields rd → OnlyFields re → (make : A → B → C → D → E → Z) → OnlyFields (reads5 ra rb rc rd re make)
+only5 {A} {B} {C} {D} {E} {Z} {ra} {rb} {rc} {rd} {re} ha hb hc hd he make bytes = only_then (ra bytes) (λ xa. reads4 rb rc rd re (make xa.0) xa.1) (ha bytes) (λ xa. only4 hb hc hd he (make xa.0) xa.1)
+
 number_only : (n : ℕ) → OnlyFields (number_at n)
 number_only n bytes = only_if (nat_lt (length bytes) n) only_length (only_put {A = ℕ × List ℕ} (big_number n bytes, drop n bytes))
 
-listed_only : (is_listed : ℕ → Bool) → OnlyFields (listed_at is_listed)
-listed_only is_listed bytes = only_then (number_at 2 bytes) (λ n. if is_listed n.0 then Ok n else Err Field) (number_only 2 bytes) (λ n. only_if (is_listed n.0) (only_put n) only_field)
+listed_only : (width : ℕ) (is_listed : ℕ → Bool) → OnlyFields (listed_at width is_listed)
+listed_only width is_listed bytes = only_then (number_at width bytes) (λ n. if is_listed n.0 then Ok n else Err Field) (number_only width bytes) (λ n. only_if (is_listed n.0) (only_put n) only_field)
 
 instruct_only : OnlyFields instruct_at
 instruct_only bytes =
@@ -82,7 +86,8 @@ unfolding command_at
 command_only [] = only_length
 command_only (tag ∷ bytes) =
     only_if (tag == 1) (instruct_only bytes) (only_if (tag == 2) (only1 (number_only 4) Rescind bytes) (only_if (tag == 3) (only4 (number_only 1) (number_only 4) (number_only 2) (number_only 8) Fund bytes)
-    (only_if (tag == 4) (only1 (number_only 4) Settle bytes) (only_if (tag == 5) (only2 (number_only 1) (number_only 8) PayOut bytes) (only_if (tag == 6) (only2 (number_only 1) (number_only 4) Paid bytes) only_field)))))
+    (only_if (tag == 4) (only1 (number_only 4) Settle bytes) (only_if (tag == 5) (only2 (number_only 1) (number_only 8) PayOut bytes) (only_if (tag == 6) (only2 (number_only 1) (number_only 4) Paid bytes)
+    (only_if (tag == 7) (only2 (number_only 1) (number_only 4) Returned bytes) only_field))))))
 
 -- one of the reasons
 known : (why : Reason) (bytes : List ℕ) → Only {A = Reason × List ℕ} (Ok (why, bytes))
@@ -107,12 +112,44 @@ order_only = only4 (number_only 1) (number_only 4) (number_only 2) (number_only 
 
 row_only : OnlyFields row_at
 unfolding row_at
-row_only = only3 (listed_only is_client) (number_only 4) command_only make_row
+row_only = only3 (listed_only 2 is_client) (number_only 4) command_only make_row
 
-more_only : (count : ℕ) → OnlyFields (rows_from false count)
-unfolding rows_from
-more_only zero bytes = only_put {A = List BankRow × List ℕ} ([], bytes)
-more_only (suc count) bytes = only_then (row_at bytes) (λ r. reads1 (rows_from false count) (λ others. r.0 ∷ others) r.1) (row_only bytes) (λ r. only1 (more_only count) (λ others. r.0 ∷ others) r.1)
+more_only : {A : Type 0} (item_at : List ℕ → Reads A) → OnlyFields item_at → (count : ℕ) → OnlyFields (items_from item_at false count)
+unfolding items_from
+more_only {A} item_at h zero bytes = only_put {A = List A × List ℕ} ([], bytes)
+more_only item_at h (suc count) bytes =
+    only_then (item_at bytes) (λ x. reads1 (items_from item_at false count) (λ others. x.0 ∷ others) x.1) (h bytes) (λ x. only1 (more_only item_at h count) (λ others. x.0 ∷ others) x.1)
+
+rows_only : OnlyFields (rows_at false)
+unfolding rows_at
+rows_only bytes = only_then (number_at 2 bytes) (λ n. items_from row_at false n.0 n.1) (number_only 2 bytes) (λ n. more_only row_at row_only n.0 n.1)
+
+boots_only : OnlyFields (boots_at false)
+unfolding boots_at
+boots_only bytes = only_then (listed_at 1 is_site_count bytes) (λ n. items_from (number_at 4) false n.0 n.1) (listed_only 1 is_site_count bytes) (λ n. more_only (number_at 4) (number_only 4) n.0 n.1)
+
+-- boots that are read take memory, as there is one at least
+one_asked : (count : ℕ) (bytes : List ℕ) (x : List ℕ × List ℕ) → 1 ≤ count → items_from (number_at 4) false count bytes ≡ Ok x → items_from (number_at 4) true count bytes ≡ Err NoMemory
+unfolding items_from
+one_asked zero bytes x some e = absurd (omega arith)
+one_asked (suc count) bytes x some e =
+    let m = bind_ok (number_at 4 bytes) (λ n. items_from (number_at 4) false count n.1 >>= λ others. Ok (n.0 ∷ others.0, others.1)) x e in
+    rw m.1 refl
+
+pub boots_asked : (bytes : List ℕ) (x : List ℕ × List ℕ) → boots_at false bytes ≡ Ok x → boots_at true bytes ≡ Err NoMemory
+unfolding boots_at
+boots_asked bytes x e =
+    let m = bind_ok (listed_at 1 is_site_count bytes) (λ count. items_from (number_at 4) false count.0 count.1) x e in
+    let n = bind_ok (number_at 1 bytes) (λ y. if is_site_count y.0 then Ok y else Err Field) m.0 m.1 in
+    let g = wanted_ok (is_site_count n.0.0) Field n.0 m.0 n.2 in
+    let some : 1 ≤ n.0.0 = leb-true 1 n.0.0 (parted (nat_le 1 n.0.0) (nat_le n.0.0 7) g.0).0 in
+    let count-is : n.0.0 ≡ m.0.0 = ap (λ (p : ℕ × List ℕ). p.0) g.1 in
+    rw m.1 (one_asked m.0.0 m.0.1 x (omega arith) m.2)
+
+option_only : OnlyFields (option_at false)
+unfolding option_at state_at
+option_only [] = only_length
+option_only (flag ∷ bytes) = only_if (flag == 0) (only_put _) (only_if (flag == 1) (only1 (only2 (number_only 2) rows_only make_state) Some bytes) only_field)
 
 pair_only : OnlyFields view_and_place_at
 pair_only = only2 (number_only 4) (number_only 2) make_pair
@@ -197,29 +234,32 @@ first_row r (Ok x) h = record {
 }
 first_row r (Err d) h = record { kind = λ e. tt; found = λ y e same. absurd cc; fault = λ f e same. h.faults f same }
 
-more_asked : (count : ℕ) → AskedFor (Unit {0}) SomeRows (rows_from true count) (rows_from false count)
-unfolding rows_from
+more_asked : (count : ℕ) → AskedFor (Unit {0}) SomeRows (items_from row_at true count) (items_from row_at false count)
+unfolding items_from
 more_asked zero bytes = unasked (λ e. absurd cc)
-more_asked (suc count) bytes = asked_then (row_at bytes) (λ r. Err NoMemory) (λ r. (rows_from false count r.1 >>= λ x. Ok (r.0 ∷ x.0, x.1))) (row_only bytes) (λ r. first_row r.0 (rows_from false count r.1) (more_only count r.1))
+more_asked (suc count) bytes = asked_then (row_at bytes) (λ r. Err NoMemory) (λ r. (items_from row_at false count r.1 >>= λ x. Ok (r.0 ∷ x.0, x.1))) (row_only bytes) (λ r. first_row r.0 (items_from row_at false count r.1) (more_only row_at row_only count r.1))
 
 rows_asked : AskedFor (Unit {0}) SomeRows (rows_at true) (rows_at false)
 unfolding rows_at
-rows_asked bytes = asked_then (number_at 2 bytes) (λ n. rows_from true n.0 n.1) (λ n. rows_from false n.0 n.1) (number_only 2 bytes) (λ n. more_asked n.0 n.1)
-
-state_asked : AskedFor (Unit {0}) (λ (s : StateOf Cmd). SomeRows s.rows) (state_at true) (state_at false)
-unfolding state_at
-state_asked = asked2 (λ s. SomeRows s.rows) (number_only 2) rows_asked make_state (λ k log some. some)
-
-option_asked : AskedFor (Unit {0}) (λ (o : Option (StateOf Cmd)). SomeRows (rows_of_state o)) (option_at true) (option_at false)
-unfolding option_at
-option_asked [] = asked_only only_length
-option_asked (flag ∷ bytes) =
-    asked_if (flag == 0) (asked_only (only_put _)) (asked_if (flag == 1) (asked1 (λ o. SomeRows (rows_of_state o)) state_asked Some (λ s some. some) bytes) (asked_only only_field))
+rows_asked bytes = asked_then (number_at 2 bytes) (λ n. items_from row_at true n.0 n.1) (λ n. items_from row_at false n.0 n.1) (number_only 2 bytes) (λ n. more_asked n.0 n.1)
 
 -- ---- messages
 
-abbrev HasRows : BankMsg → Type 0
-HasRows m = SomeRows (rows_of m)
+-- a message that tells of boots has an item, whatever else
+known_item : (m : BankMsg) (known : List ℕ) → known_in m ≡ Some known → HasAnItem m
+known_item m known e = inr (rw e refl)
+
+-- reading that fails at fields alone, and whose values have a property, takes memory or not
+asked_always : {A : Type 0} {Has : A → Type 0} {refused read : Result A WireFault} → Only read → ((x : A) → read ≡ Ok x → Has x) → Asked (Unit {0}) Has refused read
+asked_always h has = record { kind = λ e. tt; found = λ x e same. has x same; fault = λ f e same. h.faults f same }
+
+-- what is read is made of its parts
+made_after : {A B : Type 0} (G : B → Type 0) (read : Result A WireFault) (k : A → Result B WireFault) → ((x : A) (z : B) → k x ≡ Ok z → G z) → (z : B) → (read >>= k) ≡ Ok z → G z
+made_after G (Ok x) k h z e = h x z e
+made_after G (Err d) k h z e = absurd cc
+
+made : {Z : Type 0} (Has : Z → Type 0) (z : Z) (rest : List ℕ) → Has z → (x : Z × List ℕ) → done {A = Z × List ℕ} (z, rest) ≡ Ok x → Has x.0
+made {Z} Has z rest has x e = subst (λ (p : Z × List ℕ). Has p.0) (ok_is (z, rest) x e) has
 
 request_only : OnlyFields request_at
 unfolding request_at
@@ -233,27 +273,48 @@ answer_only : OnlyFields answer_at
 unfolding answer_at
 answer_only = only3 (number_only 4) (number_only 4) reply_only Reply
 
-do_view_change_asked : AskedFor (Unit {0}) HasRows (do_view_change_at true) (do_view_change_at false)
+start_view_change_asked : AskedFor (Unit {0}) HasAnItem (start_view_change_at true) (start_view_change_at false)
+unfolding start_view_change_at
+start_view_change_asked bytes =
+    let G : BankMsg × List ℕ → Type 0 = λ x. HasAnItem x.0 in
+    asked_always (only2 (number_only 4) boots_only StartViewChange bytes)
+    (made_after G (number_at 4 bytes) (λ a. reads1 (boots_at false) (StartViewChange a.0) a.1) (λ a.
+    made_after G (boots_at false a.1) (λ b. Ok (StartViewChange a.0 b.0, b.1)) (λ b. made HasAnItem (StartViewChange a.0 b.0) b.1 (known_item (StartViewChange a.0 b.0) b.0 refl))))
+
+do_view_change_asked : AskedFor (Unit {0}) HasAnItem (do_view_change_at true) (do_view_change_at false)
 unfolding do_view_change_at
-do_view_change_asked = asked4 HasRows (number_only 4) (number_only 4) (number_only 2) rows_asked DoViewChange (λ a b c d some. some)
+do_view_change_asked bytes =
+    let G : BankMsg × List ℕ → Type 0 = λ x. HasAnItem x.0 in
+    asked_always (only5 (number_only 4) (number_only 4) (number_only 2) boots_only rows_only make_vote bytes)
+    (made_after G (number_at 4 bytes) (λ a. reads4 (number_at 4) (number_at 2) (boots_at false) (rows_at false) (make_vote a.0) a.1) (λ a.
+    made_after G (number_at 4 a.1) (λ b. reads3 (number_at 2) (boots_at false) (rows_at false) (make_vote a.0 b.0) b.1) (λ b.
+    made_after G (number_at 2 b.1) (λ c. reads2 (boots_at false) (rows_at false) (make_vote a.0 b.0 c.0) c.1) (λ c.
+    made_after G (boots_at false c.1) (λ d. reads1 (rows_at false) (make_vote a.0 b.0 c.0 d.0) d.1) (λ d.
+    made_after G (rows_at false d.1) (λ e. Ok (make_vote a.0 b.0 c.0 d.0 e.0, e.1)) (λ e. made HasAnItem (make_vote a.0 b.0 c.0 d.0 e.0) e.1 (known_item (make_vote a.0 b.0 c.0 d.0 e.0) d.0 refl)))))))
 
-start_view_asked : AskedFor (Unit {0}) HasRows (start_view_at true) (start_view_at false)
+start_view_asked : AskedFor (Unit {0}) HasAnItem (start_view_at true) (start_view_at false)
 unfolding start_view_at
-start_view_asked = asked3 HasRows (number_only 4) (number_only 2) rows_asked StartView (λ a b c some. some)
+start_view_asked = asked3 HasAnItem (number_only 4) (number_only 2) rows_asked StartView (λ a b c some. inl some)
 
-new_state_asked : AskedFor (Unit {0}) HasRows (new_state_at true) (new_state_at false)
+new_state_asked : AskedFor (Unit {0}) HasAnItem (new_state_at true) (new_state_at false)
 unfolding new_state_at
-new_state_asked = asked4 HasRows (number_only 4) (number_only 2) (number_only 2) rows_asked NewState (λ a b c d some. some)
+new_state_asked = asked4 HasAnItem (number_only 4) (number_only 2) (number_only 2) rows_asked NewState (λ a b c d some. inl some)
 
-recovery_response_asked : AskedFor (Unit {0}) HasRows (recovery_response_at true) (recovery_response_at false)
+recovery_response_asked : AskedFor (Unit {0}) HasAnItem (recovery_response_at true) (recovery_response_at false)
 unfolding recovery_response_at
-recovery_response_asked = asked3 HasRows (number_only 4) (number_only 4) option_asked RecoveryResponse (λ a b c some. some)
+recovery_response_asked bytes =
+    let G : BankMsg × List ℕ → Type 0 = λ x. HasAnItem x.0 in
+    asked_always (only4 (number_only 4) (number_only 4) boots_only option_only make_response bytes)
+    (made_after G (number_at 4 bytes) (λ a. reads3 (number_at 4) (boots_at false) (option_at false) (make_response a.0) a.1) (λ a.
+    made_after G (number_at 4 a.1) (λ b. reads2 (boots_at false) (option_at false) (make_response a.0 b.0) b.1) (λ b.
+    made_after G (boots_at false b.1) (λ c. reads1 (option_at false) (make_response a.0 b.0 c.0) c.1) (λ c.
+    made_after G (option_at false c.1) (λ d. Ok (make_response a.0 b.0 c.0 d.0, d.1)) (λ d. made HasAnItem (make_response a.0 b.0 c.0 d.0) d.1 (known_item (make_response a.0 b.0 c.0 d.0) c.0 refl))))))
 
-fields_asked : (k : ℕ) → AskedFor (Unit {0}) HasRows (message_at true k) (message_at false k)
+fields_asked : (k : ℕ) → AskedFor (Unit {0}) HasAnItem (message_at true k) (message_at false k)
 unfolding message_at
 fields_asked k bytes =
     asked_if (k == 1) (asked_only (request_only bytes)) (asked_if (k == 2) (asked_only (prepare_only bytes)) (asked_if (k == 3) (asked_only (only1 pair_only (λ p. PrepareOk p.0 p.1) bytes))
-    (asked_if (k == 4) (asked_only (only1 pair_only (λ p. Commit p.0 p.1) bytes)) (asked_if (k == 5) (asked_only (only1 (number_only 4) StartViewChange bytes))
+    (asked_if (k == 4) (asked_only (only1 pair_only (λ p. Commit p.0 p.1) bytes)) (asked_if (k == 5) (start_view_change_asked bytes)
     (asked_if (k == 6) (do_view_change_asked bytes) (asked_if (k == 7) (start_view_asked bytes) (asked_if (k == 8) (asked_only (only1 pair_only (λ p. GetState p.0 p.1) bytes))
     (asked_if (k == 9) (new_state_asked bytes) (asked_if (k == 10) (asked_only (only1 (number_only 4) Recovery bytes)) (asked_if (k == 11) (recovery_response_asked bytes)
     (asked_if (k == 12) (asked_only (answer_only bytes)) (asked_if (k == 13) (asked_only (only1 order_only PayOrder bytes)) (unasked (λ e. absurd cc))))))))))))))
@@ -274,37 +335,38 @@ differ true none some = absurd cc
 differ false none some = absurd cc
 
 -- the other kinds take no memory
-bare : (k : ℕ) (bytes : List ℕ) → carries_rows k ≡ false → message_at true k bytes ≡ Err NoMemory → ⊥
+bare : (k : ℕ) (bytes : List ℕ) → carries_a_list k ≡ false → message_at true k bytes ≡ Err NoMemory → ⊥
 unfolding message_at
 bare k bytes none =
-    let a = neither (k == 6) ((k == 7) || ((k == 9) || (k == 11))) none in
+    let z = neither (k == 5) ((k == 6) || ((k == 7) || ((k == 9) || (k == 11)))) none in
+    let a = neither (k == 6) ((k == 7) || ((k == 9) || (k == 11))) z.1 in
     let b = neither (k == 7) ((k == 9) || (k == 11)) a.1 in
     let c = neither (k == 9) (k == 11) b.1 in
     never_if (k == 1) (λ is. quiet (request_only bytes)) (never_if (k == 2) (λ is. quiet (prepare_only bytes)) (never_if (k == 3) (λ is. quiet (only1 pair_only (λ p. PrepareOk p.0 p.1) bytes))
-    (never_if (k == 4) (λ is. quiet (only1 pair_only (λ p. Commit p.0 p.1) bytes)) (never_if (k == 5) (λ is. quiet (only1 (number_only 4) StartViewChange bytes))
+    (never_if (k == 4) (λ is. quiet (only1 pair_only (λ p. Commit p.0 p.1) bytes)) (never_if (k == 5) (λ is e. differ (k == 5) z.0 is)
     (never_if (k == 6) (λ is e. differ (k == 6) a.0 is) (never_if (k == 7) (λ is e. differ (k == 7) b.0 is) (never_if (k == 8) (λ is. quiet (only1 pair_only (λ p. GetState p.0 p.1) bytes))
     (never_if (k == 9) (λ is e. differ (k == 9) c.0 is) (never_if (k == 10) (λ is. quiet (only1 (number_only 4) Recovery bytes)) (never_if (k == 11) (λ is e. differ (k == 11) c.1 is)
     (never_if (k == 12) (λ is. quiet (answer_only bytes)) (never_if (k == 13) (λ is. quiet (only1 order_only PayOrder bytes)) (λ e. absurd cc)))))))))))))
 
-of_kind : (k : ℕ) (bytes : List ℕ) (b : Bool) → carries_rows k ≡ b → message_at true k bytes ≡ Err NoMemory → b ≡ true
+of_kind : (k : ℕ) (bytes : List ℕ) (b : Bool) → carries_a_list k ≡ b → message_at true k bytes ≡ Err NoMemory → b ≡ true
 of_kind k bytes true some e = refl
 of_kind k bytes false none e = absurd (bare k bytes none e)
 
-message_asked : (k : ℕ) → AskedFor (carries_rows k ≡ true) HasRows (message_at true k) (message_at false k)
-message_asked k bytes = record { kind = of_kind k bytes (carries_rows k) refl; found = (fields_asked k bytes).found; fault = (fields_asked k bytes).fault }
+message_asked : (k : ℕ) → AskedFor (carries_a_list k ≡ true) HasAnItem (message_at true k) (message_at false k)
+message_asked k bytes = record { kind = of_kind k bytes (carries_a_list k) refl; found = (fields_asked k bytes).found; fault = (fields_asked k bytes).fault }
 
 -- ---- frames
 
 abbrev pub HasIn : Stamped → Type 0
-HasIn s = rows_of s.envelope.msg ≢ []
+HasIn s = HasAnItem s.envelope.msg
 
 stamp_only : OnlyFields stamp_at
 unfolding stamp_at
-stamp_only = only3 (listed_only is_actor) (number_only 8) (number_only 4) make_stamp
+stamp_only = only3 (listed_only 2 is_actor) (number_only 8) (number_only 4) make_stamp
 
-envelope_asked : (k : ℕ) → AskedFor (carries_rows k ≡ true) HasIn (envelope_at true k) (envelope_at false k)
+envelope_asked : (k : ℕ) → AskedFor (carries_a_list k ≡ true) HasIn (envelope_at true k) (envelope_at false k)
 unfolding envelope_at
-envelope_asked k = asked3 HasIn stamp_only (listed_only is_actor) (message_asked k) make_stamped (λ a b c some. some)
+envelope_asked k = asked3 HasIn stamp_only (listed_only 2 is_actor) (message_asked k) make_stamped (λ a b c some. some)
 
 unrefused : (b : Bool) (s : Stamped) → (if b then Ok s else failed {A = Stamped} Length) ≡ Err NoMemory → ⊥
 unrefused true s e = absurd cc
@@ -327,26 +389,64 @@ all_asked (Err d) (Err g) h = record {
   fault = λ f e same. h.fault f (elsewhere {A = Stamped} {B = Stamped × List ℕ} d NoMemory e) (elsewhere {A = Stamped} {B = Stamped × List ℕ} g f same);
 }
 
-counted_asked : (bytes : List ℕ) → Asked (carries_rows (get_or bytes 1 0) ≡ true) HasIn (counted_at true bytes) (counted_at false bytes)
+counted_asked : (bytes : List ℕ) → Asked (carries_a_list (get_or bytes 1 0) ≡ true) HasIn (counted_at true bytes) (counted_at false bytes)
 unfolding counted_at
 counted_asked [] = unasked (λ e. absurd cc)
-counted_asked (version ∷ []) = unasked (λ e. absurd cc)
-counted_asked (version ∷ k ∷ bytes) =
-    asked_guard (not (version == 1)) Version (λ e. absurd cc) (λ v. asked_guard (not (nat_le 1 k && nat_le k 13)) Kind (λ e. absurd cc) (λ w. all_asked (envelope_at true k bytes) (envelope_at false k bytes) (envelope_asked k bytes)))
+counted_asked (n ∷ []) = unasked (λ e. absurd cc)
+counted_asked (n ∷ k ∷ bytes) =
+    asked_guard (not (n == version)) Version (λ e. absurd cc) (λ v. asked_guard (not (nat_le 1 k && nat_le k 13)) Kind (λ e. absurd cc) (λ w. all_asked (envelope_at true k bytes) (envelope_at false k bytes) (envelope_asked k bytes)))
 
 sized_asked : (bytes : List ℕ) (len : ℕ) → 18 ≤ len
-    → Asked (carries_rows (get_or bytes 5 0) ≡ true) (λ (x : Stamped × ℕ). HasIn x.0) (counted_at true (take len (drop 4 bytes)) >>= λ s. Ok (s, 4 + len)) (counted_at false (take len (drop 4 bytes)) >>= λ s. Ok (s, 4 + len))
+    → Asked (carries_a_list (get_or bytes 5 0) ≡ true) (λ (x : Stamped × ℕ). HasIn x.0) (counted_at true (take len (drop 4 bytes)) >>= λ s. Ok (s, 4 + len)) (counted_at false (take len (drop 4 bytes)) >>= λ s. Ok (s, 4 + len))
 sized_asked bytes len long =
     let cut = take len (drop 4 bytes) in
     let inside : 1 < len = omega arith in
     let there : get_or cut 1 0 ≡ get_or bytes 5 0 = get_or-take len (drop 4 bytes) 1 0 inside ∙ get_or-drop 4 bytes 1 0 in
     asked_map {B = Stamped × ℕ} (λ x. HasIn x.0) (counted_at true cut) (counted_at false cut) (λ s. (s, 4 + len))
-    (subst (λ (k : ℕ). Asked (carries_rows k ≡ true) HasIn (counted_at true cut) (counted_at false cut)) there (counted_asked cut)) (λ s some. some)
+    (subst (λ (k : ℕ). Asked (carries_a_list k ≡ true) HasIn (counted_at true cut) (counted_at false cut)) there (counted_asked cut)) (λ s some. some)
 
 -- memory is taken only for frames that carry a list of rows
-pub frame_asked : (bytes : List ℕ) → Asked (carries_rows (get_or bytes 5 0) ≡ true) (λ (x : Stamped × ℕ). HasIn x.0) (frame_where true bytes) (frame_where false bytes)
+pub frame_asked : (bytes : List ℕ) → Asked (carries_a_list (get_or bytes 5 0) ≡ true) (λ (x : Stamped × ℕ). HasIn x.0) (frame_where true bytes) (frame_where false bytes)
 unfolding frame_where
 frame_asked bytes =
     let len = big_number 4 bytes in
     asked_guard (nat_lt (length bytes) 4) Short (λ e. absurd cc) (λ a. asked_guard (nat_lt most_length len) TooLong (λ e. absurd cc) (λ b. asked_guard (nat_lt len 18) Length (λ e. absurd cc) (λ c.
     asked_guard (nat_lt (length bytes) (4 + len)) Short (λ e. absurd cc) (λ d. sized_asked bytes len (ltb-false len 18 c)))))
+
+-- ---- reading where memory is not refused never tells that it was
+
+never_then : {A B : Type 0} (read : Result A WireFault) (k : A → Result B WireFault) → (read ≡ Err NoMemory → ⊥) → ((x : A) → k x ≡ Err NoMemory → ⊥) → (read >>= k) ≡ Err NoMemory → ⊥
+never_then (Ok x) k h hk e = hk x e
+never_then {A} {B} (Err d) k h hk e = h (elsewhere {A = B} {B = A} d NoMemory e)
+
+message_never : (k : ℕ) (bytes : List ℕ) → message_at false k bytes ≡ Err NoMemory → ⊥
+unfolding message_at start_view_change_at do_view_change_at start_view_at new_state_at recovery_response_at
+message_never k bytes =
+    never_if (k == 1) (λ is. quiet (request_only bytes)) (never_if (k == 2) (λ is. quiet (prepare_only bytes)) (never_if (k == 3) (λ is. quiet (only1 pair_only (λ p. PrepareOk p.0 p.1) bytes))
+    (never_if (k == 4) (λ is. quiet (only1 pair_only (λ p. Commit p.0 p.1) bytes)) (never_if (k == 5) (λ is. quiet (only2 (number_only 4) boots_only StartViewChange bytes))
+    (never_if (k == 6) (λ is. quiet (only5 (number_only 4) (number_only 4) (number_only 2) boots_only rows_only make_vote bytes)) (never_if (k == 7) (λ is. quiet (only3 (number_only 4) (number_only 2) rows_only StartView bytes))
+    (never_if (k == 8) (λ is. quiet (only1 pair_only (λ p. GetState p.0 p.1) bytes)) (never_if (k == 9) (λ is. quiet (only4 (number_only 4) (number_only 2) (number_only 2) rows_only NewState bytes))
+    (never_if (k == 10) (λ is. quiet (only1 (number_only 4) Recovery bytes)) (never_if (k == 11) (λ is. quiet (only4 (number_only 4) (number_only 4) boots_only option_only make_response bytes))
+    (never_if (k == 12) (λ is. quiet (answer_only bytes)) (never_if (k == 13) (λ is. quiet (only1 order_only PayOrder bytes)) (λ e. absurd cc)))))))))))))
+
+envelope_never : (k : ℕ) (bytes : List ℕ) → envelope_at false k bytes ≡ Err NoMemory → ⊥
+unfolding envelope_at
+envelope_never k bytes =
+    never_then (stamp_at bytes) (λ a. reads2 (listed_at 2 is_actor) (message_at false k) (make_stamped a.0) a.1) (quiet (stamp_only bytes)) (λ a.
+    never_then (listed_at 2 is_actor a.1) (λ b. reads1 (message_at false k) (make_stamped a.0 b.0) b.1) (quiet (listed_only 2 is_actor a.1)) (λ b.
+    never_then (message_at false k b.1) (λ c. Ok (make_stamped a.0 b.0 c.0, c.1)) (message_never k b.1) (λ c e. absurd cc)))
+
+counted_never : (bytes : List ℕ) → counted_at false bytes ≡ Err NoMemory → ⊥
+unfolding counted_at
+counted_never [] = λ e. absurd cc
+counted_never (n ∷ []) = λ e. absurd cc
+counted_never (n ∷ k ∷ bytes) =
+    never_if (not (n == version)) (λ is e. absurd cc) (never_if (not (nat_le 1 k && nat_le k 13)) (λ is e. absurd cc)
+    (never_then (envelope_at false k bytes) all_read (envelope_never k bytes) (λ x. unrefused (length x.1 == 0) x.0)))
+
+pub frame_never : (bytes : List ℕ) → frame_at bytes ≡ Err NoMemory → ⊥
+unfolding frame_where
+frame_never bytes =
+    let len = big_number 4 bytes in
+    never_if (nat_lt (length bytes) 4) (λ is e. absurd cc) (never_if (nat_lt most_length len) (λ is e. absurd cc) (never_if (nat_lt len 18) (λ is e. absurd cc) (never_if (nat_lt (length bytes) (4 + len)) (λ is e. absurd cc)
+    (never_then (counted_at false (take len (drop 4 bytes))) (λ s. Ok (s, 4 + len)) (counted_never (take len (drop 4 bytes))) (λ s e. absurd cc)))))

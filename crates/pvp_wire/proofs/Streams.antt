@@ -1,6 +1,7 @@
 -- Frames one after the other at the front of a stream.
 use Rattle.std.proofs.Common.{◌≡◌, ◌⊎◌, inl, inr, ℕ, ◌+◌, ◌-◌, ◌<◌, ◌≤◌, List, [], ◌∷◌, ◌++◌, length, take, drop, Option, Some, None, Result, Ok, Err, refl, sym, ap, subst, ◌∙◌, append_assoc, arith}
-use Rattle.std.specs.Prelude.{All}
+use Rattle.std.specs.Prelude.{◌≢◌, All, IsOk, vec_len}
+use Rattle.std.specs.Vec.{vec_capacity}
 use Rattle.std.specs.List.{flat_map}
 use Rattle.std.proofs.lemmas.Grind.{flat_map-append}
 use Rattle.std.proofs.lemmas.List.{append-nil, drop-drop, length-append, length-drop, take-append-drop, take_all, drop_at}
@@ -11,12 +12,13 @@ use Rattle.pvp_wire.specs.declared.fault.WireFault.TheVariants.{Short, TooLong, 
 use Rattle.pvp_wire.specs.declared.stamped.Stamped.{Stamped}
 use Rattle.pvp_wire.specs.Spelling.{number, body, head, spelling}
 use Rattle.pvp_wire.specs.Fits.{IsBytes, IsSpelled}
-use Rattle.pvp_wire.specs.Reading.{frame_where, frame_at}
-use Rattle.pvp_wire.specs.Feeding.{Fed, IsAt, IsFed, Call, Splits, IsTold, FeedsAt, AreFed, empty, answered, all_answered, taken_by, taken_at, all_taken, all_given, after_calls}
+use Rattle.pvp_wire.specs.Reading.{frame_where, frame_at, TakesMemory, IsOfField}
+use Rattle.pvp_wire.specs.Feeding.{Fed, IsAt, IsFed, Call, Splits, IsTold, IsRefused, IsCutShort, FeedsAt, AreFed, empty, answered, all_answered, taken_by, taken_at, all_taken, all_given, after_calls}
 use Rattle.pvp_wire.proofs.Formats.{IsBytes-drop, done, ok_is, fault_is}
 use Rattle.pvp_wire.proofs.Numbers.{length-number}
 use Rattle.pvp_wire.proofs.Lengths.{length-head}
 use Rattle.pvp_wire.proofs.Frames.{frame-takes, frame-again, frame-lasts}
+use Rattle.pvp_wire.proofs.Refusals.{frame_asked, frame_never}
 
 -- a frame has bytes
 pub length-spelling : (s : Stamped) → length (spelling s) ≡ 22 + length (body s.envelope.msg)
@@ -74,6 +76,10 @@ one_split (x ∷ xs) (y ∷ ys) r q f g hx hy e fr fq =
     let rest = one_split xs ys r q f g (All-tail IsSpelled x xs hx) (All-tail IsSpelled y ys hy) front.1 fr fq in
     (rw (front.0, rest.0) refl, rest.1)
 
+short_is_no_field : IsOfField Short → ⊥
+short_is_no_field (inl e) = absurd cc
+short_is_no_field (inr e) = absurd cc
+
 -- one call goes on with a split of what came before
 fed_once : (stream : List ℕ) (done : List Stamped) (fed : Fed) (call : Call) → Splits stream done fed.held → FeedsAt fed.fault fed call.piece call.answer call.after
     → Splits (stream ++ taken_at fed.fault call.answer call.piece) (done ++ answered call.answer) call.after.held
@@ -88,9 +94,9 @@ fed_once stream done fed call so_far feeds = go fed.fault call.answer feeds
       each = rw (append-nil done) so_far.each;
     }
 
-    told : (fault : WireFault) → IsTold fed call.piece fault call.after ⊎ ((fault ≡ NoMemory) × (call.after ≡ fed)) → Splits (stream ++ taken_by (Err fault) call.piece) (done ++ []) call.after.held
+    told : (fault : WireFault) → IsTold fed call.piece fault call.after ⊎ IsRefused fed call.piece fault call.after → Splits (stream ++ taken_by (Err fault) call.piece) (done ++ []) call.after.held
     told NoMemory (inl t) = absurd (t.is_of_the_stream refl)
-    told NoMemory (inr h) = same h.1
+    told NoMemory (inr h) = same h.same
     told Short (inl t) = grown t.held
     told Short (inr h) = absurd (cc)
     told TooLong (inl t) = grown t.held
@@ -125,6 +131,45 @@ fed_all stream done fed (call ∷ calls) so_far h =
 
 pub fed_pieces : (calls : List Call) → AreFed empty calls → Splits (all_taken empty calls) (all_answered calls) (after_calls empty calls).held
 fed_pieces calls h = fed_all [] [] empty calls (record { whole = refl; each = All-nil IsSpelled }) h
+
+-- memory is refused behind the frames that were kept
+pub cut_short : (bytes : List ℕ) (frames kept : Vec Stamped) (used : ℕ) → used ≤ length bytes → Splits bytes kept.items (drop used bytes) → frames.items ≡ kept.items
+    → (frame_at (take (length bytes - used) (drop used bytes)) ≡ Err NoMemory) ⊎ ((NoMemory ≡ NoMemory)
+    × (TakesMemory (take (length bytes - used) (drop used bytes)) ⊎ (IsOk (frame_at (take (length bytes - used) (drop used bytes))) × (vec_capacity kept ≤ vec_len kept))))
+    → IsCutShort bytes frames
+cut_short bytes frames kept used inside splits same needs =
+    let all : take (length bytes - used) (drop used bytes) ≡ drop used bytes = take_all (length bytes - used) (drop used bytes) (omega (arith, length-drop used bytes)) in
+    let needed = rw all at needs in
+    let front : Splits bytes frames.items (drop used bytes) = rw same splits in
+    elim needed [
+      | inl failed ↦ absurd (frame_never (drop used bytes) failed)
+      | inr refused ↦ elim refused.1 [
+        | inl taken ↦ record { rest = drop used bytes; splits = front; needs = inl taken }
+        | inr full ↦ record { rest = drop used bytes; splits = front; needs = inr full.0 }
+      ]
+    ]
+
+-- what is held and is no whole frame asks for no memory
+pub asks_none : (held : List ℕ) (frames : Vec Stamped) → frame_at held ≡ Err Short → IsCutShort held frames → ⊥
+asks_none held frames waits cut = go frames.items cut.rest cut.splits cut.needs
+  where
+    unread-in : (bytes : List ℕ) → frame_at bytes ≡ Err Short → TakesMemory bytes ⊎ IsOk (frame_at bytes) → ⊥
+    unread-in bytes e (inl taken) = short_is_no_field ((frame_asked bytes).fault Short taken e)
+    unread-in bytes e (inr some) = let bad = rw e at some in absurd cc
+
+    go : (done : List Stamped) (rest : List ℕ) → Splits held done rest → TakesMemory rest ⊎ IsOk (frame_at rest) → ⊥
+    go [] rest splits needs = unread-in rest (ap frame_at (sym splits.whole) ∙ waits) needs
+    go (s ∷ ss) rest splits needs =
+        no_frame s (flat_map spelling ss ++ rest) held Short (All-head IsSpelled s ss splits.each) (splits.whole ∙ append_assoc (spelling s) (flat_map spelling ss) rest) waits
+
+-- so memory is refused for a piece that is not empty
+pub refused : (fed new : Fed) (piece : List ℕ) (frames : Vec Stamped) (fault : WireFault) → IsFed fed → fed.fault ≡ None → IsCutShort (fed.held ++ piece) frames → fault ≡ NoMemory → new ≡ fed
+    → FeedsAt fed.fault fed piece (Err fault) new
+refused fed new piece frames fault is_fed none cut memory same =
+    let waits : frame_at fed.held ≡ Err Short = subst (IsAt fed.held) none is_fed in
+    let some : piece ≢ [] = λ empty. asks_none fed.held frames waits (subst (λ (x : List ℕ). IsCutShort x frames) (ap (λ (x : List ℕ). fed.held ++ x) empty ∙ append-nil fed.held) cut) in
+    let takes : FeedsAt None fed piece (Err fault) new = inr (record { some = some; memory = memory; same = same }) in
+    subst (λ (f : Option WireFault). FeedsAt f fed piece (Err fault) new) (sym none) takes
 
 -- ---- what is left
 

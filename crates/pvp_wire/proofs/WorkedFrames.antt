@@ -3,11 +3,11 @@ use Rattle.std.proofs.Common.{◌≡◌, ℕ, true, List, [], ◌∷◌, ◌++�
 use Rattle.pvp_types.specs.declared.command.Cmd.TheVariants.{Fund, Settle}
 use Rattle.pvp_types.specs.declared.command.Reason.TheVariants.{BankShort}
 use Rattle.pvp_types.specs.declared.command.Reply.TheVariants.{No}
-use Rattle.vr_types.specs.declared.message.MsgOf.TheVariants.{Request, Commit, StartView, Reply, PayOrder}
+use Rattle.vr_types.specs.declared.message.MsgOf.TheVariants.{Request, Commit, StartViewChange, StartView, Reply, PayOrder}
 use Rattle.pvp_wire.specs.declared.fault.WireFault.TheVariants.{Short, TooLong, Version, Kind, Field, Length}
 use Rattle.pvp_wire.specs.declared.stamped.Stamped.{Stamped}
 use Rattle.pvp_wire.specs.Spelling.{BankMsg, spelling, number}
-use Rattle.pvp_wire.specs.Reading.{frame_where, frame_at, TakesMemory, counted_at, envelope_at, stamp_at, message_at, request_at, start_view_at, rows_at, rows_from, row_at, command_at, order_at, answer_at, reply_at}
+use Rattle.pvp_wire.specs.Reading.{frame_where, frame_at, TakesMemory, counted_at, envelope_at, stamp_at, message_at, request_at, start_view_change_at, start_view_at, boots_at, rows_at, items_from, row_at, command_at, order_at, answer_at, reply_at}
 
 abbrev sent : ℕ → ℕ → ℕ → ℕ → BankMsg → Stamped
 sent from clock index to msg = record { stamp = record { actor = from; clock = clock; index = index }; envelope = record { from = from; to = to; msg = msg } }
@@ -17,7 +17,7 @@ abbrev commit : Stamped
 commit = sent 200 5 0 201 (Commit 0 1)
 
 abbrev commit_bytes : List ℕ
-commit_bytes = 0 ∷ 0 ∷ 0 ∷ 24 ∷ 1 ∷ 4 ∷ 0 ∷ 200 ∷ 0 ∷ 0 ∷ 0 ∷ 0 ∷ 0 ∷ 0 ∷ 0 ∷ 5 ∷ 0 ∷ 0 ∷ 0 ∷ 0 ∷ 0 ∷ 201 ∷ 0 ∷ 0 ∷ 0 ∷ 0 ∷ 0 ∷ 1 ∷ []
+commit_bytes = 0 ∷ 0 ∷ 0 ∷ 24 ∷ 2 ∷ 4 ∷ 0 ∷ 200 ∷ 0 ∷ 0 ∷ 0 ∷ 0 ∷ 0 ∷ 0 ∷ 0 ∷ 5 ∷ 0 ∷ 0 ∷ 0 ∷ 0 ∷ 0 ∷ 201 ∷ 0 ∷ 0 ∷ 0 ∷ 0 ∷ 0 ∷ 1 ∷ []
 
 commit_is_spelled : spelling commit ≡ commit_bytes
 unfolding number
@@ -32,7 +32,7 @@ abbrev request : Stamped
 request = sent 102 1 0 200 (Request 1 (Fund 1 1 1 1200))
 
 abbrev request_bytes : List ℕ
-request_bytes = 0 ∷ 0 ∷ 0 ∷ 38 ∷ 1 ∷ 1 ∷ 0 ∷ 102 ∷ 0 ∷ 0 ∷ 0 ∷ 0 ∷ 0 ∷ 0 ∷ 0 ∷ 1 ∷ 0 ∷ 0 ∷ 0 ∷ 0 ∷ 0 ∷ 200 ∷ 0 ∷ 0 ∷ 0 ∷ 1
+request_bytes = 0 ∷ 0 ∷ 0 ∷ 38 ∷ 2 ∷ 1 ∷ 0 ∷ 102 ∷ 0 ∷ 0 ∷ 0 ∷ 0 ∷ 0 ∷ 0 ∷ 0 ∷ 1 ∷ 0 ∷ 0 ∷ 0 ∷ 0 ∷ 0 ∷ 200 ∷ 0 ∷ 0 ∷ 0 ∷ 1
     ∷ 3 ∷ 1 ∷ 0 ∷ 0 ∷ 0 ∷ 1 ∷ 0 ∷ 1 ∷ 0 ∷ 0 ∷ 0 ∷ 0 ∷ 0 ∷ 0 ∷ 4 ∷ 176 ∷ []
 
 request_is_spelled : spelling request ≡ request_bytes
@@ -48,7 +48,7 @@ abbrev order : Stamped
 order = sent 200 7 2 102 (PayOrder (record { ccy = 1; out = 1; member = 1; amt = 200 }))
 
 abbrev order_bytes : List ℕ
-order_bytes = 0 ∷ 0 ∷ 0 ∷ 33 ∷ 1 ∷ 13 ∷ 0 ∷ 200 ∷ 0 ∷ 0 ∷ 0 ∷ 0 ∷ 0 ∷ 0 ∷ 0 ∷ 7 ∷ 0 ∷ 0 ∷ 0 ∷ 2 ∷ 0 ∷ 102 ∷ 1 ∷ 0 ∷ 0 ∷ 0 ∷ 1 ∷ 0 ∷ 1 ∷ 0 ∷ 0 ∷ 0 ∷ 0 ∷ 0 ∷ 0 ∷ 0 ∷ 200 ∷ []
+order_bytes = 0 ∷ 0 ∷ 0 ∷ 33 ∷ 2 ∷ 13 ∷ 0 ∷ 200 ∷ 0 ∷ 0 ∷ 0 ∷ 0 ∷ 0 ∷ 0 ∷ 0 ∷ 7 ∷ 0 ∷ 0 ∷ 0 ∷ 2 ∷ 0 ∷ 102 ∷ 1 ∷ 0 ∷ 0 ∷ 0 ∷ 1 ∷ 0 ∷ 1 ∷ 0 ∷ 0 ∷ 0 ∷ 0 ∷ 0 ∷ 0 ∷ 0 ∷ 200 ∷ []
 
 order_is_spelled : spelling order ≡ order_bytes
 unfolding number
@@ -63,7 +63,7 @@ abbrev answer : Stamped
 answer = sent 200 7 0 1 (Reply 0 3 (No BankShort))
 
 abbrev answer_bytes : List ℕ
-answer_bytes = 0 ∷ 0 ∷ 0 ∷ 28 ∷ 1 ∷ 12 ∷ 0 ∷ 200 ∷ 0 ∷ 0 ∷ 0 ∷ 0 ∷ 0 ∷ 0 ∷ 0 ∷ 7 ∷ 0 ∷ 0 ∷ 0 ∷ 0 ∷ 0 ∷ 1 ∷ 0 ∷ 0 ∷ 0 ∷ 0 ∷ 0 ∷ 0 ∷ 0 ∷ 3 ∷ 5 ∷ 11 ∷ []
+answer_bytes = 0 ∷ 0 ∷ 0 ∷ 28 ∷ 2 ∷ 12 ∷ 0 ∷ 200 ∷ 0 ∷ 0 ∷ 0 ∷ 0 ∷ 0 ∷ 0 ∷ 0 ∷ 7 ∷ 0 ∷ 0 ∷ 0 ∷ 0 ∷ 0 ∷ 1 ∷ 0 ∷ 0 ∷ 0 ∷ 0 ∷ 0 ∷ 0 ∷ 0 ∷ 3 ∷ 5 ∷ 11 ∷ []
 
 answer_is_spelled : spelling answer ≡ answer_bytes
 unfolding number
@@ -78,7 +78,7 @@ abbrev start_view : Stamped
 start_view = sent 200 9 0 201 (StartView 0 0 (record { client = 0; number = 1; cmd = Settle 8 } ∷ []))
 
 abbrev start_view_bytes : List ℕ
-start_view_bytes = 0 ∷ 0 ∷ 0 ∷ 37 ∷ 1 ∷ 7 ∷ 0 ∷ 200 ∷ 0 ∷ 0 ∷ 0 ∷ 0 ∷ 0 ∷ 0 ∷ 0 ∷ 9 ∷ 0 ∷ 0 ∷ 0 ∷ 0 ∷ 0 ∷ 201 ∷ 0 ∷ 0 ∷ 0 ∷ 0 ∷ 0 ∷ 0 ∷ 0 ∷ 1
+start_view_bytes = 0 ∷ 0 ∷ 0 ∷ 37 ∷ 2 ∷ 7 ∷ 0 ∷ 200 ∷ 0 ∷ 0 ∷ 0 ∷ 0 ∷ 0 ∷ 0 ∷ 0 ∷ 9 ∷ 0 ∷ 0 ∷ 0 ∷ 0 ∷ 0 ∷ 201 ∷ 0 ∷ 0 ∷ 0 ∷ 0 ∷ 0 ∷ 0 ∷ 0 ∷ 1
     ∷ 0 ∷ 0 ∷ 0 ∷ 0 ∷ 0 ∷ 1 ∷ 4 ∷ 0 ∷ 0 ∷ 0 ∷ 8 ∷ []
 
 start_view_is_spelled : spelling start_view ≡ start_view_bytes
@@ -86,13 +86,42 @@ unfolding number
 start_view_is_spelled = refl
 
 start_view_is_read : frame_at start_view_bytes ≡ Ok (start_view, 41)
-unfolding frame_where counted_at envelope_at stamp_at message_at start_view_at rows_at rows_from row_at command_at
+unfolding frame_where counted_at envelope_at stamp_at message_at start_view_at rows_at items_from row_at command_at
 start_view_is_read = refl
+
+-- STARTVIEWCHANGE of view 2 from site 2 to site 1, which knows of no boot of any of three sites
+abbrev start_view_change : Stamped
+start_view_change = sent 202 2 1 201 (StartViewChange 2 (0 ∷ 0 ∷ 0 ∷ []))
+
+abbrev start_view_change_bytes : List ℕ
+start_view_change_bytes = 0 ∷ 0 ∷ 0 ∷ 35 ∷ 2 ∷ 5 ∷ 0 ∷ 202 ∷ 0 ∷ 0 ∷ 0 ∷ 0 ∷ 0 ∷ 0 ∷ 0 ∷ 2 ∷ 0 ∷ 0 ∷ 0 ∷ 1 ∷ 0 ∷ 201 ∷ 0 ∷ 0 ∷ 0 ∷ 2
+    ∷ 3 ∷ 0 ∷ 0 ∷ 0 ∷ 0 ∷ 0 ∷ 0 ∷ 0 ∷ 0 ∷ 0 ∷ 0 ∷ 0 ∷ 0 ∷ []
+
+start_view_change_is_spelled : spelling start_view_change ≡ start_view_change_bytes
+unfolding number
+start_view_change_is_spelled = refl
+
+start_view_change_is_read : frame_at start_view_change_bytes ≡ Ok (start_view_change, 39)
+unfolding frame_where counted_at envelope_at stamp_at message_at start_view_change_at boots_at items_from
+start_view_change_is_read = refl
+
+-- the same with as many sites as the byte tells
+abbrev with_sites : ℕ → List ℕ
+with_sites count = take 26 start_view_change_bytes ++ count ∷ drop 27 start_view_change_bytes
+
+-- of no site, and of more than seven, nothing is told; two leave bytes behind them, and of four one is cut off
+other_counts_of_sites : (frame_at (with_sites 0) ≡ Err Field) × (frame_at (with_sites 8) ≡ Err Field) × (frame_at (with_sites 2) ≡ Err Length) × (frame_at (with_sites 4) ≡ Err Length)
+unfolding frame_where counted_at envelope_at stamp_at message_at start_view_change_at boots_at items_from
+other_counts_of_sites = (refl, refl, refl, refl)
 
 -- ---- memory
 
+start_view_change_takes_memory : TakesMemory start_view_change_bytes
+unfolding frame_where counted_at envelope_at stamp_at message_at start_view_change_at boots_at items_from
+start_view_change_takes_memory = refl
+
 start_view_takes_memory : TakesMemory start_view_bytes
-unfolding frame_where counted_at envelope_at stamp_at message_at start_view_at rows_at rows_from row_at command_at
+unfolding frame_where counted_at envelope_at stamp_at message_at start_view_at rows_at items_from row_at command_at
 start_view_takes_memory = refl
 
 -- a second row is counted and is not there: the first takes memory before that is seen
@@ -100,11 +129,11 @@ abbrev cut_off : List ℕ
 cut_off = take 29 start_view_bytes ++ 2 ∷ drop 30 start_view_bytes
 
 cut_off_is_refused : (frame_at cut_off ≡ Err Length) × TakesMemory cut_off
-unfolding frame_where counted_at envelope_at stamp_at message_at start_view_at rows_at rows_from row_at command_at
+unfolding frame_where counted_at envelope_at stamp_at message_at start_view_at rows_at items_from row_at command_at
 cut_off_is_refused = (refl, refl)
 
 -- at another version, or without a row, nothing does
-without_memory : (frame_where true (take 4 start_view_bytes ++ 2 ∷ drop 5 start_view_bytes) ≡ Err Version) × (frame_where true commit_bytes ≡ Ok (commit, 28))
+without_memory : (frame_where true (take 4 start_view_bytes ++ 1 ∷ drop 5 start_view_bytes) ≡ Err Version) × (frame_where true commit_bytes ≡ Ok (commit, 28))
 unfolding frame_where counted_at envelope_at stamp_at message_at
 without_memory = (refl, refl)
 
@@ -114,7 +143,7 @@ without_memory = (refl, refl)
 abbrev with_byte : ℕ → ℕ → List ℕ
 with_byte place byte = take place commit_bytes ++ byte ∷ drop (place + 1) commit_bytes
 
-another_version : frame_at (with_byte 4 2) ≡ Err Version
+another_version : frame_at (with_byte 4 1) ≡ Err Version
 unfolding frame_where counted_at
 another_version = refl
 
@@ -131,7 +160,7 @@ unfolding frame_where counted_at envelope_at stamp_at message_at
 a_byte_more = refl
 
 -- the version is tested before the kind, and both before the fields
-version_first : frame_at (take 4 commit_bytes ++ 2 ∷ 0 ∷ 0 ∷ 99 ∷ drop 8 commit_bytes) ≡ Err Version
+version_first : frame_at (take 4 commit_bytes ++ 1 ∷ 0 ∷ 0 ∷ 99 ∷ drop 8 commit_bytes) ≡ Err Version
 unfolding frame_where counted_at
 version_first = refl
 

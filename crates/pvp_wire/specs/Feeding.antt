@@ -1,5 +1,6 @@
 -- What a feeder holds, and what it makes of a stream that comes in pieces.
-use Rattle.std.specs.Prelude.{◌≡◌, ◌≢◌, ◌⊎◌, ℕ, List, [], ◌∷◌, ◌++◌, All, Option, Some, None, Result, Ok, Err}
+use Rattle.std.specs.Prelude.{◌≡◌, ◌≢◌, ◌⊎◌, ◌≤◌, ℕ, List, [], ◌∷◌, ◌++◌, All, Option, Some, None, Result, Ok, Err, IsOk, vec_len}
+use Rattle.std.specs.Vec.{vec_capacity}
 use Rattle.std.specs.Global.{Vec}
 use Rattle.std.specs.List.{flat_map}
 use Rattle.pvp_wire.specs.declared.fault.WireFault.{WireFault}
@@ -7,22 +8,12 @@ use Rattle.pvp_wire.specs.declared.fault.WireFault.TheVariants.{Short, TooLong, 
 use Rattle.pvp_wire.specs.declared.stamped.Stamped.{Stamped}
 use Rattle.pvp_wire.specs.Spelling.{spelling}
 use Rattle.pvp_wire.specs.Fits.{IsSpelled}
-use Rattle.pvp_wire.specs.Reading.{frame_at}
+use Rattle.pvp_wire.specs.Reading.{frame_at, TakesMemory}
 
 -- the bytes that came after the last whole frame, and the fault that stands in front of them
 pub record Fed : Type 0 where
   pub held : List ℕ
   pub fault : Option WireFault
-
--- the fault that no more of the stream can mend: any but that a frame is not whole
-abbrev pub lasting : WireFault → Option WireFault
-lasting Short = None
-lasting TooLong = Some TooLong
-lasting Version = Some Version
-lasting Kind = Some Kind
-lasting Field = Some Field
-lasting Length = Some Length
-lasting NoMemory = Some NoMemory
 
 -- a new feeder
 abbrev pub empty : Fed
@@ -42,6 +33,19 @@ pub record Splits (stream : List ℕ) (frames : List Stamped) (rest : List ℕ) 
   pub whole : stream ≡ flat_map spelling frames ++ rest
   pub each : All IsSpelled frames
 
+-- What stands in front is kept behind these frames: as one more, of which the size is answered, or there is none. Memory
+-- may be refused for its rows, or where there is no room for one more.
+abbrev pub Keeps : Vec Stamped → List ℕ → Result ℕ WireFault → Vec Stamped → Type 0
+Keeps old bytes (Ok size) new = (s : Stamped) × (frame_at bytes ≡ Ok (s, size)) × (new.items ≡ old.items ++ s ∷ [])
+Keeps old bytes (Err fault) new = (new.items ≡ old.items) × ((frame_at bytes ≡ Err fault)
+    ⊎ ((fault ≡ NoMemory) × (TakesMemory bytes ⊎ (IsOk (frame_at bytes) × (vec_capacity old ≤ vec_len old)))))
+
+-- memory was refused for the frame behind those that were kept, or for its rows
+pub record IsCutShort (bytes : List ℕ) (frames : Vec Stamped) : Type 0 where
+  pub rest : List ℕ
+  pub splits : Splits bytes frames.items rest
+  pub needs : TakesMemory rest ⊎ IsOk (frame_at rest)
+
 -- a fault in front
 pub record IsTold (old : Fed) (piece : List ℕ) (told : WireFault) (new : Fed) : Type 0 where
   pub held : new.held ≡ old.held ++ piece
@@ -49,10 +53,17 @@ pub record IsTold (old : Fed) (piece : List ℕ) (told : WireFault) (new : Fed) 
   pub waits_for_no_more : told ≢ Short
   pub is_of_the_stream : told ≢ NoMemory
 
--- What a feeder without a fault makes of a piece: the frames that are whole now are answered, and the rest is held. A fault behind them is told at the next call, one in front of all of them at once. Where memory is refused nothing changes.
+-- memory was refused for the piece, which is not empty, and nothing changes
+pub record IsRefused (old : Fed) (piece : List ℕ) (told : WireFault) (new : Fed) : Type 0 where
+  pub some : piece ≢ []
+  pub memory : told ≡ NoMemory
+  pub same : new ≡ old
+
+-- What a feeder without a fault makes of a piece: the frames that are whole now are answered, and the rest is held. A
+-- fault behind them is told at the next call, one in front of all of them at once.
 abbrev pub Takes : Fed → List ℕ → Result (Vec Stamped) WireFault → Fed → Type 0
 Takes old piece (Ok frames) new = Splits (old.held ++ piece) frames.items new.held × ((frames.items ≢ []) ⊎ (new.fault ≡ None))
-Takes old piece (Err fault) new = IsTold old piece fault new ⊎ ((fault ≡ NoMemory) × (new ≡ old))
+Takes old piece (Err fault) new = IsTold old piece fault new ⊎ IsRefused old piece fault new
 
 -- What a feeder makes of a piece: where a fault stands, it is told again, and the piece is not taken.
 abbrev pub FeedsAt : Option WireFault → Fed → List ℕ → Result (Vec Stamped) WireFault → Fed → Type 0

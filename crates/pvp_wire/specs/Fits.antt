@@ -1,7 +1,7 @@
 -- What fits its fields: each number fits the bytes that it has.
 use Rattle.std.specs.Prelude.{◌≡◌, ℕ, ◌^◌, ◌<◌, true, All, List, [], ◌∷◌, length, Option, Some, None}
 use Rattle.pvp_types.specs.declared.command.Cmd.{Cmd}
-use Rattle.pvp_types.specs.declared.command.Cmd.TheVariants.{Instruct, Rescind, Fund, Settle, PayOut, Paid}
+use Rattle.pvp_types.specs.declared.command.Cmd.TheVariants.{Instruct, Rescind, Fund, Settle, PayOut, Paid, Returned}
 use Rattle.pvp_types.specs.declared.command.PayOrder as orders
 use Rattle.pvp_types.specs.declared.command.Reply as replies
 use Rattle.pvp_types.specs.declared.command.Reply.TheVariants.{Done, Matched, Settled, Order, No}
@@ -23,6 +23,7 @@ CommandFits (Fund ccy pay member amt) = Fits 1 ccy × Fits 4 pay × Fits 2 membe
 CommandFits (Settle most) = Fits 4 most
 CommandFits (PayOut ccy amt) = Fits 1 ccy × Fits 8 amt
 CommandFits (Paid ccy out) = Fits 1 ccy × Fits 4 out
+CommandFits (Returned ccy out) = Fits 1 ccy × Fits 4 out
 
 abbrev pub ReplyFits : replies.Reply → Type 0
 ReplyFits Done = Unit {0}
@@ -37,12 +38,16 @@ OrderFits due = Fits 1 due.ccy × Fits 4 due.out × Fits 2 due.member × Fits 8 
 abbrev pub RowFits : BankRow → Type 0
 RowFits r = Fits 2 r.client × Fits 4 r.number × CommandFits r.cmd
 
-abbrev pub EachFits : List BankRow → Type 0
-EachFits [] = Unit {0}
-EachFits (r ∷ log) = RowFits r × EachFits log
+-- each item of a list fits
+abbrev pub EachFits : {A : Type 0} → (A → Type 0) → List A → Type 0
+EachFits ItemFits [] = Unit {0}
+EachFits ItemFits (x ∷ xs) = ItemFits x × EachFits ItemFits xs
 
 abbrev pub RowsFit : List BankRow → Type 0
-RowsFit log = Fits 2 (length log) × EachFits log
+RowsFit log = Fits 2 (length log) × EachFits RowFits log
+
+abbrev pub BootsFit : List ℕ → Type 0
+BootsFit known = EachFits (Fits 4) known
 
 abbrev pub StateFits : Option (StateOf Cmd) → Type 0
 StateFits None = Unit {0}
@@ -53,13 +58,14 @@ MessageFits (Request n cmd) = Fits 4 n × CommandFits cmd
 MessageFits (Prepare view place k r) = Fits 4 view × Fits 2 place × Fits 2 k × RowFits r
 MessageFits (PrepareOk view place) = Fits 4 view × Fits 2 place
 MessageFits (Commit view k) = Fits 4 view × Fits 2 k
-MessageFits (StartViewChange view) = Fits 4 view
-MessageFits (DoViewChange view last_normal k log) = Fits 4 view × Fits 4 last_normal × Fits 2 k × RowsFit log
+MessageFits (StartViewChange view known) = Fits 4 view × BootsFit known
+MessageFits (DoViewChange view last_normal k log known) =
+    Fits 4 view × Fits 4 last_normal × Fits 2 k × BootsFit known × RowsFit log
 MessageFits (StartView view k log) = Fits 4 view × Fits 2 k × RowsFit log
 MessageFits (GetState view base) = Fits 4 view × Fits 2 base
 MessageFits (NewState view base k log) = Fits 4 view × Fits 2 base × Fits 2 k × RowsFit log
 MessageFits (Recovery nonce) = Fits 4 nonce
-MessageFits (RecoveryResponse view nonce s) = Fits 4 view × Fits 4 nonce × StateFits s
+MessageFits (RecoveryResponse view nonce s known) = Fits 4 view × Fits 4 nonce × BootsFit known × StateFits s
 MessageFits (Reply view n answer) = Fits 4 view × Fits 4 n × ReplyFits answer
 MessageFits (PayOrder due) = OrderFits due
 
@@ -73,7 +79,7 @@ StampedFits s = StampFits s.stamp × Fits 2 s.envelope.to × MessageFits s.envel
 abbrev pub IsBytes : List ℕ → Type 0
 IsBytes bytes = All (λ b. b < 256) bytes
 
--- what has a spelling: it fits, and its actors and the clients of its rows are such
+-- what has a spelling: it fits, and its actors, the clients of its rows and the boots that it tells of are such
 pub record IsSpelled (s : Stamped) : Type 0 where
   pub fits : StampedFits s
   pub wireable : is_wireable s ≡ true

@@ -1,8 +1,8 @@
 -- How bytes are read as a stamped envelope: which fault comes first, and what is read where none comes.
-use Rattle.std.specs.Prelude.{ℕ, zero, suc, ◌+◌, ◌==◌, ◌&&◌, ◌||◌, ◌≡◌, ◌⊎◌, Bool, true, false, not, nat_lt, nat_le, List, [], ◌∷◌, length, take, drop, Option, Some, None, Result, Ok, Err, if◌then◌else◌}
+use Rattle.std.specs.Prelude.{ℕ, zero, suc, ◌+◌, ◌==◌, ◌&&◌, ◌||◌, ◌≡◌, ◌≢◌, ◌⊎◌, Bool, true, false, not, nat_lt, nat_le, List, [], ◌∷◌, length, take, drop, Option, Some, None, is_some, Result, Ok, Err, if◌then◌else◌}
 use Rattle.byteorder.specs.Endian.{big_number}
 use Rattle.pvp_types.specs.declared.command.Cmd.{Cmd}
-use Rattle.pvp_types.specs.declared.command.Cmd.TheVariants.{Instruct, Rescind, Fund, Settle, PayOut, Paid}
+use Rattle.pvp_types.specs.declared.command.Cmd.TheVariants.{Instruct, Rescind, Fund, Settle, PayOut, Paid, Returned}
 use Rattle.pvp_types.specs.declared.command.PayOrder as orders
 use Rattle.pvp_types.specs.declared.command.Reason.{Reason}
 use Rattle.pvp_types.specs.declared.command.Reason.TheVariants as reason
@@ -11,11 +11,12 @@ use Rattle.pvp_types.specs.declared.command.Reply.TheVariants.{Done, Matched, Se
 use Rattle.vr_types.specs.declared.message.MsgOf.TheVariants.{Request, Prepare, PrepareOk, Commit, StartViewChange, DoViewChange, StartView, GetState, NewState, Recovery, RecoveryResponse, Reply, PayOrder}
 use Rattle.vr_types.specs.declared.message.StateOf.{StateOf}
 use Rattle.vr_types.specs.Group.{is_client}
+use Rattle.vr_types.specs.Messages.{rows_in, known_in}
 use Rattle.pvp_wire.specs.declared.fault.WireFault.{WireFault}
 use Rattle.pvp_wire.specs.declared.fault.WireFault.TheVariants.{Short, TooLong, Version, Kind, Field, Length, NoMemory}
 use Rattle.pvp_wire.specs.declared.stamped.Stamp.{Stamp}
 use Rattle.pvp_wire.specs.declared.stamped.Stamped.{Stamped}
-use Rattle.pvp_wire.specs.Spelling.{BankMsg, BankRow, is_actor}
+use Rattle.pvp_wire.specs.Spelling.{BankMsg, BankRow, is_actor, is_site_count, version}
 
 -- one step after another, up to the first that fails
 infixl 10 ◌>>=◌
@@ -31,9 +32,9 @@ Reads A = Result (A × List ℕ) WireFault
 abbrev pub number_at : ℕ → List ℕ → Reads ℕ
 number_at n bytes = if nat_lt (length bytes) n then Err Length else Ok (big_number n bytes, drop n bytes)
 
--- a number of two bytes that has to be one of a list
-abbrev pub listed_at : (ℕ → Bool) → List ℕ → Reads ℕ
-listed_at is_listed bytes = number_at 2 bytes >>= λ n. if is_listed n.0 then Ok n else Err Field
+-- a number of so many bytes that has to be one of a list
+abbrev pub listed_at : ℕ → (ℕ → Bool) → List ℕ → Reads ℕ
+listed_at width is_listed bytes = number_at width bytes >>= λ n. if is_listed n.0 then Ok n else Err Field
 
 -- ---- commands, by their tags
 
@@ -67,6 +68,12 @@ paid_at bytes = do
   out ← number_at 4 ccy.1
   Ok (Paid ccy.0 out.0, out.1)
 
+abbrev pub returned_at : List ℕ → Reads Cmd
+returned_at bytes = do
+  ccy ← number_at 1 bytes
+  out ← number_at 4 ccy.1
+  Ok (Returned ccy.0 out.0, out.1)
+
 unfoldable pub command_at : List ℕ → Reads Cmd
 command_at [] = Err Length
 command_at (tag ∷ bytes) =
@@ -76,6 +83,7 @@ command_at (tag ∷ bytes) =
     else if tag == 4 then (number_at 4 bytes >>= λ most. Ok (Settle most.0, most.1))
     else if tag == 5 then pay_out_at bytes
     else if tag == 6 then paid_at bytes
+    else if tag == 7 then returned_at bytes
     else Err Field
 
 -- ---- answers
@@ -119,29 +127,34 @@ order_at bytes = do
 
 unfoldable pub row_at : List ℕ → Reads BankRow
 row_at bytes = do
-  client ← listed_at is_client bytes
+  client ← listed_at 2 is_client bytes
   number ← number_at 4 client.1
   cmd ← command_at number.1
   Ok (record { client = client.0; number = number.0; cmd = cmd.0 }, cmd.1)
 
--- ---- lists of rows. Each row that was read is kept, which alone takes memory: what follows is read as if memory were refused there, or as if it were not.
+-- ---- lists. Each item that was read is kept, which alone takes memory: what follows is read as if memory were refused
+-- there, or as if it were not.
 
--- a row is kept
-abbrev pub kept : Bool → BankRow → Result BankRow WireFault
-kept refused r = if refused then Err NoMemory else Ok r
+-- an item is kept
+abbrev pub kept : {A : Type 0} → Bool → A → Result A WireFault
+kept refused x = if refused then Err NoMemory else Ok x
 
--- so many rows
-unfoldable pub rows_from : Bool → ℕ → List ℕ → Reads (List BankRow)
-rows_from refused zero bytes = Ok ([], bytes)
-rows_from refused (suc count) bytes = do
-  r ← row_at bytes
-  first ← kept refused r.0
-  others ← rows_from refused count r.1
+-- so many items, each read so
+unfoldable pub items_from : {A : Type 0} → (List ℕ → Reads A) → Bool → ℕ → List ℕ → Reads (List A)
+items_from read refused zero bytes = Ok ([], bytes)
+items_from read refused (suc count) bytes = do
+  x ← read bytes
+  first ← kept refused x.0
+  others ← items_from read refused count x.1
   Ok (first ∷ others.0, others.1)
 
 -- a count, and that many rows
 unfoldable pub rows_at : Bool → List ℕ → Reads (List BankRow)
-rows_at refused bytes = number_at 2 bytes >>= λ count. rows_from refused count.0 count.1
+rows_at refused bytes = number_at 2 bytes >>= λ count. items_from row_at refused count.0 count.1
+
+-- of how many sites the boots are told, 1 to 7, and the boot number of each
+unfoldable pub boots_at : Bool → List ℕ → Reads (List ℕ)
+boots_at refused bytes = listed_at 1 is_site_count bytes >>= λ count. items_from (number_at 4) refused count.0 count.1
 
 -- a state: how many rows are executed, and the rows
 unfoldable pub state_at : Bool → List ℕ → Reads (StateOf Cmd)
@@ -181,13 +194,20 @@ view_and_place_at bytes = do
   place ← number_at 2 view.1
   Ok ((view.0, place.0), place.1)
 
+unfoldable pub start_view_change_at : Bool → List ℕ → Reads BankMsg
+start_view_change_at refused bytes = do
+  view ← number_at 4 bytes
+  known ← boots_at refused view.1
+  Ok (StartViewChange view.0 known.0, known.1)
+
 unfoldable pub do_view_change_at : Bool → List ℕ → Reads BankMsg
 do_view_change_at refused bytes = do
   view ← number_at 4 bytes
   last_normal ← number_at 4 view.1
   k ← number_at 2 last_normal.1
-  log ← rows_at refused k.1
-  Ok (DoViewChange view.0 last_normal.0 k.0 log.0, log.1)
+  known ← boots_at refused k.1
+  log ← rows_at refused known.1
+  Ok (DoViewChange view.0 last_normal.0 k.0 log.0 known.0, log.1)
 
 unfoldable pub start_view_at : Bool → List ℕ → Reads BankMsg
 start_view_at refused bytes = do
@@ -208,8 +228,9 @@ unfoldable pub recovery_response_at : Bool → List ℕ → Reads BankMsg
 recovery_response_at refused bytes = do
   view ← number_at 4 bytes
   nonce ← number_at 4 view.1
-  s ← option_at refused nonce.1
-  Ok (RecoveryResponse view.0 nonce.0 s.0, s.1)
+  known ← boots_at refused nonce.1
+  s ← option_at refused known.1
+  Ok (RecoveryResponse view.0 nonce.0 s.0 known.0, s.1)
 
 unfoldable pub answer_at : List ℕ → Reads BankMsg
 answer_at bytes = do
@@ -225,7 +246,7 @@ message_at refused kind bytes =
     else if kind == 2 then prepare_at bytes
     else if kind == 3 then (view_and_place_at bytes >>= λ x. Ok (PrepareOk x.0.0 x.0.1, x.1))
     else if kind == 4 then (view_and_place_at bytes >>= λ x. Ok (Commit x.0.0 x.0.1, x.1))
-    else if kind == 5 then (number_at 4 bytes >>= λ view. Ok (StartViewChange view.0, view.1))
+    else if kind == 5 then start_view_change_at refused bytes
     else if kind == 6 then do_view_change_at refused bytes
     else if kind == 7 then start_view_at refused bytes
     else if kind == 8 then (view_and_place_at bytes >>= λ x. Ok (GetState x.0.0 x.0.1, x.1))
@@ -241,7 +262,7 @@ message_at refused kind bytes =
 -- the stamp, whose actor is the sender
 unfoldable pub stamp_at : List ℕ → Reads Stamp
 stamp_at bytes = do
-  actor ← listed_at is_actor bytes
+  actor ← listed_at 2 is_actor bytes
   clock ← number_at 8 actor.1
   index ← number_at 4 clock.1
   Ok (record { actor = actor.0; clock = clock.0; index = index.0 }, index.1)
@@ -250,7 +271,7 @@ stamp_at bytes = do
 unfoldable pub envelope_at : Bool → ℕ → List ℕ → Reads Stamped
 envelope_at refused kind bytes = do
   stamp ← stamp_at bytes
-  to ← listed_at is_actor stamp.1
+  to ← listed_at 2 is_actor stamp.1
   msg ← message_at refused kind to.1
   Ok (record { stamp = stamp.0; envelope = record { from = stamp.0.actor; to = to.0; msg = msg.0 } }, msg.1)
 
@@ -261,9 +282,9 @@ all_read x = if length x.1 == 0 then Ok x.0 else Err Length
 -- the bytes that a frame's length counts, at least two: version, kind and the rest
 unfoldable pub counted_at : Bool → List ℕ → Result Stamped WireFault
 counted_at refused [] = Err Length
-counted_at refused (version ∷ []) = Err Length
-counted_at refused (version ∷ kind ∷ bytes) =
-    if not (version == 1) then Err Version
+counted_at refused (number ∷ []) = Err Length
+counted_at refused (number ∷ kind ∷ bytes) =
+    if not (number == version) then Err Version
     else if not (nat_le 1 kind && nat_le kind 13) then Err Kind
     else (envelope_at refused kind bytes >>= all_read)
 
@@ -285,13 +306,17 @@ frame_where refused bytes =
 abbrev pub frame_at : List ℕ → Result (Stamped × ℕ) WireFault
 frame_at bytes = frame_where false bytes
 
--- Reading this frame takes memory: all tests up to a list of rows are passed, and its first row is read.
+-- Reading this frame takes memory: all tests up to a list are passed, and its first item is read.
 abbrev pub TakesMemory : List ℕ → Type 0
 TakesMemory bytes = frame_where true bytes ≡ Err NoMemory
 
--- the kinds of messages that carry a list of rows
-abbrev pub carries_rows : ℕ → Bool
-carries_rows kind = (kind == 6) || ((kind == 7) || ((kind == 9) || (kind == 11)))
+-- the kinds of messages that carry a list, of rows or of boots
+abbrev pub carries_a_list : ℕ → Bool
+carries_a_list kind = (kind == 5) || ((kind == 6) || ((kind == 7) || ((kind == 9) || (kind == 11))))
+
+-- a message that has an item of a list: a row, or what its sender knew of boots
+abbrev pub HasAnItem : BankMsg → Type 0
+HasAnItem msg = (rows_in msg ≢ []) ⊎ (is_some (known_in msg) ≡ true)
 
 -- what is wrong with fields: one has a value that it may not have, or they end before the frame does, or after it
 abbrev pub IsOfField : WireFault → Type 0
@@ -304,7 +329,8 @@ abbrev pub Finds : {X Y : Type 0} → (X → Y) → Result X WireFault → Resul
 Finds view (Ok x) read = read ≡ Ok (view x)
 Finds view (Err fault) read = read ≡ Err fault
 
--- What a function that takes memory for rows returned is what reading gives where memory is not refused. Only where reading meets a row that it has to keep may it tell that memory was refused.
+-- What a function that takes memory for a list returned is what reading gives where memory is not refused. Only where
+-- reading meets an item that it has to keep may it tell that memory was refused.
 abbrev pub Gives : {X Y : Type 0} → (X → Y) → Result X WireFault → (Bool → Result Y WireFault) → Type 0
 Gives view (Ok x) read = read false ≡ Ok (view x)
 Gives view (Err fault) read = (read false ≡ Err fault) ⊎ ((fault ≡ NoMemory) × (read true ≡ Err NoMemory))

@@ -1,9 +1,9 @@
 -- How a stamped envelope is spelled in bytes. All numbers are big-endian.
-use Rattle.std.specs.Prelude.{ℕ, ◌+◌, ◌*◌, ◌==◌, ◌&&◌, ◌||◌, Bool, nat_le, List, [], ◌∷◌, ◌++◌, length, Option, Some, None}
+use Rattle.std.specs.Prelude.{ℕ, ◌+◌, ◌*◌, ◌==◌, ◌&&◌, ◌||◌, Bool, true, nat_le, List, [], ◌∷◌, ◌++◌, length, Option, Some, None}
 use Rattle.std.specs.List.{flat_map, list_all}
 use Rattle.byteorder.specs.Endian.{big_bytes}
 use Rattle.pvp_types.specs.declared.command.Cmd.{Cmd}
-use Rattle.pvp_types.specs.declared.command.Cmd.TheVariants.{Instruct, Rescind, Fund, Settle, PayOut, Paid}
+use Rattle.pvp_types.specs.declared.command.Cmd.TheVariants.{Instruct, Rescind, Fund, Settle, PayOut, Paid, Returned}
 use Rattle.pvp_types.specs.declared.command.PayOrder as orders
 use Rattle.pvp_types.specs.declared.command.Reason.{Reason}
 use Rattle.pvp_types.specs.declared.command.Reason.TheVariants.{NotYours, UnknownMember, UnknownCurrency, BadAmount, Repeated, Mismatch, UnknownReference, Late, Short, TestFails, BankShort}
@@ -14,6 +14,7 @@ use Rattle.vr_types.specs.declared.message.MsgOf.TheVariants.{Request, Prepare, 
 use Rattle.vr_types.specs.declared.message.StateOf.{StateOf}
 use Rattle.vr_types.specs.declared.row.RowOf.{RowOf}
 use Rattle.vr_types.specs.Group.{is_client}
+use Rattle.vr_types.specs.Messages.{rows_in, known_in}
 use Rattle.pvp_wire.specs.declared.stamped.Stamp.{Stamp}
 use Rattle.pvp_wire.specs.declared.stamped.Stamped.{Stamped}
 
@@ -37,6 +38,7 @@ command (Fund ccy pay member amt) = 3 ∷ number 1 ccy ++ number 4 pay ++ number
 command (Settle most) = 4 ∷ number 4 most
 command (PayOut ccy amt) = 5 ∷ number 1 ccy ++ number 8 amt
 command (Paid ccy out) = 6 ∷ number 1 ccy ++ number 4 out
+command (Returned ccy out) = 7 ∷ number 1 ccy ++ number 4 out
 
 -- the number of a reason's code, B1 to B11
 abbrev pub reason_number : Reason → ℕ
@@ -70,6 +72,10 @@ row r = number 2 r.client ++ number 4 r.number ++ command r.cmd
 abbrev pub rows : List BankRow → List ℕ
 rows log = number 2 (length log) ++ flat_map row log
 
+-- what a sender knew of boots: how many sites it tells of, then the boot number of each
+abbrev pub boots : List ℕ → List ℕ
+boots known = number 1 (length known) ++ flat_map (number 4) known
+
 -- 0, or 1 and the state
 abbrev pub state : Option (StateOf Cmd) → List ℕ
 state None = 0 ∷ []
@@ -81,13 +87,13 @@ kind (Request n cmd) = 1
 kind (Prepare view place k r) = 2
 kind (PrepareOk view place) = 3
 kind (Commit view k) = 4
-kind (StartViewChange view) = 5
-kind (DoViewChange view last_normal k log) = 6
+kind (StartViewChange view known) = 5
+kind (DoViewChange view last_normal k log known) = 6
 kind (StartView view k log) = 7
 kind (GetState view base) = 8
 kind (NewState view base k log) = 9
 kind (Recovery nonce) = 10
-kind (RecoveryResponse view nonce s) = 11
+kind (RecoveryResponse view nonce s known) = 11
 kind (Reply view n answer) = 12
 kind (PayOrder due) = 13
 
@@ -97,24 +103,29 @@ body (Request n cmd) = number 4 n ++ command cmd
 body (Prepare view place k r) = number 4 view ++ number 2 place ++ number 2 k ++ row r
 body (PrepareOk view place) = number 4 view ++ number 2 place
 body (Commit view k) = number 4 view ++ number 2 k
-body (StartViewChange view) = number 4 view
-body (DoViewChange view last_normal k log) = number 4 view ++ number 4 last_normal ++ number 2 k ++ rows log
+body (StartViewChange view known) = number 4 view ++ boots known
+body (DoViewChange view last_normal k log known) = number 4 view ++ number 4 last_normal ++ number 2 k ++ boots known ++ rows log
 body (StartView view k log) = number 4 view ++ number 2 k ++ rows log
 body (GetState view base) = number 4 view ++ number 2 base
 body (NewState view base k log) = number 4 view ++ number 2 base ++ number 2 k ++ rows log
 body (Recovery nonce) = number 4 nonce
-body (RecoveryResponse view nonce s) = number 4 view ++ number 4 nonce ++ state s
+body (RecoveryResponse view nonce s known) = number 4 view ++ number 4 nonce ++ boots known ++ state s
 body (Reply view n answer) = number 4 view ++ number 4 n ++ reply answer
 body (PayOrder due) = order due
 
 abbrev pub stamp : Stamp → List ℕ
 stamp s = number 2 s.actor ++ number 8 s.clock ++ number 4 s.index
 
--- what stands between a frame's length and its message: version 1, the kind, the stamp, to whom it goes
-abbrev pub head : Stamped → List ℕ
-head s = 1 ∷ kind s.envelope.msg ∷ stamp s.stamp ++ number 2 s.envelope.to
+-- the version of these formats
+abbrev pub version : ℕ
+version = 2
 
--- the most bytes that a command, a row, rows and the fields of a message have: an Instruct, and a RECOVERYRESPONSE with as many rows as a log has
+-- what stands between a frame's length and its message: the version, the kind, the stamp, to whom it goes
+abbrev pub head : Stamped → List ℕ
+head s = version ∷ kind s.envelope.msg ∷ stamp s.stamp ++ number 2 s.envelope.to
+
+-- the most bytes that a command, a row, rows, boots and the fields of a message have: an Instruct, and a RECOVERYRESPONSE
+-- with as many rows as a log has
 abbrev pub most_command : ℕ
 most_command = 25
 
@@ -124,8 +135,11 @@ most_row = 6 + most_command
 abbrev pub most_rows : ℕ
 most_rows = 2 + 65535 * most_row
 
+abbrev pub most_boots : ℕ
+most_boots = 1 + 7 * 4
+
 abbrev pub most_body : ℕ
-most_body = 11 + most_rows
+most_body = 11 + most_boots + most_rows
 
 -- THE FRAME: the length of what follows, the head, the message
 abbrev pub spelling : Stamped → List ℕ
@@ -138,28 +152,19 @@ is_actor actor = is_client actor || (nat_le 200 actor && nat_le actor 206)
 abbrev pub has_client : BankRow → Bool
 has_client r = is_client r.client
 
--- the rows that a message carries
-abbrev pub rows_of_state : Option (StateOf Cmd) → List BankRow
-rows_of_state None = []
-rows_of_state (Some s) = s.rows
+-- a group has 1 to 7 sites
+abbrev pub is_site_count : ℕ → Bool
+is_site_count count = nat_le 1 count && nat_le count 7
 
-abbrev pub rows_of : BankMsg → List BankRow
-rows_of (Request n cmd) = []
-rows_of (Prepare view place k r) = r ∷ []
-rows_of (PrepareOk view place) = []
-rows_of (Commit view k) = []
-rows_of (StartViewChange view) = []
-rows_of (DoViewChange view last_normal k log) = log
-rows_of (StartView view k log) = log
-rows_of (GetState view base) = []
-rows_of (NewState view base k log) = log
-rows_of (Recovery nonce) = []
-rows_of (RecoveryResponse view nonce s) = rows_of_state s
-rows_of (Reply view n answer) = []
-rows_of (PayOrder due) = []
+-- what a message tells of boots, where it tells of them, it tells of so many sites
+abbrev pub has_site_count : Option (List ℕ) → Bool
+has_site_count None = true
+has_site_count (Some known) = is_site_count (length known)
 
--- An envelope that has a spelling: it is from the actor of its stamp, its actors are actors and its rows are of clients.
+-- An envelope that has a spelling: it is from the actor of its stamp, its actors are actors, its rows are of clients, and
+-- the boots that it tells of are those of 1 to 7 sites.
 abbrev pub is_wireable : Stamped → Bool
 is_wireable s =
     (s.envelope.from == s.stamp.actor)
-    && (is_actor s.stamp.actor && (is_actor s.envelope.to && list_all has_client (rows_of s.envelope.msg)))
+    && (is_actor s.stamp.actor && (is_actor s.envelope.to
+    && (list_all has_client (rows_in s.envelope.msg) && has_site_count (known_in s.envelope.msg))))

@@ -1,7 +1,8 @@
 //! Which envelopes have a spelling.
 ghost use Rattle.std.specs.Prelude.{◌≡◌};
 ghost use Rattle.std.specs.List.{list_all};
-ghost use Rattle.pvp_wire.specs.Spelling.{is_wireable, rows_of, rows_of_state, has_client};
+ghost use Rattle.vr_types.specs.Messages.{rows_in, rows_of_state, known_in};
+ghost use Rattle.pvp_wire.specs.Spelling.{is_wireable, has_client, is_site_count, has_site_count};
 
 use crate::fields::{is_actor, is_client};
 use crate::stamped::{Message, Stamped};
@@ -9,7 +10,8 @@ use pvp_types::Cmd;
 use vr_types::{MsgOf, RowsOf, StateOf};
 
 /// Whether a stamped envelope has a spelling: it is from the actor of its stamp, its actors are 0 to 64, 101 to 108 or
-/// 200 to 206, and the clients of its rows 0 to 64 or 101 to 108. It takes no memory.
+/// 200 to 206, the clients of its rows 0 to 64 or 101 to 108, and the boots that it tells of are those of 1 to 7 sites. It
+/// takes no memory.
 pub fn wireable(stamped: &Stamped) -> bool
     ensures { result ≡ is_wireable stamped.now }
 {
@@ -17,11 +19,12 @@ pub fn wireable(stamped: &Stamped) -> bool
         && is_actor(stamped.stamp.actor)
         && is_actor(stamped.envelope.to)
         && has_clients(&stamped.envelope.msg)
+        && has_site_count(&stamped.envelope.msg)
 }
 
 /// Whether all rows that a message carries are of clients.
 fn has_clients(msg: &Message) -> bool
-    ensures { result ≡ list_all has_client (rows_of msg.now) }
+    ensures { result ≡ list_all has_client (rows_in msg.now) }
 {
     match msg {
         MsgOf::Prepare { row, .. } => is_client(row.client),
@@ -38,6 +41,25 @@ fn has_clients(msg: &Message) -> bool
         | MsgOf::Reply { .. }
         | MsgOf::PayOrder(_) => true,
     }
+}
+
+/// Whether what a message tells of boots, where it tells of them, is of 1 to 7 sites.
+fn has_site_count(msg: &Message) -> bool
+    ensures { result ≡ has_site_count (known_in msg.now) }
+{
+    match msg {
+        MsgOf::StartViewChange { known, .. } => is_site_count(known.len()),
+        MsgOf::DoViewChange { known, .. } => is_site_count(known.len()),
+        MsgOf::RecoveryResponse { known, .. } => is_site_count(known.len()),
+        _ => true,
+    }
+}
+
+/// Whether a group may have so many sites.
+pub fn is_site_count(count: usize) -> bool
+    ensures { result ≡ is_site_count count }
+{
+    1 <= count && count <= 7
 }
 
 fn state_has_clients(state: &Option<StateOf<Cmd>>) -> bool

@@ -10,7 +10,7 @@ pub enum WireFault {
     Short,
     /// F2: the frame's length is above 4,194,304.
     TooLong,
-    /// F3: the version is not 1.
+    /// F3: the version is not 2.
     Version,
     /// F4: no message has this kind.
     Kind,
@@ -18,7 +18,7 @@ pub enum WireFault {
     Field,
     /// F6: the fields end before the frame does, or after it.
     Length,
-    /// F7: memory was refused, by `decode` for a row of a list.
+    /// F7: memory was refused, by `decode` for an item of a list: a row, or what is known of a site's boots.
     NoMemory,
 }
 

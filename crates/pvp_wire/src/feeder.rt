@@ -1,8 +1,6 @@
 //! A stream of frames that comes in pieces.
-ghost use Rattle.std.specs.Prelude.{◌≡◌, ◌≢◌, ◌≤◌, IfOk, Err, drop, length};
-ghost use Rattle.pvp_wire.specs.declared.fault.WireFault.TheVariants.{NoMemory};
-ghost use Rattle.pvp_wire.specs.Feeding.{Feeds, Splits, empty, lasting};
-ghost use Rattle.pvp_wire.specs.Reading.{frame_at};
+ghost use Rattle.std.specs.Prelude.{◌≡◌, ◌≤◌, [], IfOk, OnErr, drop, length};
+ghost use Rattle.pvp_wire.specs.Feeding.{Feeds, Splits, IsAt, Keeps, IsCutShort, empty};
 
 use crate::fault::WireFault;
 use crate::reading::decode;
@@ -44,13 +42,20 @@ impl Feeder {
         }
     }
 
+    /// How many bytes are held: those that came after the last whole frame. It takes no memory.
+    pub fn held(&self) -> usize
+        ensures { result ≡ length self.now.held }
+    {
+        self.held.len()
+    }
+
     /// Takes the next piece of the stream, and answers the frames that are whole now, in order.
     ///
     /// A piece with good frames before a fault answers these, and the fault comes at the next call; without one it comes
     /// at once. After F2 to F6 every call answers the same fault, and no piece is taken. F7 comes where memory for the
-    /// piece, the frames or their rows was refused and no fault stands; then the feeder is unchanged, and the piece is not
-    /// taken. F1 never comes: a frame that is not whole waits for more. What is held is neither moved nor looked at again
-    /// until its frame is whole.
+    /// piece, for its frames or for their rows was refused and no fault stands, so never for an empty piece; then the
+    /// feeder is unchanged, and the piece is not taken. F1 never comes: a frame that is not whole waits for more. What is
+    /// held is neither moved nor looked at again until its frame is whole.
     pub fn feed(&mut self, piece: &[u8]) -> Result<Vec<Stamped>, WireFault>
         ensures { Feeds self.old piece.now result self.new }
     {
@@ -59,64 +64,76 @@ impl Feeder {
         }
         let before = self.held.len();
         self.held.extend_from_slice(piece)?;
-        match frames_of(self.alloc, self.held.as_slice()) {
-            Err(_) => {
+        let mut frames = Vec::new(self.alloc);
+        match take_frames(self.alloc, self.held.as_slice(), &mut frames) {
+            Err(refused) => {
                 self.held.truncate(before);
-                Err(WireFault::NoMemory)
+                Err(refused.into())
             }
             Ok(front) => {
                 drop_front(&mut self.held, front.used);
-                self.fault = lasting(front.end);
-                match self.fault {
-                    Some(fault) if front.frames.is_empty() => Err(fault),
-                    _ => Ok(front.frames),
+                self.fault = front.fault;
+                match front.fault {
+                    Some(fault) if frames.is_empty() => Err(fault),
+                    _ => Ok(frames),
                 }
             }
         }
     }
 }
 
-/// The frames in front of a stream, how many bytes they take, and why no frame comes next.
-#[derive(Drop)]
+/// How many bytes the frames in front of a stream take, and what is wrong behind them, where no more of the stream can
+/// mend it.
+#[derive(Clone, Copy)]
 struct Front {
-    frames: Vec<Stamped>,
     used: usize,
-    end: WireFault,
+    fault: Option<WireFault>,
 }
 
-/// All frames in front of a stream.
-fn frames_of(alloc: Global, bytes: &[u8]) -> Result<Front, AllocError>
+/// Keeps all frames in front of a stream. `Err` where memory is refused for the next, or for its rows.
+fn take_frames(alloc: Global, bytes: &[u8], frames: &mut Vec<Stamped>) -> Result<Front, AllocError>
+    requires { frames.old.items ≡ [] }
     ensures used { IfOk result (λ front. front.used ≤ length bytes.now) }
-    ensures frames { IfOk result (λ front. Splits bytes.now front.frames.items (drop front.used bytes.now)) }
-    ensures end { IfOk result (λ front. (frame_at (drop front.used bytes.now) ≡ Err front.end) × (front.end ≢ NoMemory)) }
+    ensures frames { IfOk result (λ front.
+        Splits bytes.now frames.new.items (drop front.used bytes.now)) }
+    ensures end { IfOk result (λ front. IsAt (drop front.used bytes.now) front.fault) }
+    ensures refused { OnErr result (IsCutShort bytes.now frames.new) }
 {
-    let mut frames = Vec::new(alloc);
     let mut used = 0;
     loop {
-        match decode(alloc, &bytes[used..]) {
-            Ok((stamped, size)) => {
-                frames.push(stamped)?;
+        let fault = match keep_frame(alloc, &bytes[used..], frames) {
+            Ok(size) => {
                 used += size;
+                continue;
             }
             Err(WireFault::NoMemory) => return Err(AllocError),
-            Err(end) => return Ok(Front { frames, used, end }),
-        }
+            Err(WireFault::Short) => None,
+            Err(fault) => Some(fault),
+        };
+        return Ok(Front { used, fault });
     }
 }
 
-/// The fault that no more of the stream can mend: any but that a frame is not whole.
-fn lasting(end: WireFault) -> Option<WireFault>
-    ensures { result ≡ lasting end }
+/// Keeps the frame in front, and answers its size.
+fn keep_frame(alloc: Global, bytes: &[u8], frames: &mut Vec<Stamped>) -> Result<usize, WireFault>
+    ensures { Keeps frames.old bytes.now result frames.new }
 {
-    match end {
-        WireFault::Short => None,
-        fault => Some(fault),
+    let (stamped, size) = decode(alloc, bytes)?;
+    match frames.push(stamped) {
+        Ok(()) => Ok(size),
+        Err(_) => Err(WireFault::NoMemory),
     }
 }
 
+/// Drops so many bytes from the front, and moves each of the others once.
 fn drop_front(held: &mut Vec<u8>, used: usize)
     requires { used ≤ length held.old.items }
     ensures { held.new.items ≡ drop used held.old.items }
 {
-    held.drain(..used);
+    if used == 0 {
+        return;
+    }
+    let rest = held.len() - used;
+    held.copy_within(used.., 0);
+    held.truncate(rest);
 }

@@ -1,9 +1,10 @@
 //! Fields that take no memory: each is read from the front of the bytes, and answered with the bytes after it.
 ghost use Rattle.std.specs.Prelude.{◌≡◌};
 ghost use Rattle.vr_types.specs.Group.{is_client};
-ghost use Rattle.pvp_wire.specs.Spelling.{is_actor};
-ghost use Rattle.pvp_wire.specs.Reading.{Finds, number_at, listed_at, instruct_at, fund_at, pay_out_at, paid_at, command_at, reason_at, reply_at, order_at, row_at, view_and_place_at, stamp_at};
+ghost use Rattle.pvp_wire.specs.Spelling.{is_actor, is_site_count};
+ghost use Rattle.pvp_wire.specs.Reading.{Finds, number_at, listed_at, instruct_at, fund_at, pay_out_at, paid_at, returned_at, command_at, reason_at, reply_at, order_at, row_at, view_and_place_at, stamp_at};
 
+use crate::admitted::is_site_count;
 use crate::fault::WireFault;
 use crate::stamped::Stamp;
 use byteorder::{BigEndian, ByteOrder};
@@ -48,7 +49,7 @@ pub fn u64_at(bytes: &[u8]) -> Result<(u64, &[u8]), WireFault>
 
 /// The number of a client: the operator, a member or a node.
 pub fn client_at(bytes: &[u8]) -> Result<(u16, &[u8]), WireFault>
-    ensures { Finds (λ x. (x.0, x.1.now)) result (listed_at is_client bytes.now) }
+    ensures { Finds (λ x. (x.0, x.1.now)) result (listed_at 2 is_client bytes.now) }
 {
     let (client, rest) = u16_at(bytes)?;
     if !is_client(client) {
@@ -59,13 +60,24 @@ pub fn client_at(bytes: &[u8]) -> Result<(u16, &[u8]), WireFault>
 
 /// The number of an actor: a client or a site.
 pub fn actor_at(bytes: &[u8]) -> Result<(u16, &[u8]), WireFault>
-    ensures { Finds (λ x. (x.0, x.1.now)) result (listed_at is_actor bytes.now) }
+    ensures { Finds (λ x. (x.0, x.1.now)) result (listed_at 2 is_actor bytes.now) }
 {
     let (actor, rest) = u16_at(bytes)?;
     if !is_actor(actor) {
         return Err(WireFault::Field);
     }
     Ok((actor, rest))
+}
+
+/// How many sites are told of: 1 to 7.
+pub fn site_count_at(bytes: &[u8]) -> Result<(u8, &[u8]), WireFault>
+    ensures { Finds (λ x. (x.0, x.1.now)) result (listed_at 1 is_site_count bytes.now) }
+{
+    let (count, rest) = u8_at(bytes)?;
+    if !is_site_count(usize::from(count)) {
+        return Err(WireFault::Field);
+    }
+    Ok((count, rest))
 }
 
 pub fn is_client(number: u16) -> bool
@@ -132,6 +144,14 @@ fn paid_at(bytes: &[u8]) -> Result<(Cmd, &[u8]), WireFault>
     Ok((Cmd::Paid { ccy, out }, rest))
 }
 
+fn returned_at(bytes: &[u8]) -> Result<(Cmd, &[u8]), WireFault>
+    ensures { Finds (λ x. (x.0, x.1.now)) result (returned_at bytes.now) }
+{
+    let (ccy, rest) = u8_at(bytes)?;
+    let (out, rest) = u32_at(rest)?;
+    Ok((Cmd::Returned { ccy, out }, rest))
+}
+
 /// A command: its tag, then its fields.
 #[tactic(auto, unfolding(crate::specs::Reading::command_at))]
 pub fn command_at(bytes: &[u8]) -> Result<(Cmd, &[u8]), WireFault>
@@ -151,6 +171,7 @@ pub fn command_at(bytes: &[u8]) -> Result<(Cmd, &[u8]), WireFault>
         }
         [5, rest @ ..] => pay_out_at(rest),
         [6, rest @ ..] => paid_at(rest),
+        [7, rest @ ..] => returned_at(rest),
         [_, ..] => Err(WireFault::Field),
     }
 }

@@ -3,13 +3,13 @@ ghost use Rattle.std.specs.Prelude.{◌≡◌, ◌≢◌, ◌≤◌, ◌+◌, �
 ghost use Rattle.std.specs.List.{flat_map};
 ghost use Rattle.pvp_wire.specs.declared.fault.WireFault.{WireFault};
 ghost use Rattle.pvp_wire.specs.declared.stamped.Stamped.{Stamped};
-ghost use Rattle.pvp_wire.specs.Spelling.{spelling, most_body, rows_of};
+ghost use Rattle.pvp_wire.specs.Spelling.{spelling, most_body};
 ghost use Rattle.pvp_wire.specs.Fits.{IsBytes, IsSpelled};
-ghost use Rattle.pvp_wire.specs.Reading.{frame_at, TakesMemory, carries_rows, IsOfField};
+ghost use Rattle.pvp_wire.specs.Reading.{frame_at, TakesMemory, carries_a_list, HasAnItem, IsOfField};
 ghost use Rattle.pvp_wire.specs.Feeding.{Splits, Call, IsFed, AreFed, empty, all_taken, all_given, all_answered, after_calls};
 
 /// What is read is spelled so, to the byte; what has a spelling is read again from it, whatever follows; no spelling
-/// begins another, and none is longer than one with a whole log, 2,031,620 bytes.
+/// begins another, and none is longer than one with a whole log and the boots of seven sites, 2,031,649 bytes.
 pub fn frames()
     ensures read { (bytes : List ℕ) (stamped : Stamped) (size : ℕ) → IsBytes bytes → frame_at bytes ≡ Ok (stamped, size) →
         (take size bytes ≡ spelling stamped) × (size ≡ length (spelling stamped)) × (size ≤ length bytes) × IsSpelled stamped }
@@ -18,11 +18,12 @@ pub fn frames()
     ensures short { (stamped : Stamped) → IsSpelled stamped → length (spelling stamped) ≤ 22 + most_body }
 {}
 
-/// Memory is taken only for frames of the four kinds that carry a list of rows. One that is read has a row then; of one
-/// that is not, a field is at fault, or the frame's length.
+/// Memory is taken only for frames of the five kinds that carry a list, of rows or of boots. One that is read has an item
+/// of a list then; of one that is not, a field is at fault, or the frame's length.
 pub fn memory()
-    ensures kind { (bytes : List ℕ) → TakesMemory bytes → carries_rows (slice_index bytes 5) ≡ true }
-    ensures read { (bytes : List ℕ) (stamped : Stamped) (size : ℕ) → TakesMemory bytes → frame_at bytes ≡ Ok (stamped, size) → rows_of stamped.envelope.msg ≢ [] }
+    ensures kind { (bytes : List ℕ) → TakesMemory bytes → carries_a_list (slice_index bytes 5) ≡ true }
+    ensures read { (bytes : List ℕ) (stamped : Stamped) (size : ℕ) → TakesMemory bytes → frame_at bytes ≡ Ok (stamped, size) →
+        HasAnItem stamped.envelope.msg }
     ensures fault { (bytes : List ℕ) (fault : WireFault) → TakesMemory bytes → frame_at bytes ≡ Err fault → IsOfField fault }
 {}
 

@@ -2,6 +2,7 @@
 #![tactic(auto)]
 
 mod admitted;
+mod boots;
 pub mod fault;
 pub mod feeder;
 mod fields;
@@ -10,8 +11,6 @@ mod messages;
 pub mod reading;
 mod rows;
 pub mod stamped;
-#[cfg(test)]
-mod tests;
 pub mod writing;
 
 pub use admitted::wireable;

@@ -1,6 +1,7 @@
 //! The fields of messages, one function a kind.
-ghost use Rattle.pvp_wire.specs.Reading.{Finds, Gives, request_at, prepare_at, do_view_change_at, start_view_at, new_state_at, recovery_response_at, answer_at, message_at};
+ghost use Rattle.pvp_wire.specs.Reading.{Finds, Gives, request_at, prepare_at, start_view_change_at, do_view_change_at, start_view_at, new_state_at, recovery_response_at, answer_at, message_at};
 
+use crate::boots::boots_at;
 use crate::fault::WireFault;
 use crate::fields::{command_at, order_at, reply_at, row_at, u16_at, u32_at, view_and_place_at};
 use crate::rows::{option_at, rows_at};
@@ -24,10 +25,7 @@ pub fn message_at(alloc: Global, kind: u8, bytes: &[u8]) -> Result<(Message, &[u
             let ((view, done), rest) = view_and_place_at(bytes)?;
             Ok((MsgOf::Commit { view, done }, rest))
         }
-        5 => {
-            let (view, rest) = u32_at(bytes)?;
-            Ok((MsgOf::StartViewChange { view }, rest))
-        }
+        5 => start_view_change_at(alloc, bytes),
         6 => do_view_change_at(alloc, bytes),
         7 => start_view_at(alloc, bytes),
         8 => {
@@ -75,6 +73,15 @@ fn prepare_at(bytes: &[u8]) -> Result<(Message, &[u8]), WireFault>
     Ok((msg, rest))
 }
 
+#[tactic(auto, unfolding(crate::specs::Reading::start_view_change_at))]
+fn start_view_change_at(alloc: Global, bytes: &[u8]) -> Result<(Message, &[u8]), WireFault>
+    ensures { Gives (λ x. (x.0, x.1.now)) result (λ refused. start_view_change_at refused bytes.now) }
+{
+    let (view, rest) = u32_at(bytes)?;
+    let (known, rest) = boots_at(alloc, rest)?;
+    Ok((MsgOf::StartViewChange { view, known }, rest))
+}
+
 #[tactic(auto, unfolding(crate::specs::Reading::do_view_change_at))]
 fn do_view_change_at(alloc: Global, bytes: &[u8]) -> Result<(Message, &[u8]), WireFault>
     ensures { Gives (λ x. (x.0, x.1.now)) result (λ refused. do_view_change_at refused bytes.now) }
@@ -82,12 +89,14 @@ fn do_view_change_at(alloc: Global, bytes: &[u8]) -> Result<(Message, &[u8]), Wi
     let (view, rest) = u32_at(bytes)?;
     let (last_normal, rest) = u32_at(rest)?;
     let (done, rest) = u16_at(rest)?;
+    let (known, rest) = boots_at(alloc, rest)?;
     let (rows, rest) = rows_at(alloc, rest)?;
     let msg = MsgOf::DoViewChange {
         view,
         last_normal,
         done,
         rows,
+        known,
     };
     Ok((msg, rest))
 }
@@ -125,8 +134,15 @@ fn recovery_response_at(alloc: Global, bytes: &[u8]) -> Result<(Message, &[u8]),
 {
     let (view, rest) = u32_at(bytes)?;
     let (nonce, rest) = u32_at(rest)?;
+    let (known, rest) = boots_at(alloc, rest)?;
     let (state, rest) = option_at(alloc, rest)?;
-    Ok((MsgOf::RecoveryResponse { view, nonce, state }, rest))
+    let msg = MsgOf::RecoveryResponse {
+        view,
+        nonce,
+        state,
+        known,
+    };
+    Ok((msg, rest))
 }
 
 #[tactic(auto, unfolding(crate::specs::Reading::answer_at))]

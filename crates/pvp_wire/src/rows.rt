@@ -1,6 +1,6 @@
 //! Rows of a log, and the state that a primary answers with.
 ghost use Rattle.std.specs.Prelude.{◌≡◌};
-ghost use Rattle.pvp_wire.specs.Reading.{Gives, rows_from, rows_at, state_at, option_at};
+ghost use Rattle.pvp_wire.specs.Reading.{Gives, row_at, items_from, rows_at, state_at, option_at};
 
 use crate::fault::WireFault;
 use crate::fields::{row_at, u16_at};
@@ -10,7 +10,7 @@ use vr_types::{RowsOf, StateOf};
 
 /// So many rows.
 fn rows_from(alloc: Global, count: u16, bytes: &[u8]) -> Result<(RowsOf<Cmd>, &[u8]), WireFault>
-    ensures { Gives (λ x. (x.0, x.1.now)) result (λ refused. rows_from refused count bytes.now) }
+    ensures { Gives (λ x. (x.0, x.1.now)) result (λ refused. items_from row_at refused count bytes.now) }
 {
     let mut rows = RowsOf::new(alloc);
     let mut rest = bytes;

@@ -1,17 +1,19 @@
 //! The spelling of frames.
-ghost use Rattle.std.specs.Prelude.{◌≡◌, ◌+◌, ◌≤◌, ◌++◌, ◌∷◌, [], true, OnOk};
+ghost use Rattle.std.specs.Prelude.{◌≡◌, ◌+◌, ◌≤◌, ◌++◌, ◌∷◌, [], true, length, OnOk};
 ghost use Rattle.std.specs.Io.KnownBytes.{Appends};
-ghost use Rattle.pvp_types.specs.declared.command.Cmd.TheVariants.{PayOut, Paid};
+ghost use Rattle.pvp_types.specs.declared.command.Cmd.TheVariants.{PayOut, Paid, Returned};
 ghost use Rattle.vr_types.specs.declared.message.MsgOf.TheVariants as message;
+ghost use Rattle.vr_types.specs.Messages.{known_in};
 ghost use Rattle.pvp_wire.specs.Spelling as spell;
-ghost use Rattle.pvp_wire.specs.Fits.{Fits, CommandFits, ReplyFits, OrderFits, RowFits, RowsFit, StateFits, MessageFits, StampFits, IsSpelled};
+ghost use Rattle.pvp_wire.specs.Fits.{Fits, CommandFits, ReplyFits, OrderFits, RowFits, RowsFit, BootsFit, StateFits, MessageFits, StampFits, IsSpelled};
 
+use crate::reading::VERSION;
 use crate::stamped::{Message, Stamp, Stamped};
 use byteorder::{BigEndian, ByteOrder};
 use pvp_types::{Cmd, PayOrder, Reason, Reply};
 use std::alloc::{AllocError, Global};
 use std::io::{self, Write};
-use vr_types::{MsgOf, RowOf, RowsOf, StateOf};
+use vr_types::{Known, MsgOf, RowOf, RowsOf, StateOf};
 
 /// Writes the one spelling of a stamped envelope, which has to have one: `wireable` tells.
 ///
@@ -44,9 +46,9 @@ fn push_head(out: &mut Vec<u8>, stamped: &Stamped, body: u32) -> Result<(), Allo
 
 /// The version, and a message's kind.
 fn push_kind(out: &mut Vec<u8>, msg: &Message) -> Result<(), AllocError>
-    ensures { OnOk result (out.new.items ≡ out.old.items ++ 1 ∷ spell.kind msg.now ∷ []) }
+    ensures { OnOk result (out.new.items ≡ out.old.items ++ spell.version ∷ spell.kind msg.now ∷ []) }
 {
-    push_tag(out, 1)?;
+    push_tag(out, VERSION)?;
     push_tag(out, kind_of(msg))
 }
 
@@ -134,6 +136,7 @@ fn push_command(out: &mut Vec<u8>, cmd: Cmd) -> Result<(), AllocError>
         Cmd::Settle { most } => push_tagged(out, 4, most),
         Cmd::PayOut { ccy, amt } => push_pay_out(out, ccy, amt),
         Cmd::Paid { ccy, out: number } => push_paid(out, ccy, number),
+        Cmd::Returned { ccy, out: number } => push_returned(out, ccy, number),
     }
 }
 
@@ -150,6 +153,15 @@ fn push_paid(out: &mut Vec<u8>, ccy: u8, number: u32) -> Result<(), AllocError>
     ensures { OnOk result (out.new.items ≡ out.old.items ++ spell.command (Paid ccy number)) }
 {
     push_tag(out, 6)?;
+    push_u8(out, ccy)?;
+    push_u32(out, number)
+}
+
+/// That a pay-out could not be paid.
+fn push_returned(out: &mut Vec<u8>, ccy: u8, number: u32) -> Result<(), AllocError>
+    ensures { OnOk result (out.new.items ≡ out.old.items ++ spell.command (Returned ccy number)) }
+{
+    push_tag(out, 7)?;
     push_u8(out, ccy)?;
     push_u32(out, number)
 }
@@ -251,6 +263,19 @@ fn push_rows(out: &mut Vec<u8>, rows: &RowsOf<Cmd>) -> Result<(), AllocError>
     Ok(())
 }
 
+/// Of how many sites the boots are told, and the boot number of each.
+fn push_boots(out: &mut Vec<u8>, known: &Known) -> Result<(), AllocError>
+    requires { spell.is_site_count (length known.now) ≡ true }
+    ensures bytes { OnOk result (out.new.items ≡ out.old.items ++ spell.boots known.now) }
+    ensures fits { OnOk result (BootsFit known.now) }
+{
+    push_u8(out, known.len() as u8)?;
+    for site in 0..known.len() {
+        push_u32(out, known.get(site as u16))?;
+    }
+    Ok(())
+}
+
 /// 0, or 1 and the state.
 fn push_state(out: &mut Vec<u8>, state: &Option<StateOf<Cmd>>) -> Result<(), AllocError>
     ensures bytes { OnOk result (out.new.items ≡ out.old.items ++ spell.state state.now) }
@@ -297,6 +322,7 @@ fn push_view_and_place(out: &mut Vec<u8>, view: u32, place: u16) -> Result<(), A
 
 /// The fields of a message.
 fn push_body(out: &mut Vec<u8>, msg: &Message) -> Result<(), AllocError>
+    requires { spell.has_site_count (known_in msg.now) ≡ true }
     ensures bytes { OnOk result (out.new.items ≡ out.old.items ++ spell.body msg.now) }
     ensures fits { OnOk result (MessageFits msg.now) }
 {
@@ -310,13 +336,14 @@ fn push_body(out: &mut Vec<u8>, msg: &Message) -> Result<(), AllocError>
         } => push_prepare(out, *view, *place, *done, row),
         MsgOf::PrepareOk { view, place } => push_view_and_place(out, *view, *place),
         MsgOf::Commit { view, done } => push_view_and_place(out, *view, *done),
-        MsgOf::StartViewChange { view } => push_u32(out, *view),
+        MsgOf::StartViewChange { view, known } => push_start_view_change(out, *view, known),
         MsgOf::DoViewChange {
             view,
             last_normal,
             done,
             rows,
-        } => push_do_view_change(out, *view, *last_normal, *done, rows),
+            known,
+        } => push_do_view_change(out, *view, *last_normal, *done, rows, known),
         MsgOf::StartView { view, done, rows } => push_start_view(out, *view, *done, rows),
         MsgOf::GetState { view, base } => push_view_and_place(out, *view, *base),
         MsgOf::NewState {
@@ -326,7 +353,12 @@ fn push_body(out: &mut Vec<u8>, msg: &Message) -> Result<(), AllocError>
             rows,
         } => push_new_state(out, *view, *base, *done, rows),
         MsgOf::Recovery { nonce } => push_u32(out, *nonce),
-        MsgOf::RecoveryResponse { view, nonce, state } => push_regained(out, *view, *nonce, state),
+        MsgOf::RecoveryResponse {
+            view,
+            nonce,
+            state,
+            known,
+        } => push_regained(out, *view, *nonce, state, known),
         MsgOf::Reply {
             view,
             number,
@@ -359,18 +391,32 @@ fn push_prepare(
     push_row(out, row)
 }
 
+fn push_start_view_change(out: &mut Vec<u8>, view: u32, known: &Known) -> Result<(), AllocError>
+    requires { spell.is_site_count (length known.now) ≡ true }
+    ensures bytes { OnOk result (out.new.items
+        ≡ out.old.items ++ spell.body (message.StartViewChange view known.now)) }
+    ensures fits { OnOk result (BootsFit known.now) }
+{
+    push_u32(out, view)?;
+    push_boots(out, known)
+}
+
 fn push_do_view_change(
     out: &mut Vec<u8>,
     view: u32,
     last_normal: u32,
     done: u16,
     rows: &RowsOf<Cmd>,
+    known: &Known,
 ) -> Result<(), AllocError>
-    ensures bytes { OnOk result (out.new.items ≡ out.old.items ++ spell.body (message.DoViewChange view last_normal done rows.now)) }
-    ensures fits { OnOk result (RowsFit rows.now) }
+    requires { spell.is_site_count (length known.now) ≡ true }
+    ensures bytes { OnOk result (out.new.items ≡ out.old.items
+        ++ spell.body (message.DoViewChange view last_normal done rows.now known.now)) }
+    ensures fits { OnOk result (BootsFit known.now × RowsFit rows.now) }
 {
     push_u32(out, view)?;
     push_view_and_place(out, last_normal, done)?;
+    push_boots(out, known)?;
     push_rows(out, rows)
 }
 
@@ -408,12 +454,16 @@ fn push_regained(
     view: u32,
     nonce: u32,
     state: &Option<StateOf<Cmd>>,
+    known: &Known,
 ) -> Result<(), AllocError>
-    ensures bytes { OnOk result (out.new.items ≡ out.old.items ++ spell.body (message.RecoveryResponse view nonce state.now)) }
-    ensures fits { OnOk result (StateFits state.now) }
+    requires { spell.is_site_count (length known.now) ≡ true }
+    ensures bytes { OnOk result (out.new.items ≡ out.old.items
+        ++ spell.body (message.RecoveryResponse view nonce state.now known.now)) }
+    ensures fits { OnOk result (BootsFit known.now × StateFits state.now) }
 {
     push_u32(out, view)?;
     push_u32(out, nonce)?;
+    push_boots(out, known)?;
     push_state(out, state)
 }
 

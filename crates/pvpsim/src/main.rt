@@ -1,28 +1,21 @@
 //! `pvpsim`: runs scripts on a settlement bank and prints its books.
 #![tactic(auto)]
 
-mod command;
-mod fault;
-mod files;
-mod request;
-#[cfg(test)]
-mod tests;
-
-use crate::files::Disk;
+use pvp_command::{Disk, command, no_words};
 use std::process::ExitCode;
 use std::{env, io};
 
 fn main(rt: HostRuntime) -> ExitCode {
     let files = Disk { rt: &rt };
     let status = match words(&rt) {
-        Ok(words) => command::command(
+        Ok(words) => command(
             rt.alloc(),
             words.as_slice(),
             &files,
             &mut rt.stdout(),
             &mut rt.stderr(),
         ),
-        Err(refusal) => command::no_words(refusal.kind(), &mut rt.stderr()),
+        Err(refusal) => no_words(refusal.kind(), &mut rt.stderr()),
     };
     ExitCode::from(status)
 }

@@ -1,7 +1,6 @@
 -- Which case of a rule it is.
 use Rattle.std.proofs.Common.{append-nil, ◌≡◌, ◌≢◌, ℕ, ◌+◌, ◌<◌, ◌≤◌, ◌==◌, ◌&&◌, List, [], ◌∷◌, ◌++◌, length, max, min, take, drop, Bool, true, false, not, nat_lt, nat_le, if◌then◌else◌, refl, ap, ◌∙◌, eq-eqb}
 use Rattle.std.proofs.lemmas.Bool.{lt-ltb, le-ltb, ne_eqb}
-use Rattle.vr_types.specs.declared.cell.Boot.{Boot}
 use Rattle.vr_types.specs.declared.event.Status.TheVariants.{Change}
 use Rattle.vr_types.specs.declared.event.Why.TheVariants.{Status, View, NotPrimary, Known, Stale}
 use Rattle.vr_types.specs.declared.limits.TheConstants.{MAX_ROWS}
@@ -10,8 +9,8 @@ use Rattle.vr_types.specs.declared.message.MsgOf.TheVariants.{PrepareOk, StartVi
 use Rattle.vr_types.specs.declared.row.RowOf.{RowOf}
 use Rattle.vr_types.specs.Choice.{Choice}
 use Rattle.vr_types.specs.Group.{primary, mail, to_all}
-use Rattle.vr_types.specs.Site.{Site, Vote, nothing, is_normal, is_recovering}
-use Rattle.vr_types.specs.Step.{Step, does, drops, with_saved, executed_to, normal_in, begins_with_executed, acknowledges_all, takes_log}
+use Rattle.vr_types.specs.Site.{Site, Start, Vote, nothing, is_normal, is_recovering}
+use Rattle.vr_types.specs.Step.{Step, does, drops, is_outdated, learns, begins_with_executed, takes_log}
 use Rattle.vr_types.specs.Change.{on_timer, on_start_view_change, on_do_view_change, beats_in_change, on_start_view, sends_vote, starts_later_view, with_start, with_vote, votes_where_due, opens_where_due}
 use Rattle.vr_types.specs.Transfer.{on_get_state, on_new_state}
 use Rattle.vr_change.specs.Fits.{rows_fit}
@@ -19,19 +18,19 @@ use Rattle.vr_change.proofs.Sites.{normal_with}
 
 module _ {C R O : Type 0} (f me : ℕ) (x : Site C) where
   pub on_timer-is : is_recovering x.status ≡ false
-      → ◌≡◌ {A = Step C R O} (on_timer f me x) (does (record x { status = Change; view = x.view + 1; collected = nothing; cell = record { boots = x.cell.boots; view = x.view + 1 } }) (to_all f me (StartViewChange (x.view + 1))))
+      → ◌≡◌ {A = Step C R O} (on_timer f me x) (does (record x { status = Change; view = x.view + 1; collected = nothing }) (to_all f me (StartViewChange (x.view + 1) x.known)))
   unfolding on_timer
   on_timer-is e = rw e
 
-  pub beats_in_change-is : (more : List (EnvelopeOf C R O)) → (if x.collected.voted && not (primary f x.view == me) then sends_vote f me x else []) ≡ more → ◌≡◌ {A = Step C R O} (beats_in_change f me x) (does x (to_all f me (StartViewChange x.view) ++ more))
+  pub beats_in_change-is : (more : List (EnvelopeOf C R O)) → (if x.collected.voted && not (primary f x.view == me) then sends_vote f me x else []) ≡ more → ◌≡◌ {A = Step C R O} (beats_in_change f me x) (does x (to_all f me (StartViewChange x.view x.known) ++ more))
   unfolding beats_in_change
-  beats_in_change-is more e = ap (λ l. let s : Step C R O = does x (to_all f me (StartViewChange x.view) ++ l) in s) e
+  beats_in_change-is more e = ap (λ l. let s : Step C R O = does x (to_all f me (StartViewChange x.view x.known) ++ l) in s) e
 
-  pub beats_in_change-votes : x.collected.voted ≡ true → (primary f x.view == me) ≡ false → ◌≡◌ {A = Step C R O} (beats_in_change f me x) (does x (to_all f me (StartViewChange x.view) ++ sends_vote f me x))
+  pub beats_in_change-votes : x.collected.voted ≡ true → (primary f x.view == me) ≡ false → ◌≡◌ {A = Step C R O} (beats_in_change f me x) (does x (to_all f me (StartViewChange x.view x.known) ++ sends_vote f me x))
   beats_in_change-votes v p = beats_in_change-is (sends_vote f me x) (ap (λ b. if b && not (primary f x.view == me) then sends_vote f me x else []) v ∙ ap (λ b. if not b then sends_vote f me x else []) p)
 
-  pub beats_in_change-silent : (x.collected.voted && not (primary f x.view == me)) ≡ false → ◌≡◌ {A = Step C R O} (beats_in_change f me x) (does x (to_all f me (StartViewChange x.view)))
-  beats_in_change-silent v = beats_in_change-is [] (ap (λ b. if b then sends_vote f me x else []) v) ∙ ap (λ l. let s : Step C R O = does x l in s) (append-nil (to_all f me (StartViewChange x.view)))
+  pub beats_in_change-silent : (x.collected.voted && not (primary f x.view == me)) ≡ false → ◌≡◌ {A = Step C R O} (beats_in_change f me x) (does x (to_all f me (StartViewChange x.view x.known)))
+  beats_in_change-silent v = beats_in_change-is [] (ap (λ b. if b then sends_vote f me x else []) v) ∙ ap (λ l. let s : Step C R O = does x l in s) (append-nil (to_all f me (StartViewChange x.view x.known)))
 
   pub on_get_state-status : (from w base : ℕ) → is_normal x.status ≡ false → ◌≡◌ {A = Step C R O} (on_get_state f me x from w base) (drops x Status)
   unfolding on_get_state
@@ -100,18 +99,24 @@ module _ {C R O : Type 0} (choose : Choice C) (f me : ℕ) (x : Site C) where
       → ◌≡◌ {A = Step C R O} (on_new_state choose f me x from w base k rows) (takes_log choose f me x w k (take base x.log ++ rows))
   on_new_state-takes from w base k rows p e new fit = on_new_state-is from w base k rows p e new ∙ ap (λ b. let s : Step C R O = if b then takes_log choose f me x w k (take base x.log ++ rows) else drops x Stale in s) fit
 
-  pub on_start_view_change-view : (from w : ℕ) → is_recovering x.status ≡ false → w < x.view → ◌≡◌ {A = Step C R O} (on_start_view_change choose f me x from w) (drops x View)
+  pub on_start_view_change-view : (w : ℕ) (start : Start) → is_recovering x.status ≡ false → w < x.view → ◌≡◌ {A = Step C R O} (on_start_view_change choose f me x w start) (drops x View)
   unfolding on_start_view_change
-  on_start_view_change-view from w e old = rw (e, lt-ltb _ _ old)
+  on_start_view_change-view w start e old = rw (e, lt-ltb _ _ old)
 
-  pub on_start_view_change-here : (from w : ℕ) → is_recovering x.status ≡ false → x.view ≤ w → (is_normal x.status && (w == x.view)) ≡ true → ◌≡◌ {A = Step C R O} (on_start_view_change choose f me x from w) (drops x Status)
+  pub on_start_view_change-here : (w : ℕ) (start : Start) → is_recovering x.status ≡ false → x.view ≤ w → (is_normal x.status && (w == x.view)) ≡ true → ◌≡◌ {A = Step C R O} (on_start_view_change choose f me x w start) (drops x Status)
   unfolding on_start_view_change
-  on_start_view_change-here from w e new here = rw (e, le-ltb _ _ new, here)
+  on_start_view_change-here w start e new here = rw (e, le-ltb _ _ new, here)
 
-  pub on_start_view_change-is : (from w : ℕ) → is_recovering x.status ≡ false → x.view ≤ w → (is_normal x.status && (w == x.view)) ≡ false
-      → ◌≡◌ {A = Step C R O} (on_start_view_change choose f me x from w) (let part = starts_later_view f me w x in opens_where_due choose f me x (votes_where_due f me (record { site = with_start from part.site; sent = part.sent })))
+  pub on_start_view_change-stale : (w : ℕ) (start : Start) → is_recovering x.status ≡ false → x.view ≤ w → (is_normal x.status && (w == x.view)) ≡ false → is_outdated x.known start.from start.known ≡ true
+      → ◌≡◌ {A = Step C R O} (on_start_view_change choose f me x w start) (drops x Stale)
   unfolding on_start_view_change
-  on_start_view_change-is from w e new here = rw (e, le-ltb _ _ new, here)
+  on_start_view_change-stale w start e new here old = rw (e, le-ltb _ _ new, here, old)
+
+  pub on_start_view_change-is : (w : ℕ) (start : Start) → is_recovering x.status ≡ false → x.view ≤ w → (is_normal x.status && (w == x.view)) ≡ false → is_outdated x.known start.from start.known ≡ false
+      → ◌≡◌ {A = Step C R O} (on_start_view_change choose f me x w start)
+      (let part = starts_later_view f me w (learns start.known x) in opens_where_due choose f me x (votes_where_due f me (record { site = with_start start part.site; sent = part.sent })))
+  unfolding on_start_view_change
+  on_start_view_change-is w start e new here current = rw (e, le-ltb _ _ new, here, current)
 
   pub on_do_view_change-view : (w : ℕ) (vote : Vote C) → is_recovering x.status ≡ false → w < x.view → ◌≡◌ {A = Step C R O} (on_do_view_change choose f me x w vote) (drops x View)
   unfolding on_do_view_change
@@ -125,14 +130,16 @@ module _ {C R O : Type 0} (choose : Choice C) (f me : ℕ) (x : Site C) where
   unfolding on_do_view_change
   on_do_view_change-here w vote e new p here = rw (e, le-ltb _ _ new, p, here)
 
-  pub on_do_view_change-is : (w : ℕ) (vote : Vote C) → is_recovering x.status ≡ false → x.view ≤ w → (primary f w == me) ≡ true → (is_normal x.status && (w == x.view)) ≡ false
-      → ◌≡◌ {A = Step C R O} (on_do_view_change choose f me x w vote) (let part = starts_later_view f me w x in opens_where_due choose f me x (record { site = with_vote vote part.site; sent = part.sent }))
+  pub on_do_view_change-stale : (w : ℕ) (vote : Vote C) → is_recovering x.status ≡ false → x.view ≤ w → (primary f w == me) ≡ true → (is_normal x.status && (w == x.view)) ≡ false → is_outdated x.known vote.from vote.known ≡ true
+      → ◌≡◌ {A = Step C R O} (on_do_view_change choose f me x w vote) (drops x Stale)
   unfolding on_do_view_change
-  on_do_view_change-is w vote e new p here = rw (e, le-ltb _ _ new, p, here)
+  on_do_view_change-stale w vote e new p here old = rw (e, le-ltb _ _ new, p, here, old)
 
--- the cell after a view is saved where it is later
-abbrev pub cell_after : {C : Type 0} → ℕ → Site C → Boot
-cell_after w x = (if nat_lt x.view w then with_saved w x else x).cell
+  pub on_do_view_change-is : (w : ℕ) (vote : Vote C) → is_recovering x.status ≡ false → x.view ≤ w → (primary f w == me) ≡ true → (is_normal x.status && (w == x.view)) ≡ false → is_outdated x.known vote.from vote.known ≡ false
+      → ◌≡◌ {A = Step C R O} (on_do_view_change choose f me x w vote)
+      (let part = starts_later_view f me w (learns vote.known x) in opens_where_due choose f me x (record { site = with_vote vote part.site; sent = part.sent }))
+  unfolding on_do_view_change
+  on_do_view_change-is w vote e new p here current = rw (e, le-ltb _ _ new, p, here, current)
 
 module _ {C R O : Type 0} (choose : Choice C) (f me : ℕ) (x : Site C) (w k : ℕ) (log : List (RowOf C)) where
   pub takes_log-stale : begins_with_executed choose.same x log ≡ false → ◌≡◌ {A = Step C R O} (takes_log choose f me x w k log) (drops x Stale)
@@ -140,18 +147,13 @@ module _ {C R O : Type 0} (choose : Choice C) (f me : ℕ) (x : Site C) (w k : �
 
   pub takes_log-is : (more : List (EnvelopeOf C R O)) → begins_with_executed choose.same x log ≡ true
       → (if nat_lt (max x.done (min k (length log))) (length log) then mail me (primary f w) (PrepareOk w (length log)) ∷ [] else []) ≡ more
-      → ◌≡◌ {A = Step C R O} (takes_log choose f me x w k log) (does (normal_with w (max x.done (min k (length log))) log (cell_after w x)) more)
-  takes_log-is more e d = rw e (by_test (nat_lt x.view w))
-    where
-      by_test : (b : Bool) → (let y = executed_to k (normal_in w log (if b then with_saved w x else x)) in does y (if nat_lt y.done (length y.log) then acknowledges_all f me y else []))
-          ≡ does (normal_with w (max x.done (min k (length log))) log (if b then with_saved w x else x).cell) more
-      by_test true = ap (λ l. let s : Step C R O = does (normal_with w (max x.done (min k (length log))) log (with_saved w x).cell) l in s) d
-      by_test false = ap (λ l. let s : Step C R O = does (normal_with w (max x.done (min k (length log))) log x.cell) l in s) d
+      → ◌≡◌ {A = Step C R O} (takes_log choose f me x w k log) (does (normal_with w (max x.done (min k (length log))) log x.known x.cell) more)
+  takes_log-is more e d = rw e (ap (λ l. let s : Step C R O = does (normal_with w (max x.done (min k (length log))) log x.known x.cell) l in s) d)
 
   pub takes_log-rest : begins_with_executed choose.same x log ≡ true → max x.done (min k (length log)) < length log
-      → ◌≡◌ {A = Step C R O} (takes_log choose f me x w k log) (does (normal_with w (max x.done (min k (length log))) log (cell_after w x)) (mail me (primary f w) (PrepareOk w (length log)) ∷ []))
+      → ◌≡◌ {A = Step C R O} (takes_log choose f me x w k log) (does (normal_with w (max x.done (min k (length log))) log x.known x.cell) (mail me (primary f w) (PrepareOk w (length log)) ∷ []))
   takes_log-rest e left = takes_log-is (mail me (primary f w) (PrepareOk w (length log)) ∷ []) e (ap (λ b. if b then mail me (primary f w) (PrepareOk w (length log)) ∷ [] else []) (lt-ltb _ _ left))
 
   pub takes_log-all : begins_with_executed choose.same x log ≡ true → length log ≤ max x.done (min k (length log))
-      → ◌≡◌ {A = Step C R O} (takes_log choose f me x w k log) (does (normal_with w (max x.done (min k (length log))) log (cell_after w x)) [])
+      → ◌≡◌ {A = Step C R O} (takes_log choose f me x w k log) (does (normal_with w (max x.done (min k (length log))) log x.known x.cell) [])
   takes_log-all e all = takes_log-is [] e (ap (λ b. if b then mail me (primary f w) (PrepareOk w (length log)) ∷ [] else []) (le-ltb _ _ all))

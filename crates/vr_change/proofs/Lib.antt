@@ -1,7 +1,7 @@
 pub mod Ballots
 pub mod Cases
 pub mod Counts
+pub mod Left
 pub mod Openings
-pub mod Saves
 pub mod Sites
 pub mod Votes

@@ -6,11 +6,11 @@ use Rattle.vr_types.specs.declared.event.Status.TheVariants.{Normal, Change}
 use Rattle.vr_types.specs.declared.machine.Machine.{Ghosts}
 use Rattle.vr_types.specs.declared.row.RowOf.{RowOf}
 use Rattle.vr_types.specs.Choice.{OneEach}
-use Rattle.vr_types.specs.Site.{Ack, Site, Vote, nothing, is_running}
+use Rattle.vr_types.specs.Site.{Ack, Site, Start, Vote, nothing, is_running}
 use Rattle.vr_types.proofs.ChoosingPick.{Contains-none}
 use Rattle.vr_log.specs.declared.running.Running.{Running}
 use Rattle.vr_log.specs.Kept.{IsKept}
-use Rattle.vr_log.specs.Running.{SumUp, IsSound, IsRunning, site_of, vote_of}
+use Rattle.vr_log.specs.Running.{SumUp, IsSound, IsRunning, site_of, start_of, vote_of}
 
 -- what was collected is given up
 pub record GaveUp {H C R O S : Type 0} (r : Running H C R O S) : Type 0 where
@@ -23,67 +23,71 @@ pub no_votes_one_each : {C : Type 0} (votes : List (Vote C)) → votes ≡ [] �
 no_votes_one_each votes none = λ a b at _ _. absurd (Contains-none a (subst (λ l. Contains l a) none at))
 
 -- a sound site that gave up what it collected
-pub gave_up_sound : {H C R O S : Type 0} (m : Ghosts H C R O S) (start : H) (f : ℕ) (r n : Running H C R O S) → GaveUp n → is_running n.status ≡ true → length n.acked.items ≡ length r.acked.items → IsKept m start n.kept → IsSound m start f r → IsRunning m start f n []
-gave_up_sound m start f r n gave up sites kept was = record {
-  sound = record { kept = kept; sites = sites ∙ was.sites; up = up; votes = no_votes_one_each (map vote_of n.votes.items) (ap (map vote_of) gave.votes) };
+pub gave_up_sound : {H C R O S : Type 0} (m : Ghosts H C R O S) (start : H) (f : ℕ) (r n : Running H C R O S) → GaveUp n → is_running n.status ≡ true → length n.acked.items ≡ length r.acked.items → length n.known ≡ length r.known → IsKept m start n.kept → IsSound m start f r → IsRunning m start f n []
+gave_up_sound m start f r n gave up sites known kept was = record {
+  sound = record { kept = kept; sites = sites ∙ was.sites; known = known ∙ was.known; up = up; votes = no_votes_one_each (map vote_of n.votes.items) (ap (map vote_of) gave.votes) };
   summed = gave.acked;
 }
 
 -- a site that is normal in a view, with so many rows of the log executed
-abbrev pub normal_with : {C : Type 0} → ℕ → ℕ → List (RowOf C) → Boot → Site C
-normal_with w d log boot = record { status = Normal; view = w; last_normal = w; log = log; done = d; collected = nothing; cell = boot }
+abbrev pub normal_with : {C : Type 0} → ℕ → ℕ → List (RowOf C) → List ℕ → Boot → Site C
+normal_with w d log known boot = record { status = Normal; view = w; last_normal = w; log = log; done = d; collected = nothing; known = known; cell = boot }
 
 -- the site takes part in a change
-pub changed_site : {H C R O S : Type 0} (r n : Running H C R O S) (acks : List Ack) (cell boot : Boot) (w : ℕ) → GaveUp n → n.status ≡ Change → n.view ≡ w → n.last_normal ≡ r.last_normal → n.kept ≡ r.kept
-    → ◌≡◌ {A = Site C} (record (site_of r acks cell) { status = Change; view = w; collected = nothing; cell = boot }) (site_of n [] boot)
-changed_site r n acks cell boot w gave status view last kept = λ i. record {
+pub changed_site : {H C R O S : Type 0} (r n : Running H C R O S) (acks : List Ack) (cell : Boot) (w : ℕ) → GaveUp n → n.status ≡ Change → n.view ≡ w → n.last_normal ≡ r.last_normal → n.kept ≡ r.kept → n.known ≡ r.known
+    → ◌≡◌ {A = Site C} (record (site_of r acks cell) { status = Change; view = w; collected = nothing }) (site_of n [] cell)
+changed_site r n acks cell w gave status view last kept known = λ i. record {
   status = sym status i;
   view = sym view i;
   last_normal = sym last i;
   log = (sym kept i).log;
   done = (sym kept i).done;
-  collected = record { acks = []; starts = sym gave.starts i; voted = sym gave.voted i; votes = map vote_of (sym gave.votes i); responses = [] };
-  cell = boot;
+  collected = record { acks = []; starts = map start_of (sym gave.starts i); voted = sym gave.voted i; votes = map vote_of (sym gave.votes i); responses = [] };
+  known = sym known i;
+  cell = cell;
 }
 
 -- the site is normal in a view
-pub normal_site : {H C R O S : Type 0} (n : Running H C R O S) (boot : Boot) (w d : ℕ) (log : List (RowOf C)) → GaveUp n → n.status ≡ Normal → n.view ≡ w → n.last_normal ≡ w → n.kept.log ≡ log → n.kept.done ≡ d
-    → ◌≡◌ {A = Site C} (normal_with w d log boot) (site_of n [] boot)
-normal_site n boot w d log gave status view last rows done = λ i. record {
+pub normal_site : {H C R O S : Type 0} (n : Running H C R O S) (boot : Boot) (w d : ℕ) (log : List (RowOf C)) (knows : List ℕ) → GaveUp n → n.status ≡ Normal → n.view ≡ w → n.last_normal ≡ w → n.kept.log ≡ log → n.kept.done ≡ d → n.known ≡ knows
+    → ◌≡◌ {A = Site C} (normal_with w d log knows boot) (site_of n [] boot)
+normal_site n boot w d log knows gave status view last rows done known = λ i. record {
   status = sym status i;
   view = sym view i;
   last_normal = sym last i;
   log = sym rows i;
   done = sym done i;
-  collected = record { acks = []; starts = sym gave.starts i; voted = sym gave.voted i; votes = map vote_of (sym gave.votes i); responses = [] };
+  collected = record { acks = []; starts = map start_of (sym gave.starts i); voted = sym gave.voted i; votes = map vote_of (sym gave.votes i); responses = [] };
+  known = sym known i;
   cell = boot;
 }
 
 -- a sound site that only collected more
-pub kept_sound : {H C R O S : Type 0} (m : Ghosts H C R O S) (start : H) (f : ℕ) (r n : Running H C R O S) → n.status ≡ r.status → n.kept ≡ r.kept → n.acked ≡ r.acked → OneEach (λ (vote : Vote C). vote.from) (map vote_of n.votes.items) → IsSound m start f r → IsSound m start f n
-kept_sound m start f r n status kept acked votes was = record {
+pub kept_sound : {H C R O S : Type 0} (m : Ghosts H C R O S) (start : H) (f : ℕ) (r n : Running H C R O S) → n.status ≡ r.status → n.kept ≡ r.kept → n.acked ≡ r.acked → n.known ≡ r.known → OneEach (λ (vote : Vote C). vote.from) (map vote_of n.votes.items) → IsSound m start f r → IsSound m start f n
+kept_sound m start f r n status kept acked known votes was = record {
   kept = subst (IsKept m start) (sym kept) was.kept;
   sites = ap (λ a. length a.items) acked ∙ was.sites;
+  known = ap length known ∙ was.known;
   up = ap is_running status ∙ was.up;
   votes = votes;
 }
 
-pub kept_running : {H C R O S : Type 0} (m : Ghosts H C R O S) (start : H) (f : ℕ) (r n : Running H C R O S) (acks : List Ack) → n.status ≡ r.status → n.kept ≡ r.kept → n.acked ≡ r.acked → OneEach (λ (vote : Vote C). vote.from) (map vote_of n.votes.items) → IsRunning m start f r acks → IsRunning m start f n acks
-kept_running m start f r n acks status kept acked votes was = record {
-  sound = kept_sound m start f r n status kept acked votes was.sound;
+pub kept_running : {H C R O S : Type 0} (m : Ghosts H C R O S) (start : H) (f : ℕ) (r n : Running H C R O S) (acks : List Ack) → n.status ≡ r.status → n.kept ≡ r.kept → n.acked ≡ r.acked → n.known ≡ r.known → OneEach (λ (vote : Vote C). vote.from) (map vote_of n.votes.items) → IsRunning m start f r acks → IsRunning m start f n acks
+kept_running m start f r n acks status kept acked known votes was = record {
+  sound = kept_sound m start f r n status kept acked known votes was.sound;
   summed = subst (λ a. SumUp a.items acks) (sym acked) was.summed;
 }
 
 -- the site that collected this
-pub collected_site : {H C R O S : Type 0} (r n : Running H C R O S) (acks : List Ack) (cell : Boot) (starts : List ℕ) (voted : Bool) (votes : List (Vote C)) → n.status ≡ r.status → n.view ≡ r.view → n.last_normal ≡ r.last_normal → n.kept ≡ r.kept
-    → n.starts.items ≡ starts → n.voted ≡ voted → map vote_of n.votes.items ≡ votes
+pub collected_site : {H C R O S : Type 0} (r n : Running H C R O S) (acks : List Ack) (cell : Boot) (starts : List Start) (voted : Bool) (votes : List (Vote C)) → n.status ≡ r.status → n.view ≡ r.view → n.last_normal ≡ r.last_normal → n.kept ≡ r.kept → n.known ≡ r.known
+    → map start_of n.starts.items ≡ starts → n.voted ≡ voted → map vote_of n.votes.items ≡ votes
     → ◌≡◌ {A = Site C} (record (site_of r acks cell) { collected = record { acks = acks; starts = starts; voted = voted; votes = votes; responses = [] } }) (site_of n acks cell)
-collected_site r n acks cell starts voted votes status view last kept es ev eb = λ i. record {
+collected_site r n acks cell starts voted votes status view last kept known es ev eb = λ i. record {
   status = sym status i;
   view = sym view i;
   last_normal = sym last i;
   log = (sym kept i).log;
   done = (sym kept i).done;
   collected = record { acks = acks; starts = sym es i; voted = sym ev i; votes = sym eb i; responses = [] };
+  known = sym known i;
   cell = cell;
 }

@@ -1,4 +1,3 @@
 pub mod Ballot
 pub mod Fits
 pub mod Parts
-pub mod Saved

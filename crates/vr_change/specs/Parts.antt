@@ -1,13 +1,13 @@
 -- A rule that is taken in parts.
-use Rattle.std.specs.Prelude.{◌≡◌, ℕ, ◌||◌, Bool, not, List, if◌then◌else◌}
+use Rattle.std.specs.Prelude.{◌≡◌, ℕ, ◌||◌, Bool, not, nat_lt, List, [], if◌then◌else◌}
 use Rattle.vr_types.specs.declared.event.Why.TheVariants.{Stale}
 use Rattle.vr_types.specs.declared.machine.Machine.{Ghosts}
 use Rattle.vr_types.specs.declared.message.EnvelopeOf.{EnvelopeOf}
 use Rattle.vr_types.specs.declared.row.RowOf.{RowOf}
-use Rattle.vr_types.specs.Change.{Part, opened_with, own_vote}
+use Rattle.vr_types.specs.Change.{Part, starts_view, with_start, with_vote, votes_where_due, opens_where_due, opened_with, own_vote}
 use Rattle.vr_types.specs.Choice.{Choice}
-use Rattle.vr_types.specs.Site.{Site}
-use Rattle.vr_types.specs.Step.{Step, drops, begins_with_executed}
+use Rattle.vr_types.specs.Site.{Site, Start, Vote}
+use Rattle.vr_types.specs.Step.{Step, drops, learns, begins_with_executed}
 use Rattle.vr_log.specs.declared.running.Running.{Running}
 use Rattle.vr_log.specs.Running.{IsRunning, site_of}
 use Rattle.vr_change.specs.Ballot.{with_starter, with_ballot}
@@ -18,17 +18,31 @@ pub record IsPart {H C R O S : Type 0} (m : Ghosts H C R O S) (start : H) (f : �
   pub site : part.site ≡ site_of r part.site.collected.acks part.site.cell
   pub sent : mails ≡ part.sent
 
--- a view is opened with a log that begins with what the site executed; any other is dropped
-abbrev pub opens_with : {C R O : Type 0} → Choice C → ℕ → ℕ → Site C → List (EnvelopeOf C R O) → List (RowOf C) → ℕ → Step C R O
-opens_with choose f me x sent log k =
-    if not (begins_with_executed choose.same x log) then drops x Stale
-    else opened_with f me log k (record { site = x; sent = sent })
+-- A view is opened with a log that begins with what the site executed; any other is dropped. The site is first as the message found it, then as it has learnt.
+abbrev pub opens_with : {C R O : Type 0} → Choice C → ℕ → ℕ → Site C → Site C → List (EnvelopeOf C R O) → List (RowOf C) → ℕ → Step C R O
+opens_with choose f me x y sent log k =
+    if not (begins_with_executed choose.same y log) then drops x Stale
+    else opened_with f me log k (record { site = y; sent = sent })
+
+-- a later view is started by a site that has learnt what was told
+abbrev pub starts_learnt : {C R O : Type 0} → ℕ → ℕ → ℕ → List ℕ → Site C → Part C R O
+starts_learnt f me w told x = if nat_lt x.view w then starts_view f me w (learns told x) else record { site = x; sent = [] }
+
+-- A STARTVIEWCHANGE goes on at a site that takes part in the change: what it tells is learnt, it is kept, the site votes where that is due, and the view is opened where it can be.
+abbrev pub start_goes_on : {C R O : Type 0} → Choice C → ℕ → ℕ → Start → Site C → List (EnvelopeOf C R O) → Step C R O
+start_goes_on choose f me start x sent =
+    opens_where_due choose f me x (votes_where_due f me (record { site = with_start start (learns start.known x); sent = sent }))
+
+-- so does a vote at the primary of its view
+abbrev pub vote_goes_on : {C R O : Type 0} → Choice C → ℕ → ℕ → Vote C → Site C → List (EnvelopeOf C R O) → Step C R O
+vote_goes_on choose f me vote x sent =
+    opens_where_due choose f me x (record { site = with_vote vote (learns vote.known x); sent = sent })
 
 -- The site where a STARTVIEWCHANGE is kept at the primary of its view, and its own vote, where it votes.
-abbrev pub gathered : {C : Type 0} → Bool → ℕ → ℕ → Site C → Site C
-gathered votes me from x = record x {
+abbrev pub gathered : {C : Type 0} → Bool → ℕ → Start → Site C → Site C
+gathered votes me start x = record x {
   collected = record (x.collected) {
-    starts = with_starter x.collected.starts from;
+    starts = with_starter x.collected.starts start;
     voted = votes || x.collected.voted;
     votes = if votes then with_ballot x.collected.votes (own_vote me x) else x.collected.votes;
   };

@@ -1,14 +1,16 @@
-//! The messages that a change of view collects, and what they decide.
+//! The messages that a change of view collects, and what they decide. Where it says that a message is left, it is as the
+//! site learns what it was told: what decides is those that are left.
 
-ghost use Rattle.std.specs.Prelude.{◌≡◌, ℕ, ◌<◌, ◌==◌, ◌&&◌, ◌||◌, ◌++◌, ◌∷◌, [], not, nat_lt, nat_le, length, map, max, fold, count_by, slice_get, IfSome, MatchOption};
+ghost use Rattle.std.specs.Prelude.{◌≡◌, ℕ, ◌<◌, ◌==◌, ◌&&◌, ◌||◌, ◌++◌, ◌∷◌, [], List, not, nat_lt, nat_le, length, map, max, fold, count_by, slice_get, Some, None, IfSome, MatchOption};
 ghost use Rattle.vr_types.specs.Choice.{IsPick};
 ghost use Rattle.vr_types.specs.Group.{sites, others};
 ghost use Rattle.vr_types.specs.Site.{Vote, has_start, has_vote};
-ghost use Rattle.vr_log.specs.Running.{vote_of};
-ghost use Rattle.vr_change.specs.Ballot.{claim};
+ghost use Rattle.vr_log.specs.Running.{start_of, vote_of};
+ghost use Rattle.vr_change.specs.Ballot.{claim, is_left as stays, starts_left, votes_left, vote_at, goes_past};
 
-use vr_log::VoteOf;
-use vr_types::Config;
+use crate::learning::is_left;
+use vr_log::{Running, StartOf, VoteOf};
+use vr_types::{Config, Known, Machine};
 
 /// What decides between a vote and others.
 #[derive(Clone, Copy)]
@@ -56,39 +58,65 @@ pub fn has_voted<C>(votes: &[VoteOf<C>], site: u16) -> bool
 }
 
 /// Whether a STARTVIEWCHANGE of this site is kept.
-pub fn has_started(starts: &[u16], site: u16) -> bool
-    ensures { result ≡ has_start starts.now site }
+pub fn has_started(starts: &[StartOf], site: u16) -> bool
+    ensures { result ≡ has_start (map start_of starts.now) site }
 {
-    starts.contains(&site)
+    starts.iter().any(|start| start.from == site)
 }
 
-/// Whether f+1 sites have voted, with the one that votes now.
-pub fn enough_voted<C>(config: Config, votes: &[VoteOf<C>], from: u16) -> bool
-    ensures { result ≡ nat_lt config.f (count_by (λ j. has_vote (map vote_of votes.now) j || (from == j)) (sites config.f)) }
+/// Whether a vote of this site is left.
+pub fn has_vote_left<M: Machine>(running: &Running<M>, told: &Known, site: u16) -> bool
+    ensures { result ≡ has_vote (votes_left running.now.known told.now (map vote_of running.now.votes.items)) site }
+{
+    running.votes.iter().any(|vote| vote.from == site
+        && is_left(running, told, vote.from, &vote.known))
+}
+
+/// Whether a STARTVIEWCHANGE of this site is left.
+fn has_start_left<M: Machine>(running: &Running<M>, told: &Known, site: u16) -> bool
+    ensures { result ≡ has_start (starts_left running.now.known told.now (map start_of running.now.starts.items)) site }
+{
+    running.starts.iter().any(|start| start.from == site
+        && is_left(running, told, start.from, &start.known))
+}
+
+/// Whether a vote of this site is left, or comes now.
+pub fn votes_now<M: Machine>(running: &Running<M>, told: &Known, from: u16, site: u16) -> bool
+    ensures { result ≡ (has_vote (votes_left running.now.known told.now (map vote_of running.now.votes.items)) site || (from == site)) }
+{
+    has_vote_left(running, told, site) || from == site
+}
+
+/// Whether the votes of f+1 sites are left, with the one that votes now.
+pub fn enough_voted<M: Machine>(
+    config: Config,
+    running: &Running<M>,
+    told: &Known,
+    from: u16,
+) -> bool
+    ensures { result ≡ nat_lt config.f (count_by (λ j. has_vote (votes_left running.now.known told.now (map vote_of running.now.votes.items)) j || (from == j)) (sites config.f)) }
 {
     let mut count: u16 = 0;
     for site in 0..2 * config.f + 1 {
-        if votes_now(votes, from, site) {
+        if votes_now(running, told, from, site) {
             count += 1;
         }
     }
     config.f < count
 }
 
-/// Whether a vote of this site is kept, or comes now.
-pub fn votes_now<C>(votes: &[VoteOf<C>], from: u16, site: u16) -> bool
-    ensures { result ≡ (has_vote (map vote_of votes.now) site || (from == site)) }
-{
-    has_voted(votes, site) || from == site
-}
-
 /// Whether f others take part in the change, with the one that tells it now.
-pub fn enough_started(config: Config, starts: &[u16], from: u16) -> bool
-    ensures { result ≡ nat_le config.f (count_by (λ j. has_start starts.now j || (from == j)) (others config.f config.me)) }
+pub fn enough_started<M: Machine>(
+    config: Config,
+    running: &Running<M>,
+    told: &Known,
+    from: u16,
+) -> bool
+    ensures { result ≡ nat_le config.f (count_by (λ j. has_start (starts_left running.now.known told.now (map start_of running.now.starts.items)) j || (from == j)) (others config.f config.me)) }
 {
     let mut count: u16 = 0;
     for site in 0..2 * config.f + 1 {
-        if takes_part(config, starts, from, site) {
+        if takes_part(config, running, told, from, site) {
             count += 1;
         }
     }
@@ -96,52 +124,76 @@ pub fn enough_started(config: Config, starts: &[u16], from: u16) -> bool
 }
 
 /// Whether a site is another that takes part in the change.
-fn takes_part(config: Config, starts: &[u16], from: u16, site: u16) -> bool
-    ensures { result ≡ (not (site == config.me) && (has_start starts.now site || (from == site))) }
+fn takes_part<M: Machine>(
+    config: Config,
+    running: &Running<M>,
+    told: &Known,
+    from: u16,
+    site: u16,
+) -> bool
+    ensures { result ≡ (not (site == config.me) && (has_start (starts_left running.now.known told.now (map start_of running.now.starts.items)) site || (from == site))) }
 {
-    site != config.me && (has_started(starts, site) || from == site)
+    site != config.me && (has_start_left(running, told, site) || from == site)
 }
 
-/// The index of the vote that goes before all others.
-pub fn best<C: Copy>(votes: &[VoteOf<C>]) -> usize
-    requires { 0 < length votes.now }
-    ensures within { result < length votes.now }
-    ensures pick { IfSome (slice_get (map vote_of votes.now) result) (IsPick (map vote_of votes.now)) }
+/// The index of the vote that goes before all others that are left, where any is.
+pub fn best<M: Machine>(running: &Running<M>, told: &Known) -> Option<usize>
+    ensures { let votes = map vote_of running.now.votes.items in
+        let left = votes_left running.now.known told.now votes in
+        MatchOption result (left ≡ []) (λ at. (at < length running.now.votes.items) × IfSome (slice_get votes at) (IsPick left)) }
 {
-    let mut best = 0;
-    for at in 1..votes.len() {
-        if Claim::of(&votes[at]).goes_before(Claim::of(&votes[best])) {
-            best = at;
+    let mut best = None;
+    for at in 0..running.votes.len() {
+        if goes_next(running, told, best, at) {
+            best = Some(at);
         }
     }
     best
 }
 
-/// The index of the vote that goes before all others and one of this claim; or `None`, where that one goes before all.
-pub fn best_before<C: Copy>(votes: &[VoteOf<C>], new: Claim) -> Option<usize>
-    ensures within { IfSome result (λ at. at < length votes.now) }
-    ensures pick { (vote : Vote C) → claim vote ≡ new → MatchOption result
-        (IsPick (map vote_of votes.now ++ vote ∷ []) vote)
-        (λ at. IfSome (slice_get (map vote_of votes.now) at) (IsPick (map vote_of votes.now ++ vote ∷ []))) }
+/// Whether the vote at an index is left, and goes before the best so far.
+fn goes_next<M: Machine>(running: &Running<M>, told: &Known, best: Option<usize>, at: usize) -> bool
+    requires at { at < length running.now.votes.items }
+    requires best { IfSome best (λ best. best < length running.now.votes.items) }
+    ensures { (vote : Vote M.Cmd) → slice_get (map vote_of running.now.votes.items) at ≡ Some vote →
+        result ≡ (stays running.now.known told.now vote.from vote.known && goes_past vote (vote_at (map vote_of running.now.votes.items) best)) }
 {
-    if votes.is_empty() {
-        return None;
+    let vote = &running.votes[at];
+    if !is_left(running, told, vote.from, &vote.known) {
+        return false;
     }
-    let at = best(votes);
-    if new.goes_before(Claim::of(&votes[at])) {
+    match best {
+        Some(best) => Claim::of(vote).goes_before(Claim::of(&running.votes[best])),
+        None => true,
+    }
+}
+
+/// The index of the vote that goes before all others that are left and one of this claim; or `None`, where that one goes
+/// before all.
+pub fn best_before<M: Machine>(running: &Running<M>, told: &Known, new: Claim) -> Option<usize>
+    ensures within { IfSome result (λ at. at < length running.now.votes.items) }
+    ensures pick { (vote : Vote M.Cmd) → claim vote ≡ new →
+        let votes = map vote_of running.now.votes.items in
+        let ballot = votes_left running.now.known told.now votes ++ vote ∷ [] in
+        MatchOption result (IsPick ballot vote) (λ at. IfSome (slice_get votes at) (IsPick ballot)) }
+{
+    let at = best(running, told)?;
+    if new.goes_before(Claim::of(&running.votes[at])) {
         None
     } else {
         Some(at)
     }
 }
 
-/// The largest commit-number of the votes, 0 of none.
-pub fn most_done<C>(votes: &[VoteOf<C>]) -> u16
-    ensures { result ≡ fold (λ most vote. max most vote.done) 0 (map vote_of votes.now) }
+/// The largest commit-number of the votes that are left, 0 of none.
+pub fn most_done<M: Machine>(running: &Running<M>, told: &Known) -> u16
+    ensures { result ≡ fold (λ most vote. max most vote.done) 0 (votes_left running.now.known told.now (map vote_of running.now.votes.items)) }
 {
     let mut most = 0;
-    for vote in votes {
-        most = most.max(vote.done);
+    for vote in &running.votes {
+        if is_left(running, told, vote.from, &vote.known) {
+            most = most.max(vote.done);
+        }
     }
     most
 }

@@ -1,14 +1,14 @@
-ghost use Rattle.std.specs.Prelude.{◌≡◌, ◌<◌, ◌≤◌, ◌∷◌, [], false, IfOk, OnOk, List, length};
+ghost use Rattle.std.specs.Prelude.{◌≡◌, ◌+◌, ◌*◌, ◌<◌, ◌≤◌, ◌∷◌, [], false, IfOk, OnOk, List, length};
 ghost use Rattle.vr_types.specs.declared.cell.Boot.{Boot};
 ghost use Rattle.vr_types.specs.Change.{on_timer, beats_in_change, sends_vote};
-ghost use Rattle.vr_types.specs.Group.{to_all};
-ghost use Rattle.vr_types.specs.Handling.{max_number};
+ghost use Rattle.vr_types.specs.Group.{mail, to_all};
+ghost use Rattle.vr_types.specs.Cell.{max_number};
 ghost use Rattle.vr_types.specs.Site.{Ack};
 ghost use Rattle.vr_log.specs.Running.{IsSound, IsRunning, Follows, SumUp, site_of};
 
 use std::alloc::{AllocError, Global};
 use vr_log::Running;
-use vr_log::send::{News, mail_to, primary_of, tell_all};
+use vr_log::send::{mail_to, primary_of};
 use vr_types::{Config, Envelope, Machine, MsgOf, Outcome, OutcomeOf, Status};
 
 /// Timer: the change to the next view begins, and all are told.
@@ -25,7 +25,7 @@ pub fn timer<M: Machine>(
 {
     let view = running.view + 1;
     start_change(running, view);
-    let sent = tell_all(alloc, config, News::StartViewChange { view })?;
+    let sent = tell_change(alloc, config, running)?;
     Ok(OutcomeOf {
         sent,
         dropped: None,
@@ -41,9 +41,8 @@ pub fn beat_in_change<M: Machine>(
     ensures { (start : M) (acks : List Ack) (cell : Boot) → IsRunning M.Machine start config.f running.now acks →
         Follows M.Machine start config.f config.me running.now result (beats_in_change config.f config.me (site_of running.now acks cell)) }
 {
-    let view = running.view;
-    let mut sent = tell_all(alloc, config, News::StartViewChange { view })?;
-    if running.voted && primary_of(config, view) != config.me {
+    let mut sent = tell_change(alloc, config, running)?;
+    if running.voted && primary_of(config, running.view) != config.me {
         sent.push(own_vote(alloc, config, running)?)?;
     }
     Ok(OutcomeOf {
@@ -65,8 +64,43 @@ pub fn own_vote<M: Machine>(
         last_normal: running.last_normal,
         done: running.kept.done,
         rows: running.kept.log.copy_from(alloc, 0)?,
+        known: running.known.copy(alloc)?,
     };
     Ok(mail_to(config, primary_of(config, running.view), msg))
+}
+
+/// STARTVIEWCHANGE of the site's view, with what the site knows, to every other site in ascending order.
+pub fn tell_change<M: Machine>(
+    alloc: Global,
+    config: Config,
+    running: &Running<M>,
+) -> Result<Vec<Envelope<M>>, AllocError>
+    ensures { IfOk result (λ sent. sent.items ≡ to_all config.f config.me (MsgOf.StartViewChange running.now.view running.now.known)) }
+{
+    let mut sent = Vec::new(alloc);
+    for site in 0..2 * config.f + 1 {
+        if site != config.me {
+            sent.push(change_mail(alloc, config, running, site)?)?;
+        }
+    }
+    Ok(sent)
+}
+
+/// STARTVIEWCHANGE of the site's view to a site.
+fn change_mail<M: Machine>(
+    alloc: Global,
+    config: Config,
+    running: &Running<M>,
+    site: u16,
+) -> Result<Envelope<M>, AllocError>
+    requires { site ≤ 2 * config.f }
+    ensures { IfOk result (λ sent. sent ≡ mail config.me site (MsgOf.StartViewChange running.now.view running.now.known)) }
+{
+    let msg = MsgOf::StartViewChange {
+        view: running.view,
+        known: running.known.copy(alloc)?,
+    };
+    Ok(mail_to(config, site, msg))
 }
 
 /// The site takes part in the change to a view, and gives up what it collected.
@@ -75,6 +109,7 @@ pub fn start_change<M: Machine>(running: &mut Running<M>, view: u32)
     ensures view { running.new.view ≡ view }
     ensures last_normal { running.new.last_normal ≡ running.old.last_normal }
     ensures kept { running.new.kept ≡ running.old.kept }
+    ensures known { running.new.known ≡ running.old.known }
     ensures sites { length running.new.acked.items ≡ length running.old.acked.items }
     ensures acked { SumUp running.new.acked.items [] }
     ensures starts { running.new.starts.items ≡ [] }
@@ -92,6 +127,7 @@ pub fn give_up_collected<M: Machine>(running: &mut Running<M>)
     ensures view { running.new.view ≡ running.old.view }
     ensures last_normal { running.new.last_normal ≡ running.old.last_normal }
     ensures kept { running.new.kept ≡ running.old.kept }
+    ensures known { running.new.known ≡ running.old.known }
     ensures sites { length running.new.acked.items ≡ length running.old.acked.items }
     ensures acked { SumUp running.new.acked.items [] }
     ensures starts { running.new.starts.items ≡ [] }

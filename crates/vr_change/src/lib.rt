@@ -2,14 +2,11 @@
 //! STARTVIEW, GETSTATE and NEWSTATE, and with a beat while it is in change. Each call is the case of the site step that
 //! has its name. Its `Err` is want of memory, and what runs may then only be dropped; an event that is dropped takes no
 //! memory and changes nothing.
-//!
-//! No call saves: its caller saves the view that the site is then in, where the cell holds another, before anything
-//! that the call sends leaves.
 #![tactic(auto)]
 
 mod ballot;
 mod change;
-pub mod laws;
+mod learning;
 mod opening;
 mod taking;
 mod transfer;
@@ -19,6 +16,3 @@ pub use change::{beat_in_change, timer};
 pub use taking::start_view;
 pub use transfer::{get_state, new_state};
 pub use voting::{do_view_change, start_view_change};
-
-#[cfg(test)]
-mod tests;

@@ -1,6 +1,6 @@
-//! The opening of a view: its primary takes the log that goes before all others, tells all, and answers the clients.
+//! The opening of a view, with what the site was told by the message that came: its primary takes the log that goes before all others, tells all, and answers the clients.
 
-ghost use Rattle.std.specs.Prelude.{◌≡◌, ◌<◌, ◌≤◌, ◌*◌, ◌++◌, ◌∷◌, [], false, IfOk, OnOk, List, length, map, slice_get, Some};
+ghost use Rattle.std.specs.Prelude.{◌≡◌, ◌≢◌, ◌<◌, ◌≤◌, ◌*◌, ◌++◌, ◌∷◌, [], false, IfOk, OnOk, List, length, map, slice_get, Some};
 ghost use Rattle.vr_types.specs.declared.cell.Boot.{Boot};
 ghost use Rattle.vr_types.specs.Change.{opened_with, own_vote};
 ghost use Rattle.vr_types.specs.Choice.{Choice, IsRight};
@@ -8,6 +8,8 @@ ghost use Rattle.vr_types.specs.Group.{mail, to_all};
 ghost use Rattle.vr_types.specs.Site.{Ack, Vote, has_vote};
 ghost use Rattle.vr_log.specs.Kept.{IsReady};
 ghost use Rattle.vr_log.specs.Running.{IsSound, IsRunning, Follows, site_of, vote_of};
+ghost use Rattle.vr_types.specs.Step.{learns};
+ghost use Rattle.vr_change.specs.Ballot.{votes_left};
 ghost use Rattle.vr_change.specs.Parts.{opens_with};
 
 use crate::ballot::{Claim, best, best_before, most_done};
@@ -16,27 +18,32 @@ use std::alloc::{AllocError, Global};
 use std::mem;
 use vr_log::send::{dropped, mail_to, send_replies};
 use vr_log::{Running, VoteOf};
-use vr_types::{Config, Envelope, Machine, MsgOf, Outcome, OutcomeOf, RowsOf, Why};
+use vr_types::{Config, Envelope, Known, Machine, MsgOf, Outcome, OutcomeOf, RowsOf, Why};
 
 /// Opens the view with the votes that are kept.
 pub fn open_with_kept<M: Machine>(
     alloc: Global,
     config: Config,
     running: &mut Running<M>,
+    told: &Known,
     sent: Vec<Envelope<M>>,
 ) -> Result<Outcome<M>, AllocError>
     requires ready { IsReady M.Machine running.old.kept }
-    requires some { 0 < length running.old.votes.items }
+    requires known { length told.now ≤ length running.old.known }
+    requires some { votes_left running.old.known told.now (map vote_of running.old.votes.items) ≢ [] }
     ensures sound { OnOk result ((start : M) → IsSound M.Machine start config.f running.old → IsSound M.Machine start config.f running.new) }
     ensures later { running.old.view ≤ running.new.view }
     ensures step { (choose : Choice M.Cmd) (start : M) (acks : List Ack) (cell : Boot) → IsRight config.f choose → IsRunning M.Machine start config.f running.old acks →
         Follows M.Machine start config.f config.me running.new result (
-        let ballot = map vote_of running.old.votes.items in
-        opens_with choose config.f config.me (site_of running.old acks cell) sent.items (choose.pick ballot).log (choose.most_done ballot)) }
+        let x = site_of running.old acks cell in
+        let ballot = votes_left running.old.known told.now (map vote_of running.old.votes.items) in
+        opens_with choose config.f config.me x (learns told.now x) sent.items (choose.pick ballot).log (choose.most_done ballot)) }
 {
-    let at = best(running.votes.as_slice());
-    let done = most_done(running.votes.as_slice());
-    open_with_vote(alloc, config, running, at, done, sent)
+    let done = most_done(running, told);
+    match best(running, told) {
+        Some(at) => open_with_vote(alloc, config, running, told, at, done, sent),
+        None => unreachable!(),
+    }
 }
 
 /// Opens the view with the votes that are kept, and one that comes from a site that has none among them.
@@ -48,18 +55,27 @@ pub fn open_with_new<M: Machine>(
     sent: Vec<Envelope<M>>,
 ) -> Result<Outcome<M>, AllocError>
     requires ready { IsReady M.Machine running.old.kept }
-    requires new { has_vote (map vote_of running.old.votes.items) vote.from ≡ false }
+    requires known { length vote.known ≤ length running.old.known }
+    requires new { has_vote (votes_left running.old.known vote.known (map vote_of running.old.votes.items)) vote.from ≡ false }
     ensures sound { OnOk result ((start : M) → IsSound M.Machine start config.f running.old → IsSound M.Machine start config.f running.new) }
     ensures later { running.old.view ≤ running.new.view }
     ensures step { (choose : Choice M.Cmd) (start : M) (acks : List Ack) (cell : Boot) → IsRight config.f choose → IsRunning M.Machine start config.f running.old acks →
         Follows M.Machine start config.f config.me running.new result (
-        let ballot = map vote_of running.old.votes.items ++ vote_of vote ∷ [] in
-        opens_with choose config.f config.me (site_of running.old acks cell) sent.items (choose.pick ballot).log (choose.most_done ballot)) }
+        let x = site_of running.old acks cell in
+        let ballot = votes_left running.old.known vote.known (map vote_of running.old.votes.items) ++ vote_of vote ∷ [] in
+        opens_with choose config.f config.me x (learns vote.known x) sent.items (choose.pick ballot).log (choose.most_done ballot)) }
 {
-    let done = most_done(running.votes.as_slice()).max(vote.done);
-    match best_before(running.votes.as_slice(), Claim::of(&vote)) {
-        Some(at) => open_with_vote(alloc, config, running, at, done, sent),
-        None => open_with_rows(alloc, config, running, vote.log, done, sent),
+    let new = Claim::of(&vote);
+    let VoteOf {
+        done,
+        log,
+        known,
+        ..
+    } = vote;
+    let done = most_done(running, &known).max(done);
+    match best_before(running, &known, new) {
+        Some(at) => open_with_vote(alloc, config, running, &known, at, done, sent),
+        None => open_with_rows(alloc, config, running, &known, log, done, sent),
     }
 }
 
@@ -69,27 +85,30 @@ pub fn open_with_own<M: Machine>(
     alloc: Global,
     config: Config,
     running: &mut Running<M>,
+    told: &Known,
     sent: Vec<Envelope<M>>,
 ) -> Result<Outcome<M>, AllocError>
     requires ready { IsReady M.Machine running.old.kept }
-    requires new { has_vote (map vote_of running.old.votes.items) config.me ≡ false }
+    requires known { length told.now ≤ length running.old.known }
+    requires new { has_vote (votes_left running.old.known told.now (map vote_of running.old.votes.items)) config.me ≡ false }
     ensures sound { OnOk result ((start : M) → IsSound M.Machine start config.f running.old → IsSound M.Machine start config.f running.new) }
     ensures later { running.old.view ≤ running.new.view }
     ensures step { (choose : Choice M.Cmd) (start : M) (acks : List Ack) (cell : Boot) → IsRight config.f choose → IsRunning M.Machine start config.f running.old acks →
         Follows M.Machine start config.f config.me running.new result (
         let x = site_of running.old acks cell in
-        let ballot = map vote_of running.old.votes.items ++ own_vote config.me x ∷ [] in
-        opens_with choose config.f config.me x sent.items (choose.pick ballot).log (choose.most_done ballot)) }
+        let y = learns told.now x in
+        let ballot = votes_left running.old.known told.now (map vote_of running.old.votes.items) ++ own_vote config.me y ∷ [] in
+        opens_with choose config.f config.me x y sent.items (choose.pick ballot).log (choose.most_done ballot)) }
 {
     let own = Claim {
         from: config.me,
         last_normal: running.last_normal,
         rows: running.kept.log.len(),
     };
-    let done = most_done(running.votes.as_slice()).max(running.kept.done);
-    match best_before(running.votes.as_slice(), own) {
-        Some(at) => open_with_vote(alloc, config, running, at, done, sent),
-        None => open(alloc, config, running, done, sent),
+    let done = most_done(running, told).max(running.kept.done);
+    match best_before(running, told, own) {
+        Some(at) => open_with_vote(alloc, config, running, told, at, done, sent),
+        None => open(alloc, config, running, told, done, sent),
     }
 }
 
@@ -98,17 +117,21 @@ pub fn open_with_vote<M: Machine>(
     alloc: Global,
     config: Config,
     running: &mut Running<M>,
+    told: &Known,
     at: usize,
     done: u16,
     sent: Vec<Envelope<M>>,
 ) -> Result<Outcome<M>, AllocError>
     requires ready { IsReady M.Machine running.old.kept }
+    requires known { length told.now ≤ length running.old.known }
     requires at { at < length running.old.votes.items }
     ensures sound { OnOk result ((start : M) → IsSound M.Machine start config.f running.old → IsSound M.Machine start config.f running.new) }
     ensures later { running.old.view ≤ running.new.view }
     ensures step { (choose : Choice M.Cmd) (start : M) (acks : List Ack) (cell : Boot) (vote : Vote M.Cmd) → IsRight config.f choose → IsRunning M.Machine start config.f running.old acks →
         slice_get (map vote_of running.old.votes.items) at ≡ Some vote →
-        Follows M.Machine start config.f config.me running.new result (opens_with choose config.f config.me (site_of running.old acks cell) sent.items vote.log done) }
+        Follows M.Machine start config.f config.me running.new result (
+        let x = site_of running.old acks cell in
+        opens_with choose config.f config.me x (learns told.now x) sent.items vote.log done) }
 {
     if !running.kept.keeps_executed(0, &running.votes[at].log) {
         return Ok(dropped(alloc, Why::Stale));
@@ -116,7 +139,7 @@ pub fn open_with_vote<M: Machine>(
     let mut votes = mem::replace(&mut running.votes, Vec::new(alloc));
     let vote = votes.swap_remove(at);
     running.kept.take_rows(0, vote.log)?;
-    open(alloc, config, running, done, sent)
+    open(alloc, config, running, told, done, sent)
 }
 
 /// Opens the view with these rows, where they begin with what the site executed.
@@ -124,41 +147,49 @@ pub fn open_with_rows<M: Machine>(
     alloc: Global,
     config: Config,
     running: &mut Running<M>,
+    told: &Known,
     rows: RowsOf<M::Cmd>,
     done: u16,
     sent: Vec<Envelope<M>>,
 ) -> Result<Outcome<M>, AllocError>
     requires ready { IsReady M.Machine running.old.kept }
+    requires known { length told.now ≤ length running.old.known }
     ensures sound { OnOk result ((start : M) → IsSound M.Machine start config.f running.old → IsSound M.Machine start config.f running.new) }
     ensures later { running.old.view ≤ running.new.view }
     ensures step { (choose : Choice M.Cmd) (start : M) (acks : List Ack) (cell : Boot) → IsRight config.f choose → IsRunning M.Machine start config.f running.old acks →
-        Follows M.Machine start config.f config.me running.new result (opens_with choose config.f config.me (site_of running.old acks cell) sent.items rows done) }
+        Follows M.Machine start config.f config.me running.new result (
+        let x = site_of running.old acks cell in
+        opens_with choose config.f config.me x (learns told.now x) sent.items rows done) }
 {
     if !running.kept.keeps_executed(0, &rows) {
         return Ok(dropped(alloc, Why::Stale));
     }
     let _len = rows.len();
     running.kept.take_rows(0, rows)?;
-    open(alloc, config, running, done, sent)
+    open(alloc, config, running, told, done, sent)
 }
 
-/// Opens the view with the log that the site has: it is normal in it, executes what any voter had, and tells all; then
+/// Opens the view with the log that the site has: it learns what it was told, is normal in the view, executes what any voter had, and tells all; then
 /// the clients are answered.
 pub fn open<M: Machine>(
     alloc: Global,
     config: Config,
     running: &mut Running<M>,
+    told: &Known,
     done: u16,
     mut sent: Vec<Envelope<M>>,
 ) -> Result<Outcome<M>, AllocError>
-    requires { IsReady M.Machine running.old.kept }
+    requires ready { IsReady M.Machine running.old.kept }
+    requires known { length told.now ≤ length running.old.known }
     ensures sound { OnOk result ((start : M) → IsSound M.Machine start config.f running.old → IsSound M.Machine start config.f running.new) }
     ensures later { running.old.view ≤ running.new.view }
     ensures step { (start : M) (acks : List Ack) (cell : Boot) → IsRunning M.Machine start config.f running.old acks →
-        Follows M.Machine start config.f config.me running.new result (opened_with config.f config.me running.old.kept.log done (record { site = site_of running.old acks cell; sent = sent.items })) }
+        Follows M.Machine start config.f config.me running.new result (
+        opened_with config.f config.me running.old.kept.log done (record { site = learns told.now (site_of running.old acks cell); sent = sent.items })) }
 {
     let view = running.view;
     let answers = running.kept.execute(alloc, done)?;
+    running.known.learn(told);
     be_normal(running, view);
     tell_view(alloc, config, running, &mut sent)?;
     send_replies(config, view, answers.as_slice(), &mut sent)?;

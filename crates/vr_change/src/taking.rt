@@ -90,6 +90,7 @@ pub fn be_normal<M: Machine>(running: &mut Running<M>, view: u32)
     ensures view { running.new.view ≡ view }
     ensures last_normal { running.new.last_normal ≡ view }
     ensures kept { running.new.kept ≡ running.old.kept }
+    ensures known { running.new.known ≡ running.old.known }
     ensures sites { length running.new.acked.items ≡ length running.old.acked.items }
     ensures acked { SumUp running.new.acked.items [] }
     ensures starts { running.new.starts.items ≡ [] }

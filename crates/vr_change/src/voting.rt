@@ -1,39 +1,43 @@
-ghost use Rattle.std.specs.Prelude.{◌≡◌, ◌≢◌, ℕ, ◌<◌, ◌≤◌, ◌==◌, ◌&&◌, false, IfOk, OnOk, OnErr, List, map};
+ghost use Rattle.std.specs.Prelude.{◌≡◌, ◌≢◌, ℕ, ◌<◌, ◌≤◌, ◌==◌, ◌&&◌, false, IfOk, OnOk, OnErr, List, length, map};
 ghost use Rattle.vr_types.specs.declared.cell.Boot.{Boot};
-ghost use Rattle.vr_types.specs.Change.{on_start_view_change, on_do_view_change, is_to_vote, starts_later_view, votes_where_due, opens_where_due, with_start, with_vote, own_vote as vote_made};
+ghost use Rattle.vr_types.specs.Change.{on_start_view_change, on_do_view_change, is_to_vote, with_start, with_vote, own_vote as vote_made};
 ghost use Rattle.vr_types.specs.Choice.{Choice, IsRight};
 ghost use Rattle.vr_types.specs.Group.{primary};
-ghost use Rattle.vr_types.specs.Site.{Ack, is_normal};
-ghost use Rattle.vr_types.specs.Step.{does};
+ghost use Rattle.vr_types.specs.Site.{Ack, Start, is_normal};
+ghost use Rattle.vr_types.specs.Step.{does, learns};
 ghost use Rattle.vr_log.specs.Kept.{IsReady};
 ghost use Rattle.vr_log.specs.Outcomes.{Sends};
-ghost use Rattle.vr_log.specs.Running.{IsSound, IsRunning, Follows, site_of, vote_of};
+ghost use Rattle.vr_log.specs.Running.{IsSound, IsRunning, Follows, site_of, start_of, vote_of};
 ghost use Rattle.vr_change.specs.Ballot.{with_starter, with_ballot};
-ghost use Rattle.vr_change.specs.Parts.{IsPart, gathered};
+ghost use Rattle.vr_change.specs.Parts.{IsPart, gathered, starts_learnt, start_goes_on, vote_goes_on};
 
-use crate::ballot::{enough_started, enough_voted, has_started, has_voted, votes_now};
-use crate::change::{own_vote, start_change};
+use crate::ballot::{
+    enough_started, enough_voted, has_started, has_vote_left, has_voted, votes_now,
+};
+use crate::change::{own_vote, start_change, tell_change};
+use crate::learning::learn;
 use crate::opening::{open_with_kept, open_with_new, open_with_own};
 use crate::taking::is_normal_in;
 use std::alloc::{AllocError, Global};
-use vr_log::send::{News, dropped, primary_of, tell_all};
-use vr_log::{Running, VoteOf};
-use vr_types::{Config, Envelope, EnvelopeOf, Machine, Outcome, OutcomeOf, Why};
+use vr_log::send::{dropped, primary_of};
+use vr_log::{Running, StartOf, VoteOf};
+use vr_types::{Config, Envelope, EnvelopeOf, Known, Machine, Outcome, OutcomeOf, Why};
 
-/// STARTVIEWCHANGE: the site takes part in the change to the view, votes once f others take part, and as the primary
-/// opens the view where it can.
+/// STARTVIEWCHANGE: the site learns what the sender knew, takes part in the change to the view, votes once f others take
+/// part, and as the primary opens the view where it can.
 pub fn start_view_change<M: Machine>(
     alloc: Global,
     config: Config,
     running: &mut Running<M>,
-    from: u16,
     view: u32,
+    start: StartOf,
 ) -> Result<Outcome<M>, AllocError>
-    requires { IsReady M.Machine running.old.kept }
-    ensures sound { OnOk result ((start : M) → IsSound M.Machine start config.f running.old → IsSound M.Machine start config.f running.new) }
+    requires ready { IsReady M.Machine running.old.kept }
+    requires known { length start.known ≤ length running.old.known }
+    ensures sound { OnOk result ((first : M) → IsSound M.Machine first config.f running.old → IsSound M.Machine first config.f running.new) }
     ensures later { running.old.view ≤ running.new.view }
-    ensures step { (choose : Choice M.Cmd) (start : M) (acks : List Ack) (cell : Boot) → IsRight config.f choose → IsRunning M.Machine start config.f running.old acks →
-        Follows M.Machine start config.f config.me running.new result (on_start_view_change choose config.f config.me (site_of running.old acks cell) from view) }
+    ensures step { (choose : Choice M.Cmd) (first : M) (acks : List Ack) (cell : Boot) → IsRight config.f choose → IsRunning M.Machine first config.f running.old acks →
+        Follows M.Machine first config.f config.me running.new result (on_start_view_change choose config.f config.me (site_of running.old acks cell) view (start_of start)) }
 {
     if view < running.view {
         return Ok(dropped(alloc, Why::View));
@@ -41,16 +45,19 @@ pub fn start_view_change<M: Machine>(
     if is_normal_in(running, view) {
         return Ok(dropped(alloc, Why::Status));
     }
-    let sent = start_later(alloc, config, running, view)?;
+    if running.known.is_outdated(start.from, &start.known) {
+        return Ok(dropped(alloc, Why::Stale));
+    }
+    let sent = start_later(alloc, config, running, view, &start.known)?;
     if primary_of(config, view) == config.me {
-        lead(alloc, config, running, from, sent)
+        lead(alloc, config, running, start, sent)
     } else {
-        follow(alloc, config, running, from, sent)
+        follow(alloc, config, running, start, sent)
     }
 }
 
-/// DOVIEWCHANGE: the primary of the view takes part in the change to it, keeps the vote, and opens the view where it
-/// can.
+/// DOVIEWCHANGE: the primary of the view learns what the voter knew, takes part in the change to the view, keeps the vote,
+/// and opens the view where it can.
 pub fn do_view_change<M: Machine>(
     alloc: Global,
     config: Config,
@@ -58,7 +65,8 @@ pub fn do_view_change<M: Machine>(
     view: u32,
     vote: VoteOf<M::Cmd>,
 ) -> Result<Outcome<M>, AllocError>
-    requires { IsReady M.Machine running.old.kept }
+    requires ready { IsReady M.Machine running.old.kept }
+    requires known { length vote.known ≤ length running.old.known }
     ensures sound { OnOk result ((start : M) → IsSound M.Machine start config.f running.old → IsSound M.Machine start config.f running.new) }
     ensures later { running.old.view ≤ running.new.view }
     ensures step { (choose : Choice M.Cmd) (start : M) (acks : List Ack) (cell : Boot) → IsRight config.f choose → IsRunning M.Machine start config.f running.old acks →
@@ -73,32 +81,39 @@ pub fn do_view_change<M: Machine>(
     if is_normal_in(running, view) {
         return Ok(dropped(alloc, Why::Status));
     }
-    let sent = start_later(alloc, config, running, view)?;
+    if running.known.is_outdated(vote.from, &vote.known) {
+        return Ok(dropped(alloc, Why::Stale));
+    }
+    let sent = start_later(alloc, config, running, view, &vote.known)?;
     take_vote(alloc, config, running, vote, sent)
 }
 
-/// The change to the view begins, where it is later than the site's. Gives what all are told then.
+/// The change to the view begins, where it is later than the site's; what was told is learnt then. Gives what all are told.
 fn start_later<M: Machine>(
     alloc: Global,
     config: Config,
     running: &mut Running<M>,
     view: u32,
+    told: &Known,
 ) -> Result<Vec<Envelope<M>>, AllocError>
+    requires known { length told.now ≤ length running.old.known }
     requires later { running.old.view ≤ view }
     requires change { (is_normal running.old.status && (view == running.old.view)) ≡ false }
     ensures err { OnErr result (running.old.view < view) }
     ensures view { running.new.view ≡ view }
     ensures kept { running.new.kept ≡ running.old.kept }
+    ensures known { length running.new.known ≡ length running.old.known }
     ensures change { is_normal running.new.status ≡ false }
     ensures sound { (start : M) → IsSound M.Machine start config.f running.old → IsSound M.Machine start config.f running.new }
     ensures part { IfOk result (λ sent. (start : M) (acks : List Ack) (cell : Boot) → IsRunning M.Machine start config.f running.old acks →
-        IsPart M.Machine start config.f running.new sent.items (starts_later_view config.f config.me view (site_of running.old acks cell))) }
+        IsPart M.Machine start config.f running.new sent.items (starts_learnt config.f config.me view told.now (site_of running.old acks cell))) }
 {
     if view == running.view {
         return Ok(Vec::new(alloc));
     }
+    learn(running, told);
     start_change(running, view);
-    tell_all(alloc, config, News::StartViewChange { view })
+    tell_change(alloc, config, running)
 }
 
 /// A site that is not the primary keeps a STARTVIEWCHANGE, and sends its vote where it is due.
@@ -106,19 +121,20 @@ fn follow<M: Machine>(
     alloc: Global,
     config: Config,
     running: &mut Running<M>,
-    from: u16,
+    start: StartOf,
     mut sent: Vec<Envelope<M>>,
 ) -> Result<Outcome<M>, AllocError>
-    requires { primary config.f running.old.view ≢ config.me }
-    ensures sound { OnOk result ((start : M) → IsSound M.Machine start config.f running.old → IsSound M.Machine start config.f running.new) }
+    requires known { length start.known ≤ length running.old.known }
+    requires other { primary config.f running.old.view ≢ config.me }
+    ensures sound { OnOk result ((first : M) → IsSound M.Machine first config.f running.old → IsSound M.Machine first config.f running.new) }
     ensures later { running.old.view ≤ running.new.view }
-    ensures step { (choose : Choice M.Cmd) (start : M) (acks : List Ack) (cell : Boot) → IsRunning M.Machine start config.f running.old acks →
-        Follows M.Machine start config.f config.me running.new result (
-        let x = site_of running.old acks cell in
-        opens_where_due choose config.f config.me x (votes_where_due config.f config.me (record { site = with_start from x; sent = sent.items }))) }
+    ensures step { (choose : Choice M.Cmd) (first : M) (acks : List Ack) (cell : Boot) → IsRunning M.Machine first config.f running.old acks →
+        Follows M.Machine first config.f config.me running.new result (
+        start_goes_on choose config.f config.me (start_of start) (site_of running.old acks cell) sent.items) }
 {
-    let votes = is_due(config, running, from);
-    keep_start(running, from)?;
+    let votes = is_due(config, running, &start.known, start.from);
+    learn(running, &start.known);
+    keep_start(running, start)?;
     if !votes {
         return Ok(handled(sent));
     }
@@ -132,73 +148,79 @@ fn lead<M: Machine>(
     alloc: Global,
     config: Config,
     running: &mut Running<M>,
-    from: u16,
+    start: StartOf,
     sent: Vec<Envelope<M>>,
 ) -> Result<Outcome<M>, AllocError>
     requires ready { IsReady M.Machine running.old.kept }
+    requires known { length start.known ≤ length running.old.known }
     requires change { is_normal running.old.status ≡ false }
     requires mine { primary config.f running.old.view ≡ config.me }
-    ensures sound { OnOk result ((start : M) → IsSound M.Machine start config.f running.old → IsSound M.Machine start config.f running.new) }
+    ensures sound { OnOk result ((first : M) → IsSound M.Machine first config.f running.old → IsSound M.Machine first config.f running.new) }
     ensures later { running.old.view ≤ running.new.view }
-    ensures step { (choose : Choice M.Cmd) (start : M) (acks : List Ack) (cell : Boot) → IsRight config.f choose → IsRunning M.Machine start config.f running.old acks →
-        Follows M.Machine start config.f config.me running.new result (
-        let x = site_of running.old acks cell in
-        opens_where_due choose config.f config.me x (votes_where_due config.f config.me (record { site = with_start from x; sent = sent.items }))) }
+    ensures step { (choose : Choice M.Cmd) (first : M) (acks : List Ack) (cell : Boot) → IsRight config.f choose → IsRunning M.Machine first config.f running.old acks →
+        Follows M.Machine first config.f config.me running.new result (
+        start_goes_on choose config.f config.me (start_of start) (site_of running.old acks cell) sent.items) }
 {
-    let votes = is_due(config, running, from);
-    let has_own = has_voted(running.votes.as_slice(), config.me);
+    let told = &start.known;
+    let votes = is_due(config, running, told, start.from);
+    let has_own = has_vote_left(running, told, config.me);
     if !votes && !has_own {
-        return wait(alloc, config, running, from, votes, sent);
+        return wait(alloc, config, running, start, votes, sent);
     }
-    if !enough_voted(config, running.votes.as_slice(), config.me) {
-        return wait(alloc, config, running, from, votes, sent);
+    if !enough_voted(config, running, told, config.me) {
+        return wait(alloc, config, running, start, votes, sent);
     }
     if has_own {
-        open_with_kept(alloc, config, running, sent)
+        open_with_kept(alloc, config, running, told, sent)
     } else {
-        open_with_own(alloc, config, running, sent)
+        open_with_own(alloc, config, running, told, sent)
     }
 }
 
 /// Whether the site's own vote is due, with the STARTVIEWCHANGE that comes.
-fn is_due<M: Machine>(config: Config, running: &Running<M>, from: u16) -> bool
-    ensures { (acks : List Ack) (cell : Boot) → result ≡ is_to_vote config.f config.me (with_start from (site_of running.now acks cell)) }
+fn is_due<M: Machine>(config: Config, running: &Running<M>, told: &Known, from: u16) -> bool
+    ensures { (start : Start) (acks : List Ack) (cell : Boot) → start.from ≡ from →
+        result ≡ is_to_vote config.f config.me (with_start start (learns told.now (site_of running.now acks cell))) }
 {
-    enough_started(config, running.starts.as_slice(), from) && !running.voted
+    enough_started(config, running, told, from) && !running.voted
 }
 
 /// Keeps a STARTVIEWCHANGE, once of each site. An `Err` leaves what runs as it was.
-fn keep_start<M: Machine>(running: &mut Running<M>, from: u16) -> Result<(), AllocError>
+fn keep_start<M: Machine>(running: &mut Running<M>, start: StartOf) -> Result<(), AllocError>
     ensures status { running.new.status ≡ running.old.status }
     ensures view { running.new.view ≡ running.old.view }
     ensures last_normal { running.new.last_normal ≡ running.old.last_normal }
     ensures kept { running.new.kept ≡ running.old.kept }
+    ensures known { running.new.known ≡ running.old.known }
     ensures acked { running.new.acked ≡ running.old.acked }
     ensures voted { running.new.voted ≡ running.old.voted }
     ensures votes { running.new.votes ≡ running.old.votes }
-    ensures starts { OnOk result (running.new.starts.items ≡ with_starter running.old.starts.items from) }
+    ensures starts { OnOk result (map start_of running.new.starts.items ≡ with_starter (map start_of running.old.starts.items) (start_of start)) }
 {
-    if !has_started(running.starts.as_slice(), from) {
-        running.starts.push(from)?;
+    if !has_started(running.starts.as_slice(), start.from) {
+        running.starts.push(start)?;
     }
     Ok(())
 }
 
-/// The primary keeps a STARTVIEWCHANGE, and its own vote where it votes; the view stays closed.
+/// The primary learns what a STARTVIEWCHANGE tells, keeps it, and its own vote where it votes; the view stays closed.
 fn wait<M: Machine>(
     alloc: Global,
     config: Config,
     running: &mut Running<M>,
-    from: u16,
+    start: StartOf,
     votes: bool,
     sent: Vec<Envelope<M>>,
 ) -> Result<Outcome<M>, AllocError>
-    ensures sound { OnOk result ((start : M) → IsSound M.Machine start config.f running.old → IsSound M.Machine start config.f running.new) }
+    requires { length start.known ≤ length running.old.known }
+    ensures sound { OnOk result ((first : M) → IsSound M.Machine first config.f running.old → IsSound M.Machine first config.f running.new) }
     ensures later { running.old.view ≤ running.new.view }
-    ensures step { (start : M) (acks : List Ack) (cell : Boot) → IsRunning M.Machine start config.f running.old acks →
-        Follows M.Machine start config.f config.me running.new result (does (gathered votes config.me from (site_of running.old acks cell)) sent.items) }
+    ensures step { (first : M) (acks : List Ack) (cell : Boot) → IsRunning M.Machine first config.f running.old acks →
+        Follows M.Machine first config.f config.me running.new result (
+        does (gathered votes config.me (start_of start) (learns start.known (site_of running.old acks cell))) sent.items) }
 {
-    keep_start(running, from)?;
+    learn(running, &start.known);
+    keep_start(running, start)?;
     if !votes {
         return Ok(handled(sent));
     }
@@ -217,6 +239,7 @@ fn keep_own_vote<M: Machine>(
     ensures view { running.new.view ≡ running.old.view }
     ensures last_normal { running.new.last_normal ≡ running.old.last_normal }
     ensures kept { running.new.kept ≡ running.old.kept }
+    ensures known { running.new.known ≡ running.old.known }
     ensures acked { running.new.acked ≡ running.old.acked }
     ensures starts { running.new.starts ≡ running.old.starts }
     ensures voted { running.new.voted ≡ running.old.voted }
@@ -230,6 +253,7 @@ fn keep_own_vote<M: Machine>(
         last_normal: running.last_normal,
         done: running.kept.done,
         log: running.kept.log.copy_from(alloc, 0)?,
+        known: running.known.copy(alloc)?,
     };
     running.votes.push(vote)?;
     Ok(())
@@ -244,40 +268,43 @@ fn take_vote<M: Machine>(
     sent: Vec<Envelope<M>>,
 ) -> Result<Outcome<M>, AllocError>
     requires ready { IsReady M.Machine running.old.kept }
+    requires known { length vote.known ≤ length running.old.known }
     requires change { is_normal running.old.status ≡ false }
     requires mine { primary config.f running.old.view ≡ config.me }
     ensures sound { OnOk result ((start : M) → IsSound M.Machine start config.f running.old → IsSound M.Machine start config.f running.new) }
     ensures later { running.old.view ≤ running.new.view }
     ensures step { (choose : Choice M.Cmd) (start : M) (acks : List Ack) (cell : Boot) → IsRight config.f choose → IsRunning M.Machine start config.f running.old acks →
         Follows M.Machine start config.f config.me running.new result (
-        let x = site_of running.old acks cell in
-        opens_where_due choose config.f config.me x (record { site = with_vote (vote_of vote) x; sent = sent.items })) }
+        vote_goes_on choose config.f config.me (vote_of vote) (site_of running.old acks cell) sent.items) }
 {
-    let votes = running.votes.as_slice();
-    if !votes_now(votes, vote.from, config.me) {
+    let told = &vote.known;
+    if !votes_now(running, told, vote.from, config.me) {
         return keep_vote(running, vote, sent);
     }
-    if !enough_voted(config, votes, vote.from) {
+    if !enough_voted(config, running, told, vote.from) {
         return keep_vote(running, vote, sent);
     }
-    if has_voted(votes, vote.from) {
-        open_with_kept(alloc, config, running, sent)
+    if has_vote_left(running, told, vote.from) {
+        open_with_kept(alloc, config, running, told, sent)
     } else {
         open_with_new(alloc, config, running, vote, sent)
     }
 }
 
-/// The primary keeps a vote, the first of each site; the view stays closed.
+/// The primary learns what a vote tells, and keeps it, the first of each site; the view stays closed.
 fn keep_vote<M: Machine>(
     running: &mut Running<M>,
     vote: VoteOf<M::Cmd>,
     sent: Vec<Envelope<M>>,
 ) -> Result<Outcome<M>, AllocError>
+    requires { length vote.known ≤ length running.old.known }
     ensures sound { OnOk result ((start : M) (f : ℕ) → IsSound M.Machine start f running.old → IsSound M.Machine start f running.new) }
     ensures later { running.old.view ≤ running.new.view }
     ensures step { (start : M) (f me : ℕ) (acks : List Ack) (cell : Boot) → IsRunning M.Machine start f running.old acks →
-        Follows M.Machine start f me running.new result (does (with_vote (vote_of vote) (site_of running.old acks cell)) sent.items) }
+        Follows M.Machine start f me running.new result (
+        does (with_vote (vote_of vote) (learns vote.known (site_of running.old acks cell))) sent.items) }
 {
+    learn(running, &vote.known);
     if has_voted(running.votes.as_slice(), vote.from) {
         return Ok(handled(sent));
     }

@@ -1,5 +1,5 @@
 -- Whether a log begins with the executed rows.
-use Rattle.std.proofs.Common.{◌≡◌, ℕ, ◌+◌, ◌-◌, ◌<◌, ◌≤◌, ◌==◌, ◌&&◌, ◌++◌, ◌↔◌, List, length, take, get_or, slice_get, Some, Bool, true, false, IsTrue, Decides, refl, sym, ap, ◌∙◌, arith}
+use Rattle.std.proofs.Common.{◌≡◌, ℕ, ◌+◌, ◌-◌, ◌<◌, ◌≤◌, ◌==◌, ◌&&◌, ◌++◌, ◌↔◌, List, length, take, get_or, slice_get, Some, Bool, IsTrue, Decides, refl, sym, ap, ◌∙◌, arith}
 use Rattle.std.specs.List.{starts_with}
 use Rattle.std.proofs.lemmas.Bool.Decides.{Decides-eqb, Decides-and, Decides-like, same_from_decides}
 use Rattle.std.proofs.lemmas.List.{length-take-le, length-take, get_or-append-add, get_or-take, take-take, take_more_same, length-append}

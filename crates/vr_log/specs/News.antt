@@ -2,11 +2,10 @@
 use Rattle.vr_types.specs.declared.message.MsgOf.{MsgOf}
 use Rattle.vr_types.specs.declared.message.MsgOf.TheVariants as msg
 use Rattle.vr_log.specs.declared.send.News.{News}
-use Rattle.vr_log.specs.declared.send.News.TheVariants.{Prepare, Commit, StartViewChange, Recovery}
+use Rattle.vr_log.specs.declared.send.News.TheVariants.{Prepare, Commit, Recovery}
 
 -- the message that tells it
 abbrev pub news_msg : {C R O : Type 0} → News C → MsgOf C R O
 news_msg (Prepare view place done row) = msg.Prepare view place done row
 news_msg (Commit view done) = msg.Commit view done
-news_msg (StartViewChange view) = msg.StartViewChange view
 news_msg (Recovery nonce) = msg.Recovery nonce

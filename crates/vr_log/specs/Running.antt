@@ -4,10 +4,11 @@ use Rattle.std.specs.declared.alloc.AllocError.{AllocError}
 use Rattle.vr_types.specs.declared.cell.Boot.{Boot}
 use Rattle.vr_types.specs.declared.event.OutcomeOf.{OutcomeOf}
 use Rattle.vr_types.specs.declared.machine.Machine.{Ghosts}
-use Rattle.vr_types.specs.Site.{Ack, Vote, Site, is_running}
+use Rattle.vr_types.specs.Site.{Ack, Start, Vote, Site, is_running}
 use Rattle.vr_types.specs.Choice.{has_acknowledged, OneEach}
 use Rattle.vr_types.specs.Step.{Step, Handled}
 use Rattle.vr_types.specs.Handling.{envelopes}
+use Rattle.vr_log.specs.declared.running.StartOf.{StartOf}
 use Rattle.vr_log.specs.declared.running.VoteOf.{VoteOf}
 use Rattle.vr_log.specs.declared.running.Running.{Running}
 use Rattle.vr_log.specs.Kept.{IsKept}
@@ -15,7 +16,11 @@ use Rattle.vr_log.specs.Outcomes.{ended}
 
 -- a kept vote
 abbrev pub vote_of : {C : Type 0} → VoteOf C → Vote C
-vote_of vote = record { from = vote.from; last_normal = vote.last_normal; done = vote.done; log = vote.log }
+vote_of vote = record { from = vote.from; last_normal = vote.last_normal; done = vote.done; log = vote.log; known = vote.known }
+
+-- a kept STARTVIEWCHANGE
+abbrev pub start_of : StartOf → Start
+start_of start = record { from = start.from; known = start.known }
 
 -- One number a site sums up the acknowledgements that came: site j has acknowledged the first n rows exactly where n is at most its number.
 abbrev pub SumUp : List ℕ → List Ack → Type 0
@@ -29,14 +34,16 @@ site_of r acks cell = record {
   last_normal = r.last_normal;
   log = r.kept.log;
   done = r.kept.done;
-  collected = record { acks = acks; starts = r.starts.items; voted = r.voted; votes = map vote_of r.votes.items; responses = [] };
+  collected = record { acks = acks; starts = map start_of r.starts.items; voted = r.voted; votes = map vote_of r.votes.items; responses = [] };
+  known = r.known;
   cell = cell;
 }
 
--- what runs is kept from this start, has a number for each of 2f+1 sites, is normal or in change, and keeps one vote of a site
+-- what runs is kept from this start, has a number of rows and of boots for each of 2f+1 sites, is normal or in change, and keeps one vote of a site
 pub record IsSound {H C R O S : Type 0} (m : Ghosts H C R O S) (start : H) (f : ℕ) (r : Running H C R O S) : Type 0 where
   pub kept : IsKept m start r.kept
   pub sites : length r.acked.items ≡ 2 * f + 1
+  pub known : length r.known ≡ 2 * f + 1
   pub up : is_running r.status ≡ true
   pub votes : OneEach (λ vote. vote.from) (map vote_of r.votes.items)
 

@@ -11,7 +11,4 @@ pub mod send;
 pub use clients::{Clients, ClientsOf};
 pub use kept::{Answer, AnswerOf, Kept};
 pub use log::{Log, LogOf};
-pub use running::{Running, VoteOf};
-
-#[cfg(test)]
-mod tests;
+pub use running::{Running, StartOf, VoteOf};

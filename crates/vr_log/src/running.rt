@@ -1,5 +1,14 @@
 use crate::kept::Kept;
-use vr_types::{Machine, RowsOf, Status};
+use vr_types::{Known, Machine, RowsOf, Status};
+
+/// A STARTVIEWCHANGE of the site's view.
+#[derive(Drop)]
+pub struct StartOf {
+    /// The site that sent it.
+    pub from: u16,
+    /// What that site knew of boots.
+    pub known: Known,
+}
 
 /// A vote for the site's view, kept by the primary of that view.
 #[derive(Drop)]
@@ -9,6 +18,8 @@ pub struct VoteOf<C> {
     pub last_normal: u32,
     pub done: u16,
     pub log: RowsOf<C>,
+    /// What the site that votes knew of boots.
+    pub known: Known,
 }
 
 /// A site that is normal or changes its view.
@@ -19,10 +30,12 @@ pub struct Running<M: Machine> {
     /// The last view in which the site was normal.
     pub last_normal: u32,
     pub kept: Kept<M>,
+    /// What the site knows of boots.
+    pub known: Known,
     /// Of each site up to which place it acknowledged the log in this view.
     pub acked: Vec<u16>,
-    /// The sites that sent STARTVIEWCHANGE of this view.
-    pub starts: Vec<u16>,
+    /// The first STARTVIEWCHANGE of each site, of this view.
+    pub starts: Vec<StartOf>,
     /// Whether the site's own DOVIEWCHANGE of this view is made.
     pub voted: bool,
     /// The first DOVIEWCHANGE of each site, at the primary of this view.

@@ -25,9 +25,6 @@ pub enum News<C> {
         view: u32,
         done: u16,
     },
-    StartViewChange {
-        view: u32,
-    },
     Recovery {
         nonce: u32,
     },
@@ -51,7 +48,6 @@ impl<C: Copy> News<C> {
                 row,
             },
             News::Commit { view, done } => MsgOf::Commit { view, done },
-            News::StartViewChange { view } => MsgOf::StartViewChange { view },
             News::Recovery { nonce } => MsgOf::Recovery { nonce },
         }
     }

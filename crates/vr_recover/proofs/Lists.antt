@@ -1,7 +1,8 @@
 -- Lists that are seen another way.
-use Rattle.std.proofs.Common.{◌≡◌, ◌+◌, ◌≤◌, ◌||◌, Bool, true, false, nat_lt, Some, None, if◌then◌else◌, arith, List, [], ◌∷◌, length, map, count_by, cond, get_or, refl, sym, ap, ◌∙◌, subst}
+use Rattle.std.proofs.Common.{◌≡◌, ℕ, suc, ◌+◌, ◌≤◌, ◌&&◌, ◌||◌, Bool, true, false, nat_lt, Some, None, if◌then◌else◌, arith, List, [], ◌∷◌, length, map, count_by, cond, get_or, refl, sym, ap, ◌∙◌, subst}
 use Rattle.std.specs.Prelude.{All, Contains}
 use Rattle.std.specs.List.{list_any, filter, position, position_or_len}
+use Rattle.vr_types.specs.Step.{greater}
 use Rattle.std.proofs.Math.ListN.{get_or-map}
 use Rattle.std.proofs.lemmas.List.{length-map}
 use Rattle.std.proofs.lemmas.List.Sums.{sum_by-cons, fails_before_first}
@@ -52,3 +53,35 @@ filter-map {A} {B} p h (x ∷ xs) = by_test (p (h x)) (filter-map p h xs)
     by_test : (b : Bool) → filter p (map h xs) ≡ map h (filter (λ y. p (h y)) xs) → cond b (h x ∷ filter p (map h xs)) (filter p (map h xs)) ≡ map h (cond b (x ∷ filter (λ y. p (h y)) xs) (filter (λ y. p (h y)) xs))
     by_test true e = ap (λ ys. h x ∷ ys) e
     by_test false e = e
+
+-- what is tested of what a filter keeps
+pub list_any-filter : {X : Type 0} (p q : X → Bool) (xs : List X) → list_any q (filter p xs) ≡ list_any (λ x. p x && q x) xs
+list_any-filter p q [] = refl
+list_any-filter {X} p q (x ∷ xs) = by_test (p x) (list_any-filter p q xs)
+  where
+    by_test : (b : Bool) → list_any q (filter p xs) ≡ list_any (λ y. p y && q y) xs
+        → list_any q (cond b (x ∷ filter p xs) (filter p xs)) ≡ ((b && q x) || list_any (λ y. p y && q y) xs)
+    by_test true e = ap (λ rest. q x || rest) e
+    by_test false e = e
+
+-- tests that tell each element alike
+pub list_any-same : {X : Type 0} (p q : X → Bool) (xs : List X) → ((x : X) → p x ≡ q x) → list_any p xs ≡ list_any q xs
+list_any-same p q [] e = refl
+list_any-same p q (x ∷ xs) e = ap (λ b. b || list_any p xs) (e x) ∙ ap (λ rest. q x || rest) (list_any-same p q xs e)
+
+pub and_turned : (a b : Bool) → (a && b) ≡ (b && a)
+and_turned true true = refl
+and_turned true false = refl
+and_turned false true = refl
+and_turned false false = refl
+
+pub and_false : (a : Bool) → (a && false) ≡ false
+and_false true = refl
+and_false false = refl
+
+-- what is learnt is of no more sites
+pub greater_length : (known told : List ℕ) → length told ≤ length known → length (greater known told) ≡ length known
+greater_length [] [] low = refl
+greater_length [] (b ∷ told) low = absurd (omega arith)
+greater_length (a ∷ known) [] low = refl
+greater_length (a ∷ known) (b ∷ told) low = ap suc (greater_length known told (omega arith))

@@ -1,10 +1,10 @@
 -- Which case of RECOVERY it is.
-use Rattle.std.proofs.Common.{◌≡◌, ℕ, [], ◌∷◌, true, false}
-use Rattle.vr_types.specs.declared.event.Why.TheVariants.{Status}
+use Rattle.std.proofs.Common.{◌≡◌, ℕ, [], ◌∷◌, true, false, nat_lt}
+use Rattle.vr_types.specs.declared.event.Why.TheVariants.{Status, Stale}
 use Rattle.vr_types.specs.declared.message.MsgOf.TheVariants.{RecoveryResponse}
 use Rattle.vr_types.specs.Group.{mail}
-use Rattle.vr_types.specs.Recovery.{on_recovery, state_of_view}
-use Rattle.vr_types.specs.Site.{Site, is_normal}
+use Rattle.vr_types.specs.Recovery.{on_recovery, notes, state_of_view}
+use Rattle.vr_types.specs.Site.{Site, boot_of, is_normal}
 use Rattle.vr_types.specs.Step.{Step, drops, does}
 
 module _ {C R O : Type 0} (f me : ℕ) (x : Site C) (from nonce : ℕ) where
@@ -12,6 +12,11 @@ module _ {C R O : Type 0} (f me : ℕ) (x : Site C) (from nonce : ℕ) where
   unfolding on_recovery
   on_recovery-status e = rw e
 
-  pub on_recovery-normal : is_normal x.status ≡ true → ◌≡◌ {A = Step C R O} (on_recovery f me x from nonce) (does x (mail me from (RecoveryResponse x.view nonce (state_of_view f me x)) ∷ []))
+  pub on_recovery-stale : is_normal x.status ≡ true → nat_lt nonce (boot_of x.known from) ≡ true → ◌≡◌ {A = Step C R O} (on_recovery f me x from nonce) (drops x Stale)
   unfolding on_recovery
-  on_recovery-normal e = rw e
+  on_recovery-stale e low = rw (e, low)
+
+  pub on_recovery-normal : is_normal x.status ≡ true → nat_lt nonce (boot_of x.known from) ≡ false
+      → ◌≡◌ {A = Step C R O} (on_recovery f me x from nonce) (let y = notes from nonce x in does y (mail me from (RecoveryResponse y.view nonce (state_of_view f me y) y.known) ∷ []))
+  unfolding on_recovery
+  on_recovery-normal e high = rw (e, high)

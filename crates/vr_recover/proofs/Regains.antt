@@ -19,7 +19,7 @@ senders_of f kept = count_by (λ site. list_any (λ response. response.from == s
 pub senders-same : {C : Type 0} (f : ℕ) (kept : List (ResponseOf C)) → count_by (has_response (responses_of kept)) (sites f) ≡ senders_of f kept
 senders-same {C} f kept = count_by-same _ _ (sites f) (λ j. list_any-map (λ (response : Response C). response.from == j) response_of kept)
 
-module _ {C : Type 0} (f saved : ℕ) (kept : List (ResponseOf C)) (regained : Regained C) (h : IsRegained f saved (responses_of kept) regained) where
+module _ {C : Type 0} (f : ℕ) (kept : List (ResponseOf C)) (regained : Regained C) (h : IsRegained f (responses_of kept) regained) where
   pub regained_enough : f < senders_of f kept
   regained_enough = subst (λ n. f < n) (senders-same f kept) h.enough
 
@@ -28,7 +28,7 @@ module _ {C : Type 0} (f saved : ℕ) (kept : List (ResponseOf C)) (regained : R
   regained_above = λ k d low. h.greatest (response_of _) (has-map response_of kept _ (Contains-get_or kept k d low))
 
   -- the primary's response
-  pub regained_response : (response : ResponseOf C) × Contains kept response × (response_of response ≡ record { from = primary f regained.view; view = regained.view; state = Some regained.state })
+  pub regained_response : (response : ResponseOf C) × Contains kept response × (response_of response ≡ record { from = primary f regained.view; view = regained.view; state = Some regained.state; known = h.known })
   regained_response = map-has response_of kept _ h.answered
 
   -- its view is the least that is above all
@@ -49,10 +49,10 @@ both true b h = (refl, h)
 both false b h = absurd (true≢false (sym h))
 
 -- the primary's response of the view has a place
-pub regained_place : {C : Type 0} (f saved : ℕ) (kept : List (ResponseOf C)) (regained : Regained C) (from view : ℕ) → from ≡ primary f view → view ≡ regained.view
-    → position (is_of from view) kept ≡ None → IsRegained f saved (responses_of kept) regained → ⊥
-regained_place f saved kept regained from view primary_is view_is none h =
-    let there = regained_response f saved kept regained h in
+pub regained_place : {C : Type 0} (f : ℕ) (kept : List (ResponseOf C)) (regained : Regained C) (from view : ℕ) → from ≡ primary f view → view ≡ regained.view
+    → position (is_of from view) kept ≡ None → IsRegained f (responses_of kept) regained → ⊥
+regained_place f kept regained from view primary_is view_is none h =
+    let there = regained_response f kept regained h in
     let r = there.0 in
     let fails : is_of from view r ≡ false = All-contains (λ x. is_of from view x ≡ false) kept r (position-None (is_of from view) kept none) there.1 in
     let sender : r.from ≡ from = ap (λ x. x.from) there.2 ∙ ap (primary f) (sym view_is) ∙ sym primary_is in
@@ -69,10 +69,10 @@ found_is kept from view at item some is =
     (subst (Contains kept) (sym is) (Contains-get_or kept at item there.0), eqb→eq item.from from (rw tests.0 tt), eqb→eq item.view view (rw tests.1 tt))
 
 -- that response has a state, where a state is regained
-pub regained_has_state : {C : Type 0} (f saved : ℕ) (kept : List (ResponseOf C)) (regained : Regained C) (from view at : ℕ) (item : ResponseOf C) → IsOneEach kept
-    → from ≡ primary f view → view ≡ regained.view → position (is_of from view) kept ≡ Some at → item ≡ get_or kept at item → item.state ≡ None → IsRegained f saved (responses_of kept) regained → ⊥
-regained_has_state f saved kept regained from view at item one primary_is view_is some is none h =
-    let there = regained_response f saved kept regained h in
+pub regained_has_state : {C : Type 0} (f : ℕ) (kept : List (ResponseOf C)) (regained : Regained C) (from view at : ℕ) (item : ResponseOf C) → IsOneEach kept
+    → from ≡ primary f view → view ≡ regained.view → position (is_of from view) kept ≡ Some at → item ≡ get_or kept at item → item.state ≡ None → IsRegained f (responses_of kept) regained → ⊥
+regained_has_state f kept regained from view at item one primary_is view_is some is none h =
+    let there = regained_response f kept regained h in
     let r = there.0 in
     let found = found_is kept from view at item some is in
     let same : item.from ≡ r.from = found.1 ∙ primary_is ∙ ap (primary f) view_is ∙ sym (ap (λ x. x.from) there.2) in
@@ -81,17 +81,17 @@ regained_has_state f saved kept regained from view at item one primary_is view_i
     absurd (cc)
 
 -- the state that is found is regained
-pub found_is_regained : {C : Type 0} (f saved : ℕ) (kept : List (ResponseOf C)) (from view at : ℕ) (item : ResponseOf C) (state : StateOf C)
-    → f < count_by (has_response (responses_of kept)) (sites f) → All (λ (response : ResponseOf C). response.view ≤ view) kept → saved ≤ view
+pub found_is_regained : {C : Type 0} (f : ℕ) (kept : List (ResponseOf C)) (from view at : ℕ) (item : ResponseOf C) (state : StateOf C)
+    → f < count_by (has_response (responses_of kept)) (sites f) → All (λ (response : ResponseOf C). response.view ≤ view) kept
     → from ≡ primary f view → position (is_of from view) kept ≡ Some at → item ≡ get_or kept at item → item.state ≡ Some state
-    → IsRegained f saved (responses_of kept) (record { view = view; state = state })
-found_is_regained {C} f saved kept from view at item state enough above low primary_is some is has =
+    → IsRegained f (responses_of kept) (record { view = view; state = state })
+found_is_regained {C} f kept from view at item state enough above primary_is some is has =
     let found = found_is kept from view at item some is in
-    let Answered : ℕ → ℕ → Option (StateOf C) → Type 0 = λ a b s. Contains (responses_of kept) (record { from = a; view = b; state = s }) in
+    let Answered : ℕ → ℕ → Option (StateOf C) → Type 0 = λ a b s. Contains (responses_of kept) (record { from = a; view = b; state = s; known = item.known }) in
     let mine : Answered item.from item.view item.state = has-map response_of kept item found.0 in
     record {
       enough = enough;
       greatest = λ response in'. All-contains (λ r. r.view ≤ view) (responses_of kept) response (All-map (λ (r : Response C). r.view ≤ view) response_of kept above) in';
-      not_below = low;
+      known = item.known;
       answered = subst (λ a. Answered a view (Some state)) (found.1 ∙ primary_is) (subst (λ b. Answered item.from b (Some state)) found.2 (subst (Answered item.from item.view) has mine));
     }

@@ -1,14 +1,15 @@
 -- What a recovering site keeps, and the site that it shows.
-use Rattle.std.specs.Prelude.{List, map}
+use Rattle.std.specs.Prelude.{◌≡◌, ℕ, ◌+◌, ◌*◌, List, length, map}
 use Rattle.vr_types.specs.declared.cell.Boot.{Boot}
 use Rattle.vr_types.specs.declared.event.Status.TheVariants.{Recovering}
 use Rattle.vr_types.specs.Choice.{OneEach}
 use Rattle.vr_types.specs.Site.{Ack, Response, Site, nothing, over}
+use Rattle.vr_recover.specs.declared.recovering.RecoveringOf.{RecoveringOf}
 use Rattle.vr_recover.specs.declared.recovering.ResponseOf.{ResponseOf}
 
 -- a kept response
 abbrev pub response_of : {C : Type 0} → ResponseOf C → Response C
-response_of response = record { from = response.from; view = response.view; state = response.state }
+response_of response = record { from = response.from; view = response.view; state = response.state; known = response.known }
 
 -- those that are kept
 abbrev pub responses_of : {C : Type 0} → List (ResponseOf C) → List (Response C)
@@ -18,6 +19,16 @@ responses_of kept = map response_of kept
 abbrev pub IsOneEach : {C : Type 0} → List (ResponseOf C) → Type 0
 IsOneEach kept = OneEach (λ response. response.from) (responses_of kept)
 
--- the site that recovers and keeps these, over this cell, where these acknowledgements came
-abbrev pub recovering_site : {C : Type 0} → List (ResponseOf C) → List Ack → Boot → Site C
-recovering_site kept acks cell = record (over cell Recovering) { collected = record nothing { acks = acks; responses = responses_of kept } }
+-- the site that recovers, knows these boots and keeps these responses, over this cell, where these acknowledgements came
+abbrev pub recovers_with : {C : Type 0} → List ℕ → List (ResponseOf C) → List Ack → Boot → Site C
+recovers_with known kept acks cell =
+    record (over cell Recovering) { known = known; collected = record nothing { acks = acks; responses = responses_of kept } }
+
+-- the site that recovers so
+abbrev pub recovering_site : {C : Type 0} → RecoveringOf C → List Ack → Boot → Site C
+recovering_site recovering acks cell = recovers_with recovering.known recovering.responses.items acks cell
+
+-- it has a boot number for each of 2f+1 sites, and keeps one response of a site
+pub record IsSoundRecovering {C : Type 0} (f : ℕ) (recovering : RecoveringOf C) : Type 0 where
+  pub known : length recovering.known ≡ 2 * f + 1
+  pub one_each : IsOneEach recovering.responses.items

@@ -1,36 +1,46 @@
-ghost use Rattle.std.specs.Prelude.{◌≡◌, ◌*◌, ◌≤◌, List, IfOk};
+ghost use Rattle.std.specs.Prelude.{◌≡◌, ◌+◌, ◌*◌, ◌≤◌, length, List, IfOk, OnOk};
 ghost use Rattle.vr_types.specs.declared.cell.Boot.{Boot};
 ghost use Rattle.vr_types.specs.Group.{to_all};
 ghost use Rattle.vr_types.specs.Recovery.{on_recovery, state_of_view};
 ghost use Rattle.vr_types.specs.Site.{Ack};
 ghost use Rattle.vr_log.specs.Outcomes.{Sends};
-ghost use Rattle.vr_log.specs.Running.{IsRunning, Follows, site_of};
+ghost use Rattle.vr_log.specs.Running.{IsSound, IsRunning, Follows, site_of};
 
 use std::alloc::{AllocError, Global};
 use vr_log::Running;
 use vr_log::send::{News, dropped, mail_to, primary_of, runs_normally, sends_one, tell_all};
 use vr_types::{Config, Machine, MsgOf, Outcome, OutcomeOf, State, StateOf, Why};
 
-/// RECOVERY at a running site: a normal one answers with its view, and the primary of the view with its log and its
-/// commit-number as well.
+/// RECOVERY at a running site: a normal one notes the boot of its sender and answers with its view and with what it
+/// knows, and the primary of the view with its log and its commit-number as well. One of an earlier boot than is known
+/// is dropped as `Stale`. After an `Err` the site may only be dropped.
 pub fn recovery<M: Machine>(
     alloc: Global,
     config: Config,
-    running: &Running<M>,
+    running: &mut Running<M>,
     from: u16,
     nonce: u32,
 ) -> Result<Outcome<M>, AllocError>
-    requires { from ≤ 2 * config.f }
-    ensures { (start : M) (acks : List Ack) (cell : Boot) → IsRunning M.Machine start config.f running.now acks →
-        Follows M.Machine start config.f config.me running.now result (on_recovery config.f config.me (site_of running.now acks cell) from nonce) }
+    requires from { from ≤ 2 * config.f }
+    requires known { length running.old.known ≡ 2 * config.f + 1 }
+    ensures sound { OnOk result ((start : M) → IsSound M.Machine start config.f running.old → IsSound M.Machine start config.f running.new) }
+    ensures status { running.new.status ≡ running.old.status }
+    ensures view { running.new.view ≡ running.old.view }
+    ensures step { (start : M) (acks : List Ack) (cell : Boot) → IsRunning M.Machine start config.f running.old acks →
+        Follows M.Machine start config.f config.me running.new result (on_recovery config.f config.me (site_of running.old acks cell) from nonce) }
 {
     if !runs_normally(running.status) {
         return Ok(dropped(alloc, Why::Status));
     }
+    if nonce < running.known.get(from) {
+        return Ok(dropped(alloc, Why::Stale));
+    }
+    running.known.note(from, nonce);
     let msg = MsgOf::RecoveryResponse {
         view: running.view,
         nonce,
         state: state_of_its_view(alloc, config, running)?,
+        known: running.known.copy(alloc)?,
     };
     sends_one(alloc, mail_to(config, from, msg))
 }

@@ -10,5 +10,5 @@ pub mod regaining;
 
 pub use answering::{ask_all, recovery};
 pub use progress::{Progress, take_response};
-pub use recovering::{Recovering, RecoveringOf, ResponseOf};
+pub use recovering::{Recovering, RecoveringOf, ResponseOf, restarted};
 pub use regaining::regain;

@@ -1,15 +1,16 @@
-ghost use Rattle.std.specs.Prelude.{◌≡◌, List, IfOk};
+ghost use Rattle.std.specs.Prelude.{◌≡◌, ◌+◌, ◌*◌, length, List, IfOk};
 ghost use Rattle.vr_types.specs.Choice.{Choice, IsRight};
 ghost use Rattle.vr_types.specs.Recovery.{on_recovery_response, regains};
 ghost use Rattle.vr_types.specs.Site.{Ack};
 ghost use Rattle.vr_recover.specs.Progress.{FollowsProgress, IsSoundProgress};
-ghost use Rattle.vr_recover.specs.Recovering.{response_of, responses_of, IsOneEach, recovering_site};
+ghost use Rattle.vr_recover.specs.Recovering.{response_of, responses_of, IsSoundRecovering, recovering_site};
 
-use crate::recovering::{Recovering, ResponseOf, has_as_late, keep, take_regained};
+use crate::recovering::{Recovering, ResponseOf, has_as_late, keep, learn, take_regained};
 use crate::regaining::regain;
 use std::alloc::{AllocError, Global};
+use std::mem;
 use vr_log::Running;
-use vr_types::{Boot, Config, Machine, Why};
+use vr_types::{Boot, Config, Known, Machine, Why};
 
 /// What came of a response.
 #[derive(Drop)]
@@ -22,9 +23,11 @@ pub enum Progress<M: Machine> {
     Regained(Running<M>),
 }
 
-/// RECOVERYRESPONSE at a recovering site, whose cell holds `boot`: the response is kept, and where the state is
-/// regained by it the site is normal with that. A response to an earlier recovery is dropped as `Stale`, and one of a
-/// site whose response of that view or of a later one is kept as `Known`. After an `Err` the site may only be dropped.
+/// RECOVERYRESPONSE at a recovering site, whose cell holds `boot`: what its sender knew of boots is learnt, the responses
+/// that this shows to be of an earlier boot are given up, the response is kept, and where the state is regained by it
+/// the site is normal with that. A response to an earlier recovery, or of an earlier boot of its sender than is known,
+/// is dropped as `Stale`, and one of a site whose response of that view or of a later one is kept as `Known`. After an
+/// `Err` the site may only be dropped.
 pub fn take_response<M: Machine>(
     alloc: Global,
     config: Config,
@@ -35,41 +38,46 @@ pub fn take_response<M: Machine>(
     response: ResponseOf<M::Cmd>,
 ) -> Result<Progress<M>, AllocError>
     requires setup { M.admits setup.now }
-    requires one_each { IsOneEach recovering.old.responses.items }
-    ensures sound { IfOk result (λ progress. IsSoundProgress M.Machine (M.start setup.now) config.f recovering.new.responses.items progress) }
+    requires sound { IsSoundRecovering config.f recovering.old }
+    requires told { length response.known ≡ 2 * config.f + 1 }
+    ensures sound { IfOk result (λ progress. IsSoundProgress M.Machine (M.start setup.now) config.f recovering.new progress) }
     ensures step { (choose : Choice M.Cmd) (acks : List Ack) → IsRight config.f choose →
-        FollowsProgress recovering.new.responses.items acks boot result
-        (on_recovery_response choose (recovering_site recovering.old.responses.items acks boot) nonce (response_of response)) }
+        FollowsProgress recovering.new acks boot result
+        (on_recovery_response choose (recovering_site recovering.old acks boot) nonce (response_of response)) }
 {
     if nonce != boot.boots {
         return Ok(Progress::Dropped(Why::Stale));
     }
-    let kept = recovering.responses.as_slice();
-    if has_as_late(kept, response.from, response.view) {
+    if recovering.known.is_outdated(response.from, &response.known) {
+        return Ok(Progress::Dropped(Why::Stale));
+    }
+    if has_as_late(recovering.responses.as_slice(), &response) {
         return Ok(Progress::Dropped(Why::Known));
     }
+    learn(recovering, &response.known);
     keep(&mut recovering.responses, response)?;
-    regain_where_due(alloc, config, setup, boot, &mut recovering.responses)
+    regain_where_due(alloc, config, setup, boot, recovering)
 }
 
-/// Regains the state, where one is regained by these responses.
+/// Regains the state, where one is regained by what is kept.
 fn regain_where_due<M: Machine>(
     alloc: Global,
     config: Config,
     setup: &M::Setup,
     boot: Boot,
-    kept: &mut Vec<ResponseOf<M::Cmd>>,
+    recovering: &mut Recovering<M>,
 ) -> Result<Progress<M>, AllocError>
     requires setup { M.admits setup.now }
-    requires one_each { IsOneEach kept.old.items }
-    ensures sound { IfOk result (λ progress. IsSoundProgress M.Machine (M.start setup.now) config.f kept.new.items progress) }
+    requires sound { IsSoundRecovering config.f recovering.old }
+    ensures sound { IfOk result (λ progress. IsSoundProgress M.Machine (M.start setup.now) config.f recovering.new progress) }
     ensures step { (choose : Choice M.Cmd) (acks : List Ack) → IsRight config.f choose →
-        FollowsProgress kept.new.items acks boot result
-        (regains (recovering_site kept.old.items acks boot) (choose.regained boot.view (responses_of kept.old.items))) }
+        FollowsProgress recovering.new acks boot result
+        (regains (recovering_site recovering.old acks boot) (choose.regained (responses_of recovering.old.responses.items))) }
 {
-    match take_regained(config, boot.view, kept) {
+    match take_regained(config, &mut recovering.responses) {
         Some((view, state)) => {
-            let running = regain(alloc, config, setup, view, state)?;
+            let known = mem::replace(&mut recovering.known, Known::new(alloc));
+            let running = regain(alloc, config, setup, view, state, known)?;
             Ok(Progress::Regained(running))
         }
         None => Ok(Progress::Waits),

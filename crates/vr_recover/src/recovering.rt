@@ -1,37 +1,76 @@
-ghost use Rattle.std.specs.Prelude.{◌≡◌, ◌<◌, ◌≤◌, ◌==◌, ◌&&◌, ◌++◌, ◌∷◌, [], ℕ, not, nat_le, nat_lt, filter, All, count_by, IfSome, IfNone, OnOk, Some};
+ghost use Rattle.std.specs.Prelude.{◌≡◌, ◌<◌, ◌≤◌, ◌==◌, ◌&&◌, ◌++◌, ◌∷◌, [], ℕ, not, nat_le, nat_lt, filter, length, All, count_by, IfOk, IfSome, IfNone, OnOk, Some};
 ghost use Rattle.std.specs.List.{list_any, position};
 ghost use Rattle.vr_types.specs.Choice.{Regained, IsRegained};
 ghost use Rattle.vr_types.specs.Group.{sites};
-ghost use Rattle.vr_types.specs.Site.{has_response};
-ghost use Rattle.vr_recover.specs.Recovering.{response_of, responses_of, IsOneEach};
+ghost use Rattle.vr_types.specs.Site.{has_response, restarted};
+ghost use Rattle.vr_types.specs.Step.{greater, is_outdated};
+ghost use Rattle.vr_recover.specs.Recovering.{response_of, responses_of, IsOneEach, IsSoundRecovering, recovering_site};
 
 use std::alloc::{AllocError, Global};
 use vr_log::send::primary_of;
-use vr_types::{Config, Machine, StateOf};
+use vr_types::{Boot, Config, Known, Machine, StateOf};
 
-/// A response that a recovering site keeps: its sender, that site's view, and the state of the view where its primary
-/// answered.
+/// A response that a recovering site keeps: its sender, that site's view, the state of the view where its primary
+/// answered, and what the sender knew of boots.
 #[derive(Drop)]
 pub struct ResponseOf<C> {
     pub from: u16,
     pub view: u32,
     pub state: Option<StateOf<C>>,
+    pub known: Known,
 }
 
-/// What a recovering site keeps: of each site the response of its greatest view.
+/// What a recovering site keeps: what it knows of boots, and of each site the response of its greatest view.
 #[derive(Drop)]
 pub struct RecoveringOf<C> {
+    pub known: Known,
     pub responses: Vec<ResponseOf<C>>,
 }
 
 /// What a machine's recovering site keeps.
 pub type Recovering<M> = RecoveringOf<<M as Machine>::Cmd>;
 
-/// Whether a response of this site, of this view or a later one, is kept.
-pub(crate) fn has_as_late<C: Drop>(kept: &[ResponseOf<C>], from: u16, view: u32) -> bool
-    ensures { result ≡ list_any (λ old. (old.from == from) && nat_le view old.view) kept.now }
+/// What a site keeps right after a restart that saved this cell: of boots it knows its own alone, and no response has
+/// come.
+pub fn restarted<C: Drop>(
+    alloc: Global,
+    config: Config,
+    boot: Boot,
+) -> Result<RecoveringOf<C>, AllocError>
+    ensures sound { IfOk result (IsSoundRecovering config.f) }
+    ensures site { IfOk result (λ recovering. recovering_site recovering [] boot ≡ restarted config.f config.me boot) }
 {
-    kept.iter().any(|old| old.from == from && view <= old.view)
+    let mut known = Known::of_none(alloc, config.f)?;
+    known.note(config.me, boot.boots);
+    Ok(RecoveringOf {
+        known,
+        responses: Vec::new(alloc),
+    })
+}
+
+/// Whether a response of the new one's sender is kept that is of its view or a later one, and that the new one does not
+/// show to be of an earlier boot.
+pub(crate) fn has_as_late<C: Drop>(kept: &[ResponseOf<C>], new: &ResponseOf<C>) -> bool
+    ensures { result ≡ list_any (λ old. (old.from == new.now.from) && nat_le new.now.view old.view
+        && not (is_outdated new.now.known old.from old.known)) kept.now }
+{
+    kept.iter().any(|old| {
+        old.from == new.from && new.view <= old.view && !new.known.is_outdated(old.from, &old.known)
+    })
+}
+
+/// Learns what a sender knew, and gives up each response that is outdated by it.
+pub(crate) fn learn<C: Drop>(recovering: &mut RecoveringOf<C>, told: &Known)
+    requires { length told.now ≤ length recovering.old.known }
+    ensures known { recovering.new.known ≡ greater recovering.old.known told.now }
+    ensures current { recovering.new.responses.items ≡
+        filter (λ old. not (is_outdated recovering.new.known old.from old.known)) recovering.old.responses.items }
+{
+    recovering.known.learn(told);
+    let known = &recovering.known;
+    recovering
+        .responses
+        .retain(|old| !known.is_outdated(old.from, &old.known));
 }
 
 /// Keeps a response in place of an earlier one of its sender.
@@ -84,35 +123,29 @@ fn place_of<C: Drop>(kept: &[ResponseOf<C>], from: u16, view: u32) -> Option<usi
 }
 
 /// The view whose state is regained, once its primary has answered with it: the greatest of the responses, where more
-/// than f sites have responded and it is not below the saved one.
-fn regained_view<C: Drop>(config: Config, saved: u32, kept: &[ResponseOf<C>]) -> Option<u32>
+/// than f sites have responded.
+fn regained_view<C: Drop>(config: Config, kept: &[ResponseOf<C>]) -> Option<u32>
     ensures enough { IfSome result (λ view. config.f < count_by (has_response (responses_of kept.now)) (sites config.f)) }
     ensures greatest { IfSome result (λ view. All (λ response. response.view ≤ view) kept.now) }
-    ensures not_below { IfSome result (λ view. saved ≤ view) }
-    ensures only { (regained : Regained C) → IsRegained config.f saved (responses_of kept.now) regained → result ≡ Some regained.view }
+    ensures only { (regained : Regained C) → IsRegained config.f (responses_of kept.now) regained → result ≡ Some regained.view }
 {
     if senders(config, kept) <= config.f as usize {
         return None;
     }
-    let view = greatest_view(kept);
-    if view < saved {
-        return None;
-    }
-    Some(view)
+    Some(greatest_view(kept))
 }
 
 /// Takes the state that is regained out of the responses, with its view, where one is.
 pub(crate) fn take_regained<C: Drop>(
     config: Config,
-    saved: u32,
     kept: &mut Vec<ResponseOf<C>>,
 ) -> Option<(u32, StateOf<C>)>
     requires { IsOneEach kept.old.items }
-    ensures some { IfSome result (λ found. IsRegained config.f saved (responses_of kept.old.items) (record { view = found.0; state = found.1 })) }
-    ensures none { IfNone result ((regained : Regained C) → ¬ IsRegained config.f saved (responses_of kept.old.items) regained) }
+    ensures some { IfSome result (λ found. IsRegained config.f (responses_of kept.old.items) (record { view = found.0; state = found.1 })) }
+    ensures none { IfNone result ((regained : Regained C) → ¬ IsRegained config.f (responses_of kept.old.items) regained) }
     ensures stays { IfNone result (kept.new.items ≡ kept.old.items) }
 {
-    let view = regained_view(config, saved, kept.as_slice())?;
+    let view = regained_view(config, kept.as_slice())?;
     let at = place_of(kept.as_slice(), primary_of(config, view), view)?;
     let state = kept[at].state.take()?;
     Some((view, state))

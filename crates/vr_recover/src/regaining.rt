@@ -1,30 +1,31 @@
-ghost use Rattle.std.specs.Prelude.{◌≡◌, [], List, IfOk};
+ghost use Rattle.std.specs.Prelude.{◌≡◌, ◌+◌, ◌*◌, [], length, List, IfOk};
 ghost use Rattle.vr_types.specs.declared.cell.Boot.{Boot};
 ghost use Rattle.vr_types.specs.Site.{Ack};
 ghost use Rattle.vr_types.specs.Step.{executed_to, normal_in};
 ghost use Rattle.vr_log.specs.Kept.{IsKept};
 ghost use Rattle.vr_log.specs.Running.{IsRunning, site_of};
-ghost use Rattle.vr_recover.specs.Recovering.{recovering_site};
+ghost use Rattle.vr_recover.specs.Recovering.{recovers_with};
 
 use crate::recovering::ResponseOf;
 use std::alloc::{AllocError, Global};
 use vr_log::{ClientsOf, Kept, LogOf, Running};
-use vr_types::{Config, Machine, RowsOf, StateOf, Status};
+use vr_types::{Config, Known, Machine, RowsOf, StateOf, Status};
 
 /// A site that is normal in a view with the state of its primary: a fresh machine executes as far as the primary had,
-/// and nobody is answered. The log is moved, not copied.
+/// and nobody is answered. What it knows of boots stays. The log is moved, not copied.
 pub fn regain<M: Machine>(
     alloc: Global,
     config: Config,
     setup: &M::Setup,
     view: u32,
     state: StateOf<M::Cmd>,
+    known: Known,
 ) -> Result<Running<M>, AllocError>
-    requires { M.admits setup.now }
+    requires setup { M.admits setup.now }
+    requires known { length known ≡ 2 * config.f + 1 }
     ensures running { IfOk result (λ running. IsRunning M.Machine (M.start setup.now) config.f running []) }
-    ensures view { IfOk result (λ running. running.view ≡ view) }
     ensures site { IfOk result (λ running. (kept : List (ResponseOf M.Cmd)) (acks : List Ack) (cell : Boot) →
-        executed_to state.done (normal_in view state.rows (recovering_site kept acks cell)) ≡ site_of running [] cell) }
+        executed_to state.done (normal_in view state.rows (recovers_with known kept acks cell)) ≡ site_of running [] cell) }
 {
     let mut kept = fresh::<M>(alloc, setup, state.rows)?;
     let _ = kept.execute(alloc, state.done)?;
@@ -34,6 +35,7 @@ pub fn regain<M: Machine>(
         view,
         last_normal: view,
         kept,
+        known,
         acked,
         starts: Vec::new(alloc),
         voted: false,

@@ -1,11 +1,10 @@
--- What follows from that an event was handled: what is sent was saved before, and what is dropped takes no memory.
-use Rattle.std.proofs.Common.{◌≡◌, ℕ, ◌+◌, ◌<◌, ◌≤◌, ◌==◌, ◌&&◌, ◌||◌, zero, suc, Bool, true, false, true≢false, nat_le, min, List, [], ◌∷◌, Option, Some, None, slice_index, refl, sym, ap, ◌∙◌, subst, arith, eq-eqb}
+-- What follows from that an event was handled: the nonce of a RECOVERY was saved before, and what is dropped takes no memory.
+use Rattle.std.proofs.Common.{◌≡◌, ℕ, ◌+◌, ◌<◌, ◌≤◌, ◌==◌, ◌&&◌, ◌||◌, zero, suc, Bool, true, false, nat_le, min, List, [], ◌∷◌, Option, Some, None, slice_index, refl, sym, ap, ◌∙◌, subst, arith, eq-eqb}
 use Rattle.std.specs.Prelude.{All, Result, Ok, Err, IfOk, IsOk}
 use Rattle.std.specs.Cmp.{IsEquivalence}
 use Rattle.std.specs.List.{list_any}
 use Rattle.std.proofs.lemmas.Bool.{ne_eqb}
 use Rattle.std.proofs.lemmas.Bool.Decides.{nat_tests}
-use Rattle.vr_types.specs.declared.cell.Boot.{Boot}
 use Rattle.vr_types.specs.declared.cell.BootCell.{Ghosts as Cell}
 use Rattle.vr_types.specs.declared.event.EventOf.{EventOf}
 use Rattle.vr_types.specs.declared.event.OutcomeOf.{OutcomeOf}
@@ -15,15 +14,12 @@ use Rattle.vr_types.specs.declared.machine.Machine.{Ghosts}
 use Rattle.vr_types.specs.Choice.{Choice, IsRight, has_acknowledged}
 use Rattle.vr_types.specs.Handling.{refusal, refused_or, on_event, site_step, envelopes}
 use Rattle.vr_types.specs.Saved.{IsSavedFor}
-use Rattle.vr_types.specs.Site.{Ack, is_running}
+use Rattle.vr_types.specs.Site.{Ack}
 use Rattle.vr_types.specs.Step.{Dropped, Refused}
 use Rattle.vr_types.proofs.Choosing.{choice_of}
 use Rattle.vr_types.proofs.ChoosingRight.{choice_of-right}
 use Rattle.vr_types.proofs.Saving.{step_saved, envelopes_saved}
 use Rattle.vr_log.specs.Running.{SumUp}
-use Rattle.vr_site.specs.declared.life.Life.{Life}
-use Rattle.vr_site.specs.declared.life.Life.TheVariants.{Down, Recovering, Up}
-use Rattle.vr_site.specs.Life.{volatile_of, IsWell}
 use Rattle.vr_site.specs.Replica.{Shown, site_shown, Handles}
 
 -- one acknowledgement of each site, of all that it acknowledged
@@ -72,30 +68,24 @@ acks_of_summed acked = λ j n. by_count j n
         let none : (suc n == 0) ≡ false = ne_eqb (suc n) 0 (λ e. absurd (omega arith)) in
         rw none (ap (λ q. list_any (tells (suc n) q) (acks_from 0 acked)) at ∙ told_by 0 acked (suc n) j (omega arith))
 
--- a running site's view is the one that its cell holds
-pub life_holds_view : {H C R O S : Type 0} (m : Ghosts H C R O S) (start : H) (f : ℕ) (boot : Boot) (l : Life H C R O S) → IsWell m start f boot l → is_running (volatile_of l).status ≡ true → (volatile_of l).view ≡ boot.view
-life_holds_view m start f boot Down well up = absurd (true≢false (sym up))
-life_holds_view m start f boot (Recovering r) well up = absurd (true≢false (sym up))
-life_holds_view m start f boot (Up r) well up = well.1
-
 module _ {H C R O S B : Type 0} (m : Ghosts H C R O S) (c : Cell B) (old new : Shown C S B) (event : EventOf C R O) where
   -- what is sent was saved before
-  pub handled_is_saved : (choose : Choice C) → IsRight old.f choose → (is_running old.volatile.status ≡ true → old.volatile.view ≡ (c.held old.cell).view) → (out : OutcomeOf C R O)
+  pub handled_is_saved : (choose : Choice C) → IsRight old.f choose → (out : OutcomeOf C R O)
       → Handles m c old new event (Ok out) → All (λ e. IsSavedFor (c.held new.cell) e.msg) out.sent.items
-  handled_is_saved choose right holds out h =
+  handled_is_saved choose right out h =
       let acks = acks_of old.volatile.acked in
       let x = site_shown c.held old acks in
       let step = site_step choose old.f old.me x event in
       let does = h.step choose acks right (acks_of_summed old.volatile.acked) in
-      let saved = envelopes_saved m (m.start old.setup) old.me step (step_saved choose old.f old.me right x holds event) in
+      let saved = envelopes_saved m (m.start old.setup) old.me step (step_saved choose old.f old.me x event) in
       subst (λ es. All (λ e. IsSavedFor (c.held new.cell) e.msg) es) (sym does.sent)
       (subst (λ b. All (λ e. IsSavedFor b e.msg) (envelopes m (m.start old.setup) old.me step)) (ap (λ y. y.cell) does.site) saved)
 
   -- the same of what came of it
-  pub result_is_saved : (choose : Choice C) → IsRight old.f choose → (is_running old.volatile.status ≡ true → old.volatile.view ≡ (c.held old.cell).view) → (result : Result (OutcomeOf C R O) SiteFault)
+  pub result_is_saved : (choose : Choice C) → IsRight old.f choose → (result : Result (OutcomeOf C R O) SiteFault)
       → Handles m c old new event result → IfOk result (λ out. All (λ e. IsSavedFor (c.held new.cell) e.msg) out.sent.items)
-  result_is_saved choose right holds (Ok out) h = handled_is_saved choose right holds out h
-  result_is_saved choose right holds (Err fault) h = tt
+  result_is_saved choose right (Ok out) h = handled_is_saved choose right out h
+  result_is_saved choose right (Err fault) h = tt
 
   dropped_not_refused : (o : Option SiteFault) → refusal old.f old.me (site_shown c.held old []) event ≡ o → (fault : SiteFault) → Handles m c old new event (Err fault) → (choose : Choice C) (acks : List Ack) (why : Why)
       → IsRight old.f choose → SumUp old.volatile.acked acks → (site_step choose old.f old.me (site_shown c.held old acks) event).ending ≡ Dropped why → ⊥

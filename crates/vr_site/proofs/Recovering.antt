@@ -7,18 +7,19 @@ use Rattle.vr_types.specs.declared.message.MsgOf.TheVariants.{Request, Prepare, 
 use Rattle.vr_types.specs.declared.message.StateOf.{StateOf}
 use Rattle.vr_types.specs.declared.row.RowOf.{RowOf}
 use Rattle.vr_types.specs.Change.{on_timer, on_start_view_change, on_do_view_change, on_start_view}
+use Rattle.vr_types.specs.Cell.{nonce_of}
 use Rattle.vr_types.specs.Choice.{Choice}
 use Rattle.vr_types.specs.Group.{primary, may_send, to_all}
 use Rattle.vr_types.specs.Handling.{on_message}
 use Rattle.vr_types.specs.Normal.{on_request, on_prepare, on_prepare_ok, on_commit}
 use Rattle.vr_types.specs.Recovery.{on_recovery, beats_recovering}
-use Rattle.vr_types.specs.Site.{Ack, Site, Vote}
+use Rattle.vr_types.specs.Site.{Ack, Site, Start, Vote}
 use Rattle.vr_types.specs.Step.{Step, does, drops}
 use Rattle.vr_types.specs.Transfer.{on_get_state, on_new_state}
-use Rattle.vr_recover.specs.declared.recovering.ResponseOf.{ResponseOf}
+use Rattle.vr_recover.specs.declared.recovering.RecoveringOf.{RecoveringOf}
 use Rattle.vr_recover.specs.Recovering.{recovering_site}
 
-module _ {C R O : Type 0} (f me : ℕ) (kept : List (ResponseOf C)) (acks : List Ack) (cell : Boot) where
+module _ {C R O : Type 0} (f me : ℕ) (kept : RecoveringOf C) (acks : List Ack) (cell : Boot) where
   -- it comes first whether the word is its primary's
   not_primary_first : (b : Bool) → ◌≡◌ {A = Step C R O} (if not b then drops (recovering_site kept acks cell) NotPrimary else drops (recovering_site kept acks cell) Status)
       (drops (recovering_site kept acks cell) (if b then Status else NotPrimary))
@@ -49,9 +50,9 @@ module _ {C R O : Type 0} (f me : ℕ) (kept : List (ResponseOf C)) (acks : List
   unfolding on_prepare_ok
   prepare_ok_drops choose from w place = refl
 
-  start_view_change_drops : (choose : Choice C) (from w : ℕ) → ◌≡◌ {A = Step C R O} (on_start_view_change choose f me (recovering_site kept acks cell) from w) (drops (recovering_site kept acks cell) Status)
+  start_view_change_drops : (choose : Choice C) (w : ℕ) (start : Start) → ◌≡◌ {A = Step C R O} (on_start_view_change choose f me (recovering_site kept acks cell) w start) (drops (recovering_site kept acks cell) Status)
   unfolding on_start_view_change
-  start_view_change_drops choose from w = refl
+  start_view_change_drops choose w start = refl
 
   do_view_change_drops : (choose : Choice C) (w : ℕ) (vote : Vote C) → ◌≡◌ {A = Step C R O} (on_do_view_change choose f me (recovering_site kept acks cell) w vote) (drops (recovering_site kept acks cell) Status)
   unfolding on_do_view_change
@@ -67,29 +68,29 @@ module _ {C R O : Type 0} (f me : ℕ) (kept : List (ResponseOf C)) (acks : List
 
   -- all else that may come
   pub others_drop : (choose : Choice C) (actor : ℕ) (msg : MsgOf C R O) → may_send f me actor msg ≡ true
-      → ((w nonce : ℕ) (state : Option (StateOf C)) → msg ≡ RecoveryResponse w nonce state → ⊥) → ((w n k : ℕ) (row : RowOf C) → msg ≡ Prepare w n k row → ⊥)
+      → ((w nonce : ℕ) (state : Option (StateOf C)) (known : List ℕ) → msg ≡ RecoveryResponse w nonce state known → ⊥) → ((w n k : ℕ) (row : RowOf C) → msg ≡ Prepare w n k row → ⊥)
       → ((w k : ℕ) → msg ≡ Commit w k → ⊥) → ((w k : ℕ) (log : List (RowOf C)) → msg ≡ StartView w k log → ⊥) → ((w base k : ℕ) (rows : List (RowOf C)) → msg ≡ NewState w base k rows → ⊥)
       → on_message choose f me (recovering_site kept acks cell) actor msg ≡ drops (recovering_site kept acks cell) Status
   others_drop choose actor (Request number cmd) may a b c d e = request_drops _
   others_drop choose actor (Prepare w place k row) may a b c d e = absurd (b w place k row refl)
   others_drop choose actor (PrepareOk w place) may a b c d e = prepare_ok_drops choose _ w place
   others_drop choose actor (Commit w k) may a b c d e = absurd (c w k refl)
-  others_drop choose actor (StartViewChange w) may a b c d e = start_view_change_drops choose _ w
-  others_drop choose actor (DoViewChange w last_normal k log) may a b c d e = do_view_change_drops choose w _
+  others_drop choose actor (StartViewChange w known) may a b c d e = start_view_change_drops choose w _
+  others_drop choose actor (DoViewChange w last_normal k log known) may a b c d e = do_view_change_drops choose w _
   others_drop choose actor (StartView w k log) may a b c d e = absurd (d w k log refl)
   others_drop choose actor (GetState w base) may a b c d e = get_state_drops _ w base
   others_drop choose actor (NewState w base k rows) may a b c d e = absurd (e w base k rows refl)
   others_drop choose actor (Recovery nonce) may a b c d e = recovery_drops _ nonce
-  others_drop choose actor (RecoveryResponse w nonce state) may a b c d e = absurd (a w nonce state refl)
+  others_drop choose actor (RecoveryResponse w nonce state known) may a b c d e = absurd (a w nonce state known refl)
   others_drop choose actor (Reply view number reply) may a b c d e = absurd (true≢false (sym may))
   others_drop choose actor (PayOrder order) may a b c d e = absurd (true≢false (sym may))
 
 -- it asks all again
-pub beats_is : {C R O : Type 0} (f me : ℕ) (x : Site C) → ◌≡◌ {A = Step C R O} (beats_recovering f me x) (does x (to_all f me (Recovery x.cell.boots)))
+pub beats_is : {C R O : Type 0} (f me : ℕ) (x : Site C) → ◌≡◌ {A = Step C R O} (beats_recovering f me x) (does x (to_all f me (Recovery (nonce_of x.cell))))
 unfolding beats_recovering
 beats_is f me x = refl
 
 -- its timer is dropped
-pub timer_is : {C R O : Type 0} (f me : ℕ) (kept : List (ResponseOf C)) (acks : List Ack) (cell : Boot) → ◌≡◌ {A = Step C R O} (on_timer f me (recovering_site kept acks cell)) (drops (recovering_site kept acks cell) Status)
+pub timer_is : {C R O : Type 0} (f me : ℕ) (kept : RecoveringOf C) (acks : List Ack) (cell : Boot) → ◌≡◌ {A = Step C R O} (on_timer f me (recovering_site kept acks cell)) (drops (recovering_site kept acks cell) Status)
 unfolding on_timer
 timer_is f me kept acks cell = refl

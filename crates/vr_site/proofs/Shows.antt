@@ -1,5 +1,5 @@
 -- That what a replica shows was handled as the site step says.
-use Rattle.std.proofs.Common.{◌≡◌, ◌≢◌, ◌⊎◌, inl, inr, ℕ, Bool, not, List, [], Option, Some, None, true, false, if◌then◌else◌, refl, sym, ap, ◌∙◌, subst, arith, eq-eqb}
+use Rattle.std.proofs.Common.{◌≡◌, ◌≢◌, inl, ℕ, Bool, not, List, [], Some, None, true, false, if◌then◌else◌, refl, sym, ap, ◌∙◌, subst, arith, eq-eqb}
 use Rattle.std.specs.Prelude.{Result, Ok, Err, IsErrAnd, OnOk}
 use Rattle.std.specs.declared.alloc.AllocError.{AllocError}
 use Rattle.std.proofs.lemmas.Bool.{ne_eqb}
@@ -10,26 +10,24 @@ use Rattle.vr_types.specs.declared.event.EventOf.{EventOf}
 use Rattle.vr_types.specs.declared.event.EventOf.TheVariants.{Deliver, Timer, Beat, Crash}
 use Rattle.vr_types.specs.declared.event.OutcomeOf.{OutcomeOf}
 use Rattle.vr_types.specs.declared.event.SiteFault.{SiteFault}
-use Rattle.vr_types.specs.declared.event.SiteFault.TheVariants.{NoMemory, CellFault, NotUp, NotMine, ViewsSpent}
+use Rattle.vr_types.specs.declared.event.SiteFault.TheVariants.{NoMemory, NotUp, NotMine, ViewsSpent}
 use Rattle.vr_types.specs.declared.event.Status.{Status}
 use Rattle.vr_types.specs.declared.event.Status.TheVariants as status
-use Rattle.vr_types.specs.declared.event.Why.{Why}
 use Rattle.vr_types.specs.declared.machine.Machine.{Ghosts}
+use Rattle.vr_types.specs.Cell.{max_number, is_new}
 use Rattle.vr_types.specs.Choice.{Choice, IsRight}
 use Rattle.vr_types.specs.declared.message.EnvelopeOf.{EnvelopeOf}
 use Rattle.vr_types.specs.Group.{is_mine}
-use Rattle.vr_types.specs.Handling.{refusal, refused_or, on_event, is_refused, max_number}
-use Rattle.vr_types.specs.Site.{Ack, Site, over, is_down, is_running, opening_site}
-use Rattle.vr_types.specs.Step.{Step, Handled, Dropped}
+use Rattle.vr_types.specs.Handling.{refusal, refused_or, on_event, is_refused}
+use Rattle.vr_types.specs.Site.{Ack, Site, over, no_boots, is_down, is_running, opening_site}
+use Rattle.vr_types.specs.Step.{Step, Handled}
 use Rattle.vr_log.specs.declared.running.Running.{Running}
 use Rattle.vr_log.proofs.OutcomeLemmas.{running_is_here}
-use Rattle.vr_log.specs.Outcomes.{ended}
 use Rattle.vr_log.specs.Running.{SumUp, Meets, site_of}
 use Rattle.vr_site.specs.declared.life.Life.{Life}
 use Rattle.vr_site.specs.declared.life.Life.TheVariants as life
-use Rattle.vr_site.specs.Life.{Volatile, resting, volatile_of, site_with, IsWell}
+use Rattle.vr_site.specs.Life.{Volatile, lost, volatile_of, site_with, IsWell}
 use Rattle.vr_site.specs.Replica.{Shown, site_shown, Does, Falls, Handles, Serves}
-use Rattle.vr_site.specs.Saving.{IsOneSave, IsSavedAtMostOnce}
 
 -- no acknowledgement sums up no numbers
 pub none_summed : SumUp [] []
@@ -75,7 +73,7 @@ module _ {H C R O S B : Type 0} (m : Ghosts H C R O S) (c : Cell B) where
   }
 
   -- a fall of a site that is down by now over the old cell
-  pub down_falls : (base : Shown C S B) (v : Volatile C) (x : Site C) (step : Step C R O) → base.volatile ≡ resting status.Down [] → x.cell ≡ c.held base.cell → step.ending ≡ Handled
+  pub down_falls : (base : Shown C S B) (v : Volatile C) (x : Site C) (step : Step C R O) → base.volatile ≡ lost → x.cell ≡ c.held base.cell → step.ending ≡ Handled
       → Falls c (record base { volatile = v }) base x step NoMemory
   down_falls base v x step volatile cell handled = record {
     f = refl;
@@ -90,7 +88,7 @@ module _ {H C R O S B : Type 0} (m : Ghosts H C R O S) (c : Cell B) where
 
   module _ (base : Shown C S B) (r n : Running H C R O S) (event : EventOf C R O) where
     -- a growth was refused while it ran
-    pub ran_short : (done : Result (OutcomeOf C R O) AllocError) → ((out : OutcomeOf C R O) → done ≡ Ok out → ⊥) → base.volatile ≡ resting status.Down []
+    pub ran_short : (done : Result (OutcomeOf C R O) AllocError) → ((out : OutcomeOf C R O) → done ≡ Ok out → ⊥) → base.volatile ≡ lost
         → Serves m (m.start base.setup) base.f base.me (c.held base.cell) r n done event
         → Handles m c (record base { volatile = volatile_of (life.Up r) }) base event (Err NoMemory)
     ran_short (Ok out) not_ok volatile serves = absurd (not_ok out refl)
@@ -99,68 +97,26 @@ module _ {H C R O S B : Type 0} (m : Ghosts H C R O S) (c : Cell B) where
         (λ choose acks right summed. down_falls base (volatile_of (life.Up r)) (site_of r acks (c.held base.cell)) _ volatile refl
         (serves.follows choose acks right (record { sound = serves.sound; summed = summed })))
 
-    -- it runs on, and its view is saved
+    -- it runs on
     pub ran_on : (new : Shown C S B) (out : OutcomeOf C R O) → (new.f ≡ base.f) × (new.me ≡ base.me) × (new.setup ≡ base.setup)
-        → new.volatile ≡ volatile_of (life.Up n) → c.held new.cell ≡ record { boots = (c.held base.cell).boots; view = n.view }
-        → IsSavedAtMostOnce c base.cell (record { boots = (c.held base.cell).boots; view = n.view }) new.cell
+        → new.volatile ≡ volatile_of (life.Up n) → new.cell ≡ base.cell
         → Serves m (m.start base.setup) base.f base.me (c.held base.cell) r n (Ok out) event
         → Handles m c (record base { volatile = volatile_of (life.Up r) }) new event (Ok out)
-    ran_on new out config volatile cell saved serves =
+    ran_on new out config volatile cell serves =
         stepped_handles (record base { volatile = volatile_of (life.Up r) }) new event out serves.allowed (λ choose acks right summed.
         let step = on_event choose base.f base.me (site_of r acks (c.held base.cell)) event in
         let meets : Meets m (m.start base.setup) base.f base.me n out step = serves.follows choose acks right (record { sound = serves.sound; summed = summed }) in
-        let view : step.site.view ≡ n.view = ap (λ x. x.view) meets.site in
-        let holds : step.site.cell ≡ c.held new.cell = (serves.saves choose acks).same ∙ ap (λ v. record { boots = (c.held base.cell).boots; view = v }) view ∙ sym cell in
+        let holds : step.site.cell ≡ c.held new.cell = serves.saves choose acks ∙ ap c.held (sym cell) in
         record {
           f = config.0;
           me = config.1;
           setup = config.2;
           acks = subst (λ (u : Volatile C). SumUp u.acked step.site.collected.acks) (sym volatile) meets.running.summed;
           site = meets.site ∙ ap (site_of n step.site.collected.acks) holds ∙ ap (λ u. site_with u step.site.collected.acks (c.held new.cell)) (sym volatile);
-          saved = subst (λ b. IsSavedAtMostOnce c base.cell b new.cell) (sym (holds ∙ cell)) saved;
+          saved = inl cell;
           sent = meets.sent;
           ending = meets.ending;
         })
-
-    -- its view is another, and the cell did not save it
-    pub ran_unsaved : (new : Shown C S B) (out : OutcomeOf C R O) → (new.f ≡ base.f) × (new.me ≡ base.me) × (new.setup ≡ base.setup)
-        → new.volatile ≡ resting status.Down [] → (c.held new.cell ≡ c.held base.cell) ⊎ (c.held new.cell ≡ record { boots = (c.held base.cell).boots; view = n.view })
-        → n.view ≢ (c.held base.cell).view
-        → IsOneSave c base.cell (record { boots = (c.held base.cell).boots; view = n.view }) new.cell
-        → Serves m (m.start base.setup) base.f base.me (c.held base.cell) r n (Ok out) event
-        → Handles m c (record base { volatile = volatile_of (life.Up r) }) new event (Err CellFault)
-    ran_unsaved new out config volatile cell other saved serves =
-        fell_handles (record base { volatile = volatile_of (life.Up r) }) new event CellFault serves.allowed (λ choose acks right summed.
-        let x = site_of r acks (c.held base.cell) in
-        let step = on_event choose base.f base.me x event in
-        let meets : Meets m (m.start base.setup) base.f base.me n out step = serves.follows choose acks right (record { sound = serves.sound; summed = summed }) in
-        let view : step.site.view ≡ n.view = ap (λ y. y.view) meets.site in
-        let holds : step.site.cell ≡ record { boots = (c.held base.cell).boots; view = n.view } = (serves.saves choose acks).same ∙ ap (λ v. record { boots = (c.held base.cell).boots; view = v }) view in
-        let changed : (why : Why) → step.ending ≡ Dropped why → ⊥ = λ why e. other (sym view ∙ ap (λ y. y.view) (serves.quiet choose acks why e) ∙ serves.view) in
-        let handled = by_dropped step out.dropped meets.ending changed in
-        record {
-          f = config.0;
-          me = config.1;
-          setup = config.2;
-          acks = subst (λ (u : Volatile C). SumUp u.acked []) (sym volatile) none_summed;
-          site = record {
-            allowed = ap is_refused handled;
-            down = by_cell x step holds cell volatile;
-          };
-          saved = inr (subst (λ b. IsOneSave c base.cell b new.cell) (sym holds) saved);
-          handled = handled;
-          fault = inr (refl, subst (λ b. IsOneSave c base.cell b new.cell) (sym holds) saved);
-        })
-      where
-        by_dropped : (step : Step C R O) (o : Option Why) → step.ending ≡ ended o → ((why : Why) → step.ending ≡ Dropped why → ⊥) → step.ending ≡ Handled
-        by_dropped step None e changed = e
-        by_dropped step (Some why) e changed = absurd (changed why e)
-
-        by_cell : (x : Site C) (step : Step C R O) → step.site.cell ≡ record { boots = (c.held base.cell).boots; view = n.view }
-            → (c.held new.cell ≡ c.held base.cell) ⊎ (c.held new.cell ≡ record { boots = (c.held base.cell).boots; view = n.view }) → new.volatile ≡ resting status.Down []
-            → (site_shown c.held new [] ≡ over (c.held base.cell) status.Down) ⊎ (site_shown c.held new [] ≡ over step.site.cell status.Down)
-        by_cell x step holds (inl e) down = inl (ap (λ u. site_with u [] (c.held new.cell)) down ∙ ap (λ b. over b status.Down) e)
-        by_cell x step holds (inr e) down = inr (ap (λ u. site_with u [] (c.held new.cell)) down ∙ ap (λ b. over b status.Down) (e ∙ sym holds))
 
 -- what runs is not down
 pub up_is_not_down : (s : Status) → is_running s ≡ true → is_down s ≡ false
@@ -209,11 +165,15 @@ pub beat_is_taken : {C : Type 0} (R O : Type 0) (f me : ℕ) (x : Site C) → is
 beat_is_taken R O f me x up = rw (up_is_not_down x.status up)
 
 -- what isn't down is not shown as down
-pub life_is_not_down : {H C R O S : Type 0} (m : Ghosts H C R O S) (start : H) (f : ℕ) (boot : Boot) (l : Life H C R O S) → (l ≡ life.Down → ⊥) → IsWell m start f boot l → is_down (volatile_of l).status ≡ false
-life_is_not_down m start f boot life.Down other well = absurd (other refl)
-life_is_not_down m start f boot (life.Recovering r) other well = refl
-life_is_not_down m start f boot (life.Up r) other well = up_is_not_down r.status well.0.up
+pub life_is_not_down : {H C R O S : Type 0} (m : Ghosts H C R O S) (start : H) (f : ℕ) (l : Life H C R O S) → (l ≡ life.Down → ⊥) → IsWell m start f l → is_down (volatile_of l).status ≡ false
+life_is_not_down m start f life.Down other well = absurd (other refl)
+life_is_not_down m start f (life.Recovering r) other well = refl
+life_is_not_down m start f (life.Up r) other well = up_is_not_down r.status well.up
 
 -- over a new cell a site opens normal
-pub opened : {C : Type 0} (cell : Boot) → cell.boots ≡ 0 → cell.view ≡ 0 → opening_site {C = C} cell ≡ over cell status.Normal
-opened cell boots view = rw (eq-eqb _ _ boots, eq-eqb _ _ view)
+pub opened : {C : Type 0} (f : ℕ) (cell : Boot) → is_new cell ≡ true → opening_site {C = C} f cell ≡ record (over cell status.Normal) { known = no_boots f }
+opened f cell new = rw new
+
+-- over any other it is down
+pub unopened : {C : Type 0} (f : ℕ) (cell : Boot) → is_new cell ≡ false → opening_site {C = C} f cell ≡ over cell status.Down
+unopened f cell old = rw old

@@ -1,36 +1,32 @@
 -- That what a recovering site kept and regained was handled as the site step says.
-use Rattle.std.proofs.Common.{◌≡◌, ◌⊎◌, inl, inr, List, [], refl, sym, ap, ◌∙◌, subst}
+use Rattle.std.proofs.Common.{◌≡◌, inl, [], refl, sym, ap, ◌∙◌, subst}
 use Rattle.std.specs.Prelude.{Result, Ok, Err}
 use Rattle.std.specs.declared.alloc.AllocError.{AllocError}
-use Rattle.vr_types.specs.declared.cell.Boot.{Boot}
 use Rattle.vr_types.specs.declared.cell.BootCell.{Ghosts as Cell}
 use Rattle.vr_types.specs.declared.event.EventOf.{EventOf}
 use Rattle.vr_types.specs.declared.event.OutcomeOf.{OutcomeOf}
-use Rattle.vr_types.specs.declared.event.SiteFault.TheVariants.{NoMemory, CellFault}
-use Rattle.vr_types.specs.declared.event.Status.TheVariants as status
+use Rattle.vr_types.specs.declared.event.SiteFault.TheVariants.{NoMemory}
 use Rattle.vr_types.specs.declared.event.Why.{Why}
 use Rattle.vr_types.specs.declared.machine.Machine.{Ghosts}
-use Rattle.vr_types.specs.Site.{over}
 use Rattle.vr_log.specs.declared.running.Running.{Running}
 use Rattle.vr_log.specs.Outcomes.{Sends, Drops, ended}
 use Rattle.vr_log.specs.Running.{SumUp, IsRunning, site_of}
 use Rattle.vr_recover.specs.declared.progress.Progress.{Progress}
 use Rattle.vr_recover.specs.declared.progress.Progress.TheVariants.{Dropped, Waits, Regained}
-use Rattle.vr_recover.specs.declared.recovering.ResponseOf.{ResponseOf}
-use Rattle.vr_recover.specs.Recovering.{responses_of, recovering_site}
+use Rattle.vr_recover.specs.declared.recovering.RecoveringOf.{RecoveringOf}
+use Rattle.vr_recover.specs.Recovering.{recovering_site}
 use Rattle.vr_site.specs.declared.life.Life.TheVariants as life
-use Rattle.vr_site.specs.Life.{Volatile, resting, volatile_of, site_with}
-use Rattle.vr_site.specs.Replica.{Shown, site_shown, Does, Falls, Handles, Awaits}
-use Rattle.vr_site.specs.Saving.{IsOneSave, IsSavedAtMostOnce}
-use Rattle.vr_site.proofs.Shows.{none_summed, stepped_handles, fell_handles, down_falls}
+use Rattle.vr_site.specs.Life.{Volatile, lost, awaiting, volatile_of, site_with}
+use Rattle.vr_site.specs.Replica.{Shown, Does, Handles, Awaits}
+use Rattle.vr_site.proofs.Shows.{stepped_handles, fell_handles, down_falls}
 
-module _ {H C R O S B : Type 0} (m : Ghosts H C R O S) (c : Cell B) (base : Shown C S B) (before now : List (ResponseOf C)) (event : EventOf C R O) where
+module _ {H C R O S B : Type 0} (m : Ghosts H C R O S) (c : Cell B) (base : Shown C S B) (before now : RecoveringOf C) (event : EventOf C R O) where
   -- the replica before
   abbrev first : Shown C S B
-  first = record base { volatile = resting status.Recovering (responses_of before) }
+  first = record base { volatile = awaiting before }
 
   -- a growth was refused
-  pub waited_short : (progress : Result (Progress H C R O S) AllocError) → ((p : Progress H C R O S) → progress ≡ Ok p → ⊥) → base.volatile ≡ resting status.Down []
+  pub waited_short : (progress : Result (Progress H C R O S) AllocError) → ((p : Progress H C R O S) → progress ≡ Ok p → ⊥) → base.volatile ≡ lost
       → Awaits base.f base.me (c.held base.cell) before now progress event → Handles m c first base event (Err NoMemory)
   waited_short (Ok p) not_ok volatile awaits = absurd (not_ok p refl)
   waited_short (Err error) not_ok volatile awaits =
@@ -39,7 +35,7 @@ module _ {H C R O S B : Type 0} (m : Ghosts H C R O S) (c : Cell B) (base : Show
 
   module _ (new : Shown C S B) (config : (new.f ≡ base.f) × (new.me ≡ base.me) × (new.setup ≡ base.setup)) where
     -- the event was dropped
-    pub waited_dropped : (out : OutcomeOf C R O) (why : Why) → new.volatile ≡ resting status.Recovering (responses_of now) → new.cell ≡ base.cell → Drops out why
+    pub waited_dropped : (out : OutcomeOf C R O) (why : Why) → new.volatile ≡ awaiting now → new.cell ≡ base.cell → Drops out why
         → Awaits {H = H} {C = C} {R = R} {O = O} {S = S} base.f base.me (c.held base.cell) before now (Ok (Dropped why)) event → Handles m c first new event (Ok out)
     waited_dropped out why volatile cell d awaits = stepped_handles m c first new event out awaits.allowed (λ choose acks right summed.
         subst (Does m c first new out) (sym (awaits.follows choose acks right))
@@ -55,7 +51,7 @@ module _ {H C R O S B : Type 0} (m : Ghosts H C R O S) (c : Cell B) (base : Show
         }))
 
     -- the response was kept
-    pub waited_on : (out : OutcomeOf C R O) → new.volatile ≡ resting status.Recovering (responses_of now) → new.cell ≡ base.cell → Sends out []
+    pub waited_on : (out : OutcomeOf C R O) → new.volatile ≡ awaiting now → new.cell ≡ base.cell → Sends out []
         → Awaits {H = H} {C = C} {R = R} {O = O} {S = S} base.f base.me (c.held base.cell) before now (Ok Waits) event → Handles m c first new event (Ok out)
     waited_on out volatile cell s awaits = stepped_handles m c first new event out awaits.allowed (λ choose acks right summed.
         subst (Does m c first new out) (sym (awaits.follows choose acks right))
@@ -70,43 +66,18 @@ module _ {H C R O S B : Type 0} (m : Ghosts H C R O S) (c : Cell B) (base : Show
           ending = ap ended (sym s.dropped);
         }))
 
-    -- the state was regained, and its view saved
-    pub regained_on : (out : OutcomeOf C R O) (r : Running H C R O S) → IsRunning m (m.start base.setup) base.f r [] → new.volatile ≡ volatile_of (life.Up r)
-        → c.held new.cell ≡ record { boots = (c.held base.cell).boots; view = r.view }
-        → IsSavedAtMostOnce c base.cell (record { boots = (c.held base.cell).boots; view = r.view }) new.cell → Sends out []
+    -- the state was regained
+    pub regained_on : (out : OutcomeOf C R O) (r : Running H C R O S) → IsRunning m (m.start base.setup) base.f r [] → new.volatile ≡ volatile_of (life.Up r) → new.cell ≡ base.cell → Sends out []
         → Awaits base.f base.me (c.held base.cell) before now (Ok (Regained r)) event → Handles m c first new event (Ok out)
-    regained_on out r runs volatile cell saved s awaits = stepped_handles m c first new event out awaits.allowed (λ choose acks right summed.
+    regained_on out r runs volatile cell s awaits = stepped_handles m c first new event out awaits.allowed (λ choose acks right summed.
         subst (Does m c first new out) (sym (awaits.follows choose acks right))
         (record {
           f = config.0;
           me = config.1;
           setup = config.2;
           acks = subst (λ (u : Volatile C). SumUp u.acked []) (sym volatile) runs.summed;
-          site = ap (site_of r []) (sym cell) ∙ ap (λ u. site_with u [] (c.held new.cell)) (sym volatile);
-          saved = saved;
+          site = ap (λ b. site_of r [] (c.held b)) (sym cell) ∙ ap (λ u. site_with u [] (c.held new.cell)) (sym volatile);
+          saved = inl cell;
           sent = s.mails;
           ending = ap ended (sym s.dropped);
         }))
-
-    -- the state was regained, and the cell did not save its view
-    pub regained_unsaved : (r : Running H C R O S) → new.volatile ≡ resting status.Down []
-        → (c.held new.cell ≡ c.held base.cell) ⊎ (c.held new.cell ≡ record { boots = (c.held base.cell).boots; view = r.view })
-        → IsOneSave c base.cell (record { boots = (c.held base.cell).boots; view = r.view }) new.cell
-        → Awaits base.f base.me (c.held base.cell) before now (Ok (Regained r)) event → Handles m c first new event (Err CellFault)
-    regained_unsaved r volatile cell saved awaits = fell_handles m c first new event CellFault awaits.allowed (λ choose acks right summed.
-        subst (λ step. Falls c first new (site_shown c.held first acks) step CellFault) (sym (awaits.follows choose acks right))
-        (record {
-          f = config.0;
-          me = config.1;
-          setup = config.2;
-          acks = subst (λ (u : Volatile C). SumUp u.acked []) (sym volatile) none_summed;
-          site = record { allowed = refl; down = by_cell cell };
-          saved = inr saved;
-          handled = refl;
-          fault = inr (refl, saved);
-        }))
-      where
-        by_cell : (c.held new.cell ≡ c.held base.cell) ⊎ (c.held new.cell ≡ record { boots = (c.held base.cell).boots; view = r.view })
-            → (site_shown c.held new [] ≡ over (c.held base.cell) status.Down) ⊎ (site_shown c.held new [] ≡ over (record { boots = (c.held base.cell).boots; view = r.view }) status.Down)
-        by_cell (inl e) = inl (ap (λ u. site_with u [] (c.held new.cell)) volatile ∙ ap (λ b. over b status.Down) e)
-        by_cell (inr e) = inr (ap (λ u. site_with u [] (c.held new.cell)) volatile ∙ ap (λ b. over b status.Down) e)

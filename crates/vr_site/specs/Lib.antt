@@ -1,4 +1,3 @@
 pub mod Life
 pub mod Replica
-pub mod Tally
 pub mod Saving

@@ -1,13 +1,14 @@
 -- What a crash takes from a site: its volatile state.
-use Rattle.std.specs.Prelude.{◌≡◌, ℕ, Bool, false, List, [], map}
+use Rattle.std.specs.Prelude.{ℕ, Bool, false, List, [], map}
 use Rattle.vr_types.specs.declared.cell.Boot.{Boot}
 use Rattle.vr_types.specs.declared.event.Status.{Status}
 use Rattle.vr_types.specs.declared.event.Status.TheVariants as status
 use Rattle.vr_types.specs.declared.machine.Machine.{Ghosts}
 use Rattle.vr_types.specs.declared.row.RowOf.{RowOf}
-use Rattle.vr_types.specs.Site.{Ack, Vote, Response, Site}
-use Rattle.vr_log.specs.Running.{IsSound, vote_of}
-use Rattle.vr_recover.specs.Recovering.{responses_of, IsOneEach}
+use Rattle.vr_types.specs.Site.{Ack, Start, Vote, Response, Site}
+use Rattle.vr_log.specs.Running.{IsSound, start_of, vote_of}
+use Rattle.vr_recover.specs.declared.recovering.RecoveringOf.{RecoveringOf}
+use Rattle.vr_recover.specs.Recovering.{responses_of, IsSoundRecovering}
 use Rattle.vr_site.specs.declared.life.Life.{Life}
 use Rattle.vr_site.specs.declared.life.Life.TheVariants.{Down, Recovering, Up}
 
@@ -18,14 +19,15 @@ pub record Volatile (C : Type 0) : Type 0 where
   pub log : List (RowOf C)
   pub done : ℕ
   pub acked : List ℕ  -- of each site up to which place it acknowledged
-  pub starts : List ℕ
+  pub starts : List Start
   pub voted : Bool
   pub votes : List (Vote C)
   pub responses : List (Response C)
+  pub known : List ℕ
 
--- of a site that has no log
-abbrev pub resting : {C : Type 0} → Status → List (Response C) → Volatile C
-resting status responses = record {
+-- of a site that has no log: what it knows of boots, and the responses that it keeps
+abbrev pub resting : {C : Type 0} → Status → List ℕ → List (Response C) → Volatile C
+resting status known responses = record {
   status = status;
   view = 0;
   last_normal = 0;
@@ -36,12 +38,21 @@ resting status responses = record {
   voted = false;
   votes = [];
   responses = responses;
+  known = known;
 }
+
+-- of a site that is down
+abbrev pub lost : {C : Type 0} → Volatile C
+lost = resting status.Down [] []
+
+-- of a site that recovers
+abbrev pub awaiting : {C : Type 0} → RecoveringOf C → Volatile C
+awaiting r = resting status.Recovering r.known (responses_of r.responses.items)
 
 -- what is shown of it
 abbrev pub volatile_of : {H C R O S : Type 0} → Life H C R O S → Volatile C
-volatile_of Down = resting status.Down []
-volatile_of (Recovering r) = resting status.Recovering (responses_of r.responses.items)
+volatile_of Down = lost
+volatile_of (Recovering r) = awaiting r
 volatile_of (Up r) = record {
   status = r.status;
   view = r.view;
@@ -49,10 +60,11 @@ volatile_of (Up r) = record {
   log = r.kept.log;
   done = r.kept.done;
   acked = r.acked.items;
-  starts = r.starts.items;
+  starts = map start_of r.starts.items;
   voted = r.voted;
   votes = map vote_of r.votes.items;
   responses = [];
+  known = r.known;
 }
 
 -- the site that it is of, over this cell, where these acknowledgements came
@@ -64,11 +76,12 @@ site_with v acks cell = record {
   log = v.log;
   done = v.done;
   collected = record { acks = acks; starts = v.starts; voted = v.voted; votes = v.votes; responses = v.responses };
+  known = v.known;
   cell = cell;
 }
 
--- What runs is sound, and its view is the one that the cell holds; a recovering site keeps one response of a site.
-abbrev pub IsWell : {H C R O S : Type 0} → Ghosts H C R O S → H → ℕ → Boot → Life H C R O S → Type 0
-IsWell m start f boot Down = Unit {0}
-IsWell m start f boot (Recovering r) = IsOneEach r.responses.items
-IsWell m start f boot (Up r) = IsSound m start f r × (r.view ≡ boot.view)
+-- What runs is sound, and so is what a recovering site keeps.
+abbrev pub IsWell : {H C R O S : Type 0} → Ghosts H C R O S → H → ℕ → Life H C R O S → Type 0
+IsWell m start f Down = Unit {0}
+IsWell m start f (Recovering r) = IsSoundRecovering f r
+IsWell m start f (Up r) = IsSound m start f r

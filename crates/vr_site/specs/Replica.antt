@@ -7,18 +7,16 @@ use Rattle.vr_types.specs.declared.event.EventOf.{EventOf}
 use Rattle.vr_types.specs.declared.event.OutcomeOf.{OutcomeOf}
 use Rattle.vr_types.specs.declared.event.SiteFault.{SiteFault}
 use Rattle.vr_types.specs.declared.event.SiteFault.TheVariants.{NoMemory, CellFault}
-use Rattle.vr_types.specs.declared.event.Why.{Why}
 use Rattle.vr_types.specs.declared.machine.Machine.{Ghosts}
 use Rattle.vr_types.specs.Choice.{Choice, IsRight}
 use Rattle.vr_types.specs.Handling.{IsFall, envelopes, refusal, on_event, site_step}
 use Rattle.vr_types.specs.Site.{Ack, Site}
-use Rattle.vr_types.specs.Step.{Step, Handled, Dropped}
+use Rattle.vr_types.specs.Step.{Step, Handled}
 use Rattle.vr_log.specs.Outcomes.{ended}
 use Rattle.vr_log.specs.declared.running.Running.{Running}
 use Rattle.vr_log.specs.Running.{SumUp, IsSound, IsRunning, Follows, site_of}
-use Rattle.vr_change.specs.Saved.{SavesView}
 use Rattle.vr_recover.specs.declared.progress.Progress.{Progress}
-use Rattle.vr_recover.specs.declared.recovering.ResponseOf.{ResponseOf}
+use Rattle.vr_recover.specs.declared.recovering.RecoveringOf.{RecoveringOf}
 use Rattle.vr_recover.specs.Progress.{FollowsProgress}
 use Rattle.vr_recover.specs.Recovering.{recovering_site}
 use Rattle.vr_site.specs.declared.life.Life.{Life}
@@ -74,16 +72,14 @@ pub record Handles {H C R O S B : Type 0} (m : Ghosts H C R O S) (c : Cell B) (o
   pub fall : refusal old.f old.me (site_shown c.held old []) event ≡ None → IfErr result (λ fault. (choose : Choice C) (acks : List Ack) → IsRight old.f choose → SumUp old.volatile.acked acks →
       Falls c old new (site_shown c.held old acks) (site_step choose old.f old.me (site_shown c.held old acks) event) fault)
 
--- What ran follows the step of an event that is not refused: what runs by now, and what was done. The step saves the view that it leads to, and changes nothing where it drops the event.
+-- What ran follows the step of an event that is not refused: what runs by now, and what was done. The step saves nothing.
 pub record Serves {H C R O S : Type 0} (m : Ghosts H C R O S) (start : H) (f me : ℕ) (cell : Boot) (old new : Running H C R O S) (done : Result (OutcomeOf C R O) AllocError) (event : EventOf C R O) : Type 0 where
   pub sound : IsSound m start f old
-  pub view : old.view ≡ cell.view
   pub allowed : refusal f me (site_of old [] cell) event ≡ None
   pub follows : (choose : Choice C) (acks : List Ack) → IsRight f choose → IsRunning m start f old acks → Follows m start f me new done (on_event choose f me (site_of old acks cell) event)
-  pub saves : (choose : Choice C) (acks : List Ack) → SavesView (site_of old acks cell) (on_event choose f me (site_of old acks cell) event)
-  pub quiet : (choose : Choice C) (acks : List Ack) (why : Why) → (on_event choose f me (site_of old acks cell) event).ending ≡ Dropped why → (on_event choose f me (site_of old acks cell) event).site ≡ site_of old acks cell
+  pub saves : (choose : Choice C) (acks : List Ack) → (on_event choose f me (site_of old acks cell) event).site.cell ≡ cell
 
 -- What was kept follows the step of an event that is not refused: what is kept by now, and what came of it.
-pub record Awaits {H C R O S : Type 0} (f me : ℕ) (cell : Boot) (old new : List (ResponseOf C)) (progress : Result (Progress H C R O S) AllocError) (event : EventOf C R O) : Type 0 where
+pub record Awaits {H C R O S : Type 0} (f me : ℕ) (cell : Boot) (old new : RecoveringOf C) (progress : Result (Progress H C R O S) AllocError) (event : EventOf C R O) : Type 0 where
   pub allowed : refusal f me (recovering_site old [] cell) event ≡ None
   pub follows : (choose : Choice C) (acks : List Ack) → IsRight f choose → FollowsProgress new acks cell progress (on_event choose f me (recovering_site old acks cell) event)

@@ -1,8 +1,8 @@
 ghost use Rattle.std.specs.Prelude.{◌≡◌, ◌-◌};
-ghost use Rattle.vr_types.specs.Group.{is_client as is_number_of_client, is_other_site as is_number_of_other, may_send as may_come, is_mine as is_addressed, site_of};
+ghost use Rattle.vr_types.specs.Group.{is_client as is_number_of_client, is_of_all as is_told_of_all, is_other_site as is_number_of_other, may_send as may_come, is_mine as is_addressed, site_of};
 
 use vr_log::send::FIRST_SITE;
-use vr_types::{Config, EnvelopeOf, MsgOf};
+use vr_types::{Config, EnvelopeOf, Known, MsgOf};
 
 /// Whether an envelope is for this site, from an actor that may send it that.
 pub(crate) fn is_mine<C, R, O>(config: Config, envelope: &EnvelopeOf<C, R, O>) -> bool
@@ -20,13 +20,19 @@ fn may_send<C, R, O>(config: Config, actor: u16, msg: &MsgOf<C, R, O>) -> bool
         MsgOf::Prepare { .. } => is_other_site(config, actor),
         MsgOf::PrepareOk { .. } => is_other_site(config, actor),
         MsgOf::Commit { .. } => is_other_site(config, actor),
-        MsgOf::StartViewChange { .. } => is_other_site(config, actor),
-        MsgOf::DoViewChange { .. } => is_other_site(config, actor),
+        MsgOf::StartViewChange { known, .. } => {
+            is_other_site(config, actor) && is_of_all(config, known)
+        }
+        MsgOf::DoViewChange { known, .. } => {
+            is_other_site(config, actor) && is_of_all(config, known)
+        }
         MsgOf::StartView { .. } => is_other_site(config, actor),
         MsgOf::GetState { .. } => is_other_site(config, actor),
         MsgOf::NewState { .. } => is_other_site(config, actor),
         MsgOf::Recovery { .. } => is_other_site(config, actor),
-        MsgOf::RecoveryResponse { .. } => is_other_site(config, actor),
+        MsgOf::RecoveryResponse { known, .. } => {
+            is_other_site(config, actor) && is_of_all(config, known)
+        }
         MsgOf::Reply { .. } => false,
         MsgOf::PayOrder(_) => false,
     }
@@ -44,6 +50,13 @@ fn is_other_site(config: Config, actor: u16) -> bool
     ensures { result ≡ is_number_of_other config.f config.me actor }
 {
     FIRST_SITE <= actor && actor <= FIRST_SITE + 2 * config.f && actor != FIRST_SITE + config.me
+}
+
+/// Whether what a sender knew of boots is told of each site of the group, and of none else.
+fn is_of_all(config: Config, known: &Known) -> bool
+    ensures { result ≡ is_told_of_all config.f known.now }
+{
+    known.len() == 2 * config.f as usize + 1
 }
 
 /// The number of the site that an actor is.

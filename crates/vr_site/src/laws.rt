@@ -10,7 +10,7 @@ ghost use Rattle.std.specs.Prelude.{◌≡◌, ℕ, ◌++◌, All};
 ghost use Rattle.vr_types.specs.declared.cell.Boot.{Boot};
 ghost use Rattle.vr_types.specs.Step.{Step};
 ghost use Rattle.agreement.specs.Worlds.{World, fallen, LegalList, Continued};
-ghost use Rattle.agreement.specs.Promises.{SitesAgree, FirstRowsAgree, NeverRestarts, LogsRise};
+ghost use Rattle.agreement.specs.Promises.{SitesAgree, FirstRowsAgree, NeverRestarts, LogsRise, CollectedAreFresh, UsedAreFresh, VotesBind};
 ghost use Rattle.agreement.specs.Promises.{AnsweredRowsStay, RepliesAgree, AnswersAgree, AnswersAreRight};
 ghost use Rattle.agreement.specs.Promises.{LogsWereAsked, MessagesWereAsked, RepliesWereSent, OrdersWereSent};
 ghost use Rattle.agreement.specs.Promises.{replies_sent, orders_sent, all_sent, GrowsByStep, IsRightReply, IsOpenOrder};
@@ -50,6 +50,17 @@ pub fn agreement<M: Machine>()
     agreement::rising::<M::Cmd, M::Reply, M::Order>();
     agreement::replies_agree::<M>();
     agreement::lasting::<M::Cmd, M::Reply, M::Order>();
+}
+
+/// A site that ever sent a DOVIEWCHANGE runs in no view below it, whether or not it restarted since. Of the messages that a
+/// site collects, none's sender knew a later boot of another's sender than that one's message is of; nor of those by which
+/// a step opens a view or regains a state.
+pub fn binding<M: Machine>()
+    ensures bind { (f : ℕ) (list : LegalList M.Cmd M.Reply M.Order f) → VotesBind list.world }
+    ensures fresh { (f : ℕ) (list : LegalList M.Cmd M.Reply M.Order f) → CollectedAreFresh list.world }
+    ensures used { (f : ℕ) (list : LegalList M.Cmd M.Reply M.Order f) → UsedAreFresh list }
+{
+    agreement::binding::<M::Cmd, M::Reply, M::Order>();
 }
 
 /// Nothing is invented: each row of every log, and of every message that was ever sent, came by a REQUEST of that

@@ -6,12 +6,6 @@ pub mod laws;
 pub mod life;
 pub mod replica;
 mod serving;
-pub mod tally;
 mod waiting;
 
 pub use replica::Replica;
-
-#[cfg(test)]
-mod refused;
-#[cfg(test)]
-mod tests;

@@ -4,15 +4,14 @@ ghost use Rattle.vr_types.specs.declared.event.EventOf.{EventOf as AnyEvent};
 ghost use Rattle.vr_types.specs.Choice.{Choice, IsRight};
 ghost use Rattle.vr_types.specs.Handling.{machine_of};
 ghost use Rattle.vr_types.specs.Cell.{HasRisen};
-ghost use Rattle.vr_types.specs.Site.{Ack, is_down, is_running, over};
+ghost use Rattle.vr_types.specs.Site.{Ack, boot_of, is_down, is_running, no_boots, over};
 ghost use Rattle.vr_types.specs.Group.{is_mine as is_addressed};
 ghost use Rattle.vr_log.specs.declared.running.Running.{Running as AnyRunning};
 ghost use Rattle.vr_log.specs.Running.{IsSound, IsRunning, SumUp, site_of};
-ghost use Rattle.vr_recover.specs.declared.recovering.ResponseOf.{ResponseOf};
+ghost use Rattle.vr_recover.specs.declared.recovering.RecoveringOf.{RecoveringOf};
 ghost use Rattle.vr_recover.specs.Progress.{IsSoundProgress};
-ghost use Rattle.vr_recover.specs.Recovering.{responses_of, IsOneEach};
-ghost use Rattle.vr_site.specs.Life.{resting, volatile_of};
-ghost use Rattle.vr_site.specs.Saving.{IsOneSave, IsSavedAtMostOnce};
+ghost use Rattle.vr_recover.specs.Recovering.{IsSoundRecovering};
+ghost use Rattle.vr_site.specs.Life.{lost, awaiting, volatile_of};
 
 use crate::addressing::is_mine;
 use crate::life::Life;
@@ -23,10 +22,10 @@ use std::marker::Model;
 use std::mem;
 use vr_log::Running;
 use vr_log::send::{dropped, silent};
-use vr_recover::{Progress, Recovering, RecoveringOf, ask_all, regain};
+use vr_recover::{Progress, Recovering, ask_all, regain, restarted};
 use vr_types::{
-    Boot, BootCell, Config, Envelope, Event, EventOf, Machine, Outcome, Row, RowsOf, SiteFault,
-    StateOf, Status, Why,
+    Boot, BootCell, Config, Envelope, Event, EventOf, Known, Machine, Outcome, Row, RowsOf,
+    SiteFault, StateOf, Status, Why,
 };
 
 /// One site of a replicated machine, over a cell that outlives its crashes.
@@ -47,7 +46,7 @@ impl<M: Machine, C: BootCell> Model for Replica<M, C> {
 
     ghost view = { λ a. shown a.config.f a.config.me a.setup a.cell a.life };
 
-    ghost invariant = { λ a. M.admits a.setup × IsWell M.Machine (M.start a.setup) a.config.f (C.held a.cell) a.life };
+    ghost invariant = { λ a. M.admits a.setup × IsWell M.Machine (M.start a.setup) a.config.f a.life };
 }
 
 impl<M: Machine, C: BootCell> Replica<M, C> {
@@ -62,10 +61,9 @@ impl<M: Machine, C: BootCell> Replica<M, C> {
         requires { M.admits setup }
         ensures parts { IfOk result (λ site. (site.f ≡ config.f) × (site.me ≡ config.me) × (site.setup ≡ setup) × (site.cell ≡ cell)) }
         ensures acked { IfOk result (λ site. SumUp site.volatile.acked []) }
-        ensures site { IfOk result (λ site. site_shown C.held site [] ≡ opening_site (C.held cell)) }
+        ensures site { IfOk result (λ site. site_shown C.held site [] ≡ opening_site config.f (C.held cell)) }
     {
-        let boot = cell.load();
-        if boot.boots != 0 || boot.view != 0 {
+        if !cell.load().is_new() {
             return Ok(Replica {
                 config,
                 setup,
@@ -83,12 +81,12 @@ impl<M: Machine, C: BootCell> Replica<M, C> {
     }
 
     /// Handles an event: takes the site's step, and answers the envelopes that it sends, in order, or why the event is
-    /// dropped. What is sent in a view was saved before.
+    /// dropped. The nonce of a RECOVERY was saved before.
     ///
     /// `NotUp`, `AlreadyUp`, `ViewsSpent`, `BootsSpent` and `NotMine` are answered exactly where the site refuses the
     /// event, which then changes nothing. `NoMemory` and `CellFault` leave the site down with nothing sent; the cell
-    /// holds the old value, or the one that the event saves. It is saved at most once, and only with a value that it
-    /// does not hold. A crash, and an event that is dropped, take no memory.
+    /// holds the old value, or the one that the event saves. A restart alone saves, once; after any other event the cell
+    /// is as it was. A crash, and an event that is dropped, take no memory.
     pub fn handle(&mut self, alloc: Global, event: Event<M>) -> Result<Outcome<M>, SiteFault>
         // The step, the refusals and the falls.
         ensures handles { Handles M.Machine C.BootCell self.old self.new event result }
@@ -96,13 +94,16 @@ impl<M: Machine, C: BootCell> Replica<M, C> {
         ensures crash { event ≡ AnyEvent.Crash → self.old.volatile.status ≢ Status.Down → IsOk result }
         ensures dropped { (choose : Choice M.Cmd) (acks : List Ack) (why : Why) → IsRight self.old.f choose → SumUp self.old.volatile.acked acks →
             (site_step choose self.old.f self.old.me (site_shown C.held self.old acks) event).ending ≡ Dropped why → IsOk result }
-        // What is sent in a view was saved before.
+        // A restart alone saves.
+        ensures only_restart { event ≢ AnyEvent.Restart → self.new.cell ≡ self.old.cell }
+        // The nonce of a RECOVERY was saved before.
         ensures saved_first { IfOk result (λ out. All (λ envelope. IsSavedFor (C.held self.new.cell) envelope.msg) out.sent.items) }
-        // A cell's fault has a cause.
+        // A cell's fault has a cause, and a save that failed is told.
         ensures cause { IsErrOf result SiteFault.CellFault → HasRisen (C.faults self.old.cell) (C.faults self.new.cell) }
+        ensures counted { result ≢ Err SiteFault.CellFault → C.faults self.new.cell ≡ C.faults self.old.cell }
         ensures reliable { C.is_reliable self.old.cell → C.is_reliable self.new.cell × (result ≢ Err SiteFault.CellFault) }
     {
-        // What the site shows is of a sound life, over a cell that holds its view.
+        // What the site shows is of a sound life.
         let _ = &self.config;
         match event {
             EventOf::Deliver(envelope) => self.deliver(alloc, envelope),
@@ -116,8 +117,8 @@ impl<M: Machine, C: BootCell> Replica<M, C> {
     /// Takes a message.
     fn deliver(&mut self, alloc: Global, envelope: Envelope<M>) -> Result<Outcome<M>, SiteFault>
         ensures handles { Handles M.Machine C.BootCell self.old self.new (EventOf.Deliver envelope) result }
-        ensures cause { IsErrOf result SiteFault.CellFault → HasRisen (C.faults self.old.cell) (C.faults self.new.cell) }
-        ensures reliable { C.is_reliable self.old.cell → C.is_reliable self.new.cell × (result ≢ Err SiteFault.CellFault) }
+        ensures cell { self.new.cell ≡ self.old.cell }
+        ensures no_cell_fault { result ≢ Err SiteFault.CellFault }
     {
         if !is_mine(self.config, &envelope) {
             return Err(self.turned_away());
@@ -146,12 +147,12 @@ impl<M: Machine, C: BootCell> Replica<M, C> {
         mut running: Running<M>,
         envelope: Envelope<M>,
     ) -> Result<Outcome<M>, SiteFault>
-        requires down { self.old.volatile ≡ resting Status.Down [] }
-        requires well { IsSound M.Machine (M.start self.old.setup) self.old.f running × (running.view ≡ (C.held self.old.cell).view) }
+        requires down { self.old.volatile ≡ lost }
+        requires sound { IsSound M.Machine (M.start self.old.setup) self.old.f running }
         requires mine { is_addressed self.old.f self.old.me envelope ≡ true }
         ensures handles { Handles M.Machine C.BootCell (record self.old { volatile = volatile_of (Life.Up running) }) self.new (EventOf.Deliver envelope) result }
-        ensures cause { IsErrOf result SiteFault.CellFault → HasRisen (C.faults self.old.cell) (C.faults self.new.cell) }
-        ensures reliable { C.is_reliable self.old.cell → C.is_reliable self.new.cell × (result ≢ Err SiteFault.CellFault) }
+        ensures cell { self.new.cell ≡ self.old.cell }
+        ensures no_cell_fault { result ≢ Err SiteFault.CellFault }
     {
         let done = serving::serve(
             alloc,
@@ -170,13 +171,13 @@ impl<M: Machine, C: BootCell> Replica<M, C> {
         mut recovering: Recovering<M>,
         envelope: Envelope<M>,
     ) -> Result<Outcome<M>, SiteFault>
-        requires down { self.old.volatile ≡ resting Status.Down [] }
-        requires one_each { IsOneEach recovering.responses.items }
+        requires down { self.old.volatile ≡ lost }
+        requires sound { IsSoundRecovering self.old.f recovering }
         requires admits { M.admits self.old.setup }
         requires mine { is_addressed self.old.f self.old.me envelope ≡ true }
-        ensures handles { Handles M.Machine C.BootCell (record self.old { volatile = resting Status.Recovering (responses_of recovering.responses.items) }) self.new (EventOf.Deliver envelope) result }
-        ensures cause { IsErrOf result SiteFault.CellFault → HasRisen (C.faults self.old.cell) (C.faults self.new.cell) }
-        ensures reliable { C.is_reliable self.old.cell → C.is_reliable self.new.cell × (result ≢ Err SiteFault.CellFault) }
+        ensures handles { Handles M.Machine C.BootCell (record self.old { volatile = awaiting recovering }) self.new (EventOf.Deliver envelope) result }
+        ensures cell { self.new.cell ≡ self.old.cell }
+        ensures no_cell_fault { result ≢ Err SiteFault.CellFault }
     {
         let boot = self.cell.load();
         let progress = await_state(
@@ -194,8 +195,8 @@ impl<M: Machine, C: BootCell> Replica<M, C> {
     /// The site changes to the next view.
     fn timer(&mut self, alloc: Global) -> Result<Outcome<M>, SiteFault>
         ensures handles { Handles M.Machine C.BootCell self.old self.new EventOf.Timer result }
-        ensures cause { IsErrOf result SiteFault.CellFault → HasRisen (C.faults self.old.cell) (C.faults self.new.cell) }
-        ensures reliable { C.is_reliable self.old.cell → C.is_reliable self.new.cell × (result ≢ Err SiteFault.CellFault) }
+        ensures cell { self.new.cell ≡ self.old.cell }
+        ensures no_cell_fault { result ≢ Err SiteFault.CellFault }
     {
         match mem::replace(&mut self.life, Life::Down) {
             Life::Down => Err(SiteFault::NotUp),
@@ -216,8 +217,8 @@ impl<M: Machine, C: BootCell> Replica<M, C> {
     /// Says again what may have been lost.
     fn beat(&mut self, alloc: Global) -> Result<Outcome<M>, SiteFault>
         ensures handles { Handles M.Machine C.BootCell self.old self.new EventOf.Beat result }
-        ensures cause { IsErrOf result SiteFault.CellFault → HasRisen (C.faults self.old.cell) (C.faults self.new.cell) }
-        ensures reliable { C.is_reliable self.old.cell → C.is_reliable self.new.cell × (result ≢ Err SiteFault.CellFault) }
+        ensures cell { self.new.cell ≡ self.old.cell }
+        ensures no_cell_fault { result ≢ Err SiteFault.CellFault }
     {
         match mem::replace(&mut self.life, Life::Down) {
             Life::Down => Err(SiteFault::NotUp),
@@ -253,51 +254,45 @@ impl<M: Machine, C: BootCell> Replica<M, C> {
     fn restart(&mut self, alloc: Global) -> Result<Outcome<M>, SiteFault>
         ensures handles { Handles M.Machine C.BootCell self.old self.new EventOf.Restart result }
         ensures cause { IsErrOf result SiteFault.CellFault → HasRisen (C.faults self.old.cell) (C.faults self.new.cell) }
+        ensures counted { result ≢ Err SiteFault.CellFault → C.faults self.new.cell ≡ C.faults self.old.cell }
         ensures reliable { C.is_reliable self.old.cell → C.is_reliable self.new.cell × (result ≢ Err SiteFault.CellFault) }
     {
         match &self.life {
             Life::Down => {}
             _ => return Err(SiteFault::AlreadyUp),
         }
-        let boot = self.cell.load();
-        if boot.boots == u32::MAX {
+        let Some(boot) = self.cell.load().raised() else {
             return Err(SiteFault::BootsSpent);
-        }
-        let boots = boot.boots + 1;
-        save(
-            &mut self.cell,
-            Boot {
-                boots,
-                view: boot.view,
-            },
-        )?;
-        let Ok(out) = ask_all(alloc, self.config, boots) else {
+        };
+        save(&mut self.cell, boot)?;
+        let Ok(recovering) = restarted(alloc, self.config, boot) else {
             return Err(SiteFault::NoMemory);
         };
-        self.life = Life::Recovering(RecoveringOf {
-            responses: Vec::new(alloc),
-        });
+        let Ok(out) = ask_all(alloc, self.config, boot.boots) else {
+            return Err(SiteFault::NoMemory);
+        };
+        self.life = Life::Recovering(recovering);
         Ok(out)
     }
 
-    /// What runs goes on after what was done, with its view saved where the cell holds another.
+    /// What runs goes on after what was done.
     fn finish(
         &mut self,
         running: Running<M>,
         done: Result<Outcome<M>, AllocError>,
     ) -> Result<Outcome<M>, SiteFault>
-        requires down { self.old.volatile ≡ resting Status.Down [] }
+        requires down { self.old.volatile ≡ lost }
         requires sound { OnOk done (IsSound M.Machine (M.start self.old.setup) self.old.f running) }
         ensures handles { (before : AnyRunning M M.Cmd M.Reply M.Order M.Setup) (event : AnyEvent M.Cmd M.Reply M.Order) →
             Serves M.Machine (M.start self.old.setup) self.old.f self.old.me (C.held self.old.cell) before running done event →
             Handles M.Machine C.BootCell (record self.old { volatile = volatile_of (Life.Up before) }) self.new event result }
-        ensures cause { IsErrOf result SiteFault.CellFault → HasRisen (C.faults self.old.cell) (C.faults self.new.cell) }
-        ensures reliable { C.is_reliable self.old.cell → C.is_reliable self.new.cell × (result ≢ Err SiteFault.CellFault) }
+        ensures cell { self.new.cell ≡ self.old.cell }
+        ensures no_cell_fault { result ≢ Err SiteFault.CellFault }
     {
         let Ok(out) = done else {
             return Err(SiteFault::NoMemory);
         };
-        self.go_on(running)?;
+        self.life = Life::Up(running);
         Ok(out)
     }
 
@@ -308,13 +303,13 @@ impl<M: Machine, C: BootCell> Replica<M, C> {
         recovering: Recovering<M>,
         progress: Result<Progress<M>, AllocError>,
     ) -> Result<Outcome<M>, SiteFault>
-        requires down { self.old.volatile ≡ resting Status.Down [] }
-        requires sound { IfOk progress (λ progress. IsSoundProgress M.Machine (M.start self.old.setup) self.old.f recovering.responses.items progress) }
-        ensures handles { (before : List (ResponseOf M.Cmd)) (event : AnyEvent M.Cmd M.Reply M.Order) →
-            Awaits self.old.f self.old.me (C.held self.old.cell) before recovering.responses.items progress event →
-            Handles M.Machine C.BootCell (record self.old { volatile = resting Status.Recovering (responses_of before) }) self.new event result }
-        ensures cause { IsErrOf result SiteFault.CellFault → HasRisen (C.faults self.old.cell) (C.faults self.new.cell) }
-        ensures reliable { C.is_reliable self.old.cell → C.is_reliable self.new.cell × (result ≢ Err SiteFault.CellFault) }
+        requires down { self.old.volatile ≡ lost }
+        requires sound { IfOk progress (λ progress. IsSoundProgress M.Machine (M.start self.old.setup) self.old.f recovering progress) }
+        ensures handles { (before : RecoveringOf M.Cmd) (event : AnyEvent M.Cmd M.Reply M.Order) →
+            Awaits self.old.f self.old.me (C.held self.old.cell) before recovering progress event →
+            Handles M.Machine C.BootCell (record self.old { volatile = awaiting before }) self.new event result }
+        ensures cell { self.new.cell ≡ self.old.cell }
+        ensures no_cell_fault { result ≢ Err SiteFault.CellFault }
     {
         let Ok(progress) = progress else {
             return Err(SiteFault::NoMemory);
@@ -329,40 +324,10 @@ impl<M: Machine, C: BootCell> Replica<M, C> {
                 Ok(silent(alloc))
             }
             Progress::Regained(running) => {
-                self.go_on(running)?;
+                self.life = Life::Up(running);
                 Ok(silent(alloc))
             }
         }
-    }
-
-    /// Runs on, with the view saved where the cell holds another. A fault leaves the site down.
-    fn go_on(&mut self, running: Running<M>) -> Result<(), SiteFault>
-        requires { IsSound M.Machine (M.start self.old.setup) self.old.f running }
-        ensures config { (self.new.f ≡ self.old.f) × (self.new.me ≡ self.old.me) × (self.new.setup ≡ self.old.setup) }
-        ensures up { OnOk result (self.new.volatile ≡ volatile_of (Life.Up running)) }
-        ensures saved { OnOk result (C.held self.new.cell ≡ record { boots = (C.held self.old.cell).boots; view = running.view }) }
-        ensures once { OnOk result (IsSavedAtMostOnce C.BootCell self.old.cell (record { boots = (C.held self.old.cell).boots; view = running.view }) self.new.cell) }
-        ensures down { OnErr result (self.new.volatile ≡ resting Status.Down []) }
-        ensures fault { IfErr result (λ fault. fault ≡ SiteFault.CellFault) }
-        ensures cell { OnErr result ((C.held self.new.cell ≡ C.held self.old.cell) ⊎ (C.held self.new.cell ≡ record { boots = (C.held self.old.cell).boots; view = running.view })) }
-        ensures other { OnErr result (running.view ≢ (C.held self.old.cell).view) }
-        ensures failed { OnErr result (IsOneSave C.BootCell self.old.cell (record { boots = (C.held self.old.cell).boots; view = running.view }) self.new.cell) }
-        ensures cause { OnErr result (HasRisen (C.faults self.old.cell) (C.faults self.new.cell)) }
-        ensures reliable { C.is_reliable self.old.cell → C.is_reliable self.new.cell × IsOk result }
-    {
-        self.life = Life::Down;
-        let boot = self.cell.load();
-        if running.view != boot.view {
-            save(
-                &mut self.cell,
-                Boot {
-                    boots: boot.boots,
-                    view: running.view,
-                },
-            )?;
-        }
-        self.life = Life::Up(running);
-        Ok(())
     }
 
     /// What the site is doing.
@@ -428,6 +393,17 @@ impl<M: Machine, C: BootCell> Replica<M, C> {
         }
     }
 
+    /// The greatest boot number of a site that this one has heard of, 0 where it has heard of none.
+    pub fn known(&self, site: u16) -> u32
+        ensures { result ≡ boot_of self.now.volatile.known site }
+    {
+        match &self.life {
+            Life::Down => 0,
+            Life::Recovering(recovering) => recovering.known.get(site),
+            Life::Up(running) => running.known.get(site),
+        }
+    }
+
     /// What the boot cell holds.
     pub fn boot(&self) -> Boot
         ensures { result ≡ C.held self.now.cell }
@@ -443,6 +419,7 @@ fn save<C: BootCell>(cell: &mut C, boot: Boot) -> Result<(), SiteFault>
     ensures saves { C.saves cell.old boot cell.new }
     ensures fault { IfErr result (λ fault. fault ≡ SiteFault.CellFault) }
     ensures cause { OnErr result (HasRisen (C.faults cell.old) (C.faults cell.new)) }
+    ensures count { OnOk result (C.faults cell.new ≡ C.faults cell.old) }
     ensures reliable { C.is_reliable cell.old → IsOk result × C.is_reliable cell.new }
 {
     match cell.save(boot) {
@@ -459,12 +436,13 @@ fn first<M: Machine>(
 ) -> Result<Running<M>, AllocError>
     requires { M.admits setup.now }
     ensures sound { IfOk result (λ running. IsRunning M.Machine (M.start setup.now) config.f running []) }
-    ensures site { IfOk result (λ running. (cell : Boot) → site_of running [] cell ≡ over cell Status.Normal) }
+    ensures site { IfOk result (λ running. (cell : Boot) → site_of running [] cell ≡ record (over cell Status.Normal) { known = no_boots config.f }) }
 {
     let empty = StateOf {
         done: 0,
         rows: RowsOf::new(alloc),
     };
-    let running = regain(alloc, config, setup, 0, empty)?;
+    let known = Known::of_none(alloc, config.f)?;
+    let running = regain(alloc, config, setup, 0, empty, known)?;
     Ok(running)
 }

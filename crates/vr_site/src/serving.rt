@@ -10,7 +10,7 @@ ghost use Rattle.vr_log.specs.Running.{IsSound, IsRunning, Follows, site_of};
 use crate::addressing::site_number;
 use std::alloc::{AllocError, Global};
 use vr_log::send::{changes_view, dropped, silent};
-use vr_log::{Running, VoteOf};
+use vr_log::{Running, StartOf, VoteOf};
 use vr_types::{Config, Machine, Msg, MsgOf, Outcome, RowOf, Why};
 
 /// What a running site does with a message, of an actor that may send it. A log that comes is moved on, not copied.
@@ -23,6 +23,7 @@ pub(crate) fn serve<M: Machine>(
 ) -> Result<Outcome<M>, AllocError>
     requires ready { IsReady M.Machine running.old.kept }
     requires sites { length running.old.acked.items ≡ 2 * config.f + 1 }
+    requires known { length running.old.known ≡ 2 * config.f + 1 }
     requires may_come { may_send config.f config.me from msg ≡ true }
     ensures sound { OnOk result ((start : M) → IsSound M.Machine start config.f running.old → IsSound M.Machine start config.f running.new) }
     ensures step { (choose : Choice M.Cmd) (start : M) (acks : List Ack) (cell : Boot) → IsRight config.f choose → IsRunning M.Machine start config.f running.old acks →
@@ -48,20 +49,23 @@ pub(crate) fn serve<M: Machine>(
             vr_normal::prepare_ok(alloc, config, running, site, view, place)
         }
         MsgOf::Commit { view, done } => vr_normal::commit(alloc, config, running, site, view, done),
-        MsgOf::StartViewChange { view } => {
-            vr_change::start_view_change(alloc, config, running, site, view)
+        MsgOf::StartViewChange { view, known } => {
+            let start = StartOf { from: site, known };
+            vr_change::start_view_change(alloc, config, running, view, start)
         }
         MsgOf::DoViewChange {
             view,
             last_normal,
             done,
             rows,
+            known,
         } => {
             let vote = VoteOf {
                 from: site,
                 last_normal,
                 done,
                 log: rows,
+                known,
             };
             vr_change::do_view_change(alloc, config, running, view, vote)
         }

@@ -4,7 +4,7 @@ ghost use Rattle.vr_types.specs.Group.{may_send, primary};
 ghost use Rattle.vr_types.specs.Handling.{on_message};
 ghost use Rattle.vr_types.specs.Site.{Ack};
 ghost use Rattle.vr_recover.specs.Progress.{FollowsProgress, IsSoundProgress};
-ghost use Rattle.vr_recover.specs.Recovering.{IsOneEach, recovering_site};
+ghost use Rattle.vr_recover.specs.Recovering.{IsSoundRecovering, recovering_site};
 
 use crate::addressing::site_number;
 use std::alloc::{AllocError, Global};
@@ -24,20 +24,26 @@ pub(crate) fn await_state<M: Machine>(
     msg: Msg<M>,
 ) -> Result<Progress<M>, AllocError>
     requires setup { M.admits setup.now }
-    requires one_each { IsOneEach recovering.old.responses.items }
+    requires sound { IsSoundRecovering config.f recovering.old }
     requires may_come { may_send config.f config.me from msg ≡ true }
-    ensures sound { IfOk result (λ progress. IsSoundProgress M.Machine (M.start setup.now) config.f recovering.new.responses.items progress) }
+    ensures sound { IfOk result (λ progress. IsSoundProgress M.Machine (M.start setup.now) config.f recovering.new progress) }
     ensures step { (choose : Choice M.Cmd) (acks : List Ack) → IsRight config.f choose →
-        FollowsProgress recovering.new.responses.items acks boot result
-        (on_message choose config.f config.me (recovering_site recovering.old.responses.items acks boot) from msg) }
+        FollowsProgress recovering.new acks boot result
+        (on_message choose config.f config.me (recovering_site recovering.old acks boot) from msg) }
 {
     let site = site_number(from);
     match msg {
-        MsgOf::RecoveryResponse { view, nonce, state } => {
+        MsgOf::RecoveryResponse {
+            view,
+            nonce,
+            state,
+            known,
+        } => {
             let response = ResponseOf {
                 from: site,
                 view,
                 state,
+                known,
             };
             take_response(alloc, config, setup, boot, recovering, nonce, response)
         }

@@ -5,6 +5,7 @@ pub mod ChoosingRight
 pub mod ChoosingState
 mod Runs
 pub mod Saving
+pub mod Vectors
 mod WorkedRuns
 mod WorkedSteps
 mod WrongRule

@@ -1,16 +1,15 @@
 -- Three sites that replicate a tally, the post between them and a node that asks: enough of a world to compute runs with the site step.
-use Rattle.std.proofs.Common.{ℕ, zero, suc, ◌+◌, ◌-◌, ◌==◌, ◌||◌, Bool, true, false, nat_le, List, [], ◌∷◌, ◌++◌, map, fold, length, slice_get, slice_set, Option, Some, None, if◌then◌else◌}
-use Rattle.std.specs.List.{list_any}
+use Rattle.std.proofs.Common.{ℕ, zero, suc, ◌+◌, ◌-◌, ◌==◌, ◌&&◌, ◌||◌, Bool, true, false, nat_le, List, [], ◌∷◌, ◌++◌, map, fold, length, slice_get, slice_set, Option, Some, None, if◌then◌else◌}
+use Rattle.std.specs.List.{list_any, last_or, filter}
 use Rattle.vr_types.specs.declared.event.EventOf.{EventOf}
 use Rattle.vr_types.specs.declared.event.EventOf.TheVariants as event
 use Rattle.vr_types.specs.declared.event.Status.{Status}
 use Rattle.vr_types.specs.declared.machine.Machine.{Ghosts}
 use Rattle.vr_types.specs.declared.message.EnvelopeOf.{EnvelopeOf}
 use Rattle.vr_types.specs.declared.message.MsgOf.{MsgOf}
-use Rattle.vr_types.specs.declared.message.MsgOf.TheVariants.{Request, Reply}
+use Rattle.vr_types.specs.declared.message.MsgOf.TheVariants.{Request, Prepare, PrepareOk, Commit, StartViewChange, DoViewChange, StartView, GetState, NewState, Recovery, RecoveryResponse, Reply, PayOrder}
 use Rattle.vr_types.specs.Group.{actor_of, sites}
 use Rattle.vr_types.specs.Site.{Site, opening_site}
-use Rattle.vr_types.specs.Choice.{Choice}
 use Rattle.vr_types.specs.Step.{Step, Ending, Handled}
 use Rattle.vr_types.specs.Handling.{site_step, machine_of, envelopes}
 use Rattle.vr_types.proofs.Choosing.{choice_of}
@@ -68,8 +67,8 @@ abbrev pub sent : ℕ → Step Ask ℕ ℕ → List Mail
 sent me s = envelopes tally fresh_tally me s
 
 -- a site over a new cell
-abbrev pub fresh : Site Ask
-fresh = opening_site (record { boots = 0; view = 0 })
+abbrev pub fresh : ℕ → Site Ask
+fresh f = opening_site f (record { boots = 0 })
 
 -- one that asks: its requests in order, and how many are answered
 pub record Asker : Type 0 where
@@ -87,6 +86,8 @@ pub record World : Type 0 where
 -- what may be done with it; envelopes are numbered from 1
 pub data Line : Type 0 where
   PayIn Drain Deliver Beat Timer Crash Restart Cut Heal : ℕ → Line
+  To : ℕ → ℕ → ℕ → Line  -- the newest envelope of this kind from a site to a site is delivered
+  Asks : ℕ → ℕ → Line  -- a request of this number reaches a site
   BeatAsker : Line
 
 -- the client that asks
@@ -95,7 +96,7 @@ asker_number = 102
 
 abbrev pub opening : ℕ → World
 opening f = record {
-  sites = map (λ i. fresh) (sites f);
+  sites = map (λ i. fresh f) (sites f);
   asker = record { requests = []; answered = 0 };
   post = [];
   cursor = 0;
@@ -108,7 +109,28 @@ abbrev pub asks : ℕ → ℕ → Option Ask → List Mail
 asks f number None = []
 asks f number (Some ask) = map (λ i. record { from = asker_number; to = actor_of i; msg = Request number ask }) (sites f)
 
-module _ (choose : Choice Ask) (f : ℕ) where
+-- the kinds of messages, by their numbers on the wire
+abbrev pub kind_of : Message → ℕ
+kind_of (Request number cmd) = 1
+kind_of (Prepare view place done row) = 2
+kind_of (PrepareOk view place) = 3
+kind_of (Commit view done) = 4
+kind_of (StartViewChange view known) = 5
+kind_of (DoViewChange view last_normal done rows known) = 6
+kind_of (StartView view done rows) = 7
+kind_of (GetState view base) = 8
+kind_of (NewState view base done rows) = 9
+kind_of (Recovery nonce) = 10
+kind_of (RecoveryResponse view nonce state known) = 11
+kind_of (Reply view number reply) = 12
+kind_of (PayOrder order) = 13
+
+abbrev pub newest_of : ℕ → ℕ → ℕ → List Mail → Option Mail
+newest_of kind from to post =
+    last_or None (filter (λ e. (kind_of e.msg == kind) && ((e.from == actor_of from) && (e.to == actor_of to))) post)
+
+-- where a site of a number takes its step so
+module _ (step_of : ℕ → Site Ask → EventOf Ask ℕ ℕ → Step Ask ℕ ℕ) (f : ℕ) where
   abbrev pub sends : World → List Mail → World
   sends w mails = record w { post = w.post ++ mails }
 
@@ -131,7 +153,7 @@ module _ (choose : Choice Ask) (f : ℕ) where
 
   abbrev pub acts : World → ℕ → EventOf Ask ℕ ℕ → Option (Site Ask) → World
   acts w i e None = w
-  acts w i e (Some x) = after_step w i (site_step choose f i x e)
+  acts w i e (Some x) = after_step w i (step_of i x e)
 
   abbrev pub at_site : World → ℕ → EventOf Ask ℕ ℕ → World
   at_site w i e = acts w i e (slice_get w.sites i)
@@ -164,6 +186,8 @@ module _ (choose : Choice Ask) (f : ℕ) where
   does_line w (PayIn n) = pays_in w n
   does_line w (Drain n) = drains 200 n w
   does_line w (Deliver n) = delivers w (slice_get w.post (n - 1))
+  does_line w (Asks n i) = at_site w i (event.Deliver (record { from = asker_number; to = actor_of i; msg = Request n (Add n) }))
+  does_line w (To kind from to) = delivers w (newest_of kind from to w.post)
   does_line w (Beat i) = at_site w i event.Beat
   does_line w (Timer i) = at_site w i event.Timer
   does_line w (Crash i) = at_site w i event.Crash
@@ -177,7 +201,7 @@ module _ (choose : Choice Ask) (f : ℕ) where
 
 -- what the lines lead to, where the choices are made by loops
 abbrev pub run : ℕ → World → List Line → World
-run f w lines = run_with (choice_of same_ask f) f w lines
+run f w lines = run_with (step f) f w lines
 
 -- what is printed of a site
 pub record Shown : Type 0 where
@@ -186,7 +210,7 @@ pub record Shown : Type 0 where
   pub rows : ℕ
   pub done : ℕ
   pub boots : ℕ
-  pub saved : ℕ
+  pub known : List ℕ
   pub total : ℕ
 
 abbrev pub shown : Site Ask → Shown
@@ -196,7 +220,7 @@ shown x = record {
   rows = length x.log;
   done = x.done;
   boots = x.cell.boots;
-  saved = x.cell.view;
+  known = x.known;
   total = (machine_of tally fresh_tally x).total;
 }
 

@@ -23,13 +23,13 @@ paid_in = record { client = 102; number = 1; cmd = Add 1200 }
 
 -- a request in normal operation, one message at a time
 abbrev requested : Step Ask ℕ ℕ
-requested = takes 1 0 fresh 102 (Request 1 (Add 1200))
+requested = takes 1 0 (fresh 1) 102 (Request 1 (Add 1200))
 
 requested_sends : sent 0 requested ≡ record { from = 200; to = 201; msg = Prepare 0 1 0 paid_in } ∷ record { from = 200; to = 202; msg = Prepare 0 1 0 paid_in } ∷ []
 unfolding on_request on_prepare on_prepare_ok on_commit beats_normal on_start_view_change on_do_view_change on_start_view on_timer beats_in_change on_get_state on_new_state on_recovery on_recovery_response beats_recovering on_restart
 requested_sends = refl
 
-prepared_sends : sent 1 (takes 1 1 fresh 200 (Prepare 0 1 0 paid_in)) ≡ record { from = 201; to = 200; msg = PrepareOk 0 1 } ∷ []
+prepared_sends : sent 1 (takes 1 1 (fresh 1) 200 (Prepare 0 1 0 paid_in)) ≡ record { from = 201; to = 200; msg = PrepareOk 0 1 } ∷ []
 unfolding on_request on_prepare on_prepare_ok on_commit beats_normal on_start_view_change on_do_view_change on_start_view on_timer beats_in_change on_get_state on_new_state on_recovery on_recovery_response beats_recovering on_restart
 prepared_sends = refl
 
@@ -63,20 +63,20 @@ requested_again_sends : sent 0 (takes 1 0 acknowledged_again.site 102 (Request 1
 unfolding on_request on_prepare on_prepare_ok on_commit beats_normal on_start_view_change on_do_view_change on_start_view on_timer beats_in_change on_get_state on_new_state on_recovery on_recovery_response beats_recovering on_restart
 requested_again_sends = refl
 
-request_at_backup : takes 1 1 fresh 102 (Request 1 (Add 1200)) ≡ drops fresh NotPrimary
+request_at_backup : takes 1 1 (fresh 1) 102 (Request 1 (Add 1200)) ≡ drops (fresh 1) NotPrimary
 unfolding on_request on_prepare on_prepare_ok on_commit beats_normal on_start_view_change on_do_view_change on_start_view on_timer beats_in_change on_get_state on_new_state on_recovery on_recovery_response beats_recovering on_restart
 request_at_backup = refl
 
 -- a row is missing; a request has number 0, or is not the client's newest, or is not executed yet, or comes from a site
-missing_row_sends : sent 1 (takes 1 1 fresh 200 (Prepare 0 3 0 paid_in)) ≡ record { from = 201; to = 200; msg = GetState 0 0 } ∷ []
+missing_row_sends : sent 1 (takes 1 1 (fresh 1) 200 (Prepare 0 3 0 paid_in)) ≡ record { from = 201; to = 200; msg = GetState 0 0 } ∷ []
 unfolding on_request on_prepare on_prepare_ok on_commit beats_normal on_start_view_change on_do_view_change on_start_view on_timer beats_in_change on_get_state on_new_state on_recovery on_recovery_response beats_recovering on_restart
 missing_row_sends = refl
 
-missing_row_changes_nothing : (takes 1 1 fresh 200 (Prepare 0 3 0 paid_in)).site ≡ fresh
+missing_row_changes_nothing : (takes 1 1 (fresh 1) 200 (Prepare 0 3 0 paid_in)).site ≡ fresh 1
 unfolding on_request on_prepare on_prepare_ok on_commit beats_normal on_start_view_change on_do_view_change on_start_view on_timer beats_in_change on_get_state on_new_state on_recovery on_recovery_response beats_recovering on_restart
 missing_row_changes_nothing = refl
 
-request_0 : takes 1 0 fresh 102 (Request 0 (Add 5)) ≡ drops fresh Known
+request_0 : takes 1 0 (fresh 1) 102 (Request 0 (Add 5)) ≡ drops (fresh 1) Known
 unfolding on_request on_prepare on_prepare_ok on_commit beats_normal on_start_view_change on_do_view_change on_start_view on_timer beats_in_change on_get_state on_new_state on_recovery on_recovery_response beats_recovering on_restart
 request_0 = refl
 
@@ -91,29 +91,29 @@ request_not_newest : takes 1 0 requested_more.site 102 (Request 1 (Add 1200)) �
 unfolding on_request on_prepare on_prepare_ok on_commit beats_normal on_start_view_change on_do_view_change on_start_view on_timer beats_in_change on_get_state on_new_state on_recovery on_recovery_response beats_recovering on_restart
 request_not_newest = refl
 
-request_of_site : takes 1 0 fresh 201 (Request 1 (Add 5)) ≡ refuses fresh NotMine
+request_of_site : takes 1 0 (fresh 1) 201 (Request 1 (Add 5)) ≡ refuses (fresh 1) NotMine
 unfolding on_request on_prepare on_prepare_ok on_commit beats_normal on_start_view_change on_do_view_change on_start_view on_timer beats_in_change on_get_state on_new_state on_recovery on_recovery_response beats_recovering on_restart
 request_of_site = refl
 
-reply_to_site : takes 1 0 fresh 201 (Reply 0 1 5) ≡ refuses fresh NotMine
+reply_to_site : takes 1 0 (fresh 1) 201 (Reply 0 1 5) ≡ refuses (fresh 1) NotMine
 unfolding on_request on_prepare on_prepare_ok on_commit beats_normal on_start_view_change on_do_view_change on_start_view on_timer beats_in_change on_get_state on_new_state on_recovery on_recovery_response beats_recovering on_restart
 reply_to_site = refl
 
-order_to_site : takes 1 0 fresh 201 (PayOrder 5) ≡ refuses fresh NotMine
+order_to_site : takes 1 0 (fresh 1) 201 (PayOrder 5) ≡ refuses (fresh 1) NotMine
 unfolding on_request on_prepare on_prepare_ok on_commit beats_normal on_start_view_change on_do_view_change on_start_view on_timer beats_in_change on_get_state on_new_state on_recovery on_recovery_response beats_recovering on_restart
 order_to_site = refl
 
-of_itself : takes 1 0 fresh 200 (Commit 0 0) ≡ refuses fresh NotMine
+of_itself : takes 1 0 (fresh 1) 200 (Commit 0 0) ≡ refuses (fresh 1) NotMine
 unfolding on_request on_prepare on_prepare_ok on_commit beats_normal on_start_view_change on_do_view_change on_start_view on_timer beats_in_change on_get_state on_new_state on_recovery on_recovery_response beats_recovering on_restart
 of_itself = refl
 
-of_no_site : takes 1 0 fresh 203 (PrepareOk 0 0) ≡ refuses fresh NotMine
+of_no_site : takes 1 0 (fresh 1) 203 (PrepareOk 0 0) ≡ refuses (fresh 1) NotMine
 unfolding on_request on_prepare on_prepare_ok on_commit beats_normal on_start_view_change on_do_view_change on_start_view on_timer beats_in_change on_get_state on_new_state on_recovery on_recovery_response beats_recovering on_restart
 of_no_site = refl
 
 -- of five sites two others must acknowledge a place: one twice is not enough, and no place beyond the log's end counts
 abbrev requested_of_five : Step Ask ℕ ℕ
-requested_of_five = takes 2 0 fresh 102 (Request 1 (Add 5))
+requested_of_five = takes 2 0 (fresh 1) 102 (Request 1 (Add 5))
 
 abbrev one_twice : Step Ask ℕ ℕ
 one_twice = takes 2 0 (takes 2 0 requested_of_five.site 203 (PrepareOk 0 1)).site 203 (PrepareOk 0 1)
@@ -126,60 +126,60 @@ another_executes : (takes 2 0 one_twice.site 201 (PrepareOk 0 7)).site.done ≡ 
 unfolding on_request on_prepare on_prepare_ok on_commit beats_normal on_start_view_change on_do_view_change on_start_view on_timer beats_in_change on_get_state on_new_state on_recovery on_recovery_response beats_recovering on_restart
 another_executes = refl
 
-beyond_the_end : (takes 1 0 (takes 1 0 fresh 201 (PrepareOk 0 9)).site 102 (Request 1 (Add 5))).site.done ≡ 0
+beyond_the_end : (takes 1 0 (takes 1 0 (fresh 1) 201 (PrepareOk 0 9)).site 102 (Request 1 (Add 5))).site.done ≡ 0
 unfolding on_request on_prepare on_prepare_ok on_commit beats_normal on_start_view_change on_do_view_change on_start_view on_timer beats_in_change on_get_state on_new_state on_recovery on_recovery_response beats_recovering on_restart
 beyond_the_end = refl
 
-beyond_the_end_later : (takes 1 0 (takes 1 0 (takes 1 0 fresh 201 (PrepareOk 0 9)).site 102 (Request 1 (Add 5))).site 202 (PrepareOk 0 0)).site.done ≡ 0
+beyond_the_end_later : (takes 1 0 (takes 1 0 (takes 1 0 (fresh 1) 201 (PrepareOk 0 9)).site 102 (Request 1 (Add 5))).site 202 (PrepareOk 0 0)).site.done ≡ 0
 unfolding on_request on_prepare on_prepare_ok on_commit beats_normal on_start_view_change on_do_view_change on_start_view on_timer beats_in_change on_get_state on_new_state on_recovery on_recovery_response beats_recovering on_restart
 beyond_the_end_later = refl
 
 -- a view change of three new sites
 abbrev timed : Step Ask ℕ ℕ
-timed = step 1 1 fresh Timer
+timed = step 1 1 (fresh 1) Timer
 
-timed_sends : sent 1 timed ≡ record { from = 201; to = 200; msg = StartViewChange 1 } ∷ record { from = 201; to = 202; msg = StartViewChange 1 } ∷ []
+timed_sends : sent 1 timed ≡ record { from = 201; to = 200; msg = StartViewChange 1 (0 ∷ 0 ∷ 0 ∷ []) } ∷ record { from = 201; to = 202; msg = StartViewChange 1 (0 ∷ 0 ∷ 0 ∷ []) } ∷ []
 unfolding on_request on_prepare on_prepare_ok on_commit beats_normal on_start_view_change on_do_view_change on_start_view on_timer beats_in_change on_get_state on_new_state on_recovery on_recovery_response beats_recovering on_restart
 timed_sends = refl
 
 abbrev started : Step Ask ℕ ℕ
-started = takes 1 0 fresh 201 (StartViewChange 1)
+started = takes 1 0 (fresh 1) 201 (StartViewChange 1 (0 ∷ 0 ∷ 0 ∷ []))
 
-started_sends : sent 0 started ≡ record { from = 200; to = 201; msg = StartViewChange 1 } ∷ record { from = 200; to = 202; msg = StartViewChange 1 } ∷ record { from = 200; to = 201; msg = DoViewChange 1 0 0 [] } ∷ []
+started_sends : sent 0 started ≡ record { from = 200; to = 201; msg = StartViewChange 1 (0 ∷ 0 ∷ 0 ∷ []) } ∷ record { from = 200; to = 202; msg = StartViewChange 1 (0 ∷ 0 ∷ 0 ∷ []) } ∷ record { from = 200; to = 201; msg = DoViewChange 1 0 0 [] (0 ∷ 0 ∷ 0 ∷ []) } ∷ []
 unfolding on_request on_prepare on_prepare_ok on_commit beats_normal on_start_view_change on_do_view_change on_start_view on_timer beats_in_change on_get_state on_new_state on_recovery on_recovery_response beats_recovering on_restart
 started_sends = refl
 
 abbrev start_first : Step Ask ℕ ℕ
-start_first = takes 1 1 timed.site 200 (StartViewChange 1)
+start_first = takes 1 1 timed.site 200 (StartViewChange 1 (0 ∷ 0 ∷ 0 ∷ []))
 
 start_first_sends : sent 1 start_first ≡ []
 unfolding on_request on_prepare on_prepare_ok on_commit beats_normal on_start_view_change on_do_view_change on_start_view on_timer beats_in_change on_get_state on_new_state on_recovery on_recovery_response beats_recovering on_restart
 start_first_sends = refl
 
-start_first_opens : sent 1 (takes 1 1 start_first.site 200 (DoViewChange 1 0 0 [])) ≡ record { from = 201; to = 200; msg = StartView 1 0 [] } ∷ record { from = 201; to = 202; msg = StartView 1 0 [] } ∷ []
+start_first_opens : sent 1 (takes 1 1 start_first.site 200 (DoViewChange 1 0 0 [] (0 ∷ 0 ∷ 0 ∷ []))) ≡ record { from = 201; to = 200; msg = StartView 1 0 [] } ∷ record { from = 201; to = 202; msg = StartView 1 0 [] } ∷ []
 unfolding on_request on_prepare on_prepare_ok on_commit beats_normal on_start_view_change on_do_view_change on_start_view on_timer beats_in_change on_get_state on_new_state on_recovery on_recovery_response beats_recovering on_restart
 start_first_opens = refl
 
 abbrev vote_first : Step Ask ℕ ℕ
-vote_first = takes 1 1 timed.site 200 (DoViewChange 1 0 0 [])
+vote_first = takes 1 1 timed.site 200 (DoViewChange 1 0 0 [] (0 ∷ 0 ∷ 0 ∷ []))
 
 vote_first_sends : sent 1 vote_first ≡ []
 unfolding on_request on_prepare on_prepare_ok on_commit beats_normal on_start_view_change on_do_view_change on_start_view on_timer beats_in_change on_get_state on_new_state on_recovery on_recovery_response beats_recovering on_restart
 vote_first_sends = refl
 
-vote_first_opens : sent 1 (takes 1 1 vote_first.site 200 (StartViewChange 1)) ≡ record { from = 201; to = 200; msg = StartView 1 0 [] } ∷ record { from = 201; to = 202; msg = StartView 1 0 [] } ∷ []
+vote_first_opens : sent 1 (takes 1 1 vote_first.site 200 (StartViewChange 1 (0 ∷ 0 ∷ 0 ∷ []))) ≡ record { from = 201; to = 200; msg = StartView 1 0 [] } ∷ record { from = 201; to = 202; msg = StartView 1 0 [] } ∷ []
 unfolding on_request on_prepare on_prepare_ok on_commit beats_normal on_start_view_change on_do_view_change on_start_view on_timer beats_in_change on_get_state on_new_state on_recovery on_recovery_response beats_recovering on_restart
 vote_first_opens = refl
 
-start_again_changes_nothing : (takes 1 1 start_first.site 200 (StartViewChange 1)).site ≡ start_first.site
+start_again_changes_nothing : (takes 1 1 start_first.site 200 (StartViewChange 1 (0 ∷ 0 ∷ 0 ∷ []))).site ≡ start_first.site
 unfolding on_request on_prepare on_prepare_ok on_commit beats_normal on_start_view_change on_do_view_change on_start_view on_timer beats_in_change on_get_state on_new_state on_recovery on_recovery_response beats_recovering on_restart
 start_again_changes_nothing = refl
 
-vote_again_changes_nothing : (takes 1 1 vote_first.site 200 (DoViewChange 1 7 7 (paid_in ∷ []))).site ≡ vote_first.site
+vote_again_changes_nothing : (takes 1 1 vote_first.site 200 (DoViewChange 1 7 7 (paid_in ∷ []) (0 ∷ 0 ∷ 0 ∷ []))).site ≡ vote_first.site
 unfolding on_request on_prepare on_prepare_ok on_commit beats_normal on_start_view_change on_do_view_change on_start_view on_timer beats_in_change on_get_state on_new_state on_recovery on_recovery_response beats_recovering on_restart
 vote_again_changes_nothing = refl
 
-beat_in_change_sends : sent 0 (step 1 0 started.site Beat) ≡ record { from = 200; to = 201; msg = StartViewChange 1 } ∷ record { from = 200; to = 202; msg = StartViewChange 1 } ∷ record { from = 200; to = 201; msg = DoViewChange 1 0 0 [] } ∷ []
+beat_in_change_sends : sent 0 (step 1 0 started.site Beat) ≡ record { from = 200; to = 201; msg = StartViewChange 1 (0 ∷ 0 ∷ 0 ∷ []) } ∷ record { from = 200; to = 202; msg = StartViewChange 1 (0 ∷ 0 ∷ 0 ∷ []) } ∷ record { from = 200; to = 201; msg = DoViewChange 1 0 0 [] (0 ∷ 0 ∷ 0 ∷ []) } ∷ []
 unfolding on_request on_prepare on_prepare_ok on_commit beats_normal on_start_view_change on_do_view_change on_start_view on_timer beats_in_change on_get_state on_new_state on_recovery on_recovery_response beats_recovering on_restart
 beat_in_change_sends = refl
 
@@ -188,7 +188,7 @@ abbrev second : RowOf Ask
 second = record { client = 102; number = 2; cmd = Add 7 }
 
 abbrev two_rows : Site Ask
-two_rows = (takes 1 1 (takes 1 1 fresh 200 (Prepare 0 1 0 paid_in)).site 200 (Prepare 0 2 0 second)).site
+two_rows = (takes 1 1 (takes 1 1 (fresh 1) 200 (Prepare 0 1 0 paid_in)).site 200 (Prepare 0 2 0 second)).site
 
 two_rows_are_there : two_rows.log ≡ paid_in ∷ second ∷ []
 unfolding on_request on_prepare on_prepare_ok on_commit beats_normal on_start_view_change on_do_view_change on_start_view on_timer beats_in_change on_get_state on_new_state on_recovery on_recovery_response beats_recovering on_restart
@@ -198,7 +198,7 @@ abbrev first_of_4 : RowOf Ask
 first_of_4 = record { client = 102; number = 1; cmd = Add 9 }
 
 abbrev opened : Step Ask ℕ ℕ
-opened = takes 1 1 (takes 1 1 two_rows 200 (StartViewChange 4)).site 200 (DoViewChange 4 3 1 (first_of_4 ∷ []))
+opened = takes 1 1 (takes 1 1 two_rows 200 (StartViewChange 4 (0 ∷ 0 ∷ 0 ∷ []))).site 200 (DoViewChange 4 3 1 (first_of_4 ∷ []) (0 ∷ 0 ∷ 0 ∷ []))
 
 opened_sends : sent 1 opened ≡ record { from = 201; to = 200; msg = StartView 4 1 (first_of_4 ∷ []) } ∷ record { from = 201; to = 202; msg = StartView 4 1 (first_of_4 ∷ []) } ∷ record { from = 201; to = 102; msg = Reply 4 1 9 } ∷ []
 unfolding on_request on_prepare on_prepare_ok on_commit beats_normal on_start_view_change on_do_view_change on_start_view on_timer beats_in_change on_get_state on_new_state on_recovery on_recovery_response beats_recovering on_restart
@@ -209,15 +209,15 @@ unfolding on_request on_prepare on_prepare_ok on_commit beats_normal on_start_vi
 opened_log = refl
 
 -- of equal last normal views the longer log is taken, and of equal logs the lowest site's, whoever came first
-longer_is_taken : (takes 1 1 (takes 1 1 two_rows 200 (StartViewChange 4)).site 200 (DoViewChange 4 0 0 (first_of_4 ∷ []))).site.log ≡ paid_in ∷ second ∷ []
+longer_is_taken : (takes 1 1 (takes 1 1 two_rows 200 (StartViewChange 4 (0 ∷ 0 ∷ 0 ∷ []))).site 200 (DoViewChange 4 0 0 (first_of_4 ∷ []) (0 ∷ 0 ∷ 0 ∷ []))).site.log ≡ paid_in ∷ second ∷ []
 unfolding on_request on_prepare on_prepare_ok on_commit beats_normal on_start_view_change on_do_view_change on_start_view on_timer beats_in_change on_get_state on_new_state on_recovery on_recovery_response beats_recovering on_restart
 longer_is_taken = refl
 
-lowest_is_taken : (takes 1 1 (takes 1 1 two_rows 200 (StartViewChange 4)).site 200 (DoViewChange 4 0 0 (first_of_4 ∷ second ∷ []))).site.log ≡ first_of_4 ∷ second ∷ []
+lowest_is_taken : (takes 1 1 (takes 1 1 two_rows 200 (StartViewChange 4 (0 ∷ 0 ∷ 0 ∷ []))).site 200 (DoViewChange 4 0 0 (first_of_4 ∷ second ∷ []) (0 ∷ 0 ∷ 0 ∷ []))).site.log ≡ first_of_4 ∷ second ∷ []
 unfolding on_request on_prepare on_prepare_ok on_commit beats_normal on_start_view_change on_do_view_change on_start_view on_timer beats_in_change on_get_state on_new_state on_recovery on_recovery_response beats_recovering on_restart
 lowest_is_taken = refl
 
-own_is_lowest : (takes 1 1 (takes 1 1 two_rows 202 (StartViewChange 4)).site 202 (DoViewChange 4 0 0 (first_of_4 ∷ second ∷ []))).site.log ≡ paid_in ∷ second ∷ []
+own_is_lowest : (takes 1 1 (takes 1 1 two_rows 202 (StartViewChange 4 (0 ∷ 0 ∷ 0 ∷ []))).site 202 (DoViewChange 4 0 0 (first_of_4 ∷ second ∷ []) (0 ∷ 0 ∷ 0 ∷ []))).site.log ≡ paid_in ∷ second ∷ []
 unfolding on_request on_prepare on_prepare_ok on_commit beats_normal on_start_view_change on_do_view_change on_start_view on_timer beats_in_change on_get_state on_new_state on_recovery on_recovery_response beats_recovering on_restart
 own_is_lowest = refl
 
@@ -226,9 +226,9 @@ abbrev executed_one : Site Ask
 executed_one = (takes 1 1 two_rows 200 (Commit 0 1)).site
 
 abbrev before_opening : Site Ask
-before_opening = (takes 1 1 executed_one 200 (StartViewChange 4)).site
+before_opening = (takes 1 1 executed_one 200 (StartViewChange 4 (0 ∷ 0 ∷ 0 ∷ []))).site
 
-stale_opening : takes 1 1 before_opening 200 (DoViewChange 4 3 1 (first_of_4 ∷ [])) ≡ drops before_opening Stale
+stale_opening : takes 1 1 before_opening 200 (DoViewChange 4 3 1 (first_of_4 ∷ []) (0 ∷ 0 ∷ 0 ∷ [])) ≡ drops before_opening Stale
 unfolding on_request on_prepare on_prepare_ok on_commit beats_normal on_start_view_change on_do_view_change on_start_view on_timer beats_in_change on_get_state on_new_state on_recovery on_recovery_response beats_recovering on_restart
 stale_opening = refl
 
@@ -257,22 +257,22 @@ third = record { client = 102; number = 3; cmd = Add 8 }
 abbrev fourth : RowOf Ask
 fourth = record { client = 102; number = 4; cmd = Total }
 
-lagging_sends : sent 2 (takes 1 2 fresh 201 (Prepare 1 4 3 fourth)) ≡ record { from = 202; to = 201; msg = GetState 1 0 } ∷ []
+lagging_sends : sent 2 (takes 1 2 (fresh 1) 201 (Prepare 1 4 3 fourth)) ≡ record { from = 202; to = 201; msg = GetState 1 0 } ∷ []
 unfolding on_request on_prepare on_prepare_ok on_commit beats_normal on_start_view_change on_do_view_change on_start_view on_timer beats_in_change on_get_state on_new_state on_recovery on_recovery_response beats_recovering on_restart
 lagging_sends = refl
 
-lagging_stays : (takes 1 2 fresh 201 (Prepare 1 4 3 fourth)).site ≡ fresh
+lagging_stays : (takes 1 2 (fresh 1) 201 (Prepare 1 4 3 fourth)).site ≡ fresh 1
 unfolding on_request on_prepare on_prepare_ok on_commit beats_normal on_start_view_change on_do_view_change on_start_view on_timer beats_in_change on_get_state on_new_state on_recovery on_recovery_response beats_recovering on_restart
 lagging_stays = refl
 
-gap_is_dropped : takes 1 2 fresh 201 (NewState 1 1 3 (second ∷ third ∷ fourth ∷ [])) ≡ drops fresh Stale
+gap_is_dropped : takes 1 2 (fresh 1) 201 (NewState 1 1 3 (second ∷ third ∷ fourth ∷ [])) ≡ drops (fresh 1) Stale
 unfolding on_request on_prepare on_prepare_ok on_commit beats_normal on_start_view_change on_do_view_change on_start_view on_timer beats_in_change on_get_state on_new_state on_recovery on_recovery_response beats_recovering on_restart
 gap_is_dropped = refl
 
 abbrev caught_up : Step Ask ℕ ℕ
-caught_up = takes 1 2 fresh 201 (NewState 1 0 3 (paid_in ∷ second ∷ third ∷ fourth ∷ []))
+caught_up = takes 1 2 (fresh 1) 201 (NewState 1 0 3 (paid_in ∷ second ∷ third ∷ fourth ∷ []))
 
-caught_up_shows : shown caught_up.site ≡ record { status = Normal; view = 1; rows = 4; done = 3; boots = 0; saved = 1; total = 1215 }
+caught_up_shows : shown caught_up.site ≡ record { status = Normal; view = 1; rows = 4; done = 3; boots = 0; known = 0 ∷ 0 ∷ 0 ∷ []; total = 1215 }
 unfolding on_request on_prepare on_prepare_ok on_commit beats_normal on_start_view_change on_do_view_change on_start_view on_timer beats_in_change on_get_state on_new_state on_recovery on_recovery_response beats_recovering on_restart
 caught_up_shows = refl
 
@@ -290,9 +290,9 @@ no_such_rows = refl
 
 -- the greatest view
 abbrev at_greatest : Step Ask ℕ ℕ
-at_greatest = takes 1 1 fresh 202 (StartViewChange 4294967295)
+at_greatest = takes 1 1 (fresh 1) 202 (StartViewChange 4294967295 (0 ∷ 0 ∷ 0 ∷ []))
 
-at_greatest_sends : sent 1 at_greatest ≡ record { from = 201; to = 200; msg = StartViewChange 4294967295 } ∷ record { from = 201; to = 202; msg = StartViewChange 4294967295 } ∷ record { from = 201; to = 200; msg = DoViewChange 4294967295 0 0 [] } ∷ []
+at_greatest_sends : sent 1 at_greatest ≡ record { from = 201; to = 200; msg = StartViewChange 4294967295 (0 ∷ 0 ∷ 0 ∷ []) } ∷ record { from = 201; to = 202; msg = StartViewChange 4294967295 (0 ∷ 0 ∷ 0 ∷ []) } ∷ record { from = 201; to = 200; msg = DoViewChange 4294967295 0 0 [] (0 ∷ 0 ∷ 0 ∷ []) } ∷ []
 unfolding on_request on_prepare on_prepare_ok on_commit beats_normal on_start_view_change on_do_view_change on_start_view on_timer beats_in_change on_get_state on_new_state on_recovery on_recovery_response beats_recovering on_restart
 at_greatest_sends = refl
 
@@ -302,9 +302,9 @@ views_are_spent = refl
 
 -- a restart whose save fails leaves the old count or the new one, and the next raises what is there
 abbrev crashed : Site Ask
-crashed = (step 1 2 fresh Crash).site
+crashed = (step 1 2 (fresh 1) Crash).site
 
-crashed_is : crashed ≡ over (record { boots = 0; view = 0 }) Down
+crashed_is : crashed ≡ over (record { boots = 0 }) Down
 unfolding on_request on_prepare on_prepare_ok on_commit beats_normal on_start_view_change on_do_view_change on_start_view on_timer beats_in_change on_get_state on_new_state on_recovery on_recovery_response beats_recovering on_restart
 crashed_is = refl
 
@@ -312,44 +312,44 @@ restart_sends : sent 2 (step 1 2 crashed Restart) ≡ record { from = 202; to = 
 unfolding on_request on_prepare on_prepare_ok on_commit beats_normal on_start_view_change on_do_view_change on_start_view on_timer beats_in_change on_get_state on_new_state on_recovery on_recovery_response beats_recovering on_restart
 restart_sends = refl
 
-old_value_stays : IsFall crashed (step 1 2 crashed Restart) (over (record { boots = 0; view = 0 }) Down)
+old_value_stays : IsFall crashed (step 1 2 crashed Restart) (over (record { boots = 0 }) Down)
 unfolding on_request on_prepare on_prepare_ok on_commit beats_normal on_start_view_change on_do_view_change on_start_view on_timer beats_in_change on_get_state on_new_state on_recovery on_recovery_response beats_recovering on_restart
 old_value_stays = record { allowed = refl; down = inl refl }
 
-new_value_stays : IsFall crashed (step 1 2 crashed Restart) (over (record { boots = 1; view = 0 }) Down)
+new_value_stays : IsFall crashed (step 1 2 crashed Restart) (over (record { boots = 1 }) Down)
 unfolding on_request on_prepare on_prepare_ok on_commit beats_normal on_start_view_change on_do_view_change on_start_view on_timer beats_in_change on_get_state on_new_state on_recovery on_recovery_response beats_recovering on_restart
 new_value_stays = record { allowed = refl; down = inr refl }
 
-restart_after_new_value_sends : sent 2 (step 1 2 (over (record { boots = 1; view = 0 }) Down) Restart) ≡ record { from = 202; to = 200; msg = Recovery 2 } ∷ record { from = 202; to = 201; msg = Recovery 2 } ∷ []
+restart_after_new_value_sends : sent 2 (step 1 2 (over (record { boots = 1 }) Down) Restart) ≡ record { from = 202; to = 200; msg = Recovery 2 } ∷ record { from = 202; to = 201; msg = Recovery 2 } ∷ []
 unfolding on_request on_prepare on_prepare_ok on_commit beats_normal on_start_view_change on_do_view_change on_start_view on_timer beats_in_change on_get_state on_new_state on_recovery on_recovery_response beats_recovering on_restart
 restart_after_new_value_sends = refl
 
-boots_are_spent : step 1 2 (opening_site (record { boots = 4294967295; view = 0 })) Restart ≡ refuses (over (record { boots = 4294967295; view = 0 }) Down) BootsSpent
+boots_are_spent : step 1 2 (opening_site 1 (record { boots = 4294967295 })) Restart ≡ refuses (over (record { boots = 4294967295 }) Down) BootsSpent
 unfolding on_request on_prepare on_prepare_ok on_commit beats_normal on_start_view_change on_do_view_change on_start_view on_timer beats_in_change on_get_state on_new_state on_recovery on_recovery_response beats_recovering on_restart
 boots_are_spent = refl
 
-up_already : step 1 2 fresh Restart ≡ refuses fresh AlreadyUp
+up_already : step 1 2 (fresh 1) Restart ≡ refuses (fresh 1) AlreadyUp
 unfolding on_request on_prepare on_prepare_ok on_commit beats_normal on_start_view_change on_do_view_change on_start_view on_timer beats_in_change on_get_state on_new_state on_recovery on_recovery_response beats_recovering on_restart
 up_already = refl
 
-no_fall_of_a_refused_event : (y : Site Ask) → ¬ IsFall fresh (step 1 2 fresh Restart) y
+no_fall_of_a_refused_event : (y : Site Ask) → ¬ IsFall (fresh 1) (step 1 2 (fresh 1) Restart) y
 unfolding on_request on_prepare on_prepare_ok on_commit beats_normal on_start_view_change on_do_view_change on_start_view on_timer beats_in_change on_get_state on_new_state on_recovery on_recovery_response beats_recovering on_restart
 no_fall_of_a_refused_event = λ y fall. true≢false fall.allowed
 
-recovering_timer : step 1 2 (over (record { boots = 3; view = 7 }) Recovering) Timer ≡ drops (over (record { boots = 3; view = 7 }) Recovering) why.Status
+recovering_timer : step 1 2 (over (record { boots = 3 }) Recovering) Timer ≡ drops (over (record { boots = 3 }) Recovering) why.Status
 unfolding on_request on_prepare on_prepare_ok on_commit beats_normal on_start_view_change on_do_view_change on_start_view on_timer beats_in_change on_get_state on_new_state on_recovery on_recovery_response beats_recovering on_restart
 recovering_timer = refl
 
 -- the primary of a view answers a recovery with its state, and other sites without; a recovering site answers nobody
-primary_answers : sent 0 (takes 1 0 acknowledged.site 202 (Recovery 1)) ≡ record { from = 200; to = 202; msg = RecoveryResponse 0 1 (Some (record { done = 1; rows = paid_in ∷ [] })) } ∷ []
+primary_answers : sent 0 (takes 1 0 acknowledged.site 202 (Recovery 1)) ≡ record { from = 200; to = 202; msg = RecoveryResponse 0 1 (Some (record { done = 1; rows = paid_in ∷ [] })) (0 ∷ 0 ∷ 1 ∷ []) } ∷ []
 unfolding on_request on_prepare on_prepare_ok on_commit beats_normal on_start_view_change on_do_view_change on_start_view on_timer beats_in_change on_get_state on_new_state on_recovery on_recovery_response beats_recovering on_restart
 primary_answers = refl
 
-backup_answers : sent 1 (takes 1 1 fresh 202 (Recovery 1)) ≡ record { from = 201; to = 202; msg = RecoveryResponse 0 1 None } ∷ []
+backup_answers : sent 1 (takes 1 1 (fresh 1) 202 (Recovery 1)) ≡ record { from = 201; to = 202; msg = RecoveryResponse 0 1 None (0 ∷ 0 ∷ 1 ∷ []) } ∷ []
 unfolding on_request on_prepare on_prepare_ok on_commit beats_normal on_start_view_change on_do_view_change on_start_view on_timer beats_in_change on_get_state on_new_state on_recovery on_recovery_response beats_recovering on_restart
 backup_answers = refl
 
-recovering_answers_nobody : takes 1 1 (over (record { boots = 1; view = 0 }) Recovering) 202 (Recovery 1) ≡ drops (over (record { boots = 1; view = 0 }) Recovering) why.Status
+recovering_answers_nobody : takes 1 1 (over (record { boots = 1 }) Recovering) 202 (Recovery 1) ≡ drops (over (record { boots = 1 }) Recovering) why.Status
 unfolding on_request on_prepare on_prepare_ok on_commit beats_normal on_start_view_change on_do_view_change on_start_view on_timer beats_in_change on_get_state on_new_state on_recovery on_recovery_response beats_recovering on_restart
 recovering_answers_nobody = refl
 

@@ -6,31 +6,31 @@ use Rattle.vr_types.specs.declared.message.EnvelopeOf.{EnvelopeOf}
 use Rattle.vr_types.specs.declared.message.MsgOf.TheVariants.{StartViewChange, DoViewChange, StartView}
 use Rattle.vr_types.specs.declared.row.RowOf.{RowOf}
 use Rattle.vr_types.specs.Group.{sites, others, primary, mail, to_all}
-use Rattle.vr_types.specs.Site.{Site, Vote, nothing, is_normal, is_change, is_recovering, has_start, has_vote}
+use Rattle.vr_types.specs.Site.{Site, Start, Vote, nothing, is_normal, is_change, is_recovering, has_start, has_vote}
 use Rattle.vr_types.specs.Choice.{Choice}
-use Rattle.vr_types.specs.Step.{Step, does, drops, with_saved, normal_in, begins_with_executed, takes_log, executes_and_answers}
+use Rattle.vr_types.specs.Step.{Step, does, drops, is_outdated, learns, normal_in, begins_with_executed, takes_log, executes_and_answers}
 
 -- a site in the middle of a rule, and what it sends to sites by then
 pub record Part (C R O : Type 0) : Type 0 where
   pub site : Site C
   pub sent : List (EnvelopeOf C R O)
 
--- The site takes part in the change to view w (step 1). It saves w, gives up what it collected, and tells all. Its log, what it executed and its last normal view stay. This project's own: the view is saved before anyone hears of it.
+-- The site takes part in the change to view w (step 1). It gives up what it collected, and tells all. Its log, what it executed, its last normal view and what it knows stay.
 abbrev pub starts_view : {C R O : Type 0} → ℕ → ℕ → ℕ → Site C → Part C R O
 starts_view f me w x = record {
-  site = with_saved w (record x { status = Change; view = w; collected = nothing });
-  sent = to_all f me (StartViewChange w);
+  site = record x { status = Change; view = w; collected = nothing };
+  sent = to_all f me (StartViewChange w x.known);
 }
 
 -- a later view is started
 abbrev pub starts_later_view : {C R O : Type 0} → ℕ → ℕ → ℕ → Site C → Part C R O
 starts_later_view f me w x = if nat_lt x.view w then starts_view f me w x else record { site = x; sent = [] }
 
--- who sent STARTVIEWCHANGE is kept once
-abbrev pub with_start : {C : Type 0} → ℕ → Site C → Site C
-with_start from x =
-    if has_start x.collected.starts from then x
-    else record x { collected = record (x.collected) { starts = x.collected.starts ++ from ∷ [] } }
+-- the first STARTVIEWCHANGE of each site is kept
+abbrev pub with_start : {C : Type 0} → Start → Site C → Site C
+with_start start x =
+    if has_start x.collected.starts start.from then x
+    else record x { collected = record (x.collected) { starts = x.collected.starts ++ start ∷ [] } }
 
 -- the first DOVIEWCHANGE of each site is kept
 abbrev pub with_vote : {C : Type 0} → Vote C → Site C → Site C
@@ -44,11 +44,11 @@ with_voted x = record x { collected = record (x.collected) { voted = true } }
 
 -- the site's own vote for its view
 abbrev pub own_vote : {C : Type 0} → ℕ → Site C → Vote C
-own_vote me x = record { from = me; last_normal = x.last_normal; done = x.done; log = x.log }
+own_vote me x = record { from = me; last_normal = x.last_normal; done = x.done; log = x.log; known = x.known }
 
 -- the site's own DOVIEWCHANGE, to the primary of its view
 abbrev pub sends_vote : {C R O : Type 0} → ℕ → ℕ → Site C → List (EnvelopeOf C R O)
-sends_vote f me x = mail me (primary f x.view) (DoViewChange x.view x.last_normal x.done x.log) ∷ []
+sends_vote f me x = mail me (primary f x.view) (DoViewChange x.view x.last_normal x.done x.log x.known) ∷ []
 
 -- f different others have sent STARTVIEWCHANGE, and its own DOVIEWCHANGE isn't made yet
 abbrev pub is_to_vote : {C : Type 0} → ℕ → ℕ → Site C → Bool
@@ -83,16 +83,26 @@ opens_where_due choose f me x part =
     else if not (begins_with_executed choose.same part.site log) then drops x Stale
     else opened_with f me log (choose.most_done votes) part
 
--- STARTVIEWCHANGE (steps 1 and 2)
-unfoldable pub on_start_view_change : {C R O : Type 0} → Choice C → ℕ → ℕ → Site C → ℕ → ℕ → Step C R O
-on_start_view_change choose f me x from w =
+-- The site as it decides whether the view opens, after a STARTVIEWCHANGE: what its sender knew is learnt, the view is started where it is later, the message is kept, and the site votes where that is due.
+abbrev pub after_start : {C R O : Type 0} → ℕ → ℕ → ℕ → Start → Site C → Part C R O
+after_start f me w start x =
+    let started = starts_later_view f me w (learns start.known x) in
+    votes_where_due f me (record started { site = with_start start started.site })
+
+-- the same after a DOVIEWCHANGE
+abbrev pub after_vote : {C R O : Type 0} → ℕ → ℕ → ℕ → Vote C → Site C → Part C R O
+after_vote f me w vote x =
+    let started = starts_later_view f me w (learns vote.known x) in
+    record started { site = with_vote vote started.site }
+
+-- STARTVIEWCHANGE (steps 1 and 2). This project's own, here and below: one of an earlier boot of its sender is dropped, and what its sender knew is learnt.
+unfoldable pub on_start_view_change : {C R O : Type 0} → Choice C → ℕ → ℕ → Site C → ℕ → Start → Step C R O
+on_start_view_change choose f me x w start =
     if is_recovering x.status then drops x Status
     else if nat_lt w x.view then drops x View
     else if is_normal x.status && (w == x.view) then drops x Status
-    else (
-    let started = starts_later_view f me w x in
-    let kept = record started { site = with_start from started.site } in
-    opens_where_due choose f me x (votes_where_due f me kept))
+    else if is_outdated x.known start.from start.known then drops x Stale
+    else opens_where_due choose f me x (after_start f me w start x)
 
 -- DOVIEWCHANGE (steps 1 and 3)
 unfoldable pub on_do_view_change : {C R O : Type 0} → Choice C → ℕ → ℕ → Site C → ℕ → Vote C → Step C R O
@@ -101,9 +111,8 @@ on_do_view_change choose f me x w vote =
     else if nat_lt w x.view then drops x View
     else if not (primary f w == me) then drops x NotPrimary
     else if is_normal x.status && (w == x.view) then drops x Status
-    else (
-    let started = starts_later_view f me w x in
-    opens_where_due choose f me x (record started { site = with_vote vote started.site }))
+    else if is_outdated x.known vote.from vote.known then drops x Stale
+    else opens_where_due choose f me x (after_vote f me w vote x)
 
 -- STARTVIEW (step 5)
 unfoldable pub on_start_view : {C R O : Type 0} → Choice C → ℕ → ℕ → Site C → ℕ → ℕ → ℕ → List (RowOf C) → Step C R O
@@ -123,5 +132,5 @@ on_timer f me x =
 -- Beat of a site in change: it says again what it has said of its view.
 unfoldable pub beats_in_change : {C R O : Type 0} → ℕ → ℕ → Site C → Step C R O
 beats_in_change f me x =
-    does x (to_all f me (StartViewChange x.view)
+    does x (to_all f me (StartViewChange x.view x.known)
     ++ (if x.collected.voted && not (primary f x.view == me) then sends_vote f me x else []))

@@ -5,7 +5,7 @@ use Rattle.std.specs.Prelude.{◌≡◌, ℕ, ◌<◌, ◌≤◌, ◌==◌, ◌&
 use Rattle.std.specs.List.{list_any}
 use Rattle.vr_types.specs.declared.message.StateOf.{StateOf}
 use Rattle.vr_types.specs.Group.{sites, others, primary}
-use Rattle.vr_types.specs.Site.{Ack, Vote, Response, has_response}
+use Rattle.vr_types.specs.Site.{Ack, Vote, Response, boot_of, has_response}
 
 -- x has the property, and nothing greater has it
 pub record IsLargest (Holds : ℕ → Type 0) (x : ℕ) : Type 0 where
@@ -45,16 +45,22 @@ pub record Regained (C : Type 0) : Type 0 where
   pub view : ℕ
   pub state : StateOf C
 
--- The state that a recovering site regains (section 4.3, step 3): f+1 sites have answered, none from a later view than this, and the primary of this view has answered from it with its state. This project's own: the view is not below the saved one.
-pub record IsRegained {C : Type 0} (f saved : ℕ) (responses : List (Response C)) (regained : Regained C) : Type 0 where
+-- The state that a recovering site regains (section 4.3, step 3): f+1 sites have answered, none from a later view than this, and the primary of this view has answered from it with its state.
+pub record IsRegained {C : Type 0} (f : ℕ) (responses : List (Response C)) (regained : Regained C) : Type 0 where
   pub enough : f < count_by (has_response responses) (sites f)
   pub greatest : (response : Response C) → Contains responses response → response.view ≤ regained.view
-  pub not_below : saved ≤ regained.view
-  pub answered : Contains responses (record { from = primary f regained.view; view = regained.view; state = Some regained.state })
+  pub known : List ℕ
+  pub answered : Contains responses (record { from = primary f regained.view; view = regained.view; state = Some regained.state; known = known })
 
 -- of each sender there is one
 abbrev pub OneEach : {A : Type 0} → (A → ℕ) → List A → Type 0
 OneEach {A} sender xs = (a b : A) → Contains xs a → Contains xs b → sender a ≡ sender b → a ≡ b
+
+-- a set of messages is fresh: of any two of them, the one's sender knew no later boot of the other's sender than that one's message is of
+abbrev pub AreFresh : {A : Type 0} → (A → ℕ) → (A → List ℕ) → List A → Type 0
+AreFresh {A} sender known xs =
+    (a b : A) → Contains xs a → Contains xs b
+    → boot_of (known a) (sender b) ≤ boot_of (known b) (sender b)
 
 -- what a step takes as given
 pub record Choice (C : Type 0) : Type 0 where
@@ -62,13 +68,13 @@ pub record Choice (C : Type 0) : Type 0 where
   pub commit_place : ℕ → List Ack → ℕ  -- the place up to which this site executes as a primary
   pub pick : List (Vote C) → Vote C  -- the vote whose log opens a view
   pub most_done : List (Vote C) → ℕ  -- the commit-number with which it opens
-  pub regained : ℕ → List (Response C) → Option (Regained C)  -- over the saved view, the state that is regained, where one is
+  pub regained : List (Response C) → Option (Regained C)  -- the state that is regained, where one is
 
 pub record IsRight {C : Type 0} (f : ℕ) (choose : Choice C) : Type 0 where
   pub same : (a b : C) → IsTrue (choose.same a b) ↔ (a ≡ b)
   pub commit_place : (me : ℕ) (acks : List Ack) → IsCommitPlace f me acks (choose.commit_place me acks)
   pub pick : (votes : List (Vote C)) → 0 < length votes → IsPick votes (choose.pick votes)
   pub most_done : (votes : List (Vote C)) → 0 < length votes → IsMostDone votes (choose.most_done votes)
-  pub regained : (saved : ℕ) (responses : List (Response C)) → MatchOption (choose.regained saved responses)
-      ((regained : Regained C) → ¬ IsRegained f saved responses regained)
-      (IsRegained f saved responses)
+  pub regained : (responses : List (Response C)) → MatchOption (choose.regained responses)
+      ((regained : Regained C) → ¬ IsRegained f responses regained)
+      (IsRegained f responses)

@@ -11,19 +11,16 @@ use Rattle.vr_types.specs.declared.machine.Machine.{Ghosts}
 use Rattle.vr_types.specs.declared.message.EnvelopeOf.{EnvelopeOf}
 use Rattle.vr_types.specs.declared.message.MsgOf.{MsgOf}
 use Rattle.vr_types.specs.declared.message.MsgOf.TheVariants.{Request, Prepare, PrepareOk, Commit, StartViewChange, DoViewChange, StartView, GetState, NewState, Recovery, RecoveryResponse, Reply, PayOrder}
+use Rattle.vr_types.specs.Cell.{max_number, is_spent}
 use Rattle.vr_types.specs.Execution.{held_after, answer_at}
 use Rattle.vr_types.specs.Group.{actor_of, site_of, is_mine}
-use Rattle.vr_types.specs.Site.{Site, is_recovering, is_down, over, executed_rows}
+use Rattle.vr_types.specs.Site.{Site, Vote, Response, is_recovering, is_down, over, executed_rows}
 use Rattle.vr_types.specs.Choice.{Choice}
 use Rattle.vr_types.specs.Step.{Step, Ending, Handled, Dropped, Refused, refuses}
 use Rattle.vr_types.specs.Normal.{on_request, on_prepare, on_prepare_ok, on_commit, beats_normal}
-use Rattle.vr_types.specs.Change.{on_start_view_change, on_do_view_change, on_start_view, on_timer, beats_in_change}
+use Rattle.vr_types.specs.Change.{Part, after_start, after_vote, on_start_view_change, on_do_view_change, on_start_view, on_timer, beats_in_change}
 use Rattle.vr_types.specs.Transfer.{on_get_state, on_new_state}
-use Rattle.vr_types.specs.Recovery.{on_recovery, on_recovery_response, beats_recovering, on_crash, on_restart}
-
--- the greatest view, and the greatest count of restarts
-abbrev pub max_number : ℕ
-max_number = 4294967295
+use Rattle.vr_types.specs.Recovery.{after_response, on_recovery, on_recovery_response, beats_recovering, on_crash, on_restart}
 
 -- why an event is refused, which comes before all else
 abbrev pub refusal : {C R O : Type 0} → ℕ → ℕ → Site C → EventOf C R O → Option SiteFault
@@ -39,7 +36,7 @@ refusal f me x Beat = if is_down x.status then Some NotUp else None
 refusal f me x Crash = if is_down x.status then Some NotUp else None
 refusal f me x Restart =
     if not (is_down x.status) then Some AlreadyUp
-    else if x.cell.boots == max_number then Some BootsSpent
+    else if is_spent x.cell then Some BootsSpent
     else None
 
 -- a message of an actor that may send it; to the rules a client is its actor's number, and a site its own
@@ -48,17 +45,32 @@ on_message choose f me x actor (Request number cmd) = on_request f me x (record 
 on_message choose f me x actor (Prepare w place k row) = on_prepare f me x (site_of actor) w place k row
 on_message choose f me x actor (PrepareOk w place) = on_prepare_ok choose f me x (site_of actor) w place
 on_message choose f me x actor (Commit w k) = on_commit f me x (site_of actor) w k
-on_message choose f me x actor (StartViewChange w) = on_start_view_change choose f me x (site_of actor) w
-on_message choose f me x actor (DoViewChange w last_normal k log) =
-    on_do_view_change choose f me x w (record { from = site_of actor; last_normal = last_normal; done = k; log = log })
+on_message choose f me x actor (StartViewChange w known) = on_start_view_change choose f me x w (record { from = site_of actor; known = known })
+on_message choose f me x actor (DoViewChange w last_normal k log known) =
+    on_do_view_change choose f me x w (record { from = site_of actor; last_normal = last_normal; done = k; log = log; known = known })
 on_message choose f me x actor (StartView w k log) = on_start_view choose f me x (site_of actor) w k log
 on_message choose f me x actor (GetState w base) = on_get_state f me x (site_of actor) w base
 on_message choose f me x actor (NewState w base k rows) = on_new_state choose f me x (site_of actor) w base k rows
 on_message choose f me x actor (Recovery nonce) = on_recovery f me x (site_of actor) nonce
-on_message choose f me x actor (RecoveryResponse w nonce state) =
-    on_recovery_response choose x nonce (record { from = site_of actor; view = w; state = state })
+on_message choose f me x actor (RecoveryResponse w nonce state known) =
+    on_recovery_response choose x nonce (record { from = site_of actor; view = w; state = state; known = known })
 on_message choose f me x actor (Reply view number reply) = refuses x NotMine
 on_message choose f me x actor (PayOrder order) = refuses x NotMine
+
+-- the DOVIEWCHANGEs by which a message decides whether a view opens: none where it opens none
+abbrev pub votes_used : {C R O : Type 0} → ℕ → ℕ → Site C → ℕ → MsgOf C R O → List (Vote C)
+votes_used {C} {R} {O} f me x actor (StartViewChange w known) =
+    let part : Part C R O = after_start f me w (record { from = site_of actor; known = known }) x in part.site.collected.votes
+votes_used {C} {R} {O} f me x actor (DoViewChange w last_normal k log known) =
+    let vote : Vote C = record { from = site_of actor; last_normal = last_normal; done = k; log = log; known = known } in
+    let part : Part C R O = after_vote f me w vote x in part.site.collected.votes
+votes_used f me x actor _ = []
+
+-- the responses by which a message decides whether a state is regained: none where it regains none
+abbrev pub responses_used : {C R O : Type 0} → Site C → ℕ → MsgOf C R O → List (Response C)
+responses_used x actor (RecoveryResponse w nonce state known) =
+    (after_response (record { from = site_of actor; view = w; state = state; known = known }) x).collected.responses
+responses_used x actor _ = []
 
 -- a beat, by the site's status
 abbrev pub on_beat : {C R O : Type 0} → ℕ → ℕ → Site C → status.Status → Step C R O

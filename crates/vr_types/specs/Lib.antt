@@ -5,6 +5,7 @@ pub mod Execution
 pub mod Group
 pub mod Handling
 pub mod MemoryCell
+pub mod Messages
 pub mod Normal
 pub mod Recovery
 pub mod Rows

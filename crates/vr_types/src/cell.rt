@@ -1,13 +1,38 @@
 ghost use Rattle.std.specs.Prelude.{◌≡◌, ℕ, ◌-◌, ◌⊎◌, ◌==◌, if◌then◌else◌, OnOk, OnErr, IsOk, IsErr, IsTrue, ◌↔◌, Some, None};
 ghost use Rattle.vr_types.specs.declared.cell.Boot.{Boot};
-ghost use Rattle.vr_types.specs.Cell.{HasRisen};
+ghost use Rattle.vr_types.specs.Cell.{HasRisen, new_cell};
 ghost use Rattle.vr_types.specs.MemoryCell.{held_by, faults_of, saves_before_fault, keeps_at_fault, after_save, IsReliable};
 
-/// What outlives a crash: how often the site was restarted, and the greatest view that it has spoken of.
+/// What outlives a crash: how often the site was restarted.
 #[derive(Clone, Copy, Debug, PartialEq, Eq)]
 pub struct Boot {
     pub boots: u32,
-    pub view: u32,
+}
+
+impl Boot {
+    ghost use Rattle.vr_types.specs.Cell.{is_new, raised, is_spent};
+
+    /// What a cell holds that was never saved.
+    pub fn new() -> Self
+        ensures { result ≡ new_cell }
+    {
+        Boot { boots: 0 }
+    }
+
+    /// Whether it was never saved.
+    pub fn is_new(self) -> bool
+        ensures { result ≡ is_new self }
+    {
+        self.boots == 0
+    }
+
+    /// What a restart saves; `None` where as many restarts are counted as can be.
+    pub fn raised(self) -> Option<Self>
+        ensures { result ≡ (if is_spent self then None else Some (raised self)) }
+    {
+        let boots = self.boots.checked_add(1)?;
+        Some(Boot { boots })
+    }
 }
 
 /// A save failed. The cell holds the old value or the new one.
@@ -59,7 +84,7 @@ pub struct MemCell {
 impl MemCell {
     /// A cell no save of which fails.
     pub fn new() -> Self
-        ensures held { held_by result ≡ record { boots = 0; view = 0 } }
+        ensures held { held_by result ≡ new_cell }
         ensures reliable { IsReliable result }
         ensures faults { faults_of result ≡ 0 }
     {
@@ -69,13 +94,13 @@ impl MemCell {
     /// A cell of which the save of this number fails, counted from 1, and no other: at 0 none does. The save that
     /// fails leaves the new value where `keep`.
     pub fn failing(at: u64, keep: bool) -> Self
-        ensures held { held_by result ≡ record { boots = 0; view = 0 } }
+        ensures held { held_by result ≡ new_cell }
         ensures before_fault { saves_before_fault result ≡ (if at == 0 then None else Some (at - 1)) }
         ensures keeps { keeps_at_fault result ≡ keep }
         ensures faults { faults_of result ≡ 0 }
     {
         MemCell {
-            boot: Boot { boots: 0, view: 0 },
+            boot: Boot::new(),
             before_fault: at.checked_sub(1),
             keeps: keep,
             failures: 0,

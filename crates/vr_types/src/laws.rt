@@ -5,7 +5,7 @@ ghost use Rattle.vr_types.specs.declared.event.EventOf.{EventOf};
 ghost use Rattle.vr_types.specs.Site.{Ack, Vote, Response, Site};
 ghost use Rattle.vr_types.specs.Choice.{IsCommitPlace, IsPick, IsMostDone, IsRegained, Regained, Choice, IsRight, OneEach};
 ghost use Rattle.vr_types.specs.Handling.{site_step, envelopes};
-ghost use Rattle.vr_types.specs.Saved.{IsSavedFor, HoldsView};
+ghost use Rattle.vr_types.specs.Saved.{IsSavedFor};
 
 use crate::machine::Machine;
 
@@ -20,14 +20,14 @@ pub fn choices_are_one<C>()
     ensures commit_place { (f me : ℕ) (acks : List Ack) (a b : ℕ) → IsCommitPlace f me acks a → IsCommitPlace f me acks b → a ≡ b }
     ensures pick { (votes : List (Vote C)) (a b : Vote C) → OneEach (λ vote. vote.from) votes → IsPick votes a → IsPick votes b → a ≡ b }
     ensures most_done { (votes : List (Vote C)) (a b : ℕ) → IsMostDone votes a → IsMostDone votes b → a ≡ b }
-    ensures regained { (f saved : ℕ) (responses : List (Response C)) (a b : Regained C) → OneEach (λ response. response.from) responses →
-        IsRegained f saved responses a → IsRegained f saved responses b → a ≡ b }
+    ensures regained { (f : ℕ) (responses : List (Response C)) (a b : Regained C) → OneEach (λ response. response.from) responses →
+        IsRegained f responses a → IsRegained f responses b → a ≡ b }
 {}
 
-/// What is sent in a view was saved before: after each step the cell covers all that the step sends, and a running
-/// site's view is the one that its cell holds.
+/// What is sent of the boot cell was saved before: after each step the cell holds the count of restarts of each RECOVERY
+/// that the step sends.
 pub fn sent_is_saved<M: Machine>()
-    ensures { (choose : Choice M.Cmd) (f me : ℕ) (x : Site M.Cmd) (event : EventOf M.Cmd M.Reply M.Order) (start : M) → IsRight f choose → HoldsView x →
+    ensures { (choose : Choice M.Cmd) (f me : ℕ) (x : Site M.Cmd) (event : EventOf M.Cmd M.Reply M.Order) (start : M) →
         let step = site_step choose f me x event in
-        HoldsView step.site × All (λ envelope. IsSavedFor step.site.cell envelope.msg) (envelopes M.Machine start me step) }
+        All (λ envelope. IsSavedFor step.site.cell envelope.msg) (envelopes M.Machine start me step) }
 {}

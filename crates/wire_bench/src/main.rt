@@ -1,5 +1,6 @@
-//! Times the feeder: how long a stream of frames takes in pieces of several sizes, and one of twice its length. With no
-//! words it does nothing.
+//! Times the feeder: how long a stream takes in pieces of several sizes, and one of twice as many frames; and the same of
+//! one frame, and of one with twice as many rows. A feeder that moves all it holds at each piece shows in the last alone.
+//! With no words it does nothing.
 #![tactic(auto)]
 
 use pvp_types::Cmd;
@@ -16,6 +17,9 @@ const ROWS: u16 = 1_000;
 
 /// How many frames the shorter stream has.
 const FRAMES: usize = 200;
+
+/// How many rows the shorter of the great frames has.
+const GREAT: u16 = 32_000;
 
 /// How many bytes a piece has.
 const PIECES: [usize; 3] = [1, 64, 65_536];
@@ -50,11 +54,11 @@ impl From<io::Error> for BenchFault {
     }
 }
 
-/// A log with as many rows.
-fn log(alloc: Global) -> Result<RowsOf<Cmd>, AllocError> {
+/// A log with so many rows.
+fn log(alloc: Global, count: u16) -> Result<RowsOf<Cmd>, AllocError> {
     let mut rows = RowsOf::new(alloc);
-    for number in 0..ROWS {
-        if rows.len() < usize::from(ROWS) {
+    for number in 0..count {
+        if rows.len() < usize::from(count) {
             rows.push(RowOf {
                 client: 1,
                 number: u32::from(number),
@@ -65,8 +69,8 @@ fn log(alloc: Global) -> Result<RowsOf<Cmd>, AllocError> {
     Ok(rows)
 }
 
-/// A frame with a log.
-fn frame(alloc: Global) -> Result<Vec<u8>, BenchFault> {
+/// A frame with a log of so many rows.
+fn frame(alloc: Global, rows: u16) -> Result<Vec<u8>, BenchFault> {
     let stamped = Stamped {
         stamp: Stamp {
             actor: 200,
@@ -79,7 +83,7 @@ fn frame(alloc: Global) -> Result<Vec<u8>, BenchFault> {
             msg: MsgOf::StartView {
                 view: 0,
                 done: 0,
-                rows: log(alloc)?,
+                rows: log(alloc, rows)?,
             },
         },
     };
@@ -91,9 +95,9 @@ fn frame(alloc: Global) -> Result<Vec<u8>, BenchFault> {
     Ok(out)
 }
 
-/// So many frames, one after the other.
-fn stream(alloc: Global, frames: usize) -> Result<Vec<u8>, BenchFault> {
-    let one = frame(alloc)?;
+/// So many frames of so many rows, one after the other.
+fn stream(alloc: Global, frames: usize, rows: u16) -> Result<Vec<u8>, BenchFault> {
+    let one = frame(alloc, rows)?;
     let mut bytes = Vec::new(alloc);
     for _ in 0..frames {
         bytes.extend_from_slice(one.as_slice())?;
@@ -114,9 +118,14 @@ fn fed(alloc: Global, stream: &[u8], piece: usize) -> Result<usize, BenchFault> 
     Ok(count)
 }
 
-/// How many microseconds a stream of so many frames takes in pieces of a size.
-fn time<R: AllocGlobal + Clock>(rt: &R, frames: usize, piece: usize) -> Result<u128, BenchFault> {
-    let bytes = stream(rt.alloc(), frames)?;
+/// How many microseconds a stream of so many frames of so many rows takes in pieces of a size.
+fn time<R: AllocGlobal + Clock>(
+    rt: &R,
+    frames: usize,
+    rows: u16,
+    piece: usize,
+) -> Result<u128, BenchFault> {
+    let bytes = stream(rt.alloc(), frames, rows)?;
     let began = Instant::now(rt)?;
     if fed(rt.alloc(), bytes.as_slice(), piece)? != frames {
         return Err(BenchFault::Unread);
@@ -124,12 +133,20 @@ fn time<R: AllocGlobal + Clock>(rt: &R, frames: usize, piece: usize) -> Result<u
     Ok(began.elapsed(rt)?.as_micros())
 }
 
-/// Prints the times of a stream and of one twice as long, for each size of pieces.
+/// Prints the times of a stream and of one with twice as many frames, and of a frame and of one with twice as many rows, for
+/// each size of pieces.
 fn bench<R: AllocGlobal + Clock + Print>(rt: &R) -> Result<(), BenchFault> {
     for piece in PIECES {
-        let once = time(rt, FRAMES, piece)?;
-        let twice = time(rt, 2 * FRAMES, piece)?;
-        rt.println(&format!(in rt.alloc(); "pieces of {piece}: n {once} us, 2n {twice} us")?)?;
+        let once = time(rt, FRAMES, ROWS, piece)?;
+        let twice = time(rt, 2 * FRAMES, ROWS, piece)?;
+        rt.println(&format!(in rt.alloc();
+            "pieces of {piece}: n frames {once} us, 2n {twice} us"
+        )?)?;
+        let once = time(rt, 1, GREAT, piece)?;
+        let twice = time(rt, 1, 2 * GREAT, piece)?;
+        rt.println(&format!(in rt.alloc();
+            "pieces of {piece}: n rows of one frame {once} us, 2n {twice} us"
+        )?)?;
     }
     Ok(())
 }

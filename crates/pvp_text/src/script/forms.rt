@@ -3,7 +3,7 @@
 //! one that comes first in this order is told.
 ghost use Rattle.std.specs.Prelude.{◌≡◌, ◌∷◌};
 ghost use Rattle.std.specs.List.{list_all};
-ghost use Rattle.pvp_text.specs.Script.{instruct_at, rescind_at, settle_at, fund_at, payout_at, paid_at, do_at, print_at, statement_at, line_at, is_printable};
+ghost use Rattle.pvp_text.specs.Script.{instruct_at, rescind_at, settle_at, fund_at, payout_at, order_at, paid_at, returned_at, do_at, print_at, statement_at, line_at, is_printable};
 ghost use Rattle.pvp_text.specs.ScriptWords.{words};
 
 use crate::script::fields::{
@@ -88,6 +88,8 @@ fn read_command(setup: &Setup, rest: &[u8]) -> Result<Statement, LineCode>
         payout(setup, who, fields)
     } else if is(command, "paid") {
         paid(setup, who, fields)
+    } else if is(command, "returned") {
+        returned(setup, who, fields)
     } else {
         Err(LineCode::UnknownWord)
     }
@@ -209,10 +211,10 @@ fn payout(setup: &Setup, who: &[u8], fields: &[u8]) -> Result<Statement, LineCod
     })
 }
 
-/// `do WHO paid CCY OUT`
-#[tactic(auto, unfolding(crate::specs::Script::paid_at))]
-fn paid(setup: &Setup, who: &[u8], fields: &[u8]) -> Result<Statement, LineCode>
-    ensures { result ≡ paid_at setup.now who.now (words fields.now) }
+/// A client, a currency and the number of an order, as `WHO .. CCY OUT` tells them.
+#[tactic(auto, unfolding(crate::specs::Script::order_at))]
+fn order(setup: &Setup, who: &[u8], fields: &[u8]) -> Result<(u16, u8, u32), LineCode>
+    ensures { result ≡ order_at setup.now who.now (words fields.now) }
 {
     let (ccy, rest) = word(fields)?;
     let (out, rest) = word(rest)?;
@@ -222,8 +224,29 @@ fn paid(setup: &Setup, who: &[u8], fields: &[u8]) -> Result<Statement, LineCode>
     let out = number(out)?;
     let client = client_of(setup, who)?;
     let ccy = currency_of(setup, ccy)?;
+    Ok((client, ccy, out))
+}
+
+/// `do WHO paid CCY OUT`
+#[tactic(auto, unfolding(crate::specs::Script::paid_at))]
+fn paid(setup: &Setup, who: &[u8], fields: &[u8]) -> Result<Statement, LineCode>
+    ensures { result ≡ paid_at setup.now who.now (words fields.now) }
+{
+    let (client, ccy, out) = order(setup, who, fields)?;
     Ok(Statement::Do {
         client,
         cmd: Cmd::Paid { ccy, out },
+    })
+}
+
+/// `do WHO returned CCY OUT`
+#[tactic(auto, unfolding(crate::specs::Script::returned_at))]
+fn returned(setup: &Setup, who: &[u8], fields: &[u8]) -> Result<Statement, LineCode>
+    ensures { result ≡ returned_at setup.now who.now (words fields.now) }
+{
+    let (client, ccy, out) = order(setup, who, fields)?;
+    Ok(Statement::Do {
+        client,
+        cmd: Cmd::Returned { ccy, out },
     })
 }

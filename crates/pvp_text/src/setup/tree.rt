@@ -1,12 +1,11 @@
 //! Reading the parts of a JSON tree.
 
-ghost use Rattle.std.specs.Prelude.{Result};
 ghost use Rattle.serde_json.specs.Data.{Data};
 ghost use Rattle.serde_json.specs.Find.{as_array};
 ghost use Rattle.serde_json.specs.View.{view, items_view};
-ghost use Rattle.pvp_text.specs.declared.setup.TextFault.{TextFault};
 ghost use Rattle.pvp_text.specs.Reading.{Reads};
-ghost use Rattle.pvp_text.specs.SetupText.{number, text, list, member, currency, bank_member, setup, text_fault_is_memory, itself};
+ghost use Rattle.pvp_text.specs.SetupText.{Kind, number, text, list, member, currency, bank_member, setup, text_fault_is_memory, itself};
+ghost use Rattle.pvp_text.specs.Steadiness.{steady-number, steady-text, steady-list, steady-currency, steady-bank_member, steady-setup};
 
 use crate::setup::TextFault;
 use pvp_types::{Currency, List, Member, Name, Setup};
@@ -15,15 +14,21 @@ use std::alloc::Global;
 
 /// What a part of the tree can be read as.
 pub(super) trait FromTree: Drop {
-    ghost kind: { Data → Result Self TextFault };
+    ghost use Rattle.pvp_text.specs.Reading.{IsSteady};
+
+    ghost kind: { Kind Self };
 
     fn from_tree(alloc: Global, tree: &Value) -> Result<Self, TextFault>
-        ensures { Reads itself text_fault_is_memory result (kind (view tree.now)) };
+        ensures { Reads itself text_fault_is_memory result
+            (λ refused. kind refused (view tree.now)) };
+
+    ghost steady: { (tree : Data) → IsSteady (λ refused. kind refused tree) };
 }
 
 /// An object's member of that name.
 fn member<T: FromTree>(alloc: Global, tree: &Value, name: &str) -> Result<T, TextFault>
-    ensures { Reads itself text_fault_is_memory result (member T.kind name.now (view tree.now)) }
+    ensures { Reads itself text_fault_is_memory result
+        (λ refused. member T.kind name.now refused (view tree.now)) }
 {
     let part = tree.get(name).ok_or(TextFault::BadMember)?;
     T::from_tree(alloc, part)
@@ -31,6 +36,8 @@ fn member<T: FromTree>(alloc: Global, tree: &Value, name: &str) -> Result<T, Tex
 
 impl FromTree for u64 {
     ghost kind = { number };
+
+    ghost steady = { steady-number };
 
     fn from_tree(_alloc: Global, tree: &Value) -> Result<u64, TextFault> {
         tree.as_u64().ok_or(TextFault::BadMember)
@@ -40,6 +47,8 @@ impl FromTree for u64 {
 impl FromTree for Name {
     ghost kind = { text };
 
+    ghost steady = { steady-text };
+
     fn from_tree(alloc: Global, tree: &Value) -> Result<Name, TextFault> {
         let text = tree.as_str().ok_or(TextFault::BadMember)?;
         Ok(Name::new(alloc, text)?)
@@ -48,6 +57,8 @@ impl FromTree for Name {
 
 impl<T: FromTree> FromTree for List<T> {
     ghost kind = { list T.kind };
+
+    ghost steady = { steady-list T.kind T.steady };
 
     fn from_tree(alloc: Global, tree: &Value) -> Result<List<T>, TextFault> {
         let items = tree.as_array().ok_or(TextFault::BadMember)?;
@@ -62,6 +73,8 @@ impl<T: FromTree> FromTree for List<T> {
 impl FromTree for Currency {
     ghost kind = { currency };
 
+    ghost steady = { steady-currency };
+
     #[tactic(auto, unfolding(crate::specs::SetupText::currency))]
     fn from_tree(alloc: Global, tree: &Value) -> Result<Currency, TextFault> {
         Ok(Currency {
@@ -74,6 +87,8 @@ impl FromTree for Currency {
 
 impl FromTree for Member {
     ghost kind = { bank_member };
+
+    ghost steady = { steady-bank_member };
 
     #[tactic(auto, unfolding(crate::specs::SetupText::bank_member))]
     fn from_tree(alloc: Global, tree: &Value) -> Result<Member, TextFault> {
@@ -88,6 +103,8 @@ impl FromTree for Member {
 
 impl FromTree for Setup {
     ghost kind = { setup };
+
+    ghost steady = { steady-setup };
 
     #[tactic(auto, unfolding(crate::specs::SetupText::setup))]
     fn from_tree(alloc: Global, tree: &Value) -> Result<Setup, TextFault> {

@@ -1,6 +1,6 @@
 use Rattle.std.proofs.Common.{arith}
 use Rattle.pvp_wire.proofs.Frames.{frame-takes, frame-again}
-use Rattle.pvp_wire.proofs.Lengths.{body-short}
+use Rattle.pvp_wire.proofs.Lengths.{spelled-short}
 use Rattle.pvp_wire.proofs.Streams.{length-spelling, one_frame}
 use Rattle.pvp_wire.proofs.laws.frames.Goals as goal
 
@@ -14,4 +14,4 @@ pub returns-clause-one : goal.returns-clause-one
 returns-clause-one c = one_frame
 
 pub returns-clause-short : goal.returns-clause-short
-returns-clause-short c = λ s spelled. omega (arith, length-spelling s, body-short s.envelope.msg spelled.fits.2)
+returns-clause-short c = λ s spelled. omega (arith, length-spelling s, spelled-short s spelled.fits.2 spelled.wireable)

@@ -1,10 +1,10 @@
 use Rattle.std.proofs.Common.{◌≡◌, ◌-◌, false, length}
-use Rattle.pvp_wire.specs.Reading.{rows_from}
+use Rattle.pvp_wire.specs.Reading.{row_at, items_from}
 use Rattle.pvp_wire.proofs.Loop.{with_front, IsAsked}
 use Rattle.pvp_wire.proofs.rows.rows_from.Given as goal
 
 abbrev pub invariant-loop : goal.invariant-loop
 invariant-loop l =
     (length l.rows ≡ l.counter)
-    × (with_front l.rows (rows_from false (l.count - l.counter) l.rest) ≡ rows_from false l.count l.bytes)
-    × IsAsked l.count l.counter l.rest l.bytes
+    × (with_front l.rows (items_from row_at false (l.count - l.counter) l.rest) ≡ items_from row_at false l.count l.bytes)
+    × IsAsked row_at l.count l.counter l.rest l.bytes

@@ -2,6 +2,7 @@ use Rattle.std.proofs.Common.{◌++◌, length, List, ℕ, ap, sym, ◌∙◌, a
 use Rattle.std.specs.List.{flat_map}
 use Rattle.pvp_types.specs.declared.command.Cmd.TheVariants.{Instruct}
 use Rattle.pvp_wire.specs.Spelling.{BankRow, number, row}
+use Rattle.pvp_wire.specs.Fits.{RowFits}
 use Rattle.pvp_wire.proofs.Parts.{each_more, flat_more}
 use Rattle.pvp_wire.proofs.writing.push_rows.Goals as goal
 
@@ -16,6 +17,6 @@ loop-row-preserved c =
     let fits = (rw c.as_slice-row-items.ensures.value at c.in_ok-push_row.ensures.fits) in
     let grown = (rw c.as_slice-row-items.ensures.value at c.in_ok-push_row.ensures.bytes) in
     let front = c.args.out.now.items ++ number 2 (length rows) in (
-      grown ∙ ap (λ (x : List ℕ). x ++ row (get_or rows j no_row)) c.loop-row.invariant.0 ∙ append_assoc front (flat_map row (take j rows)) (row (get_or rows j no_row)) ∙ ap (λ (x : List ℕ). front ++ x) (sym (flat_more rows j no_row lt)),
-      each_more rows j no_row lt c.loop-row.invariant.1 fits,
+      grown ∙ ap (λ (x : List ℕ). x ++ row (get_or rows j no_row)) c.loop-row.invariant.0 ∙ append_assoc front (flat_map row (take j rows)) (row (get_or rows j no_row)) ∙ ap (λ (x : List ℕ). front ++ x) (sym (flat_more row rows j no_row lt)),
+      each_more RowFits rows j no_row lt c.loop-row.invariant.1 fits,
     )

@@ -1,38 +1,40 @@
-use Rattle.std.proofs.Common.{◌≡◌, true, false, map, slice_get, sym, ap, ◌∙◌, arith}
-use Rattle.std.proofs.lemmas.List.{length-map}
-use Rattle.vr_types.proofs.Choosing.{goes_before}
+use Rattle.std.proofs.Common.{◌<◌, ◌≤◌, true, false, length, map, sym, ap, ◌∙◌, subst, arith}
+use Rattle.std.specs.Prelude.{IfSome}
+use Rattle.std.proofs.lemmas.List.{length-map, take_all}
 use Rattle.vr_log.specs.Running.{vote_of}
-use Rattle.vr_change.specs.Ballot.{claim, claims_before}
-use Rattle.vr_change.proofs.Ballots.{vote_at, best_next, best_is_pick, pick_at}
+use Rattle.vr_change.specs.Ballot.{vote_at, votes_left}
+use Rattle.vr_change.proofs.Ballots.{best_next, best_is_pick, best_of, something_at}
 use Rattle.vr_change.proofs.ballot.best.Goals as goal
-use Rattle.vr_change.proofs.ballot.best.Goals.{then-goes_before, else-goes_before}
+use Rattle.vr_change.proofs.ballot.best.Goals.{then-goes_next, else-goes_next}
 
 pub loop-at-preserved : goal.loop-at-preserved
 loop-at-preserved g c =
-    let votes = c.args.votes.now in
+    let r = c.args.running.now in
+    let votes = map vote_of r.votes.items in
     let at = c.loop-at.at in
-    let best = c.loop-at.best in
     let i = c.loop-at.invariant in
-    let a = vote_of c.index-votes-at.result in
-    let b = vote_of c.index-votes-best.result in
-    let long = length-map votes vote_of in
-    let ea = vote_at votes at c.index-votes-at.result (omega arith) c.index-votes-at.is in
-    let eb = vote_at votes best c.index-votes-best.result (omega arith) c.index-votes-best.is in
-    let test : goes_before a b ≡ c.goes_before.result = sym (c.goes_before.ensures ∙ ap (λ k. claims_before k c.of-in-loop-at.result) c.of.ensures ∙ ap (claims_before (claim a)) c.of-in-loop-at.ensures) in
-    elim c.if-goes_before.branch [
-      | then-goes_before w ↦ record {
-        within = omega (arith, w.best-is);
-        pick = ap (slice_get (map vote_of votes)) w.best-is ∙ best_next (map vote_of votes) at best a b true c.loop-at.auto.at (omega arith) ea eb i.pick (test ∙ w.if-goes_before.true);
+    let long = length-map r.votes.items vote_of in
+    let low : at < length r.votes.items = omega (arith, c.len-at-end.ensures, c.loop-at-test.true) in
+    let a = something_at votes at (omega arith) in
+    let test = sym (c.goes_next.ensures a.0 a.1) in
+    elim c.if-goes_next.branch [
+      | then-goes_next w ↦ record {
+        within = subst (λ o. IfSome o (λ best. best < length r.votes.items)) (sym w.best-is) low;
+        pick = ap (vote_at votes) w.best-is ∙ best_next r.known c.args.told.now votes at c.loop-at.best a.0 true a.1 i.pick (test ∙ w.if-goes_next.true);
       }
-      | else-goes_before w ↦ record {
-        within = omega (arith, w.best-is);
-        pick = ap (slice_get (map vote_of votes)) w.best-is ∙ best_next (map vote_of votes) at best a b false c.loop-at.auto.at (omega arith) ea eb i.pick (test ∙ w.if-goes_before.false);
+      | else-goes_next w ↦ record {
+        within = subst (λ o. IfSome o (λ best. best < length r.votes.items)) (sym w.best-is) i.within;
+        pick = ap (vote_at votes) w.best-is ∙ best_next r.known c.args.told.now votes at c.loop-at.best a.0 false a.1 i.pick (test ∙ w.if-goes_next.false);
       }
     ]
 
-pub returns-clause-pick : goal.returns-clause-pick
-returns-clause-pick g c =
-    let votes = c.args.votes.now in
-    let vs = map vote_of votes in
-    let long = length-map votes vote_of in
-    pick_at vs vs c.loop-at.best (omega arith) (best_is_pick vs c.loop-at.best c.loop-at.at (omega arith) (omega arith) c.loop-at.invariant.pick)
+pub returns : goal.returns
+returns g c =
+    let r = c.args.running.now in
+    let votes = map vote_of r.votes.items in
+    let known = r.known in
+    let told = c.args.told.now in
+    let long = length-map r.votes.items vote_of in
+    let all : length votes ≤ c.loop-at.at = omega (arith, c.len-at-end.ensures, c.loop-at-test.false) in
+    best_is_pick votes (votes_left known told votes) (length r.votes.items) c.loop-at.best long
+    (c.loop-at.invariant.pick ∙ ap (λ l. best_of (votes_left known told l)) (take_all c.loop-at.at votes all)) c.loop-at.invariant.within

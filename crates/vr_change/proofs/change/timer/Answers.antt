@@ -1,4 +1,6 @@
-use Rattle.std.proofs.Common.{◌≡◌, ◌+◌, true, refl, sym, ap, subst}
+use Rattle.std.proofs.Common.{◌≡◌, ◌+◌, true, length, refl, sym, ap, ◌∙◌, subst}
+use Rattle.vr_types.specs.declared.message.MsgOf.TheVariants.{StartViewChange}
+use Rattle.vr_types.specs.Group.{to_all}
 use Rattle.vr_types.specs.Site.{is_running}
 use Rattle.vr_log.specs.Kept.{IsKept}
 use Rattle.vr_log.specs.Running.{site_of}
@@ -27,8 +29,9 @@ returns-clause-step g c = λ start acks cell h.
     let view = r.view + 1 in
     let gave : GaveUp n = record { acked = now.acked; starts = now.starts; voted = now.voted; votes = now.votes } in
     let up : is_running n.status ≡ true = ap is_running now.status in
+    let told : to_all f me (StartViewChange n.view n.known) ≡ to_all f me (StartViewChange view r.known) = λ i. to_all f me (StartViewChange (now.view i) (now.known i)) in
     let kept : IsKept m start n.kept = subst (IsKept m start) (sym now.kept) h.sound.kept in
     meets_as m start f me n _ _ _ (on_timer-is f me x (running_is_here r.status h.sound.up))
-    (does_meets m start f me n _ _ _ (record { mails = c.in_ok-sent.ensures; dropped = refl })
-    (gave_up_sound m start f r n gave up now.sites kept h.sound)
-    (changed_site r n acks cell (record { boots = cell.boots; view = view }) view gave now.status now.view now.last_normal now.kept))
+    (does_meets m start f me n _ _ _ (record { mails = c.in_ok-sent.ensures ∙ told; dropped = refl })
+    (gave_up_sound m start f r n gave up now.sites (ap length now.known) kept h.sound)
+    (changed_site r n acks cell view gave now.status now.view now.last_normal now.kept now.known))

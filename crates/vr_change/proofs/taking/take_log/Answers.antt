@@ -4,7 +4,7 @@ use Rattle.vr_types.specs.Step.{begins_with_executed}
 use Rattle.vr_log.specs.Kept.{IsKept}
 use Rattle.vr_log.specs.Running.{IsRunning, site_of}
 use Rattle.vr_log.proofs.OutcomeLemmas.{meets_as, follows_as, err_follows, drops_meets, does_meets, does_follows, on_ok}
-use Rattle.vr_change.proofs.Cases.{takes_log-stale, takes_log-is, takes_log-rest, takes_log-all, cell_after}
+use Rattle.vr_change.proofs.Cases.{takes_log-stale, takes_log-is, takes_log-rest, takes_log-all}
 use Rattle.vr_change.proofs.Sites.{GaveUp, gave_up_sound, normal_site}
 use Rattle.vr_change.proofs.taking.take_log.Goals as goal
 
@@ -64,8 +64,8 @@ returns-then-running-len-clause-step g c = λ choose start acks cell right h.
     let count : length n.kept.log ≡ length log = ap (λ l. length l) rows in
     let done : n.kept.done ≡ max r.kept.done (min c.args.done (length log)) = ap (λ k. k.done) now.kept ∙ ran.done ∙ ap (λ d. max d (min c.args.done (length c.take_rows.new.self.log))) c.take_rows.ensures.done ∙ ap (λ l. max r.kept.done (min c.args.done (length l))) took.log in
     let kept : IsKept m start n.kept = subst (IsKept m start) (sym now.kept) (ran.kept start (took.kept start keeps h.sound.kept)) in
-    let runs : IsRunning m start f n [] = gave_up_sound m start f r n gave (ap is_running now.status) now.sites kept h.sound in
-    let site = normal_site n (cell_after c.args.view x) c.args.view (max r.kept.done (min c.args.done (length log))) log gave now.status now.view now.last_normal rows done in
+    let runs : IsRunning m start f n [] = gave_up_sound m start f r n gave (ap is_running now.status) now.sites (ap length now.known) kept h.sound in
+    let site = normal_site n cell c.args.view (max r.kept.done (min c.args.done (length log))) log r.known gave now.status now.view now.last_normal rows done now.known in
     let left : max r.kept.done (min c.args.done (length log)) < length log = omega (arith, c.len-len.ensures.length, c.if-running-len.true, count, done) in
     follows_as m start f me n c.acknowledge_log.result _ _ (takes_log-rest choose f me x c.args.view c.args.done log begins left)
     (does_follows m start f me n c.acknowledge_log.result _ _ (rw (c.len-len.ensures.length, rows) at c.acknowledge_log.ensures) runs site)
@@ -89,8 +89,8 @@ returns-else-running-len-clause-step g c = λ choose start acks cell right h.
     let count : length n.kept.log ≡ length log = ap (λ l. length l) rows in
     let done : n.kept.done ≡ max r.kept.done (min c.args.done (length log)) = ap (λ k. k.done) now.kept ∙ ran.done ∙ ap (λ d. max d (min c.args.done (length c.take_rows.new.self.log))) c.take_rows.ensures.done ∙ ap (λ l. max r.kept.done (min c.args.done (length l))) took.log in
     let kept : IsKept m start n.kept = subst (IsKept m start) (sym now.kept) (ran.kept start (took.kept start keeps h.sound.kept)) in
-    let runs : IsRunning m start f n [] = gave_up_sound m start f r n gave (ap is_running now.status) now.sites kept h.sound in
-    let site = normal_site n (cell_after c.args.view x) c.args.view (max r.kept.done (min c.args.done (length log))) log gave now.status now.view now.last_normal rows done in
+    let runs : IsRunning m start f n [] = gave_up_sound m start f r n gave (ap is_running now.status) now.sites (ap length now.known) kept h.sound in
+    let site = normal_site n cell c.args.view (max r.kept.done (min c.args.done (length log))) log r.known gave now.status now.view now.last_normal rows done now.known in
     let all : length log ≤ max r.kept.done (min c.args.done (length log)) = omega (arith, c.len-len.ensures.length, c.if-running-len.false, count, done) in
     meets_as m start f me n c.silent.result _ _ (takes_log-all choose f me x c.args.view c.args.done log begins all)
     (does_meets m start f me n c.silent.result _ [] c.silent.ensures runs site)
@@ -105,7 +105,7 @@ returns-then-running-len-clause-sound g c =
     let keeps = c.keeps_executed.ensures.keeps c.if-not-keeps_executed.false in
     let gave : GaveUp n = record { acked = now.acked; starts = now.starts; voted = now.voted; votes = now.votes } in
     let kept : (start : _) → IsKept m start r.kept → IsKept m start n.kept = λ start was. subst (IsKept m start) (sym now.kept) (c.in_ok-execute.ensures.kept start (c.in_ok-take_rows.ensures.kept start keeps was)) in
-    on_ok c.acknowledge_log.result _ (λ start s. (gave_up_sound m start f r n gave (ap is_running now.status) now.sites (kept start s.kept) s).sound)
+    on_ok c.acknowledge_log.result _ (λ start s. (gave_up_sound m start f r n gave (ap is_running now.status) now.sites (ap length now.known) (kept start s.kept) s).sound)
 
 pub returns-else-running-len-clause-sound : goal.returns-else-running-len-clause-sound
 returns-else-running-len-clause-sound g c =
@@ -117,4 +117,4 @@ returns-else-running-len-clause-sound g c =
     let keeps = c.keeps_executed.ensures.keeps c.if-not-keeps_executed.false in
     let gave : GaveUp n = record { acked = now.acked; starts = now.starts; voted = now.voted; votes = now.votes } in
     let kept : (start : _) → IsKept m start r.kept → IsKept m start n.kept = λ start was. subst (IsKept m start) (sym now.kept) (c.in_ok-execute.ensures.kept start (c.in_ok-take_rows.ensures.kept start keeps was)) in
-    (λ start s. (gave_up_sound m start f r n gave (ap is_running now.status) now.sites (kept start s.kept) s).sound)
+    (λ start s. (gave_up_sound m start f r n gave (ap is_running now.status) now.sites (ap length now.known) (kept start s.kept) s).sound)

@@ -61,7 +61,7 @@ returns-in_err-execute-clause-step g c = λ start acks cell h.
     err_follows m start f me _ c.from_residual.result _ c.from_residual.ensures.0 (ap (λ s. s.ending) (on_commit-here f me x c.args.from c.args.view c.args.done p here new later))
 
 pub returns-then-len-done-clause-sound : goal.returns-then-len-done-clause-sound
-returns-then-len-done-clause-sound g c = on_ok c.ask_state-then-len-done.result _ (λ start s. record { kept = c.in_ok-execute.ensures.kept start s.kept; sites = s.sites; up = s.up; votes = s.votes })
+returns-then-len-done-clause-sound g c = on_ok c.ask_state-then-len-done.result _ (λ start s. record { kept = c.in_ok-execute.ensures.kept start s.kept; sites = s.sites; known = s.known; up = s.up; votes = s.votes })
 
 pub returns-then-len-done-clause-step : goal.returns-then-len-done-clause-step
 returns-then-len-done-clause-step g c = λ start acks cell h.
@@ -80,11 +80,11 @@ returns-then-len-done-clause-step g c = λ start acks cell h.
     follows_as m start f me _ c.ask_state-then-len-done.result _ _
     (on_commit-here f me x c.args.from c.args.view c.args.done p here new later ∙ ap (does y) (missing_rows (length r.kept.log) c.args.done (asks_state f me r.view (length r.kept.log)) [] missing))
     (does_follows m start f me _ c.ask_state-then-len-done.result y _ (rw c.len-len.ensures.length at c.ask_state-then-len-done.ensures)
-    (record { sound = record { kept = now.kept start h.sound.kept; sites = h.sound.sites; up = h.sound.up; votes = h.sound.votes }; summed = h.summed })
+    (record { sound = record { kept = now.kept start h.sound.kept; sites = h.sound.sites; known = h.sound.known; up = h.sound.up; votes = h.sound.votes }; summed = h.summed })
     (same_site x r.kept.log _ (max r.kept.done (min c.args.done (length r.kept.log))) _ (sym now.log) (sym now.done)))
 
 pub returns-else-len-done-clause-sound : goal.returns-else-len-done-clause-sound
-returns-else-len-done-clause-sound g c = λ start s. record { kept = c.in_ok-execute.ensures.kept start s.kept; sites = s.sites; up = s.up; votes = s.votes }
+returns-else-len-done-clause-sound g c = λ start s. record { kept = c.in_ok-execute.ensures.kept start s.kept; sites = s.sites; known = s.known; up = s.up; votes = s.votes }
 
 pub returns-else-len-done-clause-step : goal.returns-else-len-done-clause-step
 returns-else-len-done-clause-step g c = λ start acks cell h.
@@ -103,5 +103,5 @@ returns-else-len-done-clause-step g c = λ start acks cell h.
     meets_as m start f me _ c.silent.result _ _
     (on_commit-here f me x c.args.from c.args.view c.args.done p here new later ∙ ap (does y) (enough_rows (length r.kept.log) c.args.done (asks_state f me r.view (length r.kept.log)) [] enough))
     (does_meets m start f me _ c.silent.result y [] c.silent.ensures
-    (record { sound = record { kept = now.kept start h.sound.kept; sites = h.sound.sites; up = h.sound.up; votes = h.sound.votes }; summed = h.summed })
+    (record { sound = record { kept = now.kept start h.sound.kept; sites = h.sound.sites; known = h.sound.known; up = h.sound.up; votes = h.sound.votes }; summed = h.summed })
     (same_site x r.kept.log _ (max r.kept.done (min c.args.done (length r.kept.log))) _ (sym now.log) (sym now.done)))

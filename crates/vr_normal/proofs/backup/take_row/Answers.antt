@@ -5,10 +5,10 @@ use Rattle.vr_normal.proofs.Cases.{prepared, prepares-missing, prepares-enough}
 use Rattle.vr_normal.proofs.backup.take_row.Goals as goal
 
 pub returns-then-len-place-clause-sound : goal.returns-then-len-place-clause-sound
-returns-then-len-place-clause-sound g c = on_ok c.ask_state.result _ (λ start s. record { kept = c.in_ok-execute.ensures.kept start (c.in_ok-append_next.ensures.kept start s.kept); sites = s.sites; up = s.up; votes = s.votes })
+returns-then-len-place-clause-sound g c = on_ok c.ask_state.result _ (λ start s. record { kept = c.in_ok-execute.ensures.kept start (c.in_ok-append_next.ensures.kept start s.kept); sites = s.sites; known = s.known; up = s.up; votes = s.votes })
 
 pub returns-else-len-place-clause-sound : goal.returns-else-len-place-clause-sound
-returns-else-len-place-clause-sound g c = on_ok c.acknowledge_log.result _ (λ start s. record { kept = c.in_ok-execute.ensures.kept start (c.in_ok-append_next.ensures.kept start s.kept); sites = s.sites; up = s.up; votes = s.votes })
+returns-else-len-place-clause-sound g c = on_ok c.acknowledge_log.result _ (λ start s. record { kept = c.in_ok-execute.ensures.kept start (c.in_ok-append_next.ensures.kept start s.kept); sites = s.sites; known = s.known; up = s.up; votes = s.votes })
 
 pub returns-then-len-place-clause-step : goal.returns-then-len-place-clause-step
 returns-then-len-place-clause-step g c = λ start acks cell h.
@@ -24,7 +24,7 @@ returns-then-len-place-clause-step g c = λ start acks cell h.
     let missing : length r.kept.log + 1 < c.args.place = omega (arith, c.len-len.ensures.length, c.if-len-place.true) in
     follows_as m start f me _ c.ask_state.result _ _ (prepares-missing f me x c.args.place c.args.done c.args.row missing)
     (does_follows m start f me _ c.ask_state.result y _ (rw c.len-len.ensures.length at c.ask_state.ensures)
-    (record { sound = record { kept = now.kept start (put.kept start h.sound.kept); sites = h.sound.sites; up = h.sound.up; votes = h.sound.votes }; summed = h.summed })
+    (record { sound = record { kept = now.kept start (put.kept start h.sound.kept); sites = h.sound.sites; known = h.sound.known; up = h.sound.up; votes = h.sound.votes }; summed = h.summed })
     (same_site x log _ (max r.kept.done (min c.args.done (length log))) _ (sym (now.log ∙ put.log))
     (sym (now.done ∙ ap (λ d. max d (min c.args.done (length c.append_next.new.kept.log))) c.append_next.ensures.done ∙ ap (λ l. max r.kept.done (min c.args.done (length l))) put.log))))
 
@@ -42,6 +42,6 @@ returns-else-len-place-clause-step g c = λ start acks cell h.
     let enough : c.args.place ≤ length r.kept.log + 1 = omega (arith, c.len-len.ensures.length, c.if-len-place.false) in
     follows_as m start f me _ c.acknowledge_log.result _ _ (prepares-enough f me x c.args.place c.args.done c.args.row enough)
     (does_follows m start f me _ c.acknowledge_log.result y _ (rw (c.len.ensures.length, now.log, put.log) at c.acknowledge_log.ensures)
-    (record { sound = record { kept = now.kept start (put.kept start h.sound.kept); sites = h.sound.sites; up = h.sound.up; votes = h.sound.votes }; summed = h.summed })
+    (record { sound = record { kept = now.kept start (put.kept start h.sound.kept); sites = h.sound.sites; known = h.sound.known; up = h.sound.up; votes = h.sound.votes }; summed = h.summed })
     (same_site x log _ (max r.kept.done (min c.args.done (length log))) _ (sym (now.log ∙ put.log))
     (sym (now.done ∙ ap (λ d. max d (min c.args.done (length c.append_next.new.kept.log))) c.append_next.ensures.done ∙ ap (λ l. max r.kept.done (min c.args.done (length l))) put.log))))

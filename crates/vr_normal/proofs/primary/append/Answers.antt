@@ -15,7 +15,7 @@ returns-then-place-eq-MAX_ROWS-clause-step g c = λ start acks cell h.
     (drops_meets g.M.Machine start f me r c.dropped.result acks cell _ c.dropped.ensures h)
 
 pub returns-clause-sound : goal.returns-clause-sound
-returns-clause-sound g c = λ start s. record { kept = c.in_ok-append.ensures.kept start s.kept; sites = s.sites; up = s.up; votes = s.votes }
+returns-clause-sound g c = λ start s. record { kept = c.in_ok-append.ensures.kept start s.kept; sites = s.sites; known = s.known; up = s.up; votes = s.votes }
 
 pub returns-clause-step : goal.returns-clause-step
 returns-clause-step g c = λ start acks cell h.
@@ -28,5 +28,5 @@ returns-clause-step g c = λ start acks cell h.
     meets_as m start f me _ _ _ _ (appends-room f me x c.args.row room)
     (does_meets m start f me _ _ (with_row c.args.row x) _
     (record { mails = rw c.len-place.ensures.length at c.in_ok-sent.ensures; dropped = refl })
-    (record { sound = record { kept = c.in_ok-append.ensures.kept start h.sound.kept; sites = h.sound.sites; up = h.sound.up; votes = h.sound.votes }; summed = h.summed })
+    (record { sound = record { kept = c.in_ok-append.ensures.kept start h.sound.kept; sites = h.sound.sites; known = h.sound.known; up = h.sound.up; votes = h.sound.votes }; summed = h.summed })
     (same_site x (r.kept.log ++ c.args.row ∷ []) _ r.kept.done _ (sym c.in_ok-append.ensures.log) (sym c.append.ensures.done)))

@@ -35,5 +35,5 @@ returns-clause-step g c = λ choose start acks cell right h.
           ∙ ap (λ d. filter_map (answer_to m start r.kept.log) (places_between r.kept.done d)) (sym done));
       dropped = refl;
     })
-    (record { sound = record { kept = now.kept start h.sound.kept; sites = search rules; up = h.sound.up; votes = h.sound.votes }; summed = summed })
+    (record { sound = record { kept = now.kept start h.sound.kept; sites = search rules; known = h.sound.known; up = h.sound.up; votes = h.sound.votes }; summed = summed })
     (same_site (with_ack from c.args.place (site_of r acks cell)) r.kept.log _ (max r.kept.done (min k rows)) _ (sym now.log) done)

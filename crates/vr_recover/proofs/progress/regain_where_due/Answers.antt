@@ -1,28 +1,25 @@
-use Rattle.std.proofs.Common.{[], sym, ap, ◌∙◌, subst}
+use Rattle.std.proofs.Common.{[], sym, ap, ◌∙◌}
 use Rattle.vr_types.specs.Recovery.{regains}
-use Rattle.vr_types.specs.Step.{does}
-use Rattle.vr_log.specs.Running.{site_of}
-use Rattle.vr_recover.specs.Recovering.{responses_of, recovering_site, IsOneEach}
-use Rattle.vr_recover.proofs.ProgressLemmas.{nothing_chosen, regained_chosen, regains-some}
+use Rattle.vr_types.specs.Step.{does, executed_to, normal_in}
+use Rattle.vr_recover.specs.Recovering.{responses_of, recovering_site, recovers_with}
+use Rattle.vr_recover.proofs.ProgressLemmas.{nothing_chosen, regained_chosen}
 use Rattle.vr_recover.proofs.progress.regain_where_due.Goals as goal
 
 pub returns-in_ok-running-in-Some-clause-step : goal.returns-in_ok-running-in-Some-clause-step
 returns-in_ok-running-in-Some-clause-step g c = λ choose acks right.
-    let f = c.args.config.f in
-    let kept = c.args.kept.now.items in
+    let old = c.args.recovering.now in
+    let kept = old.responses.items in
     let cell = c.args.boot in
-    let is = c.in-Some.ensures.some in
-    let chosen = regained_chosen f cell.view choose kept (record { view = c.in-Some.view; state = c.in-Some.state }) right c.requires.one_each is in
-    ap (regains (recovering_site kept acks cell)) chosen ∙ regains-some kept acks cell _ is.not_below
-    ∙ ap (λ x. does x []) (c.in_ok-running-in-Some.ensures.site kept acks (record { boots = cell.boots; view = c.in-Some.view })
-    ∙ ap (λ v. site_of c.in_ok-running-in-Some.running [] (record { boots = cell.boots; view = v })) (sym c.in_ok-running-in-Some.ensures.view))
+    let view = c.in-Some.view in
+    let state = c.in-Some.state in
+    let chosen = regained_chosen c.args.config.f choose kept (record { view = view; state = state }) right c.requires.sound.one_each c.in-Some.ensures.some in
+    ap (regains (recovering_site old acks cell)) chosen
+    ∙ ap (λ x. does x []) (ap (λ known. executed_to state.done (normal_in view state.rows (recovers_with known kept acks cell))) (sym c.replace-known.ensures.value)
+    ∙ c.in_ok-running-in-Some.ensures.site kept acks cell)
 
 pub returns-in-None-clause-step : goal.returns-in-None-clause-step
 returns-in-None-clause-step g c = λ choose acks right.
-    let kept = c.args.kept.now.items in
-    let cell = c.args.boot in
-    let chosen = nothing_chosen c.args.config.f cell.view choose (responses_of kept) right c.in-None.ensures.none in
-    ap (regains (recovering_site kept acks cell)) chosen ∙ ap (λ now. does (recovering_site now acks cell) []) (sym c.in-None.ensures.stays)
-
-pub returns-in-None-clause-sound : goal.returns-in-None-clause-sound
-returns-in-None-clause-sound g c = subst IsOneEach (sym c.in-None.ensures.stays) c.requires.one_each
+    let old = c.args.recovering.now in
+    let chosen = nothing_chosen c.args.config.f choose (responses_of old.responses.items) right c.in-None.ensures.none in
+    ap (regains (recovering_site old acks c.args.boot)) chosen
+    ∙ ap (λ now. does (recovers_with old.known now acks c.args.boot) []) (sym c.in-None.ensures.stays)

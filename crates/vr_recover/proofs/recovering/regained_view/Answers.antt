@@ -4,14 +4,8 @@ use Rattle.vr_recover.proofs.recovering.regained_view.Goals as goal
 
 pub returns-then-senders-config-clause-only : goal.returns-then-senders-config-clause-only
 returns-then-senders-config-clause-only g c = λ regained h.
-    let enough = regained_enough c.args.config.f c.args.saved c.args.kept.now regained h in
+    let enough = regained_enough c.args.config.f c.args.kept.now regained h in
     absurd (omega (arith, c.senders.ensures, c.if-senders-config.true, enough))
-
-pub returns-then-view-saved-clause-only : goal.returns-then-view-saved-clause-only
-returns-then-view-saved-clause-only g c = λ regained h.
-    let same = regained_view_is c.args.config.f c.args.saved c.args.kept.now regained h _ c.greatest_view-view.ensures.above c.greatest_view-view.ensures.least in
-    let low = h.not_below in
-    absurd (omega arith)
 
 pub returns-clause-enough : goal.returns-clause-enough
 returns-clause-enough g c =
@@ -20,4 +14,4 @@ returns-clause-enough g c =
 
 pub returns-clause-only : goal.returns-clause-only
 returns-clause-only g c = λ regained h.
-    ap (λ view. Some view) (regained_view_is c.args.config.f c.args.saved c.args.kept.now regained h _ c.greatest_view-view.ensures.above c.greatest_view-view.ensures.least)
+    ap (λ view. Some view) (regained_view_is c.args.config.f c.args.kept.now regained h _ c.greatest_view.ensures.above c.greatest_view.ensures.least)

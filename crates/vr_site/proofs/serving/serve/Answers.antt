@@ -56,7 +56,7 @@ returns-in-StartViewChange-clause-step g c = λ choose start acks cell right h.
     let r = c.args.running.now in
     let x = site_of r acks cell in
     follows_as g.M.Machine start f me c.start_view_change.new.running c.start_view_change.result _ _
-    (ap (λ msg. on_message choose f me x c.args.from msg) c.in-StartViewChange.is ∙ ap (λ s. on_start_view_change choose f me x s c.in-StartViewChange.view) (sym c.site_number-site.ensures))
+    (ap (λ msg. on_message choose f me x c.args.from msg) c.in-StartViewChange.is ∙ ap (λ s. on_start_view_change choose f me x c.in-StartViewChange.view (record { from = s; known = c.in-StartViewChange.known })) (sym c.site_number-site.ensures))
     (c.start_view_change.ensures.step choose start acks cell right h)
 
 pub returns-in-DoViewChange-clause-step : goal.returns-in-DoViewChange-clause-step
@@ -66,7 +66,7 @@ returns-in-DoViewChange-clause-step g c = λ choose start acks cell right h.
     let r = c.args.running.now in
     let x = site_of r acks cell in
     follows_as g.M.Machine start f me c.do_view_change.new.running c.do_view_change.result _ _
-    (ap (λ msg. on_message choose f me x c.args.from msg) c.in-DoViewChange.is ∙ ap (λ s. on_do_view_change choose f me x c.in-DoViewChange.view (record { from = s; last_normal = c.in-DoViewChange.last_normal; done = c.in-DoViewChange.done; log = c.in-DoViewChange.rows })) (sym c.site_number-site.ensures))
+    (ap (λ msg. on_message choose f me x c.args.from msg) c.in-DoViewChange.is ∙ ap (λ s. on_do_view_change choose f me x c.in-DoViewChange.view (record { from = s; last_normal = c.in-DoViewChange.last_normal; done = c.in-DoViewChange.done; log = c.in-DoViewChange.rows; known = c.in-DoViewChange.known })) (sym c.site_number-site.ensures))
     (c.do_view_change.ensures.step choose start acks cell right h)
 
 pub returns-in-StartView-clause-step : goal.returns-in-StartView-clause-step
@@ -105,9 +105,9 @@ returns-in-Recovery-clause-step g c = λ choose start acks cell right h.
     let me = c.args.config.me in
     let r = c.args.running.now in
     let x = site_of r acks cell in
-    follows_as g.M.Machine start f me r c.recovery.result _ _
+    follows_as g.M.Machine start f me c.recovery.new.running c.recovery.result _ _
     (ap (λ msg. on_message choose f me x c.args.from msg) c.in-Recovery.is ∙ ap (λ s. on_recovery f me x s c.in-Recovery.nonce) (sym c.site_number-site.ensures))
-    (c.recovery.ensures start acks cell h)
+    (c.recovery.ensures.step start acks cell h)
 
 pub returns-in-RecoveryResponse-clause-step : goal.returns-in-RecoveryResponse-clause-step
 returns-in-RecoveryResponse-clause-step g c = λ choose start acks cell right h.

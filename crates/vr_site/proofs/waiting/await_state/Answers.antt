@@ -13,64 +13,64 @@ pub returns-in-RecoveryResponse-clause-step : goal.returns-in-RecoveryResponse-c
 returns-in-RecoveryResponse-clause-step g c = λ choose acks right.
     let f = c.args.config.f in
     let me = c.args.config.me in
-    let x = recovering_site c.args.recovering.now.responses.items acks c.args.boot in
+    let x = recovering_site c.args.recovering.now acks c.args.boot in
     let r = c.in-RecoveryResponse in
-    progress_as c.take_response.new.recovering.responses.items acks c.args.boot c.take_response.result _ _
-    (ap (λ msg. on_message choose f me x c.args.from msg) r.is ∙ ap (λ s. on_recovery_response choose x r.nonce (record { from = s; view = r.view; state = r.state })) (sym c.site_number-site.ensures))
+    progress_as c.take_response.new.recovering acks c.args.boot c.take_response.result _ _
+    (ap (λ msg. on_message choose f me x c.args.from msg) r.is ∙ ap (λ s. on_recovery_response choose x r.nonce (record { from = s; view = r.view; state = r.state; known = r.known })) (sym c.site_number-site.ensures))
     (c.take_response.ensures.step choose acks right)
 
 pub returns-in-Prepare-clause-sound : goal.returns-in-Prepare-clause-sound
-returns-in-Prepare-clause-sound g c = c.requires.one_each
+returns-in-Prepare-clause-sound g c = c.requires.sound
 
 pub returns-in-Prepare-clause-step : goal.returns-in-Prepare-clause-step
 returns-in-Prepare-clause-step g c = λ choose acks right.
     let f = c.args.config.f in
     let me = c.args.config.me in
-    let kept = c.args.recovering.now.responses.items in
+    let kept = c.args.recovering.now in
     let x = recovering_site kept acks c.args.boot in
     ap (λ msg. on_message choose f me x c.args.from msg) c.in-Prepare.is ∙ prepare_drops f me kept acks c.args.boot _ c.in-Prepare.view _ _ _
     ∙ ap (drops x) (ap (λ s. if primary f c.in-Prepare.view == s then Status else NotPrimary) (sym c.site_number-site.ensures) ∙ sym c.why_of.ensures)
 
 pub returns-in-Commit-clause-sound : goal.returns-in-Commit-clause-sound
-returns-in-Commit-clause-sound g c = c.requires.one_each
+returns-in-Commit-clause-sound g c = c.requires.sound
 
 pub returns-in-Commit-clause-step : goal.returns-in-Commit-clause-step
 returns-in-Commit-clause-step g c = λ choose acks right.
     let f = c.args.config.f in
     let me = c.args.config.me in
-    let kept = c.args.recovering.now.responses.items in
+    let kept = c.args.recovering.now in
     let x = recovering_site kept acks c.args.boot in
     ap (λ msg. on_message choose f me x c.args.from msg) c.in-Commit.is ∙ commit_drops f me kept acks c.args.boot _ c.in-Commit.view _
     ∙ ap (drops x) (ap (λ s. if primary f c.in-Commit.view == s then Status else NotPrimary) (sym c.site_number-site.ensures) ∙ sym c.why_of-in-Commit.ensures)
 
 pub returns-in-StartView-clause-sound : goal.returns-in-StartView-clause-sound
-returns-in-StartView-clause-sound g c = c.requires.one_each
+returns-in-StartView-clause-sound g c = c.requires.sound
 
 pub returns-in-StartView-clause-step : goal.returns-in-StartView-clause-step
 returns-in-StartView-clause-step g c = λ choose acks right.
     let f = c.args.config.f in
     let me = c.args.config.me in
-    let kept = c.args.recovering.now.responses.items in
+    let kept = c.args.recovering.now in
     let x = recovering_site kept acks c.args.boot in
     ap (λ msg. on_message choose f me x c.args.from msg) c.in-StartView.is ∙ start_view_drops f me kept acks c.args.boot choose _ c.in-StartView.view _ _
     ∙ ap (drops x) (ap (λ s. if primary f c.in-StartView.view == s then Status else NotPrimary) (sym c.site_number-site.ensures) ∙ sym c.why_of-in-StartView.ensures)
 
 pub returns-in-NewState-clause-sound : goal.returns-in-NewState-clause-sound
-returns-in-NewState-clause-sound g c = c.requires.one_each
+returns-in-NewState-clause-sound g c = c.requires.sound
 
 pub returns-in-NewState-clause-step : goal.returns-in-NewState-clause-step
 returns-in-NewState-clause-step g c = λ choose acks right.
     let f = c.args.config.f in
     let me = c.args.config.me in
-    let kept = c.args.recovering.now.responses.items in
+    let kept = c.args.recovering.now in
     let x = recovering_site kept acks c.args.boot in
     ap (λ msg. on_message choose f me x c.args.from msg) c.in-NewState.is ∙ new_state_drops f me kept acks c.args.boot choose _ c.in-NewState.view _ _ _
     ∙ ap (drops x) (ap (λ s. if primary f c.in-NewState.view == s then Status else NotPrimary) (sym c.site_number-site.ensures) ∙ sym c.why_of-in-NewState.ensures)
 
 pub returns : goal.returns
 returns g c = record {
-  sound = c.requires.one_each;
+  sound = c.requires.sound;
   step = λ choose acks right.
-      others_drop c.args.config.f c.args.config.me c.args.recovering.now.responses.items acks c.args.boot choose c.args.from c.args.msg c.requires.may_come
+      others_drop c.args.config.f c.args.config.me c.args.recovering.now acks c.args.boot choose c.args.from c.args.msg c.requires.may_come
       c.in_default.not-RecoveryResponse c.in_default.not-Prepare c.in_default.not-Commit c.in_default.not-StartView c.in_default.not-NewState;
 }

@@ -1,4 +1,4 @@
-use Rattle.std.proofs.Common.{◌≡◌, ◌+◌, ◌-◌, ◌<◌, ◌≤◌, ◌++◌, length, take, get_or, true, false, true≢false, arith, sym, ap, ◌∙◌, refl}
+use Rattle.std.proofs.Common.{◌≡◌, ◌+◌, ◌-◌, ◌<◌, ◌++◌, length, take, get_or, true, false, true≢false, arith, sym, ap, ◌∙◌, refl}
 use Rattle.vr_log.proofs.Begins.{begins_is, one_there, one_more, fewer}
 use Rattle.vr_log.proofs.kept.Kept.keeps_executed.Goals as goal
 

@@ -8,7 +8,7 @@ use Rattle.vr_log.specs.Running.{site_of}
 use Rattle.vr_site.specs.declared.life.Life.TheVariants.{Recovering, Up}
 use Rattle.vr_site.specs.Life.{volatile_of, IsWell}
 use Rattle.vr_site.specs.Replica.{shown, Handles}
-use Rattle.vr_site.proofs.Cells.{saves_beat, quiet_beat}
+use Rattle.vr_site.proofs.Cells.{beat_keeps}
 use Rattle.vr_site.proofs.Restarts.{asked_again, asked_nobody}
 use Rattle.vr_site.proofs.Shows.{beat_is_taken}
 use Rattle.vr_site.proofs.replica.Replica.beat.Goals as goal
@@ -23,15 +23,13 @@ returns-in-Up-clause-handles g c =
     let cell = held at.cell in
     let r = c.in-Up.running in
     let was : at.life ≡ Up r = sym c.replace.ensures.value ∙ c.in-Up.is in
-    let well = subst (λ l. IsWell m (m.start at.setup) f cell l) was c.self.invariant.1 in
+    let well = subst (λ l. IsWell m (m.start at.setup) f l) was c.self.invariant.1 in
     subst (λ v. Handles m g.C.BootCell v c.finish.new.self Beat c.finish.result) (ap (shown f me at.setup at.cell) (sym was) ∙ c.self.view_is)
     (c.finish.ensures.handles r Beat (record {
-      sound = well.0;
-      view = well.1;
-      allowed = beat_is_taken g.row.M-Reply.Denot g.row.M-Order.Denot f me (site_of r [] cell) well.0.up;
+      sound = well;
+      allowed = beat_is_taken g.row.M-Reply.Denot g.row.M-Order.Denot f me (site_of r [] cell) well.up;
       follows = λ choose acks right h. c.beat-done.ensures (m.start at.setup) acks cell h;
-      saves = λ choose acks. saves_beat f me (site_of r acks cell) well.1 choose r.status well.0.up;
-      quiet = λ choose acks. (quiet_beat f me (site_of r acks cell) r.status well.0.up).same;
+      saves = λ choose acks. (beat_keeps f me (site_of r acks cell) r.status well.up).same;
     }))
 
 pub returns-in_default-clause-handles : goal.returns-in_default-clause-handles

@@ -1,11 +1,10 @@
-use Rattle.std.proofs.Common.{◌≡◌, [], subst}
+use Rattle.std.proofs.Common.{◌≡◌, subst}
 use Rattle.vr_types.specs.declared.event.EventOf.TheVariants.{Deliver, Timer, Beat, Crash, Restart}
 use Rattle.vr_types.specs.Handling.{site_step}
 use Rattle.vr_types.specs.Choice.{IsRight}
-use Rattle.vr_types.specs.Saved.{HoldsView}
 use Rattle.vr_types.specs.Step.{Dropped}
 use Rattle.vr_site.specs.Replica.{site_shown}
-use Rattle.vr_site.proofs.Promises.{any_choice, dropped_is_ok, life_holds_view, result_is_saved}
+use Rattle.vr_site.proofs.Promises.{any_choice, dropped_is_ok, result_is_saved}
 use Rattle.vr_site.proofs.replica.Replica.handle.Goals as goal
 
 pub returns-in-Timer-clause-dropped : goal.returns-in-Timer-clause-dropped
@@ -36,7 +35,6 @@ returns-in-Deliver-clause-saved_first g c =
     let at = c.self.inside in
     let right = any_choice at.config.f g.M.Cmd.PartialEq.eq at.config.some g.met.M.Cmd.Eq.laws g.met.M.Machine.same_cmd in
     result_is_saved m g.C.BootCell c.args.self.now _ (Deliver c.in-Deliver.envelope) right.0 (subst (λ v. IsRight v.f right.0) c.self.view_is right.1)
-    (subst (λ v. HoldsView (site_shown held v [])) c.self.view_is (life_holds_view m (m.start at.setup) at.config.f (held at.cell) at.life c.self.invariant.1))
     c.deliver.result c.deliver.ensures.handles
 
 pub returns-in-Timer-clause-saved_first : goal.returns-in-Timer-clause-saved_first
@@ -46,7 +44,6 @@ returns-in-Timer-clause-saved_first g c =
     let at = c.self.inside in
     let right = any_choice at.config.f g.M.Cmd.PartialEq.eq at.config.some g.met.M.Cmd.Eq.laws g.met.M.Machine.same_cmd in
     result_is_saved m g.C.BootCell c.args.self.now _ Timer right.0 (subst (λ v. IsRight v.f right.0) c.self.view_is right.1)
-    (subst (λ v. HoldsView (site_shown held v [])) c.self.view_is (life_holds_view m (m.start at.setup) at.config.f (held at.cell) at.life c.self.invariant.1))
     c.timer.result c.timer.ensures.handles
 
 pub returns-in-Beat-clause-saved_first : goal.returns-in-Beat-clause-saved_first
@@ -56,7 +53,6 @@ returns-in-Beat-clause-saved_first g c =
     let at = c.self.inside in
     let right = any_choice at.config.f g.M.Cmd.PartialEq.eq at.config.some g.met.M.Cmd.Eq.laws g.met.M.Machine.same_cmd in
     result_is_saved m g.C.BootCell c.args.self.now _ Beat right.0 (subst (λ v. IsRight v.f right.0) c.self.view_is right.1)
-    (subst (λ v. HoldsView (site_shown held v [])) c.self.view_is (life_holds_view m (m.start at.setup) at.config.f (held at.cell) at.life c.self.invariant.1))
     c.beat.result c.beat.ensures.handles
 
 pub returns-in-Crash-clause-saved_first : goal.returns-in-Crash-clause-saved_first
@@ -66,7 +62,6 @@ returns-in-Crash-clause-saved_first g c =
     let at = c.self.inside in
     let right = any_choice at.config.f g.M.Cmd.PartialEq.eq at.config.some g.met.M.Cmd.Eq.laws g.met.M.Machine.same_cmd in
     result_is_saved m g.C.BootCell c.args.self.now _ Crash right.0 (subst (λ v. IsRight v.f right.0) c.self.view_is right.1)
-    (subst (λ v. HoldsView (site_shown held v [])) c.self.view_is (life_holds_view m (m.start at.setup) at.config.f (held at.cell) at.life c.self.invariant.1))
     c.crash.result c.crash.ensures.handles
 
 pub returns-in-Restart-clause-saved_first : goal.returns-in-Restart-clause-saved_first
@@ -76,5 +71,4 @@ returns-in-Restart-clause-saved_first g c =
     let at = c.self.inside in
     let right = any_choice at.config.f g.M.Cmd.PartialEq.eq at.config.some g.met.M.Cmd.Eq.laws g.met.M.Machine.same_cmd in
     result_is_saved m g.C.BootCell c.args.self.now _ Restart right.0 (subst (λ v. IsRight v.f right.0) c.self.view_is right.1)
-    (subst (λ v. HoldsView (site_shown held v [])) c.self.view_is (life_holds_view m (m.start at.setup) at.config.f (held at.cell) at.life c.self.invariant.1))
     c.restart.result c.restart.ensures.handles

@@ -1,25 +1,20 @@
-use Rattle.std.proofs.Common.{refl, sym, ap, ◌∙◌, subst}
+use Rattle.std.proofs.Common.{refl, ap, ◌∙◌, subst}
 use Rattle.std.specs.Prelude.{Ok, IfOk}
-use Rattle.vr_types.specs.declared.event.SiteFault.TheVariants.{CellFault}
-use Rattle.vr_types.specs.declared.event.Status.TheVariants as status
 use Rattle.vr_recover.specs.Progress.{IsSoundProgress}
-use Rattle.vr_recover.specs.Recovering.{responses_of}
-use Rattle.vr_site.specs.Life.{resting}
-use Rattle.vr_site.specs.Replica.{Handles, Awaits}
-use Rattle.vr_site.proofs.Shows.{err_is}
-use Rattle.vr_site.proofs.Waits.{waited_short, waited_dropped, waited_on, regained_on, regained_unsaved}
+use Rattle.vr_site.specs.Replica.{Awaits}
+use Rattle.vr_site.proofs.Waits.{waited_short, waited_dropped, waited_on, regained_on}
 use Rattle.vr_site.proofs.replica.Replica.proceed.Goals as goal
 
 pub returns-in_default-clause-handles : goal.returns-in_default-clause-handles
 returns-in_default-clause-handles g c = λ before event awaits.
-    waited_short g.M.Machine g.C.BootCell c.args.self.now before c.args.recovering.responses.items event c.args.progress c.in_default.not-Ok c.requires.down awaits
+    waited_short g.M.Machine g.C.BootCell c.args.self.now before c.args.recovering event c.args.progress c.in_default.not-Ok c.requires.down awaits
 
 pub returns-in-Dropped-clause-handles : goal.returns-in-Dropped-clause-handles
 returns-in-Dropped-clause-handles g c = λ before event awaits.
     let m = g.M.Machine in
     let held = g.C.BootCell.held in
     let base = c.args.self.now in
-    let now = c.args.recovering.responses.items in
+    let now = c.args.recovering in
     waited_dropped m g.C.BootCell base before now event _ (ap (λ v. v.f) c.self.view_is, ap (λ v. v.me) c.self.view_is, ap (λ v. v.setup) c.self.view_is)
     c.dropped.result c.in-Dropped.why refl (ap (λ v. v.cell) c.self.view_is) c.dropped.ensures
     (subst (λ p. Awaits base.f base.me (held base.cell) before now p event) (c.in-Ok.is ∙ ap (λ p. Ok p) c.in-Dropped.is) awaits)
@@ -29,32 +24,20 @@ returns-in-Waits-clause-handles g c = λ before event awaits.
     let m = g.M.Machine in
     let held = g.C.BootCell.held in
     let base = c.args.self.now in
-    let now = c.args.recovering.responses.items in
-    let view = c.self-in-Waits.view_is in
+    let now = c.args.recovering in
+    let view = c.self.view_is in
     waited_on m g.C.BootCell base before now event _ (ap (λ v. v.f) view, ap (λ v. v.me) view, ap (λ v. v.setup) view)
     c.silent.result refl (ap (λ v. v.cell) view) c.silent.ensures
     (subst (λ p. Awaits base.f base.me (held base.cell) before now p event) (c.in-Ok.is ∙ ap (λ p. Ok p) c.in-Waits.is) awaits)
 
-pub returns-in_err-go_on-in-Regained-clause-handles : goal.returns-in_err-go_on-in-Regained-clause-handles
-returns-in_err-go_on-in-Regained-clause-handles g c = λ before event awaits.
+pub returns-in-Regained-clause-handles : goal.returns-in-Regained-clause-handles
+returns-in-Regained-clause-handles g c = λ before event awaits.
     let m = g.M.Machine in
     let held = g.C.BootCell.held in
     let base = c.args.self.now in
-    let now = c.args.recovering.responses.items in
-    let after = c.in_err-go_on-in-Regained.ensures in
-    subst (Handles m g.C.BootCell (record base { volatile = resting status.Recovering (responses_of before) }) c.go_on.new.self event)
-    (sym (err_is c.from_residual.result c.in_err-go_on-in-Regained.field-0.0 CellFault c.from_residual.ensures.1 after.fault))
-    (regained_unsaved m g.C.BootCell base before now event _ c.go_on.ensures.config c.in-Regained.running after.down after.cell after.failed
-    (subst (λ p. Awaits base.f base.me (held base.cell) before now p event) (c.in-Ok.is ∙ ap (λ p. Ok p) c.in-Regained.is) awaits))
-
-pub returns-in_ok-go_on-in-Regained-clause-handles : goal.returns-in_ok-go_on-in-Regained-clause-handles
-returns-in_ok-go_on-in-Regained-clause-handles g c = λ before event awaits.
-    let m = g.M.Machine in
-    let held = g.C.BootCell.held in
-    let base = c.args.self.now in
-    let now = c.args.recovering.responses.items in
-    let after = c.in_ok-go_on-in-Regained.ensures in
-    regained_on m g.C.BootCell base before now event _ c.go_on.ensures.config _ c.in-Regained.running
+    let now = c.args.recovering in
+    let view = c.self.view_is in
+    regained_on m g.C.BootCell base before now event _ (ap (λ v. v.f) view, ap (λ v. v.me) view, ap (λ v. v.setup) view) _ c.in-Regained.running
     (subst (λ p. IfOk p (λ q. IsSoundProgress m (m.start base.setup) base.f now q)) (c.in-Ok.is ∙ ap (λ p. Ok p) c.in-Regained.is) c.requires.sound)
-    after.up after.saved after.once c.silent-in-Regained.ensures
+    refl (ap (λ v. v.cell) view) c.silent-in-Regained.ensures
     (subst (λ p. Awaits base.f base.me (held base.cell) before now p event) (c.in-Ok.is ∙ ap (λ p. Ok p) c.in-Regained.is) awaits)

@@ -12,9 +12,9 @@ pub returns-clause-handles : goal.returns-clause-handles
 returns-clause-handles g c =
     let held = g.C.BootCell.held in
     let now = c.args.self.now in
-    let kept = c.args.recovering.responses.items in
+    let kept = c.args.recovering in
     let e = c.args.envelope in
-    let left = c.await_state-progress.new.recovering.responses.items in
+    let left = c.await_state-progress.new.recovering in
     let done = c.await_state-progress.result in
     let follows = subst
     (λ v. (choose : Choice g.row.M-Cmd.Denot) (acks : List Ack) → IsRight v.f choose

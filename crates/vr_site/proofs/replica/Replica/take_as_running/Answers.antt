@@ -4,7 +4,7 @@ use Rattle.vr_types.specs.Choice.{Choice, IsRight}
 use Rattle.vr_types.specs.Handling.{on_event}
 use Rattle.vr_types.specs.Site.{Ack}
 use Rattle.vr_log.specs.Running.{IsSound, IsRunning, Follows, site_of}
-use Rattle.vr_site.proofs.Cells.{saves_message, quiet_message}
+use Rattle.vr_site.proofs.Cells.{message_keeps}
 use Rattle.vr_site.proofs.Shows.{on_ok_then, up_is_not_down, mine_is_taken}
 use Rattle.vr_site.proofs.replica.Replica.take_as_running.Goals as goal
 
@@ -13,7 +13,7 @@ finish-requires-clause-sound g c =
     let m = g.M.Machine in
     let now = c.args.self.now in
     on_ok_then c.serve-done.result _ _
-    (λ h. subst (λ v. IsSound m (m.start v.setup) v.f c.args.running → IsSound m (m.start v.setup) v.f c.serve-done.new.running) c.self.view_is (h (m.start c.self.inside.setup)) c.requires.well.0)
+    (λ h. subst (λ v. IsSound m (m.start v.setup) v.f c.args.running → IsSound m (m.start v.setup) v.f c.serve-done.new.running) c.self.view_is (h (m.start c.self.inside.setup)) c.requires.sound)
     c.serve-done.ensures.sound
 
 pub returns-clause-handles : goal.returns-clause-handles
@@ -23,16 +23,14 @@ returns-clause-handles g c =
     let now = c.args.self.now in
     let r = c.args.running in
     let e = c.args.envelope in
-    let well = c.requires.well in
+    let sound = c.requires.sound in
     c.finish.ensures.handles r (Deliver e) (record {
-      sound = well.0;
-      view = well.1;
-      allowed = mine_is_taken now.f now.me (site_of r [] (held now.cell)) e (up_is_not_down r.status well.0.up) c.requires.mine;
+      sound = sound;
+      allowed = mine_is_taken now.f now.me (site_of r [] (held now.cell)) e (up_is_not_down r.status sound.up) c.requires.mine;
       follows = subst
           (λ v. (choose : Choice g.row.M-Cmd.Denot) (acks : List Ack) → IsRight v.f choose → IsRunning m (m.start v.setup) v.f r acks
           → Follows m (m.start v.setup) v.f v.me c.serve-done.new.running c.serve-done.result (on_event choose v.f v.me (site_of r acks (held v.cell)) (Deliver e)))
           c.self.view_is
           (λ choose acks right h. c.serve-done.ensures.step choose (m.start c.self.inside.setup) acks (held c.self.inside.cell) right h);
-      saves = λ choose acks. saves_message now.f now.me (site_of r acks (held now.cell)) well.1 choose well.0.up e.from e.msg;
-      quiet = λ choose acks. (quiet_message now.f now.me (site_of r acks (held now.cell)) choose well.0.up e.from e.msg).same;
+      saves = λ choose acks. (message_keeps now.f now.me (site_of r acks (held now.cell)) choose sound.up e.from e.msg).same;
     })

@@ -1,12 +1,11 @@
 use Rattle.std.proofs.Common.{◌≡◌, ◌≢◌, [], refl, sym, ap, ◌∙◌, subst}
 use Rattle.vr_types.specs.declared.event.EventOf.TheVariants.{Timer}
-use Rattle.vr_types.specs.Handling.{max_number}
+use Rattle.vr_types.specs.Cell.{max_number}
 use Rattle.vr_log.specs.Running.{site_of}
 use Rattle.vr_site.specs.declared.life.Life.TheVariants.{Recovering, Up}
 use Rattle.vr_site.specs.Life.{IsWell}
 use Rattle.vr_site.specs.Replica.{shown, Handles}
-use Rattle.vr_change.proofs.Saves.{timer_saves}
-use Rattle.vr_site.proofs.Cells.{quiet_timer}
+use Rattle.vr_site.proofs.Cells.{timer_keeps}
 use Rattle.vr_site.proofs.Recovering.{timer_is}
 use Rattle.vr_site.proofs.Shows.{on_ok_then, timer_is_taken}
 use Rattle.vr_site.proofs.replica.Replica.timer.Goals as goal
@@ -17,7 +16,7 @@ returns-in-Recovering-clause-handles g c =
     let held = g.C.BootCell.held in
     let at = c.self.inside in
     let was : at.life ≡ Recovering c.in-Recovering.recovering = sym c.replace.ensures.value ∙ c.in-Recovering.is in
-    let kept = c.in-Recovering.recovering.responses.items in
+    let kept = c.in-Recovering.recovering in
     subst (λ v. Handles m g.C.BootCell v c.proceed.new.self Timer c.proceed.result) (ap (shown at.config.f at.config.me at.setup at.cell) (sym was) ∙ c.self.view_is)
     (c.proceed.ensures.handles kept Timer (record { allowed = refl; follows = λ choose acks right. timer_is at.config.f at.config.me kept acks (held at.cell) }))
 
@@ -26,8 +25,8 @@ finish-requires-clause-sound g c =
     let m = g.M.Machine in
     let at = c.self.inside in
     let was : at.life ≡ Up c.in-Up.running = sym c.replace.ensures.value ∙ c.in-Up.is in
-    let well = subst (λ l. IsWell m (m.start at.setup) at.config.f (g.C.BootCell.held at.cell) l) was c.self.invariant.1 in
-    on_ok_then c.timer-done.result _ _ (λ h. h (m.start at.setup) well.0) c.timer-done.ensures.sound
+    let well = subst (λ l. IsWell m (m.start at.setup) at.config.f l) was c.self.invariant.1 in
+    on_ok_then c.timer-done.result _ _ (λ h. h (m.start at.setup) well) c.timer-done.ensures.sound
 
 pub returns-else-running-clause-handles : goal.returns-else-running-clause-handles
 returns-else-running-clause-handles g c =
@@ -39,14 +38,12 @@ returns-else-running-clause-handles g c =
     let cell = held at.cell in
     let r = c.in-Up.running in
     let was : at.life ≡ Up r = sym c.replace.ensures.value ∙ c.in-Up.is in
-    let well = subst (λ l. IsWell m (m.start at.setup) f cell l) was c.self.invariant.1 in
+    let well = subst (λ l. IsWell m (m.start at.setup) f l) was c.self.invariant.1 in
     let more : r.view ≢ max_number = c.if-running.false in
     subst (λ v. Handles m g.C.BootCell v c.finish.new.self Timer c.finish.result) (ap (shown f me at.setup at.cell) (sym was) ∙ c.self.view_is)
     (c.finish.ensures.handles r Timer (record {
-      sound = well.0;
-      view = well.1;
-      allowed = timer_is_taken g.row.M-Reply.Denot g.row.M-Order.Denot f me (site_of r [] cell) well.0.up more;
+      sound = well;
+      allowed = timer_is_taken g.row.M-Reply.Denot g.row.M-Order.Denot f me (site_of r [] cell) well.up more;
       follows = λ choose acks right h. c.timer-done.ensures.step (m.start at.setup) acks cell h;
-      saves = λ choose acks. timer_saves choose f me (site_of r acks cell) well.1;
-      quiet = λ choose acks. (quiet_timer f me (site_of r acks cell)).same;
+      saves = λ choose acks. (timer_keeps f me (site_of r acks cell)).same;
     }))

@@ -1,0 +1,101 @@
+#!/usr/bin/env python3
+"""Tests .ci/edits over a small crate: what the prover lets through is told, alone and in a round whose other edits are refused."""
+import os
+import re
+import shutil
+import subprocess
+import sys
+import tempfile
+
+HERE = os.path.dirname(os.path.abspath(__file__))
+
+SOURCE = """//! A counter, for the test of the edits.
+
+#![tactic(auto)]
+
+ghost use Rattle.std.specs.Prelude.{◌≡◌, ◌+◌, ◌<◌, ◌≤◌, ◌^◌};
+
+/// One more.
+pub fn next(n: u8) -> u8
+    requires { n < 200 }
+    ensures { result ≡ n + 1 }
+{
+    n + 1
+}
+
+/// Two more.
+pub fn after_next(n: u8) -> u8
+    requires { n < 199 }
+    ensures { result ≡ n + 2 }
+{
+    next(next(n))
+}
+
+/// The smaller of two.
+pub fn smaller(a: u8, b: u8) -> u8
+    ensures left { result ≤ a }
+    ensures right { result ≤ b }
+{
+    if a < b { a } else { b }
+}
+
+/// Twice the number.
+pub fn twice(n: u8) -> u16
+    ensures { result ≡ n + n }
+{
+    let n = n as u16;
+    n + n
+}
+"""
+
+# an edit, its text, and what has to be said of it
+EDITS = {
+    # a round of three, of which one is let through
+    "next_adds_two": ("    n + 1", "    n + 2", "refused by next"),
+    "smaller_is_the_greater": ("if a < b { a }", "if b < a { a }", "refused by smaller"),
+    "twice_is_said_otherwise": ("    n + n", "    2 * n", "NOT REFUSED"),
+    # they touch a function that another of the round calls, or that another edit touches
+    "after_next_forgets_one": ("next(next(n))", "next(n)", "refused by after_next"),
+    "smaller_is_always_0": ("{ b }", "{ 0 }", "NOT REFUSED"),
+    # alone, since it stands in no body
+    "limit_is_said_otherwise": ("n < 199", "n + 1 < 200", "NOT REFUSED"),
+    # that show nothing
+    "names_nothing": ("n as u16", "m as u16", "BAD EDIT: the prover cannot read"),
+    "stands_nowhere": ("n + 3", "n + 2", "BAD EDIT: it cannot be applied"),
+}
+
+
+def write(path, text):
+    os.makedirs(os.path.dirname(path), exist_ok=True)
+    with open(path, "w", encoding="utf-8") as it:
+        it.write(text)
+
+
+def main():
+    with tempfile.TemporaryDirectory(prefix="edits-test-") as room:
+        write(f"{room}/crates.txt", "counter:\n")
+        write(f"{room}/HANDLES", "Handles allowed: none.\n")
+        write(f"{room}/crates/counter/src/lib.rt", SOURCE)
+        for name, (old, new, _) in EDITS.items():
+            write(f"{room}/crates/counter/wrong/{name}.edit", f"file: src/lib.rt\nold: {old}\nnew: {new}\n")
+        os.makedirs(f"{room}/.ci")
+        shutil.copy(f"{HERE}/edits", f"{room}/.ci/edits")
+        ran = subprocess.run([f"{room}/.ci/edits"], stdout=subprocess.PIPE, stderr=subprocess.STDOUT, text=True)
+    wrong = []
+    for name, (_, _, wanted) in EDITS.items():
+        said = re.search(rf"^counter/{name}\.edit: (.*)", ran.stdout, re.M)
+        if not said or not said[1].startswith(wanted):
+            wrong.append(f"{name}: wanted '{wanted}', and it said '{said and said[1]}'")
+    refused = sum(wanted.startswith("refused") for _, _, wanted in EDITS.values())
+    last = f"{refused} passed, {len(EDITS) - refused} failed"
+    if ran.stdout.rstrip("\n").split("\n")[-1] != last or ran.returncode != 1:
+        wrong.append(f"the last line is not '{last}' with status 1")
+    if wrong:
+        print(ran.stdout)
+        print("\n".join(wrong))
+    print(f"{len(EDITS) - len(wrong)} passed, {len(wrong)} failed")
+    return 1 if wrong else 0
+
+
+if __name__ == "__main__":
+    sys.exit(main())

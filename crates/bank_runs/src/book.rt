@@ -1,0 +1,183 @@
+//! Commands to a book of the small bank, and what they are answered.
+use fixtures::setup::three_currencies;
+use pvp_book::{Book, PairState};
+use pvp_types::{Cmd, PayOrder, Reason, Reply};
+use std::alloc::{AllocError, Global};
+use std::process::Abort;
+use std::test::Fail;
+
+mod answers;
+mod rows;
+mod walks;
+
+/// The clients: the operator, two members and two nodes.
+const OPERATOR: u16 = 0;
+
+const ALFA: u16 = 1;
+
+const BETA: u16 = 2;
+
+const EUR_NODE: u16 = 101;
+
+const USD_NODE: u16 = 102;
+
+/// The currencies.
+const EUR: u8 = 0;
+
+const USD: u8 = 1;
+
+const JPY: u8 = 2;
+
+fn fund(ccy: u8, pay: u32, member: u16, amt: u64) -> Cmd {
+    Cmd::Fund {
+        ccy,
+        pay,
+        member,
+        amt,
+    }
+}
+
+fn instruct(reference: u32, other: u16, sell: (u8, u64), buy: (u8, u64)) -> Cmd {
+    Cmd::Instruct {
+        reference,
+        other,
+        sell: sell.0,
+        sell_amt: sell.1,
+        buy: buy.0,
+        buy_amt: buy.1,
+    }
+}
+
+fn rescind(reference: u32) -> Cmd {
+    Cmd::Rescind { reference }
+}
+
+fn settle(most: u32) -> Cmd {
+    Cmd::Settle { most }
+}
+
+fn pay_out(ccy: u8, amt: u64) -> Cmd {
+    Cmd::PayOut { ccy, amt }
+}
+
+fn paid(ccy: u8, out: u32) -> Cmd {
+    Cmd::Paid { ccy, out }
+}
+
+fn returned(ccy: u8, out: u32) -> Cmd {
+    Cmd::Returned { ccy, out }
+}
+
+/// A new book of the small bank.
+fn book(alloc: Global) -> Result<Book, AllocError> {
+    Ok(Book::fresh(alloc, &three_currencies(alloc)?)?)
+}
+
+/// A command, its sender and what it is answered.
+type Row = (u16, Cmd, Reply);
+
+/// Gives a book commands in turn, and compares their answers.
+fn run(rt: &impl Abort, book: &mut Book, rows: &[Row]) -> Result<(), Fail> {
+    for (client, cmd, reply) in rows {
+        assert!(rt; book.applied() < 65_535);
+        assert_eq!(rt; book.apply(*client, *cmd)?, *reply);
+    }
+    Ok(())
+}
+
+#[test]
+fn keeps_a_pay_out_until_it_is_paid(rt: HostRuntime) -> Result<(), Fail> {
+    let mut book = book(rt.alloc())?;
+    let rows = [
+        (USD_NODE, fund(USD, 1, ALFA, 1200), Reply::Done),
+        (ALFA, pay_out(USD, 200), Reply::Order(1)),
+    ];
+    run(&rt, &mut book, &rows)?;
+    let order = PayOrder {
+        ccy: USD,
+        out: 1,
+        member: ALFA,
+        amt: 200,
+    };
+    assert_eq!(rt; book.open(0), Some((USD_NODE, order)));
+    assert_eq!(rt; book.open(1), None);
+    assert_eq!(rt; book.open_orders(USD).next(), Some(order));
+    assert_eq!(rt; book.open_count(), 1);
+    run(&rt, &mut book, &[(USD_NODE, paid(USD, 1), Reply::Done)])?;
+    assert_eq!(rt; book.open(0), None);
+    assert_eq!(rt; book.orders(USD), 1);
+    Ok(())
+}
+
+#[test]
+fn credits_a_returned_pay_out_once(rt: HostRuntime) -> Result<(), Fail> {
+    let mut book = book(rt.alloc())?;
+    let rows = [
+        (USD_NODE, fund(USD, 1, ALFA, 1200), Reply::Done),
+        (ALFA, pay_out(USD, 200), Reply::Order(1)),
+        (USD_NODE, returned(USD, 1), Reply::Done),
+        (USD_NODE, returned(USD, 1), Reply::No(Reason::Repeated)),
+        (USD_NODE, paid(USD, 1), Reply::No(Reason::Repeated)),
+        (
+            USD_NODE,
+            returned(USD, 2),
+            Reply::No(Reason::UnknownReference),
+        ),
+    ];
+    run(&rt, &mut book, &rows)?;
+    assert_eq!(rt; book.balance(ALFA, USD), 1200);
+    assert_eq!(rt; book.figure(USD), 1200);
+    assert_eq!(rt; book.open_count(), 0);
+    assert_eq!(rt; book.orders(USD), 1);
+    Ok(())
+}
+
+#[test]
+fn counts_what_came(rt: HostRuntime) -> Result<(), Fail> {
+    let mut book = book(rt.alloc())?;
+    assert_eq!(rt; book.applied(), 0);
+    let rows = [
+        (USD_NODE, fund(USD, 1, ALFA, 1200), Reply::Done),
+        (
+            USD_NODE,
+            fund(USD, 1, ALFA, 1200),
+            Reply::No(Reason::Repeated),
+        ),
+    ];
+    run(&rt, &mut book, &rows)?;
+    assert_eq!(rt; book.applied(), 2);
+    assert_eq!(rt; book.balance(ALFA, USD), 1200);
+    assert_eq!(rt; book.figure(USD), 1200);
+    assert!(rt; book.paid_in(USD, 1));
+    assert!(rt; !book.paid_in(USD, 2));
+    assert_eq!(rt; book.setup().sites, 3);
+    Ok(())
+}
+
+#[test]
+fn knows_how_far_a_pair_has_come(rt: HostRuntime) -> Result<(), Fail> {
+    let mut book = book(rt.alloc())?;
+    let rows = [
+        (ALFA, instruct(7, BETA, (USD, 10), (EUR, 9)), Reply::Done),
+        (ALFA, instruct(3, BETA, (USD, 10), (EUR, 9)), Reply::Done),
+        (BETA, instruct(3, ALFA, (EUR, 9), (USD, 10)), Reply::Matched),
+        (ALFA, instruct(4, BETA, (USD, 1), (EUR, 1)), Reply::Done),
+        (ALFA, rescind(4), Reply::Done),
+        (USD_NODE, fund(USD, 1, ALFA, 10), Reply::Done),
+        (EUR_NODE, fund(EUR, 1, BETA, 9), Reply::Done),
+        (ALFA, instruct(5, BETA, (USD, 10), (EUR, 9)), Reply::Done),
+        (BETA, instruct(5, ALFA, (EUR, 9), (USD, 10)), Reply::Matched),
+        (OPERATOR, settle(1), Reply::Settled(1)),
+    ];
+    run(&rt, &mut book, &rows)?;
+    assert_eq!(rt; book.pair(1), None);
+    assert_eq!(rt; book.pair(7), Some(PairState::Unmatched));
+    assert_eq!(rt; book.pair(3), Some(PairState::Settled));
+    assert_eq!(rt; book.pair(4), Some(PairState::Rescinded));
+    assert_eq!(rt; book.pair(5), Some(PairState::Matched));
+    assert_eq!(rt; book.pairs(PairState::Unmatched), 1);
+    assert_eq!(rt; book.pairs(PairState::Matched), 1);
+    assert_eq!(rt; book.pairs(PairState::Settled), 1);
+    assert_eq!(rt; book.pairs(PairState::Rescinded), 1);
+    Ok(())
+}

@@ -1,0 +1,111 @@
+//! A plain program of the walk, beside the book's own.
+use super::*;
+
+/// What ALFA sells BETA, and what it buys.
+type Offer = ((u8, u64), (u8, u64));
+
+/// The balances of one member once a pair is posted.
+fn posted(balances: [i64; 3], sell: (u8, u64), buy: (u8, u64)) -> [i64; 3] {
+    let mut after = balances;
+    for (c, balance) in after.iter_mut().enumerate() {
+        if c == usize::from(sell.0) {
+            *balance = balance.wrapping_sub_unsigned(sell.1);
+        }
+        if c == usize::from(buy.0) {
+            *balance = balance.wrapping_add_unsigned(buy.1);
+        }
+    }
+    after
+}
+
+/// The three tests, at the limits and rates of the setup.
+fn passes(balances: [i64; 3]) -> bool {
+    let mut value: i64 = 0;
+    let mut shortage: i64 = 0;
+    for (balance, (rate, haircut, short)) in balances.iter().zip([
+        (110, 500, 1000),
+        (100, 0, 1000),
+        (1, 1000, 100_000),
+    ].iter())
+    {
+        if *balance < 0 {
+            let rated = balance.wrapping_neg().wrapping_mul(*rate);
+            value = value.wrapping_sub(rated.wrapping_mul(10_000i64.wrapping_add(*haircut)));
+            shortage = shortage.wrapping_add(rated);
+        } else {
+            let rated = balance.wrapping_mul(*rate);
+            value = value.wrapping_add(rated.wrapping_mul(10_000i64.wrapping_sub(*haircut)));
+        }
+        if balance.wrapping_add(*short) < 0 {
+            return false;
+        }
+    }
+    value >= 0 && shortage <= 150_000
+}
+
+/// Which of the offers a walk posts, from these balances on.
+fn plain_walk(alfa: [i64; 3], beta: [i64; 3], offers: &[Offer; 3], most: u32) -> [bool; 3] {
+    let mut taken = [false; 3];
+    let mut left = most;
+    let mut now = (alfa, beta);
+    for (mark, (sell, buy)) in taken.iter_mut().zip(offers.iter()) {
+        let after = (posted(now.0, *sell, *buy), posted(now.1, *buy, *sell));
+        if left != 0 && passes(after.0) && passes(after.1) {
+            now = after;
+            left = left.wrapping_sub(1);
+            *mark = true;
+        }
+    }
+    taken
+}
+
+/// Walks over three offers in a book, and compares what it settled.
+fn agrees(rt: &impl Abort, alloc: Global, offers: &[Offer; 3], most: u32) -> Result<(), Fail> {
+    let mut book = book(alloc)?;
+    let funds = [
+        (USD_NODE, fund(USD, 1, ALFA, 1500), Reply::Done),
+        (EUR_NODE, fund(EUR, 1, BETA, 500), Reply::Done),
+    ];
+    run(rt, &mut book, &funds)?;
+    for (i, (sell, buy)) in offers.iter().enumerate() {
+        let reference = i as u32 + 1;
+        let both = [
+            (ALFA, instruct(reference, BETA, *sell, *buy), Reply::Done),
+            (BETA, instruct(reference, ALFA, *buy, *sell), Reply::Matched),
+        ];
+        run(rt, &mut book, &both)?;
+    }
+    let taken = plain_walk([0, 1500, 0], [500, 0, 0], offers, most);
+    let count = taken.iter().filter(|mark| **mark).count() as u32;
+    run(
+        rt,
+        &mut book,
+        &[(OPERATOR, settle(most), Reply::Settled(count))],
+    )?;
+    for (i, mark) in taken.iter().enumerate() {
+        let state = if *mark {
+            PairState::Settled
+        } else {
+            PairState::Matched
+        };
+        assert_eq!(rt; book.pair(i as u32 + 1), Some(state));
+    }
+    Ok(())
+}
+
+#[test]
+fn the_plain_walk_settles_the_same_pairs(rt: HostRuntime) -> Result<(), Fail> {
+    for first in [400, 900, 1400] {
+        for second in [300, 1400, 1500] {
+            for most in [0, 1, 2, 3] {
+                let offers = [
+                    ((USD, 1100), (EUR, first)),
+                    ((EUR, second), (USD, 1000)),
+                    ((USD, 400), (JPY, 40_000)),
+                ];
+                agrees(&rt, rt.alloc(), &offers, most)?;
+            }
+        }
+    }
+    Ok(())
+}

@@ -1,0 +1,295 @@
+-- What a site's step sends to sites is of the kinds that go between sites: no REQUEST, no REPLY, no PAYORDER.
+use Rattle.std.proofs.Common.{◌≡◌, ℕ, ◌+◌, ◌==◌, ◌&&◌, ◌||◌, Bool, true, false, not, nat_lt, nat_le, if◌then◌else◌, List, [], ◌∷◌, ◌++◌, length, take, slice_get, Option, Some, None, refl, sym, subst}
+use Rattle.std.specs.Prelude.{All}
+use Rattle.std.proofs.lemmas.List.Elements.{All-nil, All-cons, All-append, All-map}
+use Rattle.vr_types.specs.declared.event.EventOf.{EventOf}
+use Rattle.vr_types.specs.declared.event.EventOf.TheVariants.{Deliver, Timer, Beat, Crash, Restart}
+use Rattle.vr_types.specs.declared.event.SiteFault.{SiteFault}
+use Rattle.vr_types.specs.declared.event.Status.{Status}
+use Rattle.vr_types.specs.declared.event.Status.TheVariants.{Normal, Change, Recovering, Down}
+use Rattle.vr_types.specs.declared.limits.TheConstants.{MAX_ROWS}
+use Rattle.vr_types.specs.declared.message.EnvelopeOf.{EnvelopeOf}
+use Rattle.vr_types.specs.declared.message.MsgOf.{MsgOf}
+use Rattle.vr_types.specs.declared.message.MsgOf.TheVariants.{Request, Prepare, PrepareOk, Commit, StartViewChange, DoViewChange, StartView, GetState, NewState, Recovery, RecoveryResponse, Reply, PayOrder}
+use Rattle.vr_types.specs.declared.row.RowOf.{RowOf}
+use Rattle.vr_types.specs.Group.{others, primary, mail, to_all}
+use Rattle.vr_types.specs.Rows.{newest, last_of}
+use Rattle.vr_types.specs.Site.{Start, Vote, Response, Site, boot_of, is_normal, is_change, is_recovering}
+use Rattle.vr_types.specs.Choice.{Choice, Regained}
+use Rattle.vr_types.specs.Step.{Step, does, is_outdated, learns, normal_in, executed_to, begins_with_executed, asks_state, acknowledges_all, takes_log}
+use Rattle.vr_types.specs.Normal.{with_row, with_next, answers_again, on_request, prepares, on_prepare, on_commit, on_prepare_ok, news, beats_normal}
+use Rattle.vr_types.specs.Change.{Part, with_start, with_vote, with_voted, own_vote, sends_vote, is_to_vote, is_to_open, starts_view, starts_later_view, votes_where_due, opens_where_due, on_start_view_change, on_do_view_change, on_start_view, on_timer, beats_in_change}
+use Rattle.vr_types.specs.Transfer.{on_get_state, on_new_state}
+use Rattle.vr_types.specs.Recovery.{state_of_view, has_as_late, with_response, on_recovery, on_recovery_response, notes, regains, beats_recovering, on_crash, on_restart}
+use Rattle.vr_types.specs.Handling.{refusal, refused_or, on_message, on_beat, site_step}
+
+-- a kind that goes between sites
+abbrev pub is_between : {C R O : Type 0} → MsgOf C R O → Bool
+is_between (Request number cmd) = false
+is_between (Reply view number reply) = false
+is_between (PayOrder order) = false
+is_between _ = true
+
+abbrev pub AreBetween : {C R O : Type 0} → List (EnvelopeOf C R O) → Type 0
+AreBetween {C} {R} {O} es = All (λ (e : EnvelopeOf C R O). is_between e.msg ≡ true) es
+
+pub record SendsBetween {C R O : Type 0} (step : Step C R O) : Type 0 where
+  pub sent : AreBetween step.sent
+
+record PartBetween {C R O : Type 0} (part : Part C R O) : Type 0 where
+  sent : AreBetween part.sent
+
+module _ {C R O : Type 0} where
+  none : AreBetween {C = C} {R = R} {O = O} []
+  none = All-nil (λ (e : EnvelopeOf C R O). is_between e.msg ≡ true)
+
+  one : (e : EnvelopeOf C R O) → is_between e.msg ≡ true → AreBetween (e ∷ [])
+  one e h = All-cons (λ (d : EnvelopeOf C R O). is_between d.msg ≡ true) e [] h none
+
+  both : (a b : List (EnvelopeOf C R O)) → AreBetween a → AreBetween b → AreBetween (a ++ b)
+  both a b h k = All-append (λ (d : EnvelopeOf C R O). is_between d.msg ≡ true) a b h k
+
+  all : (f me : ℕ) (msg : MsgOf C R O) → is_between msg ≡ true → AreBetween (to_all f me msg)
+  all f me msg h = All-map (λ (d : EnvelopeOf C R O). is_between d.msg ≡ true) (λ j. mail me j msg) (others f me) (λ k d low. h)
+
+  either : (b : Bool) (p q : List (EnvelopeOf C R O)) → AreBetween p → AreBetween q → AreBetween (if b then p else q)
+  either true p q h k = h
+  either false p q h k = k
+
+  by_if : (b : Bool) {p q : Step C R O} → SendsBetween p → SendsBetween q → SendsBetween (if b then p else q)
+  by_if true k l = k
+  by_if false k l = l
+
+  silent : (step : Step C R O) → step.sent ≡ [] → SendsBetween step
+  silent step is = record { sent = subst (λ (es : List (EnvelopeOf C R O)). AreBetween es) (sym is) none }
+
+  told : (x : Site C) (es : List (EnvelopeOf C R O)) → AreBetween es → SendsBetween (does x es)
+  told x es k = record { sent = k }
+
+  module _ (f me : ℕ) (x : Site C) where
+    asks : (w base : ℕ) → AreBetween {C = C} {R = R} {O = O} (asks_state f me w base)
+    asks w base = one _ refl
+
+    acknowledges : (y : Site C) → AreBetween {R = R} {O = O} (acknowledges_all f me y)
+    acknowledges y = one _ refl
+
+    again : (number newest : ℕ) (last : Option (ℕ × RowOf C)) → SendsBetween (answers_again {R = R} {O = O} x number newest last)
+    again number newest None = silent _ refl
+    again number newest (Some last) = by_if ((number == newest) && (last.1.number == number)) (silent _ refl) (silent _ refl)
+
+    request : (row : RowOf C) → SendsBetween (on_request {R = R} {O = O} f me x row)
+    unfolding on_request
+    request row =
+        by_if (not (is_normal x.status)) (silent _ refl) (
+        by_if (not (primary f x.view == me)) (silent _ refl) (
+        by_if (nat_lt (newest x.log row.client) row.number)
+        (by_if (length x.log == MAX_ROWS) (silent _ refl) (told (with_row row x) _ (all f me (Prepare x.view (length x.log + 1) x.done row) refl)))
+        (again row.number (newest x.log row.client) (last_of (take x.done x.log) row.client))))
+
+    prepares_between : (place k : ℕ) (row : RowOf C) → SendsBetween (prepares {R = R} {O = O} f me x place k row)
+    prepares_between place k row =
+        told (executed_to k (with_next place row x)) _
+        (either (nat_lt (length x.log + 1) place) _ _ (asks x.view (length x.log)) (acknowledges (executed_to k (with_next place row x))))
+
+    prepare : (from w place k : ℕ) (row : RowOf C) → SendsBetween (on_prepare {R = R} {O = O} f me x from w place k row)
+    unfolding on_prepare
+    prepare from w place k row =
+        by_if (not (primary f w == from)) (silent _ refl) (
+        by_if (is_recovering x.status) (silent _ refl) (
+        by_if (nat_lt w x.view) (silent _ refl) (
+        by_if (nat_lt x.view w || is_change x.status) (told x _ (asks w x.done)) (prepares_between place k row))))
+
+    commit : (from w k : ℕ) → SendsBetween (on_commit {R = R} {O = O} f me x from w k)
+    unfolding on_commit
+    commit from w k =
+        by_if (not (primary f w == from)) (silent _ refl) (
+        by_if (is_recovering x.status) (silent _ refl) (
+        by_if (nat_lt w x.view) (silent _ refl) (
+        by_if (nat_lt x.view w || is_change x.status) (told x _ (asks w x.done))
+        (told (executed_to k x) _ (either (nat_lt (length x.log) k) _ _ (asks x.view (length x.log)) none)))))
+
+    prepare_ok : (choose : Choice C) (from w place : ℕ) → SendsBetween (on_prepare_ok {R = R} {O = O} choose f me x from w place)
+    unfolding on_prepare_ok
+    prepare_ok choose from w place =
+        by_if (not (is_normal x.status)) (silent _ refl) (
+        by_if (not (w == x.view)) (silent _ refl) (
+        by_if (not (primary f x.view == me)) (silent _ refl) (silent _ refl)))
+
+    beat_normal : SendsBetween (beats_normal {R = R} {O = O} f me x)
+    unfolding beats_normal
+    beat_normal =
+        by_if (primary f x.view == me)
+        (record { sent = all f me (news x (slice_get x.log x.done)) (news_between (slice_get x.log x.done)) }) (silent _ refl)
+      where
+        news_between : (next : Option (RowOf C)) → is_between {R = R} {O = O} (news x next) ≡ true
+        news_between None = refl
+        news_between (Some row) = refl
+
+    -- view change
+
+    vote_between : (y : Site C) → AreBetween {R = R} {O = O} (sends_vote f me y)
+    vote_between y = one _ refl
+
+    starts_between : (w : ℕ) → PartBetween (starts_view {R = R} {O = O} f me w x)
+    starts_between w = record { sent = all f me (StartViewChange w x.known) refl }
+
+    starts_later : (w : ℕ) → PartBetween (starts_later_view {R = R} {O = O} f me w x)
+    starts_later w = by_test (nat_lt x.view w)
+      where
+        by_test : (b : Bool) → PartBetween (if b then starts_view {R = R} {O = O} f me w x else record { site = x; sent = [] })
+        by_test true = starts_between w
+        by_test false = record { sent = none }
+
+  module _ (f me : ℕ) where
+    votes_between : (part : Part C R O) → PartBetween part → PartBetween (votes_where_due f me part)
+    votes_between part h = by_tests (not (is_to_vote f me part.site)) (primary f part.site.view == me)
+      where
+        by_tests : (due here : Bool) → PartBetween (
+            if due then part
+            else if here then record { site = with_vote (own_vote me part.site) (with_voted part.site); sent = part.sent }
+            else record { site = with_voted part.site; sent = part.sent ++ sends_vote f me part.site })
+        by_tests true here = h
+        by_tests false true = record { sent = h.sent }
+        by_tests false false = record { sent = both part.sent _ h.sent (vote_between f me part.site part.site) }
+
+    module _ (x : Site C) (choose : Choice C) where
+      opens : (part : Part C R O) → PartBetween part → SendsBetween (opens_where_due choose f me x part)
+      opens part k =
+          by_if (not (is_to_open f me part.site)) (record { sent = k.sent }) (
+          by_if (not (begins_with_executed choose.same part.site (choose.pick part.site.collected.votes).log)) (silent _ refl)
+          (record { sent = both part.sent _ k.sent (all f me (StartView part.site.view (executed_to (choose.most_done part.site.collected.votes) (normal_in part.site.view (choose.pick part.site.collected.votes).log part.site)).done (choose.pick part.site.collected.votes).log) refl) }))
+
+      start_view_change : (w : ℕ) (start : Start) → SendsBetween (on_start_view_change {R = R} {O = O} choose f me x w start)
+      unfolding on_start_view_change
+      start_view_change w start =
+          by_if (is_recovering x.status) (silent _ refl) (
+          by_if (nat_lt w x.view) (silent _ refl) (
+          by_if (is_normal x.status && (w == x.view)) (silent _ refl) (
+          by_if (is_outdated x.known start.from start.known) (silent _ refl) (
+          let started = starts_later_view f me w (learns start.known x) in
+          let part = starts_later f me (learns start.known x) w in
+          opens (votes_where_due f me (record started { site = with_start start started.site }))
+          (votes_between (record started { site = with_start start started.site }) (record { sent = part.sent }))))))
+
+      do_view_change : (w : ℕ) (vote : Vote C) → SendsBetween (on_do_view_change {R = R} {O = O} choose f me x w vote)
+      unfolding on_do_view_change
+      do_view_change w vote =
+          by_if (is_recovering x.status) (silent _ refl) (
+          by_if (nat_lt w x.view) (silent _ refl) (
+          by_if (not (primary f w == me)) (silent _ refl) (
+          by_if (is_normal x.status && (w == x.view)) (silent _ refl) (
+          by_if (is_outdated x.known vote.from vote.known) (silent _ refl) (
+          let started = starts_later_view f me w (learns vote.known x) in
+          let part = starts_later f me (learns vote.known x) w in
+          opens (record started { site = with_vote vote started.site }) (record { sent = part.sent }))))))
+
+      taken : (w k : ℕ) (log : List (RowOf C)) → SendsBetween (takes_log {R = R} {O = O} choose f me x w k log)
+      taken w k log =
+          let y = executed_to k (normal_in w log x) in
+          by_if (begins_with_executed choose.same x log)
+          (told y _ (either (nat_lt y.done (length y.log)) _ _ (acknowledges f me x y) none)) (silent _ refl)
+
+      start_view : (from w k : ℕ) (log : List (RowOf C)) → SendsBetween (on_start_view {R = R} {O = O} choose f me x from w k log)
+      unfolding on_start_view
+      start_view from w k log =
+          by_if (not (primary f w == from)) (silent _ refl) (
+          by_if (is_recovering x.status) (silent _ refl) (
+          by_if (nat_lt w x.view) (silent _ refl) (
+          by_if (is_normal x.status && (w == x.view)) (silent _ refl) (taken w k log))))
+
+      timer : SendsBetween (on_timer {R = R} {O = O} f me x)
+      unfolding on_timer
+      timer = by_if (is_recovering x.status) (silent _ refl) (record { sent = (starts_between f me x (x.view + 1)).sent })
+
+      beat_in_change : SendsBetween (beats_in_change {R = R} {O = O} f me x)
+      unfolding beats_in_change
+      beat_in_change =
+          told x _ (both _ _ (all f me (StartViewChange x.view x.known) refl)
+          (either (x.collected.voted && not (primary f x.view == me)) _ _ (vote_between f me x x) none))
+
+      -- state transfer
+
+      get_state : (from w base : ℕ) → SendsBetween (on_get_state {R = R} {O = O} f me x from w base)
+      unfolding on_get_state
+      get_state from w base =
+          by_if (not (is_normal x.status)) (silent _ refl) (
+          by_if (not (w == x.view)) (silent _ refl) (
+          by_if (not (primary f x.view == me)) (silent _ refl) (
+          by_if (nat_lt (length x.log) base) (silent _ refl) (told x _ (one _ refl)))))
+
+      new_state : (from w base k : ℕ) (rows : List (RowOf C)) → SendsBetween (on_new_state {R = R} {O = O} choose f me x from w base k rows)
+      unfolding on_new_state
+      new_state from w base k rows =
+          by_if (not (primary f w == from)) (silent _ refl) (
+          by_if (is_recovering x.status) (silent _ refl) (
+          by_if (nat_lt w x.view) (silent _ refl) (
+          by_if (nat_lt MAX_ROWS (base + length rows)) (silent _ refl) (
+          by_if (is_normal x.status && (w == x.view))
+          (by_if (nat_le base (length x.log) && nat_lt (length x.log) (base + length rows)) (taken w k _) (silent _ refl))
+          (by_if (nat_le base x.done && nat_le x.done (base + length rows)) (taken w k _) (silent _ refl))))))
+
+      -- recovery
+
+      recovery : (from nonce : ℕ) → SendsBetween (on_recovery {R = R} {O = O} f me x from nonce)
+      unfolding on_recovery
+      recovery from nonce =
+          by_if (not (is_normal x.status)) (silent _ refl) (
+          by_if (nat_lt nonce (boot_of x.known from)) (silent _ refl) (
+          let y = notes from nonce x in
+          told y _ (one (mail me from (RecoveryResponse y.view nonce (state_of_view f me y) y.known)) refl)))
+
+      regains_between : (y : Site C) (regained : Option (Regained C)) → SendsBetween (regains {R = R} {O = O} y regained)
+      regains_between y None = silent _ refl
+      regains_between y (Some regained) = silent _ refl
+
+      recovery_response : (nonce : ℕ) (response : Response C) → SendsBetween (on_recovery_response {R = R} {O = O} choose x nonce response)
+      unfolding on_recovery_response
+      recovery_response nonce response =
+          by_if (not (is_recovering x.status)) (silent _ refl) (
+          by_if (not (nonce == x.cell.boots)) (silent _ refl) (
+          by_if (is_outdated x.known response.from response.known) (silent _ refl) (
+          let y = learns response.known x in
+          let z = with_response response y in
+          by_if (has_as_late y.collected.responses response) (silent _ refl) (regains_between z (choose.regained z.collected.responses)))))
+
+      beat_recovering : SendsBetween (beats_recovering {R = R} {O = O} f me x)
+      unfolding beats_recovering
+      beat_recovering = told x _ (all f me (Recovery x.cell.boots) refl)
+
+      restart : SendsBetween (on_restart {R = R} {O = O} f me x)
+      unfolding on_restart
+      restart = told _ _ (all f me (Recovery (x.cell.boots + 1)) refl)
+
+      -- every event
+
+      message : (actor : ℕ) (msg : MsgOf C R O) → SendsBetween (on_message choose f me x actor msg)
+      message actor (Request number cmd) = request f me x _
+      message actor (Prepare w place k row) = prepare f me x _ w place k row
+      message actor (PrepareOk w place) = prepare_ok f me x choose _ w place
+      message actor (Commit w k) = commit f me x _ w k
+      message actor (StartViewChange w known) = start_view_change w _
+      message actor (DoViewChange w last k log known) = do_view_change w _
+      message actor (StartView w k log) = start_view _ w k log
+      message actor (GetState w base) = get_state _ w base
+      message actor (NewState w base k more) = new_state _ w base k more
+      message actor (Recovery nonce) = recovery _ nonce
+      message actor (RecoveryResponse w nonce state known) = recovery_response nonce _
+      message actor (Reply view number reply) = silent _ refl
+      message actor (PayOrder order) = silent _ refl
+
+      beat : (status : Status) → SendsBetween (on_beat {R = R} {O = O} f me x status)
+      beat Normal = beat_normal f me x
+      beat Change = beat_in_change
+      beat Recovering = beat_recovering
+      beat Down = silent _ refl
+
+      refused_between : (fault : Option SiteFault) (step : Step C R O) → SendsBetween step → SendsBetween (refused_or x fault step)
+      refused_between None step k = k
+      refused_between (Some fault) step k = silent _ refl
+
+      pub step_between : (event : EventOf C R O) → SendsBetween (site_step choose f me x event)
+      step_between (Deliver e) = refused_between _ _ (message e.from e.msg)
+      step_between Timer = refused_between _ _ timer
+      step_between Beat = refused_between _ _ (beat x.status)
+      step_between Crash = refused_between (refusal {R = R} {O = O} f me x Crash) (on_crash x) (silent _ refl)
+      step_between Restart = refused_between _ _ restart

@@ -1,0 +1,84 @@
+-- The bank in its world: sites, nodes, clients, and the post, which has all that was ever sent.
+use Rattle.std.specs.Prelude.{ℕ, ◌-◌, ◌==◌, nat_le, if◌then◌else◌, List, [], ◌∷◌, ◌++◌, map, slice_get, slice_set, Option, Some, None, option_map}
+use Rattle.pvp_types.specs.declared.setup.Setup.{Setup}
+use Rattle.pvp_types.specs.declared.command.Cmd.{Cmd}
+use Rattle.pvp_types.specs.declared.command.Reply.{Reply as Answer}
+use Rattle.pvp_types.specs.declared.command.PayOrder.{PayOrder as PaymentOrder}
+use Rattle.vr_types.specs.declared.cell.Boot.{Boot}
+use Rattle.vr_types.specs.declared.event.EventOf.{EventOf}
+use Rattle.vr_types.specs.declared.event.EventOf.TheVariants.{Deliver, Timer, Beat, Crash, Restart}
+use Rattle.vr_types.specs.Site.{Site, opening_site}
+use Rattle.rtgs_node.specs.Node as node
+use Rattle.rtgs_node.specs.Node.{Envelope, Node, NodeEvent, opening_node}
+use Rattle.headline.specs.Client as client
+use Rattle.headline.specs.Client.{Client, ClientEvent, opening_client}
+
+pub record Bank : Type 0 where
+  pub sites : List (Site Cmd)
+  pub nodes : List Node  -- by currency
+  pub clients : List Client  -- the operator, then the members
+  pub post : List Envelope  -- numbered from 1
+
+-- nothing was sent, and each site is over its cell
+abbrev pub opening_bank : Setup → ℕ → List Boot → Bank
+opening_bank setup f cells = record {
+  sites = map (opening_site f) cells;
+  nodes = map (λ currency. opening_node) setup.currencies;
+  clients = opening_client ∷ map (λ member. opening_client) setup.members;
+  post = [];
+}
+
+-- what may be done
+pub data Step : Type 0 where
+  Delivers : (number : ℕ) → Step  -- an envelope of the post comes
+  PaysIn : (ccy member amt : ℕ) → Step
+  Closes : (ccy member : ℕ) → Step  -- a member's account at a node is closed
+  Submits : (client : ℕ) → Cmd → Step
+  Beats : (actor : ℕ) → Step
+  Times : (site : ℕ) → Step  -- a timer runs out
+  Crashes : (site : ℕ) → Step
+  Restarts : (site : ℕ) → Step
+
+-- a step, or a fall of the site whose step was tried, over a cell of this value
+pub data Move : Type 0 where
+  Takes : Step → Move
+  Falls : Step → Boot → Move
+
+-- whose turn it is, and what happens to that actor
+pub data Turn : Type 0 where
+  OfSite : ℕ → EventOf Cmd Answer PaymentOrder → Turn
+  OfNode : ℕ → NodeEvent → Turn
+  OfClient : ℕ → ClientEvent → Turn
+
+-- an actor's turn, by its number: clients from 0, nodes from 101, sites from 200
+abbrev pub turn_of : ℕ → EventOf Cmd Answer PaymentOrder → NodeEvent → ClientEvent → Turn
+turn_of actor at_site at_node at_client =
+    if nat_le 200 actor then OfSite (actor - 200) at_site
+    else if nat_le 101 actor then OfNode (actor - 101) at_node
+    else OfClient actor at_client
+
+-- the envelope of a number comes to the actor that it is addressed to
+abbrev pub delivery : Envelope → Turn
+delivery e = turn_of e.to (Deliver e) (node.Takes e) (client.Takes e)
+
+-- the turn that a step is
+abbrev pub turn : List Envelope → Step → Option Turn
+turn post (Delivers number) = if number == 0 then None else option_map delivery (slice_get post (number - 1))
+turn post (PaysIn ccy member amt) = Some (OfNode ccy (node.PaysIn member amt))
+turn post (Closes ccy member) = Some (OfNode ccy (node.Closes member))
+turn post (Submits number cmd) = Some (OfClient number (client.Submits cmd))
+turn post (Beats actor) = Some (turn_of actor Beat node.Beats client.Beats)
+turn post (Times site) = Some (OfSite site Timer)
+turn post (Crashes site) = Some (OfSite site Crash)
+turn post (Restarts site) = Some (OfSite site Restart)
+
+-- the bank with an actor as its step leaves it, and with what the step sent
+
+abbrev pub with_site : Bank → ℕ → Site Cmd → List Envelope → Bank
+with_site bank i x sent = record bank { sites = slice_set bank.sites i x; post = bank.post ++ sent }
+
+abbrev pub with_node : Bank → ℕ → Node → List Envelope → Bank
+with_node bank c x sent = record bank { nodes = slice_set bank.nodes c x; post = bank.post ++ sent }
+
+abbrev pub with_client : Bank → ℕ → Client → List Envelope → Bank
+with_client bank k x sent = record bank { clients = slice_set bank.clients k x; post = bank.post ++ sent }

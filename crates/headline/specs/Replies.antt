@@ -1,0 +1,54 @@
+-- What clients were told, and what logs keep.
+use Rattle.std.specs.Prelude.{◌≡◌, ℕ, ◌<◌, ◌≤◌, ◌⊎◌, List, length, Contains, Some}
+use Rattle.pvp_types.specs.declared.setup.Setup.{Setup}
+use Rattle.pvp_types.specs.declared.command.Cmd.{Cmd}
+use Rattle.pvp_types.specs.declared.command.Reply.{Reply as Answer}
+use Rattle.vr_types.specs.declared.event.Status.TheVariants.{Normal}
+use Rattle.vr_types.specs.declared.message.MsgOf.TheVariants.{Reply}
+use Rattle.vr_types.specs.Site.{Site, executed_rows}
+use Rattle.vr_types.specs.Execution.{answer_at}
+use Rattle.agreement.specs.Promises.{row_at, IsRising, Begins}
+use Rattle.pvp_book.specs.Ledger.{opening}
+use Rattle.pvp_book.specs.Answer.{Row}
+use Rattle.headline.specs.Machine.{book}
+use Rattle.rtgs_node.specs.Node.{Envelope}
+use Rattle.headline.specs.Bank.{Bank}
+
+-- in every log the numbers of each client rise
+abbrev pub LogsRise : Bank → Type 0
+LogsRise bank = (x : Site Cmd) → Contains bank.sites x → IsRising x.log
+
+-- the site stands in the bank at one moment or at the other
+abbrev pub IsSiteOf : Bank → Bank → Site Cmd → Type 0
+IsSiteOf early late x = Contains early.sites x ⊎ Contains late.sites x
+
+-- an envelope of the post is a REPLY
+pub record WasTold (bank : Bank) (e : Envelope) (view number : ℕ) (answer : Answer) : Type 0 where
+  pub posted : Contains bank.post e
+  pub is : e.msg ≡ Reply view number answer
+
+-- all REPLYs to one request of a client carry one answer
+abbrev pub AnswersAgree : Bank → Type 0
+AnswersAgree bank =
+    (d e : Envelope) (v w number : ℕ) (a b : Answer) → WasTold bank d v number a → WasTold bank e w number b → d.to ≡ e.to → a ≡ b
+
+-- it is the book's answer, at the place of that request's row in the executed rows of any site at either moment
+abbrev pub AnswersAreRight : Setup → Bank → Bank → Type 0
+AnswersAreRight setup early late =
+    (e : Envelope) (view number : ℕ) (answer : Answer) (x : Site Cmd) (place : ℕ) (row : Row) → WasTold late e view number answer
+    → IsSiteOf early late x → 1 ≤ place → row_at (executed_rows x) place ≡ Some row → row.client ≡ e.to → row.number ≡ number
+    → answer ≡ answer_at book (opening setup) (executed_rows x) place row
+
+-- The rows up to that of a request that was answered in a view begin the log of every site that is normal in a later
+-- view, at either moment.
+pub record Stays (early late : Bank) (e : Envelope) (view number : ℕ) : Type 0 where
+  pub rows : List Row
+  pub row : Row
+  pub last : row_at rows (length rows) ≡ Some row
+  pub client : row.client ≡ e.to
+  pub named : row.number ≡ number
+  pub begin : (x : Site Cmd) → IsSiteOf early late x → x.status ≡ Normal → view < x.view → Begins rows x.log
+
+abbrev pub AnsweredRowsStay : Bank → Bank → Type 0
+AnsweredRowsStay early late =
+    (e : Envelope) (view number : ℕ) (answer : Answer) → WasTold late e view number answer → Stays early late e view number

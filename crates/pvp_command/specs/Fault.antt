@@ -1,0 +1,25 @@
+-- Which fault of a run each fault of its parts becomes.
+use Rattle.pvp_text.specs.declared.book.RunFault.{RunFault}
+use Rattle.pvp_text.specs.declared.book.RunFault.TheVariants as run
+use Rattle.pvp_text.specs.declared.setup.TextFault.{TextFault}
+use Rattle.pvp_text.specs.declared.setup.TextFault.TheVariants as text
+use Rattle.pvp_command.specs.declared.fault.Fault.{Fault}
+use Rattle.pvp_command.specs.declared.fault.Fault.TheVariants.{Setup, Line, File, Output, NoMemory}
+use Rattle.pvp_command.specs.declared.files.FileFault.{FileFault}
+use Rattle.pvp_command.specs.declared.files.FileFault.TheVariants as file
+
+-- a setup's fault; want of memory is the same in whichever part
+abbrev pub text_told : TextFault → Fault
+text_told text.NotJson = Setup text.NotJson
+text_told text.BadMember = Setup text.BadMember
+text_told text.NoMemory = NoMemory
+text_told (text.BadSetup rule) = Setup (text.BadSetup rule)
+
+abbrev pub run_told : RunFault → Fault
+run_told (run.Line at) = Line at.line at.code
+run_told run.NoMemory = NoMemory
+run_told run.Output = Output
+
+abbrev pub file_told : FileFault → Fault
+file_told file.Unread = File
+file_told file.NoMemory = NoMemory

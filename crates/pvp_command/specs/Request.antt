@@ -1,0 +1,45 @@
+-- What a request writes, and which fault it tells, where the bytes of its files are known.
+use Rattle.std.specs.Prelude.{◌≡◌, ◌⊎◌, ℕ, List, Option, Ok, codes, IsOk}
+use Rattle.std.specs.Io.KnownBytes.{Appends}
+use Rattle.pvp_types.specs.declared.setup.Setup.{Setup}
+use Rattle.pvp_text.specs.declared.script.Line.{Line}
+use Rattle.pvp_text.specs.declared.script.Kind.TheVariants.{Book}
+use Rattle.pvp_text.specs.declared.book.RunFault.{RunFault}
+use Rattle.pvp_text.specs.declared.setup.TextFault.{TextFault}
+use Rattle.pvp_text.specs.Reading.{Faults}
+use Rattle.pvp_text.specs.SetupText.{setup_text, setup_where, text_fault_is_memory}
+use Rattle.pvp_text.specs.Script.{script_at}
+use Rattle.pvp_command.specs.declared.fault.Fault.{Fault}
+use Rattle.pvp_command.specs.declared.fault.Fault.TheVariants.{Output}
+use Rattle.pvp_command.specs.declared.files.FileFault.{FileFault}
+use Rattle.pvp_command.specs.Fault.{text_told, run_told, file_told}
+use Rattle.pvp_text.specs.BookText.{book_text}
+
+-- a setup that meets the rules is told so
+abbrev pub CheckWrites : List ℕ → Option (List ℕ) → Option (List ℕ) → Type 0
+CheckWrites setup old new = IsOk (setup_text setup) × Appends old new (codes "setup ok\n")
+
+-- the text of one book over the script's lines
+abbrev pub BookWrites : List ℕ → List ℕ → Option (List ℕ) → Option (List ℕ) → Type 0
+BookWrites setup script old new =
+    (s : Setup) × (setup_text setup ≡ Ok s) × (lines : List Line) × (script_at Book s script ≡ Ok lines)
+    × Appends old new (book_text s lines)
+
+-- the fault of a file that may fail so
+abbrev pub TellsFile : (FileFault → Type 0) → Fault → Type 0
+TellsFile fails told = (fault : FileFault) × fails fault × (told ≡ file_told fault)
+
+-- the fault of a setup's text
+abbrev pub TellsSetup : List ℕ → Fault → Type 0
+TellsSetup setup told =
+    (fault : TextFault) × Faults text_fault_is_memory fault (λ refused. setup_where refused setup) × (told ≡ text_told fault)
+
+-- the fault of a check: its file's, its setup's, or that the writer failed
+abbrev pub CheckTells : (FileFault → Type 0) → List ℕ → Fault → Type 0
+CheckTells fails setup told = TellsFile fails told ⊎ (TellsSetup setup told ⊎ (IsOk (setup_text setup) × (told ≡ Output)))
+
+-- the fault of a script's run on one book: a file's, the setup's, or the run's
+abbrev pub BookTells : (FileFault → Type 0) → List ℕ → (FileFault → Type 0) → Fault → Type 0
+BookTells fails setup script_fails told =
+    TellsFile fails told ⊎ (TellsSetup setup told ⊎ (IsOk (setup_text setup)
+    × (TellsFile script_fails told ⊎ ((fault : RunFault) × (told ≡ run_told fault)))))

@@ -1,0 +1,71 @@
+//! What ends a run of the program, as it is told on standard error.
+
+use crate::files::FileFault;
+use pvp_text::{LineCode, RunFault, TextFault};
+use thiserror::Error;
+
+/// Why a run ended, printed as the line that tells it.
+#[derive(Clone, Copy, Debug, PartialEq, Eq, Error)]
+pub enum Fault {
+    /// The setup is no JSON, or breaks a rule.
+    #[error("fault {0}")]
+    Setup(TextFault),
+    /// A line of the script is faulty.
+    #[error("fault line {line} {code}")]
+    Line { line: u32, code: LineCode },
+    /// A file could not be read.
+    #[error("fault file")]
+    File,
+    /// Standard output could not be written.
+    #[error("fault output")]
+    Output,
+    /// Memory was refused, in whichever part.
+    #[error("fault memory")]
+    NoMemory,
+}
+
+impl From<TextFault> for Fault {
+    ghost use Rattle.std.specs.Prelude.{◌≡◌};
+    ghost use Rattle.pvp_command.specs.Fault.{text_told};
+
+    ghost from_gives = { λ fault told. told ≡ text_told fault };
+
+    fn from(fault: TextFault) -> Fault {
+        match fault {
+            TextFault::NoMemory => Fault::NoMemory,
+            _ => Fault::Setup(fault),
+        }
+    }
+}
+
+impl From<RunFault> for Fault {
+    ghost use Rattle.std.specs.Prelude.{◌≡◌};
+    ghost use Rattle.pvp_command.specs.Fault.{run_told};
+
+    ghost from_gives = { λ fault told. told ≡ run_told fault };
+
+    fn from(fault: RunFault) -> Fault {
+        match fault {
+            RunFault::Line(at) => Fault::Line {
+                line: at.line,
+                code: at.code,
+            },
+            RunFault::NoMemory => Fault::NoMemory,
+            RunFault::Output => Fault::Output,
+        }
+    }
+}
+
+impl From<FileFault> for Fault {
+    ghost use Rattle.std.specs.Prelude.{◌≡◌};
+    ghost use Rattle.pvp_command.specs.Fault.{file_told};
+
+    ghost from_gives = { λ fault told. told ≡ file_told fault };
+
+    fn from(fault: FileFault) -> Fault {
+        match fault {
+            FileFault::Unread => Fault::File,
+            FileFault::NoMemory => Fault::NoMemory,
+        }
+    }
+}

@@ -1,0 +1,5 @@
+pub mod Node
+pub mod Fault
+pub mod Shown
+pub mod Kept
+pub mod Laws

@@ -1,0 +1,36 @@
+-- What a message is, and what it carries, whatever its kind.
+use Rattle.std.specs.Prelude.{ℕ, Bool, true, false, List, [], ◌∷◌, Option, Some, None}
+use Rattle.vr_types.specs.declared.message.MsgOf.{MsgOf}
+use Rattle.vr_types.specs.declared.message.MsgOf.TheVariants.{Request, Prepare, StartViewChange, DoViewChange, StartView, NewState, Recovery, RecoveryResponse}
+use Rattle.vr_types.specs.declared.message.StateOf.{StateOf}
+use Rattle.vr_types.specs.declared.row.RowOf.{RowOf}
+
+abbrev pub is_request : {C R O : Type 0} → MsgOf C R O → Bool
+is_request (Request number cmd) = true
+is_request _ = false
+
+-- the rows of the state that an answer to a recovering site holds
+abbrev pub rows_of_state : {C : Type 0} → Option (StateOf C) → List (RowOf C)
+rows_of_state None = []
+rows_of_state (Some state) = state.rows
+
+-- the rows that a message carries
+abbrev pub rows_in : {C R O : Type 0} → MsgOf C R O → List (RowOf C)
+rows_in (Prepare view place done row) = row ∷ []
+rows_in (DoViewChange view last_normal done rows known) = rows
+rows_in (StartView view done rows) = rows
+rows_in (NewState view base done rows) = rows
+rows_in (RecoveryResponse view nonce state known) = rows_of_state state
+rows_in _ = []
+
+-- what its sender knew of boots, where a message tells it
+abbrev pub known_in : {C R O : Type 0} → MsgOf C R O → Option (List ℕ)
+known_in (StartViewChange view known) = Some known
+known_in (DoViewChange view last_normal done rows known) = Some known
+known_in (RecoveryResponse view nonce state known) = Some known
+known_in _ = None
+
+-- the nonce with which a site asks for the state, where a message asks for it
+abbrev pub asked_nonce : {C R O : Type 0} → MsgOf C R O → Option ℕ
+asked_nonce (Recovery nonce) = Some nonce
+asked_nonce _ = None

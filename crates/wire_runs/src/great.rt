@@ -1,0 +1,52 @@
+//! The greatest frames.
+
+use crate::sent::{frame, known, row, rows, stamped};
+use pvp_wire::{Message, decode};
+use std::alloc::Global;
+use std::process::Abort;
+use std::test::Fail;
+use vr_types::{MsgOf, StateOf};
+
+/// As many rows as a log has.
+const MOST_ROWS: usize = 65_535;
+
+/// How many bytes as many rows take with their count, each an Instruct.
+const MOST_BYTES: usize = 2 + MOST_ROWS * 31;
+
+/// Writes a message, reads it and writes it again.
+fn comes_back<R: Abort + AllocGlobal>(rt: &R, msg: Message, length: usize) -> Result<(), Fail> {
+    let alloc: Global = rt.alloc();
+    let bytes = frame(alloc, &stamped(200, 1, 0, 201, msg))?;
+    assert_eq!(rt; bytes.len(), length);
+    let (read, size) = decode(alloc, bytes.as_slice())?;
+    assert_eq!(rt; size, length);
+    let again = frame(alloc, &read)?;
+    assert!(rt; again.as_slice() == bytes.as_slice());
+    Ok(())
+}
+
+#[test]
+fn a_view_starts_with_a_whole_log(rt: HostRuntime) -> Result<(), Fail> {
+    let start = MsgOf::StartView {
+        view: 1,
+        done: 0,
+        rows: rows(rt.alloc(), row(), MOST_ROWS)?,
+    };
+    comes_back(&rt, start, 22 + 6 + MOST_BYTES)
+}
+
+/// No frame is longer.
+#[test]
+fn a_state_has_a_whole_log_and_seven_sites(rt: HostRuntime) -> Result<(), Fail> {
+    let alloc = rt.alloc();
+    let regained = MsgOf::RecoveryResponse {
+        view: 1,
+        nonce: 1,
+        state: Some(StateOf {
+            done: 0,
+            rows: rows(alloc, row(), MOST_ROWS)?,
+        }),
+        known: known(alloc, [1, 2, 3, 4, 5, 6, 7].as_slice())?,
+    };
+    comes_back(&rt, regained, 2_031_649)
+}

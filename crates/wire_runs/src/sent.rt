@@ -1,0 +1,78 @@
+//! What the tests send, and the frames of it.
+
+use pvp_types::Cmd;
+use pvp_wire::{Message, Stamp, Stamped, encode, wireable};
+use std::alloc::{AllocError, Global};
+use std::test::Fail;
+use vr_types::{EnvelopeOf, Known, RowOf, RowsOf};
+
+/// An envelope with its stamp.
+pub fn stamped(from: u16, clock: u64, index: u32, to: u16, msg: Message) -> Stamped {
+    Stamped {
+        stamp: Stamp {
+            actor: from,
+            clock,
+            index,
+        },
+        envelope: EnvelopeOf { from, to, msg },
+    }
+}
+
+/// The frame of a stamped envelope.
+pub fn frame(alloc: Global, stamped: &Stamped) -> Result<Vec<u8>, Fail> {
+    if !wireable(stamped) {
+        return Err(Fail::new("it has no spelling"));
+    }
+    let mut out = Vec::new(alloc);
+    encode(alloc, stamped, &mut out)?;
+    Ok(out)
+}
+
+/// What is known of boots, one number a site.
+pub fn known(alloc: Global, boots: &[u32]) -> Result<Known, AllocError> {
+    let mut known = Known::new(alloc);
+    for boot in boots {
+        known.push(*boot)?;
+    }
+    Ok(known)
+}
+
+/// A row with the greatest numbers, which takes as many bytes as a row may.
+pub fn row() -> RowOf<Cmd> {
+    RowOf {
+        client: 108,
+        number: u32::MAX,
+        cmd: Cmd::Instruct {
+            reference: u32::MAX,
+            other: u16::MAX,
+            sell: u8::MAX,
+            sell_amt: u64::MAX,
+            buy: 0,
+            buy_amt: 0,
+        },
+    }
+}
+
+/// A row that asks for 8 pairs to be settled.
+pub fn settle() -> RowOf<Cmd> {
+    RowOf {
+        client: 0,
+        number: 1,
+        cmd: Cmd::Settle { most: 8 },
+    }
+}
+
+/// So many rows, all the same, and no more than a log has.
+pub fn rows(alloc: Global, row: RowOf<Cmd>, count: usize) -> Result<RowsOf<Cmd>, AllocError> {
+    let mut rows = RowsOf::new(alloc);
+    for _ in 0..count {
+        if rows.len() < 65_535 {
+            rows.push(RowOf {
+                client: row.client,
+                number: row.number,
+                cmd: row.cmd,
+            })?;
+        }
+    }
+    Ok(rows)
+}
