@@ -15,8 +15,12 @@ use Rattle.vr_types.specs.Choice.{Choice}
 use Rattle.vr_types.specs.Cell.{max_number}
 use Rattle.pvp_book.specs.Ledger.{node_of}
 use Rattle.rtgs_node.specs.Node.{Envelope, to_sites}
-use Rattle.headline.specs.Client.{Client, ClientEvent, Submits, Takes, Beats, ClientStep, ClientFault, does, refuses, on_submit, on_reply, on_message, on_beat, client_step}
-use Rattle.headline.specs.Bank.{Bank, Move, with_client}
+use Rattle.headline.specs.declared.step.ClientEvent.{ClientEvent}
+use Rattle.headline.specs.declared.step.ClientEvent.TheVariants.{Submits, Takes, Beats}
+use Rattle.headline.specs.declared.step.ClientFault.{ClientFault}
+use Rattle.headline.specs.Client.{Client, ClientStep, does, refuses, on_submit, on_reply, on_message, on_beat, client_step}
+use Rattle.headline.specs.declared.step.Move.{Move}
+use Rattle.headline.specs.Bank.{Bank, with_client}
 use Rattle.headline.specs.Legal.{Leads}
 use Rattle.headline.proofs.Basics.{map-has, set-length}
 use Rattle.headline.proofs.Between.{is_between}

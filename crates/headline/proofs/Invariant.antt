@@ -20,7 +20,8 @@ use Rattle.pvp_book.specs.Orders.{orders}
 use Rattle.pvp_book.specs.Answer.{Row, book_of}
 use Rattle.headline.specs.Machine.{book}
 use Rattle.rtgs_node.specs.Node.{Envelope, Node, has_done, has_returned}
-use Rattle.headline.specs.Bank.{Bank, Move}
+use Rattle.headline.specs.declared.step.Move.{Move}
+use Rattle.headline.specs.Bank.{Bank}
 use Rattle.headline.specs.Legal.{IsRun, IsLegal}
 use Rattle.headline.specs.Headline.{executed_book}
 use Rattle.headline.proofs.Between.{is_between}

@@ -16,7 +16,9 @@ use Rattle.vr_types.specs.Group.{sites, actor_of}
 use Rattle.pvp_book.specs.Ledger.{node_of}
 use Rattle.pvp_book.specs.Answer.{has_member, is_amount}
 use Rattle.pvp_book.proofs.Counts.{count-push}
-use Rattle.rtgs_node.specs.Node.{Envelope, Node, NodeEvent, PaysIn, Closes, Takes, Beats, NodeStep, to_sites, account, member_account, has_done, has_returned, is_known, is_closed, does, refuses, notice_out, notes, is_full, on_pay_in, on_close, on_order, on_reply, on_message, node_step}
+use Rattle.rtgs_node.specs.declared.event.NodeEvent.TheVariants.{PaysIn, Closes, Takes, Beats}
+use Rattle.rtgs_node.specs.declared.event.NodeEvent.{NodeEvent}
+use Rattle.rtgs_node.specs.Node.{Envelope, Node, NodeStep, to_sites, account, member_account, has_done, has_returned, is_known, is_closed, does, refuses, notice_out, notes, is_full, on_pay_in, on_close, on_order, on_reply, on_message, node_step}
 use Rattle.rtgs_node.specs.declared.payment.PayIn.{PayIn}
 use Rattle.rtgs_node.specs.declared.fault.NodeFault.{NodeFault}
 use Rattle.rtgs_node.specs.declared.fault.NodeFault.TheVariants.{NotMine, UnknownMember, BadAmount, Spent, Short}

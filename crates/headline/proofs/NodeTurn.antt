@@ -10,8 +10,11 @@ use Rattle.vr_types.specs.declared.cell.Boot.{Boot}
 use Rattle.vr_types.specs.declared.message.MsgOf.TheVariants.{Reply, PayOrder}
 use Rattle.vr_types.specs.Choice.{Choice}
 use Rattle.pvp_book.specs.Ledger.{node_of}
-use Rattle.rtgs_node.specs.Node.{Envelope, Node, NodeEvent, Takes, NodeStep, node_step}
-use Rattle.headline.specs.Bank.{Bank, Move, with_node}
+use Rattle.rtgs_node.specs.declared.event.NodeEvent.TheVariants.{Takes}
+use Rattle.rtgs_node.specs.declared.event.NodeEvent.{NodeEvent}
+use Rattle.rtgs_node.specs.Node.{Envelope, Node, NodeStep, node_step}
+use Rattle.headline.specs.declared.step.Move.{Move}
+use Rattle.headline.specs.Bank.{Bank, with_node}
 use Rattle.headline.specs.Legal.{Leads}
 use Rattle.headline.proofs.Basics.{none-some, some-same, set-here, set-at, set-length}
 use Rattle.headline.proofs.Between.{is_between}

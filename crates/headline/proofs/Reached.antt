@@ -10,11 +10,19 @@ use Rattle.vr_types.specs.Site.{Site, over, no_boots, opening_site, executed_row
 use Rattle.vr_types.specs.Choice.{Choice, IsRight}
 use Rattle.agreement.specs.Worlds as worlds
 use Rattle.agreement.specs.Promises.{Begins}
-use Rattle.rtgs_node.specs.Node as node
-use Rattle.rtgs_node.specs.Node.{Envelope, Node, NodeEvent, opening_node}
-use Rattle.headline.specs.Client as client
-use Rattle.headline.specs.Client.{ClientEvent}
-use Rattle.headline.specs.Bank.{Bank, opening_bank, Step, Delivers, PaysIn, Closes, Submits, Beats, Times, Crashes, Restarts, Move, Takes, Falls, Turn, OfSite, OfNode, OfClient, turn_of, delivery, turn}
+use Rattle.rtgs_node.specs.declared.event.NodeEvent.TheVariants as node
+use Rattle.rtgs_node.specs.declared.event.NodeEvent.{NodeEvent}
+use Rattle.rtgs_node.specs.Node.{Envelope, Node, opening_node}
+use Rattle.headline.specs.declared.step.ClientEvent.TheVariants as client
+use Rattle.headline.specs.declared.step.ClientEvent.{ClientEvent}
+use Rattle.headline.specs.Client.{opening_client}
+use Rattle.headline.specs.declared.step.Step.{Step}
+use Rattle.headline.specs.declared.step.Step.TheVariants.{Deliver as Delivers, PayIn as PaysIn, Close as Closes, Submit as Submits, Beat as Beats, Timer as Times, Crash as Crashes, Restart as Restarts}
+use Rattle.headline.specs.declared.step.Move.{Move}
+use Rattle.headline.specs.declared.step.Move.TheVariants.{Takes, Falls}
+use Rattle.headline.specs.declared.step.Turn.{Turn}
+use Rattle.headline.specs.declared.step.Turn.TheVariants.{OfSite, OfNode, OfClient}
+use Rattle.headline.specs.Bank.{Bank, opening_bank, turn_of, delivery, turn}
 use Rattle.headline.specs.Legal.{Acts, FallsBy, Leads, IsRun}
 use Rattle.headline.proofs.Basics.{none-some, some-same, there, map-has}
 use Rattle.headline.proofs.Invariant.{IsSound, Holds, HoldsOn}
@@ -67,7 +75,7 @@ module _ (setup : Setup) (choose : Choice Cmd) (f : ℕ) (cells : List Boot) (al
     orders = λ e o in'. absurd (none e in');
     replies = λ e view number answer in'. absurd (none e in');
     count = map-length (λ currency. opening_node) setup.currencies;
-    people = ap (λ n. suc n) (map-length (λ member. client.opening_client) setup.members);
+    people = ap (λ n. suc n) (map-length (λ member. opening_client) setup.members);
     nodes = λ c x at. subst (λ (y : Node). IsSound c y) (opening-node c x at) (opening-sound c);
     done = λ c x o at in'. absurd (none o (subst (λ (y : Node). Contains y.pay_outs o) (sym (opening-node c x at)) in'));
   }

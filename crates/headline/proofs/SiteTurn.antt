@@ -33,7 +33,8 @@ use Rattle.pvp_book.specs.Orders.{orders}
 use Rattle.pvp_book.specs.Answer.{Row, after_rows, book_of}
 use Rattle.headline.specs.Machine.{book}
 use Rattle.rtgs_node.specs.Node.{Envelope}
-use Rattle.headline.specs.Bank.{Bank, Move, with_site}
+use Rattle.headline.specs.declared.step.Move.{Move}
+use Rattle.headline.specs.Bank.{Bank, with_site}
 use Rattle.headline.specs.Legal.{Leads}
 use Rattle.headline.proofs.Basics.{and_right, none-some, some-same, there, set-here, set-has, push-has, map-has, map-in, filter_map-has}
 use Rattle.headline.proofs.Between.{is_between, step_between}

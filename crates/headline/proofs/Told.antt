@@ -21,7 +21,8 @@ use Rattle.pvp_book.specs.Ledger.{opening}
 use Rattle.pvp_book.specs.Answer.{Row}
 use Rattle.headline.specs.Machine.{book}
 use Rattle.rtgs_node.specs.Node.{Envelope}
-use Rattle.headline.specs.Bank.{Bank, Move}
+use Rattle.headline.specs.declared.step.Move.{Move}
+use Rattle.headline.specs.Bank.{Bank}
 use Rattle.headline.specs.Replies.{IsSiteOf, WasTold, Stays}
 use Rattle.headline.proofs.Basics.{none-some, some-same, at-append}
 use Rattle.headline.proofs.Invariant.{SitesWorld, SitesEvents, IsReply, Holds}

@@ -19,7 +19,11 @@ use Rattle.pvp_book.specs.Ledger.{opening}
 use Rattle.headline.specs.Machine.{book}
 use Rattle.rtgs_node.specs.Node.{Node, node_step}
 use Rattle.headline.specs.Client.{Client, client_step}
-use Rattle.headline.specs.Bank.{Bank, opening_bank, Move, Takes, Falls, Turn, OfSite, OfNode, OfClient, with_site, with_node, with_client}
+use Rattle.headline.specs.declared.step.Move.{Move}
+use Rattle.headline.specs.declared.step.Move.TheVariants.{Takes, Falls}
+use Rattle.headline.specs.declared.step.Turn.{Turn}
+use Rattle.headline.specs.declared.step.Turn.TheVariants.{OfSite, OfNode, OfClient}
+use Rattle.headline.specs.Bank.{Bank, opening_bank, with_site, with_node, with_client}
 use Rattle.headline.specs.Legal.{Acts, FallsBy, Leads, IsRun, LegalList}
 use Rattle.headline.proofs.Basics.{some-same, there}
 use Rattle.headline.proofs.Invariant.{Holds}

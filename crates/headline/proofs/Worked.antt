@@ -24,12 +24,19 @@ use Rattle.pvp_book.specs.Settlement.{both_pass, pass, taken_by, settled_after, 
 use Rattle.pvp_book.specs.Ledger.{opening, figure}
 use Rattle.pvp_book.specs.Answer.{answer}
 use Rattle.headline.specs.Machine.{book}
-use Rattle.rtgs_node.specs.Node as node
-use Rattle.rtgs_node.specs.Node.{NodeStep, member_account, opening_node, Node, NodeEvent, account, node_step}
+use Rattle.rtgs_node.specs.declared.event.NodeEvent.TheVariants as node
+use Rattle.rtgs_node.specs.declared.event.NodeEvent.{NodeEvent}
+use Rattle.rtgs_node.specs.Node.{NodeStep, member_account, opening_node, Node, account, node_step}
 use Rattle.rtgs_node.specs.declared.fault.NodeFault.{NodeFault}
 use Rattle.rtgs_node.specs.declared.fault.NodeFault.TheVariants.{Short, Closed, UnknownMember, BadAmount}
-use Rattle.headline.specs.Client.{Client, ClientEvent, client_step}
-use Rattle.headline.specs.Bank.{Bank, opening_bank, Step, Delivers, PaysIn, Closes, Submits, Beats, Takes, Turn, OfSite, OfNode, OfClient, turn, with_site, with_node, with_client}
+use Rattle.headline.specs.declared.step.ClientEvent.{ClientEvent}
+use Rattle.headline.specs.Client.{Client, client_step}
+use Rattle.headline.specs.declared.step.Step.{Step}
+use Rattle.headline.specs.declared.step.Step.TheVariants.{Deliver as Delivers, PayIn as PaysIn, Close as Closes, Submit as Submits, Beat as Beats}
+use Rattle.headline.specs.declared.step.Move.TheVariants.{Takes}
+use Rattle.headline.specs.declared.step.Turn.{Turn}
+use Rattle.headline.specs.declared.step.Turn.TheVariants.{OfSite, OfNode, OfClient}
+use Rattle.headline.specs.Bank.{Bank, opening_bank, turn, with_site, with_node, with_client}
 use Rattle.headline.specs.Legal.{Acts, IsRun, LegalList}
 use Rattle.headline.specs.Way.{way}
 use Rattle.headline.specs.Headline.{executed_book}

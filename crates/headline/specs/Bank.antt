@@ -8,10 +8,18 @@ use Rattle.vr_types.specs.declared.cell.Boot.{Boot}
 use Rattle.vr_types.specs.declared.event.EventOf.{EventOf}
 use Rattle.vr_types.specs.declared.event.EventOf.TheVariants.{Deliver, Timer, Beat, Crash, Restart}
 use Rattle.vr_types.specs.Site.{Site, opening_site}
-use Rattle.rtgs_node.specs.Node as node
-use Rattle.rtgs_node.specs.Node.{Envelope, Node, NodeEvent, opening_node}
-use Rattle.headline.specs.Client as client
-use Rattle.headline.specs.Client.{Client, ClientEvent, opening_client}
+use Rattle.rtgs_node.specs.declared.event.NodeEvent.TheVariants as node
+use Rattle.rtgs_node.specs.declared.event.NodeEvent.{NodeEvent}
+use Rattle.rtgs_node.specs.Node.{Envelope, Node, opening_node}
+use Rattle.headline.specs.declared.step.Step.{Step}
+-- a step's name here is a verb's, as an event of a site is called so already
+use Rattle.headline.specs.declared.step.Step.TheVariants.{Deliver as Delivers, PayIn as PaysIn, Close as Closes, Submit as Submits, Beat as Beats, Timer as Times, Crash as Crashes, Restart as Restarts}
+use Rattle.headline.specs.declared.step.Move.{Move}
+use Rattle.headline.specs.declared.step.Turn.{Turn}
+use Rattle.headline.specs.declared.step.Turn.TheVariants.{OfSite, OfNode, OfClient}
+use Rattle.headline.specs.declared.step.ClientEvent.TheVariants as client
+use Rattle.headline.specs.declared.step.ClientEvent.{ClientEvent}
+use Rattle.headline.specs.Client.{Client, opening_client}
 
 pub record Bank : Type 0 where
   pub sites : List (Site Cmd)
@@ -27,28 +35,6 @@ opening_bank setup f cells = record {
   clients = opening_client ∷ map (λ member. opening_client) setup.members;
   post = [];
 }
-
--- what may be done
-pub data Step : Type 0 where
-  Delivers : (number : ℕ) → Step  -- an envelope of the post comes
-  PaysIn : (ccy member amt : ℕ) → Step
-  Closes : (ccy member : ℕ) → Step  -- a member's account at a node is closed
-  Submits : (client : ℕ) → Cmd → Step
-  Beats : (actor : ℕ) → Step
-  Times : (site : ℕ) → Step  -- a timer runs out
-  Crashes : (site : ℕ) → Step
-  Restarts : (site : ℕ) → Step
-
--- a step, or a fall of the site whose step was tried, over a cell of this value
-pub data Move : Type 0 where
-  Takes : Step → Move
-  Falls : Step → Boot → Move
-
--- whose turn it is, and what happens to that actor
-pub data Turn : Type 0 where
-  OfSite : ℕ → EventOf Cmd Answer PaymentOrder → Turn
-  OfNode : ℕ → NodeEvent → Turn
-  OfClient : ℕ → ClientEvent → Turn
 
 -- an actor's turn, by its number: clients from 0, nodes from 101, sites from 200
 abbrev pub turn_of : ℕ → EventOf Cmd Answer PaymentOrder → NodeEvent → ClientEvent → Turn

@@ -7,6 +7,10 @@ use Rattle.vr_types.specs.declared.message.MsgOf.{MsgOf}
 use Rattle.vr_types.specs.declared.message.MsgOf.TheVariants.{Reply}
 use Rattle.vr_types.specs.Cell.{max_number}
 use Rattle.rtgs_node.specs.Node.{Envelope, to_sites}
+use Rattle.headline.specs.declared.step.ClientEvent.{ClientEvent}
+use Rattle.headline.specs.declared.step.ClientFault.{ClientFault}
+use Rattle.headline.specs.declared.step.ClientFault.TheVariants.{Outstanding, Spent}
+use Rattle.headline.specs.declared.step.ClientEvent.TheVariants.{Submits, Takes, Beats}
 
 pub record Client : Type 0 where
   pub number : ℕ  -- of its last request, 0 for none
@@ -15,16 +19,6 @@ pub record Client : Type 0 where
 
 abbrev pub opening_client : Client
 opening_client = record { number = 0; waiting = None; answer = None }
-
--- why a client refuses: it still waits, or there is no number left
-pub data ClientFault : Type 0 where
-  Outstanding Spent : ClientFault
-
--- a command is submitted, an envelope comes, a beat
-pub data ClientEvent : Type 0 where
-  Submits : Cmd → ClientEvent
-  Takes : Envelope → ClientEvent
-  Beats : ClientEvent
 
 -- the client after an event, and what it sends; where it refuses, it is unchanged and sends nothing
 pub record ClientStep : Type 0 where

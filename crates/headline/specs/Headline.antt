@@ -11,10 +11,11 @@ use Rattle.pvp_book.specs.Ledger.{opening, figure}
 use Rattle.pvp_book.specs.Orders.{orders, has_payment, has_return, is_end}
 use Rattle.pvp_book.specs.Answer.{after_rows, book_of}
 use Rattle.pvp_book.specs.Laws.{BothLegs, IsCovered, PayInsOnce}
-use Rattle.rtgs_node.specs.Node as node
+use Rattle.rtgs_node.specs.declared.event.NodeEvent.TheVariants as node
 use Rattle.rtgs_node.specs.declared.fault.NodeFault.TheVariants as fault
 use Rattle.rtgs_node.specs.Node.{Envelope, Node, account, has_done, has_returned, node_step}
-use Rattle.headline.specs.Bank.{Bank, Move}
+use Rattle.headline.specs.declared.step.Move.{Move}
+use Rattle.headline.specs.Bank.{Bank}
 use Rattle.headline.specs.Legal.{IsRun, IsLegal, LegalList}
 use Rattle.headline.specs.Way.{not_known, way}
 

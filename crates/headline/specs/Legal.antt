@@ -13,9 +13,16 @@ use Rattle.vr_types.specs.Choice.{Choice, IsRight}
 use Rattle.vr_types.specs.Handling.{site_step, is_refused, IsFall, envelopes}
 use Rattle.pvp_book.specs.Ledger.{opening}
 use Rattle.headline.specs.Machine.{book}
-use Rattle.rtgs_node.specs.Node.{Node, NodeEvent, node_step}
-use Rattle.headline.specs.Client.{Client, ClientEvent, client_step}
-use Rattle.headline.specs.Bank.{Bank, opening_bank, Step, Move, Takes, Falls, Turn, OfSite, OfNode, OfClient, turn, with_site, with_node, with_client}
+use Rattle.rtgs_node.specs.declared.event.NodeEvent.{NodeEvent}
+use Rattle.rtgs_node.specs.Node.{Node, node_step}
+use Rattle.headline.specs.declared.step.ClientEvent.{ClientEvent}
+use Rattle.headline.specs.Client.{Client, client_step}
+use Rattle.headline.specs.declared.step.Step.{Step}
+use Rattle.headline.specs.declared.step.Move.{Move}
+use Rattle.headline.specs.declared.step.Move.TheVariants.{Takes, Falls}
+use Rattle.headline.specs.declared.step.Turn.{Turn}
+use Rattle.headline.specs.declared.step.Turn.TheVariants.{OfSite, OfNode, OfClient}
+use Rattle.headline.specs.Bank.{Bank, opening_bank, turn, with_site, with_node, with_client}
 
 module _ (setup : Setup) (choose : Choice Cmd) (f : ℕ) where
   -- a site takes a step that it doesn't refuse

@@ -5,3 +5,4 @@ pub mod Legal
 pub mod Machine
 pub mod Replies
 pub mod Way
+pub mod Whole

@@ -168,6 +168,14 @@ impl Book {
         &self.setup
     }
 
+    /// The commands that it accepted, in their order.
+    pub fn entries(&self) -> &[Entry]
+        ensures same { result.now ≡ self.now.entries }
+        ensures few { length result.now ≤ 65535 }
+    {
+        self.entries.as_slice()
+    }
+
     /// Whether a currency's pay-in of this number is in the book.
     pub fn paid_in(&self, c: u8, k: u32) -> bool
         ensures { result ≡ has_pay_in self.now.entries c k }

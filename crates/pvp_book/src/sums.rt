@@ -170,7 +170,7 @@ fn is_pay_in(entry: &Entry, c: u8, k: u32) -> bool
 }
 
 /// Whether a currency's order of this number is returned.
-fn has_return(entries: &[Entry], c: u8, n: u32) -> bool
+pub fn has_return(entries: &[Entry], c: u8, n: u32) -> bool
     ensures { result ≡ has_return entries.now c n }
 {
     entries.iter().any(|e| is_return(e, c, n))

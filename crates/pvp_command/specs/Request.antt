@@ -3,7 +3,7 @@ use Rattle.std.specs.Prelude.{◌≡◌, ◌⊎◌, ℕ, List, Option, Ok, codes
 use Rattle.std.specs.Io.KnownBytes.{Appends}
 use Rattle.pvp_types.specs.declared.setup.Setup.{Setup}
 use Rattle.pvp_text.specs.declared.script.Line.{Line}
-use Rattle.pvp_text.specs.declared.script.Kind.TheVariants.{Book}
+use Rattle.pvp_text.specs.declared.script.Kind.TheVariants.{Book, Play}
 use Rattle.pvp_text.specs.declared.book.RunFault.{RunFault}
 use Rattle.pvp_text.specs.declared.setup.TextFault.{TextFault}
 use Rattle.pvp_text.specs.Reading.{Faults}
@@ -14,6 +14,10 @@ use Rattle.pvp_command.specs.declared.fault.Fault.TheVariants.{Output}
 use Rattle.pvp_command.specs.declared.files.FileFault.{FileFault}
 use Rattle.pvp_command.specs.Fault.{text_told, run_told, file_told}
 use Rattle.pvp_text.specs.BookText.{book_text}
+use Rattle.vr_types.specs.declared.cell.MemCell.{MemCell}
+use Rattle.vr_types.specs.MemoryCell.{held_by}
+use Rattle.pvp_play.specs.Player.{Position}
+use Rattle.pvp_play.specs.Lines.{IsOpening, ArePlayed}
 
 -- a setup that meets the rules is told so
 abbrev pub CheckWrites : List ℕ → Option (List ℕ) → Option (List ℕ) → Type 0
@@ -24,6 +28,12 @@ abbrev pub BookWrites : List ℕ → List ℕ → Option (List ℕ) → Option (
 BookWrites setup script old new =
     (s : Setup) × (setup_text setup ≡ Ok s) × (lines : List Line) × (script_at Book s script ≡ Ok lines)
     × Appends old new (book_text s lines)
+
+-- what the lines of a play print, from a new world of the setup on
+abbrev pub PlayWrites : List ℕ → List ℕ → Option (List ℕ) → Option (List ℕ) → Type 0
+PlayWrites setup script old new =
+    (s : Setup) × (setup_text setup ≡ Ok s) × (lines : List Line) × (script_at Play s script ≡ Ok lines)
+    × (first : Position MemCell) × IsOpening s first × ArePlayed held_by first lines old new
 
 -- the fault of a file that may fail so
 abbrev pub TellsFile : (FileFault → Type 0) → Fault → Type 0
@@ -38,8 +48,8 @@ TellsSetup setup told =
 abbrev pub CheckTells : (FileFault → Type 0) → List ℕ → Fault → Type 0
 CheckTells fails setup told = TellsFile fails told ⊎ (TellsSetup setup told ⊎ (IsOk (setup_text setup) × (told ≡ Output)))
 
--- the fault of a script's run on one book: a file's, the setup's, or the run's
-abbrev pub BookTells : (FileFault → Type 0) → List ℕ → (FileFault → Type 0) → Fault → Type 0
-BookTells fails setup script_fails told =
+-- the fault of a script's run, on one book or in a world: a file's, the setup's, or the run's
+abbrev pub RunTells : (FileFault → Type 0) → List ℕ → (FileFault → Type 0) → Fault → Type 0
+RunTells fails setup script_fails told =
     TellsFile fails told ⊎ (TellsSetup setup told ⊎ (IsOk (setup_text setup)
     × (TellsFile script_fails told ⊎ ((fault : RunFault) × (told ≡ run_told fault)))))

@@ -1,7 +1,7 @@
 //! The whole program, over its words, its files and its two outputs.
 
 ghost use Rattle.std.specs.Prelude.{◌≡◌, ◌≢◌, true, false, OnOk, OnErr, IfErr, IfSome};
-ghost use Rattle.pvp_command.specs.Request.{CheckWrites, CheckTells, BookWrites, BookTells};
+ghost use Rattle.pvp_command.specs.Request.{CheckWrites, CheckTells, BookWrites, PlayWrites, RunTells};
 
 use crate::fault::Fault;
 use crate::files::Files;
@@ -85,6 +85,7 @@ fn run<F: Files, O: Write>(
     match request {
         Request::Check { setup } => check(alloc, files, setup, out),
         Request::Book { setup, script } => book(alloc, files, setup, script, out),
+        Request::Play { setup, script } => play(alloc, files, setup, script, out),
     }
 }
 
@@ -120,11 +121,32 @@ fn book<F: Files, O: Write>(
         IfSome (F.known files.now script.now) (λ script_bytes.
         BookWrites setup_bytes script_bytes (O.contents out.old) (O.contents out.new)))) }
     ensures err { IfErr result (λ fault. IfSome (F.known files.now setup.now) (λ setup_bytes.
-        BookTells (F.fails files.now setup.now) setup_bytes (F.fails files.now script.now) fault)) }
+        RunTells (F.fails files.now setup.now) setup_bytes (F.fails files.now script.now) fault)) }
 {
     let setup = files.read(alloc, setup)?;
     let setup = read_setup(alloc, setup.as_slice())?;
     let script = files.read(alloc, script)?;
     run_book(alloc, &setup, script.as_slice(), out)?;
+    Ok(())
+}
+
+/// Plays a script in a world.
+fn play<F: Files, O: Write>(
+    alloc: Global,
+    files: &F,
+    setup: &str,
+    script: &str,
+    out: &mut O,
+) -> Result<(), Fault>
+    ensures ok { OnOk result (IfSome (F.known files.now setup.now) (λ setup_bytes.
+        IfSome (F.known files.now script.now) (λ script_bytes.
+        PlayWrites setup_bytes script_bytes (O.contents out.old) (O.contents out.new)))) }
+    ensures err { IfErr result (λ fault. IfSome (F.known files.now setup.now) (λ setup_bytes.
+        RunTells (F.fails files.now setup.now) setup_bytes (F.fails files.now script.now) fault)) }
+{
+    let bytes = files.read(alloc, setup)?;
+    let bank = read_setup(alloc, bytes.as_slice())?;
+    let lines = files.read(alloc, script)?;
+    pvp_play::play(alloc, &bank, lines.as_slice(), out)?;
     Ok(())
 }

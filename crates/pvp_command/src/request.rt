@@ -14,6 +14,8 @@ pub enum Request<'a> {
     Check { setup: &'a str },
     /// A script, run on one book.
     Book { setup: &'a str, script: &'a str },
+    /// A script, played in a world.
+    Play { setup: &'a str, script: &'a str },
 }
 
 /// The request that the words are, the program's own name first.
@@ -21,14 +23,14 @@ pub fn parse<'a, S: AsStr>(alloc: Global, words: &'a [S]) -> Result<Option<Reque
     let matches = program(alloc)?.try_get_matches_from(words)?;
     match matches.subcommand() {
         Some(("check", inner)) => Ok(inner.get_str("setup").map(|setup| Request::Check { setup })),
-        Some(("book", inner)) => {
-            let setup = inner.get_str("setup");
-            let script = inner.get_str("script");
-            match (setup, script) {
-                (Some(setup), Some(script)) => Ok(Some(Request::Book { setup, script })),
-                _ => Ok(None),
-            }
-        }
+        Some(("book", inner)) => match (inner.get_str("setup"), inner.get_str("script")) {
+            (Some(setup), Some(script)) => Ok(Some(Request::Book { setup, script })),
+            _ => Ok(None),
+        },
+        Some(("play", inner)) => match (inner.get_str("setup"), inner.get_str("script")) {
+            (Some(setup), Some(script)) => Ok(Some(Request::Play { setup, script })),
+            _ => Ok(None),
+        },
         _ => Ok(None),
     }
 }
@@ -66,13 +68,21 @@ fn program<'a>(alloc: Global) -> Result<Command<'a>, AllocError> {
         .after_help(MORE)
         .arg(file(alloc, "setup", SETUP_HELP))?
         .arg(file(alloc, "script", SCRIPT_HELP))?;
+    let play = Command::new(alloc, "play")
+        .about(
+            "Plays a script in a world of all sites, nodes and clients, with lost, repeated and reordered messages, crashes and restarts: prints refused steps, and the books where the script asks",
+        )
+        .after_help(MORE)
+        .arg(file(alloc, "setup", SETUP_HELP))?
+        .arg(file(alloc, "script", SCRIPT_HELP))?;
     Command::new(alloc, "pvpsim")
         .about("A settlement bank for payment-versus-payment foreign exchange")
         .version("0.1.0")
         .after_help(MORE)
         .subcommand_required(true)
         .subcommand(check)?
-        .subcommand(book)
+        .subcommand(book)?
+        .subcommand(play)
 }
 
 /// A file that has to be named.

@@ -11,7 +11,7 @@ use Rattle.pvp_book.specs.Ledger.{Ledger, balance, figure}
 use Rattle.std.specs.Io.KnownBytes.{Appends}
 use Rattle.pvp_text.specs.declared.script.Line.{Line}
 use Rattle.pvp_text.specs.declared.script.Statement.{Statement}
-use Rattle.pvp_text.specs.declared.script.Statement.TheVariants.{Do, Print}
+use Rattle.pvp_text.specs.declared.script.Statement.TheVariants.{Do}
 use Rattle.pvp_text.specs.BookText.{balances_text, figures_text, member_line, statement_text, after_statement, text_of}
 
 pub balances_text-more : (held : Ledger) (m n : ℕ)
@@ -31,24 +31,30 @@ pub appended : (new old first so_far piece all : List ℕ) → new ≡ old ++ pi
 appended new old first so_far piece all e before whole =
     e ∙ ap (λ t. t ++ piece) before ∙ append_assoc first so_far piece ∙ ap (λ t. first ++ t) (sym whole)
 
--- the next member's line
-pub member_lines-more : (held : Ledger) (members : List Member) (n : ℕ) (d : Member) → n < length members
-    → flat_map (member_line held) (enumerate_from 1 (take (n + 1) members))
-    ≡ flat_map (member_line held) (enumerate_from 1 (take n members)) ++ member_line held (n + 1, get_or members n d)
-member_lines-more held members n d within =
-    ap (λ k. flat_map (member_line held) (enumerate_from 1 (take k members))) (add-one n)
-    ∙ from 1 members n within
-    ∙ ap (λ m. flat_map (member_line held) (enumerate_from 1 (take n members)) ++ member_line held (m, get_or members n d)) (omega arith)
+-- what a function gives of a list's numbered items, one item more
+pub flat_map-enumerate_more : {A : Type 0} (line : ℕ × A → List ℕ) (a : ℕ) (xs : List A) (n : ℕ) (d : A) → n < length xs
+    → flat_map line (enumerate_from a (take (n + 1) xs))
+    ≡ flat_map line (enumerate_from a (take n xs)) ++ line (n + a, get_or xs n d)
+flat_map-enumerate_more {A} line a xs n d within =
+    ap (λ k. flat_map line (enumerate_from a (take k xs))) (add-one n)
+    ∙ from a xs n within
+    ∙ ap (λ m. flat_map line (enumerate_from a (take n xs)) ++ line (m, get_or xs n d)) (omega arith)
   where
-    from : (a : ℕ) (ms : List Member) (k : ℕ) → k < length ms
-        → flat_map (member_line held) (enumerate_from a (take (suc k) ms))
-        ≡ flat_map (member_line held) (enumerate_from a (take k ms)) ++ member_line held (a + k, get_or ms k d)
+    from : (a : ℕ) (ms : List A) (k : ℕ) → k < length ms
+        → flat_map line (enumerate_from a (take (suc k) ms))
+        ≡ flat_map line (enumerate_from a (take k ms)) ++ line (a + k, get_or ms k d)
     from a [] k h = absurd (omega arith)
-    from a (m ∷ ms) zero h = append-nil (member_line held (a, m)) ∙ ap (λ j. member_line held (j, m)) (omega arith)
+    from a (m ∷ ms) zero h = append-nil (line (a, m)) ∙ ap (λ j. line (j, m)) (omega arith)
     from a (m ∷ ms) (suc k) h =
-        ap (λ t. member_line held (a, m) ++ t) (from (a + 1) ms k (omega arith))
-        ∙ sym (append_assoc (member_line held (a, m)) (flat_map (member_line held) (enumerate_from (a + 1) (take k ms))) (member_line held (a + 1 + k, get_or ms k d)))
-        ∙ ap (λ j. (member_line held (a, m) ++ flat_map (member_line held) (enumerate_from (a + 1) (take k ms))) ++ member_line held (j, get_or ms k d)) (omega arith)
+        ap (λ t. line (a, m) ++ t) (from (a + 1) ms k (omega arith))
+        ∙ sym (append_assoc (line (a, m)) (flat_map line (enumerate_from (a + 1) (take k ms))) (line (a + 1 + k, get_or ms k d)))
+        ∙ ap (λ j. (line (a, m) ++ flat_map line (enumerate_from (a + 1) (take k ms))) ++ line (j, get_or ms k d)) (omega arith)
+
+-- the next member's line
+pub member_lines-more : (indent : List ℕ) (held : Ledger) (members : List Member) (n : ℕ) (d : Member) → n < length members
+    → flat_map (member_line indent held) (enumerate_from 1 (take (n + 1) members))
+    ≡ flat_map (member_line indent held) (enumerate_from 1 (take n members)) ++ member_line indent held (n + 1, get_or members n d)
+member_lines-more indent held members n d within = flat_map-enumerate_more (member_line indent held) 1 members n d within
 
 Appends-append : (old mid end : Option (List ℕ)) (xs ys : List ℕ) → Appends old mid xs → Appends mid end ys → Appends old end (xs ++ ys)
 Appends-append None mid end xs ys first second = tt
@@ -100,7 +106,7 @@ alone text new blank piece e appended nothing = e ∙ appended ∙ ap (λ b. b +
 
 applied-after : (held : Ledger) (statement : Statement) → (after_statement held statement).applied ≤ held.applied + 1
 applied-after held (Do client cmd) = omega arith
-applied-after held Print = omega arith
+applied-after held _ = omega arith
 
 pub room-next : (held next : Ledger) (lines : List Line) (i : ℕ) (statement : Statement) → i < length lines
     → held.applied + length (drop i lines) ≤ 65535 → next ≡ after_statement held statement

@@ -6,5 +6,6 @@ pub mod ScriptLength
 pub mod ScriptNumbers
 pub mod ScriptReading
 pub mod ScriptRows
+pub mod ScriptRowsOfActors
 pub mod ScriptSplitting
 pub mod BookTextLemmas

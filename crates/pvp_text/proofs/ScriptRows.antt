@@ -21,17 +21,17 @@ abbrev member : List ℕ → Member
 member name = record { name = name; aggregate = 0; short = []; deposit = [] }
 
 -- three currencies and two members
-abbrev setup : Setup
+abbrev pub setup : Setup
 setup = record {
   sites = 3;
   currencies = currency (codes "EUR") ∷ currency (codes "USD") ∷ currency (codes "JPY") ∷ [];
   members = member (codes "ALFA") ∷ member (codes "BETA") ∷ [];
 }
 
-abbrev lf : List ℕ
+abbrev pub lf : List ℕ
 lf = 10 ∷ []
 
-abbrev at : ℕ → Statement → Line
+abbrev pub at : ℕ → Statement → Line
 at number statement = record { number = number; statement = statement }
 
 paid_out : script_at Book setup (codes "do USD fund USD 1 ALFA 1200" ++ lf ++ codes "do ALFA payout USD 200" ++ lf ++ codes "do USD paid USD 1" ++ lf ++ codes "print" ++ lf)
@@ -62,7 +62,7 @@ refused_by_the_book = refl
 abbrev one : List ℕ → Result (List Line) LineFault
 one line = script_at Book setup line
 
-abbrev fault : LineCode → Result (List Line) LineFault
+abbrev pub fault : LineCode → Result (List Line) LineFault
 fault code = Err (record { line = 1; code = code })
 
 leading_zero : one (codes "do ALFA payout USD 01") ≡ fault Number

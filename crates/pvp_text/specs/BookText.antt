@@ -16,7 +16,7 @@ use Rattle.pvp_text.specs.declared.book.RunFault.TheVariants as RunFaults
 use Rattle.pvp_text.specs.declared.script.Line.{Line}
 use Rattle.pvp_text.specs.declared.script.LineFault.{LineFault}
 use Rattle.pvp_text.specs.declared.script.Statement.{Statement}
-use Rattle.pvp_text.specs.declared.script.Statement.TheVariants.{Do, Print}
+use Rattle.pvp_text.specs.declared.script.Statement.TheVariants.{Do, Print, PayIn, Close, Beat, Timer, Crash, Restart, Deliver, Drain, Skip, Cut, Heal, Chaos, Rest}
 use Rattle.pvp_text.specs.Reading.{Faults}
 use Rattle.pvp_text.specs.Script.{line_fault_is_memory}
 
@@ -26,47 +26,73 @@ balances_text held m currencies =
     flat_map (λ c. 32 ∷ signed_decimal (balance held.setup held.entries m c)) (range_with_len 0 currencies)
 
 -- a member's name and balances
-abbrev pub member_line : Ledger → ℕ × Member → List ℕ
-member_line held (m, member) = member.name ++ balances_text held m (length held.setup.currencies) ++ codes "\n"
+abbrev pub member_line : List ℕ → Ledger → ℕ × Member → List ℕ
+member_line indent held (m, member) = indent ++ member.name ++ balances_text held m (length held.setup.currencies) ++ codes "\n"
 
-abbrev pub member_lines : Ledger → List ℕ
-member_lines held = flat_map (member_line held) (enumerate_from 1 held.setup.members)
+abbrev pub member_lines : List ℕ → Ledger → List ℕ
+member_lines indent held = flat_map (member_line indent held) (enumerate_from 1 held.setup.members)
 
 -- a space and how many pairs are in a state, for each state
 abbrev pub counts_text : Ledger → List ℕ
 counts_text held = flat_map (λ state. 32 ∷ decimal (length (pairs_in held.setup held.entries state))) (Unmatched ∷ Matched ∷ Settled ∷ Rescinded ∷ [])
 
-abbrev pub pairs_line : Ledger → List ℕ
-pairs_line held = codes "pairs" ++ counts_text held ++ codes "\n"
+abbrev pub pairs_line : List ℕ → Ledger → List ℕ
+pairs_line indent held = indent ++ codes "pairs" ++ counts_text held ++ codes "\n"
 
 -- a space and the bank's figure, for each currency
 abbrev pub figures_text : Ledger → ℕ → List ℕ
 figures_text held currencies = flat_map (λ c. 32 ∷ signed_decimal (figure held.setup held.entries c)) (range_with_len 0 currencies)
 
-abbrev pub figure_line : Ledger → List ℕ
-figure_line held = codes "figure" ++ figures_text held (length held.setup.currencies) ++ codes "\n"
+abbrev pub figure_line : List ℕ → Ledger → List ℕ
+figure_line indent held = indent ++ codes "figure" ++ figures_text held (length held.setup.currencies) ++ codes "\n"
 
 -- how many orders are neither paid nor returned
-abbrev pub open_line : Ledger → List ℕ
-open_line held = codes "open " ++ decimal (length (outstanding held.setup held.entries)) ++ codes "\n"
+abbrev pub open_line : List ℕ → Ledger → List ℕ
+open_line indent held = indent ++ codes "open " ++ decimal (length (outstanding held.setup held.entries)) ++ codes "\n"
 
--- what `print` writes
-abbrev pub block : Ledger → List ℕ
-block held = member_lines held ++ pairs_line held ++ figure_line held ++ open_line held
+-- the block of a book, where each line begins with this indent
+abbrev pub block : List ℕ → Ledger → List ℕ
+block indent held = member_lines indent held ++ pairs_line indent held ++ figure_line indent held ++ open_line indent held
 
 -- what `do` writes: the row's number, counted over all that were applied, and the answer
 abbrev pub answer_line : Ledger → ℕ → Cmd → List ℕ
 answer_line held client cmd = decimal (held.applied + 1) ++ codes " " ++ reply_text (answer_to held client cmd) ++ codes "\n"
 
--- what a line of a script writes
+-- what a line of a script writes: a line that no script of one book has writes nothing
 abbrev pub statement_text : Ledger → Statement → List ℕ
 statement_text held (Do client cmd) = answer_line held client cmd
-statement_text held Print = block held
+statement_text held Print = block [] held
+statement_text held (PayIn member ccy amt) = []
+statement_text held (Close member ccy) = []
+statement_text held (Beat actor) = []
+statement_text held (Timer site) = []
+statement_text held (Crash site) = []
+statement_text held (Restart site) = []
+statement_text held (Deliver envelope) = []
+statement_text held (Drain turns) = []
+statement_text held (Skip envelopes) = []
+statement_text held (Cut actor) = []
+statement_text held (Heal actor) = []
+statement_text held (Chaos seed turns) = []
+statement_text held (Rest milliseconds) = []
 
 -- what is held after it
 abbrev pub after_statement : Ledger → Statement → Ledger
 after_statement held (Do client cmd) = after held client cmd
 after_statement held Print = held
+after_statement held (PayIn member ccy amt) = held
+after_statement held (Close member ccy) = held
+after_statement held (Beat actor) = held
+after_statement held (Timer site) = held
+after_statement held (Crash site) = held
+after_statement held (Restart site) = held
+after_statement held (Deliver envelope) = held
+after_statement held (Drain turns) = held
+after_statement held (Skip envelopes) = held
+after_statement held (Cut actor) = held
+after_statement held (Heal actor) = held
+after_statement held (Chaos seed turns) = held
+after_statement held (Rest milliseconds) = held
 
 -- what the lines of a script write, one after another
 abbrev pub text_of : Ledger → List Line → List ℕ

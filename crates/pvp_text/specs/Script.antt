@@ -5,23 +5,23 @@ use Rattle.std.specs.List.{list_all}
 use Rattle.pvp_types.specs.declared.command.Cmd.TheVariants.{Instruct, Rescind, Fund, Settle, PayOut, Paid, Returned}
 use Rattle.pvp_types.specs.declared.setup.Setup.{Setup}
 use Rattle.pvp_text.specs.declared.script.Kind.{Kind}
-use Rattle.pvp_text.specs.declared.script.Kind.TheVariants.{Book}
+use Rattle.pvp_text.specs.declared.script.Kind.TheVariants.{Book, Play, Live}
 use Rattle.pvp_text.specs.declared.script.Line.{Line}
 use Rattle.pvp_text.specs.declared.script.LineCode.{LineCode}
 use Rattle.pvp_text.specs.declared.script.LineCode.TheVariants.{Byte, UnknownWord, WordCount, Number, UnknownName, LineLength, LineCount, NoMemory}
 use Rattle.pvp_text.specs.declared.script.LineFault.{LineFault}
 use Rattle.pvp_text.specs.declared.script.Statement.{Statement}
-use Rattle.pvp_text.specs.declared.script.Statement.TheVariants.{Do, Print}
+use Rattle.pvp_text.specs.declared.script.Statement.TheVariants.{Do, Print, PayIn, Close, Beat, Timer, Crash, Restart, Deliver, Drain, Skip, Cut, Heal, Chaos, Rest}
 use Rattle.pvp_text.specs.Reading.{◌>>=◌}
-use Rattle.pvp_text.specs.ScriptFields.{number_at, reference_at, client_of, currency_of}
+use Rattle.pvp_text.specs.ScriptFields.{number_at, reference_at, actor_at, site_at, client_of, sender_of, currency_of}
 use Rattle.pvp_text.specs.ScriptWords.{is_empty, lines, words}
 
 -- Of each form a malformed number comes before an unknown name, so first each word is read, and then the
 -- names are looked up.
 
 -- `do WHO instruct REF OTHER SELL AMT BUY AMT`
-unfoldable pub instruct_at : Setup → List ℕ → List (List ℕ) → Result Statement LineCode
-instruct_at setup who (reference ∷ other ∷ sell ∷ sell_amt ∷ buy ∷ buy_amt ∷ []) = do
+unfoldable pub instruct_at : Kind → Setup → List ℕ → List (List ℕ) → Result Statement LineCode
+instruct_at kind setup who (reference ∷ other ∷ sell ∷ sell_amt ∷ buy ∷ buy_amt ∷ []) = do
   who ← reference_at (2 ^ 16) who
   reference ← number_at (2 ^ 32) reference
   other ← reference_at (2 ^ 16) other
@@ -29,91 +29,91 @@ instruct_at setup who (reference ∷ other ∷ sell ∷ sell_amt ∷ buy ∷ buy
   sell_amt ← number_at (2 ^ 64) sell_amt
   buy ← reference_at (2 ^ 8) buy
   buy_amt ← number_at (2 ^ 64) buy_amt
-  client ← client_of setup who
+  client ← sender_of kind setup who
   other ← client_of setup other
   sell ← currency_of setup sell
   buy ← currency_of setup buy
   Ok (Do client (Instruct reference other sell sell_amt buy buy_amt))
-instruct_at setup who _ = Err WordCount
+instruct_at kind setup who _ = Err WordCount
 
 -- `do WHO rescind REF`
-unfoldable pub rescind_at : Setup → List ℕ → List (List ℕ) → Result Statement LineCode
-rescind_at setup who (reference ∷ []) = do
+unfoldable pub rescind_at : Kind → Setup → List ℕ → List (List ℕ) → Result Statement LineCode
+rescind_at kind setup who (reference ∷ []) = do
   who ← reference_at (2 ^ 16) who
   reference ← number_at (2 ^ 32) reference
-  client ← client_of setup who
+  client ← sender_of kind setup who
   Ok (Do client (Rescind reference))
-rescind_at setup who _ = Err WordCount
+rescind_at kind setup who _ = Err WordCount
 
 -- `do WHO settle MOST`
-unfoldable pub settle_at : Setup → List ℕ → List (List ℕ) → Result Statement LineCode
-settle_at setup who (most ∷ []) = do
+unfoldable pub settle_at : Kind → Setup → List ℕ → List (List ℕ) → Result Statement LineCode
+settle_at kind setup who (most ∷ []) = do
   who ← reference_at (2 ^ 16) who
   most ← number_at (2 ^ 32) most
-  client ← client_of setup who
+  client ← sender_of kind setup who
   Ok (Do client (Settle most))
-settle_at setup who _ = Err WordCount
+settle_at kind setup who _ = Err WordCount
 
 -- `do WHO fund CCY PAY MEMBER AMT`
-unfoldable pub fund_at : Setup → List ℕ → List (List ℕ) → Result Statement LineCode
-fund_at setup who (ccy ∷ pay ∷ member ∷ amt ∷ []) = do
+unfoldable pub fund_at : Kind → Setup → List ℕ → List (List ℕ) → Result Statement LineCode
+fund_at kind setup who (ccy ∷ pay ∷ member ∷ amt ∷ []) = do
   who ← reference_at (2 ^ 16) who
   ccy ← reference_at (2 ^ 8) ccy
   pay ← number_at (2 ^ 32) pay
   member ← reference_at (2 ^ 16) member
   amt ← number_at (2 ^ 64) amt
-  client ← client_of setup who
+  client ← sender_of kind setup who
   ccy ← currency_of setup ccy
   member ← client_of setup member
   Ok (Do client (Fund ccy pay member amt))
-fund_at setup who _ = Err WordCount
+fund_at kind setup who _ = Err WordCount
 
 -- `do WHO payout CCY AMT`
-unfoldable pub payout_at : Setup → List ℕ → List (List ℕ) → Result Statement LineCode
-payout_at setup who (ccy ∷ amt ∷ []) = do
+unfoldable pub payout_at : Kind → Setup → List ℕ → List (List ℕ) → Result Statement LineCode
+payout_at kind setup who (ccy ∷ amt ∷ []) = do
   who ← reference_at (2 ^ 16) who
   ccy ← reference_at (2 ^ 8) ccy
   amt ← number_at (2 ^ 64) amt
-  client ← client_of setup who
+  client ← sender_of kind setup who
   ccy ← currency_of setup ccy
   Ok (Do client (PayOut ccy amt))
-payout_at setup who _ = Err WordCount
+payout_at kind setup who _ = Err WordCount
 
 -- a client, a currency and the number of an order, as `WHO .. CCY OUT` tells them
-unfoldable pub order_at : Setup → List ℕ → List (List ℕ) → Result (ℕ × ℕ × ℕ) LineCode
-order_at setup who (ccy ∷ out ∷ []) = do
+unfoldable pub order_at : Kind → Setup → List ℕ → List (List ℕ) → Result (ℕ × ℕ × ℕ) LineCode
+order_at kind setup who (ccy ∷ out ∷ []) = do
   who ← reference_at (2 ^ 16) who
   ccy ← reference_at (2 ^ 8) ccy
   out ← number_at (2 ^ 32) out
-  client ← client_of setup who
+  client ← sender_of kind setup who
   ccy ← currency_of setup ccy
   Ok (client, ccy, out)
-order_at setup who _ = Err WordCount
+order_at kind setup who _ = Err WordCount
 
 -- `do WHO paid CCY OUT`
-unfoldable pub paid_at : Setup → List ℕ → List (List ℕ) → Result Statement LineCode
-paid_at setup who fields = do
-  order ← order_at setup who fields
+unfoldable pub paid_at : Kind → Setup → List ℕ → List (List ℕ) → Result Statement LineCode
+paid_at kind setup who fields = do
+  order ← order_at kind setup who fields
   Ok (Do order.0 (Paid order.1 order.2))
 
 -- `do WHO returned CCY OUT`
-unfoldable pub returned_at : Setup → List ℕ → List (List ℕ) → Result Statement LineCode
-returned_at setup who fields = do
-  order ← order_at setup who fields
+unfoldable pub returned_at : Kind → Setup → List ℕ → List (List ℕ) → Result Statement LineCode
+returned_at kind setup who fields = do
+  order ← order_at kind setup who fields
   Ok (Do order.0 (Returned order.1 order.2))
 
 -- `do WHO`, the command's word and its fields
-unfoldable pub do_at : Setup → List (List ℕ) → Result Statement LineCode
-do_at setup (who ∷ command ∷ fields) =
-    if bytes_eq command (codes "instruct") then instruct_at setup who fields
-    else if bytes_eq command (codes "rescind") then rescind_at setup who fields
-    else if bytes_eq command (codes "settle") then settle_at setup who fields
-    else if bytes_eq command (codes "fund") then fund_at setup who fields
-    else if bytes_eq command (codes "payout") then payout_at setup who fields
-    else if bytes_eq command (codes "paid") then paid_at setup who fields
-    else if bytes_eq command (codes "returned") then returned_at setup who fields
+unfoldable pub do_at : Kind → Setup → List (List ℕ) → Result Statement LineCode
+do_at kind setup (who ∷ command ∷ fields) =
+    if bytes_eq command (codes "instruct") then instruct_at kind setup who fields
+    else if bytes_eq command (codes "rescind") then rescind_at kind setup who fields
+    else if bytes_eq command (codes "settle") then settle_at kind setup who fields
+    else if bytes_eq command (codes "fund") then fund_at kind setup who fields
+    else if bytes_eq command (codes "payout") then payout_at kind setup who fields
+    else if bytes_eq command (codes "paid") then paid_at kind setup who fields
+    else if bytes_eq command (codes "returned") then returned_at kind setup who fields
     else Err UnknownWord
-do_at setup _ = Err WordCount
+do_at kind setup _ = Err WordCount
 
 -- `print`
 abbrev pub print_at : List (List ℕ) → Result Statement LineCode
@@ -123,14 +123,158 @@ print_at (_ ∷ _) = Err WordCount
 -- the kinds that have `print`
 abbrev pub prints : Kind → Bool
 prints Book = true
+prints Play = true
+prints Live = false
+
+-- ---- the lines of a bank of actors
+
+-- one word, an actor
+unfoldable pub lone_actor_at : Setup → List (List ℕ) → Result ℕ LineCode
+lone_actor_at setup (actor ∷ []) = do
+  actor ← actor_at actor
+  client_of setup actor
+lone_actor_at setup _ = Err WordCount
+
+-- one word, a site
+unfoldable pub lone_site_at : List (List ℕ) → Result ℕ LineCode
+lone_site_at (site ∷ []) = site_at site
+lone_site_at _ = Err WordCount
+
+-- one word, a number of 32 bits
+unfoldable pub lone_number_at : List (List ℕ) → Result ℕ LineCode
+lone_number_at (n ∷ []) = number_at (2 ^ 32) n
+lone_number_at _ = Err WordCount
+
+-- `payin MEMBER CCY AMT`
+unfoldable pub payin_at : Setup → List (List ℕ) → Result Statement LineCode
+payin_at setup (member ∷ ccy ∷ amt ∷ []) = do
+  member ← reference_at (2 ^ 16) member
+  ccy ← reference_at (2 ^ 8) ccy
+  amt ← number_at (2 ^ 64) amt
+  member ← client_of setup member
+  ccy ← currency_of setup ccy
+  Ok (PayIn member ccy amt)
+payin_at setup _ = Err WordCount
+
+-- `close MEMBER CCY`
+unfoldable pub close_at : Setup → List (List ℕ) → Result Statement LineCode
+close_at setup (member ∷ ccy ∷ []) = do
+  member ← reference_at (2 ^ 16) member
+  ccy ← reference_at (2 ^ 8) ccy
+  member ← client_of setup member
+  ccy ← currency_of setup ccy
+  Ok (Close member ccy)
+close_at setup _ = Err WordCount
+
+-- `beat ACTOR`
+unfoldable pub beat_at : Setup → List (List ℕ) → Result Statement LineCode
+beat_at setup fields = do
+  actor ← lone_actor_at setup fields
+  Ok (Beat actor)
+
+-- `timer SITE`
+unfoldable pub timer_at : List (List ℕ) → Result Statement LineCode
+timer_at fields = do
+  site ← lone_site_at fields
+  Ok (Timer site)
+
+-- `crash SITE`
+unfoldable pub crash_at : List (List ℕ) → Result Statement LineCode
+crash_at fields = do
+  site ← lone_site_at fields
+  Ok (Crash site)
+
+-- `restart SITE`
+unfoldable pub restart_at : List (List ℕ) → Result Statement LineCode
+restart_at fields = do
+  site ← lone_site_at fields
+  Ok (Restart site)
+
+-- what a bank of actors is told to do, however its envelopes go
+unfoldable pub move_at : Setup → List ℕ → List (List ℕ) → Result Statement LineCode
+move_at setup first fields =
+    if bytes_eq first (codes "payin") then payin_at setup fields
+    else if bytes_eq first (codes "close") then close_at setup fields
+    else if bytes_eq first (codes "beat") then beat_at setup fields
+    else if bytes_eq first (codes "timer") then timer_at fields
+    else if bytes_eq first (codes "crash") then crash_at fields
+    else if bytes_eq first (codes "restart") then restart_at fields
+    else Err UnknownWord
+
+-- `deliver E`
+unfoldable pub deliver_at : List (List ℕ) → Result Statement LineCode
+deliver_at fields = do
+  envelope ← lone_number_at fields
+  Ok (Deliver envelope)
+
+-- `drain N`
+unfoldable pub drain_at : List (List ℕ) → Result Statement LineCode
+drain_at fields = do
+  turns ← lone_number_at fields
+  Ok (Drain turns)
+
+-- `skip N`
+unfoldable pub skip_at : List (List ℕ) → Result Statement LineCode
+skip_at fields = do
+  envelopes ← lone_number_at fields
+  Ok (Skip envelopes)
+
+-- `cut ACTOR`
+unfoldable pub cut_at : Setup → List (List ℕ) → Result Statement LineCode
+cut_at setup fields = do
+  actor ← lone_actor_at setup fields
+  Ok (Cut actor)
+
+-- `heal ACTOR`
+unfoldable pub heal_at : Setup → List (List ℕ) → Result Statement LineCode
+heal_at setup fields = do
+  actor ← lone_actor_at setup fields
+  Ok (Heal actor)
+
+-- `chaos SEED COUNT`, of a million turns at most
+unfoldable pub chaos_at : List (List ℕ) → Result Statement LineCode
+chaos_at (seed ∷ turns ∷ []) = do
+  seed ← number_at (2 ^ 64) seed
+  turns ← number_at 1000001 turns
+  Ok (Chaos seed turns)
+chaos_at _ = Err WordCount
+
+-- what a play is told: there each envelope goes as the script says
+unfoldable pub play_at : Setup → List ℕ → List (List ℕ) → Result Statement LineCode
+play_at setup first fields =
+    if bytes_eq first (codes "deliver") then deliver_at fields
+    else if bytes_eq first (codes "drain") then drain_at fields
+    else if bytes_eq first (codes "skip") then skip_at fields
+    else if bytes_eq first (codes "cut") then cut_at setup fields
+    else if bytes_eq first (codes "heal") then heal_at setup fields
+    else if bytes_eq first (codes "chaos") then chaos_at fields
+    else move_at setup first fields
+
+-- `rest MS`
+unfoldable pub rest_at : List (List ℕ) → Result Statement LineCode
+rest_at fields = do
+  milliseconds ← lone_number_at fields
+  Ok (Rest milliseconds)
+
+-- what a bank that runs live is told: there envelopes go by themselves, and time passes
+unfoldable pub live_at : Setup → List ℕ → List (List ℕ) → Result Statement LineCode
+live_at setup first fields = if bytes_eq first (codes "rest") then rest_at fields else move_at setup first fields
+
+-- what is told by no command and no `print`; one book is told nothing else
+unfoldable pub told_at : Kind → Setup → List ℕ → List (List ℕ) → Result Statement LineCode
+told_at Book setup first fields = Err UnknownWord
+told_at Play setup first fields = play_at setup first fields
+told_at Live setup first fields = live_at setup first fields
+
+-- ---- all lines
 
 -- what the words of a line say
 unfoldable pub statement_at : Kind → Setup → List (List ℕ) → Result Statement LineCode
 statement_at kind setup [] = Err UnknownWord
 statement_at kind setup (first ∷ rest) =
-    if bytes_eq first (codes "do") then do_at setup rest
+    if bytes_eq first (codes "do") then do_at kind setup rest
     else if prints kind && bytes_eq first (codes "print") then print_at rest
-    else Err UnknownWord
+    else told_at kind setup first rest
 
 -- a comment, whose first byte is `#`, or a line without words
 abbrev pub is_skipped : List ℕ → Bool

@@ -51,16 +51,21 @@ pub fn run_book<W: Write>(
         (λ refused. script_where refused kinds.Book setup.now script.now)
         result writer.old writer.new }
 {
-    let lines = read_lines(alloc, setup, script)?;
+    let lines = read_lines(alloc, setup, Kind::Book, script)?;
     let mut book = Book::fresh(alloc, setup)?;
     run_lines(alloc, &mut book, lines.as_slice(), writer)
 }
 
-/// The lines of a script.
-fn read_lines(alloc: Global, setup: &Setup, script: &[u8]) -> Result<Vec<Line>, RunFault>
-    ensures { ReadEnds result (λ refused. script_where refused kinds.Book setup.now script.now) }
+/// The lines of a script of a kind; else its faulty line, or that memory was refused to keep one before that.
+pub fn read_lines(
+    alloc: Global,
+    setup: &Setup,
+    kind: Kind,
+    script: &[u8],
+) -> Result<Vec<Line>, RunFault>
+    ensures { ReadEnds result (λ refused. script_where refused kind setup.now script.now) }
 {
-    match read_script(alloc, setup, Kind::Book, script) {
+    match read_script(alloc, setup, kind, script) {
         Ok(lines) => Ok(lines),
         Err(fault) if fault.code == LineCode::NoMemory => Err(RunFault::NoMemory),
         Err(fault) => Err(RunFault::Line(fault)),
@@ -87,7 +92,7 @@ fn run_lines<W: Write>(
 }
 
 /// Writes a text.
-fn write_text<W: Write>(writer: &mut W, text: &str) -> Result<(), RunFault>
+pub fn write_text<W: Write>(writer: &mut W, text: &str) -> Result<(), RunFault>
     ensures written { OnOk result (Appends (W.contents writer.old) (W.contents writer.new) text.now) }
     ensures fault { IfErr result (λ fault. fault ≡ Output) }
 {
@@ -97,7 +102,8 @@ fn write_text<W: Write>(writer: &mut W, text: &str) -> Result<(), RunFault>
     }
 }
 
-/// Runs one line on a book, and appends what it prints.
+/// Runs one line on a book, and appends what it prints. A line that no script of one book has does
+/// nothing.
 fn push_statement(
     text: &mut String,
     book: &mut Book,
@@ -114,22 +120,36 @@ fn push_statement(
             let row = book.applied();
             write!(text, "{row} {reply}\n")
         }
-        Statement::Print => push_block(text, book),
+        Statement::Print => push_block(text, "", book),
+        Statement::PayIn { .. }
+        | Statement::Close { .. }
+        | Statement::Beat { .. }
+        | Statement::Timer { .. }
+        | Statement::Crash { .. }
+        | Statement::Restart { .. }
+        | Statement::Deliver { .. }
+        | Statement::Drain { .. }
+        | Statement::Skip { .. }
+        | Statement::Cut { .. }
+        | Statement::Heal { .. }
+        | Statement::Chaos { .. }
+        | Statement::Rest { .. } => Ok(()),
     }
 }
 
-/// Appends what `print` writes.
-fn push_block(text: &mut String, book: &Book) -> Result<(), AllocError>
-    ensures { OnOk result (string_bytes text.new ≡ string_bytes text.old ++ block book.now) }
+/// Appends the block of a book: its members' balances, its pairs, its figures and its open orders. Each line
+/// begins with the indent.
+pub fn push_block(text: &mut String, indent: &str, book: &Book) -> Result<(), AllocError>
+    ensures { OnOk result (string_bytes text.new
+        ≡ string_bytes text.old ++ block indent.now book.now) }
 {
-    push_members(text, book)?;
-    text.push_str("pairs")?;
+    push_members(text, indent, book)?;
+    write!(text, "{indent}pairs")?;
     push_counts(text, book)?;
-    text.push_str("\nfigure")?;
+    write!(text, "\n{indent}figure")?;
     push_figures(text, book)?;
-    text.push_str("\nopen ")?;
     let orders = book.open_count();
-    write!(text, "{orders}\n")
+    write!(text, "\n{indent}open {orders}\n")
 }
 
 /// Appends how many pairs are in each state.
@@ -152,20 +172,28 @@ fn push_count(text: &mut String, book: &Book, state: PairState) -> Result<(), Al
 }
 
 /// Appends a line for each member, with its name and balances.
-fn push_members(text: &mut String, book: &Book) -> Result<(), AllocError>
-    ensures { OnOk result (string_bytes text.new ≡ string_bytes text.old ++ member_lines book.now) }
+fn push_members(text: &mut String, indent: &str, book: &Book) -> Result<(), AllocError>
+    ensures { OnOk result (string_bytes text.new
+        ≡ string_bytes text.old ++ member_lines indent.now book.now) }
 {
     for (place, member) in book.setup().members.as_slice().iter().enumerate() {
-        push_member(text, book, place as u16 + 1, member)?;
+        push_member(text, indent, book, place as u16 + 1, member)?;
     }
     Ok(())
 }
 
 /// Appends a member's name and balances.
-fn push_member(text: &mut String, book: &Book, m: u16, member: &Member) -> Result<(), AllocError>
+fn push_member(
+    text: &mut String,
+    indent: &str,
+    book: &Book,
+    m: u16,
+    member: &Member,
+) -> Result<(), AllocError>
     ensures { OnOk result (string_bytes text.new
-        ≡ string_bytes text.old ++ member_line book.now (m, member.now)) }
+        ≡ string_bytes text.old ++ member_line indent.now book.now (m, member.now)) }
 {
+    text.push_str(indent)?;
     text.push_str(member.name.as_str())?;
     push_balances(text, book, m)?;
     text.push_str("\n")

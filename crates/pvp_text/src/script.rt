@@ -12,13 +12,33 @@
 //! do WHO payout CCY AMT
 //! do WHO paid CCY OUT
 //! do WHO returned CCY OUT
-//! print
+//! print                       Book, Play
+//! payin MEMBER CCY AMT        Play, Live
+//! close MEMBER CCY            Play, Live
+//! beat ACTOR                  Play, Live
+//! timer SITE                  Play, Live
+//! crash SITE                  Play, Live
+//! restart SITE                Play, Live
+//! deliver E                   Play
+//! drain N                     Play
+//! skip N                      Play
+//! cut ACTOR                   Play
+//! heal ACTOR                  Play
+//! chaos SEED COUNT            Play
+//! rest MS                     Live
 //! ```
 //!
-//! A number is decimal digits without a leading zero, but for `0` itself: of 64 bits for AMT, and of 32
-//! otherwise. WHO, OTHER and MEMBER are a client: `OP` for the operator, a member's name, or a currency's
-//! code for its node. CCY, SELL and BUY are a currency's code. Each of them may be `@` and its number
-//! instead, up to 65535 for a client and up to 255 for a currency, in the setup or not.
+//! A number is decimal digits without a leading zero, but for `0` itself: of 64 bits for AMT and SEED, up
+//! to 1,000,000 for COUNT, and of 32 bits otherwise.
+//!
+//! WHO, OTHER and MEMBER are a client: `OP` for the operator, a member's name, or a currency's code for
+//! its node. CCY, SELL and BUY are a currency's code. Each of them may be `@` and its number instead, up
+//! to 65535 for a client and up to 255 for a currency, in the setup or not. In a play and in a live run
+//! the nodes send their own commands: there a currency's code is no WHO, though a node's number is read.
+//!
+//! SITE is `s` and a site's number up to 255. ACTOR is a client or a site, and `@` tells an actor by its
+//! number: that of a client is its own, and that of site K is 200 + K. What begins with `@`, or with `s`
+//! where a site may stand, is judged as a number: `@200` is no SITE, and as malformed as `s256`.
 ghost use Rattle.std.specs.Prelude.{◌≡◌, ◌≤◌, length};
 ghost use Rattle.pvp_text.specs.Script.{script_where, lines_at, of_line, prints, line_fault_is_memory, lines_in};
 ghost use Rattle.pvp_text.specs.Reading.{Reads};
@@ -27,8 +47,7 @@ ghost use Rattle.pvp_text.specs.declared.script.LineCode.TheVariants.{NoMemory};
 
 mod fields;
 mod forms;
-#[cfg(test)]
-mod tests;
+mod moves;
 mod words;
 
 use crate::script::forms::read_line;
@@ -42,6 +61,10 @@ use std::fmt;
 pub enum Kind {
     /// One book: `do` and `print`.
     Book,
+    /// A bank of actors, whose envelopes go as the script says.
+    Play,
+    /// A bank of actors whose envelopes go by themselves.
+    Live,
 }
 
 impl Kind {
@@ -50,7 +73,8 @@ impl Kind {
         ensures { result ≡ prints self }
     {
         match self {
-            Kind::Book => true,
+            Kind::Book | Kind::Play => true,
+            Kind::Live => false,
         }
     }
 }
@@ -62,6 +86,32 @@ pub enum Statement {
     Do { client: u16, cmd: Cmd },
     /// To print the book.
     Print,
+    /// A member pays in at a currency's node.
+    PayIn { member: u16, ccy: u8, amt: u64 },
+    /// A member's account at a currency's node is closed.
+    Close { member: u16, ccy: u8 },
+    /// An actor beats.
+    Beat { actor: u16 },
+    /// A site's timer runs out.
+    Timer { site: u16 },
+    /// A site falls.
+    Crash { site: u16 },
+    /// A site that fell starts again.
+    Restart { site: u16 },
+    /// An envelope arrives, told by its number.
+    Deliver { envelope: u32 },
+    /// Envelopes arrive for so many turns.
+    Drain { turns: u32 },
+    /// So many envelopes are passed over.
+    Skip { envelopes: u32 },
+    /// An actor is cut off.
+    Cut { actor: u16 },
+    /// An actor is cut off no longer.
+    Heal { actor: u16 },
+    /// So many turns go as the seed has it.
+    Chaos { seed: u64, turns: u32 },
+    /// So much time passes.
+    Rest { milliseconds: u32 },
 }
 
 /// A line that asks for something, and its number.
@@ -82,7 +132,7 @@ pub enum LineCode {
     WordCount,
     /// L4: a number is malformed or too large for its field.
     Number,
-    /// L5: no client, member or currency has this name.
+    /// L5: no client, member, currency or site has this name.
     UnknownName,
     /// L6: the line is longer than 256 bytes.
     LineLength,

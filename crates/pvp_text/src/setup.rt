@@ -7,8 +7,6 @@ ghost use Rattle.pvp_text.specs.declared.setup.TextFault.TheVariants.{NoMemory};
 ghost use Rattle.pvp_text.specs.Reading.{Reads};
 ghost use Rattle.pvp_text.specs.SetupText.{tree, setup_where, text_fault_is_memory, itself};
 
-#[cfg(test)]
-mod tests;
 mod tree;
 
 use self::tree::FromTree;

@@ -20,7 +20,9 @@ use Rattle.pvp_book.proofs.Members.{upto, upto-add, upto-sum, pick-one, is-membe
 use Rattle.rtgs_node.specs.declared.fault.NodeFault.{NodeFault}
 use Rattle.rtgs_node.specs.declared.fault.NodeFault.TheVariants.{Short}
 use Rattle.rtgs_node.specs.declared.payment.PayIn.{PayIn}
-use Rattle.rtgs_node.specs.Node.{Node, NodeEvent, NodeStep, PaysIn, Closes, Takes, Beats, opening_node, came_in, went_out, came_from, went_to, account, deposit, member_account, refuses, unless, is_known, is_closed, pay_in_checks, order_checks, close_checks, on_order, on_reply, on_message, node_step}
+use Rattle.rtgs_node.specs.declared.event.NodeEvent.TheVariants.{PaysIn, Closes, Takes, Beats}
+use Rattle.rtgs_node.specs.declared.event.NodeEvent.{NodeEvent}
+use Rattle.rtgs_node.specs.Node.{Node, NodeStep, opening_node, came_in, went_out, came_from, went_to, account, deposit, member_account, refuses, unless, is_known, is_closed, pay_in_checks, order_checks, close_checks, on_order, on_reply, on_message, node_step}
 use Rattle.rtgs_node.specs.Shown.{Shown}
 use Rattle.rtgs_node.specs.Kept.{IsPayment, IsKept}
 use Rattle.rtgs_node.proofs.Checks.{Passed}

@@ -9,7 +9,9 @@ use Rattle.vr_types.specs.declared.message.MsgOf.TheVariants.{Reply, PayOrder}
 use Rattle.pvp_book.proofs.WorkedRows.{worked}
 use Rattle.rtgs_node.specs.declared.fault.NodeFault.{NodeFault}
 use Rattle.rtgs_node.specs.declared.fault.NodeFault.TheVariants.{Short, UnknownMember, BadAmount, Closed}
-use Rattle.rtgs_node.specs.Node.{Node, NodeEvent, NodeStep, PaysIn, Closes, Takes, Beats, opening_node, account, member_account, node_step}
+use Rattle.rtgs_node.specs.declared.event.NodeEvent.TheVariants.{PaysIn, Closes, Takes, Beats}
+use Rattle.rtgs_node.specs.declared.event.NodeEvent.{NodeEvent}
+use Rattle.rtgs_node.specs.Node.{Node, NodeStep, opening_node, account, member_account, node_step}
 
 told : NodeStep → Option NodeFault × ℕ × ℤ × ℤ
 told step = (step.fault, length step.sent, account step.node, member_account worked 1 1 step.node)

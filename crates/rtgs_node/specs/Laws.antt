@@ -2,7 +2,8 @@
 use Rattle.std.specs.Prelude.{ℕ, List, length, map, fold, sum_by, ℤ, pos, ◌+ℤ◌}
 use Rattle.std.specs.List.{range_with_len}
 use Rattle.pvp_types.specs.declared.setup.Setup.{Setup}
-use Rattle.rtgs_node.specs.Node.{Node, NodeEvent, opening_node, node_step, account, deposit, member_account}
+use Rattle.rtgs_node.specs.declared.event.NodeEvent.{NodeEvent}
+use Rattle.rtgs_node.specs.Node.{Node, opening_node, node_step, account, deposit, member_account}
 
 -- the node of currency c after these events
 abbrev pub node_after : Setup → ℕ → ℕ → List NodeEvent → Node

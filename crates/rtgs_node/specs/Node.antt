@@ -14,6 +14,8 @@ use Rattle.vr_types.specs.declared.message.MsgOf.TheVariants.{Request, Reply, Pa
 use Rattle.vr_types.specs.Group.{sites, actor_of}
 use Rattle.pvp_book.specs.Ledger.{node_of}
 use Rattle.pvp_book.specs.Answer.{has_member, is_amount}
+use Rattle.rtgs_node.specs.declared.event.NodeEvent.{NodeEvent}
+use Rattle.rtgs_node.specs.declared.event.NodeEvent.TheVariants.{PaysIn, Closes, Takes, Beats}
 use Rattle.rtgs_node.specs.declared.fault.NodeFault.{NodeFault}
 use Rattle.rtgs_node.specs.declared.fault.NodeFault.TheVariants.{Short, UnknownMember, BadAmount, Spent, NotMine, Closed}
 use Rattle.rtgs_node.specs.declared.payment.PayIn.{PayIn}
@@ -66,13 +68,6 @@ abbrev pub member_account : Setup → ℕ → ℕ → Node → ℤ
 member_account setup c m x = pos (deposit setup c m + went_to m x) -ℤ pos (came_from m x)
 
 -- THE NODE'S STEP
-
--- a member pays in, its account is closed, an envelope comes, a beat
-pub data NodeEvent : Type 0 where
-  PaysIn : (member amt : ℕ) → NodeEvent
-  Closes : (member : ℕ) → NodeEvent
-  Takes : Envelope → NodeEvent
-  Beats : NodeEvent
 
 -- the node after an event, and what it sends; where it refuses, it is unchanged and sends nothing
 pub record NodeStep : Type 0 where

@@ -7,7 +7,8 @@ use Rattle.pvp_types.specs.declared.command.PayOrder.{PayOrder}
 use Rattle.pvp_types.specs.Setup.{faults}
 use Rattle.rtgs_node.specs.declared.fault.NodeFault.{NodeFault}
 use Rattle.rtgs_node.specs.declared.fault.NodeFault.TheVariants.{NoMemory}
-use Rattle.rtgs_node.specs.Node.{Envelope, Node, NodeEvent, NodeStep, notes, notice_out, pay_in_checks, order_checks, with_pay_in, with_pay_out, on_return, on_order, on_reply, node_step}
+use Rattle.rtgs_node.specs.declared.event.NodeEvent.{NodeEvent}
+use Rattle.rtgs_node.specs.Node.{Envelope, Node, NodeStep, notes, notice_out, pay_in_checks, order_checks, with_pay_in, with_pay_out, on_return, on_order, on_reply, node_step}
 
 -- the node of a currency of a setup
 pub record Shown : Type 0 where

@@ -1,7 +1,7 @@
 //! What holds of a node after any list of events.
 ghost use Rattle.std.specs.Prelude.{◌≡◌, ℕ, List, pos};
 ghost use Rattle.pvp_types.specs.declared.setup.Setup.{Setup};
-ghost use Rattle.rtgs_node.specs.Node.{NodeEvent};
+ghost use Rattle.rtgs_node.specs.declared.event.NodeEvent.{NodeEvent};
 ghost use Rattle.rtgs_node.specs.Laws.{node_after, all_accounts, all_deposits};
 
 /// The bank's account and the members' hold together what was deposited: a payment moves money, and nothing makes any

@@ -2,6 +2,7 @@ ghost use Rattle.std.specs.Prelude.{◌≡◌, ℕ, ◌+◌, ◌-◌, ◌^◌, �
 ghost use Rattle.pvp_book.specs.Answer.{has_member};
 ghost use Rattle.indexmap.specs.IndexSet.{contains};
 
+use crate::event::NodeEvent;
 use crate::fault::NodeFault;
 use crate::payment::PayIn;
 use crate::request::to_sites;
@@ -57,7 +58,8 @@ impl Model for Node {
 
 impl Node {
     ghost use Rattle.pvp_types.specs.Setup.{IsValid};
-    ghost use Rattle.rtgs_node.specs.Node.{opening_node, account, member_account, is_known, is_closed, PaysIn, Closes, Takes, Beats};
+    ghost use Rattle.rtgs_node.specs.Node.{opening_node, account, member_account, is_known, is_closed};
+    ghost use Rattle.rtgs_node.specs.declared.event.NodeEvent.TheVariants.{PaysIn, Closes, Takes, Beats};
     ghost use Rattle.rtgs_node.specs.Shown.{step_of, IsStep, IsRefusal, order_step, reply_step, credited, given_back, paid_out, sent_with, sent_after, pay_in_fault, order_fault};
     ghost use Rattle.rtgs_node.specs.Laws.{all_accounts, all_deposits};
 
@@ -82,6 +84,24 @@ impl Node {
             members: deposits(alloc, setup.members.as_slice(), ccy)?,
             known: IndexSet::new(alloc),
         })
+    }
+
+    /// Handles an event, by the call of its kind: `pay_in`, `close_member`, `take` or `beat`. Answers what is sent. After
+    /// an `Err` the node is as it was.
+    pub fn handle(&mut self, event: NodeEvent) -> Result<Vec<Envelope<Book>>, NodeFault>
+        ensures taken { IfOk result (λ sent.
+            IsStep self.old self.new (step_of self.old event) sent.items) }
+        ensures refused { IfErr result (IsRefusal self.old self.new (step_of self.old event)) }
+    {
+        match event {
+            NodeEvent::PaysIn { member, amt } => self.pay_in(member, amt),
+            NodeEvent::Closes(member) => {
+                self.close_member(member)?;
+                Ok(Vec::new(*self.notices.allocator()))
+            }
+            NodeEvent::Takes(envelope) => self.take(envelope),
+            NodeEvent::Beats => self.beat(),
+        }
     }
 
     /// A member pays in: the amount goes from its account to the bank's, the pay-in gets the next number, counted from
@@ -171,14 +191,16 @@ impl Node {
 
     /// The pay-ins, in the order of their numbers: number k is at k - 1.
     pub fn pay_ins(&self) -> &[PayIn]
-        ensures { result.now ≡ self.now.node.pay_ins }
+        ensures same { result.now ≡ self.now.node.pay_ins }
+        ensures few { length result.now ≤ 65535 }
     {
         self.pay_ins.as_slice()
     }
 
     /// The orders that were done, in the order in which they were.
     pub fn pay_outs(&self) -> &[PayOrder]
-        ensures { result.now ≡ self.now.node.pay_outs }
+        ensures same { result.now ≡ self.now.node.pay_outs }
+        ensures few { length result.now ≤ 65535 }
     {
         self.pay_outs.as_slice()
     }

@@ -1,3 +1,4 @@
+mod plays;
 mod worked;
 
 use crate::program::worked::ROWS;

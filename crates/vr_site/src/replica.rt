@@ -275,6 +275,13 @@ impl<M: Machine, C: BootCell> Replica<M, C> {
         Ok(out)
     }
 
+    /// Falls, as a site does that meets want of memory: all but the cell is lost. It takes no memory.
+    pub fn fall(&mut self)
+        ensures { self.new ≡ record self.old { volatile = lost } }
+    {
+        self.life = Life::Down;
+    }
+
     /// What runs goes on after what was done.
     fn finish(
         &mut self,

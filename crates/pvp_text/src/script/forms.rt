@@ -3,12 +3,13 @@
 //! one that comes first in this order is told.
 ghost use Rattle.std.specs.Prelude.{◌≡◌, ◌∷◌};
 ghost use Rattle.std.specs.List.{list_all};
-ghost use Rattle.pvp_text.specs.Script.{instruct_at, rescind_at, settle_at, fund_at, payout_at, order_at, paid_at, returned_at, do_at, print_at, statement_at, line_at, is_printable};
+ghost use Rattle.pvp_text.specs.Script.{instruct_at, rescind_at, settle_at, fund_at, payout_at, order_at, paid_at, returned_at, do_at, print_at, told_at, statement_at, line_at, is_printable};
 ghost use Rattle.pvp_text.specs.ScriptWords.{words};
 
 use crate::script::fields::{
-    amount, client_of, client_reference, currency_of, currency_reference, number,
+    amount, client_of, client_reference, currency_of, currency_reference, number, sender_of,
 };
+use crate::script::moves::{read_live, read_play};
 use crate::script::words::{end, is, next_word, word};
 use crate::script::{Kind, LineCode, Statement};
 use pvp_types::{Cmd, Setup};
@@ -53,11 +54,23 @@ fn read_statement(
     ensures { result ≡ statement_at kind setup.now (first.now ∷ words rest.now) }
 {
     if is(first, "do") {
-        read_command(setup, rest)
+        read_command(kind, setup, rest)
     } else if kind.prints() && is(first, "print") {
         print(rest)
     } else {
-        Err(LineCode::UnknownWord)
+        read_told(kind, setup, first, rest)
+    }
+}
+
+/// What a line says that has no command and does not print.
+#[tactic(auto, unfolding(crate::specs::Script::told_at))]
+fn read_told(kind: Kind, setup: &Setup, first: &[u8], fields: &[u8]) -> Result<Statement, LineCode>
+    ensures { result ≡ told_at kind setup.now first.now (words fields.now) }
+{
+    match kind {
+        Kind::Book => Err(LineCode::UnknownWord),
+        Kind::Play => read_play(setup, first, fields),
+        Kind::Live => read_live(setup, first, fields),
     }
 }
 
@@ -71,25 +84,25 @@ fn print(rest: &[u8]) -> Result<Statement, LineCode>
 
 /// `do WHO COMMAND ..`
 #[tactic(auto, unfolding(crate::specs::Script::do_at))]
-fn read_command(setup: &Setup, rest: &[u8]) -> Result<Statement, LineCode>
-    ensures { result ≡ do_at setup.now (words rest.now) }
+fn read_command(kind: Kind, setup: &Setup, rest: &[u8]) -> Result<Statement, LineCode>
+    ensures { result ≡ do_at kind setup.now (words rest.now) }
 {
     let (who, rest) = word(rest)?;
     let (command, fields) = word(rest)?;
     if is(command, "instruct") {
-        instruct(setup, who, fields)
+        instruct(kind, setup, who, fields)
     } else if is(command, "rescind") {
-        rescind(setup, who, fields)
+        rescind(kind, setup, who, fields)
     } else if is(command, "settle") {
-        settle(setup, who, fields)
+        settle(kind, setup, who, fields)
     } else if is(command, "fund") {
-        fund(setup, who, fields)
+        fund(kind, setup, who, fields)
     } else if is(command, "payout") {
-        payout(setup, who, fields)
+        payout(kind, setup, who, fields)
     } else if is(command, "paid") {
-        paid(setup, who, fields)
+        paid(kind, setup, who, fields)
     } else if is(command, "returned") {
-        returned(setup, who, fields)
+        returned(kind, setup, who, fields)
     } else {
         Err(LineCode::UnknownWord)
     }
@@ -97,8 +110,8 @@ fn read_command(setup: &Setup, rest: &[u8]) -> Result<Statement, LineCode>
 
 /// `do WHO instruct REF OTHER SELL AMT BUY AMT`
 #[tactic(auto, unfolding(crate::specs::Script::instruct_at))]
-fn instruct(setup: &Setup, who: &[u8], fields: &[u8]) -> Result<Statement, LineCode>
-    ensures { result ≡ instruct_at setup.now who.now (words fields.now) }
+fn instruct(kind: Kind, setup: &Setup, who: &[u8], fields: &[u8]) -> Result<Statement, LineCode>
+    ensures { result ≡ instruct_at kind setup.now who.now (words fields.now) }
 {
     let (reference, rest) = word(fields)?;
     let (other, rest) = word(rest)?;
@@ -114,7 +127,7 @@ fn instruct(setup: &Setup, who: &[u8], fields: &[u8]) -> Result<Statement, LineC
     let sell_amt = amount(sell_amt)?;
     let buy = currency_reference(buy)?;
     let buy_amt = amount(buy_amt)?;
-    let client = client_of(setup, who)?;
+    let client = sender_of(kind, setup, who)?;
     let other = client_of(setup, other)?;
     let sell = currency_of(setup, sell)?;
     let buy = currency_of(setup, buy)?;
@@ -133,14 +146,14 @@ fn instruct(setup: &Setup, who: &[u8], fields: &[u8]) -> Result<Statement, LineC
 
 /// `do WHO rescind REF`
 #[tactic(auto, unfolding(crate::specs::Script::rescind_at))]
-fn rescind(setup: &Setup, who: &[u8], fields: &[u8]) -> Result<Statement, LineCode>
-    ensures { result ≡ rescind_at setup.now who.now (words fields.now) }
+fn rescind(kind: Kind, setup: &Setup, who: &[u8], fields: &[u8]) -> Result<Statement, LineCode>
+    ensures { result ≡ rescind_at kind setup.now who.now (words fields.now) }
 {
     let (reference, rest) = word(fields)?;
     end(rest)?;
     let who = client_reference(who)?;
     let reference = number(reference)?;
-    let client = client_of(setup, who)?;
+    let client = sender_of(kind, setup, who)?;
     Ok(Statement::Do {
         client,
         cmd: Cmd::Rescind { reference },
@@ -149,14 +162,14 @@ fn rescind(setup: &Setup, who: &[u8], fields: &[u8]) -> Result<Statement, LineCo
 
 /// `do WHO settle MOST`
 #[tactic(auto, unfolding(crate::specs::Script::settle_at))]
-fn settle(setup: &Setup, who: &[u8], fields: &[u8]) -> Result<Statement, LineCode>
-    ensures { result ≡ settle_at setup.now who.now (words fields.now) }
+fn settle(kind: Kind, setup: &Setup, who: &[u8], fields: &[u8]) -> Result<Statement, LineCode>
+    ensures { result ≡ settle_at kind setup.now who.now (words fields.now) }
 {
     let (most, rest) = word(fields)?;
     end(rest)?;
     let who = client_reference(who)?;
     let most = number(most)?;
-    let client = client_of(setup, who)?;
+    let client = sender_of(kind, setup, who)?;
     Ok(Statement::Do {
         client,
         cmd: Cmd::Settle { most },
@@ -165,8 +178,8 @@ fn settle(setup: &Setup, who: &[u8], fields: &[u8]) -> Result<Statement, LineCod
 
 /// `do WHO fund CCY PAY MEMBER AMT`
 #[tactic(auto, unfolding(crate::specs::Script::fund_at))]
-fn fund(setup: &Setup, who: &[u8], fields: &[u8]) -> Result<Statement, LineCode>
-    ensures { result ≡ fund_at setup.now who.now (words fields.now) }
+fn fund(kind: Kind, setup: &Setup, who: &[u8], fields: &[u8]) -> Result<Statement, LineCode>
+    ensures { result ≡ fund_at kind setup.now who.now (words fields.now) }
 {
     let (ccy, rest) = word(fields)?;
     let (pay, rest) = word(rest)?;
@@ -178,7 +191,7 @@ fn fund(setup: &Setup, who: &[u8], fields: &[u8]) -> Result<Statement, LineCode>
     let pay = number(pay)?;
     let member = client_reference(member)?;
     let amt = amount(amt)?;
-    let client = client_of(setup, who)?;
+    let client = sender_of(kind, setup, who)?;
     let ccy = currency_of(setup, ccy)?;
     let member = client_of(setup, member)?;
     Ok(Statement::Do {
@@ -194,8 +207,8 @@ fn fund(setup: &Setup, who: &[u8], fields: &[u8]) -> Result<Statement, LineCode>
 
 /// `do WHO payout CCY AMT`
 #[tactic(auto, unfolding(crate::specs::Script::payout_at))]
-fn payout(setup: &Setup, who: &[u8], fields: &[u8]) -> Result<Statement, LineCode>
-    ensures { result ≡ payout_at setup.now who.now (words fields.now) }
+fn payout(kind: Kind, setup: &Setup, who: &[u8], fields: &[u8]) -> Result<Statement, LineCode>
+    ensures { result ≡ payout_at kind setup.now who.now (words fields.now) }
 {
     let (ccy, rest) = word(fields)?;
     let (amt, rest) = word(rest)?;
@@ -203,7 +216,7 @@ fn payout(setup: &Setup, who: &[u8], fields: &[u8]) -> Result<Statement, LineCod
     let who = client_reference(who)?;
     let ccy = currency_reference(ccy)?;
     let amt = amount(amt)?;
-    let client = client_of(setup, who)?;
+    let client = sender_of(kind, setup, who)?;
     let ccy = currency_of(setup, ccy)?;
     Ok(Statement::Do {
         client,
@@ -213,8 +226,8 @@ fn payout(setup: &Setup, who: &[u8], fields: &[u8]) -> Result<Statement, LineCod
 
 /// A client, a currency and the number of an order, as `WHO .. CCY OUT` tells them.
 #[tactic(auto, unfolding(crate::specs::Script::order_at))]
-fn order(setup: &Setup, who: &[u8], fields: &[u8]) -> Result<(u16, u8, u32), LineCode>
-    ensures { result ≡ order_at setup.now who.now (words fields.now) }
+fn order(kind: Kind, setup: &Setup, who: &[u8], fields: &[u8]) -> Result<(u16, u8, u32), LineCode>
+    ensures { result ≡ order_at kind setup.now who.now (words fields.now) }
 {
     let (ccy, rest) = word(fields)?;
     let (out, rest) = word(rest)?;
@@ -222,17 +235,17 @@ fn order(setup: &Setup, who: &[u8], fields: &[u8]) -> Result<(u16, u8, u32), Lin
     let who = client_reference(who)?;
     let ccy = currency_reference(ccy)?;
     let out = number(out)?;
-    let client = client_of(setup, who)?;
+    let client = sender_of(kind, setup, who)?;
     let ccy = currency_of(setup, ccy)?;
     Ok((client, ccy, out))
 }
 
 /// `do WHO paid CCY OUT`
 #[tactic(auto, unfolding(crate::specs::Script::paid_at))]
-fn paid(setup: &Setup, who: &[u8], fields: &[u8]) -> Result<Statement, LineCode>
-    ensures { result ≡ paid_at setup.now who.now (words fields.now) }
+fn paid(kind: Kind, setup: &Setup, who: &[u8], fields: &[u8]) -> Result<Statement, LineCode>
+    ensures { result ≡ paid_at kind setup.now who.now (words fields.now) }
 {
-    let (client, ccy, out) = order(setup, who, fields)?;
+    let (client, ccy, out) = order(kind, setup, who, fields)?;
     Ok(Statement::Do {
         client,
         cmd: Cmd::Paid { ccy, out },
@@ -241,10 +254,10 @@ fn paid(setup: &Setup, who: &[u8], fields: &[u8]) -> Result<Statement, LineCode>
 
 /// `do WHO returned CCY OUT`
 #[tactic(auto, unfolding(crate::specs::Script::returned_at))]
-fn returned(setup: &Setup, who: &[u8], fields: &[u8]) -> Result<Statement, LineCode>
-    ensures { result ≡ returned_at setup.now who.now (words fields.now) }
+fn returned(kind: Kind, setup: &Setup, who: &[u8], fields: &[u8]) -> Result<Statement, LineCode>
+    ensures { result ≡ returned_at kind setup.now who.now (words fields.now) }
 {
-    let (client, ccy, out) = order(setup, who, fields)?;
+    let (client, ccy, out) = order(kind, setup, who, fields)?;
     Ok(Statement::Do {
         client,
         cmd: Cmd::Returned { ccy, out },

@@ -6,4 +6,4 @@ use Rattle.pvp_text.proofs.book.push_members.Given as goal
 -- the members so far
 abbrev pub invariant-loop-place : goal.invariant-loop-place
 invariant-loop-place l =
-    string_bytes l.text ≡ string_bytes l.fn.text ++ flat_map (member_line l.book) (enumerate_from 1 (take l.place l.book.setup.members))
+    string_bytes l.text ≡ string_bytes l.fn.text ++ flat_map (member_line l.indent l.book) (enumerate_from 1 (take l.place l.book.setup.members))

@@ -1,0 +1,24 @@
+use Rattle.std.proofs.Common.{string_bytes, sym, ap, ◌∙◌, arith}
+use Rattle.pvp_types.specs.Setup.{faults}
+use Rattle.pvp_play.specs.BooksText.{site_text}
+use Rattle.pvp_play.proofs.BooksLemmas.{printed-more, printed-none, printed-all, has_all}
+use Rattle.pvp_play.proofs.books.push_sites.Goals.{in-Some+in_ok-push_site, in_default}
+use Rattle.pvp_play.proofs.books.push_sites.Goals as goal
+
+pub loop-i-preserved : goal.loop-i-preserved
+loop-i-preserved g c =
+    let world = c.args.world.now in
+    let line = site_text g.C.BootCell.held in
+    elim c.match-site.branch [
+      | in-Some+in_ok-push_site w ↦ printed-more line world.sites _ _ (string_bytes c.args.text.now) c.loop-i.i w.in-Some.site.now (sym w.in-Some.ensures)
+          (ap string_bytes w.text-is ∙ w.in_ok-push_site.ensures) c.loop-i.invariant
+      | in_default w ↦ printed-none line world.sites _ (string_bytes c.args.text.now) c.loop-i.i (sym w.in_default.ensures) (ap string_bytes w.text-is ∙ c.loop-i.invariant)
+    ]
+
+pub returns : goal.returns
+returns g c =
+    let world = c.args.world.now in
+    let all = (has_all g.C.BootCell.held world c.is_proved.ensures.is_at).sites in
+    let same = ap faults c.setup.ensures.same in
+    let end = c.loop-i-test.false in
+    printed-all (site_text g.C.BootCell.held) world.sites _ (string_bytes c.args.text.now) c.loop-i.i (omega (arith, c.faults.ensures.faults)) c.loop-i.invariant

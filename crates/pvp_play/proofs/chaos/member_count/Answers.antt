@@ -1,0 +1,6 @@
+use Rattle.std.proofs.Common.{arith}
+use Rattle.pvp_types.proofs.SetupLemmas.{valid-members}
+use Rattle.pvp_play.proofs.chaos.member_count.Goals as goal
+
+pub returns-clause-some : goal.returns-clause-some
+returns-clause-some c = let some = valid-members c.args.setup.now c.requires in omega arith

@@ -1,0 +1,151 @@
+-- What a turn of chaos does: two words of a generator choose it.
+use Rattle.std.specs.Prelude.{◌≡◌, ℕ, ◌+◌, ◌-◌, ◌*◌, ◌/◌, ◌%◌, ◌==◌, Bool, true, false, nat_le, nat_lt, if◌then◌else◌, length, slice_get, Option, Some, None}
+use Rattle.std.specs.List.{list_all, range_with_len}
+use Rattle.std.specs.Option.{option_map_or}
+use Rattle.pvp_types.specs.declared.setup.Setup.{Setup}
+use Rattle.pvp_types.specs.declared.command.Cmd.{Cmd}
+use Rattle.pvp_types.specs.declared.command.Cmd.TheVariants.{Instruct, Rescind, Settle, PayOut}
+use Rattle.vr_types.specs.declared.cell.Boot.{Boot}
+use Rattle.vr_types.specs.Site.{is_normal}
+use Rattle.headline.specs.declared.step.Step.{Step}
+use Rattle.headline.specs.declared.step.Step.TheVariants.{Deliver, PayIn, Submit, Beat, Timer, Crash, Restart}
+use Rattle.rand_pcg.specs.Lcg.{Lcg, started, increment_of}
+use Rattle.rand_pcg.specs.Pcg.{multiplier_64, pcg32}
+use Rattle.pvp_world.specs.World.{Shown as World}
+use Rattle.pvp_play.specs.declared.chaos.Act.{Act}
+use Rattle.pvp_play.specs.declared.chaos.Act.TheVariants.{Drains, Skips, Tries, Rests}
+use Rattle.pvp_play.specs.Player.{Position, Tried, Turns, skipped}
+use Rattle.pvp_play.specs.Player as player
+
+abbrev pub currency_count : Setup → ℕ
+currency_count setup = length setup.currencies
+
+-- the member of the word's choice
+abbrev pub any_member : Setup → ℕ → ℕ
+any_member setup b = 1 + (b % length setup.members)
+
+-- the currency of the word's choice
+abbrev pub any_currency : Setup → ℕ → ℕ
+any_currency setup b = (b / 64) % currency_count setup
+
+-- the actor of the word's choice, among the sites, the nodes, the operator and the members in this order
+abbrev pub any_actor : Setup → ℕ → ℕ
+any_actor setup b =
+    let k = b % (setup.sites + currency_count setup + 1 + length setup.members) in
+    if nat_lt k setup.sites then 200 + k
+    else if nat_lt k (setup.sites + currency_count setup) then 101 + (k - setup.sites)
+    else k - (setup.sites + currency_count setup)
+
+-- THE TRADES that chaos has made, one a reference
+
+abbrev pub any_reference : ℕ → ℕ
+any_reference b = 1 + ((b / 64) % 200)
+
+-- the member on a side of the trade of a reference
+abbrev pub on_side : Setup → ℕ → ℕ → ℕ
+on_side setup reference side = 1 + ((reference + side) % length setup.members)
+
+abbrev pub first_currency : Setup → ℕ → ℕ
+first_currency setup reference = reference % currency_count setup
+
+abbrev pub second_currency : Setup → ℕ → ℕ
+second_currency setup reference = (reference + 1) % currency_count setup
+
+abbrev pub first_amount : ℕ → ℕ
+first_amount reference = 1 + ((7 * reference) % 100)
+
+abbrev pub second_amount : ℕ → ℕ
+second_amount reference = 1 + ((11 * reference) % 100)
+
+-- what side 0 or side 1 asks for: each sells what the other buys
+abbrev pub instruction : Setup → ℕ → ℕ → Cmd
+instruction setup r side =
+    if side == 0 then Instruct r (on_side setup r 1) (first_currency setup r) (first_amount r) (second_currency setup r) (second_amount r)
+    else Instruct r (on_side setup r 0) (second_currency setup r) (second_amount r) (first_currency setup r) (first_amount r)
+
+-- SITES
+
+-- the site of a number is there and normal
+abbrev pub is_normal_at : {B : Type 0} → World B → ℕ → Bool
+is_normal_at world i = option_map_or (λ v. is_normal v.volatile.status) (slice_get world.sites i) false
+
+-- every site is
+abbrev pub are_normal : {B : Type 0} → World B → Bool
+are_normal world = list_all (is_normal_at world) (range_with_len 0 world.setup.sites)
+
+-- A TURN
+
+-- some envelope that was ever sent
+abbrev pub any_delivery : {B : Type 0} → World B → ℕ → Act
+any_delivery world b = if length world.post == 0 then Rests else Tries (Deliver (1 + (b % length world.post)))
+
+abbrev pub any_pay_in : Setup → ℕ → Step
+any_pay_in setup b = PayIn (any_currency setup b) (any_member setup b) (1 + ((b / 512) % 1000))
+
+abbrev pub any_pay_out : Setup → ℕ → Step
+any_pay_out setup b = Submit (any_member setup b) (PayOut (any_currency setup b) (1 + ((b / 512) % 500)))
+
+abbrev pub any_instruction : Setup → ℕ → Step
+any_instruction setup b =
+    let reference = any_reference b in
+    Submit (on_side setup reference (b % 2)) (instruction setup reference (b % 2))
+
+abbrev pub any_rescission : Setup → ℕ → Step
+any_rescission setup b = let reference = any_reference b in Submit (on_side setup reference (b % 2)) (Rescind reference)
+
+-- the step of the command of a turn: which is chosen by the first word, and what it says by the second
+abbrev pub any_request : Setup → ℕ → ℕ → Step
+any_request setup turn b =
+    if turn == 24 then any_pay_in setup b
+    else if turn == 25 then any_pay_out setup b
+    else if turn == 26 then any_instruction setup b
+    else if turn == 27 then any_rescission setup b
+    else Submit 0 (Settle (1 + (b % 8)))
+
+-- a site's timer runs out in one of eight such turns
+abbrev pub any_timer : Setup → ℕ → Act
+any_timer setup b = if (b % 8) == 0 then Tries (Timer ((b / 8) % setup.sites)) else Rests
+
+-- a site falls only where all are normal
+abbrev pub any_crash : {B : Type 0} → World B → ℕ → Act
+any_crash world b = if are_normal world then Tries (Crash (b % world.setup.sites)) else Rests
+
+-- what is done to a site
+abbrev pub any_trouble : {B : Type 0} → World B → ℕ → ℕ → Act
+any_trouble world turn b =
+    if turn == 29 then any_timer world.setup b
+    else if turn == 30 then any_crash world b
+    else Tries (Restart (b % world.setup.sites))
+
+-- what a turn does: of 32, half drain, four deliver anything, one skips, three let an actor beat
+abbrev pub act_of : {B : Type 0} → World B → ℕ → ℕ → Act
+act_of world a b =
+    let turn = a % 32 in
+    if nat_lt turn 16 then Drains
+    else if nat_lt turn 20 then any_delivery world b
+    else if nat_lt turn 21 then Skips
+    else if nat_lt turn 24 then Tries (Beat (any_actor world.setup b))
+    else if nat_lt turn 29 then Tries (any_request world.setup turn b)
+    else any_trouble world turn b
+
+-- it is done
+abbrev pub Does : {B : Type 0} → (B → Boot) → Act → Position B → Position B → Type 0
+Does held Drains old new = player.Drains held old new
+Does held Skips old new = new ≡ skipped old 1
+Does held (Tries step) old new = Tried held step old new
+Does held Rests old new = new ≡ old
+
+-- A TURN OF CHAOS takes two words of the generator
+abbrev pub TakesTurn : {B : Type 0} → (B → Boot) → Lcg × Position B → Lcg × Position B → Type 0
+TakesTurn held (words, old) (left, new) =
+    let first = pcg32 words in
+    let second = pcg32 first.1 in
+    (left ≡ second.1) × Does held (act_of old.world first.0 second.0) old new
+
+-- the generator of a seed, of stream 1
+abbrev pub words_of : ℕ → Lcg
+words_of seed = started 64 multiplier_64 seed (increment_of 64 1)
+
+-- SO MANY TURNS OF CHAOS
+abbrev pub Rages : {B : Type 0} → (B → Boot) → ℕ → ℕ → Position B → Position B → Type 0
+Rages held seed turns old new = (left : Lcg) × Turns (TakesTurn held) turns (words_of seed, old) (left, new)

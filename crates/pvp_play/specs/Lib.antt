@@ -1,0 +1,4 @@
+pub mod BooksText
+pub mod Chaos
+pub mod Lines
+pub mod Player

@@ -1,0 +1,154 @@
+//! A player of a world: what is tried there, which envelopes come next, and who is cut off.
+ghost use Rattle.std.specs.Prelude.{◌≡◌, IfOk, OnOk, is_some};
+ghost use Rattle.pvp_play.specs.Player.{healed};
+
+use headline::Step;
+use pvp_book::Book;
+use pvp_world::{World, WorldFault};
+use std::alloc::{AllocError, Global};
+use std::marker::Model;
+use vr_types::{BootCell, Envelope};
+
+/// A world, how far its post was gone through, and the actors that are cut off.
+#[derive(Drop)]
+pub struct Player<C: BootCell> {
+    world: World<C>,
+    /// The number of the envelope up to which the post was gone through.
+    cursor: usize,
+    cut: Vec<u16>,
+}
+
+impl<C: BootCell> Model for Player<C> {
+    ghost use Rattle.pvp_play.specs.Player.{Position};
+
+    ghost Value = { Position C };
+
+    ghost view = { λ a. record { world = a.world; cursor = a.cursor; cut = a.cut.items } };
+}
+
+impl<C: BootCell> Player<C> {
+    ghost use Rattle.pvp_play.specs.Player.{beginning, Tries, Turns, Drains, DrainsTo, next_open, is_open, is_among, skipped, cut_off, with_cut, unknown_actor};
+
+    /// A player of a world at the beginning of its post, who cuts off no one.
+    pub fn new(alloc: Global, world: World<C>) -> Self
+        ensures { result ≡ beginning world }
+    {
+        Player {
+            world,
+            cursor: 0,
+            cut: Vec::new(alloc),
+        }
+    }
+
+    /// The world.
+    pub fn world(&self) -> &World<C>
+        ensures { result.now ≡ self.now.world }
+    {
+        &self.world
+    }
+
+    /// Tries a step, and answers why it was refused, if it was. `Err` where memory is refused.
+    pub fn step(&mut self, alloc: Global, step: Step) -> Result<Option<WorldFault>, AllocError>
+        ensures { IfOk result (Tries C.held self.old self.new step) }
+    {
+        match self.world.apply(alloc, step) {
+            Ok(_) => Ok(None),
+            Err(WorldFault::NoMemory) => Err(AllocError),
+            Err(fault) => Ok(Some(fault)),
+        }
+    }
+
+    /// Delivers the next envelopes that no cut holds up, so many at most. `Err` where memory is refused.
+    pub fn drain(&mut self, alloc: Global, turns: u32) -> Result<(), AllocError>
+        ensures { OnOk result (Turns (Drains C.held) turns self.old self.new) }
+    {
+        for turn in 0..turns {
+            if !self.drain_one(alloc)? {
+                return Ok(());
+            }
+        }
+        Ok(())
+    }
+
+    /// Delivers the next envelope that no cut holds up, and answers whether there was one. `Err` where memory is refused.
+    pub fn drain_one(&mut self, alloc: Global) -> Result<bool, AllocError>
+        ensures drains { OnOk result (Drains C.held self.old self.new) }
+        ensures there { IfOk result (λ found. found ≡ is_some (next_open self.old)) }
+    {
+        let Some(number) = self.next_open() else {
+            self.cursor = self.world.post_len();
+            return Ok(false);
+        };
+        self.cursor = number;
+        let _told = self.step(alloc, Step::Deliver(number))?;
+        Ok(true)
+    }
+
+    /// The number of the next envelope that no cut holds up.
+    fn next_open(&self) -> Option<usize>
+        ensures { result ≡ next_open self.now }
+    {
+        for place in self.cursor..self.world.post_len() {
+            let envelope = self.world.envelope(place + 1)?;
+            if self.is_open(envelope) {
+                return Some(place + 1);
+            }
+        }
+        None
+    }
+
+    /// Whether none of the actors that an envelope goes between is cut off.
+    fn is_open(&self, envelope: &Envelope<Book>) -> bool
+        ensures { result ≡ is_open self.now.cut envelope.now }
+    {
+        !self.is_cut(envelope.from) && !self.is_cut(envelope.to)
+    }
+
+    /// Whether an actor is cut off.
+    fn is_cut(&self, actor: u16) -> bool
+        ensures { result ≡ is_among self.now.cut actor }
+    {
+        self.cut.as_slice().contains(&actor)
+    }
+
+    /// Passes over the next envelopes, so many at most.
+    pub fn skip(&mut self, envelopes: u32)
+        ensures { self.new ≡ skipped self.old envelopes }
+    {
+        let end = self.world.post_len();
+        self.cursor = self.cursor.saturating_add(envelopes as usize).min(end);
+    }
+
+    /// Cuts an actor off. Answers why it was refused, if it was; `Err` where memory is refused.
+    pub fn cut(&mut self, actor: u16) -> Result<Option<WorldFault>, AllocError>
+        ensures after { OnOk result (self.new ≡ with_cut self.old actor (cut_off self.old.cut actor)) }
+        ensures told { IfOk result (λ told. told ≡ unknown_actor self.old actor) }
+    {
+        if !self.world.has_number(actor) {
+            return Ok(Some(WorldFault::NoSuchActor));
+        }
+        if !self.is_cut(actor) {
+            self.cut.push(actor)?;
+        }
+        Ok(None)
+    }
+
+    /// Cuts an actor off no longer. Answers why it was refused, if it was.
+    pub fn heal(&mut self, actor: u16) -> Option<WorldFault>
+        ensures after { self.new ≡ with_cut self.old actor (healed self.old.cut actor) }
+        ensures told { result ≡ unknown_actor self.old actor }
+    {
+        if !self.world.has_number(actor) {
+            return Some(WorldFault::NoSuchActor);
+        }
+        without(&mut self.cut, actor);
+        None
+    }
+}
+
+/// Takes an actor out of those that are cut off.
+fn without(cut: &mut Vec<u16>, actor: u16)
+    ensures { cut.new.items ≡ healed cut.old.items actor }
+{
+    cut.retain(|a| *a != actor);
+}

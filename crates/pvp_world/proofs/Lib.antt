@@ -1,0 +1,16 @@
+-- right choices for the bank's commands
+mod Choosing
+-- the world before anything was done
+mod Openings
+-- what a replica's handling of an event is, of the site that it shows
+mod Sites
+-- how much a node or a client sends at once
+mod Sent
+-- how a world moves
+mod Moving
+-- cells that do not fail
+mod Reliable
+-- the headline where a trail leads
+mod Proved
+-- many steps, one after another
+mod Many

@@ -1,0 +1,4 @@
+pub mod Client
+pub mod Fault
+pub mod Steps
+pub mod World

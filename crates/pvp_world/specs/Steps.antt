@@ -1,0 +1,199 @@
+-- What a world does with a step.
+use Rattle.std.specs.Prelude.{◌≡◌, ℕ, ◌+◌, ◌-◌, ◌==◌, Bool, true, false, nat_le, nat_lt, if◌then◌else◌, List, [], ◌∷◌, ◌++◌, length, map, slice_get, Option, Some, None, Result, MatchResult}
+use Rattle.pvp_types.specs.declared.setup.Setup.{Setup}
+use Rattle.pvp_types.specs.declared.command.Cmd.{Cmd}
+use Rattle.pvp_types.specs.declared.command.Reply.{Reply as Answer}
+use Rattle.pvp_types.specs.declared.command.PayOrder.{PayOrder as PaymentOrder}
+use Rattle.pvp_types.specs.Setup.{faults}
+use Rattle.vr_types.specs.declared.cell.Boot.{Boot}
+use Rattle.vr_types.specs.declared.cell.BootCell.{Ghosts as Cell}
+use Rattle.vr_types.specs.declared.event.EventOf.{EventOf}
+use Rattle.vr_types.specs.declared.event.SiteFault.{SiteFault}
+use Rattle.vr_types.specs.declared.event.SiteFault.TheVariants as site_fault
+use Rattle.vr_types.specs.declared.event.Status.TheVariants.{Down}
+use Rattle.vr_types.specs.declared.event.Why.{Why}
+use Rattle.vr_types.specs.Choice.{Choice, IsRight}
+use Rattle.vr_types.specs.Handling.{refusal, site_step, is_refused, dropped_as, IsFall, envelopes}
+use Rattle.vr_types.specs.Site.{Site, over}
+use Rattle.vr_site.specs.Replica as replica
+use Rattle.vr_site.specs.Replica.{site_shown}
+use Rattle.pvp_book.specs.Ledger.{opening}
+use Rattle.rtgs_node.specs.Node.{Envelope}
+use Rattle.rtgs_node.specs.declared.fault.NodeFault.{NodeFault}
+use Rattle.rtgs_node.specs.Shown as node
+use Rattle.headline.specs.declared.step.ClientFault.{ClientFault}
+use Rattle.headline.specs.declared.step.ClientFault.TheVariants as client_fault
+use Rattle.headline.specs.declared.step.Step.{Step}
+use Rattle.headline.specs.declared.step.Move.{Move}
+use Rattle.headline.specs.declared.step.Move.TheVariants.{Takes, Falls}
+use Rattle.headline.specs.declared.step.Turn.{Turn}
+use Rattle.headline.specs.declared.step.Turn.TheVariants.{OfSite, OfNode, OfClient}
+use Rattle.headline.specs.Machine.{book}
+use Rattle.headline.specs.Bank.{Bank, turn}
+use Rattle.headline.specs.Legal.{Acts, Steps, Leads, LegalList}
+use Rattle.pvp_world.specs.Client as client
+use Rattle.pvp_world.specs.World.{Shown, IsSite, ShowsBank}
+use Rattle.pvp_world.specs.declared.fault.WorldFault.{WorldFault}
+use Rattle.pvp_world.specs.declared.fault.WorldFault.TheVariants.{NoSuchEnvelope, NoSuchActor, Outstanding, Site as OfSiteFault, Node as OfNodeFault, Spent, NoMemory}
+use Rattle.pvp_world.specs.declared.report.Report.{Report}
+
+-- THE REPORT
+
+-- of what was put on a post, and why an event was dropped
+pub record IsReport (post posted : List Envelope) (why : Option Why) (report : Report) : Type 0 where
+  pub count : length posted ≡ length post + report.count
+  pub first : report.first ≡ (if report.count == 0 then 0 else length post + 1)
+  pub dropped : report.dropped ≡ why
+
+-- why an actor's turn was dropped: sites alone drop
+abbrev pub dropped_in : (setup : Setup) (choose : Choice Cmd) (f : ℕ) (bank : Bank) (t : Turn) (after : Bank) → Acts setup choose f bank t after → Option Why
+dropped_in setup choose f bank (OfSite i event) after acts =
+    dropped_as (site_step {R = Answer} {O = PaymentOrder} choose f i acts.before event).ending
+dropped_in setup choose f bank (OfNode c event) after acts = None
+dropped_in setup choose f bank (OfClient k event) after acts = None
+
+-- A MOVE: by a legal list of what is shown before, it leads to what is shown after, and it stands at the trail's end
+pub record Moves {B : Type 0} (held : B → Boot) (old new : Shown B) (move : Move) : Type 0 where
+  pub list : LegalList old.setup (faults old.setup)
+  pub cells : list.cells ≡ old.opening
+  pub moves : list.moves ≡ old.trail
+  pub shows : ShowsBank held old list.bank
+  pub after : Bank
+  pub leads : Leads old.setup list.choose (faults old.setup) list.bank move after
+  pub shows_after : ShowsBank held new after
+  pub setup : new.setup ≡ old.setup
+  pub opening : new.opening ≡ old.opening
+  pub trail : new.trail ≡ old.trail ++ move ∷ []
+
+-- A STEP THAT WAS TAKEN, and its report
+pub record IsTaken {B : Type 0} (held : B → Boot) (old new : Shown B) (step : Step) (report : Report) : Type 0 where
+  pub moves : Moves held old new (Takes step)
+  pub told : let by : Steps old.setup moves.list.choose (faults old.setup) moves.list.bank step moves.after = moves.leads in
+      IsReport old.post new.post (dropped_in old.setup moves.list.choose (faults old.setup) moves.list.bank by.turn_is moves.after by.acts) report
+
+-- A STEP THAT WAS NOT TAKEN
+
+-- the actor of a number is there: clients from 0, nodes from 101, sites from 200
+abbrev pub has_number : {B : Type 0} → Shown B → ℕ → Bool
+has_number world actor =
+    if nat_le 200 actor then nat_lt (actor - 200) (length world.sites)
+    else if nat_le 101 actor then nat_lt (actor - 101) (length world.nodes)
+    else nat_lt actor (length world.clients)
+
+-- the actor whose turn it is is there
+abbrev pub has_actor : {B : Type 0} → Shown B → Turn → Bool
+has_actor world (OfSite i event) = nat_lt i (length world.sites)
+has_actor world (OfNode c event) = nat_lt c (length world.nodes)
+has_actor world (OfClient k event) = nat_lt k (length world.clients)
+
+-- it is some actor's turn, which is there or not
+pub record IsTurn {B : Type 0} (world : Shown B) (step : Step) (is_there : Bool) : Type 0 where
+  pub turn_is : Turn
+  pub has_turn : turn world.post step ≡ Some turn_is
+  pub there : has_actor world turn_is ≡ is_there
+
+-- a site, a node, a client refuses its turn for this reason
+abbrev pub SiteRefuses : {B : Type 0} → (B → Boot) → Shown B → SiteFault → Turn → Type 0
+SiteRefuses {B} held world fault (OfSite i event) =
+    (v : replica.Shown Cmd Setup B) × (slice_get world.sites i ≡ Some v) × (refusal {R = Answer} {O = PaymentOrder} v.f v.me (site_shown held v []) event ≡ Some fault)
+SiteRefuses held world fault _ = ⊥
+
+abbrev pub NodeRefuses : {B : Type 0} → Shown B → NodeFault → Turn → Type 0
+NodeRefuses world fault (OfNode c event) = (v : node.Shown) × (slice_get world.nodes c ≡ Some v) × node.IsRefusal v v (node.step_of v event) fault
+NodeRefuses world fault _ = ⊥
+
+abbrev pub ClientRefuses : {B : Type 0} → Shown B → ClientFault → Turn → Type 0
+ClientRefuses world fault (OfClient k event) =
+    (v : client.Shown) × (slice_get world.clients k ≡ Some v) × client.IsRefusal v v (client.step_of v event) fault
+ClientRefuses world fault _ = ⊥
+
+abbrev pub is_fall : SiteFault → Bool
+is_fall site_fault.NoMemory = true
+is_fall site_fault.CellFault = true
+is_fall site_fault.NotUp = false
+is_fall site_fault.AlreadyUp = false
+is_fall site_fault.ViewsSpent = false
+is_fall site_fault.BootsSpent = false
+is_fall site_fault.NotMine = false
+
+abbrev pub is_world_fall : WorldFault → Bool
+is_world_fall (OfSiteFault fault) = is_fall fault
+is_world_fall NoSuchEnvelope = false
+is_world_fall NoSuchActor = false
+is_world_fall Outstanding = false
+is_world_fall (OfNodeFault fault) = false
+is_world_fall Spent = false
+is_world_fall NoMemory = false
+
+-- what a client's fault is told as
+abbrev pub told_as : ClientFault → WorldFault
+told_as client_fault.Outstanding = Outstanding
+told_as client_fault.Spent = Spent
+told_as client_fault.NoMemory = NoMemory
+
+-- it is this actor's turn
+abbrev pub InTurn : {B : Type 0} → Shown B → Step → (Turn → Type 0) → Type 0
+InTurn world step Is = (t : Turn) × (turn world.post step ≡ Some t) × Is t
+
+-- why a step was not taken: the number is of no envelope, then the actor is not there; only then memory was refused, or
+-- the actor refuses
+abbrev pub IsWhy : {B : Type 0} → (B → Boot) → Shown B → Step → WorldFault → Type 0
+IsWhy held world step NoSuchEnvelope = turn world.post step ≡ None
+IsWhy held world step NoSuchActor = IsTurn world step false
+IsWhy held world step NoMemory = IsTurn world step true
+IsWhy held world step (OfSiteFault fault) = InTurn world step (SiteRefuses held world fault)
+IsWhy held world step (OfNodeFault fault) = InTurn world step (NodeRefuses world fault)
+IsWhy held world step Outstanding = InTurn world step (ClientRefuses world client_fault.Outstanding)
+IsWhy held world step Spent = InTurn world step (ClientRefuses world client_fault.Spent)
+
+-- the world is as it was; but where a site fell, that is the move
+pub record IsRefused {B : Type 0} (held : B → Boot) (old new : Shown B) (step : Step) (fault : WorldFault) : Type 0 where
+  pub kept : is_world_fall fault ≡ false → (new ≡ old) × IsWhy held old step fault
+  pub fell : is_world_fall fault ≡ true → (cell : Boot) × Moves held old new (Falls step cell)
+
+-- what a world does with a step
+abbrev pub Applies : {B : Type 0} → (B → Boot) → Shown B → Shown B → Step → Result Report WorldFault → Type 0
+Applies held old new step result = MatchResult result (IsTaken held old new step) (IsRefused held old new step)
+
+-- MANY STEPS
+
+pub record AreTaken {B : Type 0} (old new : Shown B) (steps : List Step) : Type 0 where
+  pub setup : new.setup ≡ old.setup
+  pub opening : new.opening ≡ old.opening
+  pub trail : new.trail ≡ old.trail ++ map (λ step. Takes step) steps
+
+-- the steps before one are taken, and that one is not
+pub record IsStopped {B : Type 0} (held : B → Boot) (old new : Shown B) (steps : List Step) (fault : WorldFault) : Type 0 where
+  pub done : List Step
+  pub next : Step
+  pub rest : List Step
+  pub parts : steps ≡ done ++ next ∷ rest
+  pub between : Shown B
+  pub taken : AreTaken old between done
+  pub refused : IsRefused held between new next fault
+
+-- CELLS
+
+-- no save of a site's cell fails
+abbrev pub AreReliable : {B : Type 0} → Cell B → Shown B → Type 0
+AreReliable {B} c world = (i : ℕ) (v : replica.Shown Cmd Setup B) → slice_get world.sites i ≡ Some v → c.is_reliable v.cell
+
+-- ONE SITE, and the post that takes what it sends
+
+pub record IsServed {B : Type 0} (held : B → Boot) (setup : Setup) (choose : Choice Cmd) (i : ℕ) (x : Site Cmd) (event : EventOf Cmd Answer PaymentOrder) (new : replica.Shown Cmd Setup B) (post posted : List Envelope) (report : Report) : Type 0 where
+  pub allowed : is_refused (site_step {R = Answer} {O = PaymentOrder} choose (faults setup) i x event).ending ≡ false
+  pub site : IsSite held setup i new (site_step {R = Answer} {O = PaymentOrder} choose (faults setup) i x event).site
+  pub sent : posted ≡ post ++ envelopes book (opening setup) i (site_step choose (faults setup) i x event)
+  pub told : IsReport post posted (dropped_as (site_step {R = Answer} {O = PaymentOrder} choose (faults setup) i x event).ending) report
+
+-- it refuses, and is as it was; or it fell
+pub record IsUnserved {B : Type 0} (held : B → Boot) (setup : Setup) (choose : Choice Cmd) (i : ℕ) (x : Site Cmd) (event : EventOf Cmd Answer PaymentOrder) (old new : replica.Shown Cmd Setup B) (post posted : List Envelope) (fault : SiteFault) : Type 0 where
+  pub sent : posted ≡ post
+  pub refused : is_fall fault ≡ false → (new ≡ old) × (refusal {R = Answer} {O = PaymentOrder} (faults setup) i x event ≡ Some fault)
+  pub fell : is_fall fault ≡ true → IsFall x (site_step {R = Answer} {O = PaymentOrder} choose (faults setup) i x event) (over (held new.cell) Down)
+      × IsSite held setup i new (over (held new.cell) Down)
+
+abbrev pub Serves : {B : Type 0} → (B → Boot) → Setup → ℕ → replica.Shown Cmd Setup B → replica.Shown Cmd Setup B → EventOf Cmd Answer PaymentOrder → List Envelope → List Envelope → Result Report SiteFault → Type 0
+Serves held setup i old new event post posted result =
+    (x : Site Cmd) (choose : Choice Cmd) → IsRight (faults setup) choose → IsSite held setup i old x
+    → MatchResult result (IsServed held setup choose i x event new post posted) (IsUnserved held setup choose i x event old new post posted)

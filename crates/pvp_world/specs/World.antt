@@ -1,0 +1,73 @@
+-- A world: what it shows, and by which legal list of moves it came to that.
+use Rattle.std.specs.Prelude.{◌≡◌, ℕ, List, ◌++◌, length, slice_get, Some}
+use Rattle.pvp_types.specs.declared.setup.Setup.{Setup}
+use Rattle.pvp_types.specs.declared.command.Cmd.{Cmd}
+use Rattle.pvp_types.specs.Setup.{faults}
+use Rattle.vr_types.specs.declared.cell.Boot.{Boot}
+use Rattle.vr_types.specs.Site.{Site}
+use Rattle.vr_log.specs.Running.{SumUp}
+use Rattle.vr_site.specs.Replica as replica
+use Rattle.vr_site.specs.Replica.{site_shown}
+use Rattle.rtgs_node.specs.Node.{Node, Envelope}
+use Rattle.rtgs_node.specs.Shown as node
+use Rattle.headline.specs.Client.{Client}
+use Rattle.headline.specs.declared.step.Move.{Move}
+use Rattle.headline.specs.Bank.{Bank}
+use Rattle.headline.specs.Legal.{LegalList, Continued}
+use Rattle.headline.specs.Whole.{Headline}
+use Rattle.pvp_world.specs.Client as client
+
+-- WHAT A WORLD SHOWS; B is the type of the sites' cells
+pub record Shown (B : Type 0) : Type 0 where
+  pub setup : Setup
+  pub opening : List Boot  -- what the sites' cells held at first
+  pub sites : List (replica.Shown Cmd Setup B)
+  pub nodes : List node.Shown  -- by currency
+  pub clients : List client.Shown  -- the operator, then the members
+  pub post : List Envelope  -- numbered from 1
+  pub trail : List Move
+
+abbrev pub world_of : {B : Type 0} → Setup → List Boot → List (replica.Shown Cmd Setup B) → List node.Shown → List client.Shown → List Envelope → List Move → Shown B
+world_of setup opening sites nodes clients post trail =
+    record { setup = setup; opening = opening; sites = sites; nodes = nodes; clients = clients; post = post; trail = trail }
+
+-- as many of these as of those, and each is so of the one in its place
+pub record AreEach {A B : Type 0} (Is : ℕ → A → B → Type 0) (xs : List A) (ys : List B) : Type 0 where
+  pub count : length xs ≡ length ys
+  pub each : (i : ℕ) (x : A) (y : B) → slice_get xs i ≡ Some x → slice_get ys i ≡ Some y → Is i x y
+
+-- a replica shows this site of a bank; of the acknowledgements that came it shows the sums
+pub record IsSite {B : Type 0} (held : B → Boot) (setup : Setup) (i : ℕ) (v : replica.Shown Cmd Setup B) (x : Site Cmd) : Type 0 where
+  pub f : v.f ≡ faults setup
+  pub me : v.me ≡ i
+  pub made_from : v.setup ≡ setup
+  pub acks : SumUp v.volatile.acked x.collected.acks
+  pub site : x ≡ site_shown held v x.collected.acks
+
+abbrev pub IsNode : Setup → ℕ → node.Shown → Node → Type 0
+IsNode setup c v x = v ≡ record { setup = setup; ccy = c; node = x }
+
+abbrev pub IsClient : Setup → ℕ → client.Shown → Client → Type 0
+IsClient setup k v x = v ≡ record { f = faults setup; me = k; client = x }
+
+-- a world shows this bank; held is what a cell holds
+pub record ShowsBank {B : Type 0} (held : B → Boot) (world : Shown B) (bank : Bank) : Type 0 where
+  pub sites : AreEach (IsSite held world.setup) world.sites bank.sites
+  pub nodes : AreEach (IsNode world.setup) world.nodes bank.nodes
+  pub clients : AreEach (IsClient world.setup) world.clients bank.clients
+  pub post : world.post ≡ bank.post
+
+-- THE WORLD IS WHERE ITS TRAIL LEADS: the moves taken are a legal list over the cells' first values, and the world shows
+-- the bank that this leads to
+pub record IsAt {B : Type 0} (held : B → Boot) (world : Shown B) : Type 0 where
+  pub list : LegalList world.setup (faults world.setup)
+  pub cells : list.cells ≡ world.opening
+  pub moves : list.moves ≡ world.trail
+  pub shows : ShowsBank held world list.bank
+
+-- AND THERE THE HEADLINE HOLDS: of any two moments of its trail, and of what it shows
+pub record IsProved {B : Type 0} (held : B → Boot) (world : Shown B) : Type 0 where
+  pub is_at : IsAt held world
+  pub headline : (early : LegalList world.setup (faults world.setup)) (late : Continued early)
+      → early.cells ≡ world.opening → early.moves ++ late.moves ≡ world.trail
+      → ShowsBank held world late.bank × Headline early late

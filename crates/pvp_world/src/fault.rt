@@ -1,0 +1,60 @@
+ghost use Rattle.std.specs.Prelude.{◌≡◌};
+ghost use Rattle.pvp_world.specs.Fault.{site_fault_text};
+
+use rtgs_node::NodeFault;
+use std::fmt;
+use vr_types::SiteFault;
+
+/// Why a step was not taken.
+#[derive(Clone, Copy, Debug, PartialEq, Eq)]
+pub enum WorldFault {
+    /// G1: no envelope has this number.
+    NoSuchEnvelope,
+    /// G2: there is no such actor.
+    NoSuchActor,
+    /// G3: the client still waits for the answer to its last request.
+    Outstanding,
+    /// G4: the site does not handle this.
+    Site(SiteFault),
+    /// G4: the node does not handle this.
+    Node(NodeFault),
+    /// G4: the client's request numbers are spent, which is C1.
+    Spent,
+    /// G5: memory was refused to the trail, the post, a client, or the copy of an envelope that is delivered.
+    NoMemory,
+}
+
+/// Prints the fault's code; of an actor's fault that fault's own: S1 to S7, N1 to N7 or C1.
+impl fmt::Display for WorldFault {
+    ghost use Rattle.std.specs.Prelude.{Some};
+    ghost use Rattle.pvp_world.specs.Fault.{fault_text};
+
+    ghost output = { λ fault. Some (fault_text fault) };
+
+    fn fmt<W: fmt::Write>(&self, f: &mut fmt::Formatter<W>) -> fmt::Result {
+        match self {
+            WorldFault::NoSuchEnvelope => f.write_str("G1"),
+            WorldFault::NoSuchActor => f.write_str("G2"),
+            WorldFault::Outstanding => f.write_str("G3"),
+            WorldFault::Site(fault) => f.write_str(site_code(*fault)),
+            WorldFault::Node(fault) => write!(f, "{fault}"),
+            WorldFault::Spent => f.write_str("C1"),
+            WorldFault::NoMemory => f.write_str("G5"),
+        }
+    }
+}
+
+/// The code of a site's fault.
+fn site_code(fault: SiteFault) -> &'static str
+    ensures { result.now ≡ site_fault_text fault }
+{
+    match fault {
+        SiteFault::NoMemory => "S1",
+        SiteFault::CellFault => "S2",
+        SiteFault::NotUp => "S3",
+        SiteFault::AlreadyUp => "S4",
+        SiteFault::ViewsSpent => "S5",
+        SiteFault::BootsSpent => "S6",
+        SiteFault::NotMine => "S7",
+    }
+}

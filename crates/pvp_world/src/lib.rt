@@ -1,0 +1,18 @@
+//! The bank in its world: all sites, the nodes, the clients, every envelope that was ever sent, and the trail of what was
+//! done. On the calls of `World` stands the headline.
+#![tactic(auto)]
+
+pub mod client;
+pub mod fault;
+mod opening;
+mod post;
+pub mod report;
+mod turn;
+pub mod world;
+
+pub use client::Client;
+pub use fault::WorldFault;
+pub use headline::{Move, Step};
+pub use report::Report;
+pub use turn::{FIRST_NODE, FIRST_SITE};
+pub use world::World;
