@@ -14,11 +14,11 @@ pub enum WorldFault {
     NoSuchActor,
     /// G3: the client still waits for the answer to its last request.
     Outstanding,
-    /// G4: the site does not handle this.
+    /// S1 to S7: the site does not handle this.
     Site(SiteFault),
-    /// G4: the node does not handle this.
+    /// N1 to N7: the node does not handle this.
     Node(NodeFault),
-    /// G4: the client's request numbers are spent, which is C1.
+    /// C1: the client's request numbers are spent.
     Spent,
     /// G5: memory was refused to the trail, the post, a client, or the copy of an envelope that is delivered.
     NoMemory,
