@@ -1,7 +1,7 @@
 //! Plays: what the program prints of worked scripts, line by line, and that chaos keeps every account.
 use super::{Failing, SETUP, TwoFiles, runs};
 use pvp_command::command;
-use std::alloc::Global;
+use std::alloc::{AllocError, Global};
 use std::process::Abort;
 use std::str;
 use std::test::Fail;
@@ -155,7 +155,8 @@ fn an_order_comes_back_from_a_closed_account(rt: HostRuntime) -> Result<(), Fail
 /// The primary crashes between the order's return and the bank's word of it; the next primary credits the member once.
 #[test]
 fn a_return_survives_the_primary(rt: HostRuntime) -> Result<(), Fail> {
-    let script = "payin ALFA USD 1200\ndrain 100\nbeat s0\ndrain 100\nclose ALFA USD\ndo ALFA payout USD 200\ndrain 100\nbeat s0\ndeliver 21\ncrash s0\ndrain 100\ntimer s1\ndrain 100\nbeat USD\ndrain 100\nbeat s1\ndrain 100\nprint\n";
+    let script =
+        "payin ALFA USD 1200\ndrain 100\nbeat s0\ndrain 100\nclose ALFA USD\ndo ALFA payout USD 200\ndrain 100\nbeat s0\ndeliver 21\ncrash s0\ndrain 100\ntimer s1\ndrain 100\nbeat USD\ndrain 100\nbeat s1\ndrain 100\nprint\n";
     let want = [
         "site 0 down cell 0",
         "site 1 normal view 1 log 3 done 3 cell 0",
@@ -205,6 +206,37 @@ fn chaos_keeps_every_account(rt: HostRuntime) -> Result<(), Fail> {
     let again = printed(&rt, SETUP, script)?;
     assert_eq!(rt; once.as_slice(), again.as_slice());
     assert!(rt; adds_up(str::from_utf8(once.as_slice())?));
+    Ok(())
+}
+
+/// The setup of the tests with so many sites, 5 or 7, in place of three.
+fn with_sites(alloc: Global, sites: &str) -> Result<String, AllocError> {
+    SETUP.replacen(alloc, "\"sites\":3", sites, 1)
+}
+
+#[test]
+fn five_sites_recover_and_commit(rt: HostRuntime) -> Result<(), Fail> {
+    let setup = with_sites(rt.alloc(), "\"sites\":5")?;
+    let recovers =
+        "crash s4\nrestart s4\ndeliver 1\ndeliver 2\ndeliver 5\ndeliver 6\nprint\ndeliver 3\ndeliver 7\nprint\n";
+    let want = [
+        "site 4 recovering cell 1",
+        "site 4 normal view 0 log 0 done 0 cell 1",
+    ];
+    shows(&rt, setup.as_str(), recovers, want.as_slice())?;
+    // A pay-in that reaches every book takes 18 envelopes.
+    let pays_in = "payin ALFA USD 1200\ndrain 100\nbeat s0\ndrain 100\ndeliver 18\ndeliver 19\n";
+    shows(&rt, setup.as_str(), pays_in, ["refused 6 G1"].as_slice())
+}
+
+#[test]
+fn chaos_keeps_every_account_of_more_sites(rt: HostRuntime) -> Result<(), Fail> {
+    let five = with_sites(rt.alloc(), "\"sites\":5")?;
+    let seven = with_sites(rt.alloc(), "\"sites\":7")?;
+    for setup in [SETUP, five.as_str(), seven.as_str()] {
+        let out = printed(&rt, setup, "chaos 7 20000\nprint\n")?;
+        assert!(rt; adds_up(str::from_utf8(out.as_slice())?));
+    }
     Ok(())
 }
 
