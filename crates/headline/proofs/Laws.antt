@@ -32,7 +32,7 @@ use Rattle.pvp_book.proofs.OrderLemmas.{pay_ins-once, are-ordered}
 use Rattle.pvp_book.proofs.FigureLemmas.{is-covered}
 use Rattle.rtgs_node.specs.declared.event.NodeEvent.TheVariants as node
 use Rattle.rtgs_node.specs.declared.fault.NodeFault.TheVariants as fault
-use Rattle.rtgs_node.specs.Node.{Envelope, Node, NodeStep, account, came_in, went_out, has_done, has_returned, is_known, is_closed, is_full, notice_out, does, refuses, notes, on_order, on_reply, on_message, on_envelope, node_step}
+use Rattle.rtgs_node.specs.Node.{Envelope, Node, NodeStep, account, came_in, went_out, has_done, has_returned, is_known, is_closed, is_full, notice_out, does, refuses, notes, on_order, on_reply, on_message, node_step}
 use Rattle.rtgs_node.specs.declared.payment.PayIn.{PayIn}
 use Rattle.headline.specs.declared.step.Move.{Move}
 use Rattle.headline.specs.Bank.{Bank}

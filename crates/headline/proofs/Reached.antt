@@ -11,10 +11,8 @@ use Rattle.vr_types.specs.Choice.{Choice, IsRight}
 use Rattle.agreement.specs.Worlds as worlds
 use Rattle.agreement.specs.Promises.{Begins}
 use Rattle.rtgs_node.specs.declared.event.NodeEvent.TheVariants as node
-use Rattle.rtgs_node.specs.declared.event.NodeEvent.{NodeEvent}
 use Rattle.rtgs_node.specs.Node.{Envelope, Node, opening_node}
 use Rattle.headline.specs.declared.step.ClientEvent.TheVariants as client
-use Rattle.headline.specs.declared.step.ClientEvent.{ClientEvent}
 use Rattle.headline.specs.Client.{opening_client}
 use Rattle.headline.specs.declared.step.Step.{Step}
 use Rattle.headline.specs.declared.step.Step.TheVariants.{Deliver as Delivers, PayIn as PaysIn, Close as Closes, Submit as Submits, Beat as Beats, Timer as Times, Crash as Crashes, Restart as Restarts}

@@ -10,9 +10,6 @@ use Rattle.pvp_types.specs.declared.command.PayOrder.{PayOrder as PaymentOrder}
 use Rattle.pvp_types.specs.Setup.{IsValid, meets}
 use Rattle.vr_types.specs.declared.cell.Boot.{Boot}
 use Rattle.vr_types.specs.declared.event.EventOf.{EventOf}
-use Rattle.vr_types.specs.declared.message.MsgOf.{MsgOf}
-use Rattle.vr_types.specs.declared.message.MsgOf.TheVariants.{Reply, PayOrder}
-use Rattle.pvp_types.specs.declared.command.Reply.TheVariants.{Done}
 use Rattle.vr_types.specs.Site.{Site}
 use Rattle.vr_types.specs.Choice.{Choice}
 use Rattle.vr_types.specs.Step as site
@@ -24,11 +21,8 @@ use Rattle.pvp_book.specs.Settlement.{both_pass, pass, taken_by, settled_after, 
 use Rattle.pvp_book.specs.Ledger.{opening, figure}
 use Rattle.pvp_book.specs.Answer.{answer}
 use Rattle.headline.specs.Machine.{book}
-use Rattle.rtgs_node.specs.declared.event.NodeEvent.TheVariants as node
 use Rattle.rtgs_node.specs.declared.event.NodeEvent.{NodeEvent}
-use Rattle.rtgs_node.specs.Node.{NodeStep, member_account, opening_node, Node, account, node_step}
-use Rattle.rtgs_node.specs.declared.fault.NodeFault.{NodeFault}
-use Rattle.rtgs_node.specs.declared.fault.NodeFault.TheVariants.{Short, Closed, UnknownMember, BadAmount}
+use Rattle.rtgs_node.specs.Node.{Node, account, node_step}
 use Rattle.headline.specs.declared.step.ClientEvent.{ClientEvent}
 use Rattle.headline.specs.Client.{Client, client_step}
 use Rattle.headline.specs.declared.step.Step.{Step}
@@ -216,37 +210,3 @@ module _ (same : Cmd → Cmd → Bool) (tells : (a b : Cmd) → IsTrue (same a b
     bank = end;
     legal = record { all = refl; run = plays-sound worked choose 1 (opening_bank worked 1 cells) second end is };
   }
-
--- THE NODE OF USD, event by event: how many envelopes it sends, which request number they carry, the account and ALFA's
-told : NodeStep → Option NodeFault × ℕ × ℤ × ℤ
-unfolding worked member
-told step = (step.fault, length step.sent, account step.node, member_account worked 1 1 step.node)
-
-node_sees : Node → List NodeEvent → List (Option NodeFault × ℕ × ℤ × ℤ)
-node_sees x [] = []
-node_sees x (event ∷ more) = told (node_step worked 1 1 x event) ∷ node_sees (node_step worked 1 1 x event).node more
-
-to_usd : MsgOf Cmd Answer PaymentOrder → NodeEvent
-to_usd msg = node.Takes (record { from = 200; to = 102; msg = msg })
-
-order : ℕ → ℕ → PaymentOrder
-order out amt = record { ccy = 1; out = out; member = 1; amt = amt }
-
-usd_node : node_sees opening_node (
-    node.PaysIn 1 1200 ∷ node.PaysIn 1 8801 ∷ node.PaysIn 1 300 ∷ to_usd (Reply 0 1 Done) ∷ to_usd (Reply 0 1 Done)
-    ∷ to_usd (PayOrder (order 1 200)) ∷ to_usd (PayOrder (order 1 200)) ∷ to_usd (PayOrder (order 2 200)) ∷ to_usd (PayOrder (order 3 1101)) ∷ node.Beats ∷ [])
-    ≡ (None, 3, pos 1200, pos 8800) ∷ (Some Short, 0, pos 1200, pos 8800) ∷ (None, 0, pos 1500, pos 8500) ∷ (None, 3, pos 1500, pos 8500) ∷ (None, 0, pos 1500, pos 8500)
-    ∷ (None, 0, pos 1300, pos 8700) ∷ (None, 0, pos 1300, pos 8700) ∷ (None, 0, pos 1100, pos 8900) ∷ (Some Short, 0, pos 1100, pos 8900) ∷ (None, 3, pos 1100, pos 8900) ∷ []
-unfolding node_sees told to_usd order worked member
-usd_node = refl
-
--- an account that is closed, once; then what the member pays in is refused, and what is ordered for it is returned once,
--- whatever the account holds; what was done before stays known
-usd_closed : node_sees opening_node (
-    node.PaysIn 1 1200 ∷ to_usd (PayOrder (order 1 200)) ∷ node.Closes 3 ∷ node.Closes 1 ∷ node.Closes 1 ∷ node.PaysIn 1 0 ∷ node.PaysIn 1 5
-    ∷ to_usd (PayOrder (order 2 9999)) ∷ to_usd (PayOrder (order 2 9999)) ∷ to_usd (PayOrder (order 1 200)) ∷ to_usd (Reply 0 1 Done) ∷ [])
-    ≡ (None, 3, pos 1200, pos 8800) ∷ (None, 0, pos 1000, pos 9000) ∷ (Some UnknownMember, 0, pos 1000, pos 9000) ∷ (None, 0, pos 1000, pos 9000) ∷ (Some Closed, 0, pos 1000, pos 9000)
-    ∷ (Some BadAmount, 0, pos 1000, pos 9000) ∷ (Some Closed, 0, pos 1000, pos 9000)
-    ∷ (None, 0, pos 1000, pos 9000) ∷ (None, 0, pos 1000, pos 9000) ∷ (None, 0, pos 1000, pos 9000) ∷ (None, 3, pos 1000, pos 9000) ∷ []
-unfolding node_sees told to_usd order worked member
-usd_closed = refl

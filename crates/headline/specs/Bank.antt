@@ -14,7 +14,6 @@ use Rattle.rtgs_node.specs.Node.{Envelope, Node, opening_node}
 use Rattle.headline.specs.declared.step.Step.{Step}
 -- a step's name here is a verb's, as an event of a site is called so already
 use Rattle.headline.specs.declared.step.Step.TheVariants.{Deliver as Delivers, PayIn as PaysIn, Close as Closes, Submit as Submits, Beat as Beats, Timer as Times, Crash as Crashes, Restart as Restarts}
-use Rattle.headline.specs.declared.step.Move.{Move}
 use Rattle.headline.specs.declared.step.Turn.{Turn}
 use Rattle.headline.specs.declared.step.Turn.TheVariants.{OfSite, OfNode, OfClient}
 use Rattle.headline.specs.declared.step.ClientEvent.TheVariants as client

@@ -21,13 +21,16 @@ pub enum Step {
     Beat(u16),
     /// A site's timer runs out.
     Timer(u16),
+    /// A site loses all but its boot cell.
     Crash(u16),
+    /// A site that is down comes up again.
     Restart(u16),
 }
 
 /// A step that was taken, or a site's fall in place of the step that was tried.
 #[derive(Clone, Copy, Debug, PartialEq, Eq)]
 pub enum Move {
+    /// The step was taken.
     Takes(Step),
     /// The site is down, over a cell that holds this.
     Falls(Step, Boot),
@@ -58,7 +61,10 @@ pub enum ClientFault {
 /// Whose turn a step is, and what happens to that actor: a site or a client by its number, a node by its currency's.
 #[derive(Drop)]
 pub enum Turn {
+    /// This site's, by its own number.
     OfSite(u16, Event<Book>),
+    /// The node's of this currency.
     OfNode(u16, NodeEvent),
+    /// This client's.
     OfClient(u16, ClientEvent),
 }
