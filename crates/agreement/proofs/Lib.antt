@@ -1,5 +1,5 @@
 -- lists, counts and tests
-mod Beginnings
+pub mod Beginnings
 mod Members
 mod Quorums
 mod Tests

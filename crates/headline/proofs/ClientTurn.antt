@@ -24,9 +24,10 @@ use Rattle.headline.specs.Bank.{Bank, with_client}
 use Rattle.headline.specs.Legal.{Leads}
 use Rattle.headline.proofs.Basics.{map-has, set-length}
 use Rattle.headline.proofs.Between.{is_between}
-use Rattle.headline.proofs.Runs.{leads-more}
+use Rattle.headline.proofs.Runs.{legal-more}
+use Rattle.agreement.proofs.Beginnings.{begins_itself}
 use Rattle.headline.proofs.Invariant.{IsAsked, IsOrder, IsReply, Holds, HoldsOn}
-use Rattle.headline.proofs.SiteTurn.{begins_itself, order-more}
+use Rattle.headline.proofs.SiteTurn.{order-more, reply-more}
 
 -- an envelope is a REQUEST of this client
 record IsRequestOf (me : ℕ) (e : Envelope) : Type 0 where
@@ -123,11 +124,11 @@ module _ (setup : Setup) (choose : Choice Cmd) (f : ℕ) (cells : List Boot) (mo
         by (inl old) = order-stays o.ccy o (h.orders e o old is)
         by (inr new) = let same = sym (sent e new).msg ∙ is in absurd (cc)
 
-    replies_too : (e : Envelope) (view number : ℕ) (answer : Answer) → Contains after.post e → e.msg ≡ Reply view number answer → IsReply setup choose f cells h.world e
+    replies_too : (e : Envelope) (view number : ℕ) (answer : Answer) → Contains after.post e → e.msg ≡ Reply view number answer → IsReply setup choose f cells (moves ++ move ∷ []) after h.world e
     replies_too e view number answer in' is = by (Contains-append_cases bank.post step.sent e in')
       where
-        by : Contains bank.post e ⊎ Contains step.sent e → IsReply setup choose f cells h.world e
-        by (inl old) = h.replies e view number answer old is
+        by : Contains bank.post e ⊎ Contains step.sent e → IsReply setup choose f cells (moves ++ move ∷ []) after h.world e
+        by (inl old) = reply-more setup choose f cells moves bank move after h.world h.world e leads (λ r in'. in') (h.replies e view number answer old is)
         by (inr new) = let same = sym (sent e new).msg ∙ is in absurd (cc)
 
     pub client_steps : HoldsOn setup choose f cells h.history h.world (moves ++ move ∷ []) after
@@ -136,7 +137,7 @@ module _ (setup : Setup) (choose : Choice Cmd) (f : ℕ) (cells : List Boot) (mo
       more = [];
       run = refl;
       holds = record {
-        legal = record { all = h.legal.all; run = leads-more setup choose f _ moves bank after move h.legal.run leads };
+        legal = legal-more setup choose f cells moves bank move after h.legal leads;
         events = h.events;
         world = h.world;
         alone = h.alone;

@@ -1,5 +1,5 @@
 -- What holds of every bank that a legal list leads to.
-use Rattle.std.proofs.Common.{◌≡◌, ◌⊎◌, ℕ, suc, ◌-◌, ◌<◌, ◌≤◌, ◌==◌, true, false, List, [], ◌++◌, length, slice_get, count_by, Option, Some, None}
+use Rattle.std.proofs.Common.{◌≡◌, ◌⊎◌, ℕ, suc, ◌-◌, ◌<◌, ◌≤◌, ◌==◌, true, false, List, [], length, slice_get, count_by, Option, Some, None}
 use Rattle.std.specs.Prelude.{Contains, ⊤}
 use Rattle.pvp_types.specs.declared.setup.Setup.{Setup}
 use Rattle.pvp_types.specs.declared.command.Cmd.{Cmd}
@@ -22,8 +22,8 @@ use Rattle.headline.specs.Machine.{book}
 use Rattle.rtgs_node.specs.Node.{Envelope, Node, has_done, has_returned}
 use Rattle.headline.specs.declared.step.Move.{Move}
 use Rattle.headline.specs.Bank.{Bank}
-use Rattle.headline.specs.Legal.{IsRun, IsLegal}
-use Rattle.headline.specs.Headline.{executed_book}
+use Rattle.headline.specs.Legal.{IsLegal, Moment}
+use Rattle.headline.specs.Headline.{IsOrdered}
 use Rattle.headline.proofs.Between.{is_between}
 
 -- NOTICES
@@ -67,25 +67,17 @@ abbrev pub SitesEvents : Type 0
 SitesEvents = List (Happening Cmd Answer PaymentOrder)
 
 module _ (setup : Setup) (choose : Choice Cmd) (f : ℕ) (cells : List Boot) where
-  -- at some moment of these moves a site had executed a book with this order
-  pub record OrderedBy (moves : List Move) (bank : Bank) (c : ℕ) (order : PaymentOrder) : Type 0 where
-    pub before : List Move
-    pub after : List Move
-    pub parts : before ++ after ≡ moves
-    pub then : Bank
-    pub legal : IsLegal setup choose f cells before then
-    pub rest : IsRun setup choose f then after bank
-    pub site : Site Cmd
-    pub among : Contains then.sites site
-    pub ordered : Contains (orders (executed_book setup site) c) order
-
+  -- a site had executed a book with this order at some moment, and the book of the history has it
   pub record IsOrder (moves : List Move) (bank : Bank) (history : List Row) (c : ℕ) (order : PaymentOrder) : Type 0 where
-    pub by : OrderedBy moves bank c order
+    pub moment : Moment setup choose f cells moves bank
+    pub by : IsOrdered setup moment.then c order
     pub ordered : Contains (orders (book_of setup history) c) order
 
-  -- a REPLY was sent by a step of the sites alone
-  pub record IsReply (world : SitesWorld) (e : Envelope) : Type 0 where
+  -- a REPLY was sent by a step of the sites alone, whose sender stood in the bank at some moment
+  pub record IsReply (moves : List Move) (bank : Bank) (world : SitesWorld) (e : Envelope) : Type 0 where
     pub reply : Replied Cmd
+    pub moment : Moment setup choose f cells moves bank
+    pub is_there : slice_get moment.then.sites reply.from ≡ Some reply.sender
     pub among : Contains world.replies reply
     pub is : reply_to book (opening setup) reply.from reply.sender reply.place ≡ Some e
 
@@ -108,7 +100,7 @@ module _ (setup : Setup) (choose : Choice Cmd) (f : ℕ) (cells : List Boot) whe
     pub between : (e : Envelope) → Contains bank.post e → is_between e.msg ≡ true → Contains world.sent e
     pub requests : (e : Envelope) → Contains bank.post e → IsAsked bank.nodes e
     pub orders : (e : Envelope) (order : PaymentOrder) → Contains bank.post e → e.msg ≡ PayOrder order → IsOrder moves bank history order.ccy order
-    pub replies : (e : Envelope) (view number : ℕ) (answer : Answer) → Contains bank.post e → e.msg ≡ Reply view number answer → IsReply world e
+    pub replies : (e : Envelope) (view number : ℕ) (answer : Answer) → Contains bank.post e → e.msg ≡ Reply view number answer → IsReply moves bank world e
     -- nodes and clients
     pub count : length bank.nodes ≡ length setup.currencies
     pub people : length bank.clients ≡ suc (length setup.members)

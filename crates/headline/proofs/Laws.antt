@@ -38,11 +38,11 @@ use Rattle.headline.specs.declared.step.Move.{Move}
 use Rattle.headline.specs.Bank.{Bank}
 use Rattle.headline.specs.Legal.{LegalList, Continued}
 use Rattle.headline.specs.Way.{not_credited, not_done, not_known, not_ordered, way}
-use Rattle.headline.specs.Headline.{executed_book, IsPayIn, WasOrdered, IsDone, IsReturned}
+use Rattle.headline.specs.Headline.{executed_book, IsPayIn, DoneWereOrdered, IsDone, IsReturned}
 use Rattle.headline.proofs.Basics.{none-some, some-same, place_of, at-append, filter-has}
 use Rattle.headline.proofs.Books.{ordered-more}
 use Rattle.headline.proofs.Invariant.{notices_of, notice_at, IsNotice, IsSo, IsSound, Holds, HoldsOn}
-use Rattle.headline.proofs.SiteTurn.{begins_itself, begins-trans}
+use Rattle.agreement.proofs.Beginnings.{begins_itself, begins-trans}
 use Rattle.headline.proofs.Reached.{run-keeps, legal-holds}
 use Rattle.headline.proofs.Entries.{IsAccepted, came_by, all-accepted, any-has}
 use Rattle.headline.proofs.Amounts.{Amount, total_in, total_out, Once, Match, total-parts, matched, all-in}
@@ -340,14 +340,12 @@ module _ {setup : Setup} {f : ℕ} (list : LegalList setup f) where
   pub later : (late : Continued list) → HoldsOn setup list.choose f list.cells here.history here.world (list.moves ++ late.moves) late.bank
   later late = run-keeps setup (valid-members setup list.valid).1 list.choose f list.right list.cells list.moves list.bank here late.moves late.bank late.run
 
-  pub was-ordered : (c : ℕ) (x : Node) (order : PaymentOrder) → slice_get list.bank.nodes c ≡ Some x → Contains x.pay_outs order → WasOrdered list c order
-  was-ordered c x order at in' =
-      let t = (here.done c x order at in').by in
-      record { before = t.before; after = t.after; parts = t.parts; bank = t.then; legal = t.legal; rest = t.rest; site = t.site; among = t.among; ordered = t.ordered }
+  pub was-ordered : DoneWereOrdered list
+  was-ordered c x order at in' = let t = here.done c x order at in' in (t.moment, t.by)
 
   module _ (late : Continued list) (x y : Site Cmd) (in_early : Contains list.bank.sites x) (in_late : Contains late.bank.sites y) where
     first : Begins (executed_rows x) (later late).holds.history
-    first = begins-trans (executed_rows x) here.history (later late).holds.history (here.begins x in_early) (later late).longer
+    first = begins-trans (here.begins x in_early) (later late).longer
 
     second : Begins (executed_rows y) (later late).holds.history
     second = (later late).holds.begins y in_late
@@ -366,4 +364,4 @@ module _ {setup : Setup} {f : ℕ} (list : LegalList setup f) where
 
   pub covered-later : (late : Continued list) (x : Site Cmd) (c : ℕ) (n : Node) → Contains list.bank.sites x → slice_get late.bank.nodes c ≡ Some n → pos (not_known c n (executed_book setup x)) ≤ℤ account n
   covered-later late x c n in' at =
-      covered (later late).holds c n at (executed_rows x) (begins-trans (executed_rows x) here.history (later late).holds.history (here.begins x in') (later late).longer)
+      covered (later late).holds c n at (executed_rows x) (begins-trans (here.begins x in') (later late).longer)

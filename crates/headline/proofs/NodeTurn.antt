@@ -18,10 +18,11 @@ use Rattle.headline.specs.Bank.{Bank, with_node}
 use Rattle.headline.specs.Legal.{Leads}
 use Rattle.headline.proofs.Basics.{none-some, some-same, set-here, set-at, set-length}
 use Rattle.headline.proofs.Between.{is_between}
-use Rattle.headline.proofs.Runs.{leads-more}
+use Rattle.headline.proofs.Runs.{legal-more}
+use Rattle.agreement.proofs.Beginnings.{begins_itself}
 use Rattle.headline.proofs.Invariant.{notices_of, notice_at, IsNotice, AsksAs, IsAsked, IsSound, IsOrder, IsReply, Holds, HoldsOn}
 use Rattle.headline.proofs.NodeSteps.{IsNoticeOf, IsOrdered, Keeps, node-keeps}
-use Rattle.headline.proofs.SiteTurn.{begins_itself, order-more}
+use Rattle.headline.proofs.SiteTurn.{order-more, reply-more}
 
 -- notices stay where one node's grow
 notice-grows : (nodes : List Node) (c : ℕ) (x y : Node) → slice_get nodes c ≡ Some x → ((i : ℕ) (cmd : Cmd) → slice_get x.notices i ≡ Some cmd → slice_get y.notices i ≡ Some cmd)
@@ -109,11 +110,11 @@ module _ (setup : Setup) (choose : Choice Cmd) (f : ℕ) (cells : List Boot) (mo
             (by_done (keeps.done o (subst (λ (z : Node). Contains z.pay_outs o) (sym here.1) in')))
         by (inr old) = order-stays d o (h.done d y o old in')
 
-    replies_too : (e : Envelope) (view number : ℕ) (answer : Answer) → Contains after.post e → e.msg ≡ Reply view number answer → IsReply setup choose f cells h.world e
+    replies_too : (e : Envelope) (view number : ℕ) (answer : Answer) → Contains after.post e → e.msg ≡ Reply view number answer → IsReply setup choose f cells (moves ++ move ∷ []) after h.world e
     replies_too e view number answer in' is = by (Contains-append_cases bank.post step.sent e in')
       where
-        by : Contains bank.post e ⊎ Contains step.sent e → IsReply setup choose f cells h.world e
-        by (inl old) = h.replies e view number answer old is
+        by : Contains bank.post e ⊎ Contains step.sent e → IsReply setup choose f cells (moves ++ move ∷ []) after h.world e
+        by (inl old) = reply-more setup choose f cells moves bank move after h.world h.world e leads (λ r in'. in') (h.replies e view number answer old is)
         by (inr new) = let same = sym (keeps.sent e new).msg ∙ is in absurd (cc)
 
     pub node_steps : HoldsOn setup choose f cells h.history h.world (moves ++ move ∷ []) after
@@ -122,7 +123,7 @@ module _ (setup : Setup) (choose : Choice Cmd) (f : ℕ) (cells : List Boot) (mo
       more = [];
       run = refl;
       holds = record {
-        legal = record { all = h.legal.all; run = leads-more setup choose f _ moves bank after move h.legal.run leads };
+        legal = legal-more setup choose f cells moves bank move after h.legal leads;
         events = h.events;
         world = h.world;
         alone = h.alone;

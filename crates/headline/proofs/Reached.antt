@@ -23,9 +23,10 @@ use Rattle.headline.specs.declared.step.Turn.TheVariants.{OfSite, OfNode, OfClie
 use Rattle.headline.specs.Bank.{Bank, opening_bank, turn_of, delivery, turn}
 use Rattle.headline.specs.Legal.{Acts, FallsBy, Leads, IsRun}
 use Rattle.headline.proofs.Basics.{none-some, some-same, there, map-has}
+use Rattle.agreement.proofs.Beginnings.{begins_itself, begins-trans}
 use Rattle.headline.proofs.Invariant.{IsSound, Holds, HoldsOn}
 use Rattle.headline.proofs.Runs.{runs-join}
-use Rattle.headline.proofs.SiteTurn.{begins_itself, begins-trans, site_steps, site_falls}
+use Rattle.headline.proofs.SiteTurn.{site_steps, site_falls}
 use Rattle.headline.proofs.NodeTurn.{node_steps}
 use Rattle.headline.proofs.ClientTurn.{client_steps}
 
@@ -157,7 +158,7 @@ module _ (setup : Setup) (few : length setup.members ≤ 64) (choose : Choice Cm
       subst (λ (ms : List Move). HoldsOn setup choose f cells h.history h.world ms after) (append_assoc moves (move ∷ []) more)
       (record {
         holds = rest.holds;
-        longer = begins-trans h.history one.holds.history rest.holds.history one.longer rest.longer;
+        longer = begins-trans one.longer rest.longer;
         more = one.more ++ rest.more;
         run = runs-join choose f h.world one.more rest.more one.holds.world rest.holds.world one.run rest.run;
       })

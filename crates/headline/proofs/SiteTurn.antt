@@ -1,5 +1,5 @@
 -- A site's step, or its fall, keeps the invariant.
-use Rattle.std.proofs.Common.{◌≡◌, ◌⊎◌, inl, inr, ℕ, ◌-◌, ◌<◌, ◌≤◌, ◌==◌, Bool, true, false, not, if◌then◌else◌, List, [], ◌∷◌, ◌++◌, length, map, take, drop, slice_get, slice_set, Option, Some, None, option_map, refl, sym, ap, ◌∙◌, subst, append_assoc, append-nil, take-append-drop, arith, true≢false}
+use Rattle.std.proofs.Common.{◌≡◌, ◌⊎◌, inl, inr, ℕ, ◌-◌, ◌<◌, ◌≤◌, ◌==◌, Bool, true, false, not, if◌then◌else◌, List, [], ◌∷◌, ◌++◌, length, map, take, drop, slice_get, slice_set, Option, Some, None, option_map, refl, sym, ap, ◌∙◌, subst, take-append-drop, arith, true≢false}
 use Rattle.std.specs.Prelude.{Contains}
 use Rattle.std.specs.List.{filter_map}
 use Rattle.std.proofs.lemmas.Bool.{cases_lt}
@@ -23,10 +23,11 @@ use Rattle.vr_types.specs.Choice.{Choice, IsRight}
 use Rattle.vr_types.specs.Step as site
 use Rattle.vr_types.specs.Handling.{refused_or, on_event, site_step, is_refused, IsFall, reply_to, order_to, machine_of, envelopes}
 use Rattle.agreement.specs.Worlds as worlds
-use Rattle.agreement.specs.Worlds.{World, Course, Ends, FallsOver, Happening, step_of, MayHappen, Happens, replied, stepped, fallen}
+use Rattle.agreement.specs.Worlds.{World, Replied, Course, Ends, FallsOver, Happening, step_of, MayHappen, Happens, replied, stepped, fallen}
 use Rattle.vr_types.specs.Messages.{is_request}
 use Rattle.agreement.specs.Promises.{Begins, WasAsked, request_of}
 use Rattle.agreement.proofs.Asked.{legal_rows}
+use Rattle.agreement.proofs.Beginnings.{begins_itself, begins-trans}
 use Rattle.agreement.proofs.Laws.{first_rows}
 use Rattle.pvp_book.specs.Ledger.{Ledger, opening, outstanding}
 use Rattle.pvp_book.specs.Orders.{orders}
@@ -39,7 +40,7 @@ use Rattle.headline.specs.Legal.{Leads}
 use Rattle.headline.proofs.Basics.{and_right, none-some, some-same, there, set-here, set-has, push-has, map-has, map-in, filter_map-has}
 use Rattle.headline.proofs.Between.{is_between, step_between}
 use Rattle.headline.proofs.Books.{held-is, due-ordered, ordered-more}
-use Rattle.headline.proofs.Runs.{happens-more, leads-more}
+use Rattle.headline.proofs.Runs.{happens-more, legal-more, moment-now, moment-more}
 use Rattle.headline.proofs.Invariant.{AsksAs, IsAsked, SitesWorld, SitesEvents, IsOrder, IsReply, Holds, HoldsOn}
 
 -- KINDS OF MESSAGES
@@ -66,30 +67,27 @@ executed-has x row in' = by (is_running x.status) in'
     by true h = subst (λ (l : List Row). Contains l row) (take-append-drop x.done x.log) (Contains-append_left (take x.done x.log) (drop x.done x.log) row h)
     by false h = absurd (let low = h.1 in omega arith)
 
-pub begins_itself : (rows : List Row) → Begins rows rows
-begins_itself rows = record { rest = []; is = append-nil rows }
-
-pub begins-trans : (a b c : List Row) → Begins a b → Begins b c → Begins a c
-begins-trans a b c p q = record { rest = p.rest ++ q.rest; is = sym (append_assoc a p.rest q.rest) ∙ (ap (λ (l : List Row). l ++ q.rest) p.is ∙ q.is) }
-
 module _ (setup : Setup) (choose : Choice Cmd) (f : ℕ) (cells : List Boot) where
   -- an order stays one as moves go on and the history grows
   pub order-more : (moves : List Move) (bank : Bank) (move : Move) (after : Bank) (history longer : List Row) (c : ℕ) (o : PaymentOrder)
       → Leads setup choose f bank move after → Begins history longer
       → IsOrder setup choose f cells moves bank history c o → IsOrder setup choose f cells (moves ++ move ∷ []) after longer c o
   order-more moves bank move after history longer c o leads b t = record {
-    by = record {
-      before = t.by.before;
-      after = t.by.after ++ move ∷ [];
-      parts = sym (append_assoc t.by.before t.by.after (move ∷ [])) ∙ ap (λ (ms : List Move). ms ++ move ∷ []) t.by.parts;
-      then = t.by.then;
-      legal = t.by.legal;
-      rest = leads-more setup choose f t.by.then t.by.after bank after move t.by.rest leads;
-      site = t.by.site;
-      among = t.by.among;
-      ordered = t.by.ordered;
-    };
+    moment = moment-more setup choose f cells moves bank move after leads t.moment;
+    by = t.by;
     ordered = ordered-more setup history longer c o b t.ordered;
+  }
+
+  -- and so does a REPLY, in a world of sites that has all that were ever sent
+  pub reply-more : (moves : List Move) (bank : Bank) (move : Move) (after : Bank) (world next : SitesWorld) (e : Envelope)
+      → Leads setup choose f bank move after → ((r : Replied Cmd) → Contains world.replies r → Contains next.replies r)
+      → IsReply setup choose f cells moves bank world e → IsReply setup choose f cells (moves ++ move ∷ []) after next e
+  reply-more moves bank move after world next e leads kept t = record {
+    reply = t.reply;
+    moment = moment-more setup choose f cells moves bank move after leads t.moment;
+    is_there = t.is_there;
+    among = kept t.reply t.among;
+    is = t.is;
   }
 
 -- where both agree as far as both go, one begins the other
@@ -298,13 +296,8 @@ module _ (setup : Setup) (choose : Choice Cmd) (f : ℕ) (cells : List Boot) (ri
 
       ordered_now : (c : ℕ) (o : PaymentOrder) → Contains (orders (book_of setup (executed_rows step.site)) c) o → IsOrder setup choose f cells (moves ++ move ∷ []) after longer.rows c o
       ordered_now c o in' = record {
+        moment = moment-now setup choose f cells (moves ++ move ∷ []) after (legal-more setup choose f cells moves bank move after h.legal leads);
         by = record {
-          before = moves ++ move ∷ [];
-          after = [];
-          parts = append-nil (moves ++ move ∷ []);
-          then = after;
-          legal = record { all = h.legal.all; run = leads-more setup choose f _ moves bank after move h.legal.run leads };
-          rest = refl;
           site = step.site;
           among = there after.sites i step.site (set-here bank.sites i x step.site is_there);
           ordered = in';
@@ -323,17 +316,17 @@ module _ (setup : Setup) (choose : Choice Cmd) (f : ℕ) (cells : List Boot) (ri
               let same : ordered.0.1 ≡ o = let e = sym ordered.2 ∙ is in cc in
               ordered_now o.ccy o (subst (λ (d : PaymentOrder). Contains (orders (book_of setup (executed_rows step.site)) d.ccy) d) same (due_orders ordered.0 ordered.1))
 
-      replies_too : (e : Envelope) (view number : ℕ) (answer : Answer) → Contains after.post e → e.msg ≡ Reply view number answer → IsReply setup choose f cells next e
+      replies_too : (e : Envelope) (view number : ℕ) (answer : Answer) → Contains after.post e → e.msg ≡ Reply view number answer → IsReply setup choose f cells (moves ++ move ∷ []) after next e
       replies_too e view number answer in' is = by (Contains-append_cases bank.post new e in')
         where
-          by : Contains bank.post e ⊎ Contains new e → IsReply setup choose f cells next e
-          by (inl old) =
-              let t = h.replies e view number answer old is in
-              record { reply = t.reply; among = Contains-append_left h.world.replies (replied i step) t.reply t.among; is = t.is }
+          by : Contains bank.post e ⊎ Contains new e → IsReply setup choose f cells (moves ++ move ∷ []) after next e
+          by (inl old) = reply-more setup choose f cells moves bank move after h.world next e leads (λ r in'. Contains-append_left h.world.replies (replied i step) r in') (h.replies e view number answer old is)
           by (inr fresh) =
               let t = reply-place e view number answer fresh is in
               record {
                 reply = record { from = i; sender = step.site; place = t.0 };
+                moment = moment-now setup choose f cells (moves ++ move ∷ []) after (legal-more setup choose f cells moves bank move after h.legal leads);
+                is_there = set-here bank.sites i x step.site is_there;
                 among = Contains-append_right h.world.replies (replied i step) _ (map-in (λ place. record { from = i; sender = step.site; place = place }) step.replies t.0 t.1);
                 is = t.2;
               }
@@ -344,7 +337,7 @@ module _ (setup : Setup) (choose : Choice Cmd) (f : ℕ) (cells : List Boot) (ri
         more = happening ∷ [];
         run = (next, happens, refl);
         holds = record {
-          legal = record { all = h.legal.all; run = leads-more setup choose f _ moves bank after move h.legal.run leads };
+          legal = legal-more setup choose f cells moves bank move after h.legal leads;
           events = h.events ++ happening ∷ [];
           world = next;
           alone = alone_too;
@@ -370,7 +363,7 @@ module _ (setup : Setup) (choose : Choice Cmd) (f : ℕ) (cells : List Boot) (ri
             where
               by : (step.site ≡ y) ⊎ Contains bank.sites y → Begins (executed_rows y) longer.rows
               by (inl same) = subst (λ (z : Site Cmd). Begins (executed_rows z) longer.rows) same longer.covers
-              by (inr old) = begins-trans (executed_rows y) h.history longer.rows (h.begins y old) longer.from
+              by (inr old) = begins-trans (h.begins y old) longer.from
 
   -- a fall
   module _ (i : ℕ) (event : EventOf Cmd Answer PaymentOrder) (x : Site Cmd) (is_there : slice_get bank.sites i ≡ Some x) (cell : Boot)
@@ -396,7 +389,7 @@ module _ (setup : Setup) (choose : Choice Cmd) (f : ℕ) (cells : List Boot) (ri
       more = fall ∷ [];
       run = (fallen h.world i cell, fall_happens, refl);
       holds = record {
-        legal = record { all = h.legal.all; run = leads-more setup choose f _ moves bank fallen_bank move h.legal.run leads };
+        legal = legal-more setup choose f cells moves bank move fallen_bank h.legal leads;
         events = h.events ++ fall ∷ [];
         world = fallen h.world i cell;
         alone = record { all = h.alone.all; run = happens-more choose f (worlds.opening_world f cells) h.events h.world (fallen h.world i cell) fall h.alone.run fall_happens };
@@ -408,7 +401,7 @@ module _ (setup : Setup) (choose : Choice Cmd) (f : ℕ) (cells : List Boot) (ri
         asked = asked_too_at;
         between = λ e in' kind. h.between e in' kind;
         requests = λ e in'. h.requests e in';
-        replies = λ e view number answer in' is. let t = h.replies e view number answer in' is in record { reply = t.reply; among = t.among; is = t.is };
+        replies = λ e view number answer in' is. reply-more setup choose f cells moves bank move fallen_bank h.world (fallen h.world i cell) e leads (λ r old. old) (h.replies e view number answer in' is);
         orders = λ e o in' is. order-more setup choose f cells moves bank move fallen_bank h.history h.history o.ccy o leads (begins_itself h.history) (h.orders e o in' is);
         count = h.count;
         people = h.people;

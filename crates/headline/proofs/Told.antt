@@ -1,21 +1,24 @@
 -- What clients were told, from the laws of the sites alone.
-use Rattle.std.proofs.Common.{◌≡◌, ◌⊎◌, inl, inr, ℕ, zero, suc, ◌-◌, ◌<◌, ◌≤◌, Bool, true, false, if◌then◌else◌, List, [], ◌∷◌, length, take, drop, take-append-drop, slice_get, Option, Some, option_map, refl, sym, ap, ◌∙◌, subst, arith}
+use Rattle.std.proofs.Common.{◌≡◌, ◌⊎◌, inl, inr, ℕ, ◌-◌, ◌<◌, ◌≤◌, List, length, take, slice_get, Some, refl, sym, ap, ◌∙◌, subst, arith}
 use Rattle.std.specs.Prelude.{Contains}
 use Rattle.std.proofs.lemmas.Option.{slice_get_within}
-use Rattle.std.proofs.lemmas.List.{length-take-le}
 use Rattle.pvp_types.specs.declared.setup.Setup.{Setup}
 use Rattle.pvp_types.specs.declared.command.Cmd.{Cmd}
 use Rattle.pvp_types.specs.declared.command.Reply.{Reply as Answer}
+use Rattle.pvp_types.specs.declared.command.PayOrder.{PayOrder as PaymentOrder}
 use Rattle.vr_types.specs.declared.cell.Boot.{Boot}
+use Rattle.vr_types.specs.declared.event.Status.TheVariants.{Normal}
+use Rattle.vr_types.specs.declared.message.MsgOf.{MsgOf}
 use Rattle.vr_types.specs.declared.message.MsgOf.TheVariants.{Reply}
 use Rattle.vr_types.specs.Group.{actor_of}
-use Rattle.vr_types.specs.Site.{Site, is_running, executed_rows}
+use Rattle.vr_types.specs.Site.{Site, executed_rows}
 use Rattle.vr_types.specs.Choice.{Choice, IsRight}
 use Rattle.vr_types.specs.Execution.{answer_at}
-use Rattle.vr_types.specs.Handling.{reply_to}
 use Rattle.agreement.specs.Worlds as worlds
 use Rattle.agreement.specs.Worlds.{Replied}
-use Rattle.agreement.specs.Promises.{row_at, IsRising, Tells, IsExecuted, answered_rows}
+use Rattle.agreement.specs.Promises.{row_at, IsRising, Begins, Tells, IsExecuted, answered_rows}
+use Rattle.agreement.proofs.Beginnings.{begins-take, begins_from}
+use Rattle.agreement.proofs.Answering.{executed_begins, answer-begins, reply-at}
 use Rattle.agreement.proofs.Laws as sites
 use Rattle.pvp_book.specs.Ledger.{opening}
 use Rattle.pvp_book.specs.Answer.{Row}
@@ -23,28 +26,23 @@ use Rattle.headline.specs.Machine.{book}
 use Rattle.rtgs_node.specs.Node.{Envelope}
 use Rattle.headline.specs.declared.step.Move.{Move}
 use Rattle.headline.specs.Bank.{Bank}
-use Rattle.headline.specs.Replies.{IsSiteOf, WasTold, Stays}
-use Rattle.headline.proofs.Basics.{none-some, some-same, at-append}
+use Rattle.headline.specs.Legal.{Moment}
+use Rattle.headline.specs.Replies.{IsSiteOf, WasTold, HasAnswered}
+use Rattle.headline.proofs.Basics.{some-same, at-append}
 use Rattle.headline.proofs.Invariant.{SitesWorld, SitesEvents, IsReply, Holds}
 
-take-at : (rows : List Row) (n i : ℕ) (row : Row) → i < n → slice_get rows i ≡ Some row → slice_get (take n rows) i ≡ Some row
-take-at [] n i row low at = absurd (none-some row at)
-take-at (r ∷ rows) zero i row low at = absurd (omega arith)
-take-at (r ∷ rows) (suc n) zero row low at = at
-take-at (r ∷ rows) (suc n) (suc i) row low at = take-at rows n i row (omega arith) at
+abbrev the_reply : ℕ → ℕ → Answer → MsgOf Cmd Answer PaymentOrder
+the_reply v n a = Reply v n a
 
-executed-at : (x : Site Cmd) (i : ℕ) (row : Row) → slice_get (executed_rows x) i ≡ Some row → slice_get x.log i ≡ Some row
-executed-at x i row at = by (is_running x.status) at
-  where
-    by : (b : Bool) → slice_get (if b then take x.done x.log else []) i ≡ Some row → slice_get x.log i ≡ Some row
-    by true h = ap (λ (l : List Row). slice_get l i) (sym (take-append-drop x.done x.log)) ∙ at-append (take x.done x.log) (drop x.done x.log) i row h
-    by false h = absurd (none-some row h)
+-- a REPLY of a view, a number and an answer says no other
+says : (v n w m : ℕ) (a b : Answer) → the_reply v n a ≡ the_reply w m b → (v ≡ w) × (n ≡ m) × (a ≡ b)
+says v n w m a b e = (cc, cc, cc)
 
 module _ {setup : Setup} {choose : Choice Cmd} {f : ℕ} {cells : List Boot} (right : IsRight f choose) {moves : List Move} {bank : Bank} (h : Holds setup choose f cells moves bank) where
   pub rise : (x : Site Cmd) → Contains bank.sites x → IsRising x.log
   rise x in' = sites.rising choose f right cells h.events h.world h.alone x (subst (λ (l : List (Site Cmd)). Contains l x) (sym h.sites) in')
 
-  tells : (e : Envelope) (view number : ℕ) (answer : Answer) → WasTold bank e view number answer → (r : IsReply setup choose f cells h.world e) → Tells book (opening setup) r.reply e.to number answer
+  tells : (e : Envelope) (view number : ℕ) (answer : Answer) → WasTold bank e view number answer → (r : IsReply setup choose f cells moves bank h.world e) → Tells book (opening setup) r.reply e.to number answer
   tells e view number answer told r = record { envelope = e; is = r.is; to = refl; view = view; msg = told.is }
 
   pub agree : (d e : Envelope) (v w number : ℕ) (a b : Answer) → WasTold bank d v number a → WasTold bank e w number b → d.to ≡ e.to → a ≡ b
@@ -54,12 +52,55 @@ module _ {setup : Setup} {choose : Choice Cmd} {f : ℕ} {cells : List Boot} (ri
       sites.one_answer choose f right cells h.events h.world h.alone book (opening setup) p.reply q.reply d.to number a b p.among q.among (tells d v number a told p)
       (subst (λ c. Tells book (opening setup) q.reply c number b) (sym same) (tells e w number b too q))
 
-  -- what a REPLY says
-  reply-spoken : (r : Replied Cmd) (e : Envelope) (row : Row) → slice_get r.sender.log (r.place - 1) ≡ Some row → reply_to book (opening setup) r.from r.sender r.place ≡ Some e
-      → (row.client ≡ e.to) × (Reply r.sender.view row.number (answer_at book (opening setup) r.sender.log r.place row) ≡ e.msg)
-  reply-spoken r e row at is =
-      let same = some-same _ e (sym (ap (λ (found : Option Row). option_map (λ (w : Row). record { from = actor_of r.from; to = w.client; msg = Reply r.sender.view w.number (answer_at book (opening setup) r.sender.log r.place w) }) found) at) ∙ is) in
-      (ap (λ (d : Envelope). d.to) same, ap (λ (d : Envelope). d.msg) same)
+  -- each REPLY is for a row that its sender had executed, at the moment at which it was sent
+  module _ (e : Envelope) (view number : ℕ) (answer : Answer) (told : WasTold bank e view number answer) where
+    abbrev pub from : IsReply setup choose f cells moves bank h.world e
+    from = h.replies e view number answer told.posted told.is
+
+    abbrev pub r : Replied Cmd
+    r = from.reply
+
+    pub done : IsExecuted r
+    done = sites.executed choose f right cells h.events h.world h.alone r from.among
+
+    begins : Begins (executed_rows r.sender) r.sender.log
+    begins = executed_begins r.sender
+
+    within : r.place ≤ length (executed_rows r.sender)
+    within = let low = slice_get_within (executed_rows r.sender) (r.place - 1) done.row done.is_there in let counted = done.counted in omega arith
+
+    pub spoken : record { from = actor_of r.from; to = done.row.client; msg = Reply r.sender.view done.row.number (answer_at book (opening setup) (executed_rows r.sender) r.place done.row) } ≡ e
+    spoken =
+        ap (λ (a : Answer). record { from = actor_of r.from; to = done.row.client; msg = Reply r.sender.view done.row.number a }) (sym (answer-begins book (opening setup) (executed_rows r.sender) r.sender.log r.place done.row begins done.is_there))
+        ∙ some-same _ e (sym (reply-at book (opening setup) r.from r.sender r.place done.row at) ∙ from.is)
+      where
+        at : slice_get r.sender.log (r.place - 1) ≡ Some done.row
+        at = subst (λ (l : List Row). slice_get l (r.place - 1) ≡ Some done.row) begins.is (at-append (executed_rows r.sender) begins.rest (r.place - 1) done.row done.is_there)
+
+    abbrev pub moment : Moment setup choose f cells moves bank
+    moment = from.moment
+
+    pub said : (r.sender.view ≡ view) × (done.row.number ≡ number) × (answer_at book (opening setup) (executed_rows r.sender) r.place done.row ≡ answer)
+    said = says r.sender.view done.row.number view number (answer_at book (opening setup) (executed_rows r.sender) r.place done.row) answer (ap (λ (d : Envelope). d.msg) spoken ∙ told.is)
+
+    abbrev pub answered : HasAnswered setup moment.then e view number answer
+    answered = record {
+      sender = r.from;
+      site = r.sender;
+      is_there = from.is_there;
+      from = sym (ap (λ (d : Envelope). d.from) spoken);
+      in_view = said.0;
+      place = r.place;
+      row = done.row;
+      counted = done.counted;
+      executed = done.is_there;
+      client = ap (λ (d : Envelope). d.to) spoken;
+      named = said.1;
+      right = sym said.2;
+    }
+
+    pub rows-are : take r.place (executed_rows r.sender) ≡ answered_rows r
+    rows-are = begins-take r.place begins within
 
   module _ (early : Bank) (before : SitesEvents) (first : SitesWorld) (legal : worlds.IsLegal choose f cells before first) (same : first.sites ≡ early.sites) (more : SitesEvents) (run : worlds.IsRun choose f first more h.world) where
     either : (x : Site Cmd) → IsSiteOf early bank x → Contains first.sites x ⊎ Contains h.world.sites x
@@ -73,22 +114,10 @@ module _ {setup : Setup} {choose : Choice Cmd} {f : ℕ} {cells : List Boot} (ri
         sites.right_answer choose f right cells before more first h.world legal run book (opening setup) r.reply answer x place row r.among (either x in') low at
         (subst (λ c. Tells book (opening setup) r.reply c row.number answer) (sym client) (subst (λ n. Tells book (opening setup) r.reply e.to n answer) (sym named) (tells e view number answer told r)))
 
-    pub stay : (e : Envelope) (view number : ℕ) (answer : Answer) → WasTold bank e view number answer → Stays early bank e view number
-    stay e view number answer told =
+    pub begin : (e : Envelope) (view number : ℕ) (answer : Answer) (told : WasTold bank e view number answer) (x : Site Cmd) → IsSiteOf early bank x → x.status ≡ Normal → view < x.view
+        → let by = answered e view number answer told in Begins (take by.place (executed_rows by.site)) x.log
+    begin e view number answer told x in' normal low =
         let r = h.replies e view number answer told.posted told.is in
-        let done : IsExecuted r.reply = sites.executed choose f right cells h.events h.world h.alone r.reply r.among in
-        let at : slice_get r.reply.sender.log (r.reply.place - 1) ≡ Some done.row = executed-at r.reply.sender (r.reply.place - 1) done.row done.is_there in
-        let within = slice_get_within r.reply.sender.log (r.reply.place - 1) done.row at in
-        let counted = done.counted in
-        let long : length (answered_rows r.reply) ≡ r.reply.place = length-take-le r.reply.place r.reply.sender.log (omega arith) in
-        let spoken = reply-spoken r.reply e done.row at r.is in
-        let msg = spoken.1 ∙ told.is in
-        let view_is : r.reply.sender.view ≡ view = cc in
-        record {
-          rows = answered_rows r.reply;
-          row = done.row;
-          last = ap (λ n. row_at (answered_rows r.reply) n) long ∙ take-at r.reply.sender.log r.reply.place (r.reply.place - 1) done.row (omega arith) at;
-          client = spoken.0;
-          named = (cc);
-          begin = λ x in' normal low. sites.lasting choose f right cells before more first h.world legal run r.reply x r.among (either x in') normal (omega arith);
-        }
+        let view_is = (said e view number answer told).0 in
+        begins_from (sym (rows-are e view number answer told))
+        (sites.lasting choose f right cells before more first h.world legal run r.reply x r.among (either x in') normal (omega arith))

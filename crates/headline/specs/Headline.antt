@@ -1,5 +1,5 @@
 -- What holds under every legal list. Its parts say nothing of views, votes or messages between sites.
-use Rattle.std.specs.Prelude.{◌≡◌, ℕ, ◌-◌, ◌≤◌, ◌==◌, ◌++◌, true, false, List, length, take, slice_get, count_by, Contains, Some, pos, ◌+ℤ◌, ◌≤ℤ◌}
+use Rattle.std.specs.Prelude.{◌≡◌, ℕ, ◌-◌, ◌≤◌, ◌==◌, true, false, List, length, take, slice_get, count_by, Contains, Some, pos, ◌+ℤ◌, ◌≤ℤ◌}
 use Rattle.pvp_types.specs.declared.setup.Setup.{Setup}
 use Rattle.pvp_types.specs.declared.command.Cmd.{Cmd}
 use Rattle.pvp_types.specs.declared.command.Cmd.TheVariants.{Fund}
@@ -14,9 +14,8 @@ use Rattle.pvp_book.specs.Laws.{BothLegs, IsCovered, PayInsOnce}
 use Rattle.rtgs_node.specs.declared.event.NodeEvent.TheVariants as node
 use Rattle.rtgs_node.specs.declared.fault.NodeFault.TheVariants as fault
 use Rattle.rtgs_node.specs.Node.{Envelope, Node, account, has_done, has_returned, node_step}
-use Rattle.headline.specs.declared.step.Move.{Move}
 use Rattle.headline.specs.Bank.{Bank}
-use Rattle.headline.specs.Legal.{IsRun, IsLegal, LegalList}
+use Rattle.headline.specs.Legal.{LegalList, MomentOf}
 use Rattle.headline.specs.Way.{not_known, way}
 
 -- the entries of the book that a site holds: those of the rows that it has executed
@@ -71,23 +70,17 @@ abbrev pub DoneOnce : Bank → Type 0
 DoneOnce bank =
     (c : ℕ) (x : Node) (out : ℕ) → slice_get bank.nodes c ≡ Some x → count_by (λ o. o.out == out) x.pay_outs ≤ 1
 
--- at some moment of the list a site had executed a book in which this is an order of the currency
-pub record WasOrdered {setup : Setup} {f : ℕ} (list : LegalList setup f) (c : ℕ) (order : PaymentOrder) : Type 0 where
-  pub before : List Move
-  pub after : List Move
-  pub parts : before ++ after ≡ list.moves
-  pub bank : Bank
-  pub legal : IsLegal setup list.choose f list.cells before bank
-  pub rest : IsRun setup list.choose f bank after list.bank
+-- a site has executed a book in which this is an order of the currency
+pub record IsOrdered (setup : Setup) (bank : Bank) (c : ℕ) (order : PaymentOrder) : Type 0 where
   pub site : Site Cmd
   pub among : Contains bank.sites site
   pub ordered : Contains (orders (executed_book setup site) c) order
 
--- what a node has paid out was ordered
+-- what a node has paid out was ordered at some moment
 abbrev pub DoneWereOrdered : {setup : Setup} {f : ℕ} → LegalList setup f → Type 0
-DoneWereOrdered list =
+DoneWereOrdered {setup} list =
     (c : ℕ) (x : Node) (order : PaymentOrder) → slice_get list.bank.nodes c ≡ Some x → Contains x.pay_outs order
-    → WasOrdered list c order
+    → (moment : MomentOf list) × IsOrdered setup moment.then c order
 
 -- a currency's node has done the order of this number
 pub record IsDone (bank : Bank) (c out : ℕ) : Type 0 where

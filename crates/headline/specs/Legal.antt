@@ -1,5 +1,5 @@
 -- Which lists of moves are legal, and where they lead.
-use Rattle.std.specs.Prelude.{◌≡◌, ℕ, ◌+◌, ◌*◌, false, List, [], ◌∷◌, length, slice_get, slice_set, Some, None}
+use Rattle.std.specs.Prelude.{◌≡◌, ℕ, ◌+◌, ◌*◌, false, List, [], ◌∷◌, ◌++◌, length, slice_get, slice_set, Some, None}
 use Rattle.pvp_types.specs.declared.setup.Setup.{Setup}
 use Rattle.pvp_types.specs.declared.command.Cmd.{Cmd}
 use Rattle.pvp_types.specs.declared.command.Reply.{Reply as Answer}
@@ -91,6 +91,15 @@ module _ (setup : Setup) (choose : Choice Cmd) (f : ℕ) where
     pub all : length cells ≡ 2 * f + 1
     pub run : IsRun (opening_bank setup f cells) moves bank
 
+  -- a moment of a legal list: some first of its moves lead to this bank, and from there the others go on
+  pub record Moment (cells : List Boot) (moves : List Move) (bank : Bank) : Type 0 where
+    pub before : List Move
+    pub after : List Move
+    pub parts : before ++ after ≡ moves
+    pub then : Bank
+    pub legal : IsLegal cells before then
+    pub rest : IsRun then after bank
+
 -- WHAT THE HEADLINE IS SAID OF: any legal list, over a setup that breaks no rule, from cells of any value, where the
 -- choices that the sites' steps take as given are right; and the bank that it leads to.
 pub record LegalList (setup : Setup) (f : ℕ) : Type 0 where
@@ -107,3 +116,10 @@ pub record Continued {setup : Setup} {f : ℕ} (list : LegalList setup f) : Type
   pub moves : List Move
   pub bank : Bank
   pub run : IsRun setup list.choose f list.bank moves bank
+
+-- a moment of the list, and one of the list as it goes on
+abbrev pub MomentOf : {setup : Setup} {f : ℕ} → LegalList setup f → Type 0
+MomentOf {setup} {f} list = Moment setup list.choose f list.cells list.moves list.bank
+
+abbrev pub MomentUpTo : {setup : Setup} {f : ℕ} (early : LegalList setup f) → Continued early → Type 0
+MomentUpTo {setup} {f} early late = Moment setup early.choose f early.cells (early.moves ++ late.moves) late.bank

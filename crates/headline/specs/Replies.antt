@@ -1,10 +1,11 @@
 -- What clients were told, and what logs keep.
-use Rattle.std.specs.Prelude.{◌≡◌, ℕ, ◌<◌, ◌≤◌, ◌⊎◌, List, length, Contains, Some}
+use Rattle.std.specs.Prelude.{◌≡◌, ℕ, ◌<◌, ◌≤◌, ◌⊎◌, take, slice_get, Contains, Some}
 use Rattle.pvp_types.specs.declared.setup.Setup.{Setup}
 use Rattle.pvp_types.specs.declared.command.Cmd.{Cmd}
 use Rattle.pvp_types.specs.declared.command.Reply.{Reply as Answer}
 use Rattle.vr_types.specs.declared.event.Status.TheVariants.{Normal}
 use Rattle.vr_types.specs.declared.message.MsgOf.TheVariants.{Reply}
+use Rattle.vr_types.specs.Group.{actor_of}
 use Rattle.vr_types.specs.Site.{Site, executed_rows}
 use Rattle.vr_types.specs.Execution.{answer_at}
 use Rattle.agreement.specs.Promises.{row_at, IsRising, Begins}
@@ -13,6 +14,7 @@ use Rattle.pvp_book.specs.Answer.{Row}
 use Rattle.headline.specs.Machine.{book}
 use Rattle.rtgs_node.specs.Node.{Envelope}
 use Rattle.headline.specs.Bank.{Bank}
+use Rattle.headline.specs.Legal.{LegalList, Continued, MomentOf, MomentUpTo}
 
 -- in every log the numbers of each client rise
 abbrev pub LogsRise : Bank → Type 0
@@ -27,6 +29,28 @@ pub record WasTold (bank : Bank) (e : Envelope) (view number : ℕ) (answer : An
   pub posted : Contains bank.post e
   pub is : e.msg ≡ Reply view number answer
 
+-- The site that an envelope is from has executed, in this view, a row of the client that it is for, with this number; and
+-- this is the book's answer at that row's place.
+pub record HasAnswered (setup : Setup) (bank : Bank) (e : Envelope) (view number : ℕ) (answer : Answer) : Type 0 where
+  pub sender : ℕ
+  pub site : Site Cmd
+  pub is_there : slice_get bank.sites sender ≡ Some site
+  pub from : e.from ≡ actor_of sender
+  pub in_view : site.view ≡ view
+  pub place : ℕ
+  pub row : Row
+  pub counted : 1 ≤ place
+  pub executed : row_at (executed_rows site) place ≡ Some row
+  pub client : row.client ≡ e.to
+  pub named : row.number ≡ number
+  pub right : answer ≡ answer_at book (opening setup) (executed_rows site) place row
+
+-- each REPLY answers a row that its sender had executed by then
+abbrev pub AnsweredWereExecuted : {setup : Setup} {f : ℕ} → LegalList setup f → Type 0
+AnsweredWereExecuted {setup} list =
+    (e : Envelope) (view number : ℕ) (answer : Answer) → WasTold list.bank e view number answer
+    → (moment : MomentOf list) × HasAnswered setup moment.then e view number answer
+
 -- all REPLYs to one request of a client carry one answer
 abbrev pub AnswersAgree : Bank → Type 0
 AnswersAgree bank =
@@ -39,16 +63,16 @@ AnswersAreRight setup early late =
     → IsSiteOf early late x → 1 ≤ place → row_at (executed_rows x) place ≡ Some row → row.client ≡ e.to → row.number ≡ number
     → answer ≡ answer_at book (opening setup) (executed_rows x) place row
 
--- The rows up to that of a request that was answered in a view begin the log of every site that is normal in a later
--- view, at either moment.
-pub record Stays (early late : Bank) (e : Envelope) (view number : ℕ) : Type 0 where
-  pub rows : List Row
-  pub row : Row
-  pub last : row_at rows (length rows) ≡ Some row
-  pub client : row.client ≡ e.to
-  pub named : row.number ≡ number
-  pub begin : (x : Site Cmd) → IsSiteOf early late x → x.status ≡ Normal → view < x.view → Begins rows x.log
+-- What a site had executed up to the row that it answered in a view begins the log of every site that is normal in a
+-- later view, at either moment.
+pub record Stays {setup : Setup} {f : ℕ} (early : LegalList setup f) (late : Continued early)
+    (e : Envelope) (view number : ℕ) (answer : Answer) : Type 0 where
+  pub moment : MomentUpTo early late
+  pub by : HasAnswered setup moment.then e view number answer
+  pub begin : (x : Site Cmd) → IsSiteOf early.bank late.bank x → x.status ≡ Normal → view < x.view
+      → Begins (take by.place (executed_rows by.site)) x.log
 
-abbrev pub AnsweredRowsStay : Bank → Bank → Type 0
+abbrev pub AnsweredRowsStay : {setup : Setup} {f : ℕ} (early : LegalList setup f) → Continued early → Type 0
 AnsweredRowsStay early late =
-    (e : Envelope) (view number : ℕ) (answer : Answer) → WasTold late e view number answer → Stays early late e view number
+    (e : Envelope) (view number : ℕ) (answer : Answer) → WasTold late.bank e view number answer
+    → Stays early late e view number answer

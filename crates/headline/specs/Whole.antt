@@ -4,7 +4,7 @@ use Rattle.std.specs.Prelude.{ℕ}
 use Rattle.pvp_types.specs.declared.setup.Setup.{Setup}
 use Rattle.headline.specs.Legal.{LegalList, Continued}
 use Rattle.headline.specs.Headline.{RowsAgree, BooksAgree, PairsAreWhole, FiguresAreCovered, CreditedOnce, CreditsWerePaidIn, DoneOnce, DoneWereOrdered, PaidAreDone, EndedOnce, ReturnsAreReturned, DoneOrReturned, AccountsMatch, OrdersAreCovered, NeverShort}
-use Rattle.headline.specs.Replies.{LogsRise, AnswersAgree, AnswersAreRight, AnsweredRowsStay}
+use Rattle.headline.specs.Replies.{LogsRise, AnsweredWereExecuted, AnswersAgree, AnswersAreRight, AnsweredRowsStay}
 
 pub record Headline {setup : Setup} {f : ℕ} (early : LegalList setup f) (late : Continued early) : Type 0 where
   -- any two sites that ever executed command n executed the same one and held equal books there
@@ -29,6 +29,7 @@ pub record Headline {setup : Setup} {f : ℕ} (early : LegalList setup f) (late 
   pub never_short : NeverShort setup f early.bank
   -- what clients are told is one, right and lasting
   pub rise : LogsRise early.bank
+  pub executed : AnsweredWereExecuted early
   pub one_answer : AnswersAgree early.bank
   pub right_answer : AnswersAreRight setup early.bank late.bank
-  pub stay : AnsweredRowsStay early.bank late.bank
+  pub stay : AnsweredRowsStay early late

@@ -1,20 +1,22 @@
 -- What a turn of chaos does: two words of a generator choose it.
-use Rattle.std.specs.Prelude.{◌≡◌, ℕ, ◌+◌, ◌-◌, ◌*◌, ◌/◌, ◌%◌, ◌==◌, Bool, true, false, nat_le, nat_lt, if◌then◌else◌, length, slice_get, Option, Some, None}
+use Rattle.std.specs.Prelude.{◌≡◌, ℕ, ◌+◌, ◌-◌, ◌*◌, ◌/◌, ◌%◌, ◌==◌, ◌<◌, Bool, false, nat_lt, if◌then◌else◌, List, [], ◌∷◌, ◌++◌, length, replicate, slice_get, Option, unwrap_or}
 use Rattle.std.specs.List.{list_all, range_with_len}
 use Rattle.std.specs.Option.{option_map_or}
 use Rattle.pvp_types.specs.declared.setup.Setup.{Setup}
 use Rattle.pvp_types.specs.declared.command.Cmd.{Cmd}
 use Rattle.pvp_types.specs.declared.command.Cmd.TheVariants.{Instruct, Rescind, Settle, PayOut}
-use Rattle.vr_types.specs.declared.cell.Boot.{Boot}
+use Rattle.vr_types.specs.declared.cell.BootCell.{Ghosts as Cell}
 use Rattle.vr_types.specs.Site.{is_normal}
 use Rattle.headline.specs.declared.step.Step.{Step}
 use Rattle.headline.specs.declared.step.Step.TheVariants.{Deliver, PayIn, Submit, Beat, Timer, Crash, Restart}
 use Rattle.rand_pcg.specs.Lcg.{Lcg, started, increment_of}
 use Rattle.rand_pcg.specs.Pcg.{multiplier_64, pcg32}
+use Rattle.pvp_world.specs.declared.fault.WorldFault.{WorldFault}
 use Rattle.pvp_world.specs.World.{Shown as World}
 use Rattle.pvp_play.specs.declared.chaos.Act.{Act}
 use Rattle.pvp_play.specs.declared.chaos.Act.TheVariants.{Drains, Skips, Tries, Rests}
-use Rattle.pvp_play.specs.Player.{Position, Tried, Turns, skipped}
+use Rattle.pvp_play.specs.Player.{Position, skipped}
+use Rattle.pvp_play.specs.Turns.{Turns}
 use Rattle.pvp_play.specs.Player as player
 
 abbrev pub currency_count : Setup → ℕ
@@ -93,14 +95,8 @@ any_instruction setup b =
 abbrev pub any_rescission : Setup → ℕ → Step
 any_rescission setup b = let reference = any_reference b in Submit (on_side setup reference (b % 2)) (Rescind reference)
 
--- the step of the command of a turn: which is chosen by the first word, and what it says by the second
-abbrev pub any_request : Setup → ℕ → ℕ → Step
-any_request setup turn b =
-    if turn == 24 then any_pay_in setup b
-    else if turn == 25 then any_pay_out setup b
-    else if turn == 26 then any_instruction setup b
-    else if turn == 27 then any_rescission setup b
-    else Submit 0 (Settle (1 + (b % 8)))
+abbrev pub any_settlement : ℕ → Step
+any_settlement b = Submit 0 (Settle (1 + (b % 8)))
 
 -- a site's timer runs out in one of eight such turns
 abbrev pub any_timer : Setup → ℕ → Act
@@ -110,42 +106,62 @@ any_timer setup b = if (b % 8) == 0 then Tries (Timer ((b / 8) % setup.sites)) e
 abbrev pub any_crash : {B : Type 0} → World B → ℕ → Act
 any_crash world b = if are_normal world then Tries (Crash (b % world.setup.sites)) else Rests
 
--- what is done to a site
-abbrev pub any_trouble : {B : Type 0} → World B → ℕ → ℕ → Act
-any_trouble world turn b =
-    if turn == 29 then any_timer world.setup b
-    else if turn == 30 then any_crash world b
-    else Tries (Restart (b % world.setup.sites))
+-- WHAT EACH OF 32 TURNS DOES
+abbrev pub table : {B : Type 0} → World B → ℕ → List Act
+table world b =
+    replicate 16 Drains  -- 0 to 15
+    ++ replicate 4 (any_delivery world b)  -- 16 to 19
+    ++ Skips ∷ []  -- 20
+    ++ replicate 3 (Tries (Beat (any_actor world.setup b)))  -- 21 to 23
+    ++ Tries (any_pay_in world.setup b)  -- 24
+    ∷ Tries (any_pay_out world.setup b)  -- 25
+    ∷ Tries (any_instruction world.setup b)  -- 26
+    ∷ Tries (any_rescission world.setup b)  -- 27
+    ∷ Tries (any_settlement b)  -- 28
+    ∷ any_timer world.setup b  -- 29
+    ∷ any_crash world b  -- 30
+    ∷ Tries (Restart (b % world.setup.sites))  -- 31
+    ∷ []
 
--- what a turn does: of 32, half drain, four deliver anything, one skips, three let an actor beat
+-- the first word chooses the turn
 abbrev pub act_of : {B : Type 0} → World B → ℕ → ℕ → Act
-act_of world a b =
-    let turn = a % 32 in
-    if nat_lt turn 16 then Drains
-    else if nat_lt turn 20 then any_delivery world b
-    else if nat_lt turn 21 then Skips
-    else if nat_lt turn 24 then Tries (Beat (any_actor world.setup b))
-    else if nat_lt turn 29 then Tries (any_request world.setup turn b)
-    else any_trouble world turn b
+act_of world a b = unwrap_or (slice_get (table world b) (a % 32)) Rests
 
 -- it is done
-abbrev pub Does : {B : Type 0} → (B → Boot) → Act → Position B → Position B → Type 0
-Does held Drains old new = player.Drains held old new
-Does held Skips old new = new ≡ skipped old 1
-Does held (Tries step) old new = Tried held step old new
-Does held Rests old new = new ≡ old
+abbrev pub Does : {B : Type 0} → Cell B → Act → Position B → Position B → Type 0
+Does c Drains old new = player.Drains c 1 old new
+Does c Skips old new = new ≡ skipped old 1
+Does c (Tries step) old new = (told : Option WorldFault) × player.Tries c old new step told
+Does c Rests old new = new ≡ old
+
+-- memory was refused for it
+abbrev pub Stops : {B : Type 0} → Cell B → Act → Position B → Position B → Type 0
+Stops c Drains old new = player.DrainStops c 1 old new
+Stops c Skips old new = ⊥
+Stops c (Tries step) old new = player.Wants old new step
+Stops c Rests old new = ⊥
+
+-- what the next two words of the generator choose
+abbrev pub next_act : {B : Type 0} → World B → Lcg → Act
+next_act world words = let first = pcg32 words in act_of world first.0 (pcg32 first.1).0
 
 -- A TURN OF CHAOS takes two words of the generator
-abbrev pub TakesTurn : {B : Type 0} → (B → Boot) → Lcg × Position B → Lcg × Position B → Type 0
-TakesTurn held (words, old) (left, new) =
-    let first = pcg32 words in
-    let second = pcg32 first.1 in
-    (left ≡ second.1) × Does held (act_of old.world first.0 second.0) old new
+abbrev pub TakesTurn : {B : Type 0} → Cell B → Lcg × Position B → Lcg × Position B → Type 0
+TakesTurn c (words, old) (left, new) = (left ≡ (pcg32 (pcg32 words).1).1) × Does c (next_act old.world words) old new
 
 -- the generator of a seed, of stream 1
 abbrev pub words_of : ℕ → Lcg
 words_of seed = started 64 multiplier_64 seed (increment_of 64 1)
 
 -- SO MANY TURNS OF CHAOS
-abbrev pub Rages : {B : Type 0} → (B → Boot) → ℕ → ℕ → Position B → Position B → Type 0
-Rages held seed turns old new = (left : Lcg) × Turns (TakesTurn held) turns (words_of seed, old) (left, new)
+abbrev pub Rages : {B : Type 0} → Cell B → ℕ → ℕ → Position B → Position B → Type 0
+Rages c seed turns old new = (left : Lcg) × Turns (TakesTurn c) turns (words_of seed, old) (left, new)
+
+-- Memory was refused for one of them, after those before it.
+pub record RageStops {B : Type 0} (c : Cell B) (seed turns : ℕ) (old new : Position B) : Type 0 where
+  pub taken : ℕ
+  pub few : taken < turns
+  pub words : Lcg
+  pub mid : Position B
+  pub turns_taken : Turns (TakesTurn c) taken (words_of seed, old) (words, mid)
+  pub stops : Stops c (next_act mid.world words) mid new

@@ -1,4 +1,6 @@
 pub mod BooksText
+pub mod Cells
 pub mod Chaos
 pub mod Lines
 pub mod Player
+pub mod Turns

@@ -1,16 +1,23 @@
 -- What the lines of a script play, and what they print.
-use Rattle.std.specs.Prelude.{◌≡◌, ◌≢◌, ◌⊎◌, ℕ, ◌+◌, ◌*◌, ◌<◌, List, [], ◌∷◌, ◌++◌, length, take, replicate, codes, decimal, Option, Some, None, Result, Ok, Err}
+use Rattle.std.specs.Prelude.{◌≡◌, ◌≢◌, ◌⊎◌, ℕ, ◌+◌, ◌*◌, List, [], ◌∷◌, ◌++◌, take, replicate, slice_get, codes, decimal, Option, Some, None, Result, Ok, Err}
 use Rattle.std.specs.Io.KnownBytes.{Appends}
 use Rattle.pvp_types.specs.declared.setup.Setup.{Setup}
+use Rattle.pvp_types.specs.declared.command.Cmd.{Cmd}
 use Rattle.pvp_types.specs.Setup.{faults}
 use Rattle.vr_types.specs.declared.cell.Boot.{Boot}
+use Rattle.vr_types.specs.declared.cell.BootCell.{Ghosts as Cell}
 use Rattle.vr_types.specs.declared.cell.MemCell.{MemCell}
+use Rattle.vr_types.specs.declared.event.SiteFault.TheVariants.{CellFault}
+use Rattle.vr_types.specs.contracts.cell.MemCellBootCell.TheImpl.{ghosts as memory}
 use Rattle.vr_types.specs.Cell.{new_cell}
 use Rattle.vr_types.specs.MemoryCell.{held_by}
+use Rattle.vr_site.specs.Replica.{Shown as Replica}
 use Rattle.headline.specs.declared.step.Step.TheVariants as steps
 use Rattle.pvp_world.specs.declared.fault.WorldFault.{WorldFault}
+use Rattle.pvp_world.specs.declared.fault.WorldFault.TheVariants.{Site as OfSite}
 use Rattle.pvp_world.specs.Fault.{fault_text}
 use Rattle.pvp_world.specs.World.{Shown as World, IsProved}
+use Rattle.pvp_world.specs.Steps.{AreReliable}
 use Rattle.pvp_text.specs.declared.book.RunFault.{RunFault}
 use Rattle.pvp_text.specs.declared.book.RunFault.TheVariants as run
 use Rattle.pvp_text.specs.declared.script.Line.{Line}
@@ -18,31 +25,51 @@ use Rattle.pvp_text.specs.declared.script.LineFault.{LineFault}
 use Rattle.pvp_text.specs.declared.script.Statement.{Statement}
 use Rattle.pvp_text.specs.declared.script.Statement.TheVariants.{Do, Print, PayIn, Close, Beat, Timer, Crash, Restart, Deliver, Drain, Skip, Cut, Heal, Chaos, Rest}
 use Rattle.pvp_text.specs.BookText.{ScriptReading, Tells, IsNotBegun}
+use Rattle.pvp_play.specs.declared.cells.Fail.{Fail}
 use Rattle.pvp_play.specs.BooksText.{books_text}
-use Rattle.pvp_play.specs.Chaos.{Rages}
-use Rattle.pvp_play.specs.Player.{Position, beginning, Tries, Turns, Drains, skipped, cut_off, healed, with_cut, unknown_actor}
+use Rattle.pvp_play.specs.Cells.{IsArmed}
+use Rattle.pvp_play.specs.Chaos.{Rages, RageStops}
+use Rattle.pvp_play.specs.Player.{Position, beginning, Tries, Wants, Drains, DrainStops, skipped, cut_off, healed, with_cut, unknown_actor, CutStops}
 
 -- nothing was refused
 abbrev pub IsTaken : Option WorldFault → Type 0
 IsTaken told = told ≡ None
 
 -- WHAT A LINE DOES, and why it was refused, if it was
-abbrev pub Does : {B : Type 0} → (B → Boot) → Statement → Position B → Position B → Option WorldFault → Type 0
-Does held (Do client cmd) old new told = Tries held old new (steps.Submit client cmd) told
-Does held Print old new told = (new ≡ old) × IsTaken told
-Does held (PayIn member ccy amt) old new told = Tries held old new (steps.PayIn ccy member amt) told
-Does held (Close member ccy) old new told = Tries held old new (steps.Close ccy member) told
-Does held (Beat actor) old new told = Tries held old new (steps.Beat actor) told
-Does held (Timer site) old new told = Tries held old new (steps.Timer site) told
-Does held (Crash site) old new told = Tries held old new (steps.Crash site) told
-Does held (Restart site) old new told = Tries held old new (steps.Restart site) told
-Does held (Deliver envelope) old new told = Tries held old new (steps.Deliver envelope) told
-Does held (Drain turns) old new told = Turns (Drains held) turns old new × IsTaken told
-Does held (Skip envelopes) old new told = (new ≡ skipped old envelopes) × IsTaken told
-Does held (Cut actor) old new told = (new ≡ with_cut old actor (cut_off old.cut actor)) × (told ≡ unknown_actor old actor)
-Does held (Heal actor) old new told = (new ≡ with_cut old actor (healed old.cut actor)) × (told ≡ unknown_actor old actor)
-Does held (Chaos seed turns) old new told = Rages held seed turns old new × IsTaken told
-Does held (Rest milliseconds) old new told = (new ≡ old) × IsTaken told
+abbrev pub Does : {B : Type 0} → Cell B → Statement → Position B → Position B → Option WorldFault → Type 0
+Does c (Do client cmd) old new told = Tries c old new (steps.Submit client cmd) told
+Does c Print old new told = (new ≡ old) × IsTaken told
+Does c (PayIn member ccy amt) old new told = Tries c old new (steps.PayIn ccy member amt) told
+Does c (Close member ccy) old new told = Tries c old new (steps.Close ccy member) told
+Does c (Beat actor) old new told = Tries c old new (steps.Beat actor) told
+Does c (Timer site) old new told = Tries c old new (steps.Timer site) told
+Does c (Crash site) old new told = Tries c old new (steps.Crash site) told
+Does c (Restart site) old new told = Tries c old new (steps.Restart site) told
+Does c (Deliver envelope) old new told = Tries c old new (steps.Deliver envelope) told
+Does c (Drain turns) old new told = Drains c turns old new × IsTaken told
+Does c (Skip envelopes) old new told = (new ≡ skipped old envelopes) × IsTaken told
+Does c (Cut actor) old new told = (new ≡ with_cut old actor (cut_off old.cut actor)) × (told ≡ unknown_actor old actor)
+Does c (Heal actor) old new told = (new ≡ with_cut old actor (healed old.cut actor)) × (told ≡ unknown_actor old actor)
+Does c (Chaos seed turns) old new told = Rages c seed turns old new × IsTaken told
+Does c (Rest milliseconds) old new told = (new ≡ old) × IsTaken told
+
+-- memory was refused for what a line does
+abbrev pub Stops : {B : Type 0} → Cell B → Statement → Position B → Position B → Type 0
+Stops c (Do client cmd) old new = Wants old new (steps.Submit client cmd)
+Stops c Print old new = ⊥
+Stops c (PayIn member ccy amt) old new = Wants old new (steps.PayIn ccy member amt)
+Stops c (Close member ccy) old new = Wants old new (steps.Close ccy member)
+Stops c (Beat actor) old new = Wants old new (steps.Beat actor)
+Stops c (Timer site) old new = Wants old new (steps.Timer site)
+Stops c (Crash site) old new = Wants old new (steps.Crash site)
+Stops c (Restart site) old new = Wants old new (steps.Restart site)
+Stops c (Deliver envelope) old new = Wants old new (steps.Deliver envelope)
+Stops c (Drain turns) old new = DrainStops c turns old new
+Stops c (Skip envelopes) old new = ⊥
+Stops c (Cut actor) old new = CutStops old new actor
+Stops c (Heal actor) old new = ⊥
+Stops c (Chaos seed turns) old new = RageStops c seed turns old new
+Stops c (Rest milliseconds) old new = ⊥
 
 -- WHAT IT PRINTS: what was refused, and by `print` the books
 
@@ -67,11 +94,18 @@ print_text held (Heal actor) world = []
 print_text held (Chaos seed turns) world = []
 print_text held (Rest milliseconds) world = []
 
--- A LINE IS PLAYED
-abbrev pub PlaysLine : {B : Type 0} → (B → Boot) → Line → Position B → Position B → List ℕ → Type 0
-PlaysLine held line old new text =
-    (told : Option WorldFault) × Does held line.statement old new told
-    × (text ≡ refused_text line.number told ++ print_text held line.statement new.world)
+-- A LINE IS PLAYED. Over cells whose saves do not fail it tells no failed save, and leaves them so.
+pub record PlaysLine {B : Type 0} (c : Cell B) (line : Line) (old new : Position B) (text : List ℕ) : Type 0 where
+  pub told : Option WorldFault
+  pub does : Does c line.statement old new told
+  pub prints : text ≡ refused_text line.number told ++ print_text c.held line.statement new.world
+  pub reliable : AreReliable c old.world → AreReliable c new.world × (told ≢ Some (OfSite CellFault))
+
+-- MEMORY WAS REFUSED FOR A LINE: for what it does, or for what it then prints
+abbrev pub LineStops : {B : Type 0} → Cell B → Line → Position B → Position B → Type 0
+LineStops c line old new =
+    Stops c line.statement old new
+    ⊎ ((told : Option WorldFault) × Does c line.statement old new told × ((told ≢ None) ⊎ (line.statement ≡ Print)))
 
 -- a line is played, and others after it
 pub record PlaysBoth {B : Type 0} (First Others : Position B → Position B → List ℕ → Type 0) (old new : Position B) (text : List ℕ) : Type 0 where
@@ -83,41 +117,56 @@ pub record PlaysBoth {B : Type 0} (First Others : Position B → Position B → 
   pub whole : text ≡ before ++ after
 
 -- LINES ARE PLAYED one after another
-abbrev pub Plays : {B : Type 0} → (B → Boot) → List Line → Position B → Position B → List ℕ → Type 0
-Plays held [] old new text = (new ≡ old) × (text ≡ [])
-Plays held (line ∷ lines) old new text = PlaysBoth (PlaysLine held line) (Plays held lines) old new text
+abbrev pub Plays : {B : Type 0} → Cell B → List Line → Position B → Position B → List ℕ → Type 0
+Plays c [] old new text = (new ≡ old) × (text ≡ [])
+Plays c (line ∷ lines) old new text = PlaysBoth (PlaysLine c line) (Plays c lines) old new text
 
--- Lines were played, and what they print was appended. Where they lead the headline holds.
-pub record ArePlayed {B : Type 0} (held : B → Boot) (first : Position B) (lines : List Line) (old new : Option (List ℕ)) : Type 0 where
-  pub end : Position B
+-- Lines were played up to here, and what they print was appended. Here the headline holds, and cells whose saves do not
+-- fail are so still.
+pub record ArePlayed {B : Type 0} (c : Cell B) (first : Position B) (lines : List Line) (end : Position B) (old new : Option (List ℕ)) : Type 0 where
   pub text : List ℕ
-  pub plays : Plays held lines first end text
+  pub plays : Plays c lines first end text
   pub written : Appends old new text
-  pub headline : IsProved held end.world
+  pub headline : IsProved c.held end.world
+  pub reliable : AreReliable c first.world → AreReliable c end.world
 
--- How a run of lines ends: with what all of them print; or with what the first of them print, where memory was refused
--- for the next; or at a line that the writer failed to take. How much was written by then is not said.
-abbrev pub LinesEnd : {B : Type 0} → (B → Boot) → Position B → List Line → Result (Unit {0}) RunFault → Option (List ℕ) → Option (List ℕ) → Type 0
-LinesEnd held first lines (Ok _) old new = ArePlayed held first lines old new
-LinesEnd held first lines (Err run.NoMemory) old new = (n : ℕ) × (n < length lines) × ArePlayed held first (take n lines) old new
-LinesEnd held first lines (Err run.Output) old new = lines ≢ []
-LinesEnd held first lines (Err (run.Line fault)) old new = ⊥
+-- Memory was refused for a line: those before it were played, and what they print was appended.
+pub record AreStopped {B : Type 0} (c : Cell B) (first : Position B) (lines : List Line) (last : Position B) (old new : Option (List ℕ)) : Type 0 where
+  pub count : ℕ
+  pub line : Line
+  pub is_next : slice_get lines count ≡ Some line
+  pub between : Position B
+  pub played : ArePlayed c first (take count lines) between old new
+  pub stops : LineStops c line between last
 
--- A PLAYER OF A NEW WORLD: one of the setup over a cell for each site that was never saved, where nothing was done
-pub record IsOpening (made_from : Setup) (p : Position MemCell) : Type 0 where
+-- How a run of lines ends, and where: with what all of them print; or with what the first of them print, where memory
+-- was refused for the next; or at a line that the writer failed to take. How much was written by then is not said.
+abbrev pub LinesEnd : {B : Type 0} → Cell B → Position B → List Line → Position B → Result (Unit {0}) RunFault → Option (List ℕ) → Option (List ℕ) → Type 0
+LinesEnd c first lines last (Ok _) old new = ArePlayed c first lines last old new
+LinesEnd c first lines last (Err run.NoMemory) old new = AreStopped c first lines last old new
+LinesEnd c first lines last (Err run.Output) old new = lines ≢ []
+LinesEnd c first lines last (Err (run.Line fault)) old new = ⊥
+
+-- A PLAYER OF A NEW WORLD: one of the setup over a cell for each site that was never saved, armed where a save of it is to
+-- fail, where nothing was done
+pub record IsOpening (made_from : Setup) (fails : List Fail) (p : Position MemCell) : Type 0 where
   pub setup : p.world.setup ≡ made_from
   pub cells : p.world.opening ≡ replicate (2 * faults made_from + 1) new_cell
+  pub armed : (i : ℕ) (v : Replica Cmd Setup MemCell) → slice_get p.world.sites i ≡ Some v → IsArmed fails i v.cell
   pub trail : p.world.trail ≡ []
   pub headline : IsProved held_by p.world
   pub begins : p ≡ beginning p.world
+  -- where none is to fail, no save does
+  pub reliable : fails ≡ [] → AreReliable memory p.world
 
 -- how a play of what a script was read as ends: a faulty one leaves the writer as it was
-abbrev pub PlaysOver : {W : Type 0} → (W → Option (List ℕ)) → Setup → ScriptReading → Result (List Line) LineFault
+abbrev pub PlaysOver : {W : Type 0} → (W → Option (List ℕ)) → Setup → List Fail → ScriptReading → Result (List Line) LineFault
     → Result (Unit {0}) RunFault → W → W → Type 0
-PlaysOver contents setup read (Ok lines) result old new =
-    IsNotBegun result old new ⊎ ((first : Position MemCell) × IsOpening setup first × LinesEnd held_by first lines result (contents old) (contents new))
-PlaysOver contents setup read (Err fault) result old new = Tells read fault result × (new ≡ old)
+PlaysOver contents setup fails read (Ok lines) result old new =
+    IsNotBegun result old new
+    ⊎ ((first last : Position MemCell) × IsOpening setup fails first × LinesEnd memory first lines last result (contents old) (contents new))
+PlaysOver contents setup fails read (Err fault) result old new = Tells read fault result × (new ≡ old)
 
 -- HOW A PLAY of a script ends
-abbrev pub PlayEnds : {W : Type 0} → (W → Option (List ℕ)) → Setup → ScriptReading → Result (Unit {0}) RunFault → W → W → Type 0
-PlayEnds contents setup read result old new = PlaysOver contents setup read (read None) result old new
+abbrev pub PlayEnds : {W : Type 0} → (W → Option (List ℕ)) → Setup → List Fail → ScriptReading → Result (Unit {0}) RunFault → W → W → Type 0
+PlayEnds contents setup fails read result old new = PlaysOver contents setup fails read (read None) result old new

@@ -1,22 +1,15 @@
--- What a script plays in a world, line by line, and what its lines print.
-use Rattle.std.specs.Prelude.{◌≡◌, ◌≢◌, ℕ, zero, suc, ◌+◌, ◌==◌, ◌||◌, ◌<◌, Bool, not, List, [], ◌∷◌, ◌++◌, length, take, drop, filter, min, replicate, codes, decimal, if◌then◌else◌, Option, Some, None, Result, Ok, Err}
-use Rattle.std.specs.List.{list_any, position_from}
-use Rattle.std.specs.Io.KnownBytes.{Appends}
-use Rattle.pvp_types.specs.declared.setup.Setup.{Setup}
-use Rattle.pvp_types.specs.Setup.{faults}
-use Rattle.vr_types.specs.declared.cell.Boot.{Boot}
-use Rattle.vr_types.specs.declared.cell.MemCell.{MemCell}
-use Rattle.vr_types.specs.Cell.{new_cell}
-use Rattle.vr_types.specs.MemoryCell.{held_by}
+-- What a player shows, and what its calls do in a world.
+use Rattle.std.specs.Prelude.{◌≡◌, ◌≢◌, ℕ, ◌+◌, ◌==◌, ◌||◌, ◌<◌, Bool, true, false, not, List, [], ◌∷◌, ◌++◌, length, take, drop, filter, fold, min, if◌then◌else◌, Option, Some, None, Result, Ok, Err}
+use Rattle.std.specs.List.{list_any, enumerate_from, filter_map}
+use Rattle.vr_types.specs.declared.cell.BootCell.{Ghosts as Cell}
 use Rattle.rtgs_node.specs.Node.{Envelope}
 use Rattle.headline.specs.declared.step.Step.{Step}
 use Rattle.headline.specs.declared.step.Step.TheVariants as steps
 use Rattle.pvp_world.specs.declared.fault.WorldFault.{WorldFault}
 use Rattle.pvp_world.specs.declared.fault.WorldFault.TheVariants.{NoSuchActor, NoMemory}
 use Rattle.pvp_world.specs.declared.report.Report.{Report}
-use Rattle.pvp_world.specs.Fault.{fault_text}
 use Rattle.pvp_world.specs.World.{Shown as World}
-use Rattle.pvp_world.specs.Steps.{Applies, has_number}
+use Rattle.pvp_world.specs.Steps.{Applies, TellsFailures, IsTurn, has_number}
 
 -- WHAT A PLAYER SHOWS
 pub record Position (B : Type 0) : Type 0 where
@@ -35,18 +28,24 @@ abbrev pub refusal_in : Result Report WorldFault → Option WorldFault
 refusal_in (Ok report) = None
 refusal_in (Err fault) = Some fault
 
--- The world did with it what it does, and did not want for memory, which would end the play. All else stays.
-pub record Tries {B : Type 0} (held : B → Boot) (old new : Position B) (step : Step) (told : Option WorldFault) : Type 0 where
+-- the world did with it what it does, and did not want for memory, which would end the play
+pub record TriesIn {B : Type 0} (c : Cell B) (old new : World B) (step : Step) (told : Option WorldFault) : Type 0 where
   pub result : Result Report WorldFault
-  pub applies : Applies held old.world new.world step result
+  pub applies : Applies c.held old new step result
+  pub tells : TellsFailures c old new step result
   pub is_told : told ≡ refusal_in result
   pub had_memory : told ≢ Some NoMemory
+
+-- the player tries it, and all else stays
+pub record Tries {B : Type 0} (c : Cell B) (old new : Position B) (step : Step) (told : Option WorldFault) : Type 0 where
+  pub tried : TriesIn c old.world new.world step told
   pub cursor : new.cursor ≡ old.cursor
   pub cut : new.cut ≡ old.cut
 
--- so it was, whether it was refused or not
-abbrev pub Tried : {B : Type 0} → (B → Boot) → Step → Position B → Position B → Type 0
-Tried held step old new = (told : Option WorldFault) × Tries held old new step told
+-- memory was refused for it: the envelope and the actor are there, and all is as it was
+pub record Wants {B : Type 0} (old new : Position B) (step : Step) : Type 0 where
+  pub there : IsTurn old.world step true
+  pub stays : new ≡ old
 
 -- THE CURSOR
 
@@ -57,9 +56,13 @@ is_among actors actor = list_any (λ a. a == actor) actors
 abbrev pub is_open : List ℕ → Envelope → Bool
 is_open cut envelope = not (is_among cut envelope.from || is_among cut envelope.to)
 
--- the number of the next such envelope after the cursor
-abbrev pub next_open : {B : Type 0} → Position B → Option ℕ
-next_open p = position_from (is_open p.cut) (p.cursor + 1) (drop p.cursor p.world.post)
+-- the number of an envelope that is open
+abbrev pub open_number : List ℕ → ℕ × Envelope → Option ℕ
+open_number cut (number, envelope) = if is_open cut envelope then Some number else None
+
+-- the numbers of the open envelopes after the cursor, in order
+abbrev pub open_after : List ℕ → ℕ → List Envelope → List ℕ
+open_after cut cursor post = filter_map (open_number cut) (enumerate_from (cursor + 1) (drop cursor post))
 
 abbrev pub with_cursor : {B : Type 0} → Position B → ℕ → Position B
 with_cursor p number = record p { cursor = number }
@@ -68,18 +71,35 @@ with_cursor p number = record p { cursor = number }
 abbrev pub skipped : {B : Type 0} → Position B → ℕ → Position B
 skipped p n = with_cursor p (min (p.cursor + n) (length p.world.post))
 
--- one after another, so many turns
-abbrev pub Turns : {S : Type 0} → (S → S → Type 0) → ℕ → S → S → Type 0
-Turns Turn zero old new = new ≡ old
-Turns {S} Turn (suc n) old new = (mid : S) × Turns Turn n old mid × Turn mid new
+-- envelopes are delivered one after another, whether that is refused or not
+abbrev pub AreDelivered : {B : Type 0} → Cell B → List ℕ → World B → World B → Type 0
+AreDelivered c [] old new = new ≡ old
+AreDelivered {B} c (number ∷ numbers) old new =
+    (mid : World B) × ((told : Option WorldFault) × TriesIn c old mid (steps.Deliver number) told) × AreDelivered c numbers mid new
 
--- the cursor moves to the next envelope that is not held up, and that is delivered; where none is left, to the post's end
-abbrev pub DrainsTo : {B : Type 0} → (B → Boot) → Position B → Position B → Option ℕ → Type 0
-DrainsTo held old new None = new ≡ with_cursor old (length old.world.post)
-DrainsTo held old new (Some number) = Tried held (steps.Deliver number) (with_cursor old number) new
+-- where the cursor stands after these were delivered: at the last of them, and at the post's end where they are too few
+abbrev pub cursor_after : ℕ → List ℕ → ℕ → ℕ → ℕ
+cursor_after turns delivered cursor end = if length delivered == turns then fold (λ before number. number) cursor delivered else end
 
-abbrev pub Drains : {B : Type 0} → (B → Boot) → Position B → Position B → Type 0
-Drains held old new = DrainsTo held old new (next_open old)
+-- THE NEXT OPEN ENVELOPES ARE DELIVERED, so many at most, in order: those of the post as it then is, which what they lead
+-- to may have made longer
+pub record Drains {B : Type 0} (c : Cell B) (turns : ℕ) (old new : Position B) : Type 0 where
+  pub delivered : List ℕ
+  pub which : delivered ≡ take turns (open_after old.cut old.cursor new.world.post)
+  pub are_delivered : AreDelivered c delivered old.world new.world
+  pub cursor : new.cursor ≡ cursor_after turns delivered old.cursor (length new.world.post)
+  pub cut : new.cut ≡ old.cut
+
+-- Memory was refused for one of them: those before it are delivered, and the cursor stands at the last of these.
+pub record DrainStops {B : Type 0} (c : Cell B) (turns : ℕ) (old new : Position B) : Type 0 where
+  pub delivered : List ℕ
+  pub number : ℕ
+  pub which : delivered ++ number ∷ [] ≡ take (length delivered + 1) (open_after old.cut old.cursor new.world.post)
+  pub few : length delivered < turns
+  pub are_delivered : AreDelivered c delivered old.world new.world
+  pub there : IsTurn new.world (steps.Deliver number) true
+  pub cursor : new.cursor ≡ fold (λ before number. number) old.cursor delivered
+  pub cut : new.cut ≡ old.cut
 
 -- THE CUTS. What is cut off twice, or heals unhurt, stays as it is; an unknown actor is refused.
 
@@ -95,3 +115,9 @@ with_cut p actor cut = if has_number p.world actor then record p { cut = cut } e
 
 abbrev pub unknown_actor : {B : Type 0} → Position B → ℕ → Option WorldFault
 unknown_actor p actor = if has_number p.world actor then None else Some NoSuchActor
+
+-- Memory was refused to cut an actor off: it is there and not cut off yet, and all is as it was.
+pub record CutStops {B : Type 0} (old new : Position B) (actor : ℕ) : Type 0 where
+  pub there : has_number old.world actor ≡ true
+  pub not_cut : is_among old.cut actor ≡ false
+  pub stays : new ≡ old

@@ -1,7 +1,7 @@
 //! Chaos: turns that the words of a generator choose.
-ghost use Rattle.std.specs.Prelude.{◌≡◌, ◌≤◌, ◌<◌, ◌%◌, length, OnOk};
+ghost use Rattle.std.specs.Prelude.{◌≡◌, ◌≤◌, ◌<◌, ◌%◌, length, OnOk, OnErr};
 ghost use Rattle.pvp_types.specs.Setup.{IsValid};
-ghost use Rattle.pvp_play.specs.Chaos.{currency_count, any_member, any_currency, any_actor, any_reference, on_side, instruction, is_normal_at, are_normal, any_delivery, any_pay_in, any_pay_out, any_instruction, any_rescission, any_request, any_timer, any_crash, any_trouble, act_of, Does, Rages};
+ghost use Rattle.pvp_play.specs.Chaos.{currency_count, any_member, any_currency, any_actor, any_reference, on_side, instruction, is_normal_at, are_normal, any_delivery, any_pay_in, any_pay_out, any_instruction, any_rescission, any_settlement, any_timer, any_crash, act_of, Does, Stops, Rages, RageStops};
 
 use crate::player::Player;
 use headline::Step;
@@ -15,7 +15,7 @@ use vr_types::{BootCell, Status};
 /// What a turn of chaos does.
 #[derive(Clone, Copy, Debug, PartialEq, Eq)]
 pub enum Act {
-    /// The next envelope that no cut holds up is delivered.
+    /// The next envelope that no cut holds up is delivered, if there is one.
     Drains,
     /// An envelope is passed over.
     Skips,
@@ -31,7 +31,8 @@ pub fn rage<C: BootCell>(
     seed: u64,
     turns: u32,
 ) -> Result<(), AllocError>
-    ensures { OnOk result (Rages C.held seed turns player.old player.new) }
+    ensures raged { OnOk result (Rages C.BootCell seed turns player.old player.new) }
+    ensures stopped { OnErr result (RageStops C.BootCell seed turns player.old player.new) }
 {
     let mut words = Lcg64Xsh32::new(seed, 1);
     for turn in 0..turns {
@@ -45,13 +46,11 @@ pub fn rage<C: BootCell>(
 
 /// Does what a turn does. `Err` where memory is refused.
 fn do_act<C: BootCell>(alloc: Global, player: &mut Player<C>, act: Act) -> Result<(), AllocError>
-    ensures { OnOk result (Does C.held act player.old player.new) }
+    ensures done { OnOk result (Does C.BootCell act player.old player.new) }
+    ensures stopped { OnErr result (Stops C.BootCell act player.old player.new) }
 {
     match act {
-        Act::Drains => {
-            let _there = player.drain_one(alloc)?;
-            Ok(())
-        }
+        Act::Drains => player.drain(alloc, 1),
         Act::Skips => {
             player.skip(1);
             Ok(())
@@ -74,8 +73,14 @@ fn act_of<C: BootCell>(world: &World<C>, a: u32, b: u32) -> Act
         16..=19 => any_delivery(world, b),
         20 => Act::Skips,
         21..=23 => Act::Tries(Step::Beat(any_actor(setup, b))),
-        turn @ 24..=28 => Act::Tries(any_request(setup, turn, b)),
-        turn => any_trouble(world, turn, b),
+        24 => Act::Tries(any_pay_in(setup, b)),
+        25 => Act::Tries(any_pay_out(setup, b)),
+        26 => Act::Tries(any_instruction(setup, b)),
+        27 => Act::Tries(any_rescission(setup, b)),
+        28 => Act::Tries(any_settlement(b)),
+        29 => any_timer(setup, b),
+        30 => any_crash(world, b),
+        _ => Act::Tries(Step::Restart(any_site(setup, b))),
     }
 }
 
@@ -88,23 +93,6 @@ fn any_delivery<C: BootCell>(world: &World<C>, b: u32) -> Act
         Act::Rests
     } else {
         Act::Tries(Step::Deliver(1 + b as usize % sent))
-    }
-}
-
-/// What a turn of this number asks of a client or a node.
-fn any_request(setup: &Setup, turn: u32, b: u32) -> Step
-    requires { IsValid setup.now }
-    ensures { result ≡ any_request setup.now turn b }
-{
-    match turn {
-        24 => any_pay_in(setup, b),
-        25 => any_pay_out(setup, b),
-        26 => any_instruction(setup, b),
-        27 => any_rescission(setup, b),
-        _ => Step::Submit {
-            client: 0,
-            cmd: Cmd::Settle { most: 1 + b % 8 },
-        },
     }
 }
 
@@ -155,6 +143,16 @@ fn any_rescission(setup: &Setup, b: u32) -> Step
     Step::Submit {
         client: on_side(setup, reference, b % 2),
         cmd: Cmd::Rescind { reference },
+    }
+}
+
+/// The operator asks to settle a few pairs.
+fn any_settlement(b: u32) -> Step
+    ensures { result ≡ any_settlement b }
+{
+    Step::Submit {
+        client: 0,
+        cmd: Cmd::Settle { most: 1 + b % 8 },
     }
 }
 
@@ -243,17 +241,6 @@ fn any_actor(setup: &Setup, b: u32) -> u16
         FIRST_NODE + (k - sites)
     } else {
         k - (sites + nodes)
-    }
-}
-
-/// What a turn of this number does to a site.
-fn any_trouble<C: BootCell>(world: &World<C>, turn: u32, b: u32) -> Act
-    ensures { result ≡ any_trouble world.now turn b }
-{
-    match turn {
-        29 => any_timer(world.setup(), b),
-        30 => any_crash(world, b),
-        _ => Act::Tries(Step::Restart(any_site(world.setup(), b))),
     }
 }
 

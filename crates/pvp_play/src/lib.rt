@@ -2,11 +2,13 @@
 #![tactic(auto)]
 
 pub mod books;
+pub mod cells;
 pub mod chaos;
 pub mod lines;
 pub mod player;
 
 pub use books::print_books;
+pub use cells::Fail;
 pub use chaos::rage;
-pub use lines::play;
+pub use lines::{play, play_failing};
 pub use player::Player;

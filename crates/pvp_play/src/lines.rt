@@ -1,13 +1,12 @@
 //! A script played in a new world, and what its lines print.
-ghost use Rattle.std.specs.Prelude.{◌≡◌, ◌+◌, ◌*◌, ◌++◌, length, map, replicate, string_bytes, IfOk, OnOk};
-ghost use Rattle.pvp_types.specs.Setup.{IsValid, faults};
+ghost use Rattle.std.specs.Prelude.{◌≡◌, ◌≢◌, ◌++◌, [], None, string_bytes, IfOk, OnOk, OnErr};
+ghost use Rattle.pvp_types.specs.Setup.{IsValid};
 ghost use Rattle.pvp_text.specs.declared.script.Kind.TheVariants as kinds;
 ghost use Rattle.pvp_text.specs.Script.{script_where};
-ghost use Rattle.vr_types.specs.Cell.{new_cell};
-ghost use Rattle.vr_types.specs.MemoryCell.{held_by};
-ghost use Rattle.pvp_play.specs.Lines.{Does, refused_text, print_text, PlaysLine, LinesEnd, IsOpening, PlayEnds};
+ghost use Rattle.pvp_play.specs.Lines.{Does, Stops, refused_text, print_text, PlaysLine, LineStops, LinesEnd, IsOpening, PlayEnds};
 
 use crate::books::push_books;
+use crate::cells::{Fail, new_cells};
 use crate::chaos::rage;
 use crate::player::Player;
 use headline::Step;
@@ -19,12 +18,8 @@ use std::alloc::{AllocError, Global};
 use std::io::Write;
 use vr_types::{BootCell, MemCell};
 
-/// Plays a script in a new world of the setup, over new cells, and writes what its lines print.
-///
-/// The script is read whole first, so that a faulty one writes nothing, and its first faulty line is
-/// told, or that memory was refused to keep a line before that. A line that is refused, or that refuses its step, prints
-/// so, and the play goes on; but where memory is refused it ends, and what was written is what the script's first lines
-/// print, and not all of it. How much was written where the writer fails is not said.
+/// Plays a script in a new world of the setup, over new cells no save of which fails, and writes what its lines print: it
+/// is `play_failing` with nothing that is to fail.
 pub fn play<W: Write>(
     alloc: Global,
     setup: &Setup,
@@ -32,35 +27,45 @@ pub fn play<W: Write>(
     writer: &mut W,
 ) -> Result<(), RunFault>
     requires { IsValid setup.now }
-    ensures { PlayEnds W.contents setup.now
+    ensures { PlayEnds W.contents setup.now []
+        (λ refused. script_where refused kinds.Play setup.now script.now)
+        result writer.old writer.new }
+{
+    play_failing(alloc, setup, &[], script, writer)
+}
+
+/// Plays a script in a new world of the setup, over new cells some of whose saves are to fail, and writes what its lines
+/// print. What is to fail of a site that the setup lacks never does, and of a site that is named twice the first counts.
+///
+/// The script is read whole first, so that a faulty one writes nothing, and its first faulty line is
+/// told, or that memory was refused to keep a line before that. A line that is refused, or that refuses its step, prints
+/// so, and the play goes on; but where memory is refused it ends, and what was written is what the script's first lines
+/// print, and not all of it. How much was written where the writer fails is not said.
+pub fn play_failing<W: Write>(
+    alloc: Global,
+    setup: &Setup,
+    fails: &[Fail],
+    script: &[u8],
+    writer: &mut W,
+) -> Result<(), RunFault>
+    requires { IsValid setup.now }
+    ensures { PlayEnds W.contents setup.now fails.now
         (λ refused. script_where refused kinds.Play setup.now script.now)
         result writer.old writer.new }
 {
     let lines = read_lines(alloc, setup, Kind::Play, script)?;
-    let mut player = new_player(alloc, setup)?;
+    let mut player = new_player(alloc, setup, fails)?;
     play_lines(alloc, &mut player, lines.as_slice(), writer)
 }
 
-/// A player of a new world of the setup, over new cells.
-fn new_player(alloc: Global, setup: &Setup) -> Result<Player<MemCell>, AllocError>
+/// A player of a new world of the setup, over new cells some of whose saves are to fail.
+fn new_player(alloc: Global, setup: &Setup, fails: &[Fail]) -> Result<Player<MemCell>, AllocError>
     requires { IsValid setup.now }
-    ensures { IfOk result (IsOpening setup.now) }
+    ensures { IfOk result (IsOpening setup.now fails.now) }
 {
-    let cells = new_cells(alloc, 2 * setup.faults() + 1)?;
+    let cells = new_cells(alloc, 2 * setup.faults() + 1, fails)?;
     let world = World::new(alloc, setup, cells)?;
     Ok(Player::new(alloc, world))
-}
-
-/// So many new cells.
-fn new_cells(alloc: Global, count: u16) -> Result<Vec<MemCell>, AllocError>
-    ensures new { IfOk result (λ cells. map held_by cells.items ≡ replicate count new_cell) }
-    ensures count { IfOk result (λ cells. length cells.items ≡ count) }
-{
-    let mut cells = Vec::new(alloc);
-    for cell in 0..count {
-        cells.push(MemCell::new())?;
-    }
-    Ok(cells)
 }
 
 /// Plays lines, and writes what they print.
@@ -70,7 +75,8 @@ fn play_lines<C: BootCell, W: Write>(
     lines: &[Line],
     writer: &mut W,
 ) -> Result<(), RunFault>
-    ensures { LinesEnd C.held player.old lines.now result (W.contents writer.old) (W.contents writer.new) }
+    ensures { LinesEnd C.BootCell player.old lines.now player.new result
+        (W.contents writer.old) (W.contents writer.new) }
 {
     for line in lines {
         player.world().is_proved();
@@ -87,7 +93,8 @@ fn play_line<C: BootCell>(
     player: &mut Player<C>,
     line: Line,
 ) -> Result<String, AllocError>
-    ensures { IfOk result (λ text. PlaysLine C.held line player.old player.new (string_bytes text)) }
+    ensures played { IfOk result (λ text. PlaysLine C.BootCell line player.old player.new (string_bytes text)) }
+    ensures stopped { OnErr result (LineStops C.BootCell line player.old player.new) }
 {
     let told = do_line(alloc, player, line.statement)?;
     let mut text = refused_text(alloc, line.number, told)?;
@@ -101,7 +108,8 @@ fn do_line<C: BootCell>(
     player: &mut Player<C>,
     statement: Statement,
 ) -> Result<Option<WorldFault>, AllocError>
-    ensures { IfOk result (Does C.held statement player.old player.new) }
+    ensures done { IfOk result (Does C.BootCell statement player.old player.new) }
+    ensures stopped { OnErr result (Stops C.BootCell statement player.old player.new) }
 {
     match statement {
         Statement::Do { client, cmd } => player.step(alloc, Step::Submit { client, cmd }),
@@ -134,7 +142,8 @@ fn do_line<C: BootCell>(
 
 /// What a line prints of what was refused.
 fn refused_text(alloc: Global, number: u32, told: Option<WorldFault>) -> Result<String, AllocError>
-    ensures { IfOk result (λ text. string_bytes text ≡ refused_text number told) }
+    ensures text { IfOk result (λ text. string_bytes text ≡ refused_text number told) }
+    ensures stopped { OnErr result (told ≢ None) }
 {
     let mut text = String::new(alloc);
     if let Some(fault) = told {
@@ -149,8 +158,9 @@ fn push_print<C: BootCell>(
     statement: Statement,
     world: &World<C>,
 ) -> Result<(), AllocError>
-    ensures { OnOk result (string_bytes text.new
+    ensures printed { OnOk result (string_bytes text.new
         ≡ string_bytes text.old ++ print_text C.held statement world.now) }
+    ensures stopped { OnErr result (statement ≡ Statement.Print) }
 {
     match statement {
         Statement::Print => push_books(text, world),

@@ -1,5 +1,5 @@
 //! A player of a world: what is tried there, which envelopes come next, and who is cut off.
-ghost use Rattle.std.specs.Prelude.{◌≡◌, IfOk, OnOk, is_some};
+ghost use Rattle.std.specs.Prelude.{◌≡◌, IfOk, OnOk, OnErr, is_some};
 ghost use Rattle.pvp_play.specs.Player.{healed};
 
 use headline::Step;
@@ -27,7 +27,8 @@ impl<C: BootCell> Model for Player<C> {
 }
 
 impl<C: BootCell> Player<C> {
-    ghost use Rattle.pvp_play.specs.Player.{beginning, Tries, Turns, Drains, DrainsTo, next_open, is_open, is_among, skipped, cut_off, with_cut, unknown_actor};
+    ghost use Rattle.pvp_play.specs.Player.{beginning, Tries, Wants, Drains, DrainStops, is_open, is_among, skipped, cut_off, with_cut, unknown_actor, CutStops};
+    ghost use Rattle.pvp_play.specs.Turns.{DrainsTo, WantsTo, next_open};
 
     /// A player of a world at the beginning of its post, who cuts off no one.
     pub fn new(alloc: Global, world: World<C>) -> Self
@@ -49,7 +50,8 @@ impl<C: BootCell> Player<C> {
 
     /// Tries a step, and answers why it was refused, if it was. `Err` where memory is refused.
     pub fn step(&mut self, alloc: Global, step: Step) -> Result<Option<WorldFault>, AllocError>
-        ensures { IfOk result (Tries C.held self.old self.new step) }
+        ensures tried { IfOk result (Tries C.BootCell self.old self.new step) }
+        ensures wants { OnErr result (Wants self.old self.new step) }
     {
         match self.world.apply(alloc, step) {
             Ok(_) => Ok(None),
@@ -60,7 +62,8 @@ impl<C: BootCell> Player<C> {
 
     /// Delivers the next envelopes that no cut holds up, so many at most. `Err` where memory is refused.
     pub fn drain(&mut self, alloc: Global, turns: u32) -> Result<(), AllocError>
-        ensures { OnOk result (Turns (Drains C.held) turns self.old self.new) }
+        ensures drained { OnOk result (Drains C.BootCell turns self.old self.new) }
+        ensures stopped { OnErr result (DrainStops C.BootCell turns self.old self.new) }
     {
         for turn in 0..turns {
             if !self.drain_one(alloc)? {
@@ -71,16 +74,17 @@ impl<C: BootCell> Player<C> {
     }
 
     /// Delivers the next envelope that no cut holds up, and answers whether there was one. `Err` where memory is refused.
-    pub fn drain_one(&mut self, alloc: Global) -> Result<bool, AllocError>
-        ensures drains { OnOk result (Drains C.held self.old self.new) }
+    fn drain_one(&mut self, alloc: Global) -> Result<bool, AllocError>
+        ensures drained { OnOk result (DrainsTo C.BootCell self.old self.new (next_open self.old)) }
+        ensures wants { OnErr result (WantsTo self.old self.new (next_open self.old)) }
         ensures there { IfOk result (λ found. found ≡ is_some (next_open self.old)) }
     {
         let Some(number) = self.next_open() else {
             self.cursor = self.world.post_len();
             return Ok(false);
         };
-        self.cursor = number;
         let _told = self.step(alloc, Step::Deliver(number))?;
+        self.cursor = number;
         Ok(true)
     }
 
@@ -122,6 +126,7 @@ impl<C: BootCell> Player<C> {
     /// Cuts an actor off. Answers why it was refused, if it was; `Err` where memory is refused.
     pub fn cut(&mut self, actor: u16) -> Result<Option<WorldFault>, AllocError>
         ensures after { OnOk result (self.new ≡ with_cut self.old actor (cut_off self.old.cut actor)) }
+        ensures stopped { OnErr result (CutStops self.old self.new actor) }
         ensures told { IfOk result (λ told. told ≡ unknown_actor self.old actor) }
     {
         if !self.world.has_number(actor) {

@@ -2,14 +2,16 @@
 mod Choosing
 -- the world before anything was done
 mod Openings
+-- what is dropped sends nothing
+mod Silent
 -- what a replica's handling of an event is, of the site that it shows
 mod Sites
 -- how much a node or a client sends at once
 mod Sent
 -- how a world moves
 mod Moving
--- cells that do not fail
-mod Reliable
+-- what a step tells of saves
+mod Saves
 -- the headline where a trail leads
 mod Proved
 -- many steps, one after another

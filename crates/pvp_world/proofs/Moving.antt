@@ -1,5 +1,5 @@
 -- How a world moves: each actor's turn, and a site's fall, lead where the world's parts then are.
-use Rattle.std.proofs.Common.{◌≡◌, ℕ, zero, suc, ◌+◌, ◌*◌, ◌<◌, ◌≤◌, true, false, nat_lt, List, [], ◌∷◌, ◌++◌, length, slice_get, slice_set, slice_index_or, Some, None, refl, sym, ap, ◌∙◌, subst, arith, true≢false}
+use Rattle.std.proofs.Common.{◌≡◌, ℕ, zero, suc, ◌+◌, ◌*◌, ◌<◌, ◌≤◌, true, false, nat_lt, List, [], ◌∷◌, ◌++◌, length, slice_get, slice_set, slice_index_or, Option, Some, None, refl, sym, ap, ◌∙◌, subst, arith, true≢false}
 use Rattle.pvp_types.specs.declared.setup.Setup.{Setup}
 use Rattle.pvp_types.specs.declared.command.Cmd.{Cmd}
 use Rattle.pvp_types.specs.declared.command.Reply.{Reply as Answer}
@@ -7,6 +7,7 @@ use Rattle.pvp_types.specs.declared.command.PayOrder.{PayOrder as PaymentOrder}
 use Rattle.pvp_types.specs.Setup.{IsValid, faults}
 use Rattle.vr_types.specs.declared.cell.Boot.{Boot}
 use Rattle.vr_types.specs.declared.event.EventOf.{EventOf}
+use Rattle.vr_types.specs.declared.event.EventOf.TheVariants.{Crash}
 use Rattle.vr_types.specs.declared.event.SiteFault.{SiteFault}
 use Rattle.vr_types.specs.declared.event.Status.TheVariants.{Down}
 use Rattle.vr_types.specs.Choice.{Choice, IsRight}
@@ -39,7 +40,12 @@ use Rattle.pvp_world.specs.declared.fault.WorldFault.TheVariants.{Site as OfSite
 use Rattle.pvp_world.specs.declared.report.Report.{Report}
 use Rattle.pvp_world.specs.Client as client
 use Rattle.pvp_world.specs.World.{Shown, world_of, AreEach, IsSite, IsNode, IsClient, ShowsBank, IsAt}
-use Rattle.pvp_world.specs.Steps.{IsReport, Moves, IsTaken, IsRefused, IsWhy, IsServed, IsUnserved, is_fall, is_world_fall, told_as}
+use Rattle.pvp_world.specs.Steps.{IsReport, Moves, IsTaken, HasFallen, IsRefused, IsWhy, is_fall, is_world_fall, told_as}
+use Rattle.pvp_world.specs.Serving.{IsServed, IsUnserved}
+
+-- one event at a turn
+same-event : (j i : ℕ) (event : EventOf Cmd Answer PaymentOrder) → ◌≡◌ {A = Option Turn} (Some (OfSite j Crash)) (Some (OfSite i event)) → event ≡ Crash
+same-event j i event e = cc
 
 -- LISTS IN STEP
 
@@ -164,26 +170,32 @@ module _ {B : Type 0} (held : B → Boot) (setup : Setup) (first : List Boot) (s
         → turn post step ≡ Some (OfSite i event) → slice_get sites i ≡ Some v → is_fall fault ≡ true → cell ≡ held new.cell
         → ((x : Site Cmd) (choose : Choice Cmd) → IsRight (faults setup) choose → IsSite held setup i v x → IsUnserved held setup choose i x event v new post posted fault)
         → trailed ≡ trail ++ Falls step cell ∷ []
-        → Moves held old (world_of setup first (slice_set sites i new) nodes clients posted trailed) (Falls step cell)
+        → HasFallen held old (world_of setup first (slice_set sites i new) nodes clients posted trailed) step
+    unfolding moved
     site-fell i event v new posted trailed fault cell is there falls cell_is serves noted =
         let x = other-there sites bank.sites i v at.shows.sites.count there in
         let served = serves x.0 choose at.list.right (at.shows.sites.each i v x.0 there x.1) in
         let fell = served.fell falls in
         let y = over cell Down in
         let same = ap (λ (k : Boot). over {C = Cmd} k Down) (sym cell_is) in
-        moved at (Falls step cell) (record bank { sites = slice_set bank.sites i y }) (world_of setup first (slice_set sites i new) nodes clients posted trailed)
-        (record {
-          turn_is = OfSite i event;
-          has_turn = turns (OfSite i event) is;
-          falls = record { before = x.0; is_there = x.1; falls = subst (λ z. IsFall x.0 (site_step {R = Answer} {O = PaymentOrder} choose (faults setup) i x.0 event) z) same fell.0; leads = refl };
-        })
-        (record {
-          sites = set-each (IsSite held setup) sites bank.sites i new y at.shows.sites (subst (λ z. IsSite held setup i new z) same fell.1);
-          nodes = at.shows.nodes;
-          clients = at.shows.clients;
-          post = served.sent ∙ at.shows.post;
-        })
-        refl refl noted
+        record {
+          cell = cell;
+          moves = moved at (Falls step cell) (record bank { sites = slice_set bank.sites i y }) (world_of setup first (slice_set sites i new) nodes clients posted trailed)
+              (record {
+                turn_is = OfSite i event;
+                has_turn = turns (OfSite i event) is;
+                falls = record { before = x.0; is_there = x.1; falls = subst (λ z. IsFall x.0 (site_step {R = Answer} {O = PaymentOrder} choose (faults setup) i x.0 event) z) same fell.falls; leads = refl };
+              })
+              (record {
+                sites = set-each (IsSite held setup) sites bank.sites i new y at.shows.sites (subst (λ z. IsSite held setup i new z) same fell.site);
+                nodes = at.shows.nodes;
+                clients = at.shows.clients;
+                post = served.sent ∙ at.shows.post;
+              })
+              refl refl noted;
+          handled = fell.handled;
+          no_crash = λ site crash. fell.no_crash (same-event site i event (sym (ap (λ (s : Step). turn post s) crash) ∙ is));
+        }
 
     pub site-falls : (i : ℕ) (event : EventOf Cmd Answer PaymentOrder) (v new : replica.Shown Cmd Setup B) (posted : List Envelope) (trailed : List Move) (fault : SiteFault) (cell : Boot)
         → turn post step ≡ Some (OfSite i event) → slice_get sites i ≡ Some v → is_fall fault ≡ true → cell ≡ held new.cell
@@ -192,7 +204,7 @@ module _ {B : Type 0} (held : B → Boot) (setup : Setup) (first : List Boot) (s
         → IsRefused held old (world_of setup first (slice_set sites i new) nodes clients posted trailed) step (OfSiteFault fault)
     site-falls i event v new posted trailed fault cell is there falls cell_is serves noted = record {
       kept = λ no. absurd (true≢false (sym falls ∙ no));
-      fell = λ yes. (cell, site-fell i event v new posted trailed fault cell is there falls cell_is serves noted);
+      fell = λ yes. site-fell i event v new posted trailed fault cell is there falls cell_is serves noted;
     }
 
     -- a site refuses its turn

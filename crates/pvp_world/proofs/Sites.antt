@@ -1,7 +1,7 @@
 -- One site: what its handling of an event is, of the bank's site that it shows.
 use Rattle.std.proofs.Common.{◌≡◌, ◌⊎◌, inl, inr, ℕ, ◌==◌, Bool, true, false, if◌then◌else◌, List, [], Option, Some, None, Result, Ok, Err, refl, sym, ap, ◌∙◌, subst, true≢false, arith}
 use Rattle.std.proofs.lemmas.Bool.Decides.{nat_tests}
-use Rattle.std.specs.Prelude.{not, ◌&&◌, IfErr, IfOk}
+use Rattle.std.specs.Prelude.{◌≢◌, not, ◌&&◌, IfErr, IfOk, IsOk}
 use Rattle.pvp_types.specs.declared.setup.Setup.{Setup}
 use Rattle.pvp_types.specs.declared.command.Cmd.{Cmd}
 use Rattle.pvp_types.specs.declared.command.Reply.{Reply as Answer}
@@ -14,6 +14,7 @@ use Rattle.vr_types.specs.declared.event.EventOf.TheVariants.{Deliver, Timer, Be
 use Rattle.vr_types.specs.declared.event.OutcomeOf.{OutcomeOf}
 use Rattle.vr_types.specs.declared.event.SiteFault.{SiteFault}
 use Rattle.vr_types.specs.declared.event.SiteFault.TheVariants.{NoMemory, CellFault, NotUp, AlreadyUp, ViewsSpent, BootsSpent, NotMine}
+use Rattle.vr_types.specs.declared.event.Status.{Status}
 use Rattle.vr_types.specs.declared.event.Status.TheVariants.{Down}
 use Rattle.vr_types.specs.declared.event.Why.{Why}
 use Rattle.vr_types.specs.declared.machine.Machine.{Ghosts}
@@ -22,7 +23,7 @@ use Rattle.vr_types.specs.Choice.{Choice, IsRight}
 use Rattle.vr_types.specs.Group.{is_mine}
 use Rattle.vr_types.specs.Handling.{refusal, site_step, is_refused, IsFall}
 use Rattle.vr_types.specs.Site.{Site, Ack, over, is_down, is_recovering}
-use Rattle.vr_types.specs.Step.{Step, Ending}
+use Rattle.vr_types.specs.Step.{Step, Ending, Handled}
 use Rattle.vr_log.specs.Outcomes.{ended}
 use Rattle.vr_log.specs.Running.{SumUp}
 use Rattle.vr_site.specs.Life.{lost}
@@ -32,7 +33,9 @@ use Rattle.vr_site.specs.Replica.{site_shown, Does, Falls, Handles}
 use Rattle.rtgs_node.specs.Node.{Envelope}
 use Rattle.headline.proofs.Basics.{some-same, none-some}
 use Rattle.pvp_world.specs.World.{IsSite}
-use Rattle.pvp_world.specs.Steps.{is_fall, IsUnserved}
+use Rattle.pvp_world.specs.Steps.{is_fall}
+use Rattle.pvp_world.specs.Serving.{IsUnserved}
+use Rattle.pvp_world.proofs.Silent.{IsSilent, dropped-silent, crash-silent, silent-sends}
 
 -- A refusal is no fall.
 two-stay : (a b : Bool) (p q fault : SiteFault) → is_fall p ≡ false → is_fall q ≡ false → (if a then Some p else if b then Some q else None) ≡ Some fault → is_fall fault ≡ false
@@ -53,6 +56,10 @@ none_summed = λ j n. grind (arith, nat_tests)
 ended-allowed : (why : Option Why) → is_refused (ended why) ≡ false
 ended-allowed None = refl
 ended-allowed (Some why) = refl
+
+pub err-not-ok : {A E : Type 0} (result : Result A E) (fault : E) → result ≡ Err fault → IsOk result → ⊥
+err-not-ok (Ok done) fault e ok = cc
+err-not-ok (Err told) fault e ok = absurd (true≢false (sym ok))
 
 err-same : {A : Type 0} (result : Result A SiteFault) (a b : SiteFault) → result ≡ Err a → result ≡ Err b → a ≡ b
 err-same result a b e d = cc
@@ -88,11 +95,22 @@ module _ {H B : Type 0} (m : Ghosts H Cmd Answer PaymentOrder Setup) (c : Cell B
       by (inl e) = over-same y x.cell e
       by (inr e) = over-same y s.site.cell e
 
+  -- a crash that is not refused is taken
+  no-crash : (result : Result (OutcomeOf Cmd Answer PaymentOrder) SiteFault) (fault : SiteFault) → (event ≡ Crash → old.volatile.status ≢ Down → IsOk result)
+      → result ≡ Err fault → refusal old.f old.me (site_shown c.held old []) event ≡ None → event ≢ Crash
+  no-crash result fault taken answered allowed crash = err-not-ok result fault answered (taken crash up)
+    where
+      at : refusal {R = Answer} {O = PaymentOrder} old.f old.me (site_shown c.held old []) Crash ≡ None
+      at = subst (λ (e : EventOf Cmd Answer PaymentOrder). refusal old.f old.me (site_shown c.held old []) e ≡ None) crash allowed
+
+      up : old.volatile.status ≢ Down
+      up down = none-some NotUp (sym at ∙ ap (λ (s : Status). if is_down s then Some NotUp else None) down)
+
   -- what was answered is a refusal, or a fall
   pub unserved : (result : Result (OutcomeOf Cmd Answer PaymentOrder) SiteFault) (fault : SiteFault) (post posted : List Envelope)
-      → Handles m c old new event result → result ≡ Err fault → posted ≡ post
+      → Handles m c old new event result → (event ≡ Crash → old.volatile.status ≢ Down → IsOk result) → result ≡ Err fault → posted ≡ post
       → IsUnserved c.held setup choose i x event old new post posted fault
-  unserved result fault post posted handles answered kept = by (refusal old.f old.me (site_shown c.held old []) event) refl
+  unserved result fault post posted handles taken answered kept = by (refusal old.f old.me (site_shown c.held old []) event) refl
     where
       named_refusal : refusal old.f old.me (site_shown c.held old []) event ≡ refusal (faults setup) i x event
       named_refusal =
@@ -100,18 +118,20 @@ module _ {H B : Type 0} (m : Ghosts H Cmd Answer PaymentOrder Setup) (c : Cell B
           ∙ ap (λ (me : ℕ). refusal (faults setup) me (site_shown c.held old x.collected.acks) event) is.me
           ∙ ap (λ (y : Site Cmd). refusal (faults setup) i y event) (sym is.site)
 
-      falls : (Falls c old new (site_shown c.held old x.collected.acks) named fault) → IsUnserved c.held setup choose i x event old new post posted fault
-      falls f =
+      falls : refusal old.f old.me (site_shown c.held old []) event ≡ None → (Falls c old new (site_shown c.held old x.collected.acks) named fault) → IsUnserved c.held setup choose i x event old new post posted fault
+      falls unrefused f =
           let fell = subst (λ (y : Site Cmd). IsFall y named (site_shown c.held new [])) (sym is.site) f.site in
           let at = falls-down (site_shown c.held new []) named fell in
           let site = subst (λ (y : Site Cmd). IsFall x named y) at fell in
           record {
             sent = kept;
             refused = λ no. absurd (true≢false (sym (is_one f.fault) ∙ no));
-            fell = λ yes. (
-              subst (λ (s : Step Cmd Answer PaymentOrder). IsFall x s (over (c.held new.cell) Down)) same site,
-              down-is x f.f f.me f.setup f.acks at,
-            );
+            fell = λ yes. record {
+              falls = subst (λ (s : Step Cmd Answer PaymentOrder). IsFall x s (over (c.held new.cell) Down)) same site;
+              handled = ap (λ (s : Step Cmd Answer PaymentOrder). s.ending) (sym same) ∙ f.handled;
+              no_crash = no-crash result fault taken answered unrefused;
+              site = down-is x f.f f.me f.setup f.acks at;
+            };
           }
         where
           is_one : (fault ≡ NoMemory) ⊎ ((fault ≡ CellFault) × IsOneSave c old.cell named.site.cell new.cell) → is_fall fault ≡ true
@@ -128,21 +148,34 @@ module _ {H B : Type 0} (m : Ghosts H Cmd Answer PaymentOrder Setup) (c : Cell B
             refused = λ _. (t.1, sym named_refusal ∙ at ∙ ap (λ (z : SiteFault). Some z) one);
             fell = λ yes. absurd (true≢false (sym yes ∙ no));
           }
-      by None at = falls (subst (λ (r : Result (OutcomeOf Cmd Answer PaymentOrder) SiteFault). IfErr r (λ fault. (choose : Choice Cmd) (acks : List Ack) → IsRight old.f choose → SumUp old.volatile.acked acks → Falls c old new (site_shown c.held old acks) (site_step choose old.f old.me (site_shown c.held old acks) event) fault)) answered (handles.fall at) choose x.collected.acks right_here is.acks)
+      by None at = falls at (subst (λ (r : Result (OutcomeOf Cmd Answer PaymentOrder) SiteFault). IfErr r (λ fault. (choose : Choice Cmd) (acks : List Ack) → IsRight old.f choose → SumUp old.volatile.acked acks → Falls c old new (site_shown c.held old acks) (site_step choose old.f old.me (site_shown c.held old acks) event) fault)) answered (handles.fall at) choose x.collected.acks right_here is.acks)
 
-  -- a site that handled the event, and fell as the post took nothing
+  -- a site that handled the event, and fell as the post took nothing of what it sent
   pub fell-after : (out : OutcomeOf Cmd Answer PaymentOrder) (mid : replica.Shown Cmd Setup B) (result : Result (OutcomeOf Cmd Answer PaymentOrder) SiteFault) (post posted : List Envelope)
-      → Handles m c old mid event result → result ≡ Ok out → new ≡ record mid { volatile = lost } → posted ≡ post
+      → Handles m c old mid event result → result ≡ Ok out → new ≡ record mid { volatile = lost } → posted ≡ post → out.sent.items ≢ []
       → IsUnserved c.held setup choose i x event old new post posted NoMemory
-  fell-after out mid result post posted handles answered fallen kept =
+  fell-after out mid result post posted handles answered fallen kept some =
       record {
         sent = kept;
         refused = λ no. absurd (true≢false no);
-        fell = λ yes. (record { allowed = allowed; down = inr (ap (λ (k : Boot). over k Down) (cell_is ∙ sym held_is)) }, now);
+        fell = λ yes. record {
+          falls = record { allowed = allowed; down = inr (ap (λ (k : Boot). over k Down) (cell_is ∙ sym held_is)) };
+          handled = ap (λ (s : Step Cmd Answer PaymentOrder). s.ending) (sym same) ∙ handled out.dropped does.ending;
+          no_crash = λ crash. said (subst (λ (e : EventOf Cmd Answer PaymentOrder). IsSilent (site_step choose old.f old.me (site_shown c.held old x.collected.acks) e)) (sym crash)
+              (crash-silent Answer PaymentOrder choose old.f old.me (site_shown c.held old x.collected.acks)));
+          site = now;
+        };
       }
     where
       does : Does m c old mid out named
       does = subst (λ (r : Result (OutcomeOf Cmd Answer PaymentOrder) SiteFault). IfOk r (λ out. (choose : Choice Cmd) (acks : List Ack) → IsRight old.f choose → SumUp old.volatile.acked acks → Does m c old mid out (site_step choose old.f old.me (site_shown c.held old acks) event))) answered handles.step choose x.collected.acks right_here is.acks
+
+      said : IsSilent named → ⊥
+      said silent = some (does.sent ∙ silent-sends m (m.start old.setup) old.me named silent)
+
+      handled : (why : Option Why) → named.ending ≡ ended why → named.ending ≡ Handled
+      handled None e = e
+      handled (Some why) e = absurd (said (dropped-silent Answer PaymentOrder choose old.f old.me (site_shown c.held old x.collected.acks) event why e))
 
       allowed : is_refused step.ending ≡ false
       allowed = ap (λ (s : Step Cmd Answer PaymentOrder). is_refused s.ending) (sym same) ∙ ap (λ (e : Ending). is_refused e) does.ending ∙ ended-allowed out.dropped

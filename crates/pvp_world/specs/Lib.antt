@@ -1,4 +1,5 @@
 pub mod Client
 pub mod Fault
+pub mod Serving
 pub mod Steps
 pub mod World

@@ -1,5 +1,5 @@
 -- What a world does with a step.
-use Rattle.std.specs.Prelude.{◌≡◌, ℕ, ◌+◌, ◌-◌, ◌==◌, Bool, true, false, nat_le, nat_lt, if◌then◌else◌, List, [], ◌∷◌, ◌++◌, length, map, slice_get, Option, Some, None, Result, MatchResult}
+use Rattle.std.specs.Prelude.{◌≡◌, ◌≢◌, ℕ, ◌+◌, ◌==◌, Bool, true, false, nat_lt, if◌then◌else◌, List, [], ◌∷◌, ◌++◌, length, map, slice_get, slice_set, Option, Some, None, Result, Err, MatchResult}
 use Rattle.pvp_types.specs.declared.setup.Setup.{Setup}
 use Rattle.pvp_types.specs.declared.command.Cmd.{Cmd}
 use Rattle.pvp_types.specs.declared.command.Reply.{Reply as Answer}
@@ -8,31 +8,33 @@ use Rattle.pvp_types.specs.Setup.{faults}
 use Rattle.vr_types.specs.declared.cell.Boot.{Boot}
 use Rattle.vr_types.specs.declared.cell.BootCell.{Ghosts as Cell}
 use Rattle.vr_types.specs.declared.event.EventOf.{EventOf}
+use Rattle.vr_types.specs.declared.event.EventOf.TheVariants.{Beat}
 use Rattle.vr_types.specs.declared.event.SiteFault.{SiteFault}
 use Rattle.vr_types.specs.declared.event.SiteFault.TheVariants as site_fault
-use Rattle.vr_types.specs.declared.event.Status.TheVariants.{Down}
 use Rattle.vr_types.specs.declared.event.Why.{Why}
-use Rattle.vr_types.specs.Choice.{Choice, IsRight}
-use Rattle.vr_types.specs.Handling.{refusal, site_step, is_refused, dropped_as, IsFall, envelopes}
-use Rattle.vr_types.specs.Site.{Site, over}
+use Rattle.vr_types.specs.Cell.{HasRisen}
+use Rattle.vr_types.specs.Choice.{Choice}
+use Rattle.vr_types.specs.Handling.{refusal, site_step, dropped_as}
+use Rattle.vr_types.specs.Step.{Ending, Handled}
 use Rattle.vr_site.specs.Replica as replica
 use Rattle.vr_site.specs.Replica.{site_shown}
-use Rattle.pvp_book.specs.Ledger.{opening}
 use Rattle.rtgs_node.specs.Node.{Envelope}
+use Rattle.rtgs_node.specs.declared.event.NodeEvent.TheVariants as node_event
 use Rattle.rtgs_node.specs.declared.fault.NodeFault.{NodeFault}
 use Rattle.rtgs_node.specs.Shown as node
+use Rattle.headline.specs.declared.step.ClientEvent.TheVariants as client_event
 use Rattle.headline.specs.declared.step.ClientFault.{ClientFault}
 use Rattle.headline.specs.declared.step.ClientFault.TheVariants as client_fault
 use Rattle.headline.specs.declared.step.Step.{Step}
+use Rattle.headline.specs.declared.step.Step.TheVariants.{Crash}
 use Rattle.headline.specs.declared.step.Move.{Move}
 use Rattle.headline.specs.declared.step.Move.TheVariants.{Takes, Falls}
 use Rattle.headline.specs.declared.step.Turn.{Turn}
 use Rattle.headline.specs.declared.step.Turn.TheVariants.{OfSite, OfNode, OfClient}
-use Rattle.headline.specs.Machine.{book}
-use Rattle.headline.specs.Bank.{Bank, turn}
-use Rattle.headline.specs.Legal.{Acts, Steps, Leads, LegalList}
+use Rattle.headline.specs.Bank.{Bank, turn_of, turn}
+use Rattle.headline.specs.Legal.{Acts, FallsBy, Steps, Fails, Leads, LegalList}
 use Rattle.pvp_world.specs.Client as client
-use Rattle.pvp_world.specs.World.{Shown, IsSite, ShowsBank}
+use Rattle.pvp_world.specs.World.{Shown, ShowsBank}
 use Rattle.pvp_world.specs.declared.fault.WorldFault.{WorldFault}
 use Rattle.pvp_world.specs.declared.fault.WorldFault.TheVariants.{NoSuchEnvelope, NoSuchActor, Outstanding, Site as OfSiteFault, Node as OfNodeFault, Spent, NoMemory}
 use Rattle.pvp_world.specs.declared.report.Report.{Report}
@@ -73,18 +75,15 @@ pub record IsTaken {B : Type 0} (held : B → Boot) (old new : Shown B) (step : 
 
 -- A STEP THAT WAS NOT TAKEN
 
--- the actor of a number is there: clients from 0, nodes from 101, sites from 200
-abbrev pub has_number : {B : Type 0} → Shown B → ℕ → Bool
-has_number world actor =
-    if nat_le 200 actor then nat_lt (actor - 200) (length world.sites)
-    else if nat_le 101 actor then nat_lt (actor - 101) (length world.nodes)
-    else nat_lt actor (length world.clients)
-
 -- the actor whose turn it is is there
 abbrev pub has_actor : {B : Type 0} → Shown B → Turn → Bool
 has_actor world (OfSite i event) = nat_lt i (length world.sites)
 has_actor world (OfNode c event) = nat_lt c (length world.nodes)
 has_actor world (OfClient k event) = nat_lt k (length world.clients)
+
+-- the actor of a number is there, to beat
+abbrev pub has_number : {B : Type 0} → Shown B → ℕ → Bool
+has_number world actor = has_actor world (turn_of actor Beat node_event.Beats client_event.Beats)
 
 -- it is some actor's turn, which is there or not
 pub record IsTurn {B : Type 0} (world : Shown B) (step : Step) (is_there : Bool) : Type 0 where
@@ -146,14 +145,56 @@ IsWhy held world step (OfNodeFault fault) = InTurn world step (NodeRefuses world
 IsWhy held world step Outstanding = InTurn world step (ClientRefuses world client_fault.Outstanding)
 IsWhy held world step Spent = InTurn world step (ClientRefuses world client_fault.Spent)
 
+-- what a fallen site would have done with its event
+abbrev pub ending_in : (setup : Setup) (choose : Choice Cmd) (f : ℕ) (bank : Bank) (t : Turn) (cell : Boot) (after : Bank) → FallsBy setup choose f bank t cell after → Ending
+ending_in setup choose f bank (OfSite i event) cell after falls = (site_step {R = Answer} {O = PaymentOrder} choose f i falls.before event).ending
+ending_in setup choose f bank (OfNode c event) cell after falls = absurd falls
+ending_in setup choose f bank (OfClient k event) cell after falls = absurd falls
+
+-- A FALL, which is the move: only of a site that would handle its event, and neither drop nor refuse it, and by no crash
+pub record HasFallen {B : Type 0} (held : B → Boot) (old new : Shown B) (step : Step) : Type 0 where
+  pub cell : Boot
+  pub moves : Moves held old new (Falls step cell)
+  pub handled : let by : Fails old.setup moves.list.choose (faults old.setup) moves.list.bank step cell moves.after = moves.leads in
+      ending_in old.setup moves.list.choose (faults old.setup) moves.list.bank by.turn_is cell moves.after by.falls ≡ Handled
+  pub no_crash : (site : ℕ) → step ≢ Crash site
+
 -- the world is as it was; but where a site fell, that is the move
 pub record IsRefused {B : Type 0} (held : B → Boot) (old new : Shown B) (step : Step) (fault : WorldFault) : Type 0 where
   pub kept : is_world_fall fault ≡ false → (new ≡ old) × IsWhy held old step fault
-  pub fell : is_world_fall fault ≡ true → (cell : Boot) × Moves held old new (Falls step cell)
+  pub fell : is_world_fall fault ≡ true → HasFallen held old new step
 
 -- what a world does with a step
 abbrev pub Applies : {B : Type 0} → (B → Boot) → Shown B → Shown B → Step → Result Report WorldFault → Type 0
 Applies held old new step result = MatchResult result (IsTaken held old new step) (IsRefused held old new step)
+
+-- CELLS
+
+-- no save of a site's cell fails
+abbrev pub AreReliable : {B : Type 0} → Cell B → Shown B → Type 0
+AreReliable {B} c world = (i : ℕ) (v : replica.Shown Cmd Setup B) → slice_get world.sites i ≡ Some v → c.is_reliable v.cell
+
+-- how many saves of each site's cell have failed
+abbrev pub failures : {B : Type 0} → Cell B → Shown B → List ℕ
+failures c world = map (λ v. c.faults v.cell) world.sites
+
+-- of the site whose turn the step is one more save failed, and all other sites are as they were
+pub record HasFailed {B : Type 0} (c : Cell B) (old new : Shown B) (step : Step) : Type 0 where
+  pub site : ℕ
+  pub event : EventOf Cmd Answer PaymentOrder
+  pub has_turn : turn old.post step ≡ Some (OfSite site event)
+  pub before : replica.Shown Cmd Setup B
+  pub after : replica.Shown Cmd Setup B
+  pub is_there : slice_get old.sites site ≡ Some before
+  pub changes : new.sites ≡ slice_set old.sites site after
+  pub one_more : HasRisen (c.faults before.cell) (c.faults after.cell)
+
+-- A step tells a failed save, and nothing else as one: then the count of its site's cell rises, and else no count does.
+-- Where no cell's saves fail, none did.
+pub record TellsFailures {B : Type 0} (c : Cell B) (old new : Shown B) (step : Step) (result : Result Report WorldFault) : Type 0 where
+  pub failed : result ≡ Err (OfSiteFault site_fault.CellFault) → HasFailed c old new step
+  pub counted : result ≢ Err (OfSiteFault site_fault.CellFault) → failures c new ≡ failures c old
+  pub reliable : AreReliable c old → AreReliable c new × (result ≢ Err (OfSiteFault site_fault.CellFault))
 
 -- MANY STEPS
 
@@ -163,37 +204,13 @@ pub record AreTaken {B : Type 0} (old new : Shown B) (steps : List Step) : Type 
   pub trail : new.trail ≡ old.trail ++ map (λ step. Takes step) steps
 
 -- the steps before one are taken, and that one is not
-pub record IsStopped {B : Type 0} (held : B → Boot) (old new : Shown B) (steps : List Step) (fault : WorldFault) : Type 0 where
+pub record IsStopped {B : Type 0} (c : Cell B) (old new : Shown B) (steps : List Step) (fault : WorldFault) : Type 0 where
   pub done : List Step
   pub next : Step
   pub rest : List Step
   pub parts : steps ≡ done ++ next ∷ rest
   pub between : Shown B
   pub taken : AreTaken old between done
-  pub refused : IsRefused held between new next fault
-
--- CELLS
-
--- no save of a site's cell fails
-abbrev pub AreReliable : {B : Type 0} → Cell B → Shown B → Type 0
-AreReliable {B} c world = (i : ℕ) (v : replica.Shown Cmd Setup B) → slice_get world.sites i ≡ Some v → c.is_reliable v.cell
-
--- ONE SITE, and the post that takes what it sends
-
-pub record IsServed {B : Type 0} (held : B → Boot) (setup : Setup) (choose : Choice Cmd) (i : ℕ) (x : Site Cmd) (event : EventOf Cmd Answer PaymentOrder) (new : replica.Shown Cmd Setup B) (post posted : List Envelope) (report : Report) : Type 0 where
-  pub allowed : is_refused (site_step {R = Answer} {O = PaymentOrder} choose (faults setup) i x event).ending ≡ false
-  pub site : IsSite held setup i new (site_step {R = Answer} {O = PaymentOrder} choose (faults setup) i x event).site
-  pub sent : posted ≡ post ++ envelopes book (opening setup) i (site_step choose (faults setup) i x event)
-  pub told : IsReport post posted (dropped_as (site_step {R = Answer} {O = PaymentOrder} choose (faults setup) i x event).ending) report
-
--- it refuses, and is as it was; or it fell
-pub record IsUnserved {B : Type 0} (held : B → Boot) (setup : Setup) (choose : Choice Cmd) (i : ℕ) (x : Site Cmd) (event : EventOf Cmd Answer PaymentOrder) (old new : replica.Shown Cmd Setup B) (post posted : List Envelope) (fault : SiteFault) : Type 0 where
-  pub sent : posted ≡ post
-  pub refused : is_fall fault ≡ false → (new ≡ old) × (refusal {R = Answer} {O = PaymentOrder} (faults setup) i x event ≡ Some fault)
-  pub fell : is_fall fault ≡ true → IsFall x (site_step {R = Answer} {O = PaymentOrder} choose (faults setup) i x event) (over (held new.cell) Down)
-      × IsSite held setup i new (over (held new.cell) Down)
-
-abbrev pub Serves : {B : Type 0} → (B → Boot) → Setup → ℕ → replica.Shown Cmd Setup B → replica.Shown Cmd Setup B → EventOf Cmd Answer PaymentOrder → List Envelope → List Envelope → Result Report SiteFault → Type 0
-Serves held setup i old new event post posted result =
-    (x : Site Cmd) (choose : Choice Cmd) → IsRight (faults setup) choose → IsSite held setup i old x
-    → MatchResult result (IsServed held setup choose i x event new post posted) (IsUnserved held setup choose i x event old new post posted)
+  pub counted : failures c between ≡ failures c old
+  pub refused : IsRefused c.held between new next fault
+  pub tells : TellsFailures c between new next (Err fault)

@@ -1,9 +1,10 @@
 //! The post: what was sent is put on it, and reported.
-ghost use Rattle.std.specs.Prelude.{◌≡◌, ◌≢◌, ◌+◌, ◌<◌, ◌≤◌, ◌∷◌, ◌++◌, [], None, length, IfOk, OnOk, OnErr, IsErrOf, Err, vec_len, vec_capacity};
+ghost use Rattle.std.specs.Prelude.{◌≡◌, ◌≢◌, ◌+◌, ◌<◌, ◌≤◌, ◌∷◌, ◌++◌, [], None, length, IfOk, IsOk, OnOk, OnErr, IsErrOf, Err, vec_len, vec_capacity};
 ghost use Rattle.vr_types.specs.declared.event.SiteFault.TheVariants.{CellFault};
 ghost use Rattle.vr_types.specs.Cell.{HasRisen};
 ghost use Rattle.pvp_types.specs.declared.setup.Setup.{Setup};
-ghost use Rattle.pvp_world.specs.Steps.{IsReport, Serves, is_fall};
+ghost use Rattle.pvp_world.specs.Steps.{IsReport, is_fall};
+ghost use Rattle.pvp_world.specs.Serving.{Serves};
 
 use crate::report::Report;
 use headline::Move;
@@ -24,6 +25,7 @@ pub fn serve<C: BootCell>(
 ) -> Result<Report, SiteFault>
     ensures serves { (setup : Setup) (i : _) → Serves C.held setup i site.old site.new event post.old.items post.new.items result }
     ensures cause { IsErrOf result CellFault → HasRisen (C.faults site.old.cell) (C.faults site.new.cell) }
+    ensures counted { result ≢ Err CellFault → C.faults site.new.cell ≡ C.faults site.old.cell }
     ensures reliable { C.is_reliable site.old.cell → C.is_reliable site.new.cell × (result ≢ Err CellFault) }
 {
     let out = match site.handle(alloc, event) {
@@ -46,7 +48,7 @@ pub fn is_fall(fault: SiteFault) -> bool
     matches!(fault, SiteFault::NoMemory | SiteFault::CellFault)
 }
 
-/// Puts what was sent on the post. `Err` where memory is refused: the post is then as it was.
+/// Puts what was sent on the post. `Err` where memory is refused, which none is to put nothing: the post is then as it was.
 fn put(
     post: &mut Vec<Envelope<Book>>,
     mut sent: Vec<Envelope<Book>>,
@@ -55,6 +57,7 @@ fn put(
     ensures posted { OnOk result (post.new.items ≡ post.old.items ++ sent.items) }
     ensures report { IfOk result (IsReport post.old.items post.new.items dropped) }
     ensures err { OnErr result (post.new.items ≡ post.old.items) }
+    ensures nothing { sent.items ≡ [] → IsOk result }
 {
     let count = sent.len();
     let first = if count == 0 { 0 } else { post.len() + 1 };

@@ -6,7 +6,7 @@ use crate::fault::WorldFault;
 use crate::opening::{clients_of, held_by, nodes_of, sites_over};
 use crate::post::{MOST_SENT, is_fall, note, put_in_room, serve};
 use crate::report::Report;
-use crate::turn::{FIRST_NODE, FIRST_SITE, beat, delivery};
+use crate::turn::{beat, delivery};
 use headline::{ClientEvent, ClientFault, Move, Step, Turn};
 use pvp_book::Book;
 use pvp_types::Setup;
@@ -49,7 +49,7 @@ impl<C: BootCell> World<C> {
     ghost use Rattle.headline.specs.declared.step.Turn.TheVariants.{OfSite, OfNode, OfClient};
     ghost use Rattle.headline.specs.Bank.{turn};
     ghost use Rattle.pvp_world.specs.World.{IsAt, IsProved};
-    ghost use Rattle.pvp_world.specs.Steps.{Applies, AreTaken, IsStopped, AreReliable, has_number, has_actor, IsWhy, is_world_fall, InTurn};
+    ghost use Rattle.pvp_world.specs.Steps.{Applies, AreTaken, IsStopped, AreReliable, TellsFailures, failures, has_number, has_actor, IsWhy, is_world_fall, InTurn};
     ghost use Rattle.pvp_world.specs.declared.fault.WorldFault.TheVariants.{Site as OfSiteFault, NoMemory as OutOfMemory};
     ghost use Rattle.vr_types.specs.declared.event.SiteFault.TheVariants.{CellFault};
 
@@ -80,11 +80,12 @@ impl<C: BootCell> World<C> {
 
     /// Takes a step: `NoSuchEnvelope` and `NoSuchActor` are tested first, then the actor takes its turn. Answers what it
     /// sent, and where a site dropped the event why. After an `Err` the world is as it was; but after `NoMemory` and
-    /// `CellFault` of a site that site is down, and the trail has its fall. A step that was taken is on the trail.
+    /// `CellFault` of a site that site is down, and the trail has its fall: `CellFault` where a save of its cell failed.
+    /// An event that a site drops or refuses, and a crash, never end so. A step that was taken is on the trail.
     pub fn apply(&mut self, alloc: Global, step: Step) -> Result<Report, WorldFault>
         ensures applies { Applies C.held self.old self.new step result }
         ensures headline { IsProved C.held self.new }
-        ensures reliable { AreReliable C.BootCell self.old → AreReliable C.BootCell self.new × (result ≢ Err (OfSiteFault CellFault)) }
+        ensures tells { TellsFailures C.BootCell self.old self.new step result }
     {
         let result = self.take(alloc, step);
         self.is_proved();
@@ -95,8 +96,9 @@ impl<C: BootCell> World<C> {
     /// site's `NoMemory` or `CellFault` that site's fall.
     pub fn run(&mut self, alloc: Global, steps: &[Step]) -> Result<(), WorldFault>
         ensures taken { OnOk result (AreTaken self.old self.new steps.now) }
-        ensures stopped { IfErr result (IsStopped C.held self.old self.new steps.now) }
+        ensures stopped { IfErr result (IsStopped C.BootCell self.old self.new steps.now) }
         ensures headline { IsProved C.held self.new }
+        ensures counted { result ≢ Err (OfSiteFault CellFault) → failures C.BootCell self.new ≡ failures C.BootCell self.old }
         ensures reliable { AreReliable C.BootCell self.old → AreReliable C.BootCell self.new × (result ≢ Err (OfSiteFault CellFault)) }
     {
         self.is_proved();
@@ -170,7 +172,7 @@ impl<C: BootCell> World<C> {
     /// Takes a step.
     fn take(&mut self, alloc: Global, step: Step) -> Result<Report, WorldFault>
         ensures applies { Applies C.held self.old self.new step result }
-        ensures reliable { AreReliable C.BootCell self.old → AreReliable C.BootCell self.new × (result ≢ Err (OfSiteFault CellFault)) }
+        ensures tells { TellsFailures C.BootCell self.old self.new step result }
     {
         match self.turn(alloc, step)? {
             Turn::OfSite(site, event) => self.at_site(alloc, step, site, event),
@@ -227,13 +229,7 @@ impl<C: BootCell> World<C> {
     pub fn has_number(&self, actor: u16) -> bool
         ensures { result ≡ has_number self.now actor }
     {
-        if actor >= FIRST_SITE {
-            usize::from(actor - FIRST_SITE) < self.sites.len()
-        } else if actor >= FIRST_NODE {
-            usize::from(actor - FIRST_NODE) < self.nodes.len()
-        } else {
-            usize::from(actor) < self.clients.len()
-        }
+        self.has_actor(&beat(actor))
     }
 
     /// Whether the actor whose turn it is is there.
@@ -258,7 +254,7 @@ impl<C: BootCell> World<C> {
         requires turn { turn self.old.post step ≡ Some (OfSite site event) }
         requires there { site < length self.old.sites }
         ensures applies { Applies C.held self.old self.new step result }
-        ensures reliable { AreReliable C.BootCell self.old → AreReliable C.BootCell self.new × (result ≢ Err (OfSiteFault CellFault)) }
+        ensures tells { TellsFailures C.BootCell self.old self.new step result }
     {
         let Ok(()) = self.trail.reserve(1) else {
             return Err(WorldFault::NoMemory);

@@ -1,11 +1,12 @@
-ghost use Rattle.std.specs.Prelude.{◌≡◌, ℕ, ◌==◌, Some, None, IfOk, OnOk, OnErr, if◌then◌else◌};
+ghost use Rattle.std.specs.Prelude.{◌≡◌, ℕ, ◌==◌, ◌++◌, List, Some, None, IfOk, OnOk, OnErr, if◌then◌else◌};
+ghost use Rattle.vr_types.specs.declared.row.RowOf.{RowOf};
 ghost use Rattle.vr_types.specs.Rows.{newest};
 ghost use Rattle.vr_log.specs.Numbers.{number_at};
 
 use crate::log::LogOf;
 use std::alloc::{AllocError, Global};
 use std::collections::BTreeMap;
-use vr_types::Machine;
+use vr_types::{Machine, RowsOf};
 
 /// Of each client the number of its newest row, and what it was last answered.
 #[derive(Drop)]
@@ -65,6 +66,18 @@ impl<R: Copy> ClientsOf<R> {
         ensures newest { (q : ℕ) → newest_in self.new q ≡ newest_in self.old q }
     {
         let _ = self.answers.insert(client, (number, reply))?;
+        Ok(())
+    }
+
+    /// Notes the rows that come at a log's end. After an `Err` this may only be dropped.
+    pub fn note_rows<C: Copy>(&mut self, rows: &RowsOf<C>) -> Result<(), AllocError>
+        ensures ok { OnOk result ((log : List (RowOf C)) → ((q : ℕ) → newest_in self.old q ≡ newest log q) →
+            (q : ℕ) → newest_in self.new q ≡ newest (log ++ rows.now) q) }
+        ensures replies { (q : ℕ) → reply_in self.new q ≡ reply_in self.old q }
+    {
+        for row in rows.as_slice() {
+            self.note(row.client, row.number)?;
+        }
         Ok(())
     }
 

@@ -69,7 +69,7 @@ impl<M: Machine> Kept<M> {
     }
 
     /// The first `base` rows of the log stay, and these come after them. Where none stays, the rows are moved, not
-    /// copied. After an `Err` this may only be dropped.
+    /// copied; where all stay, these alone are noted in the clients' table. After an `Err` this may only be dropped.
     pub fn take_rows(&mut self, base: usize, rows: RowsOf<M::Cmd>) -> Result<(), AllocError>
         requires base { base ≤ length self.old.log }
         requires few { base + length rows ≤ MAX_ROWS }
@@ -79,9 +79,12 @@ impl<M: Machine> Kept<M> {
         ensures kept { OnOk result ((start : M) → KeepsExecuted self.old (take base self.old.log ++ rows) → IsKept M.Machine start self.old → IsKept M.Machine start self.new) }
         ensures ready { OnOk result (KeepsExecuted self.old (take base self.old.log ++ rows) → IsReady M.Machine self.old → IsReady M.Machine self.new) }
     {
+        if base == self.log.len() {
+            self.clients.note_rows(&rows)?;
+            return self.log.replace_from(base, rows);
+        }
         self.log.replace_from(base, rows)?;
-        self.clients.rebuild(&self.log)?;
-        Ok(())
+        self.clients.rebuild(&self.log)
     }
 
     /// Executes the rows up to this place, as far as the log goes, and gives their answers in order.

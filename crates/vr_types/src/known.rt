@@ -63,6 +63,13 @@ impl Known {
         self.boots.get(usize::from(site)).copied().unwrap_or(0)
     }
 
+    /// The boot numbers, in order of the sites.
+    pub fn as_slice(&self) -> &[u32]
+        ensures { result.now ≡ self.now }
+    {
+        self.boots.as_slice()
+    }
+
     /// Tells of one site more. An `Err` leaves it as it was.
     pub fn push(&mut self, boot: u32) -> Result<(), AllocError>
         ensures ok { OnOk result (self.new ≡ self.old ++ boot ∷ []) }

@@ -18,6 +18,7 @@ returns c = λ setup f early late. record {
   covered = c.headline.ensures.covered setup f early late;
   never_short = c.headline.ensures.never_short setup f early;
   rise = c.replies.ensures.rise setup f early;
+  executed = c.replies.ensures.executed setup f early;
   one_answer = c.replies.ensures.one_answer setup f early;
   right_answer = c.replies.ensures.right_answer setup f early late;
   stay = c.replies.ensures.stay setup f early late;

@@ -1,6 +1,6 @@
-use Rattle.pvp_play.specs.Player.{Turns, Drains}
+use Rattle.pvp_play.proofs.Draining.{AreDrained}
 use Rattle.pvp_play.proofs.player.Player.drain.Given as goal
 
--- the turns so far were taken
+-- each turn so far delivered an envelope
 abbrev pub invariant-loop-turn : goal.invariant-loop-turn
-invariant-loop-turn g l = Turns (Drains g.C.BootCell.held) l.turn l.fn.self l.self
+invariant-loop-turn g l = AreDrained g.C.BootCell l.turn l.fn.self l.self

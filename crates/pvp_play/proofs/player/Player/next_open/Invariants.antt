@@ -1,6 +1,7 @@
 use Rattle.std.proofs.Common.{◌≡◌, ◌+◌, drop}
 use Rattle.std.specs.List.{position_from}
-use Rattle.pvp_play.specs.Player.{next_open, is_open}
+use Rattle.pvp_play.specs.Player.{is_open}
+use Rattle.pvp_play.specs.Turns.{next_open}
 use Rattle.pvp_play.proofs.player.Player.next_open.Given as goal
 
 -- none of the envelopes so far is open

@@ -1,5 +1,5 @@
-use Rattle.std.proofs.Common.{◌≡◌, ℕ, ◌-◌, ◌==◌, nat_le, nat_lt, Bool, true, false, if◌then◌else◌, Option, Some, None, option_map, length, slice_get, refl, sym, ap, ◌∙◌}
-use Rattle.vr_types.specs.declared.event.EventOf.TheVariants.{Deliver}
+use Rattle.std.proofs.Common.{◌≡◌, ℕ, ◌-◌, ◌==◌, nat_le, Bool, true, false, if◌then◌else◌, Option, Some, None, option_map, slice_get, refl, sym, ap, ◌∙◌}
+use Rattle.vr_types.specs.declared.event.EventOf.TheVariants.{Deliver, Beat}
 use Rattle.rtgs_node.specs.declared.event.NodeEvent.TheVariants as node
 use Rattle.rtgs_node.specs.Node.{Envelope}
 use Rattle.headline.specs.declared.step.ClientEvent.TheVariants as client
@@ -15,7 +15,7 @@ has_actor-delivery : {B : Type 0} (world : Shown B) (e : Envelope) → has_actor
 has_actor-delivery world e = by (nat_le 200 e.to) (nat_le 101 e.to)
   where
     by : (a b : Bool) → has_actor world (if a then OfSite (e.to - 200) (Deliver e) else if b then OfNode (e.to - 101) (node.Takes e) else OfClient e.to (client.Takes e))
-        ≡ (if a then nat_lt (e.to - 200) (length world.sites) else if b then nat_lt (e.to - 101) (length world.nodes) else nat_lt e.to (length world.clients))
+        ≡ has_actor world (if a then OfSite (e.to - 200) Beat else if b then OfNode (e.to - 101) node.Beats else OfClient e.to client.Beats)
     by true b = refl
     by false true = refl
     by false false = refl

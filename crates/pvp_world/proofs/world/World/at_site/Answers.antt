@@ -1,12 +1,12 @@
-use Rattle.std.proofs.Common.{◌≡◌, ◌<◌, ◌∷◌, ◌++◌, [], Some, length, slice_set, sym, ap, ◌∙◌, subst}
+use Rattle.std.proofs.Common.{◌≡◌, ◌<◌, ◌∷◌, ◌++◌, [], Some, Ok, Err, refl, length, slice_set, sym, ap, ◌∙◌, subst}
 use Rattle.headline.specs.declared.step.Move.TheVariants.{Takes, Falls}
 use Rattle.headline.specs.declared.step.Turn.TheVariants.{OfSite}
 use Rattle.headline.specs.Bank.{turn}
 use Rattle.pvp_world.specs.declared.fault.WorldFault.TheVariants.{Site}
 use Rattle.pvp_world.specs.World.{world_of, IsAt}
-use Rattle.pvp_world.specs.Steps.{IsTaken, IsRefused, AreReliable}
+use Rattle.pvp_world.specs.Steps.{IsTaken, IsRefused, TellsFailures}
 use Rattle.pvp_world.proofs.Moving.{found, moves-at, site-taken, site-fell, site-falls, site-stays, site-refuses}
-use Rattle.pvp_world.proofs.Reliable.{reliable-after, done-is-none, other-fault}
+use Rattle.pvp_world.proofs.Saves.{taken-tells, fault-tells}
 use Rattle.pvp_world.proofs.world.World.at_site.Goals as goal
 
 pub invariant_of-self-in-Ok-serve : goal.invariant_of-self-in-Ok-serve
@@ -27,11 +27,11 @@ invariant_of-self-then-is_fall g c =
     let there = found w.sites.items c.args.site c.from.result c.index_mut-site.result.now c.from.ensures (subst (λ v. c.args.site < length v.sites) (sym c.self.view_is) c.requires.there) c.index_mut-site.ensures.value in
     let is = subst (λ v. turn v.post c.args.step ≡ Some (OfSite c.args.site c.args.event)) (sym c.self.view_is) c.requires.turn ∙ ap (λ k. Some (OfSite k c.args.event)) (sym c.from.ensures) in (
       c.self.invariant.0,
-      moves-at g.C.BootCell.held w.setup w.opening.items w.sites.items w.nodes.items w.clients.items w.post.items w.trail.items _ _ _ _ _ (Falls c.args.step c.boot-cell.result)
+      moves-at g.C.BootCell.held w.setup w.opening.items w.sites.items w.nodes.items w.clients.items w.post.items w.trail.items _ _ _ _ _ _
           (site-fell g.C.BootCell.held w.setup w.opening.items w.sites.items w.nodes.items w.clients.items w.post.items w.trail.items c.self.invariant.1 c.args.step
           c.from.result c.args.event c.index_mut-site.result.now c.serve.new.site c.serve.new.post.items c.note-then-is_fall.new.trail.items c.in-Err.fault c.boot-cell.result is there
           (sym c.is_fall.ensures ∙ c.if-is_fall.true) c.boot-cell.ensures (c.in-Err.ensures.serves w.setup c.from.result)
-          (c.note-then-is_fall.ensures ∙ ap (λ t. t ++ Falls c.args.step c.boot-cell.result ∷ []) c.reserve.ensures.items)),
+          (c.note-then-is_fall.ensures ∙ ap (λ t. t ++ Falls c.args.step c.boot-cell.result ∷ []) c.reserve.ensures.items)).moves,
     )
 
 pub invariant_of-self-else-is_fall : goal.invariant_of-self-else-is_fall
@@ -76,26 +76,26 @@ returns-else-is_fall-clause-applies g c =
     c.from.result c.args.event c.index_mut-site.result.now c.serve.new.site c.serve.new.post.items c.reserve.new.self.items c.in-Err.fault is there
     (sym c.is_fall.ensures ∙ c.if-is_fall.false) (c.in-Err.ensures.serves w.setup c.from.result) c.reserve.ensures.items)
 
-pub returns-in-Ok-serve-clause-reliable : goal.returns-in-Ok-serve-clause-reliable
-returns-in-Ok-serve-clause-reliable g c = λ all.
+pub returns-in-Ok-serve-clause-tells : goal.returns-in-Ok-serve-clause-tells
+returns-in-Ok-serve-clause-tells g c =
     let w = c.self.inside in
     let there = found w.sites.items c.args.site c.from.result c.index_mut-site.result.now c.from.ensures (subst (λ v. c.args.site < length v.sites) (sym c.self.view_is) c.requires.there) c.index_mut-site.ensures.value in
     let is = subst (λ v. turn v.post c.args.step ≡ Some (OfSite c.args.site c.args.event)) (sym c.self.view_is) c.requires.turn ∙ ap (λ k. Some (OfSite k c.args.event)) (sym c.from.ensures) in
-    let keeps = c.serve.ensures.reliable (subst (λ v. AreReliable g.C.BootCell v) (sym c.self.view_is) all c.from.result c.index_mut-site.result.now there) in
-    (reliable-after g.C.BootCell.is_reliable w.sites.items c.from.result c.index_mut-site.result.now c.serve.new.site (subst (λ v. AreReliable g.C.BootCell v) (sym c.self.view_is) all) keeps.0, done-is-none c.in-Ok-serve.report)
+    subst (λ v. TellsFailures g.C.BootCell v (world_of w.setup w.opening.items (slice_set w.sites.items c.from.result c.serve.new.site) w.nodes.items w.clients.items c.serve.new.post.items c.note.new.trail.items) c.args.step (Ok c.in-Ok-serve.report)) c.self.view_is
+    (taken-tells g.C.BootCell (world_of w.setup w.opening.items w.sites.items w.nodes.items w.clients.items w.post.items w.trail.items) (world_of w.setup w.opening.items (slice_set w.sites.items c.from.result c.serve.new.site) w.nodes.items w.clients.items c.serve.new.post.items c.note.new.trail.items) c.args.step c.from.result c.args.event c.index_mut-site.result.now c.serve.new.site is there refl c.serve.result c.in-Ok-serve.report c.in-Ok-serve.report c.in-Ok-serve.is c.serve.ensures.counted c.serve.ensures.reliable)
 
-pub returns-then-is_fall-clause-reliable : goal.returns-then-is_fall-clause-reliable
-returns-then-is_fall-clause-reliable g c = λ all.
+pub returns-then-is_fall-clause-tells : goal.returns-then-is_fall-clause-tells
+returns-then-is_fall-clause-tells g c =
     let w = c.self.inside in
     let there = found w.sites.items c.args.site c.from.result c.index_mut-site.result.now c.from.ensures (subst (λ v. c.args.site < length v.sites) (sym c.self.view_is) c.requires.there) c.index_mut-site.ensures.value in
     let is = subst (λ v. turn v.post c.args.step ≡ Some (OfSite c.args.site c.args.event)) (sym c.self.view_is) c.requires.turn ∙ ap (λ k. Some (OfSite k c.args.event)) (sym c.from.ensures) in
-    let keeps = c.serve.ensures.reliable (subst (λ v. AreReliable g.C.BootCell v) (sym c.self.view_is) all c.from.result c.index_mut-site.result.now there) in
-    (reliable-after g.C.BootCell.is_reliable w.sites.items c.from.result c.index_mut-site.result.now c.serve.new.site (subst (λ v. AreReliable g.C.BootCell v) (sym c.self.view_is) all) keeps.0, other-fault c.serve.result c.in-Err.fault c.in-Err.is keeps.1)
+    subst (λ v. TellsFailures g.C.BootCell v (world_of w.setup w.opening.items (slice_set w.sites.items c.from.result c.serve.new.site) w.nodes.items w.clients.items c.serve.new.post.items c.note-then-is_fall.new.trail.items) c.args.step (Err (Site c.in-Err.fault))) c.self.view_is
+    (fault-tells g.C.BootCell (world_of w.setup w.opening.items w.sites.items w.nodes.items w.clients.items w.post.items w.trail.items) (world_of w.setup w.opening.items (slice_set w.sites.items c.from.result c.serve.new.site) w.nodes.items w.clients.items c.serve.new.post.items c.note-then-is_fall.new.trail.items) c.args.step c.from.result c.args.event c.index_mut-site.result.now c.serve.new.site is there refl c.serve.result c.in-Err.fault c.in-Err.is c.serve.ensures.cause c.serve.ensures.counted c.serve.ensures.reliable)
 
-pub returns-else-is_fall-clause-reliable : goal.returns-else-is_fall-clause-reliable
-returns-else-is_fall-clause-reliable g c = λ all.
+pub returns-else-is_fall-clause-tells : goal.returns-else-is_fall-clause-tells
+returns-else-is_fall-clause-tells g c =
     let w = c.self.inside in
     let there = found w.sites.items c.args.site c.from.result c.index_mut-site.result.now c.from.ensures (subst (λ v. c.args.site < length v.sites) (sym c.self.view_is) c.requires.there) c.index_mut-site.ensures.value in
     let is = subst (λ v. turn v.post c.args.step ≡ Some (OfSite c.args.site c.args.event)) (sym c.self.view_is) c.requires.turn ∙ ap (λ k. Some (OfSite k c.args.event)) (sym c.from.ensures) in
-    let keeps = c.serve.ensures.reliable (subst (λ v. AreReliable g.C.BootCell v) (sym c.self.view_is) all c.from.result c.index_mut-site.result.now there) in
-    (reliable-after g.C.BootCell.is_reliable w.sites.items c.from.result c.index_mut-site.result.now c.serve.new.site (subst (λ v. AreReliable g.C.BootCell v) (sym c.self.view_is) all) keeps.0, other-fault c.serve.result c.in-Err.fault c.in-Err.is keeps.1)
+    subst (λ v. TellsFailures g.C.BootCell v (world_of w.setup w.opening.items (slice_set w.sites.items c.from.result c.serve.new.site) w.nodes.items w.clients.items c.serve.new.post.items c.reserve.new.self.items) c.args.step (Err (Site c.in-Err.fault))) c.self.view_is
+    (fault-tells g.C.BootCell (world_of w.setup w.opening.items w.sites.items w.nodes.items w.clients.items w.post.items w.trail.items) (world_of w.setup w.opening.items (slice_set w.sites.items c.from.result c.serve.new.site) w.nodes.items w.clients.items c.serve.new.post.items c.reserve.new.self.items) c.args.step c.from.result c.args.event c.index_mut-site.result.now c.serve.new.site is there refl c.serve.result c.in-Err.fault c.in-Err.is c.serve.ensures.cause c.serve.ensures.counted c.serve.ensures.reliable)
