@@ -7,6 +7,7 @@ use std::process::Abort;
 use std::test::Fail;
 
 mod answers;
+mod histories;
 mod rows;
 mod walks;
 

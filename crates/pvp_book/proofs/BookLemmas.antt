@@ -1,7 +1,10 @@
 -- What a book keeps beside its entries stays what the entries say.
-use Rattle.std.proofs.Common.{◌≡◌, ℕ, ◌+◌, ◌<◌, Bool, true, false, cond, List, [], ◌∷◌, ◌++◌, length, map, find, arith, refl, ap, sym, subst, ◌∙◌, Option, Some, None, nat_eq}
+use Rattle.std.proofs.Common.{◌≡◌, ℕ, suc, zero, ◌+◌, ◌<◌, Bool, true, false, cond, List, [], ◌∷◌, ◌++◌, ◌*◌, ◌≤◌, length, map, find, arith, refl, ap, sym, subst, ◌∙◌, Option, Some, None, nat_eq, add-one, ℤ, pos, ◌+ℤ◌, ◌-ℤ◌, replicate, slice_index_or, ◌⊎◌, inl, inr}
 use Rattle.std.specs.Prelude.{not, if◌then◌else◌, ◌&&◌, ◌||◌, ◌==◌}
-use Rattle.std.specs.List.{cons_option}
+use Rattle.std.specs.List.{cons_option, AllByRecursion}
+use Rattle.std.proofs.lemmas.Int.{ints}
+use Rattle.std.proofs.lemmas.Bool.{ltb-true}
+use Rattle.std.proofs.lemmas.List.{get_or-replicate, length-replicate}
 use Rattle.std.specs.Map.{lookup}
 use Rattle.std.proofs.lemmas.List.Elements.{filter_map-append}
 use Rattle.pvp_types.specs.declared.setup.Setup.{Setup}
@@ -14,28 +17,74 @@ use Rattle.pvp_types.specs.Setup.{IsValid}
 use Rattle.pvp_book.specs.declared.entry.Entry.{Entry}
 use Rattle.pvp_book.specs.declared.pair.Pair.{Pair}
 use Rattle.pvp_book.specs.declared.pair.PairState.TheVariants.{Unmatched}
-use Rattle.pvp_book.specs.Pairs.{opened_by, pairs, pair_of}
+use Rattle.pvp_book.specs.Pairs.{opened_by, pairs, matched, pair_of}
 use Rattle.pvp_book.specs.Settlement.{candidates, pass, taken_by, settled_after, settled}
-use Rattle.pvp_book.specs.Ledger.{Ledger, opening, state_of, is_state}
-use Rattle.pvp_book.specs.Bounds.{IsKept, IsSmall}
-use Rattle.pvp_book.specs.Answer.{answer, answer_to, after, with_entry, is_walk, is_refusal, is_mirror, on_mirror, on_instruct, is_member_number, has_member, has_currency, is_amount}
+use Rattle.pvp_types.specs.declared.command.PayOrder.{PayOrder}
+use Rattle.pvp_types.proofs.SetupLemmas.{valid-currencies, valid-members}
+use Rattle.pvp_book.specs.declared.account.Account.{Account}
+use Rattle.pvp_book.specs.declared.account.Movement.{Movement}
+use Rattle.pvp_book.specs.Orders.{orders}
+use Rattle.pvp_book.specs.Accounts.{balance_with}
+use Rattle.pvp_book.specs.Laws.{AreOrdered, IsCovered}
+use Rattle.pvp_book.specs.Ledger.{Ledger, opening, balance, figure, sum_of_balances, state_of, is_state}
+use Rattle.pvp_book.specs.Bounds.{total, most_total, IsWithin, IsWithinMatched}
+use Rattle.pvp_book.specs.Kept.{IsKept, CanPost, empty_account, no_account, IsAccount, AreAccounts, AreFigures, movement_by, moved_to, accounts_after, figures_after}
+use Rattle.pvp_book.specs.Answer.{Row, book_of, has_member, answer, answer_to, after, with_entry, is_walk, is_refusal, is_mirror, on_mirror, on_instruct, is_member_number, has_currency, is_amount}
 use Rattle.pvp_book.proofs.SettlementLemmas.{append-nil, settled-push, IsWithinMatched-nil}
-use Rattle.pvp_book.proofs.LedgerLemmas.{IsSmall-ledger, IsLedger-accepted}
+use Rattle.pvp_book.proofs.LedgerLemmas.{total-small, IsSmall-ledger, IsLedger-accepted, sum_of_balances-more}
+use Rattle.pvp_book.proofs.Reached.{entry_of, reached-more}
+use Rattle.pvp_book.proofs.OrderLemmas.{are-ordered}
+use Rattle.pvp_book.proofs.FigureLemmas.{orders-of-members, is-covered}
+use Rattle.pvp_book.proofs.Members.{is-member}
+use Rattle.pvp_book.proofs.KeptLemmas.{small-account, small-sum, AreAccounts-same, AreAccounts-moved, AreFigures-moved, IsAccount-empty}
+use Rattle.pvp_book.proofs.WalkLemmas.{IsWalked-start, IsWalked-all}
+use Rattle.pvp_book.proofs.WalkingLemmas.{IsTradable, IsOffered, IsWalking, offered-tradable}
+use Rattle.pvp_book.specs.declared.seen.Seen.{Seen}
+use Rattle.pvp_book.specs.Seen.{HasSeen, seen_pay_in, seen_matched, seen_asked}
+use Rattle.pvp_book.proofs.SeenLemmas.{HasSeen-more, still}
+use Rattle.pvp_book.proofs.MovementLemmas.{walk-moves-none, balance-moved, known-movement, sum-moved, sum-still}
 
 -- a pair with its reference, as the book keeps it
 abbrev pub kept_as : Pair → ℕ × Pair
 kept_as p = (p.reference, p)
 
-pub IsKept-opening : (setup : Setup) → IsValid setup → IsKept (opening setup) [] []
+-- with no entries each balance is 0
+none-held : (n c : ℕ) → sum_of_balances n [] [] c ≡ pos 0
+none-held zero c = refl
+none-held (suc n) c = ap (λ k. sum_of_balances k [] [] c) (sym (add-one n)) ∙ sum_of_balances-more [] [] n c ∙ ap (λ z. z +ℤ pos 0) (none-held n c)
+
+empty-accounts : (n m : ℕ) → slice_index_or (replicate n empty_account) m no_account ≡ empty_account ⊎ slice_index_or (replicate n empty_account) m no_account ≡ no_account
+empty-accounts zero m = inr refl
+empty-accounts (suc n) zero = inl refl
+empty-accounts (suc n) (suc m) = empty-accounts n m
+
+zeros : (n c : ℕ) → slice_index_or (replicate n (pos 0)) c (pos 0) ≡ pos 0
+zeros zero c = refl
+zeros (suc n) zero = refl
+zeros (suc n) (suc c) = zeros n c
+
+pub IsKept-opening : (setup : Setup) (shown : Seen) → IsValid setup → HasSeen [] shown → IsKept (opening setup) [] [] (replicate (length setup.members + 1) empty_account) (replicate 8 (pos 0)) shown
 unfolding settled settled_after
-IsKept-opening setup valid = record {
+IsKept-opening setup shown valid has = record {
   ledger = record { valid = valid; few = omega arith; small = omega arith; fewer = omega arith; within = IsWithinMatched-nil };
+  history = [];
+  reached = refl;
   pairs = refl;
   settled = refl;
+  accounts = record {
+    places = length-replicate (length setup.members + 1) empty_account;
+    each = λ m within.
+        subst (IsAccount setup.currencies) (sym (get_or-replicate (length setup.members + 1) m empty_account no_account (subst (λ l. m < l) (length-replicate (length setup.members + 1) empty_account) within)))
+        (IsAccount-empty setup.currencies);
+    same = λ m c. by c (slice_index_or (replicate (length setup.members + 1) empty_account) m no_account) (empty-accounts (length setup.members + 1) m);
+  };
+  figures = record { places = refl; same = λ c. zeros 8 c ∙ sym (none-held (length setup.members) c) };
+  seen = has;
 }
-
-pub IsKept-small : (held : Ledger) (kept : List (ℕ × Pair)) (posted : List Pair) → IsKept held kept posted → IsSmall held.entries posted
-IsKept-small held kept posted is = subst (IsSmall held.entries) (sym is.settled) (IsSmall-ledger held is.ledger)
+  where
+    by : (c : ℕ) (account : Account) → (account ≡ empty_account) ⊎ (account ≡ no_account) → slice_index_or account.balances c (pos 0) ≡ pos 0
+    by c account (inl same) = ap (λ (a : Account). slice_index_or a.balances c (pos 0)) same ∙ zeros 8 c
+    by c account (inr same) = ap (λ (a : Account). slice_index_or a.balances c (pos 0)) same
 
 -- the pair of a reference is found among those that are kept
 pub lookup-kept : (ps : List Pair) (reference : ℕ) → lookup (nat_eq reference) (map kept_as ps) ≡ find (λ p. reference == p.reference) ps
@@ -94,45 +143,217 @@ settles-none setup entries done client (Settle most) other accepted = by (client
     by false other accepted = absurd (cc accepted)
 settles-none setup entries done client _ h accepted = refl
 
--- an entry that is no walk adds at most a pair
-pub IsKept-accepted : (held : Ledger) (entry : Entry) (kept : List (ℕ × Pair)) (posted : List Pair) → IsKept held kept posted → held.applied < 65535
+-- what a history's book has
+pub record IsReached (setup : Setup) (entries : List Entry) : Type 0 where
+  pub ordered : (c : ℕ) → AreOrdered entries c
+  pub members : (c : ℕ) → AllByRecursion (λ (o : PayOrder). has_member setup o.member ≡ true) (orders entries c)
+
+pub is-reached : (setup : Setup) (entries : List Entry) (history : List Row) → entries ≡ book_of setup history → IsReached setup entries
+is-reached setup entries history same =
+    subst (IsReached setup) (sym same) (record { ordered = λ c. are-ordered setup c history; members = λ c. orders-of-members setup history c })
+
+-- the history with one command more
+more-reached : (setup : Setup) (entries : List Entry) (history : List Row) (client : ℕ) (cmd : Cmd) → entries ≡ book_of setup history → is_refusal (answer setup entries client cmd) ≡ false
+    → entries ++ entry_of setup entries client cmd ∷ [] ≡ book_of setup (history ++ record { client = client; number = 0; cmd = cmd } ∷ [])
+more-reached setup entries history client cmd same accepted =
+    ap (λ b. if b then entries else entries ++ entry_of setup entries client cmd ∷ []) (sym accepted)
+    ∙ ap (λ es. with_entry es client cmd (answer setup es client cmd)) same ∙ sym (reached-more setup history (record { client = client; number = 0; cmd = cmd }))
+
+-- what is kept of members and currencies once an entry is posted
+module _ (held : Ledger) (client : ℕ) (cmd : Cmd) (members : List Account) (totals : List ℤ) (reached : IsReached held.setup held.entries) (valid : IsValid held.setup)
+    (accepted : is_refusal (answer held.setup held.entries client cmd) ≡ false)
+    (later : settled held.setup (held.entries ++ entry_of held.setup held.entries client cmd ∷ []) ≡ settled held.setup held.entries) where
+  moved : (m c : ℕ) → balance held.setup (held.entries ++ entry_of held.setup held.entries client cmd ∷ []) m c ≡ balance held.setup held.entries m c +ℤ moved_to m c (movement_by held.entries client cmd)
+  moved m c =
+      ap (λ done. balance_with (held.entries ++ entry_of held.setup held.entries client cmd ∷ []) done m c) later
+      ∙ balance-moved held.setup held.entries (settled held.setup held.entries) client cmd accepted reached.ordered m c
+
+  pub kept-accounts : AreAccounts held.setup.currencies (length held.setup.members) (balance held.setup held.entries) members
+      → AreAccounts held.setup.currencies (length held.setup.members) (balance held.setup (held.entries ++ entry_of held.setup held.entries client cmd ∷ []))
+      (accounts_after held.setup.currencies (movement_by held.entries client cmd) members)
+  kept-accounts are = by (movement_by held.entries client cmd) refl
+    where
+      by : (x : Option Movement) → movement_by held.entries client cmd ≡ x
+          → AreAccounts held.setup.currencies (length held.setup.members) (balance held.setup (held.entries ++ entry_of held.setup held.entries client cmd ∷ [])) (accounts_after held.setup.currencies x members)
+      by None is =
+          AreAccounts-same held.setup.currencies (length held.setup.members) (balance held.setup held.entries) (balance held.setup (held.entries ++ entry_of held.setup held.entries client cmd ∷ [])) members
+          (λ m c. zero-added (balance held.setup held.entries m c) ∙ ap (λ x. balance held.setup held.entries m c +ℤ moved_to m c x) (sym is) ∙ sym (moved m c)) are
+        where
+          zero-added : (b : ℤ) → b ≡ b +ℤ pos 0
+          zero-added b = omega (arith, ints)
+      by (Some x) is =
+          let known = known-movement held.setup held.entries client cmd x accepted reached.members is in
+          let member = is-member held.setup x.member known.member in
+          let places = are.places in
+          let high = member.1 in
+          let currency = ltb-true x.ccy (length held.setup.currencies) known.currency in
+          let few = (valid-currencies held.setup valid).1 in
+          AreAccounts-same held.setup.currencies (length held.setup.members) (λ m c. balance held.setup held.entries m c +ℤ moved_to m c (Some x))
+          (balance held.setup (held.entries ++ entry_of held.setup held.entries client cmd ∷ [])) (accounts_after held.setup.currencies (Some x) members)
+          (λ m c. ap (λ o. balance held.setup held.entries m c +ℤ moved_to m c o) (sym is) ∙ sym (moved m c))
+          (AreAccounts-moved held.setup.currencies (length held.setup.members) (balance held.setup held.entries) members x are (omega arith) (omega arith))
+
+  pub kept-figures : AreFigures (figure held.setup held.entries) totals
+      → AreFigures (figure held.setup (held.entries ++ entry_of held.setup held.entries client cmd ∷ [])) (figures_after (movement_by held.entries client cmd) totals)
+  kept-figures are = by (movement_by held.entries client cmd) refl
+    where
+      by : (x : Option Movement) → movement_by held.entries client cmd ≡ x
+          → AreFigures (figure held.setup (held.entries ++ entry_of held.setup held.entries client cmd ∷ [])) (figures_after x totals)
+      by None is = record {
+        places = are.places;
+        same = λ c. are.same c ∙ sym (sum-still (held.entries ++ entry_of held.setup held.entries client cmd ∷ []) held.entries (settled held.setup (held.entries ++ entry_of held.setup held.entries client cmd ∷ []))
+            (settled held.setup held.entries) (movement_by held.entries client cmd) c (λ m. moved m c) (length held.setup.members) is);
+      }
+      by (Some x) is =
+          let known = known-movement held.setup held.entries client cmd x accepted reached.members is in
+          let member = is-member held.setup x.member known.member in
+          let currency = ltb-true x.ccy (length held.setup.currencies) known.currency in
+          let few = (valid-currencies held.setup valid).1 in
+          let next = AreFigures-moved (figure held.setup held.entries) totals x are (omega arith) in
+          record {
+            places = next.places;
+            same = λ c. next.same c ∙ sym ((sum-moved (held.entries ++ entry_of held.setup held.entries client cmd ∷ []) held.entries (settled held.setup (held.entries ++ entry_of held.setup held.entries client cmd ∷ []))
+                (settled held.setup held.entries) (movement_by held.entries client cmd) c (λ m. moved m c) (length held.setup.members) x is member.0).1 member.1);
+          }
+
+-- what an entry moves can be posted
+pub can-post : (held : Ledger) (client : ℕ) (cmd : Cmd) (kept : List (ℕ × Pair)) (done : List Pair) (members : List Account) (totals : List ℤ) (shown : Seen) (x : Movement) → IsKept held kept done members totals shown
+    → is_refusal (answer held.setup held.entries client cmd) ≡ false → movement_by held.entries client cmd ≡ Some x → IsWithin most_total x.amt → CanPost held.setup members totals x
+can-post held client cmd kept done members totals shown x is accepted moves amount =
+    let reached = is-reached held.setup held.entries is.history is.reached in
+    let known = known-movement held.setup held.entries client cmd x accepted reached.members moves in
+    let member = is-member held.setup x.member known.member in
+    let high = member.1 in
+    let places = is.accounts.places in
+    let small = IsSmall-ledger held is.ledger in
+    let within : x.member < length members = omega arith in
+    let few = (valid-members held.setup is.ledger.valid).1 in
+    record {
+      member = within;
+      currency = ltb-true x.ccy (length held.setup.currencies) known.currency;
+      account = is.accounts.each x.member within;
+      small = small-account held.entries (settled held.setup held.entries) held.setup.currencies (length held.setup.members) members small is.accounts x.member;
+      amount = amount;
+      places = is.figures.places;
+      figure = subst (IsWithin (64 * most_total)) (sym (is.figures.same x.ccy))
+          (wider (figure held.setup held.entries x.ccy) few (small-sum held.entries (settled held.setup held.entries) x.ccy small (length held.setup.members)));
+    }
+  where
+    wider : (z : ℤ) → length held.setup.members ≤ 64 → IsWithin (length held.setup.members * most_total) z → IsWithin (64 * most_total) z
+    wider z few small = let low = small.above in let high = small.below in record { above = omega (arith, ints); below = omega (arith, ints) }
+
+-- an entry that is no walk adds at most a pair, and moves what it moves
+pub IsKept-accepted : (held : Ledger) (entry : Entry) (kept : List (ℕ × Pair)) (posted : List Pair) (members : List Account) (totals : List ℤ) (shown later : Seen) → HasSeen (held.entries ++ entry ∷ []) later → IsKept held kept posted members totals shown → held.applied < 65535
     → is_walk entry.client entry.cmd ≡ false → entry.reply ≡ answer_to held entry.client entry.cmd → is_refusal entry.reply ≡ false
     → IsKept (record { setup = held.setup; entries = held.entries ++ entry ∷ []; applied = held.applied + 1 })
     (kept ++ map kept_as (cons_option (opened_by entry.client entry.cmd entry.reply) [])) posted
-IsKept-accepted held entry kept posted is room other answered accepted =
+    (accounts_after held.setup.currencies (movement_by held.entries entry.client entry.cmd) members) (figures_after (movement_by held.entries entry.client entry.cmd) totals) later
+IsKept-accepted held entry kept posted members totals shown later has is room other answered accepted =
     let new = cons_option (opened_by entry.client entry.cmd entry.reply) [] in
     let more : pairs (held.entries ++ entry ∷ []) ≡ pairs held.entries ++ new = filter_map-append (λ (x : Entry). opened_by x.client x.cmd x.reply) held.entries (entry ∷ []) in
-    let none = settles-none held.setup held.entries (settled held.setup held.entries) entry.client entry.cmd other (ap is_refusal (sym answered) ∙ accepted) in
+    let taken = ap is_refusal (sym answered) ∙ accepted in
+    let none = settles-none held.setup held.entries (settled held.setup held.entries) entry.client entry.cmd other taken in
+    let still = settled-push held.setup held.entries entry ∙ ap (λ ps. settled held.setup held.entries ++ ps) none ∙ append-nil (settled held.setup held.entries) in
+    let same : entry ≡ entry_of held.setup held.entries entry.client entry.cmd = λ i. record { client = entry.client; cmd = entry.cmd; reply = answered i } in
+    let reached = is-reached held.setup held.entries is.history is.reached in
+    let still_so = ap (λ e. settled held.setup (held.entries ++ e ∷ [])) (sym same) ∙ still in
     record {
       ledger = IsLedger-accepted held entry.client entry.cmd entry.reply is.ledger room answered accepted;
+      history = is.history ++ record { client = entry.client; number = 0; cmd = entry.cmd } ∷ [];
+      reached = ap (λ e. held.entries ++ e ∷ []) same ∙ more-reached held.setup held.entries is.history entry.client entry.cmd is.reached taken;
       pairs = ap (λ es. es ++ map kept_as new) is.pairs ∙ sym (map-append-kept (pairs held.entries) new) ∙ ap (map kept_as) (sym more);
-      settled = is.settled ∙ sym (settled-push held.setup held.entries entry ∙ ap (λ ps. settled held.setup held.entries ++ ps) none ∙ append-nil (settled held.setup held.entries));
+      settled = is.settled ∙ sym still;
+      accounts = subst (λ e. AreAccounts held.setup.currencies (length held.setup.members) (balance held.setup (held.entries ++ e ∷ [])) (accounts_after held.setup.currencies (movement_by held.entries entry.client entry.cmd) members))
+          (sym same) (kept-accounts held entry.client entry.cmd members totals reached is.ledger.valid taken still_so is.accounts);
+      figures = subst (λ e. AreFigures (figure held.setup (held.entries ++ e ∷ [])) (figures_after (movement_by held.entries entry.client entry.cmd) totals))
+          (sym same) (kept-figures held entry.client entry.cmd members totals reached is.ledger.valid taken still_so is.figures);
+      seen = has;
     }
   where
     map-append-kept : (xs ys : List Pair) → map kept_as (xs ++ ys) ≡ map kept_as xs ++ map kept_as ys
     map-append-kept [] ys = refl
     map-append-kept (x ∷ xs) ys = ap (λ es. kept_as x ∷ es) (map-append-kept xs ys)
 
--- and a walk adds what it takes to the settled pairs
-pub IsKept-walked : (held : Ledger) (most count : ℕ) (kept : List (ℕ × Pair)) (posted : List Pair) → IsKept held kept posted → held.applied < 65535
-    → Settled count ≡ answer_to held 0 (Settle most)
-    → IsKept (record { setup = held.setup; entries = held.entries ++ record { client = 0; cmd = Settle most; reply = Settled count } ∷ []; applied = held.applied + 1 })
-    kept (posted ++ pass held.setup held.entries posted most (candidates held.entries posted))
-unfolding taken_by
-IsKept-walked held most count kept posted is room answered =
-    let entry : Entry = record { client = 0; cmd = Settle most; reply = Settled count } in
-    let more : pairs (held.entries ++ entry ∷ []) ≡ pairs held.entries ++ [] = filter_map-append (λ (x : Entry). opened_by x.client x.cmd x.reply) held.entries (entry ∷ []) in
-    record {
-      ledger = IsLedger-accepted held 0 (Settle most) (Settled count) is.ledger room answered refl;
-      pairs = is.pairs ∙ ap (map kept_as) (sym (more ∙ append-nil (pairs held.entries)));
-      settled = ap (λ done. done ++ pass held.setup held.entries done most (candidates held.entries done)) is.settled ∙ sym (settled-push held.setup held.entries entry);
-    }
-
 -- the answer to the operator's word to settle
 pub answer-walk : (held : Ledger) (most : ℕ)
     → answer_to held 0 (Settle most) ≡ Settled (length (pass held.setup held.entries (settled held.setup held.entries) most (candidates held.entries (settled held.setup held.entries))))
 unfolding answer
 answer-walk held most = refl
+
+-- a walk changes no figure
+figure-walked : (setup : Setup) (entries : List Entry) (history : List Row) (most c : ℕ) → entries ≡ book_of setup history → is_refusal (answer setup entries 0 (Settle most)) ≡ false
+    → figure setup (entries ++ entry_of setup entries 0 (Settle most) ∷ []) c ≡ figure setup entries c
+figure-walked setup entries history most c same accepted =
+    let longer = history ++ record { client = 0; number = 0; cmd = Settle most } ∷ [] in
+    let before = subst (λ es. IsCovered setup es c) (sym same) (is-covered setup c history) in
+    let after_it = subst (λ es. IsCovered setup es c) (sym (more-reached setup entries history 0 (Settle most) same accepted)) (is-covered setup c longer) in
+    let moves = walk-moves-none setup entries most c in
+    after_it.difference ∙ (λ i. (pos (moves.0 i) -ℤ pos (moves.1 i)) +ℤ pos (moves.2 i)) ∙ sym before.difference
+
+-- what a walk starts with
+pub walk-offered : (held : Ledger) (kept : List (ℕ × Pair)) (posted : List Pair) (members : List Account) (totals : List ℤ) (shown : Seen) (es : List Entry) (offered : List Pair)
+    → IsKept held kept posted members totals shown → es ≡ held.entries → offered ≡ candidates held.entries posted → IsOffered held.setup es offered
+walk-offered held kept posted members totals shown es offered is same given = record {
+  valid = is.ledger.valid;
+  small = subst (λ x. total x ≤ most_total) (sym same) (total-small held is.ledger);
+  tradable = subst (AllByRecursion (IsTradable held.setup)) (sym given) (offered-tradable held.setup held.entries posted is.history is.reached);
+}
+
+pub walk-start : (held : Ledger) (kept : List (ℕ × Pair)) (posted : List Pair) (members : List Account) (totals : List ℤ) (shown : Seen) (es : List Entry) (done offered : List Pair) (most : ℕ)
+    → IsKept held kept posted members totals shown → es ≡ held.entries → done ≡ posted → offered ≡ candidates held.entries posted
+    → IsWalking held.setup es done offered most 0 0 done members
+walk-start held kept posted members totals shown es done offered most is same settled_so given =
+    let start : IsWalking held.setup held.entries posted (candidates held.entries posted) most 0 0 posted members = record {
+      walked = IsWalked-start held.setup held.entries posted (candidates held.entries posted) (matched held.entries) most
+          (subst (λ ps. IsWithinMatched ps (candidates held.entries ps) (matched held.entries)) (sym is.settled) is.ledger.within);
+      accounts = subst (λ ps. AreAccounts held.setup.currencies (length held.setup.members) (balance_with held.entries ps) members) (sym is.settled) is.accounts;
+      counted = omega arith;
+    } in
+    subst (λ x. IsWalking held.setup x done offered most 0 0 done members) (sym same)
+    (subst (λ ps. IsWalking held.setup held.entries ps offered most 0 0 ps members) (sym settled_so)
+    (subst (λ ps. IsWalking held.setup held.entries posted ps most 0 0 posted members) (sym given) start))
+
+-- and what it ends with
+module _ (held : Ledger) (most i count : ℕ) (kept : List (ℕ × Pair)) (posted now : List Pair) (members later : List Account) (totals : List ℤ) (shown : Seen)
+    (is : IsKept held kept posted members totals shown) (all : length (candidates held.entries posted) ≤ i)
+    (walking : IsWalking held.setup held.entries posted (candidates held.entries posted) most i count now later) where
+  ended : (now ≡ posted ++ pass held.setup held.entries posted most (candidates held.entries posted)) × (count ≡ length (pass held.setup held.entries posted most (candidates held.entries posted)))
+  ended = IsWalked-all held.setup held.entries posted (candidates held.entries posted) (matched held.entries) most i count now all walking.walked
+
+  pub walk-answer : Settled count ≡ answer_to held 0 (Settle most)
+  walk-answer =
+      ap Settled (ended.1 ∙ ap (λ done. length (pass held.setup held.entries done most (candidates held.entries done))) is.settled) ∙ sym (answer-walk held most)
+
+  pub IsKept-walked : held.applied < 65535
+      → IsKept (record { setup = held.setup; entries = held.entries ++ record { client = 0; cmd = Settle most; reply = Settled count } ∷ []; applied = held.applied + 1 }) kept now later totals shown
+  unfolding taken_by
+  IsKept-walked room =
+      let entry : Entry = record { client = 0; cmd = Settle most; reply = Settled count } in
+      let more : pairs (held.entries ++ entry ∷ []) ≡ pairs held.entries ++ [] = filter_map-append (λ (x : Entry). opened_by x.client x.cmd x.reply) held.entries (entry ∷ []) in
+      let same : entry ≡ entry_of held.setup held.entries 0 (Settle most) = λ i. record { client = 0; cmd = Settle most; reply = walk-answer i } in
+      let accepted : is_refusal (answer held.setup held.entries 0 (Settle most)) ≡ false = ap is_refusal (answer-walk held most) in
+      let reached = is-reached held.setup held.entries is.history is.reached in
+      let settled_now : now ≡ settled held.setup (held.entries ++ entry ∷ []) =
+      ended.0 ∙ ap (λ done. done ++ pass held.setup held.entries done most (candidates held.entries done)) is.settled ∙ sym (settled-push held.setup held.entries entry) in
+      record {
+        ledger = IsLedger-accepted held 0 (Settle most) (Settled count) is.ledger room walk-answer refl;
+        history = is.history ++ record { client = 0; number = 0; cmd = Settle most } ∷ [];
+        reached = ap (λ e. held.entries ++ e ∷ []) same ∙ more-reached held.setup held.entries is.history 0 (Settle most) is.reached accepted;
+        pairs = is.pairs ∙ ap (map kept_as) (sym (more ∙ append-nil (pairs held.entries)));
+        settled = settled_now;
+        accounts = AreAccounts-same held.setup.currencies (length held.setup.members) (balance_with held.entries now) (balance held.setup (held.entries ++ entry ∷ [])) later
+            (λ m c. none (balance_with held.entries now m c) ∙ sym (balance-moved held.setup held.entries now 0 (Settle most) accepted reached.ordered m c)
+            ∙ ap (λ e. balance_with (held.entries ++ e ∷ []) now m c) (sym same) ∙ ap (λ done. balance_with (held.entries ++ entry ∷ []) done m c) settled_now) walking.accounts;
+        figures = record {
+          places = is.figures.places;
+          same = λ c. is.figures.same c ∙ sym (ap (λ e. figure held.setup (held.entries ++ e ∷ []) c) same ∙ figure-walked held.setup held.entries is.history most c is.reached accepted);
+        };
+        seen = HasSeen-more held.entries entry shown shown
+            (record { pay_ins = λ c k. still (seen_pay_in shown c k); matched = λ r. still (seen_matched shown r); asked = λ m r. still (seen_asked shown m r) }) is.seen;
+      }
+    where
+      none : (b : ℤ) → b ≡ b +ℤ pos 0
+      none b = omega (arith, ints)
 
 -- what a walk leaves
 pub after-walk : (held : Ledger) (most count : ℕ) → Settled count ≡ answer_to held 0 (Settle most)

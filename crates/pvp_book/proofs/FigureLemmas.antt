@@ -1,9 +1,9 @@
 -- Legs and figures: what settled pairs bring is what they take.
-use Rattle.std.proofs.Common.{◌≡◌, ℕ, suc, zero, ◌+◌, ◌≤◌, ◌<◌, Bool, true, false, cond, List, [], ◌∷◌, ◌++◌, length, map, fold, arith, refl, ap, sym, subst, ◌∙◌, sum_by, ℤ, pos, ◌+ℤ◌, ◌-ℤ◌, ◌≤ℤ◌, neg_ℤ, add-one, eqb-true, ◌⊎◌, inl, inr}
+use Rattle.std.proofs.Common.{◌≡◌, ℕ, suc, zero, ◌+◌, ◌≤◌, Bool, true, false, cond, List, [], ◌∷◌, ◌++◌, length, map, fold, arith, refl, ap, sym, subst, ◌∙◌, sum_by, ℤ, pos, ◌+ℤ◌, ◌-ℤ◌, ◌≤ℤ◌, neg_ℤ, add-one, eqb-true}
 use Rattle.std.specs.Prelude.{◌&&◌, ◌||◌, ◌==◌, if◌then◌else◌, int_lt, Some, None}
 use Rattle.std.specs.List.{flat_map, cons_option, AllByRecursion}
 use Rattle.std.proofs.lemmas.Int.{ints}
-use Rattle.std.proofs.lemmas.Bool.{and_parts, leb-true, ne_eqb, eq-eqb, cases_eq}
+use Rattle.std.proofs.lemmas.Bool.{and_parts, ne_eqb, eq-eqb}
 use Rattle.std.proofs.lemmas.List.Sums.{sum_by-cons, sum_by-append, fold-append}
 use Rattle.std.proofs.lemmas.List.Folds.{list_any-append}
 use Rattle.std.proofs.lemmas.List.Elements.{filter-append, filter_map-append}
@@ -220,13 +220,13 @@ figure-is setup entries c pairs_are all theirs =
     difference : (a b x r y z : ℕ) → a ≡ (x + r) + z → b ≡ y + z → pos a -ℤ pos b ≡ (pos x -ℤ pos y) +ℤ pos r
     difference a b x r y z left right = omega (arith, ints)
 
-fund-member : (setup : Setup) (entries : List Entry) (client c pay member amt : ℕ)
+pub fund-member : (setup : Setup) (entries : List Entry) (client c pay member amt : ℕ)
     → is_refusal (on_fund setup entries client c pay member amt) ≡ false → has_member setup member ≡ true
 fund-member setup entries client c pay member amt e =
     (and_parts (has_currency setup c) (has_member setup member) (is-so _ (passed (fund_checks setup entries client c pay member amt) Done e).1.0)).1
 
 -- a pay-out is a member's, and no more than the figure
-pay_out-member : (setup : Setup) (entries : List Entry) (client c amt : ℕ)
+pub pay_out-member : (setup : Setup) (entries : List Entry) (client c amt : ℕ)
     → is_refusal (on_pay_out setup entries client c amt) ≡ false → (has_member setup client ≡ true) × (int_lt (figure setup entries c) (pos amt) ≡ false)
 pay_out-member setup entries client c amt e =
     let t = passed (pay_out_checks setup entries client c amt) (Order (length (orders entries c) + 1)) e in (is-so _ t.1.0, t.1.1.1.1.1.1.0)
@@ -340,6 +340,10 @@ covered-so-far setup history =
       orders = λ c. made-more setup entries client cmd c accepted (held.orders c);
       covered = covered-step setup entries client cmd held accepted;
     }) history
+
+pub orders-of-members : (setup : Setup) (history : List Row) (c : ℕ) → AllByRecursion (λ (o : PayOrder). has_member setup o.member ≡ true) (orders (book_of setup history) c)
+unfolding IsMembers
+orders-of-members setup history c = (covered-so-far setup history).orders c
 
 pub is-covered : (setup : Setup) (c : ℕ) (history : List Row) → IsCovered setup (book_of setup history) c
 is-covered setup c history =

@@ -2,7 +2,7 @@
 use Rattle.std.proofs.Common.{◌≡◌, ℕ, suc, ◌+◌, ◌*◌, ◌≤◌, ◌<◌, Bool, true, false, List, [], ◌∷◌, ◌++◌, length, arith, refl, ap, sym, subst, ◌∙◌, length-append, Option, Some, None}
 use Rattle.std.specs.Prelude.{not, sum_by, ◌-◌, ◌^◌, zero, slice_get, map, filter, fold, ◌==◌, ◌&&◌, if◌then◌else◌}
 use Rattle.std.specs.List.{filter_map, cons_option, range_with_len}
-use Rattle.std.proofs.Common.{ℤ, pos, ◌+ℤ◌, ◌-ℤ◌, to_z, of_z, w64, FitsSigned}
+use Rattle.std.proofs.Common.{pos, ◌+ℤ◌, ◌-ℤ◌}
 use Rattle.std.proofs.lemmas.Int.{ints}
 use Rattle.std.proofs.lemmas.Bool.{and_parts, leb-true}
 use Rattle.std.proofs.lemmas.List.Sums.{sum_by-cons, sum_by_push, length-filter, count_by-le-length, fold-append}
@@ -186,7 +186,7 @@ instruct-small setup entries client reference other sell sell_amt buy buy_amt e 
     cases false member currency small rest e = absurd (cc)
 
 -- a command that is not refused names no greater amounts
-accepted-small : (setup : Setup) (entries : List Entry) (client : ℕ) (cmd : Cmd)
+pub accepted-small : (setup : Setup) (entries : List Entry) (client : ℕ) (cmd : Cmd)
     → is_refusal (answer setup entries client cmd) ≡ false → amount_of cmd ≤ 2 * most_amount
 unfolding answer
 accepted-small setup entries client (Instruct reference other sell sell_amt buy buy_amt) e =
@@ -225,26 +225,9 @@ IsLedger-accepted held client cmd reply is room answered accepted =
           (sym (settled-push held.setup held.entries entry)) (IsWithinMatched-push held.setup held.entries (settled held.setup held.entries) entry is.within);
     }
 
--- a difference of small numbers is the same in the type
-pub difference : (a b : ℕ) → a ≤ most_total → b ≤ most_total → to_z w64 (of_z w64 (to_z w64 a -ℤ to_z w64 b)) ≡ pos a -ℤ pos b
-difference a b small_a small_b = omega (arith, ints)
-
-pub difference-fits : (a b : ℕ) → a ≤ most_total → b ≤ most_total → FitsSigned w64 (to_z w64 a -ℤ to_z w64 b)
-difference-fits a b small_a small_b = omega (arith, ints)
-
--- and it is small
+-- a difference of small numbers is small
 pub difference-small : (a b : ℕ) → a ≤ most_total → b ≤ most_total → IsWithin most_total (pos a -ℤ pos b)
 difference-small a b small_a small_b = record { above = omega (arith, ints); below = omega (arith, ints) }
-
--- one more small number
-sum-more : (n : ℕ) (so_far more : ℤ) → n < 64 → IsWithin (n * most_total) so_far → IsWithin most_total more
-    → (to_z w64 (of_z w64 (so_far +ℤ to_z w64 (of_z w64 more))) ≡ so_far +ℤ more) × IsWithin ((n + 1) * most_total) (so_far +ℤ more)
-sum-more n so_far more few small one =
-    let above = small.above in
-    let below = small.below in
-    let above_one = one.above in
-    let below_one = one.below in
-    (omega (arith, ints), record { above = omega (arith, ints); below = omega (arith, ints) })
 
 -- the next member's balance
 pub sum_of_balances-more : (entries : List Entry) (done : List Pair) (n c : ℕ)
@@ -252,21 +235,6 @@ pub sum_of_balances-more : (entries : List Entry) (done : List Pair) (n c : ℕ)
 sum_of_balances-more entries done n c =
     ap (fold ◌+ℤ◌ (pos 0)) (map-range_with_len_more (λ m. balance_with entries done m c) 1 n (n + 1) (omega arith))
     ∙ fold-append ◌+ℤ◌ (pos 0) (map (λ m. balance_with entries done m c) (range_with_len 1 n)) (balance_with entries done (n + 1) c ∷ [])
-
--- what is added up so far, and that it is small
-pub record IsSum (entries : List Entry) (done : List Pair) (n c : ℕ) (sum : ℤ) : Type 0 where
-  pub so_far : sum ≡ sum_of_balances n entries done c
-  pub small : IsWithin (n * most_total) sum
-
-pub IsSum-more : (entries : List Entry) (done : List Pair) (n c : ℕ) (sum more : ℤ) → n < 64 → IsSum entries done n c sum
-    → more ≡ balance_with entries done (n + 1) c → IsWithin most_total more
-    → IsSum entries done (n + 1) c (to_z w64 (of_z w64 (sum +ℤ to_z w64 (of_z w64 more))))
-IsSum-more entries done n c sum more few is value small =
-    let step = sum-more n sum more few is.small small in
-    record {
-      so_far = step.0 ∙ ap (λ s. s +ℤ more) is.so_far ∙ ap (λ m. sum_of_balances n entries done c +ℤ m) value ∙ sym (sum_of_balances-more entries done n c);
-      small = subst (IsWithin ((n + 1) * most_total)) (sym step.0) step.1;
-    }
 
 pub length-open-le : (entries : List Entry) (c : ℕ) → length (open_orders entries c) ≤ length entries
 length-open-le entries c =

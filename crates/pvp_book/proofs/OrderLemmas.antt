@@ -25,12 +25,12 @@ fund-new : (setup : Setup) (entries : List Entry) (client c pay member amt : ℕ
 fund-new setup entries client c pay member amt e = (passed (fund_checks setup entries client c pay member amt) Done e).1.1.1.1.0
 
 -- a payment or return that is noted is of an order that was made and is neither paid nor returned
-end-known : (setup : Setup) (entries : List Entry) (client c out : ℕ)
+pub end-known : (setup : Setup) (entries : List Entry) (client c out : ℕ)
     → is_refusal (on_end setup entries client c out) ≡ false → (has_order entries c out ≡ true) × (has_end entries c out ≡ false)
 end-known setup entries client c out e = let t = passed (end_checks setup entries client c out) Done e in (is-so _ t.1.1.0, t.1.1.1.0)
 
 -- a pay-out that is taken makes the next order
-pay_out-order : (setup : Setup) (entries : List Entry) (client c amt : ℕ)
+pub pay_out-order : (setup : Setup) (entries : List Entry) (client c amt : ℕ)
     → is_refusal (on_pay_out setup entries client c amt) ≡ false → on_pay_out setup entries client c amt ≡ Order (length (orders entries c) + 1)
 pay_out-order setup entries client c amt e = unless-is (pay_out_checks setup entries client c amt) (Order (length (orders entries c) + 1)) e
 

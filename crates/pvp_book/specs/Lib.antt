@@ -1,10 +1,12 @@
 pub mod Accounts
 pub mod Answer
 pub mod Bounds
+pub mod Kept
 pub mod Laws
 pub mod Ledger
 pub mod Limits
 pub mod Open
 pub mod Orders
 pub mod Pairs
+pub mod Seen
 pub mod Settlement

@@ -1,11 +1,13 @@
 ghost use Rattle.std.specs.Prelude.{◌≡◌, ◌<◌, ◌≤◌, ◌+◌, ◌++◌, ◌∷◌, [], true, false, ◌||◌, length, slice_get, IfOk, OnOk};
 ghost use Rattle.pvp_book.specs.Answer.{is_amount, is_refusal, is_mirror};
 
+use crate::account::{self, Accounts};
 use crate::entry::Entry;
 use crate::open::{self, OpenOrders};
 use crate::pair::{self, Pair, PairState};
+use crate::seen::Seen;
+use crate::sums;
 use crate::terms::{has_member, is_amount, node_of};
-use crate::{sums, walk};
 use indexmap::IndexMap;
 use pvp_types::{Cmd, PayOrder, Reason, Reply, Setup};
 use std::alloc::{AllocError, Global};
@@ -26,27 +28,32 @@ pub struct Book {
     pairs: IndexMap<u32, Pair>,
     /// The settled pairs, in the order in which they were settled.
     settled: Vec<Pair>,
+    /// What each member has, and the figures.
+    accounts: Accounts,
+    /// Which numbers came.
+    seen: Seen,
     applied: u16,
 }
 
 impl Model for Book {
     ghost use Rattle.pvp_book.specs.Ledger.{Ledger};
-    ghost use Rattle.pvp_book.specs.Bounds.{IsKept};
+    ghost use Rattle.pvp_book.specs.Kept.{IsKept};
 
     ghost Value = { Ledger };
 
     ghost view = { λ b. record { setup = b.setup; entries = b.entries.items; applied = b.applied } };
 
-    ghost invariant = { λ b. IsKept (record { setup = b.setup; entries = b.entries.items; applied = b.applied }) b.pairs.entries b.settled.items };
+    ghost invariant = { λ b. IsKept (record { setup = b.setup; entries = b.entries.items; applied = b.applied }) b.pairs.entries b.settled.items b.accounts.members.items b.accounts.figures b.seen };
 }
 
 impl Book {
+    ghost use Rattle.std.specs.Option.{option_map};
     ghost use Rattle.pvp_types.specs.Setup.{IsValid};
     ghost use Rattle.pvp_types.specs.declared.command.Cmd.TheVariants.{Settle};
     ghost use Rattle.pvp_book.specs.Pairs.{pair_of, has_reference, is_rescinded};
     ghost use Rattle.pvp_book.specs.Limits.{passes};
     ghost use Rattle.pvp_book.specs.Settlement.{settled};
-    ghost use Rattle.pvp_book.specs.Ledger.{opening, balance, figure, open_orders, has_pay_in, outstanding, state_of, pair_state, pairs_in};
+    ghost use Rattle.pvp_book.specs.Ledger.{opening, balance, figure, value, queue, open_orders, has_pay_in, outstanding, state_of, pair_state, pairs_in};
     ghost use Rattle.pvp_book.specs.Orders.{orders};
     ghost use Rattle.pvp_book.specs.Open.{orders_left};
     ghost use Rattle.pvp_book.specs.Answer.{answer_to, after, is_walk, balances_less, is_side, on_instruct, on_mirror, on_rescind, on_pair, on_fund, on_pay_out, on_end, has_member, has_currency};
@@ -61,6 +68,8 @@ impl Book {
             entries: Vec::new(alloc),
             pairs: IndexMap::new(alloc),
             settled: Vec::new(alloc),
+            accounts: Accounts::new(alloc, setup.member_count())?,
+            seen: Seen::new(alloc),
             applied: 0,
         })
     }
@@ -89,15 +98,39 @@ impl Book {
     pub fn balance(&self, m: u16, c: u8) -> i64
         ensures { result ≡ balance self.now.setup self.now.entries m c }
     {
-        sums::balance(self.entries.as_slice(), self.settled.as_slice(), m, c)
+        self.accounts.balance(m, c)
     }
 
     /// The bank's figure in a currency: the sum of all members' balances, in minor units.
     pub fn figure(&self, c: u8) -> i64
         ensures { result ≡ figure self.now.setup self.now.entries c }
     {
-        let members = self.setup.member_count();
-        sums::sum_of_balances(self.entries.as_slice(), self.settled.as_slice(), members, c)
+        self.accounts.figure(c)
+    }
+
+    /// A member's value, in ten thousandths of the common unit: what it has is worth, less the
+    /// haircuts, so much more than what it is short is with them on top.
+    pub fn value(&self, m: u16) -> i128
+        ensures { result ≡ value self.now.setup self.now.entries m }
+    {
+        self.accounts.value(m)
+    }
+
+    /// How many matched pairs wait: those that are neither settled nor taken back by both sides.
+    pub fn queued(&self) -> usize
+        ensures { result ≡ length (queue self.now.setup self.now.entries) }
+    {
+        pair::count_queued(self.entries.as_slice(), &self.seen, self.settled.as_slice())
+    }
+
+    /// The reference of the waiting pair at a place, in the order in which they were matched, which
+    /// is the order of a walk.
+    pub fn queue_at(&self, at: usize) -> Option<u32>
+        ensures { result ≡ option_map (λ p. p.reference) (slice_get (queue self.now.setup self.now.entries) at) }
+    {
+        let entries = self.entries.as_slice();
+        let pair = pair::queued_at(entries, &self.seen, self.settled.as_slice(), at)?;
+        Some(pair.reference)
     }
 
     /// The outstanding order at a place, by currency, then number, and the client number of its
@@ -145,7 +178,7 @@ impl Book {
         ensures { result ≡ length (pairs_in self.now.setup self.now.entries state) }
     {
         let entries = self.entries.as_slice();
-        pair::count_in(entries, self.settled.as_slice(), state) as u32
+        pair::count_in(entries, &self.seen, self.settled.as_slice(), state) as u32
     }
 
     fn pair_of(&self, reference: u32) -> Option<Pair>
@@ -157,7 +190,7 @@ impl Book {
     fn state_of(&self, pair: &Pair) -> PairState
         ensures { result ≡ state_of self.now.setup self.now.entries pair.now }
     {
-        pair::state_of(self.entries.as_slice(), self.settled.as_slice(), pair)
+        pair::state_of(&self.seen, self.settled.as_slice(), pair)
     }
 
     /// What the bank was set up with.
@@ -180,7 +213,7 @@ impl Book {
     pub fn paid_in(&self, c: u8, k: u32) -> bool
         ensures { result ≡ has_pay_in self.now.entries c k }
     {
-        sums::has_pay_in(self.entries.as_slice(), c, k)
+        self.seen.has_pay_in(c, k)
     }
 
     /// Walks over the matched pairs, at the operator's word.
@@ -191,15 +224,18 @@ impl Book {
     {
         let alloc = *self.entries.allocator();
         let entries = self.entries.as_slice();
-        let offered = pair::candidates(alloc, entries, self.settled.as_slice())?;
+        let offered = pair::candidates(alloc, entries, &self.seen, self.settled.as_slice())?;
         self.entries.reserve(1)?;
-        let count = walk::settle(
-            &self.setup,
-            self.entries.as_slice(),
-            &mut self.settled,
-            offered.as_slice(),
-            most,
-        )?;
+        self.settled.reserve(offered.len())?;
+        let mut count = 0;
+        for pair in &offered {
+            if count < most {
+                if self.accounts.settle(&self.setup, pair) {
+                    self.settled.push_reserved(*pair);
+                    count += 1;
+                }
+            }
+        }
         let reply = Reply::Settled(count);
         self.entries.push(Entry {
             client: OPERATOR,
@@ -235,10 +271,14 @@ impl Book {
         ensures { OnOk result (self.new ≡ record self.old { entries = self.old.entries ++ entry ∷ []; applied = self.old.applied + 1 }) }
     {
         self.entries.reserve(1)?;
+        self.pairs.reserve(1)?;
+        let moved = account::movement_by(self.entries.as_slice(), &entry);
+        self.seen.note(&entry)?;
         if let Some(pair) = pair::opened_by(&entry) {
             self.pairs.insert(pair.reference, pair)?;
         }
         self.entries.push(entry)?;
+        self.accounts.post(&self.setup, moved);
         self.applied += 1;
         Ok(())
     }
@@ -359,8 +399,7 @@ impl Book {
     fn is_side(&self, pair: &Pair, client: u16) -> bool
         ensures { result ≡ is_side self.now.entries pair.now client }
     {
-        client == pair.first
-            || (client == pair.second && pair::is_matched(self.entries.as_slice(), pair))
+        client == pair.first || (client == pair.second && self.seen.is_matched(pair.reference))
     }
 
     /// Whether a pair is settled or rescinded.
@@ -368,7 +407,7 @@ impl Book {
         ensures { result ≡ (has_reference (settled self.now.setup self.now.entries) pair.now.reference || is_rescinded self.now.entries pair.now) }
     {
         pair::has_reference(self.settled.as_slice(), pair.reference)
-            || pair::is_rescinded(self.entries.as_slice(), pair)
+            || pair::is_rescinded(&self.seen, pair)
     }
 
     fn on_fund(&self, client: u16, c: u8, pay: u32, member: u16, amt: u64) -> Reply
@@ -413,18 +452,12 @@ impl Book {
 
     /// Whether a member still passes its tests once an amount of a currency is paid out.
     fn passes_after(&self, m: u16, c: u8, amt: u64) -> bool
+        requires member { has_member self.now.setup m ≡ true }
         requires known { has_currency self.now.setup c ≡ true }
         requires amount { is_amount amt ≡ true }
         ensures { result ≡ passes self.now.setup m (balances_less self.now.setup self.now.entries (settled self.now.setup self.now.entries) m c amt) }
     {
-        walk::passes_after(
-            &self.setup,
-            self.entries.as_slice(),
-            self.settled.as_slice(),
-            m,
-            c,
-            amt,
-        )
+        self.accounts.passes_less(&self.setup, m, c, amt)
     }
 
     /// Answers a node's word on an order, that it paid it or returned it.

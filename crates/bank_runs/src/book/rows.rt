@@ -28,6 +28,11 @@ fn a_negative_value_keeps_a_pair_waiting(rt: HostRuntime) -> Result<(), Fail> {
     assert_eq!(rt; book.balance(ALFA, USD), 1200);
     assert_eq!(rt; book.balance(BETA, EUR), 47);
     assert_eq!(rt; book.pairs(PairState::Matched), 1);
+    assert_eq!(rt; book.queued(), 1);
+    assert_eq!(rt; book.queue_at(0), Some(1));
+    assert_eq!(rt; book.queue_at(1), None);
+    assert_eq!(rt; book.value(ALFA), 1_200_000_000);
+    assert_eq!(rt; book.value(BETA), 49_115_000);
     Ok(())
 }
 
@@ -42,6 +47,10 @@ fn a_value_of_0_settles(rt: HostRuntime) -> Result<(), Fail> {
     assert_eq!(rt; book.figure(EUR), 48);
     assert_eq!(rt; book.figure(USD), 1200);
     assert_eq!(rt; book.pairs(PairState::Settled), 1);
+    assert_eq!(rt; book.queued(), 0);
+    assert_eq!(rt; book.queue_at(0), None);
+    assert_eq!(rt; book.value(ALFA), 1_145_000_000);
+    assert_eq!(rt; book.value(BETA), 440_000);
     Ok(())
 }
 

@@ -5,7 +5,7 @@ use super::*;
 type Offer = ((u8, u64), (u8, u64));
 
 /// The balances of one member once a pair is posted.
-fn posted(balances: [i64; 3], sell: (u8, u64), buy: (u8, u64)) -> [i64; 3] {
+pub fn posted(balances: [i64; 3], sell: (u8, u64), buy: (u8, u64)) -> [i64; 3] {
     let mut after = balances;
     for (c, balance) in after.iter_mut().enumerate() {
         if c == usize::from(sell.0) {
@@ -18,29 +18,34 @@ fn posted(balances: [i64; 3], sell: (u8, u64), buy: (u8, u64)) -> [i64; 3] {
     after
 }
 
-/// The three tests, at the limits and rates of the setup.
-fn passes(balances: [i64; 3]) -> bool {
+/// A member's value, at the rates of the setup.
+pub fn value(balances: [i64; 3]) -> i64 {
     let mut value: i64 = 0;
-    let mut shortage: i64 = 0;
-    for (balance, (rate, haircut, short)) in balances.iter().zip([
-        (110, 500, 1000),
-        (100, 0, 1000),
-        (1, 1000, 100_000),
-    ].iter())
-    {
+    let rates = [(110, 500), (100, 0), (1, 1000)];
+    for (balance, (rate, haircut)) in balances.iter().zip(rates.iter()) {
+        let rated = balance.wrapping_mul(*rate);
         if *balance < 0 {
-            let rated = balance.wrapping_neg().wrapping_mul(*rate);
-            value = value.wrapping_sub(rated.wrapping_mul(10_000i64.wrapping_add(*haircut)));
-            shortage = shortage.wrapping_add(rated);
+            value = value.wrapping_add(rated.wrapping_mul(10_000i64.wrapping_add(*haircut)));
         } else {
-            let rated = balance.wrapping_mul(*rate);
             value = value.wrapping_add(rated.wrapping_mul(10_000i64.wrapping_sub(*haircut)));
+        }
+    }
+    value
+}
+
+/// The three tests, at the limits and rates of the setup.
+pub fn passes(balances: [i64; 3]) -> bool {
+    let mut shortage: i64 = 0;
+    let limits = [(110, 1000), (100, 1000), (1, 100_000)];
+    for (balance, (rate, short)) in balances.iter().zip(limits.iter()) {
+        if *balance < 0 {
+            shortage = shortage.wrapping_sub(balance.wrapping_mul(*rate));
         }
         if balance.wrapping_add(*short) < 0 {
             return false;
         }
     }
-    value >= 0 && shortage <= 150_000
+    value(balances) >= 0 && shortage <= 150_000
 }
 
 /// Which of the offers a walk posts, from these balances on.

@@ -1,0 +1,155 @@
+-- What a book keeps beside its entries, and what each kept value is by its definition.
+use Rattle.std.specs.Prelude.{◌≡◌, ℕ, ◌+◌, ◌<◌, ◌==◌, ◌&&◌, Bool, false, not, ◌-◌, ◌≤◌, slice_get, map, nat_le, if◌then◌else◌, List, [], length, sum_by, find, Option, Some, None, slice_set, slice_index_or, replicate, All, ◌*◌, ℤ, pos, neg_ℤ, ◌+ℤ◌, int_lt}
+use Rattle.std.specs.List.{zip}
+use Rattle.std.specs.Option.{option_map, option_map_or}
+use Rattle.pvp_types.specs.declared.setup.Setup.{Setup}
+use Rattle.pvp_types.specs.declared.command.Cmd.{Cmd}
+use Rattle.pvp_types.specs.declared.command.Cmd.TheVariants.{Fund, PayOut, Returned}
+use Rattle.pvp_types.specs.declared.command.PayOrder.{PayOrder}
+use Rattle.pvp_types.specs.declared.setup.Currency.{Currency}
+use Rattle.pvp_types.specs.declared.setup.Member.{Member}
+use Rattle.pvp_book.specs.declared.account.Account.{Account}
+use Rattle.pvp_book.specs.declared.seen.Seen.{Seen}
+use Rattle.pvp_book.specs.Seen.{HasSeen}
+use Rattle.pvp_book.specs.declared.account.Movement.{Movement}
+use Rattle.pvp_book.specs.declared.entry.Entry.{Entry}
+use Rattle.pvp_book.specs.declared.pair.Pair.{Pair}
+use Rattle.pvp_book.specs.Orders.{orders}
+use Rattle.pvp_book.specs.Pairs.{pairs}
+use Rattle.pvp_book.specs.Settlement.{settled}
+use Rattle.pvp_book.specs.Ledger.{Ledger, balance, figure}
+use Rattle.pvp_book.specs.Answer.{Row, book_of}
+use Rattle.pvp_book.specs.Bounds.{most_total, IsWithin, IsLedger}
+use Rattle.pvp_book.specs.Limits.{value_of, shortage_of, is_within_short}
+
+-- the account of some balances
+abbrev pub account_of : List Currency → List ℤ → Account
+account_of currencies balances = record {
+  balances = balances;
+  value = value_of currencies balances;
+  shortage = sum_by shortage_of (zip currencies balances);
+}
+
+-- an account whose value and shortage are those of its balances
+pub record IsAccount (currencies : List Currency) (account : Account) : Type 0 where
+  pub places : length account.balances ≡ 8
+  pub same : account ≡ account_of currencies account.balances
+
+-- the account once an amount of a currency is posted on it
+abbrev pub posted : List Currency → ℕ → ℤ → Account → Account
+posted currencies c amt account = account_of currencies (slice_set account.balances c (slice_index_or account.balances c (pos 0) +ℤ amt))
+
+-- the account once an amount of one currency is sold for one of another
+abbrev pub traded : List Currency → ℕ → ℕ → ℕ → ℕ → Account → Account
+traded currencies sell sell_amt buy buy_amt account = posted currencies buy (pos buy_amt) (posted currencies sell (neg_ℤ (pos sell_amt)) account)
+
+-- the three tests, on what is kept
+abbrev pub is_within_limits : Member → Account → Bool
+is_within_limits member account =
+    not (int_lt account.value (pos 0)) && (is_within_short member.short account.balances && nat_le account.shortage member.aggregate)
+
+-- an account with nothing in it
+abbrev pub empty_account : Account
+empty_account = record { balances = replicate 8 (pos 0); value = pos 0; shortage = 0 }
+
+-- what an account that is not there reads as
+abbrev pub no_account : Account
+no_account = record { balances = []; value = pos 0; shortage = 0 }
+
+abbrev pub account_at : List Account → ℕ → Account
+account_at accounts m = slice_index_or accounts m no_account
+
+-- a member's balance in a currency, as its account has it
+abbrev pub balance_at : List Account → ℕ → ℕ → ℤ
+balance_at accounts m c = slice_index_or (account_at accounts m).balances c (pos 0)
+
+-- There is an account for each of n members, by its number, and one for the operator; they have these balances.
+pub record AreAccounts (currencies : List Currency) (n : ℕ) (balance : ℕ → ℕ → ℤ) (accounts : List Account) : Type 0 where
+  pub places : length accounts ≡ n + 1
+  pub each : (m : ℕ) → m < length accounts → IsAccount currencies (account_at accounts m)
+  pub same : (m c : ℕ) → balance_at accounts m c ≡ balance m c
+
+-- the figures by currency
+pub record AreFigures (figure : ℕ → ℤ) (figures : List ℤ) : Type 0 where
+  pub places : length figures ≡ 8
+  pub same : (c : ℕ) → slice_index_or figures c (pos 0) ≡ figure c
+
+-- an order of a currency, by its number
+abbrev pub order_of : List Entry → ℕ → ℕ → Option PayOrder
+order_of entries c out = find (λ order. order.out == out) (orders entries c)
+
+-- what an accepted command posts on one account: a pay-in, a pay-out, or an order that is returned
+abbrev pub movement_by : List Entry → ℕ → Cmd → Option Movement
+movement_by entries client (Fund ccy pay member amt) = Some (record { member = member; ccy = ccy; amt = pos amt })
+movement_by entries client (PayOut ccy amt) = Some (record { member = client; ccy = ccy; amt = neg_ℤ (pos amt) })
+movement_by entries client (Returned ccy out) = option_map (λ order. record { member = order.member; ccy = ccy; amt = pos order.amt }) (order_of entries ccy out)
+movement_by entries client _ = None
+
+-- what comes of it to a member in a currency, and to a figure
+abbrev pub moved_to : ℕ → ℕ → Option Movement → ℤ
+moved_to m c None = pos 0
+moved_to m c (Some x) = if (x.member == m) && (x.ccy == c) then x.amt else pos 0
+
+abbrev pub moved_in : ℕ → Option Movement → ℤ
+moved_in c None = pos 0
+moved_in c (Some x) = if x.ccy == c then x.amt else pos 0
+
+-- accounts and figures once it is posted
+abbrev pub accounts_after : List Currency → Option Movement → List Account → List Account
+accounts_after currencies None accounts = accounts
+accounts_after currencies (Some x) accounts = slice_set accounts x.member (posted currencies x.ccy x.amt (account_at accounts x.member))
+
+abbrev pub figures_after : Option Movement → List ℤ → List ℤ
+figures_after None figures = figures
+figures_after (Some x) figures = slice_set figures x.ccy (slice_index_or figures x.ccy (pos 0) +ℤ x.amt)
+
+-- A movement can be posted: its account and its figure are there, and small.
+pub record CanPost (setup : Setup) (accounts : List Account) (figures : List ℤ) (x : Movement) : Type 0 where
+  pub member : x.member < length accounts
+  pub currency : x.ccy < length setup.currencies
+  pub account : IsAccount setup.currencies (account_at accounts x.member)
+  pub small : All (IsWithin most_total) (account_at accounts x.member).balances
+  pub amount : IsWithin most_total x.amt
+  pub places : length figures ≡ 8
+  pub figure : IsWithin (64 * most_total) (slice_index_or figures x.ccy (pos 0))
+
+-- both members of a pair, with their accounts once it is settled
+abbrev pub first_with : List Currency → Pair → List Account → Account
+first_with currencies p accounts = traded currencies p.sell p.sell_amt p.buy p.buy_amt (account_at accounts p.first)
+
+abbrev pub second_with : List Currency → Pair → List Account → Account
+second_with currencies p accounts = traded currencies p.buy p.buy_amt p.sell p.sell_amt (account_at accounts p.second)
+
+abbrev pub accounts_with : List Currency → Pair → List Account → List Account
+accounts_with currencies p accounts = slice_set (slice_set accounts p.first (first_with currencies p accounts)) p.second (second_with currencies p accounts)
+
+-- the tests of the member of a number, on an account
+abbrev pub passes_with : Setup → ℕ → Account → Bool
+passes_with setup m account = option_map_or (λ member. is_within_limits member account) (slice_get setup.members (m - 1)) false
+
+abbrev pub both_pass_with : Setup → Pair → List Account → Bool
+both_pass_with setup p accounts =
+    passes_with setup p.first (first_with setup.currencies p accounts) && passes_with setup p.second (second_with setup.currencies p accounts)
+
+-- A pair can be settled: its members' accounts are there, and small.
+pub record CanSettle (setup : Setup) (kept : List Account) (p : Pair) : Type 0 where
+  pub first : p.first < length kept
+  pub second : p.second < length kept
+  pub sell : p.sell < length setup.currencies
+  pub buy : p.buy < length setup.currencies
+  pub sell_amt : p.sell_amt ≤ most_total
+  pub buy_amt : p.buy_amt ≤ most_total
+  pub each : (m : ℕ) → m < length kept → IsAccount setup.currencies (account_at kept m)
+  pub small : (m : ℕ) → All (IsWithin most_total) (account_at kept m).balances
+
+-- what a book keeps beside its entries: the pairs by reference, the settled ones, the accounts, the figures, and which numbers came
+pub record IsKept (held : Ledger) (kept : List (ℕ × Pair)) (posted : List Pair) (members : List Account) (totals : List ℤ) (shown : Seen) : Type 0 where
+  pub ledger : IsLedger held
+  -- the commands that it accepted
+  pub history : List Row
+  pub reached : held.entries ≡ book_of held.setup history
+  pub pairs : kept ≡ map (λ p. (p.reference, p)) (pairs held.entries)
+  pub settled : posted ≡ settled held.setup held.entries
+  pub accounts : AreAccounts held.setup.currencies (length held.setup.members) (balance held.setup held.entries) members
+  pub figures : AreFigures (figure held.setup held.entries) totals
+  pub seen : HasSeen held.entries shown
