@@ -6,8 +6,8 @@ mod Openings
 mod Silent
 -- what a replica's handling of an event is, of the site that it shows
 mod Sites
--- how much a node or a client sends at once
-mod Sent
+-- what a node or a client sends at once
+pub mod Sent
 -- how a world moves
 mod Moving
 -- what a step tells of saves

@@ -116,6 +116,13 @@ impl Client {
         to_sites(alloc, self.faults, self.me, self.number, cmd).map_err(|_| ClientFault::NoMemory)
     }
 
+    /// How many of the bank's sites may fail at once.
+    pub fn faults(&self) -> u16
+        ensures { result ≡ self.now.f }
+    {
+        self.faults
+    }
+
     /// The number of its last request, 0 where it has made none.
     pub fn number(&self) -> u32
         ensures { result ≡ self.now.client.number }

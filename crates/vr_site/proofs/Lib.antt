@@ -2,5 +2,5 @@ mod Cells
 mod Promises
 mod Recovering
 mod Restarts
-mod Shows
+pub mod Shows
 mod Waits

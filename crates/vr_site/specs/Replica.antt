@@ -39,6 +39,12 @@ shown f me setup cell life = record { f = f; me = me; setup = setup; cell = cell
 abbrev pub site_shown : {C S B : Type 0} → (B → Boot) → Shown C S B → List Ack → Site C
 site_shown held v acks = site_with v.volatile acks (held v.cell)
 
+-- its place in the group stays, and what it was made from
+pub record KeepsPlace {C S B : Type 0} (old new : Shown C S B) : Type 0 where
+  pub f : new.f ≡ old.f
+  pub me : new.me ≡ old.me
+  pub setup : new.setup ≡ old.setup
+
 -- What was done is the step: what is shown is the site after it, the outcome is the step's, and the rest is as before. The cell is saved where it held another value, and there once.
 pub record Does {H C R O S B : Type 0} (m : Ghosts H C R O S) (c : Cell B) (old new : Shown C S B) (out : OutcomeOf C R O) (step : Step C R O) : Type 0 where
   pub f : new.f ≡ old.f

@@ -1,10 +1,10 @@
-ghost use Rattle.std.specs.Prelude.{◌≡◌, ◌≢◌, ℕ, ◌+◌, ◌-◌, ◌==◌, ◌⊎◌, [], List, All, IfOk, OnOk, IfErr, OnErr, IsOk, IsErrOf, Some, None, true, length, slice_get, IsSome, IfSome, ◌↔◌, if◌then◌else◌};
+ghost use Rattle.std.specs.Prelude.{◌≡◌, ◌≢◌, ℕ, ◌+◌, ◌-◌, ◌==◌, ◌&&◌, not, ◌⊎◌, [], List, All, IfOk, OnOk, IfErr, OnErr, IsOk, IsErrOf, Some, None, true, length, slice_get, IsSome, IfSome, ◌↔◌, if◌then◌else◌};
 ghost use Rattle.vr_types.specs.declared.cell.Boot.{Boot};
 ghost use Rattle.vr_types.specs.declared.event.EventOf.{EventOf as AnyEvent};
 ghost use Rattle.vr_types.specs.Choice.{Choice, IsRight};
 ghost use Rattle.vr_types.specs.Handling.{machine_of};
-ghost use Rattle.vr_types.specs.Cell.{HasRisen};
-ghost use Rattle.vr_types.specs.Site.{Ack, boot_of, is_down, is_running, no_boots, over};
+ghost use Rattle.vr_types.specs.Cell.{HasRisen, max_number};
+ghost use Rattle.vr_types.specs.Site.{Ack, boot_of, is_down, is_recovering, is_running, no_boots, over};
 ghost use Rattle.vr_types.specs.Group.{is_mine as is_addressed};
 ghost use Rattle.vr_log.specs.declared.running.Running.{Running as AnyRunning};
 ghost use Rattle.vr_log.specs.Running.{IsSound, IsRunning, SumUp, site_of};
@@ -54,7 +54,7 @@ impl<M: Machine, C: BootCell> Replica<M, C> {
     ghost use Rattle.vr_types.specs.Saved.{IsSavedFor};
     ghost use Rattle.vr_types.specs.Site.{opening_site};
     ghost use Rattle.vr_types.specs.Step.{Dropped};
-    ghost use Rattle.vr_site.specs.Replica.{site_shown, Does, Falls, Handles, Serves, Awaits};
+    ghost use Rattle.vr_site.specs.Replica.{site_shown, KeepsPlace, Does, Falls, Handles, Serves, Awaits};
 
     /// A site over a cell: over a new one it is normal in view 0 with an empty log, over any other it is down.
     pub fn new(alloc: Global, config: Config, setup: M::Setup, cell: C) -> Result<Self, AllocError>
@@ -90,6 +90,8 @@ impl<M: Machine, C: BootCell> Replica<M, C> {
     pub fn handle(&mut self, alloc: Global, event: Event<M>) -> Result<Outcome<M>, SiteFault>
         // The step, the refusals and the falls.
         ensures handles { Handles M.Machine C.BootCell self.old self.new event result }
+        // Its place in the group stays, and what it was made from.
+        ensures place { KeepsPlace self.old self.new }
         // A crash takes no memory, nor does an event that is dropped.
         ensures crash { event ≡ AnyEvent.Crash → self.old.volatile.status ≢ Status.Down → IsOk result }
         ensures dropped { (choose : Choice M.Cmd) (acks : List Ack) (why : Why) → IsRight self.old.f choose → SumUp self.old.volatile.acked acks →
@@ -117,6 +119,7 @@ impl<M: Machine, C: BootCell> Replica<M, C> {
     /// Takes a message.
     fn deliver(&mut self, alloc: Global, envelope: Envelope<M>) -> Result<Outcome<M>, SiteFault>
         ensures handles { Handles M.Machine C.BootCell self.old self.new (EventOf.Deliver envelope) result }
+        ensures place { KeepsPlace self.old self.new }
         ensures cell { self.new.cell ≡ self.old.cell }
         ensures no_cell_fault { result ≢ Err SiteFault.CellFault }
     {
@@ -151,6 +154,7 @@ impl<M: Machine, C: BootCell> Replica<M, C> {
         requires sound { IsSound M.Machine (M.start self.old.setup) self.old.f running }
         requires mine { is_addressed self.old.f self.old.me envelope ≡ true }
         ensures handles { Handles M.Machine C.BootCell (record self.old { volatile = volatile_of (Life.Up running) }) self.new (EventOf.Deliver envelope) result }
+        ensures place { KeepsPlace self.old self.new }
         ensures cell { self.new.cell ≡ self.old.cell }
         ensures no_cell_fault { result ≢ Err SiteFault.CellFault }
     {
@@ -176,6 +180,7 @@ impl<M: Machine, C: BootCell> Replica<M, C> {
         requires admits { M.admits self.old.setup }
         requires mine { is_addressed self.old.f self.old.me envelope ≡ true }
         ensures handles { Handles M.Machine C.BootCell (record self.old { volatile = awaiting recovering }) self.new (EventOf.Deliver envelope) result }
+        ensures place { KeepsPlace self.old self.new }
         ensures cell { self.new.cell ≡ self.old.cell }
         ensures no_cell_fault { result ≢ Err SiteFault.CellFault }
     {
@@ -195,6 +200,7 @@ impl<M: Machine, C: BootCell> Replica<M, C> {
     /// The site changes to the next view.
     fn timer(&mut self, alloc: Global) -> Result<Outcome<M>, SiteFault>
         ensures handles { Handles M.Machine C.BootCell self.old self.new EventOf.Timer result }
+        ensures place { KeepsPlace self.old self.new }
         ensures cell { self.new.cell ≡ self.old.cell }
         ensures no_cell_fault { result ≢ Err SiteFault.CellFault }
     {
@@ -217,6 +223,7 @@ impl<M: Machine, C: BootCell> Replica<M, C> {
     /// Says again what may have been lost.
     fn beat(&mut self, alloc: Global) -> Result<Outcome<M>, SiteFault>
         ensures handles { Handles M.Machine C.BootCell self.old self.new EventOf.Beat result }
+        ensures place { KeepsPlace self.old self.new }
         ensures cell { self.new.cell ≡ self.old.cell }
         ensures no_cell_fault { result ≢ Err SiteFault.CellFault }
     {
@@ -240,6 +247,7 @@ impl<M: Machine, C: BootCell> Replica<M, C> {
     /// Loses all but the cell.
     fn crash(&mut self, alloc: Global) -> Result<Outcome<M>, SiteFault>
         ensures handles { Handles M.Machine C.BootCell self.old self.new EventOf.Crash result }
+        ensures place { KeepsPlace self.old self.new }
         ensures cell { self.new.cell ≡ self.old.cell }
         ensures up { self.old.volatile.status ≢ Status.Down → IsOk result }
         ensures no_cell_fault { result ≢ Err SiteFault.CellFault }
@@ -253,6 +261,7 @@ impl<M: Machine, C: BootCell> Replica<M, C> {
     /// Comes up again, and asks all others for the state.
     fn restart(&mut self, alloc: Global) -> Result<Outcome<M>, SiteFault>
         ensures handles { Handles M.Machine C.BootCell self.old self.new EventOf.Restart result }
+        ensures place { KeepsPlace self.old self.new }
         ensures cause { IsErrOf result SiteFault.CellFault → HasRisen (C.faults self.old.cell) (C.faults self.new.cell) }
         ensures counted { result ≢ Err SiteFault.CellFault → C.faults self.new.cell ≡ C.faults self.old.cell }
         ensures reliable { C.is_reliable self.old.cell → C.is_reliable self.new.cell × (result ≢ Err SiteFault.CellFault) }
@@ -275,6 +284,41 @@ impl<M: Machine, C: BootCell> Replica<M, C> {
         Ok(out)
     }
 
+    /// Why the site refuses an event, where it does: `NotUp`, `AlreadyUp`, `ViewsSpent`, `BootsSpent` or `NotMine`. It
+    /// takes no memory.
+    pub fn refuses(&self, event: &Event<M>) -> Option<SiteFault>
+        ensures { result ≡ refusal self.now.f self.now.me (site_shown C.held self.now []) event.now }
+    {
+        match event {
+            EventOf::Restart if !self.is_down() => Some(SiteFault::AlreadyUp),
+            EventOf::Restart if self.boot().raised().is_none() => Some(SiteFault::BootsSpent),
+            EventOf::Restart => None,
+            _ if self.is_down() => Some(SiteFault::NotUp),
+            EventOf::Deliver(envelope) if !is_mine(self.config, envelope) => {
+                Some(SiteFault::NotMine)
+            }
+            EventOf::Timer if self.is_in_last_view() => Some(SiteFault::ViewsSpent),
+            _ => None,
+        }
+    }
+
+    /// Whether the site is in the greatest view, as one that recovers is not.
+    fn is_in_last_view(&self) -> bool
+        ensures { result ≡ (not (is_recovering self.now.volatile.status) && (self.now.volatile.view == max_number)) }
+    {
+        match &self.life {
+            Life::Up(running) => running.view == u32::MAX,
+            _ => false,
+        }
+    }
+
+    /// Whether the site is down.
+    fn is_down(&self) -> bool
+        ensures { result ≡ is_down self.now.volatile.status }
+    {
+        matches!(&self.life, Life::Down)
+    }
+
     /// Falls, as a site does that meets want of memory: all but the cell is lost. It takes no memory.
     pub fn fall(&mut self)
         ensures { self.new ≡ record self.old { volatile = lost } }
@@ -293,6 +337,7 @@ impl<M: Machine, C: BootCell> Replica<M, C> {
         ensures handles { (before : AnyRunning M M.Cmd M.Reply M.Order M.Setup) (event : AnyEvent M.Cmd M.Reply M.Order) →
             Serves M.Machine (M.start self.old.setup) self.old.f self.old.me (C.held self.old.cell) before running done event →
             Handles M.Machine C.BootCell (record self.old { volatile = volatile_of (Life.Up before) }) self.new event result }
+        ensures place { KeepsPlace self.old self.new }
         ensures cell { self.new.cell ≡ self.old.cell }
         ensures no_cell_fault { result ≢ Err SiteFault.CellFault }
     {
@@ -315,6 +360,7 @@ impl<M: Machine, C: BootCell> Replica<M, C> {
         ensures handles { (before : RecoveringOf M.Cmd) (event : AnyEvent M.Cmd M.Reply M.Order) →
             Awaits self.old.f self.old.me (C.held self.old.cell) before recovering progress event →
             Handles M.Machine C.BootCell (record self.old { volatile = awaiting before }) self.new event result }
+        ensures place { KeepsPlace self.old self.new }
         ensures cell { self.new.cell ≡ self.old.cell }
         ensures no_cell_fault { result ≢ Err SiteFault.CellFault }
     {

@@ -34,3 +34,12 @@ known_in _ = None
 abbrev pub asked_nonce : {C R O : Type 0} → MsgOf C R O → Option ℕ
 asked_nonce (Recovery nonce) = Some nonce
 asked_nonce _ = None
+
+-- a message that carries no list: neither rows nor what is known of boots
+abbrev pub has_fixed_size : {C R O : Type 0} → MsgOf C R O → Bool
+has_fixed_size (StartViewChange view known) = false
+has_fixed_size (DoViewChange view last_normal done rows known) = false
+has_fixed_size (StartView view done rows) = false
+has_fixed_size (NewState view base done rows) = false
+has_fixed_size (RecoveryResponse view nonce state known) = false
+has_fixed_size _ = true

@@ -91,6 +91,20 @@ impl MemCell {
         MemCell::failing(0, false)
     }
 
+    /// A cell that holds this already, and no save of which fails.
+    pub fn of(boot: Boot) -> Self
+        ensures held { held_by result ≡ boot }
+        ensures reliable { IsReliable result }
+        ensures faults { faults_of result ≡ 0 }
+    {
+        MemCell {
+            boot,
+            before_fault: None,
+            keeps: false,
+            failures: 0,
+        }
+    }
+
     /// A cell of which the save of this number fails, counted from 1, and no other: at 0 none does. The save that
     /// fails leaves the new value where `keep`.
     pub fn failing(at: u64, keep: bool) -> Self
@@ -99,12 +113,10 @@ impl MemCell {
         ensures keeps { keeps_at_fault result ≡ keep }
         ensures faults { faults_of result ≡ 0 }
     {
-        MemCell {
-            boot: Boot::new(),
-            before_fault: at.checked_sub(1),
-            keeps: keep,
-            failures: 0,
-        }
+        let mut cell = MemCell::of(Boot::new());
+        cell.before_fault = at.checked_sub(1);
+        cell.keeps = keep;
+        cell
     }
 }
 

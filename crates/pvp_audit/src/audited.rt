@@ -1,0 +1,54 @@
+ghost use Rattle.std.specs.Prelude.{◌≡◌, Option, List, Bool, IfOk, IsTrue, ◌↔◌};
+ghost use Rattle.pvp_audit.specs.Runs.{Follows, Sends, is_some};
+
+use pvp_rooms::Actor;
+use std::alloc::{AllocError, Global};
+
+/// An actor whose history can be taken again.
+pub trait Audited: Actor {
+    /// What is sent and delivered.
+    ghost Letter: { Type 0 };
+
+    /// What an event delivers.
+    ghost delivers: { Self.Event → Option Self.Letter };
+
+    /// What an outcome sent.
+    ghost sent: { Self.Outcome → List Self.Letter };
+
+    /// Whether what an event delivers may come to this actor.
+    ghost is_for: { Self → Self.Event → Bool };
+
+    /// The same actor as it opened.
+    fn reopen(&self, alloc: Global, opening: Self::Opening) -> Result<Self, AllocError>
+        ensures { IfOk result (λ actor. (x : Self.State) → Self.opens self.now opening x → Self.shows actor x) };
+
+    /// Takes an event that came out so, and says whether it can. After `Err` or a no it may only be dropped.
+    fn follow(
+        &mut self,
+        alloc: Global,
+        event: &Self::Event,
+        outcome: &Self::Outcome,
+    ) -> Result<bool, AllocError>
+        ensures { IfOk result (λ r. (x : Self.State) → Self.shows self.old x → Follows Self.comes Self.after x event.now outcome.now (Self.shows self.new) r) };
+
+    fn same_event(a: &Self::Event, b: &Self::Event) -> bool
+        ensures { IsTrue result ↔ (a.now ≡ b.now) };
+
+    fn same_outcome(a: &Self::Outcome, b: &Self::Outcome) -> bool
+        ensures { IsTrue result ↔ (a.now ≡ b.now) };
+
+    /// Whether an event delivers something.
+    fn is_delivery(event: &Self::Event) -> bool
+        ensures { result ≡ is_some (delivers event.now) };
+
+    fn is_for(&self, event: &Self::Event) -> bool
+        ensures { result ≡ is_for self.now event.now };
+
+    /// Whether an event delivers what an outcome sent at this place.
+    fn is_sent(event: &Self::Event, outcome: &Self::Outcome, at: usize) -> bool
+        ensures { IsTrue result ↔ Sends delivers sent event.now outcome.now at };
+
+    /// Whether the reading calls of this actor and of another show the same.
+    fn is_like(&self, other: &Self) -> bool
+        ensures { (x : Self.State) → Self.shows other.now x → IsTrue result ↔ Self.reads self.now x };
+}

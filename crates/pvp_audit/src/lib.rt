@@ -1,0 +1,13 @@
+//! What closed actors left, compared with one run of them all.
+#![tactic(auto)]
+
+pub mod audited;
+mod clocks;
+mod ends;
+mod merge;
+mod receipts;
+mod sent;
+pub mod verdict;
+
+pub use audited::Audited;
+pub use verdict::{Verdict, Why, audit};

@@ -1,0 +1,8 @@
+//! Streams of frames that are posted at actors.
+#![tactic(auto)]
+
+pub mod peer;
+pub mod served;
+
+pub use peer::{PeerEnd, Why, serve_peer};
+pub use served::Served;

@@ -1,0 +1,6 @@
+-- histories and rooms that took one event more
+pub mod Growing
+-- a replica takes an event
+pub mod SiteSteps
+-- what a node or a client sends has room
+pub mod Requesting

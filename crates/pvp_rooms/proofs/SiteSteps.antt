@@ -1,0 +1,120 @@
+-- A replica takes an event as an actor.
+use Rattle.std.proofs.Common.{◌≡◌, inl, inr, List, [], Option, Some, None, false, refl, sym, ap, ◌∙◌, subst}
+use Rattle.std.specs.Prelude.{Ok, Err}
+use Rattle.vr_types.specs.declared.cell.Boot.{Boot}
+use Rattle.vr_types.specs.declared.cell.BootCell.{Ghosts as Cell}
+use Rattle.vr_types.specs.declared.event.EventOf.{EventOf}
+use Rattle.vr_types.specs.declared.event.EventOf.TheVariants.{Deliver, Timer, Beat, Crash, Restart}
+use Rattle.vr_types.specs.declared.event.OutcomeOf.{OutcomeOf}
+use Rattle.vr_types.specs.declared.event.SiteFault.{SiteFault}
+use Rattle.vr_types.specs.declared.event.SiteFault.TheVariants.{NoMemory}
+use Rattle.vr_types.specs.declared.event.Status.TheVariants as status
+use Rattle.vr_types.specs.declared.event.Why.{Why}
+use Rattle.vr_types.specs.declared.machine.Machine.{Ghosts}
+use Rattle.vr_types.specs.Choice.{IsRight}
+use Rattle.vr_types.specs.Handling.{envelopes, refusal, site_step, is_refused}
+use Rattle.vr_types.specs.Site.{Ack, Site, over, opening_site}
+use Rattle.vr_log.specs.Outcomes.{ended}
+use Rattle.vr_log.specs.Running.{SumUp}
+use Rattle.vr_site.specs.Life.{lost}
+use Rattle.vr_site.specs.Replica.{Shown, KeepsPlace, site_shown, Does, Falls, Handles}
+use Rattle.vr_site.proofs.Shows.{none_summed}
+use Rattle.pvp_rooms.specs.declared.site.CameOf.TheVariants.{Did, Fell}
+use Rattle.pvp_rooms.specs.Sites.{SiteState, step_in, Comes, after, IsSiteOf, Opens, Shows}
+
+-- an event that ended so is not refused
+ended_allowed : (dropped : Option Why) → is_refused (ended dropped) ≡ false
+ended_allowed None = refl
+ended_allowed (Some why) = refl
+
+module _ {H C R O S B : Type 0} (m : Ghosts H C R O S) (c : Cell B) where
+  -- a refusal does not look at acknowledgements
+  refusal_is : (v : Shown C S B) (acks : List Ack) (event : EventOf C R O) → refusal v.f v.me (site_shown c.held v acks) event ≡ refusal v.f v.me (site_shown c.held v []) event
+  refusal_is v acks (Deliver envelope) = refl
+  refusal_is v acks Timer = refl
+  refusal_is v acks Beat = refl
+  refusal_is v acks Crash = refl
+  refusal_is v acks Restart = refl
+
+  pub refused : (v : Shown C S B) (x : SiteState H C) (event : EventOf C R O) (why : SiteFault) → Shows m c v x
+      → Some why ≡ refusal v.f v.me (site_shown c.held v []) event → refusal x.f x.me x.site event ≡ Some why
+  refused v x event why shows h =
+      (λ i. refusal (shows.is.f i) (shows.is.me i) (shows.site i) event) ∙ refusal_is v x.site.collected.acks event ∙ sym h
+
+  -- it is still the site that it was
+  still : (old new : Shown C S B) (x : SiteState H C) → KeepsPlace old new → IsSiteOf m old x → IsSiteOf m new x
+  still old new x place is = record { f = is.f ∙ sym place.f; me = is.me ∙ sym place.me; start = is.start ∙ ap m.start (sym place.setup); right = is.right }
+
+  -- what opens after an event that keeps the place opens before it
+  pub opens_kept : (old new : Shown C S B) (boot : Boot) (x : SiteState H C) → KeepsPlace old new → Opens m new boot x → Opens m old boot x
+  opens_kept old new boot x place opens = record {
+    is = record { f = opens.is.f ∙ place.f; me = opens.is.me ∙ place.me; start = opens.is.start ∙ ap m.start place.setup; right = opens.is.right };
+    site = opens.site ∙ ap (λ f. opening_site f boot) place.f;
+  }
+
+  module _ (old new : Shown C S B) (x : SiteState H C) (event : EventOf C R O) (shows : Shows m c old x) (place : KeepsPlace old new) where
+    -- the replica's step is its site's
+    step_is : step_in {R = R} {O = O} x event ≡ site_step x.choose old.f old.me (site_shown c.held old x.site.collected.acks) event
+    step_is = λ i. site_step x.choose (shows.is.f i) (shows.is.me i) (shows.site i) event
+
+    right : IsRight old.f x.choose
+    right = subst (λ f. IsRight f x.choose) shows.is.f shows.is.right
+
+    module _ (out : OutcomeOf C R O) (handles : Handles m c old new event (Ok out)) where
+      does : Does m c old new out (step_in x event)
+      does = subst (Does m c old new out) (sym step_is) (handles.step x.choose x.site.collected.acks right shows.acks)
+
+      pub did : Comes m x event (Did out.sent.items out.dropped) × Shows m c new (after x event (Did out.sent.items out.dropped))
+      did = let d = does in (
+        record { sends = d.sent ∙ (λ i. envelopes m (sym shows.is.start i) (sym shows.is.me i) (step_in x event)); ending = d.ending },
+        record { is = still old new (record x { site = (step_in x event).site }) place (record { f = shows.is.f; me = shows.is.me; start = shows.is.start; right = shows.is.right }); acks = d.acks; site = d.site },
+      )
+
+      -- the site fell after its step, as a copy was refused
+      pub fell_after : (now : Shown C S B) (cell : Boot) → now ≡ record new { volatile = lost } → cell ≡ c.held now.cell
+          → Comes m x event (Fell NoMemory cell) × Shows m c now (after x event (Fell NoMemory cell))
+      fell_after now cell fallen held =
+          let d = does in
+          let last : cell ≡ c.held new.cell = held ∙ ap (λ v. c.held v.cell) fallen in
+          let left : KeepsPlace old now = record { f = ap (λ v. v.f) fallen ∙ place.f; me = ap (λ v. v.me) fallen ∙ place.me; setup = ap (λ v. v.setup) fallen ∙ place.setup } in (
+            (record { allowed = ap is_refused d.ending ∙ ended_allowed out.dropped; down = inr (ap (λ b. over b status.Down) (last ∙ sym (ap (λ y. y.cell) d.site))) }, inl refl),
+            record {
+              is = still old now (record x { site = over cell status.Down }) left (record { f = shows.is.f; me = shows.is.me; start = shows.is.start; right = shows.is.right });
+              acks = subst (λ (v : Shown C S B). SumUp v.volatile.acked []) (sym fallen) none_summed;
+              site = ap (λ b. over b status.Down) last ∙ sym (ap (λ v. site_shown c.held v []) fallen);
+            },
+          )
+
+    module _ (why : SiteFault) (handles : Handles m c old new event (Err why)) (allowed : None ≡ refusal old.f old.me (site_shown c.held old []) event) where
+      falls : Falls c old new x.site (step_in x event) why
+      falls =
+          let named = handles.fall (sym allowed) x.choose x.site.collected.acks right shows.acks in
+          subst (λ step. Falls c old new x.site step why) (sym step_is) (subst (λ y. Falls c old new y (site_step x.choose old.f old.me (site_shown c.held old x.site.collected.acks) event) why) (sym shows.site) named)
+
+      down_over : (y z : Site C) (b : Boot) → y ≡ over b status.Down → y ≡ over y.cell status.Down
+      down_over y z b e = e ∙ ap (λ k. over k status.Down) (sym (ap (λ w. w.cell) e))
+
+      is_over : site_shown c.held new [] ≡ over (c.held new.cell) status.Down
+      is_over = elim falls.site.down [ inl e ↦ down_over _ x.site _ e | inr e ↦ down_over _ x.site _ e ]
+
+      pub fell : (cell : Boot) → cell ≡ c.held new.cell → Comes m x event (Fell why cell) × Shows m c new (after x event (Fell why cell))
+      fell cell held =
+          let f = falls in
+          let there : over cell status.Down ≡ site_shown c.held new [] = ap (λ b. over b status.Down) held ∙ sym is_over in (
+            (record { allowed = f.site.allowed; down = elim f.site.down [ inl e ↦ inl (there ∙ e) | inr e ↦ inr (there ∙ e) ] }, elim f.fault [ inl e ↦ inl e | inr e ↦ inr e.0 ]),
+            record {
+              is = still old new (record x { site = over cell status.Down }) place (record { f = shows.is.f; me = shows.is.me; start = shows.is.start; right = shows.is.right });
+              acks = f.acks;
+              site = there;
+            },
+          )
+
+  -- a new replica shows the site that it opens as
+  pub opened : (v : Shown C S B) (boot : Boot) (x : SiteState H C) → SumUp v.volatile.acked [] → site_shown c.held v [] ≡ opening_site v.f boot → Opens m v boot x → Shows m c v x
+  opened v boot x summed site opens =
+      let none : x.site.collected.acks ≡ [] = ap (λ y. y.collected.acks) (opens.site ∙ sym site) in
+      record {
+        is = opens.is;
+        acks = subst (SumUp v.volatile.acked) (sym none) summed;
+        site = opens.site ∙ sym site ∙ ap (site_shown c.held v) (sym none);
+      }

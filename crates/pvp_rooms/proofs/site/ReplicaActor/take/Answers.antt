@@ -1,0 +1,30 @@
+use Rattle.std.proofs.Common.{sym, subst}
+use Rattle.pvp_rooms.specs.Sites.{Comes, Shows, after}
+use Rattle.pvp_rooms.proofs.SiteSteps.{did, fell, fell_after, opens_kept}
+use Rattle.pvp_rooms.proofs.site.ReplicaActor.take.Goals as goal
+
+pub returns-in-Err-clause-step : goal.returns-in-Err-clause-step
+returns-in-Err-clause-step g c = λ x shows.
+    let m = g.M.Machine in
+    let k = g.C.BootCell in
+    subst (λ came. Comes m x c.args.event came × Shows m k c.handle.new.self (after x c.args.event came)) (sym c.fell.ensures.answered)
+    (fell m k c.args.self.now c.handle.new.self x c.args.event shows c.handle.ensures.place c.in-Err.why c.in-Err.ensures.handles c.in_default.ensures c.boot.result c.boot.ensures)
+
+pub returns-in-Ok-did-clause-step : goal.returns-in-Ok-did-clause-step
+returns-in-Ok-did-clause-step g c = λ x shows.
+    let m = g.M.Machine in
+    let k = g.C.BootCell in
+    subst (λ came. Comes m x c.args.event came × Shows m k c.handle.new.self (after x c.args.event came)) (sym c.in-Ok-did.ensures.answered)
+    (did m k c.args.self.now c.handle.new.self x c.args.event shows c.handle.ensures.place c.in-Ok.out c.in-Ok.ensures.handles)
+
+pub returns-in-Ok-did-clause-opens : goal.returns-in-Ok-did-clause-opens
+returns-in-Ok-did-clause-opens g c = λ boot x opens.
+    opens_kept g.M.Machine g.C.BootCell c.args.self.now c.handle.new.self boot x c.handle.ensures.place opens
+
+pub returns-in-Err-did-clause-step : goal.returns-in-Err-did-clause-step
+returns-in-Err-did-clause-step g c = λ x shows.
+    let m = g.M.Machine in
+    let k = g.C.BootCell in
+    subst (λ came. Comes m x c.args.event came × Shows m k c.fall.new.self (after x c.args.event came)) (sym c.fell-in-Err-did.ensures.answered)
+    (fell_after m k c.args.self.now c.handle.new.self x c.args.event shows c.handle.ensures.place c.in-Ok.out c.in-Ok.ensures.handles
+    c.fall.new.self c.boot-in-Err-did.result c.fall.ensures c.boot-in-Err-did.ensures)

@@ -1,0 +1,26 @@
+-- A client as an actor: a state is what it shows.
+use Rattle.std.specs.Prelude.{◌≡◌, List, Result, Ok, Err}
+use Rattle.rtgs_node.specs.Node.{Envelope}
+use Rattle.headline.specs.declared.step.ClientEvent.{ClientEvent}
+use Rattle.headline.specs.declared.step.ClientFault.{ClientFault}
+use Rattle.headline.specs.Client.{opening_client}
+use Rattle.pvp_world.specs.Client.{Shown, step_of, IsStep, IsRefusal}
+
+-- the state after an event that came out so: a refusal changes nothing
+abbrev pub after : Shown → ClientEvent → Result (List Envelope) ClientFault → Shown
+after x event (Ok sent) = record x { client = (step_of x event).client }
+after x event (Err fault) = x
+
+-- how an event can come out: as the client's step sends, or as it refuses
+abbrev pub Comes : Shown → ClientEvent → Result (List Envelope) ClientFault → Type 0
+Comes x event (Ok sent) = IsStep x (after x event (Ok sent)) (step_of x event) sent
+Comes x event (Err fault) = IsRefusal x x (step_of x event) fault
+
+-- a client opens as one that has asked for nothing
+abbrev pub Opens : Shown → Shown → Type 0
+Opens v x = x ≡ record v { client = opening_client }
+
+-- what the client's reading calls show is of this state
+pub record Reads (v x : Shown) : Type 0 where
+  pub number : v.client.number ≡ x.client.number
+  pub answer : v.client.answer ≡ x.client.answer

@@ -1,0 +1,84 @@
+//! A client as an actor.
+ghost use Rattle.std.specs.Prelude.{◌≡◌, ◌≤◌, length, IfOk};
+ghost use Rattle.pvp_rooms.specs.Closing.{fresh_seats};
+
+use crate::actor::Actor;
+use crate::cell::ActorCell;
+use crate::message::Copies;
+use crate::requests::{SentRoom, Told, refused};
+use crate::seat::Seat;
+use headline::{ClientEvent, ClientFault};
+use pvp_types::Setup;
+use pvp_world::Client;
+use std::alloc::{AllocError, Global};
+
+impl Actor for Client {
+    ghost use Rattle.pvp_world.specs.Client.{Shown};
+    ghost use Rattle.pvp_rooms.specs.Clients.{Opens, Comes, Reads, after};
+
+    /// It opens as one that has asked for nothing.
+    type Opening = ();
+
+    type Event = ClientEvent;
+
+    type Outcome = Told<ClientFault>;
+
+    ghost State = { Shown };
+
+    ghost opens = { λ v opening x. Opens v x };
+
+    ghost shows = { λ v x. x ≡ v };
+
+    ghost comes = { Comes };
+
+    ghost after = { after };
+
+    ghost reads = { Reads };
+
+    fn take(
+        &mut self,
+        alloc: Global,
+        event: ClientEvent,
+    ) -> Result<Copies<Told<ClientFault>>, AllocError> {
+        let room = SentRoom::new(alloc, self.faults())?;
+        Ok(match self.handle(alloc, event) {
+            Ok(sent) => room.copies(alloc, sent),
+            Err(fault) => refused(fault),
+        })
+    }
+
+    fn copy_event(alloc: Global, event: &ClientEvent) -> Result<ClientEvent, AllocError> {
+        Ok(match event {
+            ClientEvent::Submits(cmd) => ClientEvent::Submits(*cmd),
+            ClientEvent::Takes(envelope) => ClientEvent::Takes(envelope.copy(alloc)?),
+            ClientEvent::Beats => ClientEvent::Beats,
+        })
+    }
+}
+
+/// A client behind a lock of its own.
+pub type ClientCell = ActorCell<Client>;
+
+/// A seat at a client.
+pub type ClientSeat = Seat<ClientEvent, Told<ClientFault>>;
+
+impl ActorCell<Client> {
+    ghost use Rattle.pvp_types.specs.Setup.{IsValid};
+
+    /// The client of this number, 0 for the operator or a member's, and its seats. It shares nothing with any other.
+    /// `Err` where memory is refused.
+    pub fn new(
+        alloc: Global,
+        setup: &Setup,
+        number: u16,
+        seats: u16,
+    ) -> Result<(Self, Vec<ClientSeat>), AllocError>
+        requires valid { IsValid setup.now }
+        requires known { number ≤ length setup.now.members }
+        ensures place { IfOk result (λ made. made.0 ≡ record { number = number; seats = seats }) }
+        ensures seats { IfOk result (λ made. made.1.items ≡ fresh_seats seats number) }
+    {
+        let client = Client::new(setup, number);
+        ActorCell::around(alloc, number, (), client, seats)
+    }
+}

@@ -1,0 +1,155 @@
+//! A site as an actor.
+ghost use Rattle.std.specs.Prelude.{◌≡◌, ◌+◌, IfOk};
+ghost use Rattle.vr_types.specs.Group.{actor_of};
+ghost use Rattle.pvp_rooms.specs.Closing.{fresh_seats};
+ghost use Rattle.pvp_rooms.specs.Sites.{SiteState, Opens, Shows};
+
+use crate::actor::Actor;
+use crate::cell::ActorCell;
+use crate::message::Copies;
+use crate::seat::Seat;
+use pvp_world::FIRST_SITE;
+use std::alloc::{AllocError, Global};
+use vr_site::Replica;
+use vr_types::{Boot, BootCell, Config, Event, Machine, Outcome, Sent, SentOf, SiteFault, Why};
+
+/// How an event came out at a site.
+#[derive(Drop)]
+pub enum CameOf<C, R, O> {
+    /// The site took its step: what it sent, or why it dropped the event.
+    Did {
+        sent: SentOf<C, R, O>,
+        dropped: Option<Why>,
+    },
+    /// The site refused the event, and is unchanged.
+    Refused(SiteFault),
+    /// The site fell, for want of memory or as a save failed; its cell then held this.
+    Fell {
+        why: SiteFault,
+        cell: Boot,
+    },
+}
+
+/// How an event came out at a site of a machine.
+pub type Came<M> = CameOf<<M as Machine>::Cmd, <M as Machine>::Reply, <M as Machine>::Order>;
+
+impl<M: Machine, C: BootCell> Actor for Replica<M, C> {
+    ghost use Rattle.pvp_rooms.specs.Sites.{Comes, Reads, after};
+
+    /// What its cell held.
+    type Opening = Boot;
+
+    type Event = Event<M>;
+
+    type Outcome = Came<M>;
+
+    ghost State = { SiteState M M.Cmd };
+
+    ghost opens = { λ v boot x. Opens M.Machine v boot x };
+
+    ghost shows = { λ v x. Shows M.Machine C.BootCell v x };
+
+    ghost comes = { λ x event came. Comes M.Machine x event came };
+
+    ghost after = { λ x event came. after x event came };
+
+    ghost reads = { λ v x. Reads C.BootCell v x };
+
+    /// Where a copy of what the site sent is refused after its step, the site falls.
+    fn take(&mut self, alloc: Global, event: Event<M>) -> Result<Copies<Came<M>>, AllocError> {
+        if let Some(why) = self.refuses(&event) {
+            return Ok(refused::<M>(why));
+        }
+        match self.handle(alloc, event) {
+            Err(why) => Ok(fell::<M>(why, self.boot())),
+            Ok(out) => match did::<M>(alloc, out) {
+                Ok(copies) => Ok(copies),
+                Err(_) => {
+                    self.fall();
+                    Ok(fell::<M>(SiteFault::NoMemory, self.boot()))
+                }
+            },
+        }
+    }
+
+    fn copy_event(alloc: Global, event: &Event<M>) -> Result<Event<M>, AllocError> {
+        event.copy(alloc)
+    }
+}
+
+/// A site behind a lock of its own.
+pub type SiteCell<M, C> = ActorCell<Replica<M, C>>;
+
+/// A seat at a machine's site.
+pub type SiteSeat<M> = Seat<Event<M>, Came<M>>;
+
+impl<M: Machine, C: BootCell> ActorCell<Replica<M, C>> {
+    /// The site of this place in its group, over a cell, and its seats. It shares nothing with any other. `Err` where
+    /// memory is refused.
+    pub fn new(
+        alloc: Global,
+        config: Config,
+        setup: M::Setup,
+        cell: C,
+        seats: u16,
+    ) -> Result<(Self, Vec<SiteSeat<M>>), AllocError>
+        requires { M.admits setup }
+        ensures place { IfOk result (λ made. made.0 ≡ record { number = actor_of config.me; seats = seats }) }
+        ensures seats { IfOk result (λ made. made.1.items ≡ fresh_seats seats (actor_of config.me)) }
+    {
+        let opening = cell.load();
+        let site = Replica::new(alloc, config, setup, cell)?;
+        let number = FIRST_SITE + config.me;
+        let (cell, all) = ActorCell::around(alloc, number, opening, site, seats)?;
+        Ok((cell, all))
+    }
+}
+
+/// What a step led to, three times. `Err` where memory is refused.
+fn did<M: Machine>(alloc: Global, out: Outcome<M>) -> Result<Copies<Came<M>>, AllocError>
+    ensures answered { IfOk result (λ copies. copies.answered ≡ CameOf.Did out.sent.items out.dropped) }
+    ensures recorded { IfOk result (λ copies. copies.recorded ≡ copies.answered) }
+    ensures receipted { IfOk result (λ copies. copies.receipted ≡ copies.answered) }
+{
+    let dropped = out.dropped;
+    let sent: Sent<M> = SentOf::new(out.sent);
+    let recorded = sent.copy(alloc)?;
+    let receipted = sent.copy(alloc)?;
+    Ok(Copies {
+        answered: CameOf::Did { sent, dropped },
+        recorded: CameOf::Did {
+            sent: recorded,
+            dropped,
+        },
+        receipted: CameOf::Did {
+            sent: receipted,
+            dropped,
+        },
+    })
+}
+
+/// A refusal, three times.
+fn refused<M: Machine>(why: SiteFault) -> Copies<Came<M>>
+    ensures answered { result.answered ≡ CameOf.Refused why }
+    ensures recorded { result.recorded ≡ result.answered }
+    ensures receipted { result.receipted ≡ result.answered }
+{
+    Copies {
+        answered: CameOf::Refused(why),
+        recorded: CameOf::Refused(why),
+        receipted: CameOf::Refused(why),
+    }
+}
+
+/// A fall, three times.
+fn fell<M: Machine>(why: SiteFault, cell: Boot) -> Copies<Came<M>>
+    ensures answered { result.answered ≡ CameOf.Fell why cell }
+    ensures recorded { result.recorded ≡ result.answered }
+    ensures receipted { result.receipted ≡ result.answered }
+{
+    Copies {
+        answered: CameOf::Fell { why, cell },
+        recorded: CameOf::Fell { why, cell },
+        receipted: CameOf::Fell { why, cell },
+    }
+}
