@@ -1,5 +1,5 @@
 -- What a request writes, and which fault it tells, where the bytes of its files are known.
-use Rattle.std.specs.Prelude.{◌≡◌, ◌⊎◌, ℕ, List, Option, Ok, codes, IsOk}
+use Rattle.std.specs.Prelude.{◌≡◌, ◌⊎◌, ℕ, List, [], Option, Ok, codes, IsOk}
 use Rattle.std.specs.Io.KnownBytes.{Appends}
 use Rattle.pvp_types.specs.declared.setup.Setup.{Setup}
 use Rattle.pvp_text.specs.declared.script.Line.{Line}
@@ -15,7 +15,7 @@ use Rattle.pvp_command.specs.declared.files.FileFault.{FileFault}
 use Rattle.pvp_command.specs.Fault.{text_told, run_told, file_told}
 use Rattle.pvp_text.specs.BookText.{book_text}
 use Rattle.vr_types.specs.declared.cell.MemCell.{MemCell}
-use Rattle.vr_types.specs.MemoryCell.{held_by}
+use Rattle.vr_types.specs.contracts.cell.MemCellBootCell.TheImpl.{ghosts as memory}
 use Rattle.pvp_play.specs.Player.{Position}
 use Rattle.pvp_play.specs.Lines.{IsOpening, ArePlayed}
 
@@ -29,11 +29,11 @@ BookWrites setup script old new =
     (s : Setup) × (setup_text setup ≡ Ok s) × (lines : List Line) × (script_at Book s script ≡ Ok lines)
     × Appends old new (book_text s lines)
 
--- what the lines of a play print, from a new world of the setup on
+-- what the lines of a play print, from a new world of the setup on, over cells no save of which fails
 abbrev pub PlayWrites : List ℕ → List ℕ → Option (List ℕ) → Option (List ℕ) → Type 0
 PlayWrites setup script old new =
     (s : Setup) × (setup_text setup ≡ Ok s) × (lines : List Line) × (script_at Play s script ≡ Ok lines)
-    × (first : Position MemCell) × IsOpening s first × ArePlayed held_by first lines old new
+    × (first last : Position MemCell) × IsOpening s [] first × ArePlayed memory first lines last old new
 
 -- the fault of a file that may fail so
 abbrev pub TellsFile : (FileFault → Type 0) → Fault → Type 0

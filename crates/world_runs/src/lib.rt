@@ -8,4 +8,6 @@ mod refusals;
 #[cfg(test)]
 mod runs;
 #[cfg(test)]
+mod telling;
+#[cfg(test)]
 mod worlds;

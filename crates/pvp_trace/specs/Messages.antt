@@ -1,0 +1,73 @@
+-- Messages and envelopes in words.
+use Rattle.std.specs.Prelude.{ℕ, List, [], ◌++◌, codes, decimal}
+use Rattle.std.specs.Option.{option_map_or}
+use Rattle.pvp_types.specs.declared.setup.Setup.{Setup}
+use Rattle.pvp_types.specs.declared.command.Cmd.{Cmd}
+use Rattle.pvp_types.specs.declared.command.Reply.{Reply as Answer}
+use Rattle.pvp_types.specs.declared.command.PayOrder.{PayOrder as PaymentOrder}
+use Rattle.pvp_types.specs.Reply.{reply_text}
+use Rattle.vr_types.specs.declared.message.MsgOf.{MsgOf}
+use Rattle.vr_types.specs.declared.message.MsgOf.TheVariants.{Request, Prepare, PrepareOk, Commit, StartViewChange, DoViewChange, StartView, GetState, NewState, Recovery, RecoveryResponse, Reply, PayOrder}
+use Rattle.vr_types.specs.declared.message.StateOf.{StateOf}
+use Rattle.rtgs_node.specs.Node.{Envelope}
+use Rattle.pvp_trace.specs.Names.{actor_text}
+use Rattle.pvp_trace.specs.Words.{command_text, order_text, row_text, rows_text, boots_text}
+
+-- a number that has this name
+abbrev pub field_text : List ℕ → ℕ → List ℕ
+field_text name number = codes " " ++ name ++ codes " " ++ decimal number
+
+abbrev pub view_text : ℕ → List ℕ
+view_text view = field_text (codes "view") view
+
+abbrev pub done_text : ℕ → List ℕ
+done_text done = field_text (codes "done") done
+
+-- a primary's state, where the answer has one
+abbrev pub state_text : Setup → StateOf Cmd → List ℕ
+state_text setup state = done_text state.done ++ rows_text setup state.rows
+
+-- A MESSAGE: its kind, and its fields
+
+abbrev pub kind_name : MsgOf Cmd Answer PaymentOrder → List ℕ
+kind_name (Request number cmd) = codes "REQUEST"
+kind_name (Prepare view place done row) = codes "PREPARE"
+kind_name (PrepareOk view place) = codes "PREPAREOK"
+kind_name (Commit view done) = codes "COMMIT"
+kind_name (StartViewChange view known) = codes "STARTVIEWCHANGE"
+kind_name (DoViewChange view last_normal done rows known) = codes "DOVIEWCHANGE"
+kind_name (StartView view done rows) = codes "STARTVIEW"
+kind_name (GetState view base) = codes "GETSTATE"
+kind_name (NewState view base done rows) = codes "NEWSTATE"
+kind_name (Recovery nonce) = codes "RECOVERY"
+kind_name (RecoveryResponse view nonce state known) = codes "RECOVERYRESPONSE"
+kind_name (Reply view number answer) = codes "REPLY"
+kind_name (PayOrder order) = codes "PAYORDER"
+
+abbrev pub fields_text : Setup → MsgOf Cmd Answer PaymentOrder → List ℕ
+fields_text setup (Request number cmd) = codes " " ++ decimal number ++ codes " " ++ command_text setup cmd
+fields_text setup (Prepare view place done row) =
+    view_text view ++ field_text (codes "place") place ++ done_text done ++ codes " row " ++ row_text setup row
+fields_text setup (PrepareOk view place) = view_text view ++ field_text (codes "place") place
+fields_text setup (Commit view done) = view_text view ++ done_text done
+fields_text setup (StartViewChange view known) = view_text view ++ boots_text known
+fields_text setup (DoViewChange view last_normal done rows known) =
+    view_text view ++ field_text (codes "normal") last_normal ++ done_text done ++ rows_text setup rows ++ boots_text known
+fields_text setup (StartView view done rows) = view_text view ++ done_text done ++ rows_text setup rows
+fields_text setup (GetState view base) = view_text view ++ field_text (codes "base") base
+fields_text setup (NewState view base done rows) =
+    view_text view ++ field_text (codes "base") base ++ done_text done ++ rows_text setup rows
+fields_text setup (Recovery nonce) = field_text (codes "nonce") nonce
+fields_text setup (RecoveryResponse view nonce state known) =
+    view_text view ++ field_text (codes "nonce") nonce ++ option_map_or (state_text setup) state [] ++ boots_text known
+fields_text setup (Reply view number answer) =
+    view_text view ++ field_text (codes "to") number ++ codes " " ++ reply_text answer
+fields_text setup (PayOrder order) = codes " " ++ order_text setup order
+
+abbrev pub message_text : Setup → MsgOf Cmd Answer PaymentOrder → List ℕ
+message_text setup msg = kind_name msg ++ fields_text setup msg
+
+-- an envelope: who says what to whom
+abbrev pub envelope_text : Setup → Envelope → List ℕ
+envelope_text setup e =
+    actor_text setup e.from ++ codes " -> " ++ actor_text setup e.to ++ codes "  " ++ message_text setup e.msg

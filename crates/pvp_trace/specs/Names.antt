@@ -1,0 +1,19 @@
+-- How actors and currencies are named: as scripts name them.
+use Rattle.std.specs.Prelude.{ℕ, ◌-◌, ◌==◌, ◌++◌, nat_le, List, slice_get, if◌then◌else◌, codes, decimal}
+use Rattle.std.specs.Option.{option_map_or}
+use Rattle.pvp_types.specs.declared.setup.Setup.{Setup}
+
+-- what the setup has no name for
+abbrev pub numbered : ℕ → List ℕ
+numbered n = codes "@" ++ decimal n
+
+abbrev pub currency_text : Setup → ℕ → List ℕ
+currency_text setup c = option_map_or (λ currency. currency.code) (slice_get setup.currencies c) (numbered c)
+
+-- a site by its number, a node by its currency's code, a client by its name
+abbrev pub actor_text : Setup → ℕ → List ℕ
+actor_text setup actor =
+    if nat_le 200 actor then codes "s" ++ decimal (actor - 200)
+    else if nat_le 101 actor then option_map_or (λ currency. currency.code) (slice_get setup.currencies (actor - 101)) (numbered actor)
+    else if actor == 0 then codes "OP"
+    else option_map_or (λ member. member.name) (slice_get setup.members (actor - 1)) (numbered actor)

@@ -1,0 +1,10 @@
+//! What a play did, in words: the steps that were tried, what came of each, and what each sent.
+#![tactic(auto)]
+
+pub mod attempt;
+pub mod meanings;
+pub mod messages;
+pub mod names;
+pub mod words;
+
+pub use attempt::{Attempt, try_step};
