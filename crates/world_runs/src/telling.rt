@@ -15,11 +15,9 @@ use vr_types::{Known, MemCell, Msg, MsgOf, RowOf, RowsOf, StateOf};
 /// Tries steps, and tells each.
 fn told(alloc: Global, world: &mut World<MemCell>, steps: &[Step]) -> Result<String, Fail> {
     let mut text = String::new(alloc);
-    let mut number = 1;
-    for step in steps {
-        let attempt = try_step(alloc, world, *step);
-        push_attempt(&mut text, world, number, attempt)?;
-        number += 1;
+    for place in 0..steps.len() {
+        let attempt = try_step(alloc, world, steps[place]);
+        push_attempt(&mut text, world, place + 1, attempt)?;
     }
     Ok(text)
 }
@@ -215,10 +213,7 @@ fn short_messages() -> [(Msg<Book>, &'static str); 11] {
             ),
             "REQUEST 1 instruct 5 BETA EUR 100 @7 200",
         ),
-        (
-            request(2, Cmd::Settle { most: 8 }),
-            "REQUEST 2 settle 8",
-        ),
+        (request(2, Cmd::Settle { most: 8 }), "REQUEST 2 settle 8"),
         (
             request(3, Cmd::Paid { ccy: 2, out: 1 }),
             "REQUEST 3 paid JPY 1",
