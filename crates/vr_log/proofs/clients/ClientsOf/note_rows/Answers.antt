@@ -13,12 +13,13 @@ pub loop-row-preserved : goal.loop-row-preserved
 loop-row-preserved g c =
     let row = c.row-item.result in
     let before = take c.loop-row.row-index c.as_slice-row-items.result.now in
-    let more : take (c.loop-row.row-index + 1) c.as_slice-row-items.result.now ≡ before ++ row ∷ [] = take_more _ c.loop-row.row-index row (omega (arith, c.loop-row-test.true)) ∙ ap (λ r. before ++ r ∷ []) (sym c.row-item.is) in
-    (λ log was q. c.in_ok-note.ensures.ok q
-    ∙ ap (λ n. if row.client == q then row.number else n) (c.loop-row.invariant.0 log was q)
-    ∙ sym (newest-snoc (log ++ before) row q)
-    ∙ ap (λ l. newest l q) (append_assoc log before (row ∷ []) ∙ ap (λ l. log ++ l) (sym more)),
-    λ q. c.note.ensures.replies q ∙ c.loop-row.invariant.1 q)
+    let more : take (c.loop-row.row-index + 1) c.as_slice-row-items.result.now ≡ before ++ row ∷ [] = take_more _ c.loop-row.row-index row (omega (arith, c.loop-row-test.true)) ∙ ap (λ r. before ++ r ∷ []) (sym c.row-item.is) in (
+      λ log was q. c.in_ok-note.ensures.ok q
+          ∙ ap (λ n. if row.client == q then row.number else n) (c.loop-row.invariant.0 log was q)
+          ∙ sym (newest-snoc (log ++ before) row q)
+          ∙ ap (λ l. newest l q) (append_assoc log before (row ∷ []) ∙ ap (λ l. log ++ l) (sym more)),
+      λ q. c.note.ensures.replies q ∙ c.loop-row.invariant.1 q,
+    )
 
 pub returns-in_err-note-clause-replies : goal.returns-in_err-note-clause-replies
 returns-in_err-note-clause-replies g c = λ q. c.note.ensures.replies q ∙ c.loop-row.invariant.1 q
