@@ -50,12 +50,14 @@ pub fn twice(n: u8) -> u16
 
 # an edit, its text, and what has to be said of it
 EDITS = {
-    # a round of three, of which one is let through
+    # a round in which one is let through that stands on a body which is refused
+    "a_caller_is_said_otherwise": ("next(next(n))", "next(1 + n)", "NOT REFUSED"),
     "next_adds_two": ("    n + 1", "    n + 2", "refused by next"),
     "smaller_is_the_greater": ("if a < b { a }", "if b < a { a }", "refused by smaller"),
     "twice_is_said_otherwise": ("    n + n", "    2 * n", "NOT REFUSED"),
-    # they touch a function that another of the round calls, or that another edit touches
-    "after_next_forgets_one": ("next(next(n))", "next(n)", "refused by after_next"),
+    # a round in which one is refused that stands on a body which is refused
+    "after_next_forgets_one": ("    next(next(n))", "    next(n)", "refused by after_next"),
+    "next_stays": ("    n + 1", "    n", "refused by next"),
     "smaller_is_always_0": ("{ b }", "{ 0 }", "NOT REFUSED"),
     # alone, since it stands in no body
     "limit_is_said_otherwise": ("n < 199", "n + 1 < 200", "NOT REFUSED"),
