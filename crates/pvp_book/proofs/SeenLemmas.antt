@@ -1,6 +1,6 @@
 -- What is seen after one more entry.
 use Rattle.std.proofs.Common.{◌≡◌, ℕ, Bool, true, false, cond, List, [], ◌∷◌, ◌++◌, filter, refl, ap, sym, ◌∙◌}
-use Rattle.std.specs.Prelude.{◌&&◌, ◌||◌, ◌==◌, if◌then◌else◌}
+use Rattle.std.specs.Prelude.{◌&&◌, ◌||◌, ◌==◌, not, if◌then◌else◌}
 use Rattle.std.specs.List.{cons_option}
 use Rattle.std.proofs.lemmas.List.Folds.{list_any-append}
 use Rattle.std.proofs.lemmas.List.Elements.{filter_map-append}
@@ -17,9 +17,10 @@ use Rattle.pvp_book.specs.declared.pair.PairState.{PairState}
 use Rattle.pvp_book.specs.declared.pair.PairState.TheVariants as state
 use Rattle.pvp_book.specs.Pairs.{matched_by, matched, has_reference, is_rescission, has_asked, both_have_asked, is_rescinded}
 use Rattle.pvp_book.specs.Ledger.{is_pay_in, has_pay_in, state_with, is_state}
-use Rattle.pvp_book.specs.Seen.{mark_of, seen_pay_in, seen_matched, seen_asked, both_seen, is_seen_back, state_seen, HasSeen}
+use Rattle.pvp_book.specs.Seen.{mark_of, seen_pay_in, seen_matched, seen_asked, both_seen, is_seen_back, state_seen, is_waiting, HasSeen}
+use Rattle.pvp_book.specs.Kept.{AreSettled, waiting}
 
-or-false : (b : Bool) → (b || false) ≡ b
+pub or-false : (b : Bool) → (b || false) ≡ b
 or-false true = refl
 or-false false = refl
 
@@ -117,10 +118,15 @@ module _ (entries : List Entry) (seen : Seen) (has : HasSeen entries seen) where
   pub back-same : (p : Pair) → is_seen_back seen p ≡ is_rescinded entries p
   back-same p = λ i. if has.matched p.reference i then both-same p i else has.asked p.first p.reference i
 
-  pub state-same : (done : List Pair) (p : Pair) → state_seen seen done p ≡ state_with entries done p
-  state-same done p =
-      λ i. if has_reference done p.reference then state.Settled else if back-same p i then state.Rescinded else if has.matched p.reference i then state.Matched else state.Unmatched
+  -- and of the settled ones what their references say
+  module _ (done : List Pair) (references : List ℕ) (are : AreSettled done references) where
+    pub state-same : (p : Pair) → state_seen seen references p ≡ state_with entries done p
+    state-same p =
+        λ i. if are p.reference i then state.Settled else if back-same p i then state.Rescinded else if has.matched p.reference i then state.Matched else state.Unmatched
 
-  pub counted-same : (done : List Pair) (which : PairState) (ps : List Pair)
-      → filter (λ p. is_state (state_seen seen done p) which) ps ≡ filter (λ p. is_state (state_with entries done p) which) ps
-  counted-same done which ps = λ i. filter (λ p. is_state (state-same done p i) which) ps
+    pub counted-same : (which : PairState) (ps : List Pair)
+        → filter (λ p. is_state (state_seen seen references p) which) ps ≡ filter (λ p. is_state (state_with entries done p) which) ps
+    counted-same which ps = λ i. filter (λ p. is_state (state-same p i) which) ps
+
+    pub waiting-same : (ps : List Pair) → filter (λ p. is_waiting seen references p) ps ≡ waiting entries done ps
+    waiting-same ps = λ i. filter (λ p. not (are p.reference i) && not (both-same p i)) ps

@@ -1,5 +1,5 @@
 -- The walk, on the kept accounts.
-use Rattle.std.proofs.Common.{◌≡◌, ℕ, suc, zero, ◌+◌, ◌-◌, ◌≤◌, ◌<◌, Bool, true, false, List, [], ◌∷◌, ◌++◌, length, arith, refl, sym, subst, ◌∙◌, drop, get_or}
+use Rattle.std.proofs.Common.{◌≡◌, ℕ, suc, zero, ◌+◌, ◌-◌, ◌≤◌, ◌<◌, Bool, true, false, cond, List, [], ◌∷◌, ◌++◌, length, arith, refl, sym, subst, ◌∙◌, drop, get_or}
 use Rattle.std.specs.Prelude.{not, ◌&&◌, ◌==◌, if◌then◌else◌, nat_lt}
 use Rattle.std.specs.List.{cons_option, AllByRecursion}
 use Rattle.std.proofs.lemmas.Bool.{and_parts, and_left, and_right, le-ltb, ltb-true}
@@ -18,7 +18,7 @@ use Rattle.pvp_book.specs.Accounts.{balance_with}
 use Rattle.pvp_book.specs.Pairs.{matched_by, matched, has_reference, both_have_asked}
 use Rattle.pvp_book.specs.Settlement.{both_pass, candidates}
 use Rattle.pvp_book.specs.Bounds.{total, most_total, IsSmall}
-use Rattle.pvp_book.specs.Kept.{AreAccounts, CanSettle, both_pass_with, accounts_with}
+use Rattle.pvp_book.specs.Kept.{AreSettled, AreAccounts, CanSettle, both_pass_with, accounts_with}
 use Rattle.pvp_book.specs.Answer.{Row, answer, on_instruct, is_member_number, has_member, has_currency, book_of}
 use Rattle.pvp_book.specs.Laws.{IsExchange}
 use Rattle.pvp_book.proofs.Counts.{each-append, each-both, each-filter}
@@ -28,6 +28,8 @@ use Rattle.pvp_book.proofs.Members.{is-member}
 use Rattle.pvp_book.proofs.LedgerLemmas.{IsSmall-within}
 use Rattle.pvp_book.proofs.WalkLemmas.{IsWalked, IsWalked-taken, IsWalked-passed, IsSmall-more, offered-here}
 use Rattle.pvp_book.proofs.KeptLemmas.{small-account, small-pair, both-pass-kept, AreAccounts-settled}
+use Rattle.pvp_book.specs.Seen.{has_settled}
+use Rattle.pvp_book.proofs.CandidateLemmas.{settled-more}
 
 -- a pair of two members in two currencies of the setup
 pub record IsTradable (setup : Setup) (p : Pair) : Type 0 where
@@ -97,6 +99,12 @@ pub record IsWalking (setup : Setup) (entries : List Entry) (start offered : Lis
   pub accounts : AreAccounts setup.currencies (length setup.members) (balance_with entries now) members
   pub counted : count ≤ i
 
+-- The same, with what is settled now known by its references.
+pub record IsUnderWay (setup : Setup) (entries : List Entry) (start offered : List Pair) (most i count : ℕ) (references : List ℕ) (members : List Account) : Type 0 where
+  pub now : List Pair
+  pub walking : IsWalking setup entries start offered most i count now members
+  pub done : AreSettled now references
+
 module _ (setup : Setup) (entries : List Entry) (start offered : List Pair) (most i count : ℕ) (now : List Pair) (members : List Account) (nothing : Pair)
     (are : IsOffered setup entries offered) (within : i < length offered) (is : IsWalking setup entries start offered most i count now members) where
   tradable : IsTradable setup (get_or offered i nothing)
@@ -163,3 +171,32 @@ module _ (setup : Setup) (entries : List Entry) (start offered : List Pair) (mos
         accounts = is.accounts;
         counted = omega arith;
       }
+
+-- the same steps, with the references
+module _ (setup : Setup) (entries : List Entry) (start offered : List Pair) (most i count : ℕ) (references : List ℕ) (members : List Account) (nothing : Pair)
+    (are : IsOffered setup entries offered) (within : i < length offered) (is : IsUnderWay setup entries start offered most i count references members) where
+  pub can-settle-here : CanSettle setup members (get_or offered i nothing)
+  can-settle-here = can-settle setup entries start offered most i count is.now members nothing are within is.walking
+
+  pub under-way-taken : (later : List ℕ) → count < most → both_pass_with setup (get_or offered i nothing) members ≡ true
+      → ((r : ℕ) → has_settled later r ≡ cond ((get_or offered i nothing).reference == r) true (has_settled references r))
+      → IsUnderWay setup entries start offered most (i + 1) (count + 1) later (accounts_with setup.currencies (get_or offered i nothing) members)
+  under-way-taken later room passed put_in = record {
+    now = is.now ++ get_or offered i nothing ∷ [];
+    walking = walking-taken setup entries start offered most i count is.now members nothing are within is.walking room passed;
+    done = settled-more is.now (get_or offered i nothing) references later is.done put_in;
+  }
+
+  pub under-way-failed : both_pass_with setup (get_or offered i nothing) members ≡ false → IsUnderWay setup entries start offered most (i + 1) count references members
+  under-way-failed failed = record {
+    now = is.now;
+    walking = walking-failed setup entries start offered most i count is.now members nothing are within is.walking failed;
+    done = is.done;
+  }
+
+  pub under-way-past : most ≤ count → IsUnderWay setup entries start offered most (i + 1) count references members
+  under-way-past enough = record {
+    now = is.now;
+    walking = walking-past setup entries start offered most i count is.now members nothing are within is.walking enough;
+    done = is.done;
+  }

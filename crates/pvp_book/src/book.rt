@@ -11,6 +11,7 @@ use crate::terms::{has_member, is_amount, node_of};
 use indexmap::IndexMap;
 use pvp_types::{Cmd, PayOrder, Reason, Reply, Setup};
 use std::alloc::{AllocError, Global};
+use std::collections::HashSet;
 use std::marker::Model;
 
 /// The most members that a bank has.
@@ -26,8 +27,11 @@ pub struct Book {
     entries: Vec<Entry>,
     /// All pairs by reference, in the order in which they were first seen.
     pairs: IndexMap<u32, Pair>,
-    /// The settled pairs, in the order in which they were settled.
-    settled: Vec<Pair>,
+    /// The references of the settled pairs.
+    settled: HashSet<u32>,
+    /// The matched pairs that wait, in the order in which they were matched, and those that no longer
+    /// do since the last walk.
+    line: Vec<Pair>,
     /// What each member has, and the figures.
     accounts: Accounts,
     /// Which numbers came.
@@ -37,13 +41,13 @@ pub struct Book {
 
 impl Model for Book {
     ghost use Rattle.pvp_book.specs.Ledger.{Ledger};
-    ghost use Rattle.pvp_book.specs.Kept.{IsKept};
+    ghost use Rattle.pvp_book.specs.Kept.{Kept, IsKept};
 
     ghost Value = { Ledger };
 
     ghost view = { λ b. record { setup = b.setup; entries = b.entries.items; applied = b.applied } };
 
-    ghost invariant = { λ b. IsKept (record { setup = b.setup; entries = b.entries.items; applied = b.applied }) b.pairs.entries b.settled.items b.accounts.members.items b.accounts.figures b.seen };
+    ghost invariant = { λ b. IsKept (record { setup = b.setup; entries = b.entries.items; applied = b.applied }) (record { pairs = b.pairs.entries; references = b.settled.keys; line = b.line.items; members = b.accounts.members.items; totals = b.accounts.figures; shown = b.seen }) };
 }
 
 impl Book {
@@ -67,7 +71,8 @@ impl Book {
             setup: setup.copy()?,
             entries: Vec::new(alloc),
             pairs: IndexMap::new(alloc),
-            settled: Vec::new(alloc),
+            settled: HashSet::new(alloc),
+            line: Vec::new(alloc),
             accounts: Accounts::new(alloc, setup.member_count())?,
             seen: Seen::new(alloc),
             applied: 0,
@@ -120,7 +125,7 @@ impl Book {
     pub fn queued(&self) -> usize
         ensures { result ≡ length (queue self.now.setup self.now.entries) }
     {
-        pair::count_queued(self.entries.as_slice(), &self.seen, self.settled.as_slice())
+        pair::count_waiting(self.line.as_slice(), &self.seen, &self.settled)
     }
 
     /// The reference of the waiting pair at a place, in the order in which they were matched, which
@@ -128,8 +133,7 @@ impl Book {
     pub fn queue_at(&self, at: usize) -> Option<u32>
         ensures { result ≡ option_map (λ p. p.reference) (slice_get (queue self.now.setup self.now.entries) at) }
     {
-        let entries = self.entries.as_slice();
-        let pair = pair::queued_at(entries, &self.seen, self.settled.as_slice(), at)?;
+        let pair = pair::waiting_at(self.line.as_slice(), &self.seen, &self.settled, at)?;
         Some(pair.reference)
     }
 
@@ -178,7 +182,7 @@ impl Book {
         ensures { result ≡ length (pairs_in self.now.setup self.now.entries state) }
     {
         let entries = self.entries.as_slice();
-        pair::count_in(entries, &self.seen, self.settled.as_slice(), state) as u32
+        pair::count_in(entries, &self.seen, &self.settled, state) as u32
     }
 
     fn pair_of(&self, reference: u32) -> Option<Pair>
@@ -190,7 +194,7 @@ impl Book {
     fn state_of(&self, pair: &Pair) -> PairState
         ensures { result ≡ state_of self.now.setup self.now.entries pair.now }
     {
-        pair::state_of(&self.seen, self.settled.as_slice(), pair)
+        pair::state_of(&self.seen, &self.settled, pair)
     }
 
     /// What the bank was set up with.
@@ -223,19 +227,19 @@ impl Book {
         ensures after { OnOk result (self.new ≡ after self.old 0 (Settle most)) }
     {
         let alloc = *self.entries.allocator();
-        let entries = self.entries.as_slice();
-        let offered = pair::candidates(alloc, entries, &self.seen, self.settled.as_slice())?;
+        let offered = pair::waiting(alloc, self.line.as_slice(), &self.seen, &self.settled)?;
         self.entries.reserve(1)?;
         self.settled.reserve(offered.len())?;
         let mut count = 0;
         for pair in &offered {
             if count < most {
                 if self.accounts.settle(&self.setup, pair) {
-                    self.settled.push_reserved(*pair);
+                    self.settled.insert(pair.reference)?;
                     count += 1;
                 }
             }
         }
+        self.line = offered;
         let reply = Reply::Settled(count);
         self.entries.push(Entry {
             client: OPERATOR,
@@ -272,11 +276,13 @@ impl Book {
     {
         self.entries.reserve(1)?;
         self.pairs.reserve(1)?;
+        self.line.reserve(1)?;
         let moved = account::movement_by(self.entries.as_slice(), &entry);
         self.seen.note(&entry)?;
         if let Some(pair) = pair::opened_by(&entry) {
             self.pairs.insert(pair.reference, pair)?;
         }
+        pair::line_up(&mut self.line, &entry);
         self.entries.push(entry)?;
         self.accounts.post(&self.setup, moved);
         self.applied += 1;
@@ -406,8 +412,7 @@ impl Book {
     fn is_late(&self, pair: &Pair) -> bool
         ensures { result ≡ (has_reference (settled self.now.setup self.now.entries) pair.now.reference || is_rescinded self.now.entries pair.now) }
     {
-        pair::has_reference(self.settled.as_slice(), pair.reference)
-            || pair::is_rescinded(&self.seen, pair)
+        self.settled.contains(&pair.reference) || pair::is_rescinded(&self.seen, pair)
     }
 
     fn on_fund(&self, client: u16, c: u8, pay: u32, member: u16, amt: u64) -> Reply
