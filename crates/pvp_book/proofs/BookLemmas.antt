@@ -27,11 +27,11 @@ use Rattle.pvp_book.specs.Orders.{orders}
 use Rattle.pvp_book.specs.Accounts.{balance_with}
 use Rattle.pvp_book.specs.Laws.{AreOrdered, IsCovered}
 use Rattle.pvp_book.specs.Ledger.{Ledger, opening, balance, figure, sum_of_balances, state_of, is_state}
-use Rattle.pvp_book.specs.Bounds.{total, most_total, IsWithin, IsWithinMatched}
-use Rattle.pvp_book.specs.Kept.{Kept, IsKept, AreSettled, IsLine, CanPost, empty_account, no_account, IsAccount, AreAccounts, AreFigures, movement_by, moved_to, accounts_after, figures_after}
+use Rattle.pvp_book.specs.Bounds.{IsLedger, total, most_total, IsWithin, IsWithinMatched}
+use Rattle.pvp_book.specs.Kept.{Kept, IsKept, AreSettled, IsLine, CanPost, empty_account, no_account, IsAccount, AreAccounts, AreFigures, movement_with, movement_by, moved_to, accounts_after, figures_after}
 use Rattle.pvp_book.specs.Answer.{Row, book_of, has_member, answer, answer_to, after, with_entry, is_walk, is_refusal, is_mirror, on_mirror, on_instruct, is_member_number, has_currency, is_amount}
 use Rattle.pvp_book.proofs.SettlementLemmas.{append-nil, settled-push, IsWithinMatched-nil}
-use Rattle.pvp_book.proofs.LedgerLemmas.{total-small, IsSmall-ledger, IsLedger-accepted, sum_of_balances-more}
+use Rattle.pvp_book.proofs.LedgerLemmas.{total-small, orders-few, IsSmall-ledger, IsLedger-accepted, sum_of_balances-more}
 use Rattle.pvp_book.proofs.Reached.{entry_of, reached-more}
 use Rattle.pvp_book.proofs.OrderLemmas.{are-ordered}
 use Rattle.pvp_book.proofs.FigureLemmas.{orders-of-members, is-covered}
@@ -40,6 +40,11 @@ use Rattle.pvp_book.proofs.KeptLemmas.{small-account, small-sum, AreAccounts-sam
 use Rattle.pvp_book.proofs.WalkLemmas.{IsWalked-start, IsWalked-all}
 use Rattle.pvp_book.proofs.WalkingLemmas.{IsTradable, IsOffered, IsWalking, IsUnderWay, offered-tradable}
 use Rattle.pvp_book.proofs.CandidateLemmas.{line-of-candidates, line-more}
+use Rattle.pvp_book.specs.declared.order_table.OrderTable.{OrderTable}
+use Rattle.pvp_book.specs.OrderTable.{order_at, AreMade}
+use Rattle.std.proofs.lemmas.List.Elements.{All-from_get_or}
+use Rattle.std.specs.Prelude.{All}
+use Rattle.pvp_book.proofs.OrderTableLemmas.{AreMade-still}
 use Rattle.pvp_book.specs.declared.seen.Seen.{Seen}
 use Rattle.pvp_book.specs.Seen.{HasSeen, has_settled, is_waiting, seen_pay_in, seen_matched, seen_asked}
 use Rattle.pvp_book.proofs.SeenLemmas.{HasSeen-more, still, waiting-same}
@@ -64,9 +69,9 @@ zeros zero c = refl
 zeros (suc n) zero = refl
 zeros (suc n) (suc c) = zeros n c
 
-pub IsKept-opening : (setup : Setup) (shown : Seen) → IsValid setup → HasSeen [] shown → IsKept (opening setup) (record { pairs = []; references = []; line = []; members = replicate (length setup.members + 1) empty_account; totals = replicate 8 (pos 0); shown = shown })
+pub IsKept-opening : (setup : Setup) (shown : Seen) (table : OrderTable) → IsValid setup → HasSeen [] shown → AreMade [] table → IsKept (opening setup) (record { pairs = []; references = []; line = []; members = replicate (length setup.members + 1) empty_account; totals = replicate 8 (pos 0); shown = shown; table = table })
 unfolding settled settled_after
-IsKept-opening setup shown valid has = record {
+IsKept-opening setup shown table valid has made = record {
   ledger = record { valid = valid; few = omega arith; small = omega arith; fewer = omega arith; within = IsWithinMatched-nil };
   history = [];
   reached = refl;
@@ -79,6 +84,7 @@ IsKept-opening setup shown valid has = record {
   };
   figures = record { places = refl; same = λ c. zeros 8 c ∙ sym (none-held (length setup.members) c) };
   seen = has;
+  orders = made;
   done = λ r. refl;
   line = refl;
   pairs = refl;
@@ -245,7 +251,7 @@ can-post held client cmd kept x is accepted moves amount =
     wider z few small = let low = small.above in let high = small.below in record { above = omega (arith, ints); below = omega (arith, ints) }
 
 -- an entry that is no walk adds at most a pair, and moves what it moves
-pub IsKept-accepted : (held : Ledger) (entry : Entry) (kept : Kept) (later : Seen) → HasSeen (held.entries ++ entry ∷ []) later → IsKept held kept → held.applied < 65535
+pub IsKept-accepted : (held : Ledger) (entry : Entry) (kept : Kept) (later : Seen) (table : OrderTable) → HasSeen (held.entries ++ entry ∷ []) later → AreMade (held.entries ++ entry ∷ []) table → IsKept held kept → held.applied < 65535
     → is_walk entry.client entry.cmd ≡ false → entry.reply ≡ answer_to held entry.client entry.cmd → is_refusal entry.reply ≡ false
     → IsKept (record { setup = held.setup; entries = held.entries ++ entry ∷ []; applied = held.applied + 1 }) (record {
       pairs = kept.pairs ++ map kept_as (cons_option (opened_by entry.client entry.cmd entry.reply) []);
@@ -254,8 +260,9 @@ pub IsKept-accepted : (held : Ledger) (entry : Entry) (kept : Kept) (later : See
       members = accounts_after held.setup.currencies (movement_by held.entries entry.client entry.cmd) kept.members;
       totals = figures_after (movement_by held.entries entry.client entry.cmd) kept.totals;
       shown = later;
+      table = table;
     })
-IsKept-accepted held entry kept later has is room other answered accepted =
+IsKept-accepted held entry kept later table has made is room other answered accepted =
     let new = cons_option (opened_by entry.client entry.cmd entry.reply) [] in
     let more : pairs (held.entries ++ entry ∷ []) ≡ pairs held.entries ++ new = filter_map-append (λ (x : Entry). opened_by x.client x.cmd x.reply) held.entries (entry ∷ []) in
     let taken = ap is_refusal (sym answered) ∙ accepted in
@@ -274,6 +281,7 @@ IsKept-accepted held entry kept later has is room other answered accepted =
       figures = subst (λ e. AreFigures (figure held.setup (held.entries ++ e ∷ [])) (figures_after (movement_by held.entries entry.client entry.cmd) kept.totals))
           (sym same) (kept-figures held entry.client entry.cmd kept.members kept.totals reached is.ledger.valid taken still_so is.figures);
       seen = has;
+      orders = made;
       done = subst (λ ps. AreSettled ps kept.references) (sym still) is.done;
       line = subst (λ ps. IsLine (held.entries ++ entry ∷ []) ps (kept.line ++ cons_option (matched_by entry.client entry.cmd entry.reply) [])) (sym with_none)
           (line-more held.entries entry (settled held.setup held.entries) [] kept.line is.line);
@@ -305,6 +313,32 @@ pub offered-is : (held : Ledger) (kept : Kept) → IsKept held kept
     → filter (λ p. is_waiting kept.shown kept.references p) kept.line ≡ candidates held.entries (settled held.setup held.entries)
 offered-is held kept is =
     waiting-same held.entries kept.shown is.seen (settled held.setup held.entries) kept.references is.done kept.line ∙ is.line
+
+-- what an entry moves, by the table of orders
+pub moved-same : (entries : List Entry) (table : OrderTable) → AreMade entries table → (client : ℕ) (cmd : Cmd) → movement_by entries client cmd ≡ movement_with (order_at table) client cmd
+moved-same entries table are client cmd = λ i. movement_with (λ c n. sym (are.made c n) i) client cmd
+
+-- what was seen, and the table of orders, may be other values of which the same is so
+pub IsKept-same : (held : Ledger) (kept : Kept) (shown : Seen) (table : OrderTable) → IsKept held kept → HasSeen held.entries shown → AreMade held.entries table
+    → IsKept held (record { pairs = kept.pairs; references = kept.references; line = kept.line; members = kept.members; totals = kept.totals; shown = shown; table = table })
+IsKept-same held kept shown table is has made = record {
+  ledger = is.ledger;
+  history = is.history;
+  reached = is.reached;
+  accounts = is.accounts;
+  figures = is.figures;
+  seen = has;
+  orders = made;
+  done = is.done;
+  line = is.line;
+  pairs = is.pairs;
+}
+
+-- there are few orders
+pub few-made : (held : Ledger) (table : OrderTable) → IsLedger held → held.applied < 65535 → AreMade held.entries table → All (λ n. n < 65535) table.counts
+few-made held table is room are =
+    All-from_get_or (λ n. n < 65535) table.counts 0
+    (λ c within. subst (λ n. n < 65535) (sym (are.counts c)) (let few = orders-few held is c in omega arith))
 
 -- what a walk starts with
 pub walk-offered : (held : Ledger) (kept : Kept) (es : List Entry) (offered : List Pair)
@@ -353,6 +387,7 @@ module _ (held : Ledger) (most i count : ℕ) (kept : Kept) (references : List �
         members = later;
         totals = kept.totals;
         shown = kept.shown;
+        table = kept.table;
       })
   unfolding taken_by
   IsKept-walked room =
@@ -377,6 +412,7 @@ module _ (held : Ledger) (most i count : ℕ) (kept : Kept) (references : List �
         };
         seen = HasSeen-more held.entries entry kept.shown kept.shown
             (record { pay_ins = λ c k. still (seen_pay_in kept.shown c k); matched = λ r. still (seen_matched kept.shown r); asked = λ m r. still (seen_asked kept.shown m r) }) is.seen;
+        orders = AreMade-still held.entries entry kept.table refl is.orders;
         done = subst (λ ps. AreSettled ps references) settled_now under_way.done;
         line = subst (λ ps. IsLine (held.entries ++ entry ∷ []) ps (candidates held.entries posted)) (sym (settled-push held.setup held.entries entry))
             (subst (IsLine (held.entries ++ entry ∷ []) (posted ++ pass held.setup held.entries posted most (candidates held.entries posted))) (append-nil (candidates held.entries posted))

@@ -14,7 +14,9 @@ use Rattle.pvp_book.specs.Seen.{HasSeen, has_settled}
 use Rattle.pvp_book.specs.declared.account.Movement.{Movement}
 use Rattle.pvp_book.specs.declared.entry.Entry.{Entry}
 use Rattle.pvp_book.specs.declared.pair.Pair.{Pair}
-use Rattle.pvp_book.specs.Orders.{orders}
+use Rattle.pvp_book.specs.Orders.{order_of}
+use Rattle.pvp_book.specs.declared.order_table.OrderTable.{OrderTable}
+use Rattle.pvp_book.specs.OrderTable.{AreMade}
 use Rattle.pvp_book.specs.Pairs.{pairs, has_reference, both_have_asked}
 use Rattle.pvp_book.specs.Settlement.{candidates, settled}
 use Rattle.pvp_book.specs.Ledger.{Ledger, balance, figure}
@@ -74,16 +76,15 @@ pub record AreFigures (figure : ℕ → ℤ) (figures : List ℤ) : Type 0 where
   pub places : length figures ≡ 8
   pub same : (c : ℕ) → slice_index_or figures c (pos 0) ≡ figure c
 
--- an order of a currency, by its number
-abbrev pub order_of : List Entry → ℕ → ℕ → Option PayOrder
-order_of entries c out = find (λ order. order.out == out) (orders entries c)
+-- what an accepted command posts on one account: a pay-in, a pay-out, or an order that is returned, where orders are found so
+abbrev pub movement_with : (ℕ → ℕ → Option PayOrder) → ℕ → Cmd → Option Movement
+movement_with order_of client (Fund ccy pay member amt) = Some (record { member = member; ccy = ccy; amt = pos amt })
+movement_with order_of client (PayOut ccy amt) = Some (record { member = client; ccy = ccy; amt = neg_ℤ (pos amt) })
+movement_with order_of client (Returned ccy out) = option_map (λ order. record { member = order.member; ccy = ccy; amt = pos order.amt }) (order_of ccy out)
+movement_with order_of client _ = None
 
--- what an accepted command posts on one account: a pay-in, a pay-out, or an order that is returned
 abbrev pub movement_by : List Entry → ℕ → Cmd → Option Movement
-movement_by entries client (Fund ccy pay member amt) = Some (record { member = member; ccy = ccy; amt = pos amt })
-movement_by entries client (PayOut ccy amt) = Some (record { member = client; ccy = ccy; amt = neg_ℤ (pos amt) })
-movement_by entries client (Returned ccy out) = option_map (λ order. record { member = order.member; ccy = ccy; amt = pos order.amt }) (order_of entries ccy out)
-movement_by entries client _ = None
+movement_by entries client cmd = movement_with (order_of entries) client cmd
 
 -- what comes of it to a member in a currency, and to a figure
 abbrev pub moved_to : ℕ → ℕ → Option Movement → ℤ
@@ -155,7 +156,7 @@ abbrev pub IsLine : List Entry → List Pair → List Pair → Type 0
 IsLine entries settled line = waiting entries settled line ≡ candidates entries settled
 
 -- what a book keeps beside its entries: the pairs by reference, the references of the settled ones, the line of those that wait, the
--- accounts, the figures, and which numbers came
+-- accounts, the figures, which numbers came, and the orders
 pub record Kept : Type 0 where
   pub pairs : List (ℕ × Pair)
   pub references : List ℕ
@@ -163,6 +164,7 @@ pub record Kept : Type 0 where
   pub members : List Account
   pub totals : List ℤ
   pub shown : Seen
+  pub table : OrderTable
 
 -- each is what it is by the entries
 pub record IsKept (held : Ledger) (kept : Kept) : Type 0 where
@@ -173,6 +175,7 @@ pub record IsKept (held : Ledger) (kept : Kept) : Type 0 where
   pub accounts : AreAccounts held.setup.currencies (length held.setup.members) (balance held.setup held.entries) kept.members
   pub figures : AreFigures (figure held.setup held.entries) kept.totals
   pub seen : HasSeen held.entries kept.shown
+  pub orders : AreMade held.entries kept.table
   pub done : AreSettled (settled held.setup held.entries) kept.references
   pub line : IsLine held.entries (settled held.setup held.entries) kept.line
   pub pairs : kept.pairs ≡ map (λ p. (p.reference, p)) (pairs held.entries)

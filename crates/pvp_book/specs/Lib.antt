@@ -6,6 +6,7 @@ pub mod Laws
 pub mod Ledger
 pub mod Limits
 pub mod Open
+pub mod OrderTable
 pub mod Orders
 pub mod Pairs
 pub mod Seen

@@ -4,9 +4,9 @@ ghost use Rattle.pvp_book.specs.Answer.{is_amount, is_refusal, is_mirror};
 use crate::account::{self, Accounts};
 use crate::entry::Entry;
 use crate::open::{self, OpenOrders};
+use crate::order_table::OrderTable;
 use crate::pair::{self, Pair, PairState};
 use crate::seen::Seen;
-use crate::sums;
 use crate::terms::{has_member, is_amount, node_of};
 use indexmap::IndexMap;
 use pvp_types::{Cmd, PayOrder, Reason, Reply, Setup};
@@ -36,6 +36,8 @@ pub struct Book {
     accounts: Accounts,
     /// Which numbers came.
     seen: Seen,
+    /// The orders by number.
+    table: OrderTable,
     applied: u16,
 }
 
@@ -47,7 +49,7 @@ impl Model for Book {
 
     ghost view = { λ b. record { setup = b.setup; entries = b.entries.items; applied = b.applied } };
 
-    ghost invariant = { λ b. IsKept (record { setup = b.setup; entries = b.entries.items; applied = b.applied }) (record { pairs = b.pairs.entries; references = b.settled.keys; line = b.line.items; members = b.accounts.members.items; totals = b.accounts.figures; shown = b.seen }) };
+    ghost invariant = { λ b. IsKept (record { setup = b.setup; entries = b.entries.items; applied = b.applied }) (record { pairs = b.pairs.entries; references = b.settled.keys; line = b.line.items; members = b.accounts.members.items; totals = b.accounts.figures; shown = b.seen; table = b.table }) };
 }
 
 impl Book {
@@ -58,9 +60,9 @@ impl Book {
     ghost use Rattle.pvp_book.specs.Limits.{passes};
     ghost use Rattle.pvp_book.specs.Settlement.{settled};
     ghost use Rattle.pvp_book.specs.Ledger.{opening, balance, figure, value, queue, open_orders, has_pay_in, outstanding, state_of, pair_state, pairs_in};
-    ghost use Rattle.pvp_book.specs.Orders.{orders};
+    ghost use Rattle.pvp_book.specs.Orders.{orders, has_end};
     ghost use Rattle.pvp_book.specs.Open.{orders_left};
-    ghost use Rattle.pvp_book.specs.Answer.{answer_to, after, is_walk, balances_less, is_side, on_instruct, on_mirror, on_rescind, on_pair, on_fund, on_pay_out, on_end, has_member, has_currency};
+    ghost use Rattle.pvp_book.specs.Answer.{answer_to, after, is_walk, balances_less, is_side, on_instruct, on_mirror, on_rescind, on_pair, on_fund, on_pay_out, on_end, has_order, has_member, has_currency};
 
     /// An empty book. `Err` where memory is refused.
     pub fn fresh(alloc: Global, setup: &Setup) -> Result<Self, AllocError>
@@ -75,6 +77,7 @@ impl Book {
             line: Vec::new(alloc),
             accounts: Accounts::new(alloc, setup.member_count())?,
             seen: Seen::new(alloc),
+            table: OrderTable::new(alloc),
             applied: 0,
         })
     }
@@ -143,14 +146,14 @@ impl Book {
         ensures { result ≡ slice_get (outstanding self.now.setup self.now.entries) at }
     {
         let entries = self.entries.as_slice();
-        open::outstanding_at(entries, self.setup.currency_count(), at)
+        open::outstanding_at(entries, &self.table, self.setup.currency_count(), at)
     }
 
     /// A currency's orders that are neither paid nor returned, in the order in which they were made.
     pub fn open_orders(&self, c: u8) -> OpenOrders<'_>
         ensures { orders_left result ≡ open_orders self.now.entries c }
     {
-        OpenOrders::new(self.entries.as_slice(), c)
+        OpenOrders::new(self.entries.as_slice(), &self.table, c)
     }
 
     /// How many orders of all currencies are outstanding.
@@ -158,7 +161,7 @@ impl Book {
         ensures { result ≡ length (outstanding self.now.setup self.now.entries) }
     {
         let entries = self.entries.as_slice();
-        open::count_outstanding(entries, self.setup.currency_count())
+        open::count_outstanding(entries, &self.table, self.setup.currency_count())
     }
 
     /// How many orders were made in a currency.
@@ -166,7 +169,7 @@ impl Book {
         ensures count { result ≡ length (orders self.now.entries c) }
         ensures few { result ≤ 65535 }
     {
-        sums::order_count(self.entries.as_slice(), c) as u32
+        self.table.count(c)
     }
 
     /// How far the pair of a reference has come; `None` where there is none.
@@ -277,8 +280,10 @@ impl Book {
         self.entries.reserve(1)?;
         self.pairs.reserve(1)?;
         self.line.reserve(1)?;
-        let moved = account::movement_by(self.entries.as_slice(), &entry);
+        self.table.reserve()?;
+        let moved = account::movement_by(&self.table, &entry);
         self.seen.note(&entry)?;
+        self.table.add(&entry);
         if let Some(pair) = pair::opened_by(&entry) {
             self.pairs.insert(pair.reference, pair)?;
         }
@@ -469,18 +474,30 @@ impl Book {
     fn on_end(&self, client: u16, c: u8, out: u32) -> Reply
         ensures { result ≡ on_end self.now.setup self.now.entries client c out }
     {
-        let entries = self.entries.as_slice();
         if client != node_of(c) {
             Reply::No(Reason::NotYours)
         } else if !self.has_currency(c) {
             Reply::No(Reason::UnknownMember)
-        } else if !sums::has_order(entries, c, out) {
+        } else if !self.has_order(c, out) {
             Reply::No(Reason::UnknownReference)
-        } else if sums::has_end(entries, c, out) {
+        } else if self.has_end(c, out) {
             Reply::No(Reason::Repeated)
         } else {
             Reply::Done
         }
+    }
+
+    fn has_order(&self, c: u8, out: u32) -> bool
+        ensures { result ≡ has_order self.now.entries c out }
+    {
+        self.table.get(c, out).is_some()
+    }
+
+    /// Whether a currency's order of this number is paid or returned.
+    fn has_end(&self, c: u8, out: u32) -> bool
+        ensures { result ≡ has_end self.now.entries c out }
+    {
+        self.table.has_ended(c, out)
     }
 
     fn has_member(&self, m: u16) -> bool

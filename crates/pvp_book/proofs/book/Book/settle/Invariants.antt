@@ -14,6 +14,7 @@ invariant-loop-pair l = record {
   pairs : l.self-inside.pairs ≡ l.initial.self-inside.pairs;
   figures : l.self-inside.accounts.figures ≡ l.initial.self-inside.accounts.figures;
   seen : l.self-inside.seen ≡ l.initial.self-inside.seen;
+  table : l.self-inside.table ≡ l.initial.self-inside.table;
   applied : l.self-inside.applied ≡ l.initial.self-inside.applied;
   room : length l.pair-items ≤ spare l.self-inside.settled + l.count;
 }
