@@ -179,7 +179,7 @@ length-cons_option-le : {Y : Type 0} (o : Option Y) (ys : List Y) → length (co
 length-cons_option-le None ys = omega arith
 length-cons_option-le (Some y) ys = omega arith
 
-length-filter_map-le : {X Y : Type 0} (f : X → Option Y) (xs : List X) → length (filter_map f xs) ≤ length xs
+pub length-filter_map-le : {X Y : Type 0} (f : X → Option Y) (xs : List X) → length (filter_map f xs) ≤ length xs
 length-filter_map-le f [] = omega arith
 length-filter_map-le f (x ∷ xs) =
     let rest = length-filter_map-le f xs in

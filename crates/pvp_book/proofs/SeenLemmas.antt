@@ -80,6 +80,18 @@ asked-said m r client (PayOut ccy amt) reply = and-false (client == m)
 asked-said m r client (Paid ccy out) reply = and-false (client == m)
 asked-said m r client (Returned ccy out) reply = and-false (client == m)
 
+-- what the entries have with one more
+pub matched-more : (entries : List Entry) (e : Entry) (r : ℕ) → has_reference (matched (entries ++ e ∷ [])) r ≡ (has_reference (matched entries) r || says_matched r (mark_of e.client e.cmd e.reply))
+matched-more entries e r =
+    ap (λ ps. has_reference ps r) (filter_map-append (λ (x : Entry). matched_by x.client x.cmd x.reply) entries (e ∷ []))
+    ∙ list_any-append (λ (p : Pair). p.reference == r) (matched entries) (cons_option (matched_by e.client e.cmd e.reply) [])
+    ∙ ap (λ b. has_reference (matched entries) r || b) (matched-said r e.client e.cmd e.reply)
+
+pub asked-more : (entries : List Entry) (e : Entry) (m r : ℕ) → has_asked (entries ++ e ∷ []) m r ≡ (has_asked entries m r || says_asked m r (mark_of e.client e.cmd e.reply))
+asked-more entries e m r =
+    list_any-append (λ (x : Entry). (x.client == m) && is_rescission r x.cmd) entries (e ∷ [])
+    ∙ ap (λ b. has_asked entries m r || b) (or-false ((e.client == m) && is_rescission r e.cmd) ∙ asked-said m r e.client e.cmd e.reply)
+
 -- a mark more
 pub record IsMarked (old new : Seen) (made : Mark) : Type 0 where
   pub pay_ins : (c k : ℕ) → seen_pay_in new c k ≡ (seen_pay_in old c k || says_pay_in c k made)
@@ -91,13 +103,8 @@ HasSeen-more entries e old new is has = record {
   pay_ins = λ c k.
       is.pay_ins c k ∙ (λ i. has.pay_ins c k i || sym (pay-in-said c k e.client e.cmd e.reply) i)
       ∙ sym (list_any-append (λ (x : Entry). is_pay_in c k x.cmd) entries (e ∷ []) ∙ ap (λ b. has_pay_in entries c k || b) (or-false (is_pay_in c k e.cmd)));
-  matched = λ r.
-      is.matched r ∙ (λ i. has.matched r i || sym (matched-said r e.client e.cmd e.reply) i)
-      ∙ sym (ap (λ ps. has_reference ps r) (filter_map-append (λ (x : Entry). matched_by x.client x.cmd x.reply) entries (e ∷ []))
-      ∙ list_any-append (λ (p : Pair). p.reference == r) (matched entries) (cons_option (matched_by e.client e.cmd e.reply) []));
-  asked = λ m r.
-      is.asked m r ∙ (λ i. has.asked m r i || sym (asked-said m r e.client e.cmd e.reply) i)
-      ∙ sym (list_any-append (λ (x : Entry). (x.client == m) && is_rescission r x.cmd) entries (e ∷ []) ∙ ap (λ b. has_asked entries m r || b) (or-false ((e.client == m) && is_rescission r e.cmd)));
+  matched = λ r. is.matched r ∙ ap (λ b. b || says_matched r (mark_of e.client e.cmd e.reply)) (has.matched r) ∙ sym (matched-more entries e r);
+  asked = λ m r. is.asked m r ∙ ap (λ b. b || says_asked m r (mark_of e.client e.cmd e.reply)) (has.asked m r) ∙ sym (asked-more entries e m r);
 }
 
 -- a key more, as a set tells it
@@ -123,10 +130,6 @@ module _ (entries : List Entry) (seen : Seen) (has : HasSeen entries seen) where
     pub state-same : (p : Pair) → state_seen seen references p ≡ state_with entries done p
     state-same p =
         λ i. if are p.reference i then state.Settled else if back-same p i then state.Rescinded else if has.matched p.reference i then state.Matched else state.Unmatched
-
-    pub counted-same : (which : PairState) (ps : List Pair)
-        → filter (λ p. is_state (state_seen seen references p) which) ps ≡ filter (λ p. is_state (state_with entries done p) which) ps
-    counted-same which ps = λ i. filter (λ p. is_state (state-same p i) which) ps
 
     pub waiting-same : (ps : List Pair) → filter (λ p. is_waiting seen references p) ps ≡ waiting entries done ps
     waiting-same ps = λ i. filter (λ p. not (are p.reference i) && not (both-same p i)) ps

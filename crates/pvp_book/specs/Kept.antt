@@ -17,6 +17,8 @@ use Rattle.pvp_book.specs.declared.pair.Pair.{Pair}
 use Rattle.pvp_book.specs.Orders.{order_of}
 use Rattle.pvp_book.specs.declared.order_table.OrderTable.{OrderTable}
 use Rattle.pvp_book.specs.OrderTable.{AreMade}
+use Rattle.pvp_book.specs.declared.tally.Tally.{Tally}
+use Rattle.pvp_book.specs.Tally.{AreTallied}
 use Rattle.pvp_book.specs.Pairs.{pairs, has_reference, both_have_asked}
 use Rattle.pvp_book.specs.Settlement.{candidates, settled}
 use Rattle.pvp_book.specs.Ledger.{Ledger, balance, figure}
@@ -156,7 +158,8 @@ abbrev pub IsLine : List Entry → List Pair → List Pair → Type 0
 IsLine entries settled line = waiting entries settled line ≡ candidates entries settled
 
 -- what a book keeps beside its entries: the pairs by reference, the references of the settled ones, the line of those that wait, the
--- accounts, the figures, which numbers came, and the orders
+-- accounts, the figures, which numbers came, the orders, and how many
+-- pairs are in each state
 pub record Kept : Type 0 where
   pub pairs : List (ℕ × Pair)
   pub references : List ℕ
@@ -165,6 +168,7 @@ pub record Kept : Type 0 where
   pub totals : List ℤ
   pub shown : Seen
   pub table : OrderTable
+  pub tally : Tally
 
 -- each is what it is by the entries
 pub record IsKept (held : Ledger) (kept : Kept) : Type 0 where
@@ -176,6 +180,7 @@ pub record IsKept (held : Ledger) (kept : Kept) : Type 0 where
   pub figures : AreFigures (figure held.setup held.entries) kept.totals
   pub seen : HasSeen held.entries kept.shown
   pub orders : AreMade held.entries kept.table
+  pub states : AreTallied held.setup held.entries kept.tally
   pub done : AreSettled (settled held.setup held.entries) kept.references
   pub line : IsLine held.entries (settled held.setup held.entries) kept.line
   pub pairs : kept.pairs ≡ map (λ p. (p.reference, p)) (pairs held.entries)

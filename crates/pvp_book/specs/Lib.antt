@@ -11,3 +11,4 @@ pub mod Orders
 pub mod Pairs
 pub mod Seen
 pub mod Settlement
+pub mod Tally

@@ -7,6 +7,7 @@ use crate::open::{self, OpenOrders};
 use crate::order_table::OrderTable;
 use crate::pair::{self, Pair, PairState};
 use crate::seen::Seen;
+use crate::tally::Tally;
 use crate::terms::{has_member, is_amount, node_of};
 use indexmap::IndexMap;
 use pvp_types::{Cmd, PayOrder, Reason, Reply, Setup};
@@ -38,6 +39,8 @@ pub struct Book {
     seen: Seen,
     /// The orders by number.
     table: OrderTable,
+    /// How many pairs are in each state.
+    tally: Tally,
     applied: u16,
 }
 
@@ -49,7 +52,7 @@ impl Model for Book {
 
     ghost view = { λ b. record { setup = b.setup; entries = b.entries.items; applied = b.applied } };
 
-    ghost invariant = { λ b. IsKept (record { setup = b.setup; entries = b.entries.items; applied = b.applied }) (record { pairs = b.pairs.entries; references = b.settled.keys; line = b.line.items; members = b.accounts.members.items; totals = b.accounts.figures; shown = b.seen; table = b.table }) };
+    ghost invariant = { λ b. IsKept (record { setup = b.setup; entries = b.entries.items; applied = b.applied }) (record { pairs = b.pairs.entries; references = b.settled.keys; line = b.line.items; members = b.accounts.members.items; totals = b.accounts.figures; shown = b.seen; table = b.table; tally = b.tally }) };
 }
 
 impl Book {
@@ -78,6 +81,7 @@ impl Book {
             accounts: Accounts::new(alloc, setup.member_count())?,
             seen: Seen::new(alloc),
             table: OrderTable::new(alloc),
+            tally: Tally::new(),
             applied: 0,
         })
     }
@@ -184,8 +188,7 @@ impl Book {
     pub fn pairs(&self, state: PairState) -> u32
         ensures { result ≡ length (pairs_in self.now.setup self.now.entries state) }
     {
-        let entries = self.entries.as_slice();
-        pair::count_in(entries, &self.seen, &self.settled, state) as u32
+        self.tally.get(state)
     }
 
     fn pair_of(&self, reference: u32) -> Option<Pair>
@@ -237,7 +240,11 @@ impl Book {
         for pair in &offered {
             if count < most {
                 if self.accounts.settle(&self.setup, pair) {
+                    let named = Some(pair.reference);
+                    let before = pair::state_named(&self.pairs, &self.seen, &self.settled, named);
                     self.settled.insert(pair.reference)?;
+                    let after = pair::state_named(&self.pairs, &self.seen, &self.settled, named);
+                    self.tally = self.tally.moved(before, after);
                     count += 1;
                 }
             }
@@ -282,11 +289,13 @@ impl Book {
         self.line.reserve(1)?;
         self.table.reserve()?;
         let moved = account::movement_by(&self.table, &entry);
+        let named = pair::named_by(&entry);
+        let before = pair::state_named(&self.pairs, &self.seen, &self.settled, named);
         self.seen.note(&entry)?;
         self.table.add(&entry);
-        if let Some(pair) = pair::opened_by(&entry) {
-            self.pairs.insert(pair.reference, pair)?;
-        }
+        pair::open_pair(&mut self.pairs, &entry);
+        let after = pair::state_named(&self.pairs, &self.seen, &self.settled, named);
+        self.tally = self.tally.moved(before, after);
         pair::line_up(&mut self.line, &entry);
         self.entries.push(entry)?;
         self.accounts.post(&self.setup, moved);
