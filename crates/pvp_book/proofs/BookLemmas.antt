@@ -1,9 +1,9 @@
 -- What a book keeps beside its entries stays what the entries say.
-use Rattle.std.proofs.Common.{◌≡◌, ℕ, suc, zero, ◌+◌, ◌<◌, Bool, true, false, cond, List, [], ◌∷◌, ◌++◌, ◌*◌, ◌≤◌, length, map, find, arith, refl, ap, sym, subst, ◌∙◌, Option, Some, None, nat_eq, add-one, ℤ, pos, ◌+ℤ◌, ◌-ℤ◌, replicate, slice_index_or, ◌⊎◌, inl, inr}
+use Rattle.std.proofs.Common.{◌≡◌, ℕ, suc, zero, ◌+◌, ◌<◌, Bool, true, false, cond, List, [], ◌∷◌, ◌++◌, ◌*◌, ◌≤◌, length, map, filter, find, count_by, arith, refl, ap, sym, subst, ◌∙◌, Option, Some, None, nat_eq, add-one, ℤ, pos, ◌+ℤ◌, ◌-ℤ◌, replicate, slice_index_or, ◌⊎◌, inl, inr}
 use Rattle.std.specs.Prelude.{not, if◌then◌else◌, ◌&&◌, ◌||◌, ◌==◌}
 use Rattle.std.specs.List.{cons_option, AllByRecursion}
 use Rattle.std.proofs.lemmas.Int.{ints}
-use Rattle.std.proofs.lemmas.Bool.{ltb-true}
+use Rattle.std.proofs.lemmas.Bool.{ltb-true, eqb-true}
 use Rattle.std.proofs.lemmas.List.{get_or-replicate, length-replicate}
 use Rattle.std.specs.Map.{lookup}
 use Rattle.std.proofs.lemmas.List.Elements.{filter_map-append}
@@ -17,7 +17,7 @@ use Rattle.pvp_types.specs.Setup.{IsValid}
 use Rattle.pvp_book.specs.declared.entry.Entry.{Entry}
 use Rattle.pvp_book.specs.declared.pair.Pair.{Pair}
 use Rattle.pvp_book.specs.declared.pair.PairState.TheVariants.{Unmatched}
-use Rattle.pvp_book.specs.Pairs.{opened_by, pairs, matched, pair_of}
+use Rattle.pvp_book.specs.Pairs.{opened_by, pairs, matched_by, matched, pair_of, has_reference}
 use Rattle.pvp_book.specs.Settlement.{candidates, pass, taken_by, settled_after, settled}
 use Rattle.pvp_types.specs.declared.command.PayOrder.{PayOrder}
 use Rattle.pvp_types.proofs.SetupLemmas.{valid-currencies, valid-members}
@@ -26,27 +26,35 @@ use Rattle.pvp_book.specs.declared.account.Movement.{Movement}
 use Rattle.pvp_book.specs.Orders.{orders}
 use Rattle.pvp_book.specs.Accounts.{balance_with}
 use Rattle.pvp_book.specs.Laws.{AreOrdered, IsCovered}
-use Rattle.pvp_book.specs.Ledger.{Ledger, opening, balance, figure, sum_of_balances, state_of, is_state}
-use Rattle.pvp_book.specs.Bounds.{total, most_total, IsWithin, IsWithinMatched}
-use Rattle.pvp_book.specs.Kept.{IsKept, CanPost, empty_account, no_account, IsAccount, AreAccounts, AreFigures, movement_by, moved_to, accounts_after, figures_after}
+use Rattle.pvp_book.specs.Ledger.{Ledger, opening, balance, figure, sum_of_balances, state_with, state_of, is_state}
+use Rattle.pvp_book.specs.Bounds.{IsLedger, total, most_total, IsWithin, IsWithinMatched}
+use Rattle.pvp_book.specs.Kept.{Kept, IsKept, AreSettled, IsLine, CanPost, empty_account, no_account, IsAccount, AreAccounts, AreFigures, movement_with, movement_by, moved_to, accounts_after, figures_after}
 use Rattle.pvp_book.specs.Answer.{Row, book_of, has_member, answer, answer_to, after, with_entry, is_walk, is_refusal, is_mirror, on_mirror, on_instruct, is_member_number, has_currency, is_amount}
 use Rattle.pvp_book.proofs.SettlementLemmas.{append-nil, settled-push, IsWithinMatched-nil}
-use Rattle.pvp_book.proofs.LedgerLemmas.{total-small, IsSmall-ledger, IsLedger-accepted, sum_of_balances-more}
-use Rattle.pvp_book.proofs.Reached.{entry_of, reached-more}
+use Rattle.pvp_book.proofs.LedgerLemmas.{total-small, orders-few, pairs-few, IsSmall-ledger, IsLedger-accepted, sum_of_balances-more}
+use Rattle.pvp_book.proofs.Reached.{entry_of, reached, reached-more}
 use Rattle.pvp_book.proofs.OrderLemmas.{are-ordered}
 use Rattle.pvp_book.proofs.FigureLemmas.{orders-of-members, is-covered}
 use Rattle.pvp_book.proofs.Members.{is-member}
 use Rattle.pvp_book.proofs.KeptLemmas.{small-account, small-sum, AreAccounts-same, AreAccounts-moved, AreFigures-moved, IsAccount-empty}
 use Rattle.pvp_book.proofs.WalkLemmas.{IsWalked-start, IsWalked-all}
-use Rattle.pvp_book.proofs.WalkingLemmas.{IsTradable, IsOffered, IsWalking, offered-tradable}
+use Rattle.pvp_book.proofs.WalkingLemmas.{IsTradable, IsOffered, IsWalking, IsUnderWay, offered-tradable}
+use Rattle.pvp_book.proofs.CandidateLemmas.{line-of-candidates, line-more}
+use Rattle.pvp_book.specs.declared.order_table.OrderTable.{OrderTable}
+use Rattle.pvp_book.specs.OrderTable.{order_at, AreMade}
+use Rattle.std.proofs.lemmas.List.Elements.{All-from_get_or}
+use Rattle.std.specs.Prelude.{All}
+use Rattle.pvp_book.proofs.OrderTableLemmas.{AreMade-still}
+use Rattle.pvp_book.specs.declared.tally.Tally.{Tally}
+use Rattle.pvp_book.specs.declared.pair.PairState.{PairState}
+use Rattle.pvp_book.specs.Tally.{tallied, is_at, counted, named_by, state_named, AreTallied}
+use Rattle.pvp_book.proofs.PassLemmas.{AreDistinct, distinct-once}
+use Rattle.pvp_book.proofs.Counts.{count-push}
+use Rattle.pvp_book.proofs.TallyLemmas.{kept_as, named-same, found-at, entry-moved, tally-is, IsLookedUp, not-found, state-kept, says-none}
 use Rattle.pvp_book.specs.declared.seen.Seen.{Seen}
-use Rattle.pvp_book.specs.Seen.{HasSeen, seen_pay_in, seen_matched, seen_asked}
-use Rattle.pvp_book.proofs.SeenLemmas.{HasSeen-more, still}
+use Rattle.pvp_book.specs.Seen.{HasSeen, has_settled, is_waiting, seen_pay_in, seen_matched, seen_asked}
+use Rattle.pvp_book.proofs.SeenLemmas.{HasSeen-more, still, waiting-same}
 use Rattle.pvp_book.proofs.MovementLemmas.{walk-moves-none, balance-moved, known-movement, sum-moved, sum-still}
-
--- a pair with its reference, as the book keeps it
-abbrev pub kept_as : Pair → ℕ × Pair
-kept_as p = (p.reference, p)
 
 -- with no entries each balance is 0
 none-held : (n c : ℕ) → sum_of_balances n [] [] c ≡ pos 0
@@ -63,14 +71,12 @@ zeros zero c = refl
 zeros (suc n) zero = refl
 zeros (suc n) (suc c) = zeros n c
 
-pub IsKept-opening : (setup : Setup) (shown : Seen) → IsValid setup → HasSeen [] shown → IsKept (opening setup) [] [] (replicate (length setup.members + 1) empty_account) (replicate 8 (pos 0)) shown
+pub IsKept-opening : (setup : Setup) (shown : Seen) (table : OrderTable) (tally : Tally) → IsValid setup → HasSeen [] shown → AreMade [] table → ((s : PairState) → tallied tally s ≡ 0) → IsKept (opening setup) (record { pairs = []; references = []; line = []; members = replicate (length setup.members + 1) empty_account; totals = replicate 8 (pos 0); shown = shown; table = table; tally = tally })
 unfolding settled settled_after
-IsKept-opening setup shown valid has = record {
+IsKept-opening setup shown table tally valid has made none = record {
   ledger = record { valid = valid; few = omega arith; small = omega arith; fewer = omega arith; within = IsWithinMatched-nil };
   history = [];
   reached = refl;
-  pairs = refl;
-  settled = refl;
   accounts = record {
     places = length-replicate (length setup.members + 1) empty_account;
     each = λ m within.
@@ -80,16 +86,16 @@ IsKept-opening setup shown valid has = record {
   };
   figures = record { places = refl; same = λ c. zeros 8 c ∙ sym (none-held (length setup.members) c) };
   seen = has;
+  orders = made;
+  states = none;
+  done = λ r. refl;
+  line = refl;
+  pairs = refl;
 }
   where
     by : (c : ℕ) (account : Account) → (account ≡ empty_account) ⊎ (account ≡ no_account) → slice_index_or account.balances c (pos 0) ≡ pos 0
     by c account (inl same) = ap (λ (a : Account). slice_index_or a.balances c (pos 0)) same ∙ zeros 8 c
     by c account (inr same) = ap (λ (a : Account). slice_index_or a.balances c (pos 0)) same
-
--- the pair of a reference is found among those that are kept
-pub lookup-kept : (ps : List Pair) (reference : ℕ) → lookup (nat_eq reference) (map kept_as ps) ≡ find (λ p. reference == p.reference) ps
-lookup-kept [] reference = refl
-lookup-kept (p ∷ ps) reference = ap (cond (reference == p.reference) (Some p)) (lookup-kept ps reference)
 
 -- an instruction that is answered Done names a reference that has no pair
 done-new : (setup : Setup) (entries : List Entry) (client reference other sell sell_amt buy buy_amt : ℕ)
@@ -217,22 +223,22 @@ module _ (held : Ledger) (client : ℕ) (cmd : Cmd) (members : List Account) (to
           }
 
 -- what an entry moves can be posted
-pub can-post : (held : Ledger) (client : ℕ) (cmd : Cmd) (kept : List (ℕ × Pair)) (done : List Pair) (members : List Account) (totals : List ℤ) (shown : Seen) (x : Movement) → IsKept held kept done members totals shown
-    → is_refusal (answer held.setup held.entries client cmd) ≡ false → movement_by held.entries client cmd ≡ Some x → IsWithin most_total x.amt → CanPost held.setup members totals x
-can-post held client cmd kept done members totals shown x is accepted moves amount =
+pub can-post : (held : Ledger) (client : ℕ) (cmd : Cmd) (kept : Kept) (x : Movement) → IsKept held kept
+    → is_refusal (answer held.setup held.entries client cmd) ≡ false → movement_by held.entries client cmd ≡ Some x → IsWithin most_total x.amt → CanPost held.setup kept.members kept.totals x
+can-post held client cmd kept x is accepted moves amount =
     let reached = is-reached held.setup held.entries is.history is.reached in
     let known = known-movement held.setup held.entries client cmd x accepted reached.members moves in
     let member = is-member held.setup x.member known.member in
     let high = member.1 in
     let places = is.accounts.places in
     let small = IsSmall-ledger held is.ledger in
-    let within : x.member < length members = omega arith in
+    let within : x.member < length kept.members = omega arith in
     let few = (valid-members held.setup is.ledger.valid).1 in
     record {
       member = within;
       currency = ltb-true x.ccy (length held.setup.currencies) known.currency;
       account = is.accounts.each x.member within;
-      small = small-account held.entries (settled held.setup held.entries) held.setup.currencies (length held.setup.members) members small is.accounts x.member;
+      small = small-account held.entries (settled held.setup held.entries) held.setup.currencies (length held.setup.members) kept.members small is.accounts x.member;
       amount = amount;
       places = is.figures.places;
       figure = subst (IsWithin (64 * most_total)) (sym (is.figures.same x.ccy))
@@ -242,32 +248,84 @@ can-post held client cmd kept done members totals shown x is accepted moves amou
     wider : (z : ℤ) → length held.setup.members ≤ 64 → IsWithin (length held.setup.members * most_total) z → IsWithin (64 * most_total) z
     wider z few small = let low = small.above in let high = small.below in record { above = omega (arith, ints); below = omega (arith, ints) }
 
+-- no two pairs have one reference
+pairs-once : (setup : Setup) (history : List Row) (r : ℕ) → count_by (λ (p : Pair). p.reference == r) (pairs (book_of setup history)) ≤ 1
+pairs-once setup history r =
+    reached setup (λ entries. count_by (λ (p : Pair). p.reference == r) (pairs entries) ≤ 1) (omega arith)
+    (λ entries client cmd held accepted.
+    subst (λ ps. count_by (λ (p : Pair). p.reference == r) ps ≤ 1) (sym (filter_map-append (λ (x : Entry). opened_by x.client x.cmd x.reply) entries (entry_of setup entries client cmd ∷ [])))
+    (step entries client cmd held (opened_by client cmd (answer setup entries client cmd)) refl))
+    history
+  where
+    step : (entries : List Entry) (client : ℕ) (cmd : Cmd) → count_by (λ (p : Pair). p.reference == r) (pairs entries) ≤ 1 → (o : Option Pair) → opened_by client cmd (answer setup entries client cmd) ≡ o
+        → count_by (λ (p : Pair). p.reference == r) (pairs entries ++ cons_option o []) ≤ 1
+    step entries client cmd few None opened = subst (λ ps. count_by (λ (p : Pair). p.reference == r) ps ≤ 1) (sym (append-nil (pairs entries))) few
+    step entries client cmd few (Some p) opened =
+        count-push (λ (q : Pair). q.reference == r) (pairs entries) p few
+        (λ is. subst (λ k. has_reference (pairs entries) k ≡ false) (eqb-true p.reference r is)
+        (not-found (pairs entries) p.reference (opened-new setup entries client cmd (answer setup entries client cmd) p opened refl)))
+
+pub pairs-distinct : (held : Ledger) → {kept : Kept} → IsKept held kept → AreDistinct (pairs held.entries)
+pairs-distinct held is = subst (λ es. AreDistinct (pairs es)) (sym is.reached) (distinct-once (pairs (book_of held.setup is.history)) (pairs-once held.setup is.history))
+
+-- what a tally has of the pair that an entry names, and that no count is great
+pub tally-there : (held : Ledger) (kept : Kept) → IsKept held kept → (named : Option ℕ) (s : PairState) → is_at (state_named kept.shown kept.references kept.pairs named) s ≤ tallied kept.tally s
+tally-there held kept is named s =
+    found-at held.entries kept.shown is.seen (settled held.setup held.entries) kept.references is.done kept.pairs is.pairs kept.tally is.states named s
+
+pub tally-few : (held : Ledger) (kept : Kept) → IsKept held kept → (s : PairState) → tallied kept.tally s ≤ 65535
+tally-few held kept is s =
+    let few = pairs-few held is.ledger (settled held.setup held.entries) s in
+    let applied : held.applied ≤ 65535 = is.ledger.few in
+    let same = is.states s in
+    omega arith
+
 -- an entry that is no walk adds at most a pair, and moves what it moves
-pub IsKept-accepted : (held : Ledger) (entry : Entry) (kept : List (ℕ × Pair)) (posted : List Pair) (members : List Account) (totals : List ℤ) (shown later : Seen) → HasSeen (held.entries ++ entry ∷ []) later → IsKept held kept posted members totals shown → held.applied < 65535
+pub IsKept-accepted : (held : Ledger) (entry : Entry) (kept : Kept) (later : Seen) (table : OrderTable) (tally : Tally) → HasSeen (held.entries ++ entry ∷ []) later → AreMade (held.entries ++ entry ∷ []) table
+    → ((s : PairState) → tallied tally s + is_at (state_named kept.shown kept.references kept.pairs (named_by entry.cmd)) s
+    ≡ tallied kept.tally s + is_at (state_named later kept.references (kept.pairs ++ map kept_as (cons_option (opened_by entry.client entry.cmd entry.reply) [])) (named_by entry.cmd)) s) → IsKept held kept → held.applied < 65535
     → is_walk entry.client entry.cmd ≡ false → entry.reply ≡ answer_to held entry.client entry.cmd → is_refusal entry.reply ≡ false
-    → IsKept (record { setup = held.setup; entries = held.entries ++ entry ∷ []; applied = held.applied + 1 })
-    (kept ++ map kept_as (cons_option (opened_by entry.client entry.cmd entry.reply) [])) posted
-    (accounts_after held.setup.currencies (movement_by held.entries entry.client entry.cmd) members) (figures_after (movement_by held.entries entry.client entry.cmd) totals) later
-IsKept-accepted held entry kept posted members totals shown later has is room other answered accepted =
+    → IsKept (record { setup = held.setup; entries = held.entries ++ entry ∷ []; applied = held.applied + 1 }) (record {
+      pairs = kept.pairs ++ map kept_as (cons_option (opened_by entry.client entry.cmd entry.reply) []);
+      references = kept.references;
+      line = kept.line ++ cons_option (matched_by entry.client entry.cmd entry.reply) [];
+      members = accounts_after held.setup.currencies (movement_by held.entries entry.client entry.cmd) kept.members;
+      totals = figures_after (movement_by held.entries entry.client entry.cmd) kept.totals;
+      shown = later;
+      table = table;
+      tally = tally;
+    })
+IsKept-accepted held entry kept later table tally has made moves is room other answered accepted =
     let new = cons_option (opened_by entry.client entry.cmd entry.reply) [] in
     let more : pairs (held.entries ++ entry ∷ []) ≡ pairs held.entries ++ new = filter_map-append (λ (x : Entry). opened_by x.client x.cmd x.reply) held.entries (entry ∷ []) in
     let taken = ap is_refusal (sym answered) ∙ accepted in
     let none = settles-none held.setup held.entries (settled held.setup held.entries) entry.client entry.cmd other taken in
-    let still = settled-push held.setup held.entries entry ∙ ap (λ ps. settled held.setup held.entries ++ ps) none ∙ append-nil (settled held.setup held.entries) in
+    let with_none : settled held.setup (held.entries ++ entry ∷ []) ≡ settled held.setup held.entries ++ [] = settled-push held.setup held.entries entry ∙ ap (λ ps. settled held.setup held.entries ++ ps) none in
+    let still = with_none ∙ append-nil (settled held.setup held.entries) in
     let same : entry ≡ entry_of held.setup held.entries entry.client entry.cmd = λ i. record { client = entry.client; cmd = entry.cmd; reply = answered i } in
     let reached = is-reached held.setup held.entries is.history is.reached in
     let still_so = ap (λ e. settled held.setup (held.entries ++ e ∷ [])) (sym same) ∙ still in
+    let longer = ap (λ es. es ++ map kept_as new) is.pairs ∙ sym (map-append-kept (pairs held.entries) new) ∙ ap (map kept_as) (sym more) in
+    let before = named-same held.entries kept.shown is.seen (settled held.setup held.entries) kept.references is.done kept.pairs is.pairs (named_by entry.cmd) in
+    let now = named-same (held.entries ++ entry ∷ []) later has (settled held.setup held.entries) kept.references is.done (kept.pairs ++ map kept_as new) longer (named_by entry.cmd) in
     record {
       ledger = IsLedger-accepted held entry.client entry.cmd entry.reply is.ledger room answered accepted;
       history = is.history ++ record { client = entry.client; number = 0; cmd = entry.cmd } ∷ [];
       reached = ap (λ e. held.entries ++ e ∷ []) same ∙ more-reached held.setup held.entries is.history entry.client entry.cmd is.reached taken;
-      pairs = ap (λ es. es ++ map kept_as new) is.pairs ∙ sym (map-append-kept (pairs held.entries) new) ∙ ap (map kept_as) (sym more);
-      settled = is.settled ∙ sym still;
-      accounts = subst (λ e. AreAccounts held.setup.currencies (length held.setup.members) (balance held.setup (held.entries ++ e ∷ [])) (accounts_after held.setup.currencies (movement_by held.entries entry.client entry.cmd) members))
-          (sym same) (kept-accounts held entry.client entry.cmd members totals reached is.ledger.valid taken still_so is.accounts);
-      figures = subst (λ e. AreFigures (figure held.setup (held.entries ++ e ∷ [])) (figures_after (movement_by held.entries entry.client entry.cmd) totals))
-          (sym same) (kept-figures held entry.client entry.cmd members totals reached is.ledger.valid taken still_so is.figures);
+      accounts = subst (λ e. AreAccounts held.setup.currencies (length held.setup.members) (balance held.setup (held.entries ++ e ∷ [])) (accounts_after held.setup.currencies (movement_by held.entries entry.client entry.cmd) kept.members))
+          (sym same) (kept-accounts held entry.client entry.cmd kept.members kept.totals reached is.ledger.valid taken still_so is.accounts);
+      figures = subst (λ e. AreFigures (figure held.setup (held.entries ++ e ∷ [])) (figures_after (movement_by held.entries entry.client entry.cmd) kept.totals))
+          (sym same) (kept-figures held entry.client entry.cmd kept.members kept.totals reached is.ledger.valid taken still_so is.figures);
       seen = has;
+      orders = made;
+      states = λ s. tally-is (is.states s) (ap (λ o. is_at o s) before) (moves s) (ap (λ o. is_at o s) now)
+          (entry-moved held.entries entry (settled held.setup held.entries) s (pairs-distinct held is)
+          (λ p opened. opened-new held.setup held.entries entry.client entry.cmd entry.reply p opened answered))
+          ∙ ap (λ done. counted (state_with (held.entries ++ entry ∷ []) done) s (pairs (held.entries ++ entry ∷ []))) (sym still);
+      done = subst (λ ps. AreSettled ps kept.references) (sym still) is.done;
+      line = subst (λ ps. IsLine (held.entries ++ entry ∷ []) ps (kept.line ++ cons_option (matched_by entry.client entry.cmd entry.reply) [])) (sym with_none)
+          (line-more held.entries entry (settled held.setup held.entries) [] kept.line is.line);
+      pairs = longer;
     }
   where
     map-append-kept : (xs ys : List Pair) → map kept_as (xs ++ ys) ≡ map kept_as xs ++ map kept_as ys
@@ -290,66 +348,126 @@ figure-walked setup entries history most c same accepted =
     let moves = walk-moves-none setup entries most c in
     after_it.difference ∙ (λ i. (pos (moves.0 i) -ℤ pos (moves.1 i)) +ℤ pos (moves.2 i)) ∙ sym before.difference
 
--- what a walk starts with
-pub walk-offered : (held : Ledger) (kept : List (ℕ × Pair)) (posted : List Pair) (members : List Account) (totals : List ℤ) (shown : Seen) (es : List Entry) (offered : List Pair)
-    → IsKept held kept posted members totals shown → es ≡ held.entries → offered ≡ candidates held.entries posted → IsOffered held.setup es offered
-walk-offered held kept posted members totals shown es offered is same given = record {
-  valid = is.ledger.valid;
-  small = subst (λ x. total x ≤ most_total) (sym same) (total-small held is.ledger);
-  tradable = subst (AllByRecursion (IsTradable held.setup)) (sym given) (offered-tradable held.setup held.entries posted is.history is.reached);
+-- those of the line that wait, by what is seen, are what a walk is offered
+pub offered-is : (held : Ledger) (kept : Kept) → IsKept held kept
+    → filter (λ p. is_waiting kept.shown kept.references p) kept.line ≡ candidates held.entries (settled held.setup held.entries)
+offered-is held kept is =
+    waiting-same held.entries kept.shown is.seen (settled held.setup held.entries) kept.references is.done kept.line ∙ is.line
+
+-- what an entry moves, by the table of orders
+pub moved-same : (entries : List Entry) (table : OrderTable) → AreMade entries table → (client : ℕ) (cmd : Cmd) → movement_by entries client cmd ≡ movement_with (order_at table) client cmd
+moved-same entries table are client cmd = λ i. movement_with (λ c n. sym (are.made c n) i) client cmd
+
+-- what was seen, and the table of orders, may be other values of which the same is so
+pub IsKept-same : (held : Ledger) (kept : Kept) (shown : Seen) (table : OrderTable) → IsKept held kept → HasSeen held.entries shown → AreMade held.entries table
+    → IsKept held (record { pairs = kept.pairs; references = kept.references; line = kept.line; members = kept.members; totals = kept.totals; shown = shown; table = table; tally = kept.tally })
+IsKept-same held kept shown table is has made = record {
+  ledger = is.ledger;
+  history = is.history;
+  reached = is.reached;
+  accounts = is.accounts;
+  figures = is.figures;
+  seen = has;
+  orders = made;
+  states = is.states;
+  done = is.done;
+  line = is.line;
+  pairs = is.pairs;
 }
 
-pub walk-start : (held : Ledger) (kept : List (ℕ × Pair)) (posted : List Pair) (members : List Account) (totals : List ℤ) (shown : Seen) (es : List Entry) (done offered : List Pair) (most : ℕ)
-    → IsKept held kept posted members totals shown → es ≡ held.entries → done ≡ posted → offered ≡ candidates held.entries posted
-    → IsWalking held.setup es done offered most 0 0 done members
-walk-start held kept posted members totals shown es done offered most is same settled_so given =
-    let start : IsWalking held.setup held.entries posted (candidates held.entries posted) most 0 0 posted members = record {
-      walked = IsWalked-start held.setup held.entries posted (candidates held.entries posted) (matched held.entries) most
-          (subst (λ ps. IsWithinMatched ps (candidates held.entries ps) (matched held.entries)) (sym is.settled) is.ledger.within);
-      accounts = subst (λ ps. AreAccounts held.setup.currencies (length held.setup.members) (balance_with held.entries ps) members) (sym is.settled) is.accounts;
+-- there are few orders
+pub few-made : (held : Ledger) (table : OrderTable) → IsLedger held → held.applied < 65535 → AreMade held.entries table → All (λ n. n < 65535) table.counts
+few-made held table is room are =
+    All-from_get_or (λ n. n < 65535) table.counts 0
+    (λ c within. subst (λ n. n < 65535) (sym (are.counts c)) (let few = orders-few held is c in omega arith))
+
+-- what a walk looks up
+pub looked-up : (held : Ledger) (kept : Kept) (es : List Entry) → IsKept held kept → es ≡ held.entries → IsLookedUp es kept.shown kept.pairs
+looked-up held kept es is same = subst (λ x. IsLookedUp x kept.shown kept.pairs) (sym same) (record { has = is.seen; same = is.pairs; distinct = pairs-distinct held is })
+
+-- what a walk starts with
+pub walk-offered : (held : Ledger) (kept : Kept) (es : List Entry) (offered : List Pair)
+    → IsKept held kept → es ≡ held.entries → offered ≡ candidates held.entries (settled held.setup held.entries) → IsOffered held.setup es offered
+walk-offered held kept es offered is same given = record {
+  valid = is.ledger.valid;
+  small = subst (λ x. total x ≤ most_total) (sym same) (total-small held is.ledger);
+  tradable = subst (AllByRecursion (IsTradable held.setup)) (sym given) (offered-tradable held.setup held.entries (settled held.setup held.entries) is.history is.reached);
+}
+
+pub walk-start : (held : Ledger) (kept : Kept) (es : List Entry) (offered : List Pair) (references : List ℕ) (most : ℕ)
+    → IsKept held kept → es ≡ held.entries → offered ≡ candidates held.entries (settled held.setup held.entries)
+    → ((r : ℕ) → has_settled references r ≡ has_settled kept.references r)
+    → IsUnderWay held.setup es (settled held.setup es) offered most 0 0 references kept.members kept.tally
+walk-start held kept es offered references most is same given reserved =
+    let posted = settled held.setup held.entries in
+    let start : IsWalking held.setup held.entries posted (candidates held.entries posted) most 0 0 posted kept.members = record {
+      walked = IsWalked-start held.setup held.entries posted (candidates held.entries posted) (matched held.entries) most is.ledger.within;
+      accounts = is.accounts;
       counted = omega arith;
     } in
-    subst (λ x. IsWalking held.setup x done offered most 0 0 done members) (sym same)
-    (subst (λ ps. IsWalking held.setup held.entries ps offered most 0 0 ps members) (sym settled_so)
-    (subst (λ ps. IsWalking held.setup held.entries posted ps most 0 0 posted members) (sym given) start))
+    let under_way : IsUnderWay held.setup held.entries posted (candidates held.entries posted) most 0 0 references kept.members kept.tally = record {
+      now = posted;
+      walking = start;
+      done = λ r. reserved r ∙ is.done r;
+      tallied = is.states;
+    } in
+    subst (λ x. IsUnderWay held.setup x (settled held.setup x) offered most 0 0 references kept.members kept.tally) (sym same)
+    (subst (λ ps. IsUnderWay held.setup held.entries posted ps most 0 0 references kept.members kept.tally) (sym given) under_way)
 
 -- and what it ends with
-module _ (held : Ledger) (most i count : ℕ) (kept : List (ℕ × Pair)) (posted now : List Pair) (members later : List Account) (totals : List ℤ) (shown : Seen)
-    (is : IsKept held kept posted members totals shown) (all : length (candidates held.entries posted) ≤ i)
-    (walking : IsWalking held.setup held.entries posted (candidates held.entries posted) most i count now later) where
-  ended : (now ≡ posted ++ pass held.setup held.entries posted most (candidates held.entries posted)) × (count ≡ length (pass held.setup held.entries posted most (candidates held.entries posted)))
-  ended = IsWalked-all held.setup held.entries posted (candidates held.entries posted) (matched held.entries) most i count now all walking.walked
+module _ (held : Ledger) (most i count : ℕ) (kept : Kept) (references : List ℕ) (later : List Account) (tally : Tally)
+    (is : IsKept held kept) (all : length (candidates held.entries (settled held.setup held.entries)) ≤ i)
+    (under_way : IsUnderWay held.setup held.entries (settled held.setup held.entries) (candidates held.entries (settled held.setup held.entries)) most i count references later tally) where
+  ended : (under_way.now ≡ settled held.setup held.entries ++ pass held.setup held.entries (settled held.setup held.entries) most (candidates held.entries (settled held.setup held.entries)))
+      × (count ≡ length (pass held.setup held.entries (settled held.setup held.entries) most (candidates held.entries (settled held.setup held.entries))))
+  ended = IsWalked-all held.setup held.entries (settled held.setup held.entries) (candidates held.entries (settled held.setup held.entries)) (matched held.entries) most i count under_way.now all under_way.walking.walked
 
   pub walk-answer : Settled count ≡ answer_to held 0 (Settle most)
-  walk-answer =
-      ap Settled (ended.1 ∙ ap (λ done. length (pass held.setup held.entries done most (candidates held.entries done))) is.settled) ∙ sym (answer-walk held most)
+  walk-answer = ap Settled ended.1 ∙ sym (answer-walk held most)
 
   pub IsKept-walked : held.applied < 65535
-      → IsKept (record { setup = held.setup; entries = held.entries ++ record { client = 0; cmd = Settle most; reply = Settled count } ∷ []; applied = held.applied + 1 }) kept now later totals shown
+      → IsKept (record { setup = held.setup; entries = held.entries ++ record { client = 0; cmd = Settle most; reply = Settled count } ∷ []; applied = held.applied + 1 }) (record {
+        pairs = kept.pairs;
+        references = references;
+        line = candidates held.entries (settled held.setup held.entries);
+        members = later;
+        totals = kept.totals;
+        shown = kept.shown;
+        table = kept.table;
+        tally = tally;
+      })
   unfolding taken_by
   IsKept-walked room =
       let entry : Entry = record { client = 0; cmd = Settle most; reply = Settled count } in
+      let posted = settled held.setup held.entries in
+      let now = under_way.now in
       let more : pairs (held.entries ++ entry ∷ []) ≡ pairs held.entries ++ [] = filter_map-append (λ (x : Entry). opened_by x.client x.cmd x.reply) held.entries (entry ∷ []) in
       let same : entry ≡ entry_of held.setup held.entries 0 (Settle most) = λ i. record { client = 0; cmd = Settle most; reply = walk-answer i } in
       let accepted : is_refusal (answer held.setup held.entries 0 (Settle most)) ≡ false = ap is_refusal (answer-walk held most) in
       let reached = is-reached held.setup held.entries is.history is.reached in
-      let settled_now : now ≡ settled held.setup (held.entries ++ entry ∷ []) =
-      ended.0 ∙ ap (λ done. done ++ pass held.setup held.entries done most (candidates held.entries done)) is.settled ∙ sym (settled-push held.setup held.entries entry) in
+      let settled_now : now ≡ settled held.setup (held.entries ++ entry ∷ []) = ended.0 ∙ sym (settled-push held.setup held.entries entry) in
       record {
         ledger = IsLedger-accepted held 0 (Settle most) (Settled count) is.ledger room walk-answer refl;
         history = is.history ++ record { client = 0; number = 0; cmd = Settle most } ∷ [];
         reached = ap (λ e. held.entries ++ e ∷ []) same ∙ more-reached held.setup held.entries is.history 0 (Settle most) is.reached accepted;
-        pairs = is.pairs ∙ ap (map kept_as) (sym (more ∙ append-nil (pairs held.entries)));
-        settled = settled_now;
         accounts = AreAccounts-same held.setup.currencies (length held.setup.members) (balance_with held.entries now) (balance held.setup (held.entries ++ entry ∷ [])) later
             (λ m c. none (balance_with held.entries now m c) ∙ sym (balance-moved held.setup held.entries now 0 (Settle most) accepted reached.ordered m c)
-            ∙ ap (λ e. balance_with (held.entries ++ e ∷ []) now m c) (sym same) ∙ ap (λ done. balance_with (held.entries ++ entry ∷ []) done m c) settled_now) walking.accounts;
+            ∙ ap (λ e. balance_with (held.entries ++ e ∷ []) now m c) (sym same) ∙ ap (λ done. balance_with (held.entries ++ entry ∷ []) done m c) settled_now) under_way.walking.accounts;
         figures = record {
           places = is.figures.places;
           same = λ c. is.figures.same c ∙ sym (ap (λ e. figure held.setup (held.entries ++ e ∷ []) c) same ∙ figure-walked held.setup held.entries is.history most c is.reached accepted);
         };
-        seen = HasSeen-more held.entries entry shown shown
-            (record { pay_ins = λ c k. still (seen_pay_in shown c k); matched = λ r. still (seen_matched shown r); asked = λ m r. still (seen_asked shown m r) }) is.seen;
+        seen = HasSeen-more held.entries entry kept.shown kept.shown
+            (record { pay_ins = λ c k. still (seen_pay_in kept.shown c k); matched = λ r. still (seen_matched kept.shown r); asked = λ m r. still (seen_asked kept.shown m r) }) is.seen;
+        orders = AreMade-still held.entries entry kept.table refl is.orders;
+        states = λ s. under_way.tallied s
+            ∙ (λ i. length (filter (λ p. is_state (state-kept held.entries entry now p (λ m. says-none (Settle most) (Settled count) 0 p.reference m refl) i) s) (sym (more ∙ append-nil (pairs held.entries)) i)))
+            ∙ ap (λ done. counted (state_with (held.entries ++ entry ∷ []) done) s (pairs (held.entries ++ entry ∷ []))) settled_now;
+        done = subst (λ ps. AreSettled ps references) settled_now under_way.done;
+        line = subst (λ ps. IsLine (held.entries ++ entry ∷ []) ps (candidates held.entries posted)) (sym (settled-push held.setup held.entries entry))
+            (subst (IsLine (held.entries ++ entry ∷ []) (posted ++ pass held.setup held.entries posted most (candidates held.entries posted))) (append-nil (candidates held.entries posted))
+            (line-more held.entries entry posted (pass held.setup held.entries posted most (candidates held.entries posted)) (candidates held.entries posted) (line-of-candidates held.entries posted)));
+        pairs = is.pairs ∙ ap (map kept_as) (sym (more ∙ append-nil (pairs held.entries)));
       }
     where
       none : (b : ℤ) → b ≡ b +ℤ pos 0

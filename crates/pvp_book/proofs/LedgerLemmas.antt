@@ -1,10 +1,10 @@
 -- Why no sum over a ledger leaves its type.
-use Rattle.std.proofs.Common.{◌≡◌, ℕ, suc, ◌+◌, ◌*◌, ◌≤◌, ◌<◌, Bool, true, false, List, [], ◌∷◌, ◌++◌, length, arith, refl, ap, sym, subst, ◌∙◌, length-append, Option, Some, None}
-use Rattle.std.specs.Prelude.{not, sum_by, ◌-◌, ◌^◌, zero, slice_get, map, filter, fold, ◌==◌, ◌&&◌, if◌then◌else◌}
+use Rattle.std.proofs.Common.{◌≡◌, ℕ, suc, ◌+◌, ◌*◌, ◌≤◌, ◌<◌, Bool, true, false, cond, find, List, [], ◌∷◌, ◌++◌, length, arith, refl, ap, sym, subst, ◌∙◌, length-append, Option, Some, None}
+use Rattle.std.specs.Prelude.{IfSome, not, sum_by, ◌-◌, ◌^◌, zero, slice_get, map, filter, fold, ◌==◌, ◌&&◌, if◌then◌else◌}
 use Rattle.std.specs.List.{filter_map, cons_option, range_with_len}
 use Rattle.std.proofs.Common.{pos, ◌+ℤ◌, ◌-ℤ◌}
 use Rattle.std.proofs.lemmas.Int.{ints}
-use Rattle.std.proofs.lemmas.Bool.{and_parts, leb-true}
+use Rattle.std.proofs.lemmas.Bool.{and_parts, leb-true, ltb-true}
 use Rattle.std.proofs.lemmas.List.Sums.{sum_by-cons, sum_by_push, length-filter, count_by-le-length, fold-append}
 use Rattle.std.proofs.lemmas.List.{length-map}
 use Rattle.std.proofs.lemmas.List.FromFn.{map-range_with_len_more}
@@ -25,7 +25,11 @@ use Rattle.pvp_book.specs.declared.pair.PairState.{PairState}
 use Rattle.pvp_book.specs.Pairs.{opened_by, pairs, matched_by, matched}
 use Rattle.pvp_book.specs.Settlement.{candidates, settled}
 use Rattle.pvp_book.specs.Ledger.{Ledger, most_amount, node_of, open_orders, state_with, is_state, sum_of_balances, outstanding_in, outstanding_from}
-use Rattle.pvp_book.specs.Orders.{order_by, orders, has_return, has_end}
+use Rattle.pvp_book.specs.Orders.{order_by, order_of, orders, has_return, has_end}
+use Rattle.pvp_book.specs.declared.order_table.OrderTable.{OrderTable}
+use Rattle.pvp_book.specs.OrderTable.{IsCounted, step_of, order_at, AreMade}
+use Rattle.pvp_types.proofs.SetupLemmas.{valid-currencies}
+use Rattle.pvp_types.specs.Setup.{IsValid}
 use Rattle.pvp_book.specs.Bounds.{IsLedger, IsWithinMatched, IsSmall, most_total, IsWithin, amount_of, total}
 use Rattle.pvp_book.specs.Answer.{answer, answer_to, on_instruct, on_fund, on_pay_out, has_currency, has_member, is_member_number, is_refusal, is_amount, fund_checks, pay_out_checks}
 use Rattle.pvp_book.proofs.Checks.{passed, is-so}
@@ -133,11 +137,49 @@ total-small held is =
 pub IsSmall-ledger : (held : Ledger) → IsLedger held → IsSmall held.entries (settled held.setup held.entries)
 IsSmall-ledger held is = IsSmall-within held.entries (settled held.setup held.entries) (candidates held.entries (settled held.setup held.entries)) is.within (total-small held is)
 
+-- no order is of more than the entries name
+amount-by : (c client : ℕ) (cmd : Cmd) (reply : Reply) (o : PayOrder) → order_by c client cmd reply ≡ Some o → o.amt ≤ amount_of cmd
+amount-by c client (PayOut ccy amt) (Order out) o is = by (ccy == c) is
+  where
+    by : (b : Bool) → (if b then Some (record { ccy = ccy; out = out; member = client; amt = amt }) else None) ≡ Some o → o.amt ≤ amt
+    by true is = let same : amt ≡ o.amt = cc in omega arith
+    by false is = absurd (cc is)
+amount-by c client (PayOut ccy amt) Done o is = absurd (cc is)
+amount-by c client (PayOut ccy amt) Matched o is = absurd (cc is)
+amount-by c client (PayOut ccy amt) (Settled n) o is = absurd (cc is)
+amount-by c client (PayOut ccy amt) (No reason) o is = absurd (cc is)
+amount-by c client _ reply o is = absurd (cc is)
+
+order-small : (entries : List Entry) (c n : ℕ) (o : PayOrder) → order_of entries c n ≡ Some o → o.amt ≤ total entries
+order-small [] c n o found = absurd (cc found)
+order-small (e ∷ es) c n o found =
+    by (order_by c e.client e.cmd e.reply) refl found (λ later. order-small es c n o later) (sum_by-cons (λ (x : Entry). amount_of x.cmd) e es)
+  where
+    by : (made : Option PayOrder) → order_by c e.client e.cmd e.reply ≡ made → find (λ (x : PayOrder). x.out == n) (cons_option made (orders es c)) ≡ Some o
+        → (order_of es c n ≡ Some o → o.amt ≤ total es) → total (e ∷ es) ≡ amount_of e.cmd + total es → o.amt ≤ total (e ∷ es)
+    by None made found later all = let rest = later found in omega arith
+    by (Some p) made found later all = cases (p.out == n) found
+      where
+        cases : (b : Bool) → cond b (Some p) (order_of es c n) ≡ Some o → o.amt ≤ total (e ∷ es)
+        cases true found =
+            let same : p ≡ o = cc found in
+            let here = amount-by c e.client e.cmd e.reply o (made ∙ ap Some same) in
+            omega arith
+        cases false found = let rest = later found in omega arith
+
+pub orders-small : (entries : List Entry) (table : OrderTable) → AreMade entries table → total entries ≤ most_total
+    → (c n : ℕ) → IfSome (order_at table c n) (λ order. order.amt ≤ most_total)
+orders-small entries table are small c n = by (order_at table c n) (sym (are.made c n))
+  where
+    by : (o : Option PayOrder) → order_of entries c n ≡ o → IfSome o (λ order. order.amt ≤ most_total)
+    by None is = tt
+    by (Some o) is = let here = order-small entries c n o is in omega arith
+
 length-cons_option-le : {Y : Type 0} (o : Option Y) (ys : List Y) → length (cons_option o ys) ≤ length ys + 1
 length-cons_option-le None ys = omega arith
 length-cons_option-le (Some y) ys = omega arith
 
-length-filter_map-le : {X Y : Type 0} (f : X → Option Y) (xs : List X) → length (filter_map f xs) ≤ length xs
+pub length-filter_map-le : {X Y : Type 0} (f : X → Option Y) (xs : List X) → length (filter_map f xs) ≤ length xs
 length-filter_map-le f [] = omega arith
 length-filter_map-le f (x ∷ xs) =
     let rest = length-filter_map-le f xs in
@@ -197,6 +239,20 @@ accepted-small setup entries client (Instruct reference other sell sell_amt buy 
 accepted-small setup entries client (Fund ccy pay member amt) e = let one = fund-small setup entries client ccy pay member amt e in omega arith
 accepted-small setup entries client (PayOut ccy amt) e = let one = pay_out-small setup entries client ccy amt e in omega arith
 accepted-small setup entries client _ e = omega arith
+
+-- an order that is made is in a currency of the setup
+pub counted-known : (setup : Setup) (entries : List Entry) (client : ℕ) (cmd : Cmd) (reply : Reply) → IsValid setup
+    → is_refusal (answer setup entries client cmd) ≡ false → IsCounted (step_of client cmd reply)
+unfolding answer
+counted-known setup entries client (PayOut ccy amt) (Order out) valid accepted =
+    let known = ltb-true ccy (length setup.currencies) (is-so _ (passed (pay_out_checks setup entries client ccy amt) (Order (length (orders entries ccy) + 1)) accepted).1.1.0) in
+    let few = (valid-currencies setup valid).1 in
+    omega arith
+counted-known setup entries client (PayOut ccy amt) Done valid accepted = tt
+counted-known setup entries client (PayOut ccy amt) Matched valid accepted = tt
+counted-known setup entries client (PayOut ccy amt) (Settled n) valid accepted = tt
+counted-known setup entries client (PayOut ccy amt) (No reason) valid accepted = tt
+counted-known setup entries client _ reply valid accepted = tt
 
 -- a refusal keeps a ledger
 pub IsLedger-refused : (held : Ledger) → IsLedger held → held.applied < 65535

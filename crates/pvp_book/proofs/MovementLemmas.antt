@@ -17,11 +17,11 @@ use Rattle.pvp_book.specs.declared.entry.Entry.{Entry}
 use Rattle.pvp_book.specs.declared.pair.Pair.{Pair}
 use Rattle.pvp_book.specs.declared.account.Movement.{Movement}
 use Rattle.pvp_book.specs.Accounts.{paid_in_to, paid_out_of, pay_ins, pay_outs, returned, bought, sold, balance_with}
-use Rattle.pvp_book.specs.Orders.{order_by, orders, is_return, has_return, is_end, has_end}
+use Rattle.pvp_book.specs.Orders.{order_of, order_by, orders, is_return, has_return, is_end, has_end}
 use Rattle.pvp_book.specs.Ledger.{sum_of_balances}
 use Rattle.pvp_book.specs.Answer.{answer, is_refusal, has_order, has_member, has_currency, fund_checks, pay_out_checks, end_checks, on_pay_out}
 use Rattle.pvp_book.specs.Laws.{AreOrdered, funded, paid_out, funds, all_paid_out, all_returned}
-use Rattle.pvp_book.specs.Kept.{order_of, movement_by, moved_to, moved_in}
+use Rattle.pvp_book.specs.Kept.{movement_by, moved_to, moved_in}
 use Rattle.pvp_book.proofs.SettlementLemmas.{append-nil}
 use Rattle.pvp_book.proofs.Checks.{passed, is-so}
 use Rattle.pvp_book.proofs.OrderLemmas.{pay_out-order, end-known}

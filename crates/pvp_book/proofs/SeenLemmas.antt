@@ -1,6 +1,6 @@
 -- What is seen after one more entry.
 use Rattle.std.proofs.Common.{◌≡◌, ℕ, Bool, true, false, cond, List, [], ◌∷◌, ◌++◌, filter, refl, ap, sym, ◌∙◌}
-use Rattle.std.specs.Prelude.{◌&&◌, ◌||◌, ◌==◌, if◌then◌else◌}
+use Rattle.std.specs.Prelude.{◌&&◌, ◌||◌, ◌==◌, not, if◌then◌else◌}
 use Rattle.std.specs.List.{cons_option}
 use Rattle.std.proofs.lemmas.List.Folds.{list_any-append}
 use Rattle.std.proofs.lemmas.List.Elements.{filter_map-append}
@@ -17,9 +17,10 @@ use Rattle.pvp_book.specs.declared.pair.PairState.{PairState}
 use Rattle.pvp_book.specs.declared.pair.PairState.TheVariants as state
 use Rattle.pvp_book.specs.Pairs.{matched_by, matched, has_reference, is_rescission, has_asked, both_have_asked, is_rescinded}
 use Rattle.pvp_book.specs.Ledger.{is_pay_in, has_pay_in, state_with, is_state}
-use Rattle.pvp_book.specs.Seen.{mark_of, seen_pay_in, seen_matched, seen_asked, both_seen, is_seen_back, state_seen, HasSeen}
+use Rattle.pvp_book.specs.Seen.{mark_of, seen_pay_in, seen_matched, seen_asked, both_seen, is_seen_back, state_seen, is_waiting, HasSeen}
+use Rattle.pvp_book.specs.Kept.{AreSettled, waiting}
 
-or-false : (b : Bool) → (b || false) ≡ b
+pub or-false : (b : Bool) → (b || false) ≡ b
 or-false true = refl
 or-false false = refl
 
@@ -79,6 +80,18 @@ asked-said m r client (PayOut ccy amt) reply = and-false (client == m)
 asked-said m r client (Paid ccy out) reply = and-false (client == m)
 asked-said m r client (Returned ccy out) reply = and-false (client == m)
 
+-- what the entries have with one more
+pub matched-more : (entries : List Entry) (e : Entry) (r : ℕ) → has_reference (matched (entries ++ e ∷ [])) r ≡ (has_reference (matched entries) r || says_matched r (mark_of e.client e.cmd e.reply))
+matched-more entries e r =
+    ap (λ ps. has_reference ps r) (filter_map-append (λ (x : Entry). matched_by x.client x.cmd x.reply) entries (e ∷ []))
+    ∙ list_any-append (λ (p : Pair). p.reference == r) (matched entries) (cons_option (matched_by e.client e.cmd e.reply) [])
+    ∙ ap (λ b. has_reference (matched entries) r || b) (matched-said r e.client e.cmd e.reply)
+
+pub asked-more : (entries : List Entry) (e : Entry) (m r : ℕ) → has_asked (entries ++ e ∷ []) m r ≡ (has_asked entries m r || says_asked m r (mark_of e.client e.cmd e.reply))
+asked-more entries e m r =
+    list_any-append (λ (x : Entry). (x.client == m) && is_rescission r x.cmd) entries (e ∷ [])
+    ∙ ap (λ b. has_asked entries m r || b) (or-false ((e.client == m) && is_rescission r e.cmd) ∙ asked-said m r e.client e.cmd e.reply)
+
 -- a mark more
 pub record IsMarked (old new : Seen) (made : Mark) : Type 0 where
   pub pay_ins : (c k : ℕ) → seen_pay_in new c k ≡ (seen_pay_in old c k || says_pay_in c k made)
@@ -90,13 +103,8 @@ HasSeen-more entries e old new is has = record {
   pay_ins = λ c k.
       is.pay_ins c k ∙ (λ i. has.pay_ins c k i || sym (pay-in-said c k e.client e.cmd e.reply) i)
       ∙ sym (list_any-append (λ (x : Entry). is_pay_in c k x.cmd) entries (e ∷ []) ∙ ap (λ b. has_pay_in entries c k || b) (or-false (is_pay_in c k e.cmd)));
-  matched = λ r.
-      is.matched r ∙ (λ i. has.matched r i || sym (matched-said r e.client e.cmd e.reply) i)
-      ∙ sym (ap (λ ps. has_reference ps r) (filter_map-append (λ (x : Entry). matched_by x.client x.cmd x.reply) entries (e ∷ []))
-      ∙ list_any-append (λ (p : Pair). p.reference == r) (matched entries) (cons_option (matched_by e.client e.cmd e.reply) []));
-  asked = λ m r.
-      is.asked m r ∙ (λ i. has.asked m r i || sym (asked-said m r e.client e.cmd e.reply) i)
-      ∙ sym (list_any-append (λ (x : Entry). (x.client == m) && is_rescission r x.cmd) entries (e ∷ []) ∙ ap (λ b. has_asked entries m r || b) (or-false ((e.client == m) && is_rescission r e.cmd)));
+  matched = λ r. is.matched r ∙ ap (λ b. b || says_matched r (mark_of e.client e.cmd e.reply)) (has.matched r) ∙ sym (matched-more entries e r);
+  asked = λ m r. is.asked m r ∙ ap (λ b. b || says_asked m r (mark_of e.client e.cmd e.reply)) (has.asked m r) ∙ sym (asked-more entries e m r);
 }
 
 -- a key more, as a set tells it
@@ -117,10 +125,11 @@ module _ (entries : List Entry) (seen : Seen) (has : HasSeen entries seen) where
   pub back-same : (p : Pair) → is_seen_back seen p ≡ is_rescinded entries p
   back-same p = λ i. if has.matched p.reference i then both-same p i else has.asked p.first p.reference i
 
-  pub state-same : (done : List Pair) (p : Pair) → state_seen seen done p ≡ state_with entries done p
-  state-same done p =
-      λ i. if has_reference done p.reference then state.Settled else if back-same p i then state.Rescinded else if has.matched p.reference i then state.Matched else state.Unmatched
+  -- and of the settled ones what their references say
+  module _ (done : List Pair) (references : List ℕ) (are : AreSettled done references) where
+    pub state-same : (p : Pair) → state_seen seen references p ≡ state_with entries done p
+    state-same p =
+        λ i. if are p.reference i then state.Settled else if back-same p i then state.Rescinded else if has.matched p.reference i then state.Matched else state.Unmatched
 
-  pub counted-same : (done : List Pair) (which : PairState) (ps : List Pair)
-      → filter (λ p. is_state (state_seen seen done p) which) ps ≡ filter (λ p. is_state (state_with entries done p) which) ps
-  counted-same done which ps = λ i. filter (λ p. is_state (state-same done p i) which) ps
+    pub waiting-same : (ps : List Pair) → filter (λ p. is_waiting seen references p) ps ≡ waiting entries done ps
+    waiting-same ps = λ i. filter (λ p. not (are p.reference i) && not (both-same p i)) ps

@@ -162,7 +162,7 @@ has_asked-push entries e client reference asked =
     ∙ or_left _ _ asked
 
 -- what is offered after an entry was offered before it or is new, and is not taken
-still-offered : (entries : List Entry) (e : Entry) (done taken : List Pair) (p : Pair)
+pub still-offered : (entries : List Entry) (e : Entry) (done taken : List Pair) (p : Pair)
     → (not (has_reference (done ++ taken) p.reference) && not (both_have_asked (entries ++ e ∷ []) p)) ≡ true
     → ((not (has_reference done p.reference) && not (both_have_asked entries p)) ≡ true) × (not (has_reference taken p.reference) ≡ true)
 still-offered entries e done taken p h =

@@ -1,5 +1,5 @@
 -- The walk, on the kept accounts.
-use Rattle.std.proofs.Common.{◌≡◌, ℕ, suc, zero, ◌+◌, ◌-◌, ◌≤◌, ◌<◌, Bool, true, false, List, [], ◌∷◌, ◌++◌, length, arith, refl, sym, subst, ◌∙◌, drop, get_or}
+use Rattle.std.proofs.Common.{◌≡◌, ℕ, suc, zero, ◌+◌, ◌-◌, ◌≤◌, ◌<◌, Bool, true, false, cond, List, [], ◌∷◌, ◌++◌, length, arith, refl, ap, sym, subst, ◌∙◌, drop, get_or}
 use Rattle.std.specs.Prelude.{not, ◌&&◌, ◌==◌, if◌then◌else◌, nat_lt}
 use Rattle.std.specs.List.{cons_option, AllByRecursion}
 use Rattle.std.proofs.lemmas.Bool.{and_parts, and_left, and_right, le-ltb, ltb-true}
@@ -15,19 +15,29 @@ use Rattle.pvp_book.specs.declared.account.Account.{Account}
 use Rattle.pvp_book.specs.declared.entry.Entry.{Entry}
 use Rattle.pvp_book.specs.declared.pair.Pair.{Pair}
 use Rattle.pvp_book.specs.Accounts.{balance_with}
-use Rattle.pvp_book.specs.Pairs.{matched_by, matched, has_reference, both_have_asked}
+use Rattle.pvp_book.specs.Pairs.{opened_by, pairs, matched_by, matched, has_reference, both_have_asked}
 use Rattle.pvp_book.specs.Settlement.{both_pass, candidates}
 use Rattle.pvp_book.specs.Bounds.{total, most_total, IsSmall}
-use Rattle.pvp_book.specs.Kept.{AreAccounts, CanSettle, both_pass_with, accounts_with}
+use Rattle.pvp_book.specs.Kept.{AreSettled, AreAccounts, CanSettle, both_pass_with, accounts_with}
 use Rattle.pvp_book.specs.Answer.{Row, answer, on_instruct, is_member_number, has_member, has_currency, book_of}
 use Rattle.pvp_book.specs.Laws.{IsExchange}
 use Rattle.pvp_book.proofs.Counts.{each-append, each-both, each-filter}
 use Rattle.pvp_book.proofs.Reached.{entry_of, reached}
 use Rattle.pvp_book.proofs.StandingLemmas.{sound}
 use Rattle.pvp_book.proofs.Members.{is-member}
-use Rattle.pvp_book.proofs.LedgerLemmas.{IsSmall-within}
+use Rattle.pvp_book.proofs.LedgerLemmas.{IsSmall-within, length-filter_map-le}
 use Rattle.pvp_book.proofs.WalkLemmas.{IsWalked, IsWalked-taken, IsWalked-passed, IsSmall-more, offered-here}
 use Rattle.pvp_book.proofs.KeptLemmas.{small-account, small-pair, both-pass-kept, AreAccounts-settled}
+use Rattle.pvp_book.specs.Seen.{has_settled}
+use Rattle.std.proofs.Common.{Option, Some}
+use Rattle.std.proofs.lemmas.List.Sums.{length-filter, count_by-le-length}
+use Rattle.pvp_book.specs.declared.seen.Seen.{Seen}
+use Rattle.pvp_book.specs.declared.tally.Tally.{Tally}
+use Rattle.pvp_book.specs.declared.pair.PairState.{PairState}
+use Rattle.pvp_book.specs.Ledger.{state_with, is_state}
+use Rattle.pvp_book.specs.Tally.{tallied, is_at, counted, state_named}
+use Rattle.pvp_book.proofs.TallyLemmas.{named-same, found-at, tally-is, IsLookedUp, settled-moved}
+use Rattle.pvp_book.proofs.CandidateLemmas.{settled-more}
 
 -- a pair of two members in two currencies of the setup
 pub record IsTradable (setup : Setup) (p : Pair) : Type 0 where
@@ -97,6 +107,13 @@ pub record IsWalking (setup : Setup) (entries : List Entry) (start offered : Lis
   pub accounts : AreAccounts setup.currencies (length setup.members) (balance_with entries now) members
   pub counted : count ≤ i
 
+-- The same, with what is settled now known by its references.
+pub record IsUnderWay (setup : Setup) (entries : List Entry) (start offered : List Pair) (most i count : ℕ) (references : List ℕ) (members : List Account) (tally : Tally) : Type 0 where
+  pub now : List Pair
+  pub walking : IsWalking setup entries start offered most i count now members
+  pub done : AreSettled now references
+  pub tallied : (s : PairState) → tallied tally s ≡ counted (state_with entries now) s (pairs entries)
+
 module _ (setup : Setup) (entries : List Entry) (start offered : List Pair) (most i count : ℕ) (now : List Pair) (members : List Account) (nothing : Pair)
     (are : IsOffered setup entries offered) (within : i < length offered) (is : IsWalking setup entries start offered most i count now members) where
   tradable : IsTradable setup (get_or offered i nothing)
@@ -163,3 +180,54 @@ module _ (setup : Setup) (entries : List Entry) (start offered : List Pair) (mos
         accounts = is.accounts;
         counted = omega arith;
       }
+
+-- the same steps, with the references
+module _ (setup : Setup) (entries : List Entry) (start offered : List Pair) (most i count : ℕ) (references : List ℕ) (members : List Account) (tally : Tally) (nothing : Pair)
+    (are : IsOffered setup entries offered) (within : i < length offered) (is : IsUnderWay setup entries start offered most i count references members tally) where
+  pub can-settle-here : CanSettle setup members (get_or offered i nothing)
+  can-settle-here = can-settle setup entries start offered most i count is.now members nothing are within is.walking
+
+  -- the pair is in the tally, and no count is great
+  pub tally-there-here : (seen : Seen) (kept : List (ℕ × Pair)) → IsLookedUp entries seen kept → (named : Option ℕ) (s : PairState) → is_at (state_named seen references kept named) s ≤ tallied tally s
+  tally-there-here seen kept up named s = found-at entries seen up.has is.now references is.done kept up.same tally is.tallied named s
+
+  pub tally-few-here : length entries ≤ 65535 → (s : PairState) → tallied tally s ≤ 65535
+  tally-few-here few s =
+      let part = length-filter_map-le (λ (e : Entry). opened_by e.client e.cmd e.reply) entries in
+      let same = length-filter (λ p. is_state (state_with entries is.now p) s) (pairs entries) in
+      let some = count_by-le-length (λ p. is_state (state_with entries is.now p) s) (pairs entries) in
+      let all = is.tallied s in
+      omega arith
+
+  pub under-way-taken : (later : List ℕ) (next : Tally) (seen : Seen) (kept : List (ℕ × Pair)) → IsLookedUp entries seen kept
+      → ((s : PairState) → tallied next s + is_at (state_named seen references kept (Some (get_or offered i nothing).reference)) s
+      ≡ tallied tally s + is_at (state_named seen later kept (Some (get_or offered i nothing).reference)) s)
+      → count < most → both_pass_with setup (get_or offered i nothing) members ≡ true
+      → ((r : ℕ) → has_settled later r ≡ cond ((get_or offered i nothing).reference == r) true (has_settled references r))
+      → IsUnderWay setup entries start offered most (i + 1) (count + 1) later (accounts_with setup.currencies (get_or offered i nothing) members) next
+  under-way-taken later next seen kept up moves room passed put_in = record {
+    now = is.now ++ get_or offered i nothing ∷ [];
+    walking = walking-taken setup entries start offered most i count is.now members nothing are within is.walking room passed;
+    done = settled-more is.now (get_or offered i nothing) references later is.done put_in;
+    tallied = λ s.
+        let pair = get_or offered i nothing in
+        let before = named-same entries seen up.has is.now references is.done kept up.same (Some pair.reference) in
+        let after = named-same entries seen up.has (is.now ++ pair ∷ []) later (settled-more is.now pair references later is.done put_in) kept up.same (Some pair.reference) in
+        tally-is (is.tallied s) (ap (λ o. is_at o s) before) (moves s) (ap (λ o. is_at o s) after) (settled-moved entries is.now pair s up.distinct);
+  }
+
+  pub under-way-failed : both_pass_with setup (get_or offered i nothing) members ≡ false → IsUnderWay setup entries start offered most (i + 1) count references members tally
+  under-way-failed failed = record {
+    now = is.now;
+    walking = walking-failed setup entries start offered most i count is.now members nothing are within is.walking failed;
+    done = is.done;
+    tallied = is.tallied;
+  }
+
+  pub under-way-past : most ≤ count → IsUnderWay setup entries start offered most (i + 1) count references members tally
+  under-way-past enough = record {
+    now = is.now;
+    walking = walking-past setup entries start offered most i count is.now members nothing are within is.walking enough;
+    done = is.done;
+    tallied = is.tallied;
+  }

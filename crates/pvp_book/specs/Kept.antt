@@ -1,5 +1,5 @@
 -- What a book keeps beside its entries, and what each kept value is by its definition.
-use Rattle.std.specs.Prelude.{◌≡◌, ℕ, ◌+◌, ◌<◌, ◌==◌, ◌&&◌, Bool, false, not, ◌-◌, ◌≤◌, slice_get, map, nat_le, if◌then◌else◌, List, [], length, sum_by, find, Option, Some, None, slice_set, slice_index_or, replicate, All, ◌*◌, ℤ, pos, neg_ℤ, ◌+ℤ◌, int_lt}
+use Rattle.std.specs.Prelude.{◌≡◌, ℕ, ◌+◌, ◌<◌, ◌==◌, ◌&&◌, Bool, false, not, ◌-◌, ◌≤◌, slice_get, map, nat_le, if◌then◌else◌, List, [], length, sum_by, find, Option, Some, None, slice_set, slice_index_or, replicate, All, ◌*◌, ℤ, pos, neg_ℤ, ◌+ℤ◌, int_lt, filter}
 use Rattle.std.specs.List.{zip}
 use Rattle.std.specs.Option.{option_map, option_map_or}
 use Rattle.pvp_types.specs.declared.setup.Setup.{Setup}
@@ -10,13 +10,17 @@ use Rattle.pvp_types.specs.declared.setup.Currency.{Currency}
 use Rattle.pvp_types.specs.declared.setup.Member.{Member}
 use Rattle.pvp_book.specs.declared.account.Account.{Account}
 use Rattle.pvp_book.specs.declared.seen.Seen.{Seen}
-use Rattle.pvp_book.specs.Seen.{HasSeen}
+use Rattle.pvp_book.specs.Seen.{HasSeen, has_settled}
 use Rattle.pvp_book.specs.declared.account.Movement.{Movement}
 use Rattle.pvp_book.specs.declared.entry.Entry.{Entry}
 use Rattle.pvp_book.specs.declared.pair.Pair.{Pair}
-use Rattle.pvp_book.specs.Orders.{orders}
-use Rattle.pvp_book.specs.Pairs.{pairs}
-use Rattle.pvp_book.specs.Settlement.{settled}
+use Rattle.pvp_book.specs.Orders.{order_of}
+use Rattle.pvp_book.specs.declared.order_table.OrderTable.{OrderTable}
+use Rattle.pvp_book.specs.OrderTable.{AreMade}
+use Rattle.pvp_book.specs.declared.tally.Tally.{Tally}
+use Rattle.pvp_book.specs.Tally.{AreTallied}
+use Rattle.pvp_book.specs.Pairs.{pairs, has_reference, both_have_asked}
+use Rattle.pvp_book.specs.Settlement.{candidates, settled}
 use Rattle.pvp_book.specs.Ledger.{Ledger, balance, figure}
 use Rattle.pvp_book.specs.Answer.{Row, book_of}
 use Rattle.pvp_book.specs.Bounds.{most_total, IsWithin, IsLedger}
@@ -74,16 +78,15 @@ pub record AreFigures (figure : ℕ → ℤ) (figures : List ℤ) : Type 0 where
   pub places : length figures ≡ 8
   pub same : (c : ℕ) → slice_index_or figures c (pos 0) ≡ figure c
 
--- an order of a currency, by its number
-abbrev pub order_of : List Entry → ℕ → ℕ → Option PayOrder
-order_of entries c out = find (λ order. order.out == out) (orders entries c)
+-- what an accepted command posts on one account: a pay-in, a pay-out, or an order that is returned, where orders are found so
+abbrev pub movement_with : (ℕ → ℕ → Option PayOrder) → ℕ → Cmd → Option Movement
+movement_with order_of client (Fund ccy pay member amt) = Some (record { member = member; ccy = ccy; amt = pos amt })
+movement_with order_of client (PayOut ccy amt) = Some (record { member = client; ccy = ccy; amt = neg_ℤ (pos amt) })
+movement_with order_of client (Returned ccy out) = option_map (λ order. record { member = order.member; ccy = ccy; amt = pos order.amt }) (order_of ccy out)
+movement_with order_of client _ = None
 
--- what an accepted command posts on one account: a pay-in, a pay-out, or an order that is returned
 abbrev pub movement_by : List Entry → ℕ → Cmd → Option Movement
-movement_by entries client (Fund ccy pay member amt) = Some (record { member = member; ccy = ccy; amt = pos amt })
-movement_by entries client (PayOut ccy amt) = Some (record { member = client; ccy = ccy; amt = neg_ℤ (pos amt) })
-movement_by entries client (Returned ccy out) = option_map (λ order. record { member = order.member; ccy = ccy; amt = pos order.amt }) (order_of entries ccy out)
-movement_by entries client _ = None
+movement_by entries client cmd = movement_with (order_of entries) client cmd
 
 -- what comes of it to a member in a currency, and to a figure
 abbrev pub moved_to : ℕ → ℕ → Option Movement → ℤ
@@ -142,14 +145,42 @@ pub record CanSettle (setup : Setup) (kept : List Account) (p : Pair) : Type 0 w
   pub each : (m : ℕ) → m < length kept → IsAccount setup.currencies (account_at kept m)
   pub small : (m : ℕ) → All (IsWithin most_total) (account_at kept m).balances
 
--- what a book keeps beside its entries: the pairs by reference, the settled ones, the accounts, the figures, and which numbers came
-pub record IsKept (held : Ledger) (kept : List (ℕ × Pair)) (posted : List Pair) (members : List Account) (totals : List ℤ) (shown : Seen) : Type 0 where
+-- the references of the settled pairs
+abbrev pub AreSettled : List Pair → List ℕ → Type 0
+AreSettled done references = (r : ℕ) → has_settled references r ≡ has_reference done r
+
+-- those of some matched pairs that wait: they are neither settled nor taken back by both sides
+abbrev pub waiting : List Entry → List Pair → List Pair → List Pair
+waiting entries settled some = filter (λ p. not (has_reference settled p.reference) && not (both_have_asked entries p)) some
+
+-- A line of matched pairs has those that wait, in their order. It may have others too, which the next walk drops.
+abbrev pub IsLine : List Entry → List Pair → List Pair → Type 0
+IsLine entries settled line = waiting entries settled line ≡ candidates entries settled
+
+-- what a book keeps beside its entries: the pairs by reference, the references of the settled ones, the line of those that wait, the
+-- accounts, the figures, which numbers came, the orders, and how many
+-- pairs are in each state
+pub record Kept : Type 0 where
+  pub pairs : List (ℕ × Pair)
+  pub references : List ℕ
+  pub line : List Pair
+  pub members : List Account
+  pub totals : List ℤ
+  pub shown : Seen
+  pub table : OrderTable
+  pub tally : Tally
+
+-- each is what it is by the entries
+pub record IsKept (held : Ledger) (kept : Kept) : Type 0 where
   pub ledger : IsLedger held
   -- the commands that it accepted
   pub history : List Row
   pub reached : held.entries ≡ book_of held.setup history
-  pub pairs : kept ≡ map (λ p. (p.reference, p)) (pairs held.entries)
-  pub settled : posted ≡ settled held.setup held.entries
-  pub accounts : AreAccounts held.setup.currencies (length held.setup.members) (balance held.setup held.entries) members
-  pub figures : AreFigures (figure held.setup held.entries) totals
-  pub seen : HasSeen held.entries shown
+  pub accounts : AreAccounts held.setup.currencies (length held.setup.members) (balance held.setup held.entries) kept.members
+  pub figures : AreFigures (figure held.setup held.entries) kept.totals
+  pub seen : HasSeen held.entries kept.shown
+  pub orders : AreMade held.entries kept.table
+  pub states : AreTallied held.setup held.entries kept.tally
+  pub done : AreSettled (settled held.setup held.entries) kept.references
+  pub line : IsLine held.entries (settled held.setup held.entries) kept.line
+  pub pairs : kept.pairs ≡ map (λ p. (p.reference, p)) (pairs held.entries)

@@ -6,7 +6,9 @@ pub mod Laws
 pub mod Ledger
 pub mod Limits
 pub mod Open
+pub mod OrderTable
 pub mod Orders
 pub mod Pairs
 pub mod Seen
 pub mod Settlement
+pub mod Tally

@@ -1,5 +1,5 @@
 -- What a book has seen, by number, and what that is by the entries.
-use Rattle.std.specs.Prelude.{◌≡◌, ℕ, ◌==◌, ◌&&◌, if◌then◌else◌, Bool, List}
+use Rattle.std.specs.Prelude.{◌≡◌, ℕ, ◌==◌, ◌&&◌, not, if◌then◌else◌, Bool, List, nat_eq}
 use Rattle.std.specs.List.{list_any}
 use Rattle.pvp_types.specs.declared.command.Cmd.{Cmd}
 use Rattle.pvp_types.specs.declared.command.Cmd.TheVariants.{Instruct, Rescind, Fund}
@@ -41,13 +41,21 @@ both_seen seen p = seen_asked seen p.first p.reference && seen_asked seen p.seco
 abbrev pub is_seen_back : Seen → Pair → Bool
 is_seen_back seen p = if seen_matched seen p.reference then both_seen seen p else seen_asked seen p.first p.reference
 
--- how far it has come, where some pairs are settled
-abbrev pub state_seen : Seen → List Pair → Pair → PairState
-state_seen seen settled p =
-    if has_reference settled p.reference then Settled
+-- a reference is among those of the settled pairs
+abbrev pub has_settled : List ℕ → ℕ → Bool
+has_settled references r = list_any (nat_eq r) references
+
+-- how far it has come, where the pairs of some references are settled
+abbrev pub state_seen : Seen → List ℕ → Pair → PairState
+state_seen seen references p =
+    if has_settled references p.reference then Settled
     else if is_seen_back seen p then Rescinded
     else if seen_matched seen p.reference then state.Matched
     else Unmatched
+
+-- it waits, if it is matched: it is neither settled nor taken back by both sides
+abbrev pub is_waiting : Seen → List ℕ → Pair → Bool
+is_waiting seen references p = not (has_settled references p.reference) && not (both_seen seen p)
 
 -- all that these entries have of it
 pub record HasSeen (entries : List Entry) (seen : Seen) : Type 0 where

@@ -1,13 +1,15 @@
 //! What a book keeps of a member: its balances, and what they come to in its tests.
-ghost use Rattle.std.specs.Prelude.{◌≡◌, ◌*◌, ◌<◌, ◌≤◌, length, All, IfSome, pos, neg_ℤ};
+ghost use Rattle.std.specs.Prelude.{◌≡◌, ℕ, ◌*◌, ◌<◌, ◌≤◌, length, All, IfSome, pos, neg_ℤ};
 ghost use Rattle.pvp_types.specs.Setup.{IsValid};
 ghost use Rattle.pvp_book.specs.Limits.{standing_of};
-ghost use Rattle.pvp_book.specs.Kept.{IsAccount, posted, passes_with, movement_by};
-ghost use Rattle.pvp_book.specs.Bounds.{amount_of, total, most_total, most_standing, IsWithin};
+ghost use Rattle.pvp_book.specs.Kept.{IsAccount, posted, passes_with, movement_with};
+ghost use Rattle.pvp_book.specs.OrderTable.{order_at};
+ghost use Rattle.pvp_book.specs.Bounds.{amount_of, most_total, most_standing, IsWithin};
 
 use crate::entry::Entry;
+use crate::limits;
+use crate::order_table::OrderTable;
 use crate::pair::Pair;
-use crate::{limits, sums};
 use pvp_types::{Cmd, Currency, Member, Setup};
 use std::alloc::{AllocError, Global};
 
@@ -109,12 +111,12 @@ fn standing(currency: &Currency, balance: i64) -> i128
     limits::worth_of(currency, balance) as i128 - limits::debt_of(currency, balance) as i128
 }
 
-/// What an accepted entry posts on one account, after these entries: a pay-in, a pay-out, or an order
-/// that is returned.
-pub fn movement_by(entries: &[Entry], entry: &Entry) -> Option<Movement>
-    requires small { total entries.now ≤ most_total }
+/// What an accepted entry posts on one account, where these orders were made: a pay-in, a pay-out, or
+/// an order that is returned.
+pub fn movement_by(table: &OrderTable, entry: &Entry) -> Option<Movement>
+    requires small { (c n : ℕ) → IfSome (order_at table.now c n) (λ order. order.amt ≤ most_total) }
     requires amount { amount_of entry.now.cmd ≤ most_total }
-    ensures value { result ≡ movement_by entries.now entry.now.client entry.now.cmd }
+    ensures value { result ≡ movement_with (order_at table.now) entry.now.client entry.now.cmd }
     ensures small { IfSome result (λ x. IsWithin most_total x.amt) }
 {
     match entry.cmd {
@@ -134,7 +136,7 @@ pub fn movement_by(entries: &[Entry], entry: &Entry) -> Option<Movement>
             amt: -(amt as i64),
         }),
         Cmd::Returned { ccy, out } => {
-            let order = sums::order_of(entries, ccy, out)?;
+            let order = table.get(ccy, out)?;
             Some(Movement {
                 member: order.member,
                 ccy,

@@ -4,13 +4,15 @@ ghost use Rattle.pvp_book.specs.Answer.{is_amount, is_refusal, is_mirror};
 use crate::account::{self, Accounts};
 use crate::entry::Entry;
 use crate::open::{self, OpenOrders};
+use crate::order_table::OrderTable;
 use crate::pair::{self, Pair, PairState};
 use crate::seen::Seen;
-use crate::sums;
+use crate::tally::Tally;
 use crate::terms::{has_member, is_amount, node_of};
 use indexmap::IndexMap;
 use pvp_types::{Cmd, PayOrder, Reason, Reply, Setup};
 use std::alloc::{AllocError, Global};
+use std::collections::HashSet;
 use std::marker::Model;
 
 /// The most members that a bank has.
@@ -26,24 +28,31 @@ pub struct Book {
     entries: Vec<Entry>,
     /// All pairs by reference, in the order in which they were first seen.
     pairs: IndexMap<u32, Pair>,
-    /// The settled pairs, in the order in which they were settled.
-    settled: Vec<Pair>,
+    /// The references of the settled pairs.
+    settled: HashSet<u32>,
+    /// The matched pairs that wait, in the order in which they were matched, and those that no longer
+    /// do since the last walk.
+    line: Vec<Pair>,
     /// What each member has, and the figures.
     accounts: Accounts,
     /// Which numbers came.
     seen: Seen,
+    /// The orders by number.
+    table: OrderTable,
+    /// How many pairs are in each state.
+    tally: Tally,
     applied: u16,
 }
 
 impl Model for Book {
     ghost use Rattle.pvp_book.specs.Ledger.{Ledger};
-    ghost use Rattle.pvp_book.specs.Kept.{IsKept};
+    ghost use Rattle.pvp_book.specs.Kept.{Kept, IsKept};
 
     ghost Value = { Ledger };
 
     ghost view = { λ b. record { setup = b.setup; entries = b.entries.items; applied = b.applied } };
 
-    ghost invariant = { λ b. IsKept (record { setup = b.setup; entries = b.entries.items; applied = b.applied }) b.pairs.entries b.settled.items b.accounts.members.items b.accounts.figures b.seen };
+    ghost invariant = { λ b. IsKept (record { setup = b.setup; entries = b.entries.items; applied = b.applied }) (record { pairs = b.pairs.entries; references = b.settled.keys; line = b.line.items; members = b.accounts.members.items; totals = b.accounts.figures; shown = b.seen; table = b.table; tally = b.tally }) };
 }
 
 impl Book {
@@ -54,9 +63,9 @@ impl Book {
     ghost use Rattle.pvp_book.specs.Limits.{passes};
     ghost use Rattle.pvp_book.specs.Settlement.{settled};
     ghost use Rattle.pvp_book.specs.Ledger.{opening, balance, figure, value, queue, open_orders, has_pay_in, outstanding, state_of, pair_state, pairs_in};
-    ghost use Rattle.pvp_book.specs.Orders.{orders};
+    ghost use Rattle.pvp_book.specs.Orders.{orders, has_end};
     ghost use Rattle.pvp_book.specs.Open.{orders_left};
-    ghost use Rattle.pvp_book.specs.Answer.{answer_to, after, is_walk, balances_less, is_side, on_instruct, on_mirror, on_rescind, on_pair, on_fund, on_pay_out, on_end, has_member, has_currency};
+    ghost use Rattle.pvp_book.specs.Answer.{answer_to, after, is_walk, balances_less, is_side, on_instruct, on_mirror, on_rescind, on_pair, on_fund, on_pay_out, on_end, has_order, has_member, has_currency};
 
     /// An empty book. `Err` where memory is refused.
     pub fn fresh(alloc: Global, setup: &Setup) -> Result<Self, AllocError>
@@ -67,9 +76,12 @@ impl Book {
             setup: setup.copy()?,
             entries: Vec::new(alloc),
             pairs: IndexMap::new(alloc),
-            settled: Vec::new(alloc),
+            settled: HashSet::new(alloc),
+            line: Vec::new(alloc),
             accounts: Accounts::new(alloc, setup.member_count())?,
             seen: Seen::new(alloc),
+            table: OrderTable::new(alloc),
+            tally: Tally::new(),
             applied: 0,
         })
     }
@@ -120,7 +132,7 @@ impl Book {
     pub fn queued(&self) -> usize
         ensures { result ≡ length (queue self.now.setup self.now.entries) }
     {
-        pair::count_queued(self.entries.as_slice(), &self.seen, self.settled.as_slice())
+        pair::count_waiting(self.line.as_slice(), &self.seen, &self.settled)
     }
 
     /// The reference of the waiting pair at a place, in the order in which they were matched, which
@@ -128,8 +140,7 @@ impl Book {
     pub fn queue_at(&self, at: usize) -> Option<u32>
         ensures { result ≡ option_map (λ p. p.reference) (slice_get (queue self.now.setup self.now.entries) at) }
     {
-        let entries = self.entries.as_slice();
-        let pair = pair::queued_at(entries, &self.seen, self.settled.as_slice(), at)?;
+        let pair = pair::waiting_at(self.line.as_slice(), &self.seen, &self.settled, at)?;
         Some(pair.reference)
     }
 
@@ -139,14 +150,14 @@ impl Book {
         ensures { result ≡ slice_get (outstanding self.now.setup self.now.entries) at }
     {
         let entries = self.entries.as_slice();
-        open::outstanding_at(entries, self.setup.currency_count(), at)
+        open::outstanding_at(entries, &self.table, self.setup.currency_count(), at)
     }
 
     /// A currency's orders that are neither paid nor returned, in the order in which they were made.
     pub fn open_orders(&self, c: u8) -> OpenOrders<'_>
         ensures { orders_left result ≡ open_orders self.now.entries c }
     {
-        OpenOrders::new(self.entries.as_slice(), c)
+        OpenOrders::new(self.entries.as_slice(), &self.table, c)
     }
 
     /// How many orders of all currencies are outstanding.
@@ -154,7 +165,7 @@ impl Book {
         ensures { result ≡ length (outstanding self.now.setup self.now.entries) }
     {
         let entries = self.entries.as_slice();
-        open::count_outstanding(entries, self.setup.currency_count())
+        open::count_outstanding(entries, &self.table, self.setup.currency_count())
     }
 
     /// How many orders were made in a currency.
@@ -162,7 +173,7 @@ impl Book {
         ensures count { result ≡ length (orders self.now.entries c) }
         ensures few { result ≤ 65535 }
     {
-        sums::order_count(self.entries.as_slice(), c) as u32
+        self.table.count(c)
     }
 
     /// How far the pair of a reference has come; `None` where there is none.
@@ -177,8 +188,7 @@ impl Book {
     pub fn pairs(&self, state: PairState) -> u32
         ensures { result ≡ length (pairs_in self.now.setup self.now.entries state) }
     {
-        let entries = self.entries.as_slice();
-        pair::count_in(entries, &self.seen, self.settled.as_slice(), state) as u32
+        self.tally.get(state)
     }
 
     fn pair_of(&self, reference: u32) -> Option<Pair>
@@ -190,7 +200,7 @@ impl Book {
     fn state_of(&self, pair: &Pair) -> PairState
         ensures { result ≡ state_of self.now.setup self.now.entries pair.now }
     {
-        pair::state_of(&self.seen, self.settled.as_slice(), pair)
+        pair::state_of(&self.seen, &self.settled, pair)
     }
 
     /// What the bank was set up with.
@@ -223,19 +233,23 @@ impl Book {
         ensures after { OnOk result (self.new ≡ after self.old 0 (Settle most)) }
     {
         let alloc = *self.entries.allocator();
-        let entries = self.entries.as_slice();
-        let offered = pair::candidates(alloc, entries, &self.seen, self.settled.as_slice())?;
+        let offered = pair::waiting(alloc, self.line.as_slice(), &self.seen, &self.settled)?;
         self.entries.reserve(1)?;
         self.settled.reserve(offered.len())?;
         let mut count = 0;
         for pair in &offered {
             if count < most {
                 if self.accounts.settle(&self.setup, pair) {
-                    self.settled.push_reserved(*pair);
+                    let named = Some(pair.reference);
+                    let before = pair::state_named(&self.pairs, &self.seen, &self.settled, named);
+                    self.settled.insert(pair.reference)?;
+                    let after = pair::state_named(&self.pairs, &self.seen, &self.settled, named);
+                    self.tally = self.tally.moved(before, after);
                     count += 1;
                 }
             }
         }
+        self.line = offered;
         let reply = Reply::Settled(count);
         self.entries.push(Entry {
             client: OPERATOR,
@@ -272,11 +286,17 @@ impl Book {
     {
         self.entries.reserve(1)?;
         self.pairs.reserve(1)?;
-        let moved = account::movement_by(self.entries.as_slice(), &entry);
+        self.line.reserve(1)?;
+        self.table.reserve()?;
+        let moved = account::movement_by(&self.table, &entry);
+        let named = pair::named_by(&entry);
+        let before = pair::state_named(&self.pairs, &self.seen, &self.settled, named);
         self.seen.note(&entry)?;
-        if let Some(pair) = pair::opened_by(&entry) {
-            self.pairs.insert(pair.reference, pair)?;
-        }
+        self.table.add(&entry);
+        pair::open_pair(&mut self.pairs, &entry);
+        let after = pair::state_named(&self.pairs, &self.seen, &self.settled, named);
+        self.tally = self.tally.moved(before, after);
+        pair::line_up(&mut self.line, &entry);
         self.entries.push(entry)?;
         self.accounts.post(&self.setup, moved);
         self.applied += 1;
@@ -406,8 +426,7 @@ impl Book {
     fn is_late(&self, pair: &Pair) -> bool
         ensures { result ≡ (has_reference (settled self.now.setup self.now.entries) pair.now.reference || is_rescinded self.now.entries pair.now) }
     {
-        pair::has_reference(self.settled.as_slice(), pair.reference)
-            || pair::is_rescinded(&self.seen, pair)
+        self.settled.contains(&pair.reference) || pair::is_rescinded(&self.seen, pair)
     }
 
     fn on_fund(&self, client: u16, c: u8, pay: u32, member: u16, amt: u64) -> Reply
@@ -464,18 +483,30 @@ impl Book {
     fn on_end(&self, client: u16, c: u8, out: u32) -> Reply
         ensures { result ≡ on_end self.now.setup self.now.entries client c out }
     {
-        let entries = self.entries.as_slice();
         if client != node_of(c) {
             Reply::No(Reason::NotYours)
         } else if !self.has_currency(c) {
             Reply::No(Reason::UnknownMember)
-        } else if !sums::has_order(entries, c, out) {
+        } else if !self.has_order(c, out) {
             Reply::No(Reason::UnknownReference)
-        } else if sums::has_end(entries, c, out) {
+        } else if self.has_end(c, out) {
             Reply::No(Reason::Repeated)
         } else {
             Reply::Done
         }
+    }
+
+    fn has_order(&self, c: u8, out: u32) -> bool
+        ensures { result ≡ has_order self.now.entries c out }
+    {
+        self.table.get(c, out).is_some()
+    }
+
+    /// Whether a currency's order of this number is paid or returned.
+    fn has_end(&self, c: u8, out: u32) -> bool
+        ensures { result ≡ has_end self.now.entries c out }
+    {
+        self.table.has_ended(c, out)
     }
 
     fn has_member(&self, m: u16) -> bool

@@ -1,8 +1,10 @@
 ghost use Rattle.std.specs.Prelude.{◌≡◌, ◌≤◌, length, not, slice_get};
 ghost use Rattle.pvp_book.specs.Ledger.{open_orders, outstanding_from};
+ghost use Rattle.pvp_book.specs.OrderTable.{AreMade};
 
 use crate::entry::Entry;
-use crate::sums::{has_end, order_by};
+use crate::order_table::OrderTable;
+use crate::sums::order_by;
 use crate::terms::node_of;
 use pvp_types::PayOrder;
 
@@ -10,22 +12,23 @@ use pvp_types::PayOrder;
 /// made.
 #[derive(Debug, Drop)]
 pub struct OpenOrders<'a> {
-    /// All entries of the book.
-    entries: &'a [Entry],
-    /// Those that are still to be looked at.
+    /// Which orders are paid or returned.
+    table: &'a OrderTable,
+    /// The entries that are still to be looked at.
     rest: &'a [Entry],
     ccy: u8,
 }
 
 impl<'a> OpenOrders<'a> {
     ghost use Rattle.pvp_book.specs.Open.{orders_left};
-    ghost use Rattle.pvp_book.specs.Orders.{has_end};
+    ghost use Rattle.pvp_book.specs.OrderTable.{has_ended};
 
-    pub(crate) fn new(entries: &'a [Entry], ccy: u8) -> Self
+    pub(crate) fn new(entries: &'a [Entry], table: &'a OrderTable, ccy: u8) -> Self
+        requires { AreMade entries.now table.now }
         ensures { orders_left result ≡ open_orders entries.now ccy }
     {
         OpenOrders {
-            entries,
+            table,
             rest: entries,
             ccy,
         }
@@ -33,9 +36,9 @@ impl<'a> OpenOrders<'a> {
 
     /// Whether the order is neither paid nor returned.
     fn is_open(&self, order: PayOrder) -> bool
-        ensures { result ≡ not (has_end self.now.entries.now self.now.ccy order.out) }
+        ensures { result ≡ not (has_ended self.now.table.now self.now.ccy order.out) }
     {
-        !has_end(self.entries, self.ccy, order.out)
+        !self.table.has_ended(self.ccy, order.out)
     }
 }
 
@@ -65,45 +68,50 @@ impl<'a> Iterator for OpenOrders<'a> {
 /// node.
 pub(crate) fn outstanding_at(
     entries: &[Entry],
+    table: &OrderTable,
     currencies: u8,
     at: usize,
 ) -> Option<(u16, PayOrder)>
-    requires { length entries.now ≤ 65535 }
+    requires few { length entries.now ≤ 65535 }
+    requires made { AreMade entries.now table.now }
     ensures { result ≡ slice_get (outstanding_from 0 currencies entries.now) at }
 {
     let mut left = at;
     for ccy in 0..currencies {
-        if let Some(order) = open_at(entries, ccy, left) {
+        if let Some(order) = open_at(entries, table, ccy, left) {
             return Some((node_of(ccy), order));
         }
-        left -= count_open(entries, ccy);
+        left -= count_open(entries, table, ccy);
     }
     None
 }
 
 /// How many orders of the first currencies are open.
-pub(crate) fn count_outstanding(entries: &[Entry], currencies: u8) -> usize
-    requires { length entries.now ≤ 65535 }
+pub(crate) fn count_outstanding(entries: &[Entry], table: &OrderTable, currencies: u8) -> usize
+    requires few { length entries.now ≤ 65535 }
+    requires made { AreMade entries.now table.now }
     ensures { result ≡ length (outstanding_from 0 currencies entries.now) }
 {
     let mut count = 0;
     for ccy in 0..currencies {
-        count += count_open(entries, ccy);
+        count += count_open(entries, table, ccy);
     }
     count
 }
 
 /// The order at a place among a currency's open ones.
-fn open_at(entries: &[Entry], ccy: u8, at: usize) -> Option<PayOrder>
+fn open_at(entries: &[Entry], table: &OrderTable, ccy: u8, at: usize) -> Option<PayOrder>
+    requires { AreMade entries.now table.now }
     ensures { result ≡ slice_get (open_orders entries.now ccy) at }
 {
-    OpenOrders::new(entries, ccy).nth(at)
+    OpenOrders::new(entries, table, ccy).nth(at)
 }
 
 /// How many orders of a currency are open.
-fn count_open(entries: &[Entry], ccy: u8) -> usize
-    requires { length entries.now ≤ 65535 }
+fn count_open(entries: &[Entry], table: &OrderTable, ccy: u8) -> usize
+    requires few { length entries.now ≤ 65535 }
+    requires made { AreMade entries.now table.now }
     ensures { result ≡ length (open_orders entries.now ccy) }
 {
-    OpenOrders::new(entries, ccy).count()
+    OpenOrders::new(entries, table, ccy).count()
 }

@@ -170,6 +170,94 @@ fn walk(entries: &[Entry], settled: &mut Vec<Deal>, most: u32) -> Result<(), All
     Ok(())
 }
 
+/// The orders of a currency, each with whether the node's word on it came.
+fn orders(alloc: Global, entries: &[Entry], c: u8) -> Result<Vec<(PayOrder, bool)>, AllocError> {
+    let mut orders = Vec::new(alloc);
+    for entry in entries {
+        if let (Cmd::PayOut { ccy, amt }, Reply::Order(out)) = (entry.cmd, entry.reply) {
+            if ccy == c {
+                let order = PayOrder {
+                    ccy,
+                    out,
+                    member: entry.client,
+                    amt,
+                };
+                let ended = entries
+                    .iter()
+                    .any(|e| e.cmd == paid(c, out) || e.cmd == returned(c, out));
+                orders.push((order, ended))?;
+            }
+        }
+    }
+    Ok(orders)
+}
+
+/// The book's orders are those of the plain sums, the open ones by currency.
+fn compare_orders(rt: &impl Abort, alloc: Global, book: &Book) -> Result<(), AllocError> {
+    let mut at: usize = 0;
+    for c in 0u8..3 {
+        let mut made: u32 = 0;
+        let mut open = book.open_orders(c);
+        for (order, ended) in orders(alloc, book.entries(), c)?.as_slice() {
+            made = made.wrapping_add(1);
+            if !*ended {
+                let node = EUR_NODE.wrapping_add(u16::from(c));
+                assert_eq!(rt; book.open(at), Some((node, *order)));
+                assert_eq!(rt; open.next(), Some(*order));
+                at = at.wrapping_add(1);
+            }
+        }
+        assert_eq!(rt; open.next(), None);
+        assert_eq!(rt; book.orders(c), made);
+    }
+    assert_eq!(rt; book.open_count(), at);
+    assert_eq!(rt; book.open(at), None);
+    Ok(())
+}
+
+/// How far the pair that a client opened under a reference has come, where some are settled.
+fn state(entries: &[Entry], settled: &[Deal], client: u16, reference: u32) -> PairState {
+    let mut matched = None;
+    for entry in entries {
+        if let Some(deal) = matched_by(entry) {
+            if deal.reference == reference {
+                matched = Some(deal);
+            }
+        }
+    }
+    let back = has_asked(entries, client, reference);
+    match matched {
+        Some(_) if settled.iter().any(|s| s.reference == reference) => PairState::Settled,
+        Some(deal) if back && has_asked(entries, deal.second, reference) => PairState::Rescinded,
+        Some(_) => PairState::Matched,
+        None if back => PairState::Rescinded,
+        None => PairState::Unmatched,
+    }
+}
+
+/// The states of the book's pairs, and their numbers, are those of the plain sums.
+fn compare_pairs(rt: &impl Abort, book: &Book, settled: &[Deal]) {
+    let entries = book.entries();
+    let mut counts = [0u32; 4];
+    for entry in entries {
+        if let (Cmd::Instruct { reference, .. }, Reply::Done) = (entry.cmd, entry.reply) {
+            let state = state(entries, settled, entry.client, reference);
+            assert_eq!(rt; book.pair(reference), Some(state));
+            let at = match state {
+                PairState::Unmatched => 0,
+                PairState::Matched => 1,
+                PairState::Settled => 2,
+                PairState::Rescinded => 3,
+            };
+            counts[at] = counts[at].wrapping_add(1);
+        }
+    }
+    assert_eq!(rt; book.pairs(PairState::Unmatched), counts[0]);
+    assert_eq!(rt; book.pairs(PairState::Matched), counts[1]);
+    assert_eq!(rt; book.pairs(PairState::Settled), counts[2]);
+    assert_eq!(rt; book.pairs(PairState::Rescinded), counts[3]);
+}
+
 /// The book's balances, figures, values and queue are those of the plain sums.
 fn compare(rt: &impl Abort, book: &Book, settled: &[Deal]) {
     let entries = book.entries();
@@ -207,6 +295,8 @@ fn history(rt: &impl Abort, alloc: Global, seed: u64, rows: u32) -> Result<bool,
         assert!(rt; book.applied() < 65_535);
         book.apply(client, cmd)?;
         compare(rt, &book, settled.as_slice());
+        compare_pairs(rt, &book, settled.as_slice());
+        compare_orders(rt, alloc, &book)?;
     }
     Ok(!settled.is_empty())
 }
