@@ -1,0 +1,4 @@
+mod Banks
+mod Dropped
+mod Outcome
+mod Refused
