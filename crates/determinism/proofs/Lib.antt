@@ -1,4 +1,5 @@
 mod Banks
 mod Dropped
 mod Outcome
+mod Printed
 mod Refused

@@ -18,6 +18,8 @@ use Rattle.pvp_world.specs.Steps.{IsReport, Moves, IsTaken, IsRefused, Applies, 
 use Rattle.pvp_world.specs.declared.fault.WorldFault.{WorldFault}
 use Rattle.pvp_world.specs.declared.fault.WorldFault.TheVariants as fault
 use Rattle.pvp_world.specs.declared.report.Report.{Report}
+use Rattle.pvp_trace.specs.declared.attempt.Attempt.{Attempt}
+use Rattle.pvp_trace.specs.Attempts.{Attempts, fell_by}
 use Rattle.determinism.specs.Unhindered.{hinders, hinders_site, is_hindered}
 use Rattle.determinism.specs.Refusals.{bank_refuses, turn_refuses}
 use Rattle.determinism.specs.Twins.{AreTwins}
@@ -65,6 +67,12 @@ module _ {B : Type 0} (held : B → Boot) where
   pub stays-at : (old new : Shown B) (step : Step) (result : Result Report WorldFault) → IsAt held old → Applies held old new step result → is_hindered result ≡ false → IsAt held new
   stays-at old new step (Ok report) at taken free = moved-at old new (Takes step) taken.moves
   stays-at old new step (Err why) at refused free = subst (λ (w : Shown B). IsAt held w) (sym (refused.kept (no-fall why free)).0) at
+
+  -- where a reason is told, the world is as it was
+  pub refused-stays : (old new : Shown B) (step : Step) (at : IsAt held old) (result : Result Report WorldFault) → Applies held old new step result → is_hindered result ≡ false
+      → (why : WorldFault) → refused_as result ≡ Some why → new ≡ old
+  refused-stays old new step at (Ok report) taken free why told = absurd (none-some why told)
+  refused-stays old new step at (Err fault) refused free why told = (refused.kept (no-fall fault free)).0
 
   -- of two worlds that came the same way
   module _ (a b : Shown B) (twins : AreTwins held a b) where
@@ -124,3 +132,20 @@ module _ {B : Type 0} (held : B → Boot) where
   result-once a b twins c d step (Ok r) (Err s) p q free too = absurd (none-some s (told-once a b twins c d step (Ok r) (Err s) p q free too))
   result-once a b twins c d step (Err r) (Ok s) p q free too = absurd (none-some r (sym (told-once a b twins c d step (Err r) (Ok s) p q free too)))
   result-once a b twins c d step (Err r) (Err s) p q free too = ap (λ (w : WorldFault). Err w) (some-same r s (told-once a b twins c d step (Err r) (Err s) p q free too))
+
+  -- ONE ATTEMPT
+  abbrev attempt_of : Step → Result Report WorldFault → Option Boot → ℕ → ℕ → Attempt
+  attempt_of step result fell before after = record { step = step; result = result; fell = fell; before = before; after = after }
+
+  pub attempt-once : (a b : Shown B) (twins : AreTwins held a b) (c d : Shown B) (step : Step) (x y : Attempt)
+      → Attempts held a c step x → Attempts held b d step y → is_hindered x.result ≡ false → is_hindered y.result ≡ false → (x ≡ y) × AreTwins held c d
+  attempt-once a b twins c d step x y p q free too =
+      let next = twins-go-on a b twins c d step x.result y.result p.applies q.applies free too in
+      let result = result-once a b twins c d step x.result y.result p.applies q.applies free too in
+      (ap (λ (s : Step). attempt_of s x.result x.fell x.before x.after) (p.step ∙ sym q.step)
+      ∙ ap (λ (r : Result Report WorldFault). attempt_of y.step r x.fell x.before x.after) result
+      ∙ ap (λ (o : Option Boot). attempt_of y.step y.result o x.before x.after)
+          (p.fell ∙ ap (λ (r : Result Report WorldFault). fell_by r c.trail) result ∙ ap (λ (ms : List Move). fell_by y.result ms) next.trail ∙ sym q.fell)
+      ∙ ap (λ (n : ℕ). attempt_of y.step y.result y.fell n x.after) (p.before ∙ ap (λ (es : List Envelope). length es) (twin-post a b twins) ∙ sym q.before)
+      ∙ ap (λ (n : ℕ). attempt_of y.step y.result y.fell y.before n) (p.after ∙ ap (λ (es : List Envelope). length es) (twin-post c d next) ∙ sym q.after),
+      next)

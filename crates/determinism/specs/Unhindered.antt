@@ -1,5 +1,5 @@
 -- Steps that neither a refused growth nor a failed save hindered.
-use Rattle.std.specs.Prelude.{Bool, true, false, Result, Ok, Err}
+use Rattle.std.specs.Prelude.{◌≡◌, Bool, true, false, List, [], ◌∷◌, Result, Ok, Err}
 use Rattle.vr_types.specs.declared.event.SiteFault.{SiteFault}
 use Rattle.vr_types.specs.declared.event.SiteFault.TheVariants as site
 use Rattle.rtgs_node.specs.declared.fault.NodeFault.{NodeFault}
@@ -7,6 +7,7 @@ use Rattle.rtgs_node.specs.declared.fault.NodeFault.TheVariants as node
 use Rattle.pvp_world.specs.declared.fault.WorldFault.{WorldFault}
 use Rattle.pvp_world.specs.declared.fault.WorldFault.TheVariants.{NoSuchEnvelope, NoSuchActor, Outstanding, Site, Node, Spent, NoMemory}
 use Rattle.pvp_world.specs.declared.report.Report.{Report}
+use Rattle.pvp_trace.specs.declared.attempt.Attempt.{Attempt}
 
 -- a site's faults that are falls
 abbrev pub hinders_site : SiteFault → Bool
@@ -41,3 +42,8 @@ hinders NoMemory = true
 abbrev pub is_hindered : Result Report WorldFault → Bool
 is_hindered (Ok report) = false
 is_hindered (Err fault) = hinders fault
+
+-- none of these was
+abbrev pub AreFree : List Attempt → Type 0
+AreFree [] = Unit {0}
+AreFree (a ∷ as) = (is_hindered a.result ≡ false) × AreFree as
