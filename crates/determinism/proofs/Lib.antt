@@ -1,4 +1,5 @@
 mod Banks
+mod Drained
 mod Dropped
 mod Outcome
 mod Printed

@@ -16,6 +16,7 @@ use Rattle.pvp_command.specs.Fault.{text_told, run_told, file_told}
 use Rattle.pvp_text.specs.BookText.{book_text}
 use Rattle.vr_types.specs.declared.cell.MemCell.{MemCell}
 use Rattle.vr_types.specs.contracts.cell.MemCellBootCell.TheImpl.{ghosts as memory}
+use Rattle.pvp_play.specs.declared.notes.Telling.TheVariants.{Books}
 use Rattle.pvp_play.specs.Player.{Position}
 use Rattle.pvp_play.specs.Lines.{IsOpening, ArePlayed}
 
@@ -33,7 +34,7 @@ BookWrites setup script old new =
 abbrev pub PlayWrites : List ℕ → List ℕ → Option (List ℕ) → Option (List ℕ) → Type 0
 PlayWrites setup script old new =
     (s : Setup) × (setup_text setup ≡ Ok s) × (lines : List Line) × (script_at Play s script ≡ Ok lines)
-    × (first last : Position MemCell) × IsOpening s [] first × ArePlayed memory first lines last old new
+    × (first last : Position MemCell) × IsOpening s [] Books first × ArePlayed memory Books first lines last old new
 
 -- the fault of a file that may fail so
 abbrev pub TellsFile : (FileFault → Type 0) → Fault → Type 0

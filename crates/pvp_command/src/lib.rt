@@ -5,6 +5,7 @@ pub mod fault;
 pub mod files;
 pub mod program;
 pub mod request;
+pub mod traces;
 
 pub use fault::Fault;
 pub use files::{Disk, FileFault, Files};

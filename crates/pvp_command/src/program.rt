@@ -6,6 +6,7 @@ ghost use Rattle.pvp_command.specs.Request.{CheckWrites, CheckTells, BookWrites,
 use crate::fault::Fault;
 use crate::files::Files;
 use crate::request::{Request, is_help, parse};
+use crate::traces::trace;
 use pvp_text::{read_setup, run_book};
 use std::alloc::Global;
 use std::convert::AsStr;
@@ -86,6 +87,7 @@ fn run<F: Files, O: Write>(
         Request::Check { setup } => check(alloc, files, setup, out),
         Request::Book { setup, script } => book(alloc, files, setup, script, out),
         Request::Play { setup, script } => play(alloc, files, setup, script, out),
+        Request::Trace { setup, script } => trace(alloc, files, setup, script, out),
     }
 }
 

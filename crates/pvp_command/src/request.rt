@@ -16,6 +16,8 @@ pub enum Request<'a> {
     Book { setup: &'a str, script: &'a str },
     /// A script, played in a world.
     Play { setup: &'a str, script: &'a str },
+    /// A script, played in a world, with each step told.
+    Trace { setup: &'a str, script: &'a str },
 }
 
 /// The request that the words are, the program's own name first.
@@ -29,6 +31,10 @@ pub fn parse<'a, S: AsStr>(alloc: Global, words: &'a [S]) -> Result<Option<Reque
         },
         Some(("play", inner)) => match (inner.get_str("setup"), inner.get_str("script")) {
             (Some(setup), Some(script)) => Ok(Some(Request::Play { setup, script })),
+            _ => Ok(None),
+        },
+        Some(("trace", inner)) => match (inner.get_str("setup"), inner.get_str("script")) {
+            (Some(setup), Some(script)) => Ok(Some(Request::Trace { setup, script })),
             _ => Ok(None),
         },
         _ => Ok(None),
@@ -75,6 +81,13 @@ fn program<'a>(alloc: Global) -> Result<Command<'a>, AllocError> {
         .after_help(MORE)
         .arg(file(alloc, "setup", SETUP_HELP))?
         .arg(file(alloc, "script", SCRIPT_HELP))?;
+    let trace = Command::new(alloc, "trace")
+        .about(
+            "Plays a script as `play` does, and prints each step that it tries, what came of it, and the envelopes that it sent, by their numbers",
+        )
+        .after_help(MORE)
+        .arg(file(alloc, "setup", SETUP_HELP))?
+        .arg(file(alloc, "script", SCRIPT_HELP))?;
     Command::new(alloc, "pvpsim")
         .about("A settlement bank for payment-versus-payment foreign exchange")
         .version("0.1.0")
@@ -82,7 +95,8 @@ fn program<'a>(alloc: Global) -> Result<Command<'a>, AllocError> {
         .subcommand_required(true)
         .subcommand(check)?
         .subcommand(book)?
-        .subcommand(play)
+        .subcommand(play)?
+        .subcommand(trace)
 }
 
 /// A file that has to be named.

@@ -8,11 +8,13 @@ use Rattle.rtgs_node.specs.Node.{Envelope}
 use Rattle.headline.specs.declared.step.Step.{Step}
 use Rattle.headline.specs.declared.step.Step.TheVariants.{Deliver}
 use Rattle.headline.proofs.Basics.{none-some, some-same}
-use Rattle.pvp_world.specs.declared.fault.WorldFault.{WorldFault}
 use Rattle.pvp_world.specs.World.{Shown as World}
+use Rattle.pvp_trace.specs.declared.attempt.Attempt.{Attempt}
+use Rattle.pvp_play.specs.Notes.{with_notes}
 use Rattle.pvp_play.specs.Player.{Position, TriesIn, Wants, is_open, open_number, open_after, AreDelivered, with_cursor, Drains, DrainStops}
 use Rattle.pvp_play.specs.Turns.{next_open, DrainsOne, DrainsTo, WantsTo}
 use Rattle.pvp_play.proofs.Growing.{Grows, applies-grow}
+use Rattle.pvp_play.proofs.NotesLemmas.{with_notes-none, with_notes-more}
 
 -- LISTS
 
@@ -131,26 +133,30 @@ module _ (cut : List ℕ) where
 
 -- ENVELOPES THAT ARE DELIVERED
 
-tries-grow : {B : Type 0} (c : Cell B) (old new : World B) (step : Step) (told : Option WorldFault) → TriesIn c old new step told → Grows old.post new.post
-tries-grow c old new step told tries = applies-grow c.held old new step tries.result tries.applies
+tries-grow : {B : Type 0} (c : Cell B) (old new : World B) (step : Step) (a : Attempt) → TriesIn c old new step a → Grows old.post new.post
+tries-grow c old new step a tries = applies-grow c.held old new step a.result tries.attempts.applies
 
-AreDelivered-more : {B : Type 0} (c : Cell B) (ns : List ℕ) (n : ℕ) (old mid new : World B) (told : Option WorldFault)
-    → AreDelivered c ns old mid → TriesIn c mid new (Deliver n) told → AreDelivered c (ns ++ n ∷ []) old new
-AreDelivered-more c [] n old mid new told none tries = (new, (told, subst (λ w. TriesIn c w new (Deliver n) told) none tries), refl)
-AreDelivered-more c (m ∷ ns) n old mid new told (first, one, rest) tries = (first, one, AreDelivered-more c ns n first mid new told rest tries)
+AreDelivered-more : {B : Type 0} (c : Cell B) (ns : List ℕ) (bs : List Attempt) (n : ℕ) (old mid new : World B) (a : Attempt)
+    → AreDelivered c ns bs old mid → TriesIn c mid new (Deliver n) a → AreDelivered c (ns ++ n ∷ []) (bs ++ a ∷ []) old new
+AreDelivered-more c [] [] n old mid new a none tries = (new, subst (λ w. TriesIn c w new (Deliver n) a) none tries, refl)
+AreDelivered-more c [] (b ∷ bs) n old mid new a none tries = absurd none
+AreDelivered-more c (m ∷ ns) [] n old mid new a none tries = absurd none
+AreDelivered-more c (m ∷ ns) (b ∷ bs) n old mid new a (first, one, rest) tries = (first, one, AreDelivered-more c ns bs n first mid new a rest tries)
 
 -- so many turns delivered an envelope each
 pub record AreDrained {B : Type 0} (c : Cell B) (count : ℕ) (first now : Position B) : Type 0 where
   pub delivered : List ℕ
   pub many : length delivered ≡ count
   pub parts : open_after first.cut first.cursor now.world.post ≡ delivered ++ open_after first.cut now.cursor now.world.post
-  pub are_delivered : AreDelivered c delivered first.world now.world
+  pub attempts : List Attempt
+  pub are_delivered : AreDelivered c delivered attempts first.world now.world
+  pub noted : now.noted ≡ with_notes first.noted attempts
   pub cursor : now.cursor ≡ fold (λ before number. number) first.cursor delivered
   pub after : first.cursor ≤ now.cursor
   pub cut : now.cut ≡ first.cut
 
 pub drained-none : {B : Type 0} (c : Cell B) (p : Position B) → AreDrained c 0 p p
-drained-none c p = record { delivered = []; many = refl; parts = refl; are_delivered = refl; cursor = refl; after = omega arith; cut = refl }
+drained-none c p = record { delivered = []; many = refl; parts = refl; attempts = []; are_delivered = refl; noted = sym (with_notes-none p.noted); cursor = refl; after = omega arith; cut = refl }
 
 module _ {B : Type 0} (c : Cell B) (count : ℕ) (first now : Position B) (drained : AreDrained c count first now) where
   next-here : (n : ℕ) → next_open now ≡ Some n → IsNext first.cut now.cursor n now.world.post
@@ -165,7 +171,7 @@ module _ {B : Type 0} (c : Cell B) (count : ℕ) (first now : Position B) (drain
       let after = drained.after in
       let cut = first.cut in
       let post = now.world.post in
-      let grown = tries-grow c now.world next.world (Deliver n) one.told one.tried in
+      let grown = tries-grow c now.world next.world (Deliver n) one.attempt one.tried in
       let more = numbers cut (length post + 1) grown.0 in
       let rest = open_after cut n post in
       let early : first.cursor ≤ length post = omega arith in
@@ -180,7 +186,9 @@ module _ {B : Type 0} (c : Cell B) (count : ℕ) (first now : Position B) (drain
         parts = ap (λ p. open_after cut first.cursor p) grown.1 ∙ parts
             ∙ ap (λ p. (drained.delivered ++ n ∷ []) ++ open_after cut n p) (sym grown.1)
             ∙ ap (λ k. (drained.delivered ++ n ∷ []) ++ open_after cut k next.world.post) (sym one.cursor);
-        are_delivered = AreDelivered-more c drained.delivered n first.world now.world next.world one.told drained.are_delivered one.tried;
+        attempts = drained.attempts ++ one.attempt ∷ [];
+        are_delivered = AreDelivered-more c drained.delivered drained.attempts n first.world now.world next.world one.attempt drained.are_delivered one.tried;
+        noted = one.noted ∙ ap (λ noted. with_notes noted (one.attempt ∷ [])) drained.noted ∙ with_notes-more first.noted drained.attempts (one.attempt ∷ []);
         cursor = one.cursor ∙ sym (fold-last drained.delivered first.cursor n);
         after = subst (λ k. first.cursor ≤ k) (sym one.cursor) (omega arith);
         cut = one.cut ∙ drained.cut;
@@ -194,7 +202,9 @@ module _ {B : Type 0} (c : Cell B) (count : ℕ) (first now : Position B) (drain
         delivered = drained.delivered;
         which = sym (ap (λ k. take k (open_after first.cut first.cursor now.world.post)) (sym many) ∙ ap (take (length drained.delivered)) drained.parts
             ∙ take-front drained.delivered (open_after first.cut now.cursor now.world.post));
+        attempts = drained.attempts;
         are_delivered = drained.are_delivered;
+        noted = drained.noted;
         cursor = drained.cursor ∙ sym (ap (λ (b : Bool). if b then fold (λ before number. number) first.cursor drained.delivered else length now.world.post) (eq-eqb (length drained.delivered) turns many));
         cut = drained.cut;
       }
@@ -211,7 +221,9 @@ module _ {B : Type 0} (c : Cell B) (count : ℕ) (first now : Position B) (drain
       (record {
         delivered = drained.delivered;
         which = sym (ap (take turns) all ∙ take-more-than turns drained.delivered (omega arith));
+        attempts = drained.attempts;
         are_delivered = drained.are_delivered;
+        noted = drained.noted;
         cursor = sym (ap (λ (b : Bool). if b then fold (λ before number. number) first.cursor drained.delivered else length now.world.post) (ne_eqb (length drained.delivered) turns other));
         cut = drained.cut;
       })
@@ -230,7 +242,9 @@ module _ {B : Type 0} (c : Cell B) (count : ℕ) (first now : Position B) (drain
         which = sym (ap (take (length drained.delivered + 1)) (drained.parts ∙ ap (λ ns. drained.delivered ++ ns) is.all ∙ sym (append_assoc drained.delivered (n ∷ []) rest))
             ∙ ap (λ k. take k ((drained.delivered ++ n ∷ []) ++ rest)) (sym more) ∙ take-front (drained.delivered ++ n ∷ []) rest);
         few = omega arith;
+        attempts = drained.attempts;
         are_delivered = drained.are_delivered;
+        noted = drained.noted;
         there = wants.there;
         cursor = drained.cursor;
         cut = drained.cut;

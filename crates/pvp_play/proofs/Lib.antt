@@ -5,6 +5,7 @@ pub mod ChaosLemmas
 pub mod Growing
 pub mod Draining
 pub mod LinesLemmas
+pub mod NotesLemmas
 pub mod PlayerLemmas
 -- cells that do not fail
 pub mod Reliable

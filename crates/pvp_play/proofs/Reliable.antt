@@ -12,11 +12,13 @@ use Rattle.pvp_world.specs.declared.fault.WorldFault.TheVariants.{Site, NoSuchAc
 use Rattle.pvp_world.specs.declared.report.Report.{Report}
 use Rattle.pvp_world.specs.World.{Shown as World}
 use Rattle.pvp_world.specs.Steps.{AreReliable, has_number}
+use Rattle.pvp_trace.specs.declared.attempt.Attempt.{Attempt}
 use Rattle.pvp_play.specs.declared.chaos.Act.{Act}
+use Rattle.pvp_play.specs.declared.notes.Telling.{Telling}
 use Rattle.pvp_play.specs.declared.chaos.Act.TheVariants.{Drains as DrainsOne, Skips, Tries as TriesStep, Rests}
 use Rattle.pvp_play.specs.Chaos as chaos
 use Rattle.pvp_play.specs.Chaos.{TakesTurn, Rages}
-use Rattle.pvp_play.specs.Player.{Position, refusal_in, TriesIn, AreDelivered, with_cut, unknown_actor}
+use Rattle.pvp_play.specs.Player.{Position, refusal_in, Tries, AreDelivered, with_cut, unknown_actor}
 use Rattle.pvp_play.specs.Lines.{Does, Plays}
 use Rattle.pvp_play.specs.Turns.{Turns}
 
@@ -38,19 +40,22 @@ module _ {B : Type 0} (c : Cell B) where
   same-keeps : (old new : World B) → new ≡ old → Keeps old new
   same-keeps old new e all = subst (AreReliable c) (sym e) all
 
-  tried-keeps : (old new : World B) (step : Step) (told : Option WorldFault) → TriesIn c old new step told → AreReliable c old → AreReliable c new × (told ≢ Some (Site CellFault))
+  tried-keeps : (old new : Position B) (step : Step) (told : Option WorldFault) → Tries c old new step told
+      → AreReliable c old.world → AreReliable c new.world × (told ≢ Some (Site CellFault))
   tried-keeps old new step told tries all =
-      let kept = tries.tells.reliable all in
-      (kept.0, told-other tries.result told tries.is_told kept.1)
+      let kept = tries.tried.tells.reliable all in
+      (kept.0, told-other tries.attempt.result told tries.is_told kept.1)
 
-  delivered-keep : (ns : List ℕ) (old new : World B) → AreDelivered c ns old new → Keeps old new
-  delivered-keep [] old new none all = same-keeps old new none all
-  delivered-keep (n ∷ ns) old new (mid, one, rest) all = delivered-keep ns mid new rest (tried-keeps old mid _ one.0 one.1 all).0
+  delivered-keep : (ns : List ℕ) (attempts : List Attempt) (old new : World B) → AreDelivered c ns attempts old new → Keeps old new
+  delivered-keep [] [] old new none all = same-keeps old new none all
+  delivered-keep [] (a ∷ attempts) old new none all = absurd none
+  delivered-keep (n ∷ ns) [] old new none all = absurd none
+  delivered-keep (n ∷ ns) (a ∷ attempts) old new (mid, one, rest) all = delivered-keep ns attempts mid new rest (one.tells.reliable all).0
 
   act-keeps : (act : Act) (old new : Position B) → chaos.Does c act old new → Keeps old.world new.world
-  act-keeps DrainsOne old new does all = delivered-keep does.delivered old.world new.world does.are_delivered all
+  act-keeps DrainsOne old new does all = delivered-keep does.delivered does.attempts old.world new.world does.are_delivered all
   act-keeps Skips old new does all = same-keeps old.world new.world (ap (λ (p : Position B). p.world) does) all
-  act-keeps (TriesStep step) old new does all = (tried-keeps old.world new.world step does.0 does.1.tried all).0
+  act-keeps (TriesStep step) old new does all = (tried-keeps old new step does.0 does.1 all).0
   act-keeps Rests old new does all = same-keeps old.world new.world (ap (λ (p : Position B). p.world) does) all
 
   turns-keep : (n : ℕ) (old new : Lcg × Position B) → Turns (TakesTurn c) n old new → Keeps old.1.world new.1.world
@@ -81,22 +86,22 @@ module _ {B : Type 0} (c : Cell B) where
 
   pub line-keeps : (statement : Statement) (old new : Position B) (told : Option WorldFault) → Does c statement old new told
       → AreReliable c old.world → AreReliable c new.world × (told ≢ Some (Site CellFault))
-  line-keeps (Do client cmd) old new told does = tried-keeps old.world new.world _ told does.tried
+  line-keeps (Do client cmd) old new told does = tried-keeps old new _ told does
   line-keeps Print old new told does = quiet-keeps old.world new.world told (same-keeps old.world new.world (ap (λ (p : Position B). p.world) does.0)) does.1
-  line-keeps (PayIn member ccy amt) old new told does = tried-keeps old.world new.world _ told does.tried
-  line-keeps (Close member ccy) old new told does = tried-keeps old.world new.world _ told does.tried
-  line-keeps (Beat actor) old new told does = tried-keeps old.world new.world _ told does.tried
-  line-keeps (Timer site) old new told does = tried-keeps old.world new.world _ told does.tried
-  line-keeps (Crash site) old new told does = tried-keeps old.world new.world _ told does.tried
-  line-keeps (Restart site) old new told does = tried-keeps old.world new.world _ told does.tried
-  line-keeps (Deliver envelope) old new told does = tried-keeps old.world new.world _ told does.tried
-  line-keeps (Drain turns) old new told does = quiet-keeps old.world new.world told (delivered-keep does.0.delivered old.world new.world does.0.are_delivered) does.1
+  line-keeps (PayIn member ccy amt) old new told does = tried-keeps old new _ told does
+  line-keeps (Close member ccy) old new told does = tried-keeps old new _ told does
+  line-keeps (Beat actor) old new told does = tried-keeps old new _ told does
+  line-keeps (Timer site) old new told does = tried-keeps old new _ told does
+  line-keeps (Crash site) old new told does = tried-keeps old new _ told does
+  line-keeps (Restart site) old new told does = tried-keeps old new _ told does
+  line-keeps (Deliver envelope) old new told does = tried-keeps old new _ told does
+  line-keeps (Drain turns) old new told does = quiet-keeps old.world new.world told (delivered-keep does.0.delivered does.0.attempts old.world new.world does.0.are_delivered) does.1
   line-keeps (Skip envelopes) old new told does = quiet-keeps old.world new.world told (same-keeps old.world new.world (ap (λ (p : Position B). p.world) does.0)) does.1
   line-keeps (Cut actor) old new told does = cut-keeps old new actor _ told does.0 does.1
   line-keeps (Heal actor) old new told does = cut-keeps old new actor _ told does.0 does.1
   line-keeps (Chaos seed turns) old new told does = quiet-keeps old.world new.world told (turns-keep turns _ _ does.0.1) does.1
   line-keeps (Rest milliseconds) old new told does = quiet-keeps old.world new.world told (same-keeps old.world new.world (ap (λ (p : Position B). p.world) does.0)) does.1
 
-  pub plays-keep : (lines : List Line) (old new : Position B) (text : List ℕ) → Plays c lines old new text → Keeps old.world new.world
-  plays-keep [] old new text none all = same-keeps old.world new.world (ap (λ (p : Position B). p.world) none.0) all
-  plays-keep (line ∷ lines) old new text plays all = plays-keep lines plays.between new plays.after plays.others (plays.first.reliable all).0
+  pub plays-keep : (telling : Telling) (lines : List Line) (old new : Position B) (text : List ℕ) → Plays c telling lines old new text → Keeps old.world new.world
+  plays-keep telling [] old new text none all = same-keeps old.world new.world (ap (λ (p : Position B). p.world) none.0) all
+  plays-keep telling (line ∷ lines) old new text plays all = plays-keep telling lines plays.between new plays.after plays.others (plays.first.reliable all).0

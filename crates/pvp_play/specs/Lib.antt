@@ -2,5 +2,6 @@ pub mod BooksText
 pub mod Cells
 pub mod Chaos
 pub mod Lines
+pub mod Notes
 pub mod Player
 pub mod Turns

@@ -1,5 +1,5 @@
 -- What the lines of a script play, and what they print.
-use Rattle.std.specs.Prelude.{◌≡◌, ◌≢◌, ◌⊎◌, ℕ, ◌+◌, ◌*◌, List, [], ◌∷◌, ◌++◌, take, replicate, slice_get, codes, decimal, Option, Some, None, Result, Ok, Err}
+use Rattle.std.specs.Prelude.{◌≡◌, ◌≢◌, ◌⊎◌, ℕ, ◌+◌, ◌*◌, ◌<◌, nat_lt, if◌then◌else◌, List, [], ◌∷◌, ◌++◌, length, take, replicate, slice_get, codes, decimal, Option, Some, None, Result, Ok, Err}
 use Rattle.std.specs.Io.KnownBytes.{Appends}
 use Rattle.pvp_types.specs.declared.setup.Setup.{Setup}
 use Rattle.pvp_types.specs.declared.command.Cmd.{Cmd}
@@ -25,10 +25,14 @@ use Rattle.pvp_text.specs.declared.script.LineFault.{LineFault}
 use Rattle.pvp_text.specs.declared.script.Statement.{Statement}
 use Rattle.pvp_text.specs.declared.script.Statement.TheVariants.{Do, Print, PayIn, Close, Beat, Timer, Crash, Restart, Deliver, Drain, Skip, Cut, Heal, Chaos, Rest}
 use Rattle.pvp_text.specs.BookText.{ScriptReading, Tells, IsNotBegun}
+use Rattle.pvp_trace.specs.declared.attempt.Attempt.{Attempt}
 use Rattle.pvp_play.specs.declared.cells.Fail.{Fail}
+use Rattle.pvp_play.specs.declared.notes.Telling.{Telling}
+use Rattle.pvp_play.specs.declared.notes.Telling.TheVariants.{Books, Steps}
 use Rattle.pvp_play.specs.BooksText.{books_text}
 use Rattle.pvp_play.specs.Cells.{IsArmed}
 use Rattle.pvp_play.specs.Chaos.{Rages, RageStops}
+use Rattle.pvp_play.specs.Notes.{notes, notes_text}
 use Rattle.pvp_play.specs.Player.{Position, beginning, Tries, Wants, Drains, DrainStops, skipped, cut_off, healed, with_cut, unknown_actor, CutStops}
 
 -- nothing was refused
@@ -71,7 +75,7 @@ Stops c (Heal actor) old new = ⊥
 Stops c (Chaos seed turns) old new = RageStops c seed turns old new
 Stops c (Rest milliseconds) old new = ⊥
 
--- WHAT IT PRINTS: what was refused, and by `print` the books
+-- WHAT IT PRINTS where books are told: what was refused, and by `print` the books
 
 abbrev pub refused_text : ℕ → Option WorldFault → List ℕ
 refused_text number None = []
@@ -94,18 +98,33 @@ print_text held (Heal actor) world = []
 print_text held (Chaos seed turns) world = []
 print_text held (Rest milliseconds) world = []
 
+-- WHERE STEPS ARE TOLD: each that was noted after so many before; and where none was, what was refused
+abbrev pub steps_text : {B : Type 0} → World B → ℕ → Option WorldFault → ℕ → List Attempt → List ℕ
+steps_text world number told before noted =
+    if nat_lt before (length noted) then notes_text world.setup world.post before noted else refused_text number told
+
+-- the one or the other
+abbrev pub line_text : {B : Type 0} → (B → Boot) → Telling → Line → Option WorldFault → Position B → Position B → List ℕ
+line_text held Books line told old new = refused_text line.number told ++ print_text held line.statement new.world
+line_text held Steps line told old new = steps_text new.world line.number told (length (notes old.noted)) (notes new.noted)
+
+-- there is something to print
+abbrev pub Prints : {B : Type 0} → Telling → Line → Option WorldFault → Position B → Position B → Type 0
+Prints Books line told old new = (told ≢ None) ⊎ (line.statement ≡ Print)
+Prints Steps line told old new = (told ≢ None) ⊎ (length (notes old.noted) < length (notes new.noted))
+
 -- A LINE IS PLAYED. Over cells whose saves do not fail it tells no failed save, and leaves them so.
-pub record PlaysLine {B : Type 0} (c : Cell B) (line : Line) (old new : Position B) (text : List ℕ) : Type 0 where
+pub record PlaysLine {B : Type 0} (c : Cell B) (telling : Telling) (line : Line) (old new : Position B) (text : List ℕ) : Type 0 where
   pub told : Option WorldFault
   pub does : Does c line.statement old new told
-  pub prints : text ≡ refused_text line.number told ++ print_text c.held line.statement new.world
+  pub prints : text ≡ line_text c.held telling line told old new
   pub reliable : AreReliable c old.world → AreReliable c new.world × (told ≢ Some (OfSite CellFault))
 
 -- MEMORY WAS REFUSED FOR A LINE: for what it does, or for what it then prints
-abbrev pub LineStops : {B : Type 0} → Cell B → Line → Position B → Position B → Type 0
-LineStops c line old new =
+abbrev pub LineStops : {B : Type 0} → Cell B → Telling → Line → Position B → Position B → Type 0
+LineStops c telling line old new =
     Stops c line.statement old new
-    ⊎ ((told : Option WorldFault) × Does c line.statement old new told × ((told ≢ None) ⊎ (line.statement ≡ Print)))
+    ⊎ ((told : Option WorldFault) × Does c line.statement old new told × Prints telling line told old new)
 
 -- a line is played, and others after it
 pub record PlaysBoth {B : Type 0} (First Others : Position B → Position B → List ℕ → Type 0) (old new : Position B) (text : List ℕ) : Type 0 where
@@ -117,56 +136,61 @@ pub record PlaysBoth {B : Type 0} (First Others : Position B → Position B → 
   pub whole : text ≡ before ++ after
 
 -- LINES ARE PLAYED one after another
-abbrev pub Plays : {B : Type 0} → Cell B → List Line → Position B → Position B → List ℕ → Type 0
-Plays c [] old new text = (new ≡ old) × (text ≡ [])
-Plays c (line ∷ lines) old new text = PlaysBoth (PlaysLine c line) (Plays c lines) old new text
+abbrev pub Plays : {B : Type 0} → Cell B → Telling → List Line → Position B → Position B → List ℕ → Type 0
+Plays c telling [] old new text = (new ≡ old) × (text ≡ [])
+Plays c telling (line ∷ lines) old new text = PlaysBoth (PlaysLine c telling line) (Plays c telling lines) old new text
 
 -- Lines were played up to here, and what they print was appended. Here the headline holds, and cells whose saves do not
 -- fail are so still.
-pub record ArePlayed {B : Type 0} (c : Cell B) (first : Position B) (lines : List Line) (end : Position B) (old new : Option (List ℕ)) : Type 0 where
+pub record ArePlayed {B : Type 0} (c : Cell B) (telling : Telling) (first : Position B) (lines : List Line) (end : Position B) (old new : Option (List ℕ)) : Type 0 where
   pub text : List ℕ
-  pub plays : Plays c lines first end text
+  pub plays : Plays c telling lines first end text
   pub written : Appends old new text
   pub headline : IsProved c.held end.world
   pub reliable : AreReliable c first.world → AreReliable c end.world
 
 -- Memory was refused for a line: those before it were played, and what they print was appended.
-pub record AreStopped {B : Type 0} (c : Cell B) (first : Position B) (lines : List Line) (last : Position B) (old new : Option (List ℕ)) : Type 0 where
+pub record AreStopped {B : Type 0} (c : Cell B) (telling : Telling) (first : Position B) (lines : List Line) (last : Position B) (old new : Option (List ℕ)) : Type 0 where
   pub count : ℕ
   pub line : Line
   pub is_next : slice_get lines count ≡ Some line
   pub between : Position B
-  pub played : ArePlayed c first (take count lines) between old new
-  pub stops : LineStops c line between last
+  pub played : ArePlayed c telling first (take count lines) between old new
+  pub stops : LineStops c telling line between last
 
 -- How a run of lines ends, and where: with what all of them print; or with what the first of them print, where memory
 -- was refused for the next; or at a line that the writer failed to take. How much was written by then is not said.
-abbrev pub LinesEnd : {B : Type 0} → Cell B → Position B → List Line → Position B → Result (Unit {0}) RunFault → Option (List ℕ) → Option (List ℕ) → Type 0
-LinesEnd c first lines last (Ok _) old new = ArePlayed c first lines last old new
-LinesEnd c first lines last (Err run.NoMemory) old new = AreStopped c first lines last old new
-LinesEnd c first lines last (Err run.Output) old new = lines ≢ []
-LinesEnd c first lines last (Err (run.Line fault)) old new = ⊥
+abbrev pub LinesEnd : {B : Type 0} → Cell B → Telling → Position B → List Line → Position B → Result (Unit {0}) RunFault → Option (List ℕ) → Option (List ℕ) → Type 0
+LinesEnd c telling first lines last (Ok _) old new = ArePlayed c telling first lines last old new
+LinesEnd c telling first lines last (Err run.NoMemory) old new = AreStopped c telling first lines last old new
+LinesEnd c telling first lines last (Err run.Output) old new = lines ≢ []
+LinesEnd c telling first lines last (Err (run.Line fault)) old new = ⊥
+
+-- notes are made where steps are told, and there are none at first
+abbrev pub no_notes : Telling → Option (List Attempt)
+no_notes Books = None
+no_notes Steps = Some []
 
 -- A PLAYER OF A NEW WORLD: one of the setup over a cell for each site that was never saved, armed where a save of it is to
 -- fail, where nothing was done
-pub record IsOpening (made_from : Setup) (fails : List Fail) (p : Position MemCell) : Type 0 where
+pub record IsOpening (made_from : Setup) (fails : List Fail) (telling : Telling) (p : Position MemCell) : Type 0 where
   pub setup : p.world.setup ≡ made_from
   pub cells : p.world.opening ≡ replicate (2 * faults made_from + 1) new_cell
   pub armed : (i : ℕ) (v : Replica Cmd Setup MemCell) → slice_get p.world.sites i ≡ Some v → IsArmed fails i v.cell
   pub trail : p.world.trail ≡ []
   pub headline : IsProved held_by p.world
-  pub begins : p ≡ beginning p.world
+  pub begins : p ≡ beginning (no_notes telling) p.world
   -- where none is to fail, no save does
   pub reliable : fails ≡ [] → AreReliable memory p.world
 
 -- how a play of what a script was read as ends: a faulty one leaves the writer as it was
-abbrev pub PlaysOver : {W : Type 0} → (W → Option (List ℕ)) → Setup → List Fail → ScriptReading → Result (List Line) LineFault
+abbrev pub PlaysOver : {W : Type 0} → (W → Option (List ℕ)) → Setup → List Fail → Telling → ScriptReading → Result (List Line) LineFault
     → Result (Unit {0}) RunFault → W → W → Type 0
-PlaysOver contents setup fails read (Ok lines) result old new =
+PlaysOver contents setup fails telling read (Ok lines) result old new =
     IsNotBegun result old new
-    ⊎ ((first last : Position MemCell) × IsOpening setup fails first × LinesEnd memory first lines last result (contents old) (contents new))
-PlaysOver contents setup fails read (Err fault) result old new = Tells read fault result × (new ≡ old)
+    ⊎ ((first last : Position MemCell) × IsOpening setup fails telling first × LinesEnd memory telling first lines last result (contents old) (contents new))
+PlaysOver contents setup fails telling read (Err fault) result old new = Tells read fault result × (new ≡ old)
 
 -- HOW A PLAY of a script ends
-abbrev pub PlayEnds : {W : Type 0} → (W → Option (List ℕ)) → Setup → List Fail → ScriptReading → Result (Unit {0}) RunFault → W → W → Type 0
-PlayEnds contents setup fails read result old new = PlaysOver contents setup fails read (read None) result old new
+abbrev pub PlayEnds : {W : Type 0} → (W → Option (List ℕ)) → Setup → List Fail → Telling → ScriptReading → Result (Unit {0}) RunFault → W → W → Type 0
+PlayEnds contents setup fails telling read result old new = PlaysOver contents setup fails telling read (read None) result old new

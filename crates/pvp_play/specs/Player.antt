@@ -9,17 +9,21 @@ use Rattle.pvp_world.specs.declared.fault.WorldFault.{WorldFault}
 use Rattle.pvp_world.specs.declared.fault.WorldFault.TheVariants.{NoSuchActor, NoMemory}
 use Rattle.pvp_world.specs.declared.report.Report.{Report}
 use Rattle.pvp_world.specs.World.{Shown as World}
-use Rattle.pvp_world.specs.Steps.{Applies, TellsFailures, IsTurn, has_number}
+use Rattle.pvp_world.specs.Steps.{TellsFailures, IsTurn, has_number}
+use Rattle.pvp_trace.specs.declared.attempt.Attempt.{Attempt}
+use Rattle.pvp_trace.specs.Attempts.{Attempts}
+use Rattle.pvp_play.specs.Notes.{with_notes}
 
 -- WHAT A PLAYER SHOWS
 pub record Position (B : Type 0) : Type 0 where
   pub world : World B
   pub cursor : ℕ  -- the number of the envelope up to which the post was gone through
   pub cut : List ℕ  -- the actors that are cut off
+  pub noted : Option (List Attempt)  -- the steps that were tried, where they are noted
 
 -- nothing was gone through yet, and no actor is cut off
-abbrev pub beginning : {B : Type 0} → World B → Position B
-beginning world = record { world = world; cursor = 0; cut = [] }
+abbrev pub beginning : {B : Type 0} → Option (List Attempt) → World B → Position B
+beginning noted world = record { world = world; cursor = 0; cut = []; noted = noted }
 
 -- A STEP IS TRIED
 
@@ -29,22 +33,27 @@ refusal_in (Ok report) = None
 refusal_in (Err fault) = Some fault
 
 -- the world did with it what it does, and did not want for memory, which would end the play
-pub record TriesIn {B : Type 0} (c : Cell B) (old new : World B) (step : Step) (told : Option WorldFault) : Type 0 where
-  pub result : Result Report WorldFault
-  pub applies : Applies c.held old new step result
-  pub tells : TellsFailures c old new step result
-  pub is_told : told ≡ refusal_in result
-  pub had_memory : told ≢ Some NoMemory
+pub record TriesIn {B : Type 0} (c : Cell B) (old new : World B) (step : Step) (attempt : Attempt) : Type 0 where
+  pub attempts : Attempts c.held old new step attempt
+  pub tells : TellsFailures c old new step attempt.result
+  pub had_memory : refusal_in attempt.result ≢ Some NoMemory
 
--- the player tries it, and all else stays
+-- the player tries it, and notes that where it makes notes; all else stays
 pub record Tries {B : Type 0} (c : Cell B) (old new : Position B) (step : Step) (told : Option WorldFault) : Type 0 where
-  pub tried : TriesIn c old.world new.world step told
+  pub attempt : Attempt
+  pub tried : TriesIn c old.world new.world step attempt
+  pub is_told : told ≡ refusal_in attempt.result
+  pub noted : new.noted ≡ with_notes old.noted (attempt ∷ [])
   pub cursor : new.cursor ≡ old.cursor
   pub cut : new.cut ≡ old.cut
 
--- memory was refused for it: the envelope and the actor are there, and all is as it was
+-- a step for which memory may be refused: its envelope and its actor are there, or it is to be noted
+abbrev pub TakesMemory : {B : Type 0} → Position B → Step → Type 0
+TakesMemory p step = p.noted ≡ None → IsTurn p.world step true
+
+-- memory was refused for it: all is as it was
 pub record Wants {B : Type 0} (old new : Position B) (step : Step) : Type 0 where
-  pub there : IsTurn old.world step true
+  pub there : TakesMemory old step
   pub stays : new ≡ old
 
 -- THE CURSOR
@@ -72,10 +81,12 @@ abbrev pub skipped : {B : Type 0} → Position B → ℕ → Position B
 skipped p n = with_cursor p (min (p.cursor + n) (length p.world.post))
 
 -- envelopes are delivered one after another, whether that is refused or not
-abbrev pub AreDelivered : {B : Type 0} → Cell B → List ℕ → World B → World B → Type 0
-AreDelivered c [] old new = new ≡ old
-AreDelivered {B} c (number ∷ numbers) old new =
-    (mid : World B) × ((told : Option WorldFault) × TriesIn c old mid (steps.Deliver number) told) × AreDelivered c numbers mid new
+abbrev pub AreDelivered : {B : Type 0} → Cell B → List ℕ → List Attempt → World B → World B → Type 0
+AreDelivered c [] [] old new = new ≡ old
+AreDelivered c [] (attempt ∷ attempts) old new = ⊥
+AreDelivered c (number ∷ numbers) [] old new = ⊥
+AreDelivered {B} c (number ∷ numbers) (attempt ∷ attempts) old new =
+    (mid : World B) × TriesIn c old mid (steps.Deliver number) attempt × AreDelivered c numbers attempts mid new
 
 -- where the cursor stands after these were delivered: at the last of them, and at the post's end where they are too few
 abbrev pub cursor_after : ℕ → List ℕ → ℕ → ℕ → ℕ
@@ -86,7 +97,9 @@ cursor_after turns delivered cursor end = if length delivered == turns then fold
 pub record Drains {B : Type 0} (c : Cell B) (turns : ℕ) (old new : Position B) : Type 0 where
   pub delivered : List ℕ
   pub which : delivered ≡ take turns (open_after old.cut old.cursor new.world.post)
-  pub are_delivered : AreDelivered c delivered old.world new.world
+  pub attempts : List Attempt
+  pub are_delivered : AreDelivered c delivered attempts old.world new.world
+  pub noted : new.noted ≡ with_notes old.noted attempts
   pub cursor : new.cursor ≡ cursor_after turns delivered old.cursor (length new.world.post)
   pub cut : new.cut ≡ old.cut
 
@@ -96,8 +109,10 @@ pub record DrainStops {B : Type 0} (c : Cell B) (turns : ℕ) (old new : Positio
   pub number : ℕ
   pub which : delivered ++ number ∷ [] ≡ take (length delivered + 1) (open_after old.cut old.cursor new.world.post)
   pub few : length delivered < turns
-  pub are_delivered : AreDelivered c delivered old.world new.world
-  pub there : IsTurn new.world (steps.Deliver number) true
+  pub attempts : List Attempt
+  pub are_delivered : AreDelivered c delivered attempts old.world new.world
+  pub noted : new.noted ≡ with_notes old.noted attempts
+  pub there : TakesMemory new (steps.Deliver number)
   pub cursor : new.cursor ≡ fold (λ before number. number) old.cursor delivered
   pub cut : new.cut ≡ old.cut
 

@@ -1,9 +1,10 @@
 -- Turns one after another; and one turn of a drain, for the player's own calls.
-use Rattle.std.specs.Prelude.{◌≡◌, ℕ, zero, suc, ◌+◌, length, drop, Option, Some, None}
+use Rattle.std.specs.Prelude.{◌≡◌, ℕ, [], ◌∷◌, zero, suc, ◌+◌, length, drop, Option, Some, None}
 use Rattle.std.specs.List.{position_from}
 use Rattle.vr_types.specs.declared.cell.BootCell.{Ghosts as Cell}
 use Rattle.headline.specs.declared.step.Step.TheVariants.{Deliver}
-use Rattle.pvp_world.specs.declared.fault.WorldFault.{WorldFault}
+use Rattle.pvp_trace.specs.declared.attempt.Attempt.{Attempt}
+use Rattle.pvp_play.specs.Notes.{with_notes}
 use Rattle.pvp_play.specs.Player.{Position, TriesIn, Wants, is_open, with_cursor}
 
 -- so many turns are taken, one after another
@@ -17,8 +18,9 @@ next_open p = position_from (is_open p.cut) (p.cursor + 1) (drop p.cursor p.worl
 
 -- an envelope was delivered, and the cursor moved to it
 pub record DrainsOne {B : Type 0} (c : Cell B) (old new : Position B) (number : ℕ) : Type 0 where
-  pub told : Option WorldFault
-  pub tried : TriesIn c old.world new.world (Deliver number) told
+  pub attempt : Attempt
+  pub tried : TriesIn c old.world new.world (Deliver number) attempt
+  pub noted : new.noted ≡ with_notes old.noted (attempt ∷ [])
   pub cursor : new.cursor ≡ number
   pub cut : new.cut ≡ old.cut
 

@@ -5,10 +5,12 @@ pub mod books;
 pub mod cells;
 pub mod chaos;
 pub mod lines;
+pub mod notes;
 pub mod player;
 
 pub use books::print_books;
 pub use cells::Fail;
 pub use chaos::rage;
-pub use lines::{play, play_failing};
+pub use lines::{play, play_failing, trace};
+pub use notes::Telling;
 pub use player::Player;

@@ -1,13 +1,16 @@
 //! A script played in a new world, and what its lines print.
-ghost use Rattle.std.specs.Prelude.{◌≡◌, ◌≢◌, ◌++◌, [], None, string_bytes, IfOk, OnOk, OnErr};
+ghost use Rattle.std.specs.Prelude.{◌≡◌, ◌≢◌, ◌<◌, ◌⊎◌, ◌++◌, [], None, length, string_bytes, IfOk, OnOk, OnErr};
 ghost use Rattle.pvp_types.specs.Setup.{IsValid};
 ghost use Rattle.pvp_text.specs.declared.script.Kind.TheVariants as kinds;
 ghost use Rattle.pvp_text.specs.Script.{script_where};
-ghost use Rattle.pvp_play.specs.Lines.{Does, Stops, refused_text, print_text, PlaysLine, LineStops, LinesEnd, IsOpening, PlayEnds};
+ghost use Rattle.pvp_play.specs.Notes.{notes};
+ghost use Rattle.pvp_play.specs.Player.{beginning};
+ghost use Rattle.pvp_play.specs.Lines.{no_notes, Does, Stops, refused_text, print_text, steps_text, line_text, Prints, PlaysLine, LineStops, LinesEnd, IsOpening, PlayEnds};
 
 use crate::books::push_books;
 use crate::cells::{Fail, new_cells};
 use crate::chaos::rage;
+use crate::notes::{Telling, push_notes};
 use crate::player::Player;
 use headline::Step;
 use pvp_text::book::{read_lines, write_text};
@@ -27,7 +30,7 @@ pub fn play<W: Write>(
     writer: &mut W,
 ) -> Result<(), RunFault>
     requires { IsValid setup.now }
-    ensures { PlayEnds W.contents setup.now []
+    ensures { PlayEnds W.contents setup.now [] Telling.Books
         (λ refused. script_where refused kinds.Play setup.now script.now)
         result writer.old writer.new }
 {
@@ -49,38 +52,89 @@ pub fn play_failing<W: Write>(
     writer: &mut W,
 ) -> Result<(), RunFault>
     requires { IsValid setup.now }
-    ensures { PlayEnds W.contents setup.now fails.now
+    ensures { PlayEnds W.contents setup.now fails.now Telling.Books
+        (λ refused. script_where refused kinds.Play setup.now script.now)
+        result writer.old writer.new }
+{
+    play_telling(alloc, setup, fails, Telling::Books, script, writer)
+}
+
+/// Plays a script as `play_failing` does, and in place of what its lines print writes each step that they try, what came
+/// of it, and what it sent. Steps are numbered from 1; a line that is refused and tries no step, as a cut, prints what it
+/// prints in a play. Memory is refused for the notes of steps too.
+pub fn trace<W: Write>(
+    alloc: Global,
+    setup: &Setup,
+    fails: &[Fail],
+    script: &[u8],
+    writer: &mut W,
+) -> Result<(), RunFault>
+    requires { IsValid setup.now }
+    ensures { PlayEnds W.contents setup.now fails.now Telling.Steps
+        (λ refused. script_where refused kinds.Play setup.now script.now)
+        result writer.old writer.new }
+{
+    play_telling(alloc, setup, fails, Telling::Steps, script, writer)
+}
+
+/// Plays a script in a new world of the setup, and writes what its lines tell.
+fn play_telling<W: Write>(
+    alloc: Global,
+    setup: &Setup,
+    fails: &[Fail],
+    telling: Telling,
+    script: &[u8],
+    writer: &mut W,
+) -> Result<(), RunFault>
+    requires { IsValid setup.now }
+    ensures { PlayEnds W.contents setup.now fails.now telling
         (λ refused. script_where refused kinds.Play setup.now script.now)
         result writer.old writer.new }
 {
     let lines = read_lines(alloc, setup, Kind::Play, script)?;
-    let mut player = new_player(alloc, setup, fails)?;
-    play_lines(alloc, &mut player, lines.as_slice(), writer)
+    let mut player = new_player(alloc, setup, fails, telling)?;
+    play_lines(alloc, telling, &mut player, lines.as_slice(), writer)
 }
 
 /// A player of a new world of the setup, over new cells some of whose saves are to fail.
-fn new_player(alloc: Global, setup: &Setup, fails: &[Fail]) -> Result<Player<MemCell>, AllocError>
+fn new_player(
+    alloc: Global,
+    setup: &Setup,
+    fails: &[Fail],
+    telling: Telling,
+) -> Result<Player<MemCell>, AllocError>
     requires { IsValid setup.now }
-    ensures { IfOk result (IsOpening setup.now fails.now) }
+    ensures { IfOk result (IsOpening setup.now fails.now telling) }
 {
     let cells = new_cells(alloc, 2 * setup.faults() + 1, fails)?;
     let world = World::new(alloc, setup, cells)?;
-    Ok(Player::new(alloc, world))
+    Ok(player_of(alloc, world, telling))
+}
+
+/// A player of a world, who makes the notes that are told.
+fn player_of<C: BootCell>(alloc: Global, world: World<C>, telling: Telling) -> Player<C>
+    ensures { result ≡ beginning (no_notes telling) world }
+{
+    match telling {
+        Telling::Books => Player::new(alloc, world),
+        Telling::Steps => Player::noting(alloc, world),
+    }
 }
 
 /// Plays lines, and writes what they print.
 fn play_lines<C: BootCell, W: Write>(
     alloc: Global,
+    telling: Telling,
     player: &mut Player<C>,
     lines: &[Line],
     writer: &mut W,
 ) -> Result<(), RunFault>
-    ensures { LinesEnd C.BootCell player.old lines.now player.new result
+    ensures { LinesEnd C.BootCell telling player.old lines.now player.new result
         (W.contents writer.old) (W.contents writer.new) }
 {
     for line in lines {
         player.world().is_proved();
-        let text = play_line(alloc, player, *line)?;
+        let text = play_line(alloc, telling, player, *line)?;
         write_text(writer, text.as_str())?;
     }
     player.world().is_proved();
@@ -90,15 +144,56 @@ fn play_lines<C: BootCell, W: Write>(
 /// Plays a line, and answers what it prints. `Err` where memory is refused.
 fn play_line<C: BootCell>(
     alloc: Global,
+    telling: Telling,
     player: &mut Player<C>,
     line: Line,
 ) -> Result<String, AllocError>
-    ensures played { IfOk result (λ text. PlaysLine C.BootCell line player.old player.new (string_bytes text)) }
-    ensures stopped { OnErr result (LineStops C.BootCell line player.old player.new) }
+    ensures played { IfOk result (λ text. PlaysLine C.BootCell telling line player.old player.new (string_bytes text)) }
+    ensures stopped { OnErr result (LineStops C.BootCell telling line player.old player.new) }
 {
+    let before = player.notes().len();
     let told = do_line(alloc, player, line.statement)?;
+    match telling {
+        Telling::Books => books_told(alloc, player.world(), line, told),
+        Telling::Steps => steps_told(alloc, player, line.number, told, before),
+    }
+}
+
+/// What a line prints where books are told. `Err` where memory is refused.
+fn books_told<C: BootCell>(
+    alloc: Global,
+    world: &World<C>,
+    line: Line,
+    told: Option<WorldFault>,
+) -> Result<String, AllocError>
+    ensures text { IfOk result (λ text. string_bytes text
+        ≡ refused_text line.number told ++ print_text C.held line.statement world.now) }
+    ensures stopped { OnErr result ((told ≢ None) ⊎ (line.statement ≡ Statement.Print)) }
+{
     let mut text = refused_text(alloc, line.number, told)?;
-    push_print(&mut text, line.statement, player.world())?;
+    push_print(&mut text, line.statement, world)?;
+    Ok(text)
+}
+
+/// What a line prints where steps are told: those that were noted after so many before it, or, where it tried none, what
+/// was refused. `Err` where memory is refused.
+fn steps_told<C: BootCell>(
+    alloc: Global,
+    player: &Player<C>,
+    number: u32,
+    told: Option<WorldFault>,
+    before: usize,
+) -> Result<String, AllocError>
+    ensures text { IfOk result (λ text. string_bytes text
+        ≡ steps_text player.now.world number told before (notes player.now.noted)) }
+    ensures stopped { OnErr result ((told ≢ None) ⊎ (before < length (notes player.now.noted))) }
+{
+    let noted = player.notes();
+    if before >= noted.len() {
+        return refused_text(alloc, number, told);
+    }
+    let mut text = String::new(alloc);
+    push_notes(&mut text, player.world(), before, noted)?;
     Ok(text)
 }
 

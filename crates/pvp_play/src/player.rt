@@ -1,9 +1,11 @@
 //! A player of a world: what is tried there, which envelopes come next, and who is cut off.
-ghost use Rattle.std.specs.Prelude.{◌≡◌, IfOk, OnOk, OnErr, is_some};
+ghost use Rattle.std.specs.Prelude.{◌≡◌, [], None, Some, IfOk, OnOk, OnErr, is_some, option_map};
 ghost use Rattle.pvp_play.specs.Player.{healed};
 
+use crate::notes::{make_room, note};
 use headline::Step;
 use pvp_book::Book;
+use pvp_trace::{Attempt, try_step};
 use pvp_world::{World, WorldFault};
 use std::alloc::{AllocError, Global};
 use std::marker::Model;
@@ -16,28 +18,45 @@ pub struct Player<C: BootCell> {
     /// The number of the envelope up to which the post was gone through.
     cursor: usize,
     cut: Vec<u16>,
+    /// The steps that were tried, where they are noted.
+    noted: Option<Vec<Attempt>>,
 }
 
 impl<C: BootCell> Model for Player<C> {
+    ghost use Rattle.std.specs.Prelude.{option_map};
     ghost use Rattle.pvp_play.specs.Player.{Position};
 
     ghost Value = { Position C };
 
-    ghost view = { λ a. record { world = a.world; cursor = a.cursor; cut = a.cut.items } };
+    ghost view = { λ a. record { world = a.world; cursor = a.cursor; cut = a.cut.items; noted = option_map (λ v. v.items) a.noted } };
 }
 
 impl<C: BootCell> Player<C> {
     ghost use Rattle.pvp_play.specs.Player.{beginning, Tries, Wants, Drains, DrainStops, is_open, is_among, skipped, cut_off, with_cut, unknown_actor, CutStops};
+    ghost use Rattle.pvp_play.specs.Notes.{notes};
     ghost use Rattle.pvp_play.specs.Turns.{DrainsTo, WantsTo, next_open};
 
-    /// A player of a world at the beginning of its post, who cuts off no one.
+    /// A player of a world at the beginning of its post, who cuts off no one and notes nothing.
     pub fn new(alloc: Global, world: World<C>) -> Self
-        ensures { result ≡ beginning world }
+        ensures { result ≡ beginning None world }
     {
         Player {
             world,
             cursor: 0,
             cut: Vec::new(alloc),
+            noted: None,
+        }
+    }
+
+    /// A player of a world at the beginning of its post, who cuts off no one and notes each step that is tried.
+    pub fn noting(alloc: Global, world: World<C>) -> Self
+        ensures { result ≡ beginning (Some []) world }
+    {
+        Player {
+            world,
+            cursor: 0,
+            cut: Vec::new(alloc),
+            noted: Some(Vec::new(alloc)),
         }
     }
 
@@ -48,16 +67,31 @@ impl<C: BootCell> Player<C> {
         &self.world
     }
 
-    /// Tries a step, and answers why it was refused, if it was. `Err` where memory is refused.
+    /// The steps that were tried, in their order; none where they are not noted.
+    pub fn notes(&self) -> &[Attempt]
+        ensures { result.now ≡ notes self.now.noted }
+    {
+        match &self.noted {
+            Some(attempts) => attempts.as_slice(),
+            None => &[],
+        }
+    }
+
+    /// Tries a step and notes it, where steps are noted, and answers why it was refused, if it was. `Err` where memory is
+    /// refused.
     pub fn step(&mut self, alloc: Global, step: Step) -> Result<Option<WorldFault>, AllocError>
         ensures tried { IfOk result (Tries C.BootCell self.old self.new step) }
         ensures wants { OnErr result (Wants self.old self.new step) }
     {
-        match self.world.apply(alloc, step) {
-            Ok(_) => Ok(None),
-            Err(WorldFault::NoMemory) => Err(AllocError),
-            Err(fault) => Ok(Some(fault)),
-        }
+        make_room(&mut self.noted)?;
+        let attempt = try_step(alloc, &mut self.world, step);
+        let told = match attempt.result {
+            Ok(_) => None,
+            Err(WorldFault::NoMemory) => return Err(AllocError),
+            Err(fault) => Some(fault),
+        };
+        note(&mut self.noted, attempt);
+        Ok(told)
     }
 
     /// Delivers the next envelopes that no cut holds up, so many at most. `Err` where memory is refused.

@@ -2,6 +2,7 @@
 
 ghost use Rattle.std.specs.Prelude.{◌≡◌, ◌++◌, string_bytes, OnOk};
 ghost use Rattle.headline.specs.declared.step.Step.TheVariants.{Deliver};
+ghost use Rattle.pvp_world.specs.Steps.{TellsFailures};
 ghost use Rattle.pvp_trace.specs.Attempts.{Attempts, fell_by, cell_of, step_text, came_text, fell_text, sent_line, sent_text, attempt_text};
 
 use crate::meanings::{meaning, reason};
@@ -28,7 +29,8 @@ pub struct Attempt {
 
 /// Tries a step in a world, as `World::apply` does, and tells what came of it.
 pub fn try_step<C: BootCell>(alloc: Global, world: &mut World<C>, step: Step) -> Attempt
-    ensures { Attempts C.held world.old world.new step result }
+    ensures attempts { Attempts C.held world.old world.new step result }
+    ensures tells { TellsFailures C.BootCell world.old world.new step result.result }
 {
     let before = world.post_len();
     let result = world.apply(alloc, step);

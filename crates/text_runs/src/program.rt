@@ -1,4 +1,5 @@
 mod plays;
+mod traces;
 mod worked;
 
 use crate::program::worked::ROWS;

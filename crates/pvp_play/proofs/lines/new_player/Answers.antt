@@ -10,7 +10,7 @@ returns c =
     let world = c.in_ok-world.world in
     let fails = c.args.fails.now in
     let armed = armed-sites fails c.in_ok-cells.cells.items world.sites c.in_ok-world.ensures.cells c.in_ok-cells.ensures.armed in
-    subst (IsOpening c.args.setup.now fails) (sym c.new-2.ensures)
+    subst (IsOpening c.args.setup.now fails c.args.telling) (sym c.player_of.ensures)
     (record {
       setup = c.in_ok-world.ensures.setup;
       cells = c.in_ok-world.ensures.opening ∙ c.in_ok-cells.ensures.new ∙ ap (λ n. replicate (2 * n + 1) new_cell) c.faults.ensures.faults;

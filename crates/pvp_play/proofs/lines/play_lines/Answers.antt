@@ -15,14 +15,14 @@ loop-line-preserved g c =
     let before = c.loop-line.invariant.0 in
     let after = string_bytes c.in_ok-text.text in (
       before ++ after,
-      Plays-more g.C.BootCell c.args.lines.now c.loop-line.line-index _ c.args.player.now c.loop-line.player c.play_line.new.player before after
+      Plays-more g.C.BootCell c.args.telling c.args.lines.now c.loop-line.line-index _ c.args.player.now c.loop-line.player c.play_line.new.player before after
           c.loop-line-test.true c.loop-line.invariant.1 c.in_ok-text.ensures.played,
       written-more _ _ _ before after c.as_str.result.now c.as_str.ensures.value c.loop-line.invariant.2 c.in_ok-write_text.ensures.written,
     )
 
 pub returns-in_err-text : goal.returns-in_err-text
 returns-in_err-text g c =
-    end-stopped g.C.BootCell c.args.player.now c.args.lines.now c.play_line.new.player c.from_residual.result _ _ c.from_residual.ensures.1 (record {
+    end-stopped g.C.BootCell c.args.telling c.args.player.now c.args.lines.now c.play_line.new.player c.from_residual.result _ _ c.from_residual.ensures.1 (record {
       count = c.loop-line.line-index;
       line = _;
       is_next = slice_get-get_or c.args.lines.now c.loop-line.line-index _ c.loop-line-test.true;
@@ -32,7 +32,7 @@ returns-in_err-text g c =
         plays = c.loop-line.invariant.1;
         written = c.loop-line.invariant.2;
         headline = subst (IsProved g.C.BootCell.held) c.world.ensures c.is_proved.ensures;
-        reliable = plays-keep g.C.BootCell _ c.args.player.now c.loop-line.player c.loop-line.invariant.0 c.loop-line.invariant.1;
+        reliable = plays-keep g.C.BootCell c.args.telling _ c.args.player.now c.loop-line.player c.loop-line.invariant.0 c.loop-line.invariant.1;
       };
       stops = c.in_err-text.ensures.stopped;
     })
@@ -40,11 +40,11 @@ returns-in_err-text g c =
 pub returns : goal.returns
 returns g c =
     let whole = take_all c.loop-line.line-index c.args.lines.now c.loop-line-test.false in
-    subst (λ lines. ArePlayed g.C.BootCell c.args.player.now lines c.loop-line.player (g.W.Write.contents c.args.writer.now) (g.W.Write.contents c.loop-line.writer)) whole
+    subst (λ lines. ArePlayed g.C.BootCell c.args.telling c.args.player.now lines c.loop-line.player (g.W.Write.contents c.args.writer.now) (g.W.Write.contents c.loop-line.writer)) whole
     (record {
       text = c.loop-line.invariant.0;
       plays = c.loop-line.invariant.1;
       written = c.loop-line.invariant.2;
       headline = subst (IsProved g.C.BootCell.held) c.world-2.ensures c.is_proved-2.ensures;
-      reliable = plays-keep g.C.BootCell _ c.args.player.now c.loop-line.player c.loop-line.invariant.0 c.loop-line.invariant.1;
+      reliable = plays-keep g.C.BootCell c.args.telling _ c.args.player.now c.loop-line.player c.loop-line.invariant.0 c.loop-line.invariant.1;
     })
