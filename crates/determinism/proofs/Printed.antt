@@ -123,7 +123,6 @@ module _ {B : Type 0} (held : B → Boot) where
             (λ i k v y at one other. node-same k v y (subst (λ (j : ℕ). IsNode world.setup j v y) (here i k at) (shows.nodes.each i v y one other))) in
         let clients = each-text (client_text world.setup) (client_words world.setup) world.clients bank.clients 0 shows.clients.count
             (λ i k v y at one other. client-same k v y (subst (λ (j : ℕ). IsClient world.setup j v y) (here i k at) (shows.clients.each i v y one other))) in
-        let rest = flat_map (node_text held world) (enumerate_from 0 world.nodes) ++ flat_map (client_text world.setup) (enumerate_from 0 world.clients) in
-        ap (λ (t : List ℕ). t ++ rest) sites
+        ap (λ (t : List ℕ). t ++ flat_map (node_text held world) (enumerate_from 0 world.nodes) ++ flat_map (client_text world.setup) (enumerate_from 0 world.clients)) sites
         ∙ ap (λ (t : List ℕ). flat_map (site_words world.setup) (enumerate_from 0 bank.sites) ++ t ++ flat_map (client_text world.setup) (enumerate_from 0 world.clients)) nodes
         ∙ ap (λ (t : List ℕ). flat_map (site_words world.setup) (enumerate_from 0 bank.sites) ++ flat_map (node_words world.setup bank) (enumerate_from 0 bank.nodes) ++ t) clients

@@ -46,4 +46,4 @@ is_hindered (Err fault) = hinders fault
 -- none of these was
 abbrev pub AreFree : List Attempt → Type 0
 AreFree [] = Unit {0}
-AreFree (a ∷ as) = (is_hindered a.result ≡ false) × AreFree as
+AreFree (a ∷ more) = (is_hindered a.result ≡ false) × AreFree more
