@@ -20,8 +20,7 @@ use Rattle.pvp_play.specs.Player.{TriesIn, is_open, open_number, open_after, Are
 use Rattle.pvp_play.proofs.Growing.{Grows, applies-grow}
 use Rattle.determinism.specs.Unhindered.{is_hindered, AreFree}
 use Rattle.determinism.specs.Twins.{AreTwins}
-use Rattle.determinism.specs.Refusals.{turn_refuses}
-use Rattle.determinism.proofs.Refused.{refused_as}
+use Rattle.determinism.specs.Refusals.{turn_refuses, refused_as}
 use Rattle.determinism.proofs.Outcome.{refused-bank, refused-stays, twin-post, twins-go-on, attempt-once}
 
 -- NUMBERS IN ORDER
@@ -172,8 +171,8 @@ module _ {B : Type 0} (c : Cell B) where
   stuck (n ∷ ns) [] old new at above none free = absurd none
   stuck (n ∷ ns) (a ∷ tries) old new at above (mid, tried, later) free =
       let same = refused-stays c.held old mid (Deliver n) at a.result tried.attempts.applies free.0 fault.NoSuchEnvelope
-          (refused-bank c.held old mid (Deliver n) at a.result tried.attempts.applies free.0
-          ∙ ap (λ t. turn_refuses old.setup (faults old.setup) at.list.bank t) nothing) in
+      (refused-bank c.held old mid (Deliver n) at a.result tried.attempts.applies free.0
+      ∙ ap (λ t. turn_refuses old.setup (faults old.setup) at.list.bank t) nothing) in
       stuck ns tries old new at above.1 (subst (λ (w : World B). AreDelivered c ns tries w new) same later) free.1
     where
       absent : (es : List Envelope) → length es < n → (if n == 0 then None else option_map delivery (slice_get es (n - 1))) ≡ None
@@ -258,7 +257,7 @@ module _ {B : Type 0} (c : Cell B) where
       let same : n ≡ m = heads n m p.later q.later (sym p.is_next ∙ ap (open_after cut cursor) (twin-post c.held a b twins) ∙ q.is_next) in
       let once = attempt-once c.held a b twins done.0 too.0 (Deliver n) x y done.1.attempts (subst (λ (k : ℕ). Attempts c.held b too.0 (Deliver k) y) (sym same) too.1.attempts) free.0 other_free.0 in
       let rest = drain-twins t cut n done.0 too.0 one other ns ms tries others once.1 p.rest
-          (q.rest ∙ ap (λ k. take t (open_after cut k other.post)) (sym same)) done.2 too.2 free.1 other_free.1 in
+      (q.rest ∙ ap (λ k. take t (open_after cut k other.post)) (sym same)) done.2 too.2 free.1 other_free.1 in
       record {
         which = ap (λ k. k ∷ ns) same ∙ ap (λ ks. m ∷ ks) rest.which;
         attempts = ap (λ z. z ∷ tries) once.0 ∙ ap (λ zs. y ∷ zs) rest.attempts;

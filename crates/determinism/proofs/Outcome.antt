@@ -21,11 +21,11 @@ use Rattle.pvp_world.specs.declared.report.Report.{Report}
 use Rattle.pvp_trace.specs.declared.attempt.Attempt.{Attempt}
 use Rattle.pvp_trace.specs.Attempts.{Attempts, fell_by}
 use Rattle.determinism.specs.Unhindered.{hinders, hinders_site, is_hindered}
-use Rattle.determinism.specs.Refusals.{bank_refuses, turn_refuses}
+use Rattle.determinism.specs.Refusals.{bank_refuses, turn_refuses, refused_as}
 use Rattle.determinism.specs.Twins.{AreTwins}
 use Rattle.determinism.proofs.Banks.{one-bank, was-at, after-list}
 use Rattle.determinism.proofs.Dropped.{dropped-once}
-use Rattle.determinism.proofs.Refused.{refused_as, taken-none, why-told}
+use Rattle.determinism.proofs.Refused.{taken-none, why-told}
 
 fall-hinders : (why : SiteFault) → hinders_site why ≡ false → is_fall why ≡ false
 fall-hinders site.NoMemory had = had
@@ -60,7 +60,7 @@ module _ {B : Type 0} (held : B → Boot) where
   pub moved-at : (old new : Shown B) (move : Move) → Moves held old new move → IsAt held new
   moved-at old new move m =
       let p = subst (λ (s : Setup). (list : LegalList s (faults s)) × (list.cells ≡ new.opening) × (list.moves ≡ new.trail) × ShowsBank held new list.bank) (sym m.setup)
-          (after-list held old new move m, m.cells ∙ sym m.opening, ap (λ ms. ms ++ move ∷ []) m.moves ∙ sym m.trail, m.shows_after) in
+      (after-list held old new move m, m.cells ∙ sym m.opening, ap (λ ms. ms ++ move ∷ []) m.moves ∙ sym m.trail, m.shows_after) in
       record { list = p.0; cells = p.1; moves = p.2; shows = p.3 }
 
   -- where a step that nothing hinders leaves it, the world is at
@@ -141,11 +141,12 @@ module _ {B : Type 0} (held : B → Boot) where
       → Attempts held a c step x → Attempts held b d step y → is_hindered x.result ≡ false → is_hindered y.result ≡ false → (x ≡ y) × AreTwins held c d
   attempt-once a b twins c d step x y p q free too =
       let next = twins-go-on a b twins c d step x.result y.result p.applies q.applies free too in
-      let result = result-once a b twins c d step x.result y.result p.applies q.applies free too in
-      (ap (λ (s : Step). attempt_of s x.result x.fell x.before x.after) (p.step ∙ sym q.step)
-      ∙ ap (λ (r : Result Report WorldFault). attempt_of y.step r x.fell x.before x.after) result
-      ∙ ap (λ (o : Option Boot). attempt_of y.step y.result o x.before x.after)
-          (p.fell ∙ ap (λ (r : Result Report WorldFault). fell_by r c.trail) result ∙ ap (λ (ms : List Move). fell_by y.result ms) next.trail ∙ sym q.fell)
-      ∙ ap (λ (n : ℕ). attempt_of y.step y.result y.fell n x.after) (p.before ∙ ap (λ (es : List Envelope). length es) (twin-post a b twins) ∙ sym q.before)
-      ∙ ap (λ (n : ℕ). attempt_of y.step y.result y.fell y.before n) (p.after ∙ ap (λ (es : List Envelope). length es) (twin-post c d next) ∙ sym q.after),
-      next)
+      let result = result-once a b twins c d step x.result y.result p.applies q.applies free too in (
+        ap (λ (s : Step). attempt_of s x.result x.fell x.before x.after) (p.step ∙ sym q.step)
+            ∙ ap (λ (r : Result Report WorldFault). attempt_of y.step r x.fell x.before x.after) result
+            ∙ ap (λ (o : Option Boot). attempt_of y.step y.result o x.before x.after)
+            (p.fell ∙ ap (λ (r : Result Report WorldFault). fell_by r c.trail) result ∙ ap (λ (ms : List Move). fell_by y.result ms) next.trail ∙ sym q.fell)
+            ∙ ap (λ (n : ℕ). attempt_of y.step y.result y.fell n x.after) (p.before ∙ ap (λ (es : List Envelope). length es) (twin-post a b twins) ∙ sym q.before)
+            ∙ ap (λ (n : ℕ). attempt_of y.step y.result y.fell y.before n) (p.after ∙ ap (λ (es : List Envelope). length es) (twin-post c d next) ∙ sym q.after),
+        next,
+      )

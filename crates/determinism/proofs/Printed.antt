@@ -34,7 +34,7 @@ each-text f g (x ∷ xs) [] n count each = absurd (omega arith)
 each-text {A} {C} f g (x ∷ xs) (y ∷ ys) n count each =
     ap (λ (t : List ℕ). t ++ flat_map f (enumerate_from (n + 1) xs)) (each 0 n x y (omega arith) refl refl)
     ∙ ap (λ (t : List ℕ). g (n, y) ++ t)
-        (each-text f g xs ys (n + 1) (omega arith) (λ i k x y at one other. each (suc i) k x y (omega arith) one other))
+    (each-text f g xs ys (n + 1) (omega arith) (λ i k x y at one other. each (suc i) k x y (omega arith) one other))
 
 here : (i k : ℕ) → k ≡ 0 + i → i ≡ k
 here i k at = omega (at, arith)
@@ -106,8 +106,8 @@ module _ {B : Type 0} (held : B → Boot) where
     node-same c v x is =
         ap (λ (w : node.Shown). node_text held world (c, w)) is
         ∙ ap (λ (t : List ℕ). node_line world.setup c x ++ t)
-            (each-text (way_line held c x) (way_words world.setup c x) world.sites bank.sites 0 shows.sites.count
-                (λ i k v y at one other. way-same world.setup c x k v y (subst (λ (j : ℕ). IsSite held world.setup j v y) (here i k at) (shows.sites.each i v y one other))))
+        (each-text (way_line held c x) (way_words world.setup c x) world.sites bank.sites 0 shows.sites.count
+        (λ i k v y at one other. way-same world.setup c x k v y (subst (λ (j : ℕ). IsSite held world.setup j v y) (here i k at) (shows.sites.each i v y one other))))
 
     client-same : (k : ℕ) (v : client.Shown) (x : Client) → IsClient world.setup k v x → client_text world.setup (k, v) ≡ client_words world.setup (k, x)
     unfolding client_words
@@ -118,11 +118,11 @@ module _ {B : Type 0} (held : B → Boot) where
     unfolding bank_words
     books-same =
         let sites = each-text (site_text held) (site_words world.setup) world.sites bank.sites 0 shows.sites.count
-            (λ i k v y at one other. site-same world.setup k v y (subst (λ (j : ℕ). IsSite held world.setup j v y) (here i k at) (shows.sites.each i v y one other))) in
+        (λ i k v y at one other. site-same world.setup k v y (subst (λ (j : ℕ). IsSite held world.setup j v y) (here i k at) (shows.sites.each i v y one other))) in
         let nodes = each-text (node_text held world) (node_words world.setup bank) world.nodes bank.nodes 0 shows.nodes.count
-            (λ i k v y at one other. node-same k v y (subst (λ (j : ℕ). IsNode world.setup j v y) (here i k at) (shows.nodes.each i v y one other))) in
+        (λ i k v y at one other. node-same k v y (subst (λ (j : ℕ). IsNode world.setup j v y) (here i k at) (shows.nodes.each i v y one other))) in
         let clients = each-text (client_text world.setup) (client_words world.setup) world.clients bank.clients 0 shows.clients.count
-            (λ i k v y at one other. client-same k v y (subst (λ (j : ℕ). IsClient world.setup j v y) (here i k at) (shows.clients.each i v y one other))) in
+        (λ i k v y at one other. client-same k v y (subst (λ (j : ℕ). IsClient world.setup j v y) (here i k at) (shows.clients.each i v y one other))) in
         ap (λ (t : List ℕ). t ++ flat_map (node_text held world) (enumerate_from 0 world.nodes) ++ flat_map (client_text world.setup) (enumerate_from 0 world.clients)) sites
         ∙ ap (λ (t : List ℕ). flat_map (site_words world.setup) (enumerate_from 0 bank.sites) ++ t ++ flat_map (client_text world.setup) (enumerate_from 0 world.clients)) nodes
         ∙ ap (λ (t : List ℕ). flat_map (site_words world.setup) (enumerate_from 0 bank.sites) ++ flat_map (node_words world.setup bank) (enumerate_from 0 bank.nodes) ++ t) clients

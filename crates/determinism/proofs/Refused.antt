@@ -40,14 +40,10 @@ use Rattle.pvp_world.specs.declared.report.Report.{Report}
 use Rattle.determinism.specs.Unhindered.{hinders, hinders_site, hinders_node, is_hindered}
 use Rattle.determinism.specs.Refusals.{site_refuses, node_refuses, client_refuses, turn_refuses, bank_refuses}
 
-abbrev pub refused_as : Result Report WorldFault → Option WorldFault
-refused_as (Ok report) = None
-refused_as (Err why) = Some why
-
 past : {A : Type 0} (xs : List A) (i : ℕ) → nat_lt i (length xs) ≡ false → slice_get xs i ≡ None
 past xs i off = slice_get_past xs i (grind (arith, nat_tests))
 
-within : {A C : Type 0} (xs : List A) (ys : List C) (i : ℕ) (x : A) → length xs ≡ length ys → slice_get xs i ≡ Some x → (y : C) × (slice_get ys i ≡ Some y)
+pub within : {A C : Type 0} (xs : List A) (ys : List C) (i : ℕ) (x : A) → length xs ≡ length ys → slice_get xs i ≡ Some x → (y : C) × (slice_get ys i ≡ Some y)
 within [] ys i x count e = absurd (none-some x e)
 within (z ∷ xs) [] i x count e = absurd (omega arith)
 within (z ∷ xs) (y ∷ ys) zero x count e = (y, refl)
@@ -106,6 +102,7 @@ module _ {B : Type 0} (held : B → Boot) (w : Shown B) (bank : Bank) (shows : S
     where
       same : (node_step w.setup f c x event).fault ≡ (node_step v.setup (faults v.setup) v.ccy v.node event).fault
       same = ap (λ (u : node.Shown). (node_step u.setup (faults u.setup) u.ccy u.node event).fault) (sym shown)
+
       by : ((node_step v.setup (faults v.setup) v.ccy v.node event).fault ≡ Some why)
           ⊎ ((why ≡ node_fault.NoMemory) × ((node_step v.setup (faults v.setup) v.ccy v.node event).fault ≡ None) × (node.takes_memory v.node (node_step v.setup (faults v.setup) v.ccy v.node event) ≡ true))
           → (node_step w.setup f c x event).fault ≡ Some why
@@ -126,6 +123,7 @@ module _ {B : Type 0} (held : B → Boot) (w : Shown B) (bank : Bank) (shows : S
     where
       same : (client_step f k x event).fault ≡ (client_step v.f v.me v.client event).fault
       same = ap (λ (u : client.Shown). (client_step u.f u.me u.client event).fault) (sym shown)
+
       by : ((client_step v.f v.me v.client event).fault ≡ Some why)
           ⊎ ((why ≡ client_fault.NoMemory) × ((client_step v.f v.me v.client event).fault ≡ None) × (0 < length (client_step v.f v.me v.client event).sent))
           → (client_step f k x event).fault ≡ Some why

@@ -1,3 +1,4 @@
+pub mod Plays
 pub mod Refusals
 pub mod Twins
 pub mod Unhindered

@@ -1,5 +1,5 @@
 -- Why a bank refuses a step, where nothing hinders it: by the bank and the step alone.
-use Rattle.std.specs.Prelude.{ℕ, List, slice_get, Option, Some, None, option_map}
+use Rattle.std.specs.Prelude.{ℕ, List, slice_get, Option, Some, None, option_map, Result, Ok, Err}
 use Rattle.pvp_types.specs.declared.setup.Setup.{Setup}
 use Rattle.pvp_types.specs.declared.command.Cmd.{Cmd}
 use Rattle.pvp_types.specs.declared.command.Reply.{Reply as Answer}
@@ -17,6 +17,7 @@ use Rattle.headline.specs.Client.{Client, client_step}
 use Rattle.headline.specs.Bank.{Bank, turn}
 use Rattle.pvp_world.specs.declared.fault.WorldFault.{WorldFault}
 use Rattle.pvp_world.specs.declared.fault.WorldFault.TheVariants as fault
+use Rattle.pvp_world.specs.declared.report.Report.{Report}
 use Rattle.pvp_world.specs.Steps.{told_as}
 
 -- an actor's own reason, where the actor is there
@@ -41,3 +42,8 @@ turn_refuses setup f bank (Some (OfClient k event)) = client_refuses f k event (
 -- WHY A STEP IS REFUSED, if it is: no envelope has the number, then the actor is not there, then the actor's own reason
 abbrev pub bank_refuses : Setup → ℕ → Bank → Step → Option WorldFault
 bank_refuses setup f bank step = turn_refuses setup f bank (turn bank.post step)
+
+-- why a step was refused, if it was
+abbrev pub refused_as : Result Report WorldFault → Option WorldFault
+refused_as (Ok report) = None
+refused_as (Err why) = Some why
