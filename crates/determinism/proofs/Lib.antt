@@ -1,0 +1,8 @@
+mod Banks
+mod Drained
+mod Dropped
+mod OneText
+mod Outcome
+mod Printed
+mod Refused
+mod Twinned

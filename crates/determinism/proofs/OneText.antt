@@ -1,0 +1,136 @@
+-- Two plays of one setup and the same lines, which nothing hinders, print one text.
+use Rattle.std.proofs.Common.{◌≡◌, ℕ, Bool, nat_lt, if◌then◌else◌, List, [], ◌∷◌, ◌++◌, length, Option, refl, sym, ap, ◌∙◌, subst}
+use Rattle.pvp_types.specs.declared.setup.Setup.{Setup}
+use Rattle.vr_types.specs.declared.cell.BootCell.{Ghosts as Cell}
+use Rattle.vr_types.specs.contracts.cell.MemCellBootCell.TheImpl.{ghosts as memory}
+use Rattle.rtgs_node.specs.Node.{Envelope}
+use Rattle.headline.specs.declared.step.Step.TheVariants as steps
+use Rattle.headline.specs.Bank.{Bank}
+use Rattle.pvp_text.specs.declared.script.Line.{Line}
+use Rattle.pvp_text.specs.declared.script.Statement.{Statement}
+use Rattle.pvp_text.specs.declared.script.Statement.TheVariants.{Do, Print, PayIn, Close, Beat, Timer, Crash, Restart, Deliver, Drain, Skip, Cut, Heal, Chaos, Rest}
+use Rattle.pvp_world.specs.declared.fault.WorldFault.{WorldFault}
+use Rattle.pvp_world.specs.World.{Shown as World}
+use Rattle.pvp_trace.specs.declared.attempt.Attempt.{Attempt}
+use Rattle.pvp_play.specs.declared.cells.Fail.{Fail}
+use Rattle.pvp_play.specs.declared.notes.Telling.{Telling}
+use Rattle.pvp_play.specs.declared.notes.Telling.TheVariants.{Books, Steps}
+use Rattle.pvp_play.specs.BooksText.{books_text}
+use Rattle.pvp_play.specs.Chaos.{words_of}
+use Rattle.pvp_play.specs.Lines.{Does, Plays, IsOpening, refused_text, print_text, steps_text, line_text, no_notes}
+use Rattle.pvp_play.specs.Notes.{notes, notes_text}
+use Rattle.pvp_play.specs.Player.{Position, beginning, skipped, cut_off, healed, with_cut}
+use Rattle.determinism.specs.Twins.{AreTwins, AreTwinPlayers}
+use Rattle.determinism.specs.Plays.{LineIsFree, PlaysFreely, FreePlay}
+use Rattle.determinism.proofs.Outcome.{twin-bank, twin-post}
+use Rattle.determinism.proofs.Printed.{bank_words, books-same}
+use Rattle.determinism.proofs.Twinned.{OneTold, tries-too, drains-too, skips-too, cuts-too, unknown-too, turns-too}
+
+module _ {B : Type 0} (c : Cell B) where
+  -- WHAT A LINE DOES
+  module _ (p q : Position B) (twins : AreTwinPlayers c.held p q) (p' q' : Position B) (told other : Option WorldFault) where
+    stays-too : (a b : Position B) → AreTwinPlayers c.held a b → (one : Option WorldFault) (too : Option WorldFault) → one ≡ too → p' ≡ a → q' ≡ b → told ≡ one → other ≡ too → OneTold c told other p' q'
+    stays-too a b are one too same x y is is' = record {
+      told = is ∙ same ∙ sym is';
+      twins = subst (λ r. AreTwinPlayers c.held r q') (sym x) (subst (λ r. AreTwinPlayers c.held a r) (sym y) are);
+    }
+
+    does-too : (s : Statement) (x : Does c s p p' told) (y : Does c s q q' other) → LineIsFree c s p p' told x → LineIsFree c s q q' other y → OneTold c told other p' q'
+    does-too (Do client cmd) x y free too = tries-too c p q twins p' q' (steps.Submit client cmd) told other x y free too
+    does-too Print x y free too = stays-too p q twins _ _ refl x.0 y.0 x.1 y.1
+    does-too (PayIn member ccy amt) x y free too = tries-too c p q twins p' q' (steps.PayIn ccy member amt) told other x y free too
+    does-too (Close member ccy) x y free too = tries-too c p q twins p' q' (steps.Close ccy member) told other x y free too
+    does-too (Beat actor) x y free too = tries-too c p q twins p' q' (steps.Beat actor) told other x y free too
+    does-too (Timer site) x y free too = tries-too c p q twins p' q' (steps.Timer site) told other x y free too
+    does-too (Crash site) x y free too = tries-too c p q twins p' q' (steps.Crash site) told other x y free too
+    does-too (Restart site) x y free too = tries-too c p q twins p' q' (steps.Restart site) told other x y free too
+    does-too (Deliver envelope) x y free too = tries-too c p q twins p' q' (steps.Deliver envelope) told other x y free too
+    does-too (Drain turns) x y free too = record { told = x.1 ∙ sym y.1; twins = drains-too c p q twins p' q' turns x.0 y.0 free too }
+    does-too (Skip envelopes) x y free too = stays-too (skipped p envelopes) (skipped q envelopes) (skips-too c p q twins envelopes) _ _ refl x.0 y.0 x.1 y.1
+    does-too (Cut actor) x y free too =
+        stays-too (with_cut p actor (cut_off p.cut actor)) (with_cut q actor (cut_off q.cut actor))
+        (cuts-too c p q twins actor (cut_off p.cut actor) (cut_off q.cut actor) (ap (λ cut. cut_off cut actor) twins.cut)) _ _ (unknown-too c p q twins actor) x.0 y.0 x.1 y.1
+    does-too (Heal actor) x y free too =
+        stays-too (with_cut p actor (healed p.cut actor)) (with_cut q actor (healed q.cut actor))
+        (cuts-too c p q twins actor (healed p.cut actor) (healed q.cut actor) (ap (λ cut. healed cut actor) twins.cut)) _ _ (unknown-too c p q twins actor) x.0 y.0 x.1 y.1
+    does-too (Chaos seed turns) x y free too = record {
+      told = x.1 ∙ sym y.1;
+      twins = (turns-too c turns (words_of seed, p) (words_of seed, q) (x.0.0, p') (y.0.0, q') refl twins x.0.1 y.0.1 free too).1;
+    }
+    does-too (Rest milliseconds) x y free too = stays-too p q twins _ _ refl x.0 y.0 x.1 y.1
+
+  -- WHAT IT PRINTS
+  books-too : (a b : World B) (twins : AreTwins c.held a b) → books_text c.held a ≡ books_text c.held b
+  books-too a b twins =
+      books-same c.held a twins.one_at.list.bank twins.one_at.shows
+      ∙ ap (λ (s : Setup). bank_words s twins.one_at.list.bank) twins.setup
+      ∙ ap (λ (k : Bank). bank_words b.setup k) (twin-bank c.held a b twins)
+      ∙ sym (books-same c.held b twins.other_at.list.bank twins.other_at.shows)
+
+  print-too : (a b : World B) (twins : AreTwins c.held a b) (s : Statement) → print_text c.held s a ≡ print_text c.held s b
+  print-too a b twins (Do client cmd) = refl
+  print-too a b twins Print = books-too a b twins
+  print-too a b twins (PayIn member ccy amt) = refl
+  print-too a b twins (Close member ccy) = refl
+  print-too a b twins (Beat actor) = refl
+  print-too a b twins (Timer site) = refl
+  print-too a b twins (Crash site) = refl
+  print-too a b twins (Restart site) = refl
+  print-too a b twins (Deliver envelope) = refl
+  print-too a b twins (Drain turns) = refl
+  print-too a b twins (Skip envelopes) = refl
+  print-too a b twins (Cut actor) = refl
+  print-too a b twins (Heal actor) = refl
+  print-too a b twins (Chaos seed turns) = refl
+  print-too a b twins (Rest milliseconds) = refl
+
+  text-too : (telling : Telling) (line : Line) (p q p' q' : Position B) (told other : Option WorldFault) → AreTwinPlayers c.held p q → OneTold c told other p' q'
+      → line_text c.held telling line told p p' ≡ line_text c.held telling line other q q'
+  text-too Books line p q p' q' told other before one =
+      ap (λ (t : Option WorldFault). refused_text line.number t ++ print_text c.held line.statement p'.world) one.told
+      ∙ ap (λ (t : List ℕ). refused_text line.number other ++ t) (print-too p'.world q'.world one.twins.worlds line.statement)
+  text-too Steps line p q p' q' told other before one =
+      let text : Setup → List Envelope → Option WorldFault → ℕ → List Attempt → List ℕ = λ setup post told before noted. if nat_lt before (length noted) then notes_text setup post before noted else refused_text line.number told in
+      let after = one.twins in
+      ap (λ (s : Setup). text s p'.world.post told (length (notes p.noted)) (notes p'.noted)) after.worlds.setup
+      ∙ ap (λ (es : List Envelope). text q'.world.setup es told (length (notes p.noted)) (notes p'.noted)) (twin-post c.held p'.world q'.world after.worlds)
+      ∙ ap (λ (t : Option WorldFault). text q'.world.setup q'.world.post t (length (notes p.noted)) (notes p'.noted)) one.told
+      ∙ ap (λ (n : Option (List Attempt)). text q'.world.setup q'.world.post other (length (notes n)) (notes p'.noted)) before.noted
+      ∙ ap (λ (n : Option (List Attempt)). text q'.world.setup q'.world.post other (length (notes q.noted)) (notes n)) after.noted
+
+  -- LINES one after another
+  plays-too : (telling : Telling) (lines : List Line) (p q p' q' : Position B) (text other : List ℕ) → AreTwinPlayers c.held p q
+      → (x : Plays c telling lines p p' text) (y : Plays c telling lines q q' other) → PlaysFreely c telling lines p p' text x → PlaysFreely c telling lines q q' other y
+      → (text ≡ other) × AreTwinPlayers c.held p' q'
+  plays-too telling [] p q p' q' text other twins x y free too =
+      (x.1 ∙ sym y.1, subst (λ r. AreTwinPlayers c.held r q') (sym x.0) (subst (λ r. AreTwinPlayers c.held p r) (sym y.0) twins))
+  plays-too telling (line ∷ lines) p q p' q' text other twins x y free too =
+      let one = does-too p q twins x.between y.between x.first.told y.first.told line.statement x.first.does y.first.does free.0 too.0 in
+      let rest = plays-too telling lines x.between y.between p' q' x.after y.after one.twins x.others y.others free.1 too.1 in
+      let here = x.first.prints ∙ text-too telling line p q x.between y.between x.first.told y.first.told twins one ∙ sym y.first.prints in
+      (x.whole ∙ ap (λ (t : List ℕ). t ++ x.after) here ∙ ap (λ (t : List ℕ). y.before ++ t) rest.0 ∙ sym y.whole, rest.1)
+
+-- new players of one setup
+opening-twins : (setup : Setup) (fails : List Fail) (telling : Telling) (p q : Position _) → IsOpening setup fails telling p → IsOpening setup fails telling q → AreTwinPlayers memory.held p q
+opening-twins setup fails telling p q x y = record {
+  worlds = record {
+    setup = x.setup ∙ sym y.setup;
+    opening = x.cells ∙ sym y.cells;
+    trail = x.trail ∙ sym y.trail;
+    one_at = x.headline.is_at;
+    other_at = y.headline.is_at;
+  };
+  cursor = ap (λ (r : Position _). r.cursor) x.begins ∙ sym (ap (λ (r : Position _). r.cursor) y.begins);
+  cut = ap (λ (r : Position _). r.cut) x.begins ∙ sym (ap (λ (r : Position _). r.cut) y.begins);
+  noted = ap (λ (r : Position _). r.noted) x.begins ∙ sym (ap (λ (r : Position _). r.noted) y.begins);
+}
+
+module _ (setup : Setup) (fails : List Fail) (telling : Telling) (lines : List Line) (a b : FreePlay setup fails telling lines) where
+  abbrev both : (a.text ≡ b.text) × AreTwinPlayers memory.held a.end b.end
+  both = plays-too memory telling lines a.first b.first a.end b.end a.text b.text (opening-twins setup fails telling a.first b.first a.opens b.opens) a.plays b.plays a.free b.free
+
+  pub one-text : a.text ≡ b.text
+  one-text = both.0
+
+  pub one-trail : a.end.world.trail ≡ b.end.world.trail
+  one-trail = both.1.worlds.trail

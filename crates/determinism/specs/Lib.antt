@@ -1,0 +1,4 @@
+pub mod Plays
+pub mod Refusals
+pub mod Twins
+pub mod Unhindered
