@@ -17,6 +17,7 @@ use Rattle.pvp_world.specs.declared.fault.WorldFault.TheVariants as fault
 use Rattle.pvp_trace.specs.declared.attempt.Attempt.{Attempt}
 use Rattle.pvp_trace.specs.Attempts.{Attempts}
 use Rattle.pvp_play.specs.Player.{TriesIn, is_open, open_number, open_after, AreDelivered}
+use Rattle.pvp_play.proofs.Draining.{drop-drop, drop-length, numbers, open-more}
 use Rattle.pvp_play.proofs.Growing.{Grows, applies-grow}
 use Rattle.determinism.specs.Unhindered.{is_hindered, AreFree}
 use Rattle.determinism.specs.Twins.{AreTwins}
@@ -38,25 +39,6 @@ above-less : (a b : ℕ) (ns : List ℕ) → a ≤ b → AllAbove b ns → AllAb
 above-less a b [] low above = tt
 above-less a b (n ∷ ns) low above = (let more : b < n = above.0 in omega arith, above-less a b ns low above.1)
 
-drop-none : {A : Type 0} (k : ℕ) → ◌≡◌ {A = List A} (drop k []) []
-drop-none zero = refl
-drop-none (suc k) = refl
-
-drop-drop : {A : Type 0} (k j : ℕ) (xs : List A) → drop j (drop k xs) ≡ drop (k + j) xs
-drop-drop zero j xs = let e : 0 + j ≡ j = omega arith in ap (λ n. drop n xs) (sym e)
-drop-drop (suc k) j [] = drop-none j ∙ sym (drop-none (suc k + j))
-drop-drop (suc k) j (x ∷ xs) = let e : suc k + j ≡ suc (k + j) = omega arith in drop-drop k j xs ∙ ap (λ n. drop n (x ∷ xs)) (sym e)
-
-drop-append : {A : Type 0} (k : ℕ) (xs ys : List A) → k ≤ length xs → drop k (xs ++ ys) ≡ drop k xs ++ ys
-drop-append zero xs ys low = refl
-drop-append (suc k) [] ys low = absurd (omega arith)
-drop-append (suc k) (x ∷ xs) ys low = drop-append k xs ys (omega arith)
-
-drop-length : {A : Type 0} (k : ℕ) (xs : List A) → length (drop k xs) ≡ length xs - k
-drop-length zero xs = let e : length xs - 0 ≡ length xs = omega arith in sym e
-drop-length {A} (suc k) [] = let e : 0 ≡ 0 - suc k = omega arith in e
-drop-length (suc k) (x ∷ xs) = drop-length k xs ∙ omega arith
-
 heads : (m n : ℕ) (ms ns : List ℕ) → ◌≡◌ {A = List ℕ} (m ∷ ms) (n ∷ ns) → m ≡ n
 heads m n ms ns e = cc
 
@@ -68,14 +50,11 @@ empty n ns e = cc
 
 -- OPEN ENVELOPES of a list that is numbered from k
 module _ (cut : List ℕ) where
-  abbrev numbers : ℕ → List Envelope → List ℕ
-  numbers k es = filter_map (open_number cut) (enumerate_from k es)
-
-  above : (b k : ℕ) (es : List Envelope) → b < k → AllAbove b (numbers k es)
+  above : (b k : ℕ) (es : List Envelope) → b < k → AllAbove b (numbers cut k es)
   above b k [] low = tt
   above b k (e ∷ es) low = by (is_open cut e) (above b (k + 1) es (omega arith))
     where
-      by : (o : Bool) → AllAbove b (numbers (k + 1) es) → AllAbove b (cons_option (if o then Some k else None) (numbers (k + 1) es))
+      by : (o : Bool) → AllAbove b (numbers cut (k + 1) es) → AllAbove b (cons_option (if o then Some k else None) (numbers cut (k + 1) es))
       by true rest = (low, rest)
       by false rest = rest
 
@@ -83,39 +62,27 @@ module _ (cut : List ℕ) where
   record First (k n : ℕ) (ns : List ℕ) (es : List Envelope) : Type 0 where
     low : k ≤ n
     high : n < k + length es
-    rest : ns ≡ numbers (n + 1) (drop (n + 1 - k) es)
+    rest : ns ≡ numbers cut (n + 1) (drop (n + 1 - k) es)
 
-  first : (k n : ℕ) (ns : List ℕ) (es : List Envelope) → numbers k es ≡ n ∷ ns → First k n ns es
+  first : (k n : ℕ) (ns : List ℕ) (es : List Envelope) → numbers cut k es ≡ n ∷ ns → First k n ns es
   first k n ns [] e = absurd (empty n ns e)
   first k n ns (x ∷ es) e = by (is_open cut x) (first (k + 1) n ns es) e
     where
-      by : (o : Bool) → (numbers (k + 1) es ≡ n ∷ ns → First (k + 1) n ns es) → cons_option (if o then Some k else None) (numbers (k + 1) es) ≡ n ∷ ns → First k n ns (x ∷ es)
+      by : (o : Bool) → (numbers cut (k + 1) es ≡ n ∷ ns → First (k + 1) n ns es) → cons_option (if o then Some k else None) (numbers cut (k + 1) es) ≡ n ∷ ns → First k n ns (x ∷ es)
       by true later e =
-          let same : k ≡ n = heads k n (numbers (k + 1) es) ns e in
+          let same : k ≡ n = heads k n (numbers cut (k + 1) es) ns e in
           let one : n + 1 - k ≡ 1 = omega arith in
           record {
             low = omega arith;
             high = omega arith;
-            rest = sym (tails k n (numbers (k + 1) es) ns e) ∙ ap (λ j. numbers (j + 1) es) same ∙ ap (λ j. numbers (n + 1) (drop j (x ∷ es))) (sym one);
+            rest = sym (tails k n (numbers cut (k + 1) es) ns e) ∙ ap (λ j. numbers cut (j + 1) es) same ∙ ap (λ j. numbers cut (n + 1) (drop j (x ∷ es))) (sym one);
           }
       by false later e =
           let f = later e in
           let low = f.low in
           let high = f.high in
           let more : n + 1 - k ≡ suc (n + 1 - (k + 1)) = omega arith in
-          record { low = omega arith; high = omega arith; rest = f.rest ∙ ap (λ j. numbers (n + 1) (drop j (x ∷ es))) (sym more) }
-
-  numbers-append : (k : ℕ) (es fs : List Envelope) → numbers k (es ++ fs) ≡ numbers k es ++ numbers (k + length es) fs
-  numbers-append k [] fs = let e : k + 0 ≡ k = omega arith in ap (λ j. numbers j fs) (sym e)
-  numbers-append k (e ∷ es) fs = by (is_open cut e) (numbers-append (k + 1) es fs ∙ ap (λ j. numbers (k + 1) es ++ numbers j fs) shift)
-    where
-      shift : k + 1 + length es ≡ k + suc (length es)
-      shift = omega arith
-
-      by : (b : Bool) → numbers (k + 1) (es ++ fs) ≡ numbers (k + 1) es ++ numbers (k + suc (length es)) fs
-          → cons_option (if b then Some k else None) (numbers (k + 1) (es ++ fs)) ≡ cons_option (if b then Some k else None) (numbers (k + 1) es) ++ numbers (k + suc (length es)) fs
-      by true rest = ap (λ ns. k ∷ ns) rest
-      by false rest = rest
+          record { low = omega arith; high = omega arith; rest = f.rest ∙ ap (λ j. numbers cut (n + 1) (drop j (x ∷ es))) (sym more) }
 
   -- the next of a post, after the cursor
   record Next (cursor n : ℕ) (ns : List ℕ) (post : List Envelope) : Type 0 where
@@ -129,7 +96,7 @@ module _ (cut : List ℕ) where
       let low = f.low in
       let high : n < cursor + 1 + (length post - cursor) = subst (λ k. n < cursor + 1 + k) (drop-length cursor post) f.high in
       let all : cursor + (n + 1 - (cursor + 1)) ≡ n = omega arith in
-      record { low = omega arith; high = omega arith; rest = f.rest ∙ ap (λ es. numbers (n + 1) es) (drop-drop cursor (n + 1 - (cursor + 1)) post ∙ ap (λ k. drop k post) all) }
+      record { low = omega arith; high = omega arith; rest = f.rest ∙ ap (λ es. numbers cut (n + 1) es) (drop-drop cursor (n + 1 - (cursor + 1)) post ∙ ap (λ k. drop k post) all) }
 
   -- the next of a longer post is the next of the post, where it is within it
   next-early : (cursor n : ℕ) (ns : List ℕ) (post more : List Envelope) → cursor < n → n ≤ length post → open_after cut cursor (post ++ more) ≡ n ∷ ns
@@ -137,19 +104,16 @@ module _ (cut : List ℕ) where
   next-early cursor n ns post more low high e =
       by (open_after cut cursor post) refl
     where
-      parts : open_after cut cursor (post ++ more) ≡ open_after cut cursor post ++ numbers (length post + 1) more
-      parts =
-          let at : cursor + 1 + length (drop cursor post) ≡ length post + 1 = ap (λ k. cursor + 1 + k) (drop-length cursor post) ∙ omega arith in
-          ap (λ es. numbers (cursor + 1) es) (drop-append cursor post more (omega arith)) ∙ numbers-append (cursor + 1) (drop cursor post) more
-          ∙ ap (λ j. numbers (cursor + 1) (drop cursor post) ++ numbers j more) at
+      parts : open_after cut cursor (post ++ more) ≡ open_after cut cursor post ++ numbers cut (length post + 1) more
+      parts = open-more cut cursor post more (omega arith)
 
       by : (ms : List ℕ) → open_after cut cursor post ≡ ms → (ms : List ℕ) × (open_after cut cursor post ≡ n ∷ ms)
       by [] none =
-          let late = first (length post + 1) n ns more (sym (parts ∙ ap (λ ms. ms ++ numbers (length post + 1) more) none) ∙ e) in
+          let late = first (length post + 1) n ns more (sym (parts ∙ ap (λ ms. ms ++ numbers cut (length post + 1) more) none) ∙ e) in
           let far = late.low in
           absurd (omega arith)
       by (m ∷ ms) some =
-          let same : m ≡ n = heads m n (ms ++ numbers (length post + 1) more) ns (sym (parts ∙ ap (λ ms. ms ++ numbers (length post + 1) more) some) ∙ e) in
+          let same : m ≡ n = heads m n (ms ++ numbers cut (length post + 1) more) ns (sym (parts ∙ ap (λ ms. ms ++ numbers cut (length post + 1) more) some) ∙ e) in
           (ms, some ∙ ap (λ j. j ∷ ms) same)
 
 -- DELIVERIES

@@ -22,12 +22,12 @@ drop-all : {A : Type 0} (k : ℕ) → ◌≡◌ {A = List A} (drop k []) []
 drop-all zero = refl
 drop-all (suc k) = refl
 
-drop-length : {A : Type 0} (k : ℕ) (xs : List A) → length (drop k xs) ≡ length xs - k
+pub drop-length : {A : Type 0} (k : ℕ) (xs : List A) → length (drop k xs) ≡ length xs - k
 drop-length zero xs = let e : length xs - 0 ≡ length xs = omega arith in sym e
 drop-length {A} (suc k) [] = let e : 0 ≡ 0 - suc k = omega arith in e
 drop-length (suc k) (x ∷ xs) = drop-length k xs ∙ omega arith
 
-drop-drop : {A : Type 0} (k j : ℕ) (xs : List A) → drop j (drop k xs) ≡ drop (k + j) xs
+pub drop-drop : {A : Type 0} (k j : ℕ) (xs : List A) → drop j (drop k xs) ≡ drop (k + j) xs
 drop-drop zero j xs = let e : 0 + j ≡ j = omega arith in ap (λ n. drop n xs) (sym e)
 drop-drop (suc k) j [] = drop-all j ∙ sym (drop-all (suc k + j))
 drop-drop (suc k) j (x ∷ xs) = let e : suc k + j ≡ suc (k + j) = omega arith in drop-drop k j xs ∙ ap (λ n. drop n (x ∷ xs)) (sym e)
@@ -54,7 +54,7 @@ fold-last (m ∷ ns) a n = fold-last ns m n
 -- OPEN ENVELOPES
 
 module _ (cut : List ℕ) where
-  abbrev numbers : ℕ → List Envelope → List ℕ
+  abbrev pub numbers : ℕ → List Envelope → List ℕ
   numbers k es = filter_map (open_number cut) (enumerate_from k es)
 
   numbers-append : (k : ℕ) (es fs : List Envelope) → numbers k (es ++ fs) ≡ numbers k es ++ numbers (k + length es) fs
@@ -108,7 +108,7 @@ module _ (cut : List ℕ) where
             high = omega arith;
           }
 
-  open-more : (k : ℕ) (post more : List Envelope) → k ≤ length post → open_after cut k (post ++ more) ≡ open_after cut k post ++ numbers (length post + 1) more
+  pub open-more : (k : ℕ) (post more : List Envelope) → k ≤ length post → open_after cut k (post ++ more) ≡ open_after cut k post ++ numbers (length post + 1) more
   open-more k post more low =
       let at : k + 1 + length (drop k post) ≡ length post + 1 = ap (λ n. k + 1 + n) (drop-length k post) ∙ omega arith in
       ap (λ es. numbers (k + 1) es) (drop-append k post more low) ∙ numbers-append (k + 1) (drop k post) more
