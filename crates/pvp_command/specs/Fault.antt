@@ -1,10 +1,11 @@
 -- Which fault of a run each fault of its parts becomes.
+use Rattle.std.specs.Prelude.{ℕ}
 use Rattle.pvp_text.specs.declared.book.RunFault.{RunFault}
 use Rattle.pvp_text.specs.declared.book.RunFault.TheVariants as run
 use Rattle.pvp_text.specs.declared.setup.TextFault.{TextFault}
 use Rattle.pvp_text.specs.declared.setup.TextFault.TheVariants as text
 use Rattle.pvp_command.specs.declared.fault.Fault.{Fault}
-use Rattle.pvp_command.specs.declared.fault.Fault.TheVariants.{Setup, Line, File, Output, NoMemory}
+use Rattle.pvp_command.specs.declared.fault.Fault.TheVariants.{Setup, Line, NoSuchSite, File, Output, NoMemory}
 use Rattle.pvp_command.specs.declared.files.FileFault.{FileFault}
 use Rattle.pvp_command.specs.declared.files.FileFault.TheVariants as file
 
@@ -23,3 +24,12 @@ run_told run.Output = Output
 abbrev pub file_told : FileFault → Fault
 file_told file.Unread = File
 file_told file.NoMemory = NoMemory
+
+-- a site that is not there is a fault of the command line
+abbrev pub status_told : Fault → ℕ
+status_told (Setup fault) = 1
+status_told (Line line code) = 1
+status_told (NoSuchSite site) = 2
+status_told File = 1
+status_told Output = 1
+status_told NoMemory = 1

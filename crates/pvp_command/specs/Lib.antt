@@ -1,3 +1,3 @@
+pub mod Fails
 pub mod Fault
 pub mod Request
-pub mod Trace

@@ -1,5 +1,5 @@
 -- What a request writes, and which fault it tells, where the bytes of its files are known.
-use Rattle.std.specs.Prelude.{◌≡◌, ◌⊎◌, ℕ, List, [], Option, Ok, codes, IsOk}
+use Rattle.std.specs.Prelude.{◌≡◌, ◌⊎◌, ℕ, List, [], Option, Some, None, Ok, codes, IsOk}
 use Rattle.std.specs.Io.KnownBytes.{Appends}
 use Rattle.pvp_types.specs.declared.setup.Setup.{Setup}
 use Rattle.pvp_text.specs.declared.script.Line.{Line}
@@ -10,13 +10,15 @@ use Rattle.pvp_text.specs.Reading.{Faults}
 use Rattle.pvp_text.specs.SetupText.{setup_text, setup_where, text_fault_is_memory}
 use Rattle.pvp_text.specs.Script.{script_at}
 use Rattle.pvp_command.specs.declared.fault.Fault.{Fault}
-use Rattle.pvp_command.specs.declared.fault.Fault.TheVariants.{Output}
+use Rattle.pvp_command.specs.declared.fault.Fault.TheVariants.{NoSuchSite, Output}
 use Rattle.pvp_command.specs.declared.files.FileFault.{FileFault}
 use Rattle.pvp_command.specs.Fault.{text_told, run_told, file_told}
+use Rattle.pvp_command.specs.Fails.{unknown_site}
 use Rattle.pvp_text.specs.BookText.{book_text}
 use Rattle.vr_types.specs.declared.cell.MemCell.{MemCell}
 use Rattle.vr_types.specs.contracts.cell.MemCellBootCell.TheImpl.{ghosts as memory}
-use Rattle.pvp_play.specs.declared.notes.Telling.TheVariants.{Books}
+use Rattle.pvp_play.specs.declared.cells.Fail.{Fail}
+use Rattle.pvp_play.specs.declared.notes.Telling.{Telling}
 use Rattle.pvp_play.specs.Player.{Position}
 use Rattle.pvp_play.specs.Lines.{IsOpening, ArePlayed}
 
@@ -30,11 +32,17 @@ BookWrites setup script old new =
     (s : Setup) × (setup_text setup ≡ Ok s) × (lines : List Line) × (script_at Book s script ≡ Ok lines)
     × Appends old new (book_text s lines)
 
--- what the lines of a play print, from a new world of the setup on, over cells no save of which fails
-abbrev pub PlayWrites : List ℕ → List ℕ → Option (List ℕ) → Option (List ℕ) → Type 0
-PlayWrites setup script old new =
-    (s : Setup) × (setup_text setup ≡ Ok s) × (lines : List Line) × (script_at Play s script ≡ Ok lines)
-    × (first last : Position MemCell) × IsOpening s [] Books first × ArePlayed memory Books first lines last old new
+-- what the lines of a play tell, from a new world of the setup on, over new cells of which these saves are to fail: what
+-- they print, or the steps that they try
+abbrev pub PlaysScript : Telling → Setup → List Fail → List ℕ → Option (List ℕ) → Option (List ℕ) → Type 0
+PlaysScript telling s fails script old new =
+    (lines : List Line) × (script_at Play s script ≡ Ok lines)
+    × (first last : Position MemCell) × IsOpening s fails telling first × ArePlayed memory telling first lines last old new
+
+-- the setup has each site of which a save is to fail
+abbrev pub PlayWrites : Telling → List ℕ → List Fail → List ℕ → Option (List ℕ) → Option (List ℕ) → Type 0
+PlayWrites telling setup fails script old new =
+    (s : Setup) × (setup_text setup ≡ Ok s) × (unknown_site s fails ≡ None) × PlaysScript telling s fails script old new
 
 -- the fault of a file that may fail so
 abbrev pub TellsFile : (FileFault → Type 0) → Fault → Type 0
@@ -49,8 +57,22 @@ TellsSetup setup told =
 abbrev pub CheckTells : (FileFault → Type 0) → List ℕ → Fault → Type 0
 CheckTells fails setup told = TellsFile fails told ⊎ (TellsSetup setup told ⊎ (IsOk (setup_text setup) × (told ≡ Output)))
 
--- the fault of a script's run, on one book or in a world: a file's, the setup's, or the run's
+-- the fault of a script: its file's, or the run's
+abbrev pub TellsScript : (FileFault → Type 0) → Fault → Type 0
+TellsScript fails told = TellsFile fails told ⊎ ((fault : RunFault) × (told ≡ run_told fault))
+
+-- the fault of a script's run on one book: a file's, the setup's, or the script's
 abbrev pub RunTells : (FileFault → Type 0) → List ℕ → (FileFault → Type 0) → Fault → Type 0
 RunTells fails setup script_fails told =
-    TellsFile fails told ⊎ (TellsSetup setup told ⊎ (IsOk (setup_text setup)
-    × (TellsFile script_fails told ⊎ ((fault : RunFault) × (told ≡ run_told fault)))))
+    TellsFile fails told ⊎ (TellsSetup setup told ⊎ (IsOk (setup_text setup) × TellsScript script_fails told))
+
+-- a site of which a save is to fail is looked for before the script is read
+abbrev pub TellsPlay : Option ℕ → (FileFault → Type 0) → Fault → Type 0
+TellsPlay (Some site) script_fails told = told ≡ NoSuchSite site
+TellsPlay None script_fails told = TellsScript script_fails told
+
+-- the fault of a play: a file's, the setup's, that of a site that the setup lacks, or the script's
+abbrev pub PlayTells : (FileFault → Type 0) → List ℕ → List Fail → (FileFault → Type 0) → Fault → Type 0
+PlayTells fails setup saves script_fails told =
+    TellsFile fails told ⊎ (TellsSetup setup told
+    ⊎ ((s : Setup) × (setup_text setup ≡ Ok s) × TellsPlay (unknown_site s saves) script_fails told))

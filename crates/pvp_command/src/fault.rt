@@ -13,6 +13,9 @@ pub enum Fault {
     /// A line of the script is faulty.
     #[error("fault line {line} {code}")]
     Line { line: u32, code: LineCode },
+    /// A save is to fail of a site that the setup lacks.
+    #[error("error: the setup has no site {0}, of which a save is to fail")]
+    NoSuchSite(u16),
     /// A file could not be read.
     #[error("fault file")]
     File,

@@ -1,11 +1,11 @@
 //! The program behind `pvpsim`, over its words, its files and its two outputs; `pvpsim` itself only hands these over.
 #![tactic(auto)]
 
+pub mod fails;
 pub mod fault;
 pub mod files;
 pub mod program;
 pub mod request;
-pub mod traces;
 
 pub use fault::Fault;
 pub use files::{Disk, FileFault, Files};

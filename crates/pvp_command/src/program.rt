@@ -1,13 +1,17 @@
 //! The whole program, over its words, its files and its two outputs.
 
 ghost use Rattle.std.specs.Prelude.{◌≡◌, ◌≢◌, true, false, OnOk, OnErr, IfErr, IfSome};
-ghost use Rattle.pvp_command.specs.Request.{CheckWrites, CheckTells, BookWrites, PlayWrites, RunTells};
+ghost use Rattle.pvp_types.specs.Setup.{IsValid};
+ghost use Rattle.pvp_command.specs.Fault.{status_told};
+ghost use Rattle.pvp_command.specs.Request.{CheckWrites, CheckTells, BookWrites, PlayWrites, RunTells, PlayTells, PlaysScript, TellsScript};
 
+use crate::fails::unknown_site;
 use crate::fault::Fault;
 use crate::files::Files;
 use crate::request::{Request, is_help, parse};
-use crate::traces::trace;
+use pvp_play::{Fail, Telling, play_failing, trace};
 use pvp_text::{read_setup, run_book};
+use pvp_types::Setup;
 use std::alloc::Global;
 use std::convert::AsStr;
 use std::io::{ErrorKind, Write};
@@ -50,10 +54,11 @@ pub fn command<S: AsStr, F: Files, O: Write, E: Write>(
 /// The status of a run that was asked for.
 fn status_of(told: Result<(), Fault>) -> u8
     ensures ok { OnOk told (result ≡ 0) }
-    ensures err { OnErr told (result ≡ 1) }
+    ensures err { IfErr told (λ fault. result ≡ status_told fault) }
 {
     match told {
         Ok(()) => DONE,
+        Err(Fault::NoSuchSite(_)) => NO_FORM,
         Err(_) => FAULT,
     }
 }
@@ -86,8 +91,12 @@ fn run<F: Files, O: Write>(
     match request {
         Request::Check { setup } => check(alloc, files, setup, out),
         Request::Book { setup, script } => book(alloc, files, setup, script, out),
-        Request::Play { setup, script } => play(alloc, files, setup, script, out),
-        Request::Trace { setup, script } => trace(alloc, files, setup, script, out),
+        Request::Play {
+            telling,
+            setup,
+            script,
+            fails,
+        } => play(alloc, files, telling, setup, script, fails.as_slice(), out),
     }
 }
 
@@ -132,23 +141,49 @@ fn book<F: Files, O: Write>(
     Ok(())
 }
 
-/// Plays a script in a world.
+/// Plays a script in a world, where some saves are to fail.
 fn play<F: Files, O: Write>(
     alloc: Global,
     files: &F,
+    telling: Telling,
     setup: &str,
     script: &str,
+    fails: &[Fail],
     out: &mut O,
 ) -> Result<(), Fault>
     ensures ok { OnOk result (IfSome (F.known files.now setup.now) (λ setup_bytes.
         IfSome (F.known files.now script.now) (λ script_bytes.
-        PlayWrites setup_bytes script_bytes (O.contents out.old) (O.contents out.new)))) }
+        PlayWrites telling setup_bytes fails.now script_bytes (O.contents out.old) (O.contents out.new)))) }
     ensures err { IfErr result (λ fault. IfSome (F.known files.now setup.now) (λ setup_bytes.
-        RunTells (F.fails files.now setup.now) setup_bytes (F.fails files.now script.now) fault)) }
+        PlayTells (F.fails files.now setup.now) setup_bytes fails.now (F.fails files.now script.now) fault)) }
 {
     let bytes = files.read(alloc, setup)?;
     let bank = read_setup(alloc, bytes.as_slice())?;
+    if let Some(site) = unknown_site(&bank, fails) {
+        return Err(Fault::NoSuchSite(site));
+    }
+    play_script(alloc, files, telling, &bank, script, fails, out)
+}
+
+/// Plays a script in a world of a setup, where some saves are to fail.
+fn play_script<F: Files, O: Write>(
+    alloc: Global,
+    files: &F,
+    telling: Telling,
+    setup: &Setup,
+    script: &str,
+    fails: &[Fail],
+    out: &mut O,
+) -> Result<(), Fault>
+    requires { IsValid setup.now }
+    ensures ok { OnOk result (IfSome (F.known files.now script.now) (λ bytes.
+        PlaysScript telling setup.now fails.now bytes (O.contents out.old) (O.contents out.new))) }
+    ensures err { IfErr result (TellsScript (F.fails files.now script.now)) }
+{
     let lines = files.read(alloc, script)?;
-    pvp_play::play(alloc, &bank, lines.as_slice(), out)?;
+    match telling {
+        Telling::Books => play_failing(alloc, setup, fails, lines.as_slice(), out)?,
+        Telling::Steps => trace(alloc, setup, fails, lines.as_slice(), out)?,
+    }
     Ok(())
 }

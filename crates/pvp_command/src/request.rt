@@ -2,42 +2,68 @@
 
 ghost use Rattle.std.specs.Prelude.{◌≡◌, ◌≢◌, true, false};
 
+use crate::fails::read_fails;
 use clap::error::ErrorKind;
-use clap::{Arg, ArgAction, Command, Error};
+use clap::{Arg, ArgAction, ArgMatches, Command, Error};
+use pvp_play::{Fail, Telling};
 use std::alloc::{AllocError, Global};
 use std::convert::AsStr;
 
 /// What the program is asked for, with the names of the files.
-#[derive(Clone, Copy, Debug, PartialEq, Eq)]
+#[derive(Debug, Drop)]
 pub enum Request<'a> {
     /// Whether a setup meets the rules.
-    Check { setup: &'a str },
+    Check {
+        setup: &'a str,
+    },
     /// A script, run on one book.
-    Book { setup: &'a str, script: &'a str },
-    /// A script, played in a world.
-    Play { setup: &'a str, script: &'a str },
-    /// A script, played in a world, with each step told.
-    Trace { setup: &'a str, script: &'a str },
+    Book {
+        setup: &'a str,
+        script: &'a str,
+    },
+    /// A script, played in a world, what is told of that, and the saves that are to fail there: of each site one at most.
+    Play {
+        telling: Telling,
+        setup: &'a str,
+        script: &'a str,
+        fails: Vec<Fail>,
+    },
 }
 
 /// The request that the words are, the program's own name first.
 pub fn parse<'a, S: AsStr>(alloc: Global, words: &'a [S]) -> Result<Option<Request<'a>>, Error> {
-    let matches = program(alloc)?.try_get_matches_from(words)?;
+    let mut program = program(alloc)?;
+    let matches = program.try_get_matches_from_mut(words)?;
     match matches.subcommand() {
         Some(("check", inner)) => Ok(inner.get_str("setup").map(|setup| Request::Check { setup })),
         Some(("book", inner)) => match (inner.get_str("setup"), inner.get_str("script")) {
             (Some(setup), Some(script)) => Ok(Some(Request::Book { setup, script })),
             _ => Ok(None),
         },
-        Some(("play", inner)) => match (inner.get_str("setup"), inner.get_str("script")) {
-            (Some(setup), Some(script)) => Ok(Some(Request::Play { setup, script })),
-            _ => Ok(None),
-        },
-        Some(("trace", inner)) => match (inner.get_str("setup"), inner.get_str("script")) {
-            (Some(setup), Some(script)) => Ok(Some(Request::Trace { setup, script })),
-            _ => Ok(None),
-        },
+        Some(("play", inner)) => parse_play(alloc, &mut program, Telling::Books, inner),
+        Some(("trace", inner)) => parse_play(alloc, &mut program, Telling::Steps, inner),
         _ => Ok(None),
+    }
+}
+
+/// The play that the words are, and the saves that they want to fail.
+fn parse_play<'a>(
+    alloc: Global,
+    program: &mut Command<'a>,
+    telling: Telling,
+    words: &ArgMatches<'a>,
+) -> Result<Option<Request<'a>>, Error> {
+    let (Some(setup), Some(script)) = (words.get_str("setup"), words.get_str("script")) else {
+        return Ok(None);
+    };
+    match read_fails(alloc, words.get_strs("fail").unwrap_or(&[]))? {
+        Some(fails) => Ok(Some(Request::Play {
+            telling,
+            setup,
+            script,
+            fails,
+        })),
+        None => Err(program.error(ErrorKind::ValueValidation, NO_FAILS)?),
     }
 }
 
@@ -58,6 +84,15 @@ const SETUP_HELP: &str =
     "A setup: a JSON file with the sites, the currencies and the members of the bank";
 
 const SCRIPT_HELP: &str = "A script: a text file with one statement a line";
+
+const FAIL_HELP: &str =
+    "Lets a save of a site's boot cell fail; may stand once for each site. SITE is the number of a site, AT counts its saves \
+from 1 and is at most 65535, and the cell then holds the new value at `new` and the one before at `old`. Numbers have no leading zero";
+
+/// What is told of words that name no saves.
+const NO_FAILS: &str =
+    "`--fail` takes SITE:AT:KEEP, and each site once: SITE and AT are numbers up to 65535 without a leading zero, AT is \
+not 0, and KEEP is `new` or `old`";
 
 /// The forms of the program's words.
 fn program<'a>(alloc: Global) -> Result<Command<'a>, AllocError> {
@@ -80,14 +115,16 @@ fn program<'a>(alloc: Global) -> Result<Command<'a>, AllocError> {
         )
         .after_help(MORE)
         .arg(file(alloc, "setup", SETUP_HELP))?
-        .arg(file(alloc, "script", SCRIPT_HELP))?;
+        .arg(file(alloc, "script", SCRIPT_HELP))?
+        .arg(fail(alloc))?;
     let trace = Command::new(alloc, "trace")
         .about(
             "Plays a script as `play` does, and prints each step that it tries, what came of it, and the envelopes that it sent, by their numbers",
         )
         .after_help(MORE)
         .arg(file(alloc, "setup", SETUP_HELP))?
-        .arg(file(alloc, "script", SCRIPT_HELP))?;
+        .arg(file(alloc, "script", SCRIPT_HELP))?
+        .arg(fail(alloc))?;
     Command::new(alloc, "pvpsim")
         .about("A settlement bank for payment-versus-payment foreign exchange")
         .version("0.1.0")
@@ -105,4 +142,13 @@ fn file<'a>(alloc: Global, id: &'a str, help: &'a str) -> Arg<'a> {
         .help(help)
         .required(true)
         .action(ArgAction::Set)
+}
+
+/// A save that is to fail.
+fn fail<'a>(alloc: Global) -> Arg<'a> {
+    Arg::new(alloc, "fail")
+        .long("fail")
+        .value_name("SITE:AT:KEEP")
+        .help(FAIL_HELP)
+        .action(ArgAction::Append)
 }

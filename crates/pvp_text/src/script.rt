@@ -52,9 +52,11 @@ mod words;
 
 use crate::script::forms::read_line;
 use crate::script::words::next_line;
+pub use fields::amount;
 use pvp_types::{Cmd, Setup};
 use std::alloc::{AllocFailed, Global};
 use std::fmt;
+pub use words::cut;
 
 /// What a script is run on, which decides what lines it may have.
 #[derive(Clone, Copy, Debug, PartialEq, Eq)]

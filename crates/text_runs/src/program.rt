@@ -1,3 +1,5 @@
+mod cuts;
+mod fails;
 mod plays;
 mod traces;
 mod worked;
@@ -248,6 +250,11 @@ const ASKS: &[(&[&str], &str)] = &[
     (
         &["pvpsim", "book", "--help"],
         "A script: a text file with one statement a line",
+    ),
+    (&["pvpsim", "play", "--help"], "--fail <SITE:AT:KEEP>"),
+    (
+        &["pvpsim", "play", "--help"],
+        "Lets a save of a site's boot cell fail; may stand once for each site.",
     ),
 ];
 

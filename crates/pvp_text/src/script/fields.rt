@@ -38,7 +38,7 @@ fn are_digits(word: &[u8]) -> bool
     word.iter().all(|c| c.is_ascii_digit())
 }
 
-/// A number of 64 bits.
+/// A number of 64 bits, in digits without a leading zero; `Number` where a word is none.
 #[tactic(auto, using(crate::proofs::ScriptNumbers::no_text))]
 pub fn amount(word: &[u8]) -> Result<u64, LineCode>
     ensures { result ≡ number_at (2 ^ 64) word.now }

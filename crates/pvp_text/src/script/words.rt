@@ -8,7 +8,7 @@ use crate::script::LineCode;
 
 /// What stands before the first such byte, and what stands after it; all and nothing where there is
 /// none.
-fn cut(bytes: &[u8], byte: u8) -> (&[u8], &[u8])
+pub fn cut(bytes: &[u8], byte: u8) -> (&[u8], &[u8])
     ensures before { result.0.now ≡ before_first (λ b. b == byte) bytes.now }
     ensures after { result.1.now ≡ after_first (λ b. b == byte) bytes.now }
 {
