@@ -1,0 +1,229 @@
+//! Streams that end anywhere, that fail, and whose bytes were altered, each posted at a new actor.
+use crate::frames::{ANSWER, COMMIT, ORDER, Pieces, commit_with, ten_frames, whole_frames};
+use fixtures::setup::three_currencies;
+use pvp_book::Book;
+use pvp_peers::{PeerEnd, Why, serve_peer};
+use pvp_rooms::{ClientCell, Gate, NodeCell, SiteCell};
+use pvp_wire::{Stamp, WireFault, decode};
+use std::alloc::Global;
+use std::process::Abort;
+use std::sync::Wait;
+use std::test::Fail;
+use vr_types::{Config, MemCell};
+
+/// A gate that anyone may pass.
+struct Open;
+
+impl Gate for Open {
+    fn enter(&self, _actor: u16) {}
+
+    fn leave(&self, _actor: u16) {}
+}
+
+/// How a stream ends at a new site 1, and the stamps of what the seat has receipts of.
+fn served<R: Abort + Wait + AllocGlobal>(
+    rt: &R,
+    mut stream: Pieces<'_>,
+) -> Result<(PeerEnd, Vec<Option<Stamp>>), Fail> {
+    let alloc = rt.alloc();
+    let setup = three_currencies(alloc)?;
+    let config = Config { f: 1, me: 1 };
+    let (cell, mut seats) = SiteCell::<Book, MemCell>::new(
+        alloc,
+        config,
+        setup,
+        MemCell::new(),
+        1,
+    )?;
+    let Some(mut seat) = seats.pop() else {
+        return Err(Fail::new("a seat"));
+    };
+    let end = serve_peer(rt, alloc, &cell, &mut seat, &mut stream, &Open);
+    let mut stamps = Vec::new(alloc);
+    for receipt in seat.receipts() {
+        stamps.push(receipt.stamp)?;
+    }
+    seats.push(seat)?;
+    match cell.close(seats) {
+        Ok(closed) => assert_eq!(rt; closed.history.len(), stamps.len()),
+        Err(_) => assert!(rt; false, "the only seat"),
+    }
+    Ok((end, stamps))
+}
+
+/// What is at the front of a stream: the stamps of its frames, and why there are no more.
+fn read(alloc: Global, bytes: &[u8]) -> Result<(Vec<Option<Stamp>>, Why), Fail> {
+    let mut stamps = Vec::new(alloc);
+    let mut rest = bytes;
+    for _ in 0..bytes.len() {
+        if rest.is_empty() {
+            break;
+        }
+        match decode(alloc, rest) {
+            Ok((frame, size)) => {
+                stamps.push(Some(frame.stamp))?;
+                rest = rest.get(size..).unwrap_or(&[]);
+            }
+            Err(WireFault::Short) => return Ok((stamps, Why::Cut(rest.len()))),
+            Err(fault) => return Ok((stamps, Why::Wire(fault))),
+        }
+    }
+    Ok((stamps, Why::End))
+}
+
+/// Serves bytes in pieces of a size, and compares the end and each receipt.
+fn ends<R: Abort + Wait + AllocGlobal>(
+    rt: &R,
+    stream: Pieces<'_>,
+    want: PeerEnd,
+    stamps: &[Option<Stamp>],
+) -> Result<(), Fail> {
+    let (end, got) = served(rt, stream)?;
+    assert_eq!(rt; end, want);
+    assert_eq!(rt; got.len(), want.frames);
+    for (stamp, wanted) in got.iter().zip(stamps) {
+        assert!(rt; stamp == wanted);
+    }
+    Ok(())
+}
+
+/// The rows of short streams: part of a second frame, nothing, a frame of another version, and a clock that has no
+/// greater one.
+#[test]
+fn worked_ends(rt: HostRuntime) -> Result<(), Fail> {
+    let alloc = rt.alloc();
+    let mut twice = Vec::from_slice(alloc, &COMMIT)?;
+    twice.extend_from_slice(&COMMIT)?;
+    let mut version = Vec::from_slice(alloc, &COMMIT)?;
+    version.extend_from_slice(&commit_with(4, &[9]))?;
+    let spent = commit_with(8, &[255; 8]);
+    for (bytes, frames, why) in [
+        (&twice.as_slice()[..40], 1, Why::Cut(12)),
+        (twice.as_slice(), 2, Why::End),
+        (&[], 0, Why::End),
+        (version.as_slice(), 1, Why::Wire(WireFault::Version)),
+        (spent.as_slice(), 0, Why::Clock),
+    ] {
+        for size in [4096, 28, 5, 1] {
+            let stream = Pieces {
+                left: bytes,
+                size,
+                good: None,
+            };
+            let (end, stamps) = served(&rt, stream)?;
+            assert_eq!(rt; end, PeerEnd { frames, why }, "in pieces of {size}");
+            assert_eq!(rt; stamps.len(), frames);
+        }
+    }
+    Ok(())
+}
+
+#[test]
+fn a_stream_is_cut_at_each_byte(rt: HostRuntime) -> Result<(), Fail> {
+    let bytes = ten_frames(rt.alloc())?;
+    let (stamps, _) = read(rt.alloc(), bytes.as_slice())?;
+    assert_eq!(rt; stamps.len(), 10);
+    for at in 0..bytes.len() + 1 {
+        let (frames, left) = whole_frames(at);
+        let why = if left == 0 { Why::End } else { Why::Cut(left) };
+        for size in [4096, 11, 1] {
+            let stream = Pieces {
+                left: &bytes.as_slice()[..at],
+                size,
+                good: None,
+            };
+            ends(&rt, stream, PeerEnd { frames, why }, stamps.as_slice())?;
+        }
+    }
+    Ok(())
+}
+
+/// The read that would find the end fails too.
+#[test]
+fn a_reader_fails_at_each_read(rt: HostRuntime) -> Result<(), Fail> {
+    let bytes = ten_frames(rt.alloc())?;
+    let (stamps, _) = read(rt.alloc(), bytes.as_slice())?;
+    for good in 0..bytes.len() + 1 {
+        let (frames, _) = whole_frames(good);
+        let stream = Pieces {
+            left: bytes.as_slice(),
+            size: 1,
+            good: Some(good),
+        };
+        let want = PeerEnd {
+            frames,
+            why: Why::Read,
+        };
+        ends(&rt, stream, want, stamps.as_slice())?;
+    }
+    Ok(())
+}
+
+/// One byte of the stream becomes another. What comes of it is the frames at the front of what the bytes then are, and an
+/// end that only bytes can lead to.
+#[test]
+fn each_byte_is_altered(rt: HostRuntime) -> Result<(), Fail> {
+    let alloc = rt.alloc();
+    let bytes = ten_frames(alloc)?;
+    for (at, byte) in bytes.as_slice().iter().copied().enumerate() {
+        for other in [0, 255, byte ^ 1] {
+            let mut altered = Vec::from_slice(alloc, bytes.as_slice())?;
+            if let Some(place) = altered.as_mut_slice().get_mut(at) {
+                *place = other;
+            }
+            let (stamps, why) = read(alloc, altered.as_slice())?;
+            let named = match why {
+                Why::End | Why::Cut(_) => true,
+                Why::Wire(fault) => fault != WireFault::Short && fault != WireFault::NoMemory,
+                Why::Read | Why::Memory | Why::Clock => false,
+            };
+            assert!(rt; named, "{other} at {at}");
+            let stream = Pieces {
+                left: altered.as_slice(),
+                size: 4096,
+                good: None,
+            };
+            let want = PeerEnd {
+                frames: stamps.len(),
+                why,
+            };
+            ends(&rt, stream, want, stamps.as_slice())?;
+        }
+    }
+    Ok(())
+}
+
+#[test]
+fn a_node_and_a_client_are_served(rt: HostRuntime) -> Result<(), Fail> {
+    let alloc = rt.alloc();
+    let setup = three_currencies(alloc)?;
+    let want = PeerEnd {
+        frames: 1,
+        why: Why::End,
+    };
+    let (node, mut seats) = NodeCell::new(alloc, &setup, 1, 1)?;
+    if let Some(mut seat) = seats.pop() {
+        let mut order = Pieces {
+            left: &ORDER,
+            size: 4096,
+            good: None,
+        };
+        assert_eq!(rt;
+            serve_peer(&rt, alloc, &node, &mut seat, &mut order, &Open),
+            want
+        );
+    }
+    let (client, mut seats) = ClientCell::new(alloc, &setup, 1, 1)?;
+    if let Some(mut seat) = seats.pop() {
+        let mut answer = Pieces {
+            left: &ANSWER,
+            size: 4096,
+            good: None,
+        };
+        assert_eq!(rt;
+            serve_peer(&rt, alloc, &client, &mut seat, &mut answer, &Open),
+            want
+        );
+    }
+    Ok(())
+}
