@@ -71,13 +71,7 @@ fn each_step_is_told(rt: HostRuntime) -> Result<(), Fail> {
         keep: true,
     }];
     let mut out: Vec<u8> = Vec::new(alloc);
-    trace(
-        alloc,
-        &setup,
-        fails.as_slice(),
-        SCRIPT.as_bytes(),
-        &mut out,
-    )?;
+    trace(alloc, &setup, fails.as_slice(), SCRIPT.as_bytes(), &mut out)?;
     assert_eq!(rt; str::from_utf8(out.as_slice())?, TRACED);
     Ok(())
 }
