@@ -8,23 +8,20 @@ use std::test::Fail;
 /// Plays a script where saves are to fail, and compares all that comes out of it.
 fn plays<R: Abort + AllocGlobal>(
     rt: &R,
-    fails: &[&str],
+    words: &[&str],
     script: &str,
     printed: &str,
 ) -> Result<(), Fail> {
-    let mut words = Vec::from_slice(
-        rt.alloc(),
-        ["pvpsim", "play", "setup.json", "script.txt"].as_slice(),
-    )?;
-    for fail in fails {
-        words.push("--fail")?;
-        words.push(fail)?;
-    }
     let files = TwoFiles {
         setup: SETUP,
         script,
     };
-    runs(rt, words.as_slice(), &files, (0, printed, ""))
+    runs(rt, words, &files, (0, printed, ""))
+}
+
+/// The words of a play where one save is to fail.
+fn one<'a>(fail: &'a str) -> [&'a str; 6] {
+    ["pvpsim", "play", "setup.json", "script.txt", "--fail", fail]
 }
 
 /// What is printed of a site where nothing was done yet.
@@ -64,7 +61,7 @@ fn a_restart_whose_save_fails(rt: HostRuntime) -> Result<(), Fail> {
         let before = books_of(&rt, (0, 1), down)?;
         let after = books_of(&rt, (0, 1), up)?;
         let printed = format!(in rt.alloc(); "refused 2 S2\n{before}{after}refused 6 G1\n")?;
-        plays(&rt, &[fail], script, printed.as_str())?;
+        plays(&rt, one(fail).as_slice(), script, printed.as_str())?;
     }
     Ok(())
 }
@@ -79,7 +76,7 @@ fn two_restarts_one_of_which_fails(rt: HostRuntime) -> Result<(), Fail> {
     for (fail, up) in cases {
         let books = books_of(&rt, (0, 2), up)?;
         let printed = format!(in rt.alloc(); "refused 2 S2\n{books}")?;
-        plays(&rt, &[fail], script, printed.as_str())?;
+        plays(&rt, one(fail).as_slice(), script, printed.as_str())?;
     }
     Ok(())
 }
@@ -92,7 +89,7 @@ fn a_second_save_fails(rt: HostRuntime) -> Result<(), Fail> {
     for (fail, down) in cases {
         let books = books_of(&rt, (0, 2), down)?;
         let printed = format!(in rt.alloc(); "refused 4 S2\n{books}")?;
-        plays(&rt, &[fail], script, printed.as_str())?;
+        plays(&rt, one(fail).as_slice(), script, printed.as_str())?;
     }
     Ok(())
 }
@@ -101,13 +98,24 @@ fn a_second_save_fails(rt: HostRuntime) -> Result<(), Fail> {
 #[test]
 fn saves_of_several_sites_fail(rt: HostRuntime) -> Result<(), Fail> {
     let script = "crash s1\ncrash s2\nrestart s1\nrestart s2\nrestart s0\n";
+    let three = [
+        "pvpsim",
+        "play",
+        "--fail",
+        "1:1:old",
+        "setup.json",
+        "--fail=2:1:new",
+        "script.txt",
+        "--fail",
+        "0:65535:old",
+    ];
     plays(
         &rt,
-        &["1:1:old", "2:1:new", "0:65535:old"],
+        three.as_slice(),
         script,
         "refused 3 S2\nrefused 4 S2\nrefused 5 S4\n",
     )?;
-    plays(&rt, &["1:2:old"], script, "refused 5 S4\n")
+    plays(&rt, one("1:2:old").as_slice(), script, "refused 5 S4\n")
 }
 
 /// Words that are no SITE:AT:KEEP.
