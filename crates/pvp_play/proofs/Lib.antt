@@ -6,6 +6,8 @@ pub mod Growing
 pub mod Draining
 pub mod LinesLemmas
 pub mod NotesLemmas
+-- who makes notes
+pub mod Noting
 pub mod PlayerLemmas
 -- cells that do not fail
 pub mod Reliable

@@ -1,5 +1,5 @@
 -- What the lines of a script play, and what they print.
-use Rattle.std.specs.Prelude.{◌≡◌, ◌≢◌, ◌⊎◌, ℕ, ◌+◌, ◌*◌, ◌<◌, nat_lt, if◌then◌else◌, List, [], ◌∷◌, ◌++◌, length, take, replicate, slice_get, codes, decimal, Option, Some, None, Result, Ok, Err}
+use Rattle.std.specs.Prelude.{◌≡◌, ◌≢◌, ◌⊎◌, ℕ, ◌+◌, ◌*◌, ◌<◌, nat_lt, if◌then◌else◌, List, [], ◌∷◌, ◌++◌, length, take, replicate, slice_get, codes, decimal, Option, Some, None, is_some, Result, Ok, Err}
 use Rattle.std.specs.Io.KnownBytes.{Appends}
 use Rattle.pvp_types.specs.declared.setup.Setup.{Setup}
 use Rattle.pvp_types.specs.declared.command.Cmd.{Cmd}
@@ -140,14 +140,15 @@ abbrev pub Plays : {B : Type 0} → Cell B → Telling → List Line → Positio
 Plays c telling [] old new text = (new ≡ old) × (text ≡ [])
 Plays c telling (line ∷ lines) old new text = PlaysBoth (PlaysLine c telling line) (Plays c telling lines) old new text
 
--- Lines were played up to here, and what they print was appended. Here the headline holds, and cells whose saves do not
--- fail are so still.
+-- Lines were played up to here, and what they print was appended. Here the headline holds, cells whose saves do not fail are
+-- so still, and notes are made where they were at first.
 pub record ArePlayed {B : Type 0} (c : Cell B) (telling : Telling) (first : Position B) (lines : List Line) (end : Position B) (old new : Option (List ℕ)) : Type 0 where
   pub text : List ℕ
   pub plays : Plays c telling lines first end text
   pub written : Appends old new text
   pub headline : IsProved c.held end.world
   pub reliable : AreReliable c first.world → AreReliable c end.world
+  pub noted : is_some end.noted ≡ is_some first.noted
 
 -- Memory was refused for a line: those before it were played, and what they print was appended.
 pub record AreStopped {B : Type 0} (c : Cell B) (telling : Telling) (first : Position B) (lines : List Line) (last : Position B) (old new : Option (List ℕ)) : Type 0 where

@@ -4,6 +4,7 @@ use Rattle.std.proofs.lemmas.Option.{slice_get-get_or}
 use Rattle.pvp_world.specs.World.{IsProved}
 use Rattle.pvp_play.specs.Lines.{ArePlayed}
 use Rattle.pvp_play.proofs.LinesLemmas.{Plays-more, written-more, end-stopped}
+use Rattle.pvp_play.proofs.Noting.{plays-note}
 use Rattle.pvp_play.proofs.Reliable.{plays-keep}
 use Rattle.pvp_play.proofs.lines.play_lines.Goals as goal
 
@@ -33,6 +34,7 @@ returns-in_err-text g c =
         written = c.loop-line.invariant.2;
         headline = subst (IsProved g.C.BootCell.held) c.world.ensures c.is_proved.ensures;
         reliable = plays-keep g.C.BootCell c.args.telling _ c.args.player.now c.loop-line.player c.loop-line.invariant.0 c.loop-line.invariant.1;
+        noted = plays-note g.C.BootCell c.args.telling _ c.args.player.now c.loop-line.player c.loop-line.invariant.0 c.loop-line.invariant.1;
       };
       stops = c.in_err-text.ensures.stopped;
     })
@@ -47,4 +49,5 @@ returns g c =
       written = c.loop-line.invariant.2;
       headline = subst (IsProved g.C.BootCell.held) c.world-2.ensures c.is_proved-2.ensures;
       reliable = plays-keep g.C.BootCell c.args.telling _ c.args.player.now c.loop-line.player c.loop-line.invariant.0 c.loop-line.invariant.1;
+      noted = plays-note g.C.BootCell c.args.telling _ c.args.player.now c.loop-line.player c.loop-line.invariant.0 c.loop-line.invariant.1;
     })
