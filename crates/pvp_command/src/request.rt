@@ -94,46 +94,53 @@ const NO_FAILS: &str =
     "`--fail` takes SITE:AT:KEEP, and each site once: SITE and AT are numbers up to 65535 without a leading zero, AT is \
 not 0, and KEEP is `new` or `old`";
 
+const CHECK_ABOUT: &str =
+    "Tells whether a setup meets the rules: prints `setup ok`, or the first rule that is broken";
+
+const BOOK_ABOUT: &str =
+    "Runs a script on one book: prints the answer to each command, and the book where the script asks";
+
+const PLAY_ABOUT: &str =
+    "Plays a script in a world of all sites, nodes and clients, with lost, repeated and reordered messages, crashes and \
+restarts: prints refused steps, and the books where the script asks";
+
+const TRACE_ABOUT: &str =
+    "Plays a script as `play` does, and prints each step that it tries, what came of it, and the envelopes that it sent, \
+by their numbers";
+
 /// The forms of the program's words.
 fn program<'a>(alloc: Global) -> Result<Command<'a>, AllocError> {
-    let check = Command::new(alloc, "check")
-        .about(
-            "Tells whether a setup meets the rules: prints `setup ok`, or the first rule that is broken",
-        )
-        .after_help(MORE)
-        .arg(file(alloc, "setup", SETUP_HELP))?;
-    let book = Command::new(alloc, "book")
-        .about(
-            "Runs a script on one book: prints the answer to each command, and the book where the script asks",
-        )
-        .after_help(MORE)
-        .arg(file(alloc, "setup", SETUP_HELP))?
-        .arg(file(alloc, "script", SCRIPT_HELP))?;
-    let play = Command::new(alloc, "play")
-        .about(
-            "Plays a script in a world of all sites, nodes and clients, with lost, repeated and reordered messages, crashes and restarts: prints refused steps, and the books where the script asks",
-        )
-        .after_help(MORE)
-        .arg(file(alloc, "setup", SETUP_HELP))?
-        .arg(file(alloc, "script", SCRIPT_HELP))?
-        .arg(fail(alloc))?;
-    let trace = Command::new(alloc, "trace")
-        .about(
-            "Plays a script as `play` does, and prints each step that it tries, what came of it, and the envelopes that it sent, by their numbers",
-        )
-        .after_help(MORE)
-        .arg(file(alloc, "setup", SETUP_HELP))?
-        .arg(file(alloc, "script", SCRIPT_HELP))?
-        .arg(fail(alloc))?;
     Command::new(alloc, "pvpsim")
         .about("A settlement bank for payment-versus-payment foreign exchange")
         .version("0.1.0")
         .after_help(MORE)
         .subcommand_required(true)
-        .subcommand(check)?
-        .subcommand(book)?
-        .subcommand(play)?
-        .subcommand(trace)
+        .subcommand(with_setup(alloc, "check", CHECK_ABOUT)?)?
+        .subcommand(with_script(alloc, "book", BOOK_ABOUT)?)?
+        .subcommand(with_fails(alloc, "play", PLAY_ABOUT)?)?
+        .subcommand(with_fails(alloc, "trace", TRACE_ABOUT)?)
+}
+
+/// A command that takes a setup.
+fn with_setup<'a>(alloc: Global, name: &'a str, about: &'a str) -> Result<Command<'a>, AllocError> {
+    Command::new(alloc, name)
+        .about(about)
+        .after_help(MORE)
+        .arg(file(alloc, "setup", SETUP_HELP))
+}
+
+/// One that takes a script too.
+fn with_script<'a>(
+    alloc: Global,
+    name: &'a str,
+    about: &'a str,
+) -> Result<Command<'a>, AllocError> {
+    with_setup(alloc, name, about)?.arg(file(alloc, "script", SCRIPT_HELP))
+}
+
+/// One that takes saves that are to fail too.
+fn with_fails<'a>(alloc: Global, name: &'a str, about: &'a str) -> Result<Command<'a>, AllocError> {
+    with_script(alloc, name, about)?.arg(fail(alloc))
 }
 
 /// A file that has to be named.
