@@ -165,7 +165,7 @@ fn play<F: Files, O: Write>(
     play_script(alloc, files, telling, &bank, script, fails, out)
 }
 
-/// Plays a script in a world of a setup, where some saves are to fail.
+/// Plays a script in a world of a setup, where some saves are to fail, and tells what is asked for.
 fn play_script<F: Files, O: Write>(
     alloc: Global,
     files: &F,
@@ -180,10 +180,46 @@ fn play_script<F: Files, O: Write>(
         PlaysScript telling setup.now fails.now bytes (O.contents out.old) (O.contents out.new))) }
     ensures err { IfErr result (TellsScript (F.fails files.now script.now)) }
 {
-    let lines = files.read(alloc, script)?;
     match telling {
-        Telling::Books => play_failing(alloc, setup, fails, lines.as_slice(), out)?,
-        Telling::Steps => trace(alloc, setup, fails, lines.as_slice(), out)?,
+        Telling::Books => print_script(alloc, files, setup, script, fails, out),
+        Telling::Steps => trace_script(alloc, files, setup, script, fails, out),
     }
+}
+
+/// Prints what the lines of a script print.
+fn print_script<F: Files, O: Write>(
+    alloc: Global,
+    files: &F,
+    setup: &Setup,
+    script: &str,
+    fails: &[Fail],
+    out: &mut O,
+) -> Result<(), Fault>
+    requires { IsValid setup.now }
+    ensures ok { OnOk result (IfSome (F.known files.now script.now) (λ bytes.
+        PlaysScript Telling.Books setup.now fails.now bytes (O.contents out.old) (O.contents out.new))) }
+    ensures err { IfErr result (TellsScript (F.fails files.now script.now)) }
+{
+    let lines = files.read(alloc, script)?;
+    play_failing(alloc, setup, fails, lines.as_slice(), out)?;
+    Ok(())
+}
+
+/// Prints the steps that the lines of a script try.
+fn trace_script<F: Files, O: Write>(
+    alloc: Global,
+    files: &F,
+    setup: &Setup,
+    script: &str,
+    fails: &[Fail],
+    out: &mut O,
+) -> Result<(), Fault>
+    requires { IsValid setup.now }
+    ensures ok { OnOk result (IfSome (F.known files.now script.now) (λ bytes.
+        PlaysScript Telling.Steps setup.now fails.now bytes (O.contents out.old) (O.contents out.new))) }
+    ensures err { IfErr result (TellsScript (F.fails files.now script.now)) }
+{
+    let lines = files.read(alloc, script)?;
+    trace(alloc, setup, fails, lines.as_slice(), out)?;
     Ok(())
 }
