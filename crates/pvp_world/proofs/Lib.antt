@@ -10,6 +10,8 @@ mod Sites
 pub mod Sent
 -- how a world moves
 mod Moving
+-- falls that are told
+mod Falling
 -- what a step tells of saves
 mod Saves
 -- the headline where a trail leads

@@ -41,7 +41,8 @@ use Rattle.pvp_world.specs.declared.report.Report.{Report}
 use Rattle.pvp_world.specs.Client as client
 use Rattle.pvp_world.specs.World.{Shown, world_of, AreEach, IsSite, IsNode, IsClient, ShowsBank, IsAt}
 use Rattle.pvp_world.specs.Steps.{IsReport, Moves, IsTaken, HasFallen, IsRefused, IsWhy, is_fall, is_world_fall, told_as}
-use Rattle.pvp_world.specs.Serving.{IsServed, IsUnserved}
+use Rattle.pvp_world.specs.Serving.{IsServed, IsUnserved, IsDown, IsKept}
+use Rattle.pvp_world.proofs.Sites.{refusal-stays}
 
 -- one event at a turn
 same-event : (j i : ℕ) (event : EventOf Cmd Answer PaymentOrder) → ◌≡◌ {A = Option Turn} (Some (OfSite j Crash)) (Some (OfSite i event)) → event ≡ Crash
@@ -166,33 +167,45 @@ module _ {B : Type 0} (held : B → Boot) (setup : Setup) (first : List Boot) (s
         }
 
     -- A SITE'S FALL
+    pub site-down : (i : ℕ) (event : EventOf Cmd Answer PaymentOrder) (v new : replica.Shown Cmd Setup B) (posted : List Envelope) (trailed : List Move) (cell : Boot)
+        → turn post step ≡ Some (OfSite i event) → slice_get sites i ≡ Some v → cell ≡ held new.cell
+        → ((x : Site Cmd) (choose : Choice Cmd) → IsRight (faults setup) choose → IsSite held setup i v x → IsDown held setup choose i x event new)
+        → posted ≡ post → trailed ≡ trail ++ Falls step cell ∷ []
+        → Moves held old (world_of setup first (slice_set sites i new) nodes clients posted trailed) (Falls step cell)
+    unfolding moved
+    site-down i event v new posted trailed cell is there cell_is goes kept noted =
+        let x = other-there sites bank.sites i v at.shows.sites.count there in
+        let down = goes x.0 choose at.list.right (at.shows.sites.each i v x.0 there x.1) in
+        let y = over cell Down in
+        let same = ap (λ (k : Boot). over {C = Cmd} k Down) (sym cell_is) in
+        moved at (Falls step cell) (record bank { sites = slice_set bank.sites i y }) (world_of setup first (slice_set sites i new) nodes clients posted trailed)
+        (record {
+          turn_is = OfSite i event;
+          has_turn = turns (OfSite i event) is;
+          falls = record { before = x.0; is_there = x.1; falls = subst (λ z. IsFall x.0 (site_step {R = Answer} {O = PaymentOrder} choose (faults setup) i x.0 event) z) same down.falls; leads = refl };
+        })
+        (record {
+          sites = set-each (IsSite held setup) sites bank.sites i new y at.shows.sites (subst (λ z. IsSite held setup i new z) same down.site);
+          nodes = at.shows.nodes;
+          clients = at.shows.clients;
+          post = kept ∙ at.shows.post;
+        })
+        refl refl noted
+
     pub site-fell : (i : ℕ) (event : EventOf Cmd Answer PaymentOrder) (v new : replica.Shown Cmd Setup B) (posted : List Envelope) (trailed : List Move) (fault : SiteFault) (cell : Boot)
         → turn post step ≡ Some (OfSite i event) → slice_get sites i ≡ Some v → is_fall fault ≡ true → cell ≡ held new.cell
         → ((x : Site Cmd) (choose : Choice Cmd) → IsRight (faults setup) choose → IsSite held setup i v x → IsUnserved held setup choose i x event v new post posted fault)
         → trailed ≡ trail ++ Falls step cell ∷ []
         → HasFallen held old (world_of setup first (slice_set sites i new) nodes clients posted trailed) step
-    unfolding moved
+    unfolding site-down moved
     site-fell i event v new posted trailed fault cell is there falls cell_is serves noted =
         let x = other-there sites bank.sites i v at.shows.sites.count there in
         let served = serves x.0 choose at.list.right (at.shows.sites.each i v x.0 there x.1) in
         let fell = served.fell falls in
-        let y = over cell Down in
-        let same = ap (λ (k : Boot). over {C = Cmd} k Down) (sym cell_is) in
         record {
           cell = cell;
-          moves = moved at (Falls step cell) (record bank { sites = slice_set bank.sites i y }) (world_of setup first (slice_set sites i new) nodes clients posted trailed)
-              (record {
-                turn_is = OfSite i event;
-                has_turn = turns (OfSite i event) is;
-                falls = record { before = x.0; is_there = x.1; falls = subst (λ z. IsFall x.0 (site_step {R = Answer} {O = PaymentOrder} choose (faults setup) i x.0 event) z) same fell.falls; leads = refl };
-              })
-              (record {
-                sites = set-each (IsSite held setup) sites bank.sites i new y at.shows.sites (subst (λ z. IsSite held setup i new z) same fell.site);
-                nodes = at.shows.nodes;
-                clients = at.shows.clients;
-                post = served.sent ∙ at.shows.post;
-              })
-              refl refl noted;
+          moves = site-down i event v new posted trailed cell is there cell_is
+              (λ x choose right shown. let f = (serves x choose right shown).fell falls in record { falls = f.falls; site = f.site }) served.sent noted;
           handled = fell.handled;
           no_crash = λ site crash. fell.no_crash (same-event site i event (sym (ap (λ (s : Step). turn post s) crash) ∙ is));
         }
@@ -220,6 +233,13 @@ module _ {B : Type 0} (held : B → Boot) (setup : Setup) (first : List Boot) (s
         ∙ ap (λ p. world_of setup first sites nodes clients p trailed) served.sent
         ∙ ap (λ t. world_of setup first sites nodes clients post t) noted
 
+    named-refusal : (i : ℕ) (event : EventOf Cmd Answer PaymentOrder) (v : replica.Shown Cmd Setup B) {x : Site Cmd} → IsSite held setup i v x
+        → refusal {R = Answer} {O = PaymentOrder} v.f v.me (site_shown held v []) event ≡ refusal (faults setup) i x event
+    named-refusal i event v {x} shown =
+        ap (λ (f : ℕ). refusal {R = Answer} {O = PaymentOrder} f v.me (site_shown held v x.collected.acks) event) shown.f
+        ∙ ap (λ (me : ℕ). refusal {R = Answer} {O = PaymentOrder} (faults setup) me (site_shown held v x.collected.acks) event) shown.me
+        ∙ ap (λ (y : Site Cmd). refusal {R = Answer} {O = PaymentOrder} (faults setup) i y event) (sym shown.site)
+
     pub site-refuses : (i : ℕ) (event : EventOf Cmd Answer PaymentOrder) (v new : replica.Shown Cmd Setup B) (posted : List Envelope) (trailed : List Move) (fault : SiteFault)
         → turn post step ≡ Some (OfSite i event) → slice_get sites i ≡ Some v → is_fall fault ≡ false
         → ((x : Site Cmd) (choose : Choice Cmd) → IsRight (faults setup) choose → IsSite held setup i v x → IsUnserved held setup choose i x event v new post posted fault)
@@ -230,15 +250,24 @@ module _ {B : Type 0} (held : B → Boot) (setup : Setup) (first : List Boot) (s
         let shown = at.shows.sites.each i v x.0 there x.1 in
         let served = serves x.0 choose at.list.right shown in
         record {
-          kept = λ no. (site-stays i event v new posted trailed fault there stays serves noted, (OfSite i event, is, (v, there, named shown ∙ (served.refused stays).1)));
+          kept = λ no. (site-stays i event v new posted trailed fault there stays serves noted, (OfSite i event, is, (v, there, named-refusal i event v shown ∙ (served.refused stays).1)));
           fell = λ yes. absurd (true≢false (sym yes ∙ stays));
         }
-      where
-        named : {x : Site Cmd} → IsSite held setup i v x → refusal {R = Answer} {O = PaymentOrder} v.f v.me (site_shown held v []) event ≡ refusal (faults setup) i x event
-        named {x} shown =
-            ap (λ (f : ℕ). refusal {R = Answer} {O = PaymentOrder} f v.me (site_shown held v x.collected.acks) event) shown.f
-            ∙ ap (λ (me : ℕ). refusal {R = Answer} {O = PaymentOrder} (faults setup) me (site_shown held v x.collected.acks) event) shown.me
-            ∙ ap (λ (y : Site Cmd). refusal {R = Answer} {O = PaymentOrder} (faults setup) i y event) (sym shown.site)
+
+    -- a site refuses to fall
+    pub site-keeps : (i : ℕ) (event : EventOf Cmd Answer PaymentOrder) (v new : replica.Shown Cmd Setup B) (trailed : List Move) (fault : SiteFault)
+        → turn post step ≡ Some (OfSite i event) → slice_get sites i ≡ Some v
+        → ((x : Site Cmd) (choose : Choice Cmd) → IsRight (faults setup) choose → IsSite held setup i v x → IsKept setup i x event v new fault)
+        → trailed ≡ trail
+        → (world_of setup first (slice_set sites i new) nodes clients post trailed ≡ old) × IsWhy held old step (OfSiteFault fault) × (is_fall fault ≡ false)
+    site-keeps i event v new trailed fault is there keeps noted =
+        let x = other-there sites bank.sites i v at.shows.sites.count there in
+        let shown = at.shows.sites.each i v x.0 there x.1 in
+        let kept = keeps x.0 choose at.list.right shown in (
+          ap (λ s. world_of setup first s nodes clients post trailed) (ap (λ n. slice_set sites i n) kept.same ∙ set-same sites i v there) ∙ ap (λ t. world_of setup first sites nodes clients post t) noted,
+          (OfSite i event, is, (v, there, named-refusal i event v shown ∙ kept.refused)),
+          refusal-stays (faults setup) i x.0 event fault kept.refused,
+        )
 
     -- A NODE'S TURN
     pub node-taken : (i : ℕ) (event : NodeEvent) (v new : node.Shown) (sent posted : List Envelope) (trailed : List Move) (report : Report)

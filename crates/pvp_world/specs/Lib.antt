@@ -3,3 +3,4 @@ pub mod Fault
 pub mod Serving
 pub mod Steps
 pub mod World
+pub mod Falling

@@ -36,6 +36,22 @@ pub record HasFallen {B : Type 0} (held : B → Boot) (setup : Setup) (choose : 
   pub no_crash : event ≢ Crash
   pub site : IsSite held setup i new (over (held new.cell) Down)
 
+-- it is down in place of a step that it does not refuse, over what its cell then holds
+pub record IsDown {B : Type 0} (held : B → Boot) (setup : Setup) (choose : Choice Cmd) (i : ℕ) (x : Site Cmd) (event : EventOf Cmd Answer PaymentOrder) (new : replica.Shown Cmd Setup B) : Type 0 where
+  pub falls : IsFall x (site_step {R = Answer} {O = PaymentOrder} choose (faults setup) i x event) (over (held new.cell) Down)
+  pub site : IsSite held setup i new (over (held new.cell) Down)
+
+-- it refuses, and is as it was
+pub record IsKept {B : Type 0} (setup : Setup) (i : ℕ) (x : Site Cmd) (event : EventOf Cmd Answer PaymentOrder) (old new : replica.Shown Cmd Setup B) (fault : SiteFault) : Type 0 where
+  pub same : new ≡ old
+  pub refused : refusal {R = Answer} {O = PaymentOrder} (faults setup) i x event ≡ Some fault
+
+-- so of each site of a bank that the replica shows
+abbrev pub GoesDown : {A B : Type 0} → (B → Boot) → Setup → ℕ → replica.Shown Cmd Setup B → replica.Shown Cmd Setup B → EventOf Cmd Answer PaymentOrder → Result A SiteFault → Type 0
+GoesDown held setup i old new event result =
+    (x : Site Cmd) (choose : Choice Cmd) → IsRight (faults setup) choose → IsSite held setup i old x
+    → MatchResult result (λ _. IsDown held setup choose i x event new) (IsKept setup i x event old new)
+
 -- it refuses, and is as it was; or it fell
 pub record IsUnserved {B : Type 0} (held : B → Boot) (setup : Setup) (choose : Choice Cmd) (i : ℕ) (x : Site Cmd) (event : EventOf Cmd Answer PaymentOrder) (old new : replica.Shown Cmd Setup B) (post posted : List Envelope) (fault : SiteFault) : Type 0 where
   pub sent : posted ≡ post

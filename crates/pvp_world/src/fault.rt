@@ -24,6 +24,15 @@ pub enum WorldFault {
     NoMemory,
 }
 
+/// Why a fall was not taken as it was told.
+#[derive(Clone, Copy, Debug, PartialEq, Eq)]
+pub enum FallFault {
+    /// Why its step would not be taken, or that it is no site's (G2); S1 or S2 where the site so met another value.
+    Step(WorldFault),
+    /// G6: the site's cell then holds another value: neither the old one nor what the step saves.
+    Elsewhere,
+}
+
 /// Prints the fault's code; of an actor's fault that fault's own: S1 to S7, N1 to N7 or C1.
 impl fmt::Display for WorldFault {
     ghost use Rattle.std.specs.Prelude.{Some};

@@ -11,7 +11,7 @@ mod turn;
 pub mod world;
 
 pub use client::Client;
-pub use fault::WorldFault;
+pub use fault::{FallFault, WorldFault};
 pub use headline::{Move, Step};
 pub use report::Report;
 pub use turn::{FIRST_NODE, FIRST_SITE};

@@ -1,6 +1,8 @@
 ghost use Rattle.std.specs.Prelude.{◌≡◌, ◌≢◌, ◌+◌, ◌*◌, ◌<◌, ◌==◌, ◌-◌, ◌≤◌, [], true, false, None, Some, Err, List, length, map, slice_get, if◌then◌else◌, IfOk, OnOk, IfErr, OnErr, option_map, vec_len, vec_capacity};
 ghost use Rattle.pvp_world.specs.Steps.{told_as};
 
+mod falls;
+
 use crate::client::Client;
 use crate::fault::WorldFault;
 use crate::opening::{clients_of, held_by, nodes_of, sites_over};

@@ -1,0 +1,53 @@
+-- What a world does with a fall that is told by its step and by what the cell then holds.
+use Rattle.std.specs.Prelude.{◌≡◌, ◌≢◌, ◌⊎◌, Bool, true, false, slice_get, Some, Result, Ok, Err}
+use Rattle.pvp_types.specs.declared.setup.Setup.{Setup}
+use Rattle.pvp_types.specs.declared.command.Cmd.{Cmd}
+use Rattle.vr_types.specs.declared.cell.Boot.{Boot}
+use Rattle.vr_site.specs.Replica as replica
+use Rattle.headline.specs.declared.step.Step.{Step}
+use Rattle.headline.specs.declared.step.Move.TheVariants.{Falls}
+use Rattle.headline.specs.declared.step.Turn.{Turn}
+use Rattle.headline.specs.declared.step.Turn.TheVariants.{OfSite, OfNode, OfClient}
+use Rattle.pvp_world.specs.World.{Shown}
+use Rattle.pvp_world.specs.Steps.{Moves, InTurn, IsWhy, is_world_fall}
+use Rattle.pvp_world.specs.declared.fault.WorldFault.{WorldFault}
+use Rattle.pvp_world.specs.declared.fault.WorldFault.TheVariants.{NoSuchActor}
+use Rattle.pvp_world.specs.declared.fault.FallFault.{FallFault}
+use Rattle.pvp_world.specs.declared.fault.FallFault.TheVariants.{Step as OfStep, Elsewhere}
+
+abbrev pub is_of_site : Turn → Bool
+is_of_site (OfSite i event) = true
+is_of_site (OfNode c event) = false
+is_of_site (OfClient k event) = false
+
+-- the cell of the site whose turn it is does not hold this
+abbrev pub HoldsAnother : {B : Type 0} → (B → Boot) → Shown B → Boot → Turn → Type 0
+HoldsAnother {B} held world cell (OfSite i event) = (v : replica.Shown Cmd Setup B) × (slice_get world.sites i ≡ Some v) × (held v.cell ≢ cell)
+HoldsAnother held world cell _ = ⊥
+
+-- the site fell in place of the step over another value than this, which was not the old one either
+pub record FellElsewhere {B : Type 0} (held : B → Boot) (old new : Shown B) (step : Step) (cell : Boot) : Type 0 where
+  pub other : Boot
+  pub is_other : other ≢ cell
+  pub was_another : InTurn old step (HoldsAnother held old cell)
+  pub moves : Moves held old new (Falls step other)
+
+-- why the step has no fall: as it is not taken, or it is no site's
+abbrev pub IsWhyNot : {B : Type 0} → (B → Boot) → Shown B → Step → WorldFault → Type 0
+IsWhyNot held world step fault = IsWhy held world step fault ⊎ ((fault ≡ NoSuchActor) × InTurn world step (λ t. is_of_site t ≡ false))
+
+-- the world is as it was; but where the site met want of memory or a failed save, it fell elsewhere
+pub record IsUnfallen {B : Type 0} (held : B → Boot) (old new : Shown B) (step : Step) (cell : Boot) (fault : WorldFault) : Type 0 where
+  pub kept : is_world_fall fault ≡ false → (new ≡ old) × IsWhyNot held old step fault
+  pub fell : is_world_fall fault ≡ true → FellElsewhere held old new step cell
+
+-- what a fall over another value is told as
+abbrev pub is_miss : FallFault → Bool
+is_miss Elsewhere = true
+is_miss (OfStep fault) = is_world_fall fault
+
+-- THE FALL IS THE MOVE, or there is none, or it is another
+abbrev pub FallsTo : {B : Type 0} → (B → Boot) → Shown B → Shown B → Step → Boot → Result (Unit {0}) FallFault → Type 0
+FallsTo held old new step cell (Ok _) = Moves held old new (Falls step cell)
+FallsTo held old new step cell (Err Elsewhere) = FellElsewhere held old new step cell
+FallsTo held old new step cell (Err (OfStep fault)) = IsUnfallen held old new step cell fault
