@@ -23,7 +23,7 @@ use Rattle.pvp_rooms.specs.declared.site.CameOf.TheVariants.{Did, Fell}
 use Rattle.pvp_rooms.specs.Sites.{SiteState, step_in, Comes, after, IsSiteOf, Opens, Shows}
 
 -- an event that ended so is not refused
-ended_allowed : (dropped : Option Why) → is_refused (ended dropped) ≡ false
+pub ended_allowed : (dropped : Option Why) → is_refused (ended dropped) ≡ false
 ended_allowed None = refl
 ended_allowed (Some why) = refl
 
@@ -36,13 +36,17 @@ module _ {H C R O S B : Type 0} (m : Ghosts H C R O S) (c : Cell B) where
   refusal_is v acks Crash = refl
   refusal_is v acks Restart = refl
 
+  pub refusal_of : (v : Shown C S B) (x : SiteState H C) (event : EventOf C R O) → Shows m c v x
+      → refusal x.f x.me x.site event ≡ refusal v.f v.me (site_shown c.held v []) event
+  refusal_of v x event shows =
+      (λ i. refusal (shows.is.f i) (shows.is.me i) (shows.site i) event) ∙ refusal_is v x.site.collected.acks event
+
   pub refused : (v : Shown C S B) (x : SiteState H C) (event : EventOf C R O) (why : SiteFault) → Shows m c v x
       → Some why ≡ refusal v.f v.me (site_shown c.held v []) event → refusal x.f x.me x.site event ≡ Some why
-  refused v x event why shows h =
-      (λ i. refusal (shows.is.f i) (shows.is.me i) (shows.site i) event) ∙ refusal_is v x.site.collected.acks event ∙ sym h
+  refused v x event why shows h = refusal_of v x event shows ∙ sym h
 
   -- it is still the site that it was
-  still : (old new : Shown C S B) (x : SiteState H C) → KeepsPlace old new → IsSiteOf m old x → IsSiteOf m new x
+  pub still : (old new : Shown C S B) (x : SiteState H C) → KeepsPlace old new → IsSiteOf m old x → IsSiteOf m new x
   still old new x place is = record { f = is.f ∙ sym place.f; me = is.me ∙ sym place.me; start = is.start ∙ ap m.start (sym place.setup); right = is.right }
 
   -- what opens after an event that keeps the place opens before it

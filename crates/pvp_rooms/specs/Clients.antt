@@ -1,20 +1,21 @@
 -- A client as an actor: a state is what it shows.
-use Rattle.std.specs.Prelude.{◌≡◌, List, Result, Ok, Err}
+use Rattle.std.specs.Prelude.{◌≡◌, ◌⊎◌, List, Some, Result, Ok, Err}
 use Rattle.rtgs_node.specs.Node.{Envelope}
 use Rattle.headline.specs.declared.step.ClientEvent.{ClientEvent}
 use Rattle.headline.specs.declared.step.ClientFault.{ClientFault}
+use Rattle.headline.specs.declared.step.ClientFault.TheVariants.{NoMemory}
 use Rattle.headline.specs.Client.{opening_client}
-use Rattle.pvp_world.specs.Client.{Shown, step_of, IsStep, IsRefusal}
+use Rattle.pvp_world.specs.Client.{Shown, step_of, IsStep}
 
 -- the state after an event that came out so: a refusal changes nothing
 abbrev pub after : Shown → ClientEvent → Result (List Envelope) ClientFault → Shown
 after x event (Ok sent) = record x { client = (step_of x event).client }
 after x event (Err fault) = x
 
--- how an event can come out: as the client's step sends, or as it refuses
+-- how an event can come out: as the client's step sends, or as it refuses; want of memory may always be
 abbrev pub Comes : Shown → ClientEvent → Result (List Envelope) ClientFault → Type 0
 Comes x event (Ok sent) = IsStep x (after x event (Ok sent)) (step_of x event) sent
-Comes x event (Err fault) = IsRefusal x x (step_of x event) fault
+Comes x event (Err fault) = (fault ≡ NoMemory) ⊎ ((step_of x event).fault ≡ Some fault)
 
 -- a client opens as one that has asked for nothing
 abbrev pub Opens : Shown → Shown → Type 0

@@ -1,20 +1,21 @@
 -- A node as an actor: a state is what it shows.
-use Rattle.std.specs.Prelude.{◌≡◌, ℕ, true, List, length, Result, Ok, Err}
+use Rattle.std.specs.Prelude.{◌≡◌, ◌⊎◌, ℕ, true, List, length, Some, Result, Ok, Err}
 use Rattle.pvp_book.specs.Answer.{has_member}
 use Rattle.rtgs_node.specs.declared.event.NodeEvent.{NodeEvent}
 use Rattle.rtgs_node.specs.declared.fault.NodeFault.{NodeFault}
+use Rattle.rtgs_node.specs.declared.fault.NodeFault.TheVariants.{NoMemory}
 use Rattle.rtgs_node.specs.Node.{Envelope, opening_node, account, member_account}
-use Rattle.rtgs_node.specs.Shown.{Shown, step_of, IsStep, IsRefusal}
+use Rattle.rtgs_node.specs.Shown.{Shown, step_of, IsStep}
 
 -- the state after an event that came out so: a refusal changes nothing
 abbrev pub after : Shown → NodeEvent → Result (List Envelope) NodeFault → Shown
 after x event (Ok sent) = record x { node = (step_of x event).node }
 after x event (Err fault) = x
 
--- how an event can come out: as the node's step sends, or as it refuses
+-- how an event can come out: as the node's step sends, or as it refuses; want of memory may always be
 abbrev pub Comes : Shown → NodeEvent → Result (List Envelope) NodeFault → Type 0
 Comes x event (Ok sent) = IsStep x (after x event (Ok sent)) (step_of x event) sent
-Comes x event (Err fault) = IsRefusal x x (step_of x event) fault
+Comes x event (Err fault) = (fault ≡ NoMemory) ⊎ ((step_of x event).fault ≡ Some fault)
 
 -- a node opens as one that has handled nothing
 abbrev pub Opens : Shown → Shown → Type 0
@@ -23,6 +24,7 @@ Opens v x = x ≡ record v { node = opening_node }
 -- what the node's reading calls show is of this state: of the returned orders they show how many there are
 pub record Reads (v x : Shown) : Type 0 where
   pub account : account v.node ≡ account x.node
+  pub count : length v.setup.members ≡ length x.setup.members
   pub members : (m : ℕ) → has_member v.setup m ≡ true → member_account v.setup v.ccy m v.node ≡ member_account x.setup x.ccy m x.node
   pub pay_ins : v.node.pay_ins ≡ x.node.pay_ins
   pub pay_outs : v.node.pay_outs ≡ x.node.pay_outs

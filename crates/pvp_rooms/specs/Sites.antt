@@ -1,5 +1,5 @@
 -- A replica as an actor: its states, and how events come out.
-use Rattle.std.specs.Prelude.{◌≡◌, ◌⊎◌, ℕ, List, Option, Some}
+use Rattle.std.specs.Prelude.{◌≡◌, ◌⊎◌, ◌<◌, ℕ, List, Option, Some}
 use Rattle.vr_types.specs.declared.cell.Boot.{Boot}
 use Rattle.vr_types.specs.declared.cell.BootCell.{Ghosts as Cell}
 use Rattle.vr_types.specs.declared.event.EventOf.{EventOf}
@@ -10,7 +10,7 @@ use Rattle.vr_types.specs.declared.machine.Machine.{Ghosts}
 use Rattle.vr_types.specs.declared.message.EnvelopeOf.{EnvelopeOf}
 use Rattle.vr_types.specs.Choice.{Choice, IsRight}
 use Rattle.vr_types.specs.Handling.{IsFall, envelopes, refusal, site_step}
-use Rattle.vr_types.specs.Site.{Site, over, opening_site}
+use Rattle.vr_types.specs.Site.{Site, over, opening_site, boot_of}
 use Rattle.vr_types.specs.Step.{Step}
 use Rattle.vr_log.specs.Outcomes.{ended}
 use Rattle.vr_log.specs.Running.{SumUp}
@@ -65,11 +65,11 @@ pub record Shows {H C R O S B : Type 0} (m : Ghosts H C R O S) (c : Cell B) (v :
   pub acks : SumUp v.volatile.acked x.site.collected.acks
   pub site : x.site ≡ site_shown c.held v x.site.collected.acks
 
--- what the replica's reading calls show, but for its machine, is this site's
+-- what the replica's reading calls show, but for its machine, is this site's: of what it knows each number, and a group has at most seven sites
 pub record Reads {H C S B : Type 0} (c : Cell B) (v : Shown C S B) (x : SiteState H C) : Type 0 where
   pub status : v.volatile.status ≡ x.site.status
   pub view : v.volatile.view ≡ x.site.view
   pub log : v.volatile.log ≡ x.site.log
   pub done : v.volatile.done ≡ x.site.done
-  pub known : v.volatile.known ≡ x.site.known
+  pub known : (i : ℕ) → i < 7 → boot_of v.volatile.known i ≡ boot_of x.site.known i
   pub cell : c.held v.cell ≡ x.site.cell

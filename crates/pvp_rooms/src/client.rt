@@ -1,5 +1,5 @@
 //! A client as an actor.
-ghost use Rattle.std.specs.Prelude.{◌≡◌, ◌≤◌, length, IfOk};
+ghost use Rattle.std.specs.Prelude.{◌≡◌, ◌≤◌, length, IfOk, IfErr, OnErr};
 ghost use Rattle.pvp_rooms.specs.Closing.{fresh_seats};
 
 use crate::actor::Actor;
@@ -13,7 +13,8 @@ use pvp_world::Client;
 use std::alloc::{AllocError, Global};
 
 impl Actor for Client {
-    ghost use Rattle.pvp_world.specs.Client.{Shown};
+    ghost use Rattle.pvp_world.specs.Client.{Shown, IsRefusal, step_of};
+    ghost use Rattle.pvp_rooms.specs.Histories.{Takes};
     ghost use Rattle.pvp_rooms.specs.Clients.{Opens, Comes, Reads, after};
 
     /// It opens as one that has asked for nothing.
@@ -39,7 +40,15 @@ impl Actor for Client {
         &mut self,
         alloc: Global,
         event: ClientEvent,
-    ) -> Result<Copies<Told<ClientFault>>, AllocError> {
+    ) -> Result<Copies<Told<ClientFault>>, AllocError>
+        ensures step { IfOk result (λ copies. (x : Shown) → x ≡ self.old → Takes Comes after x event copies.answered (λ y. y ≡ self.new)) }
+        ensures opens { (opening : Unit {0}) (x : Shown) → Opens self.new x → Opens self.old x }
+        ensures recorded { IfOk result (λ copies. copies.recorded ≡ copies.answered) }
+        ensures receipted { IfOk result (λ copies. copies.receipted ≡ copies.answered) }
+        ensures err { OnErr result (self.new ≡ self.old) }
+        // Want of memory is told only where the step takes memory.
+        ensures told { IfOk result (λ copies. IfErr copies.answered (IsRefusal self.old self.new (step_of self.old event))) }
+    {
         let room = SentRoom::new(alloc, self.faults())?;
         Ok(match self.handle(alloc, event) {
             Ok(sent) => room.copies(alloc, sent),

@@ -1,5 +1,5 @@
 //! A node as an actor.
-ghost use Rattle.std.specs.Prelude.{◌≡◌, ◌<◌, length, IfOk};
+ghost use Rattle.std.specs.Prelude.{◌≡◌, ◌<◌, length, IfOk, IfErr, OnErr};
 ghost use Rattle.pvp_book.specs.Ledger.{node_of};
 ghost use Rattle.pvp_rooms.specs.Closing.{fresh_seats};
 
@@ -14,7 +14,8 @@ use rtgs_node::{Node, NodeEvent, NodeFault};
 use std::alloc::{AllocError, Global};
 
 impl Actor for Node {
-    ghost use Rattle.rtgs_node.specs.Shown.{Shown};
+    ghost use Rattle.rtgs_node.specs.Shown.{Shown, IsRefusal, step_of};
+    ghost use Rattle.pvp_rooms.specs.Histories.{Takes};
     ghost use Rattle.pvp_rooms.specs.Nodes.{Opens, Comes, Reads, after};
 
     /// It opens as its setup says.
@@ -40,7 +41,15 @@ impl Actor for Node {
         &mut self,
         alloc: Global,
         event: NodeEvent,
-    ) -> Result<Copies<Told<NodeFault>>, AllocError> {
+    ) -> Result<Copies<Told<NodeFault>>, AllocError>
+        ensures step { IfOk result (λ copies. (x : Shown) → x ≡ self.old → Takes Comes after x event copies.answered (λ y. y ≡ self.new)) }
+        ensures opens { (opening : Unit {0}) (x : Shown) → Opens self.new x → Opens self.old x }
+        ensures recorded { IfOk result (λ copies. copies.recorded ≡ copies.answered) }
+        ensures receipted { IfOk result (λ copies. copies.receipted ≡ copies.answered) }
+        ensures err { OnErr result (self.new ≡ self.old) }
+        // Want of memory is told only where the step takes memory.
+        ensures told { IfOk result (λ copies. IfErr copies.answered (IsRefusal self.old self.new (step_of self.old event))) }
+    {
         let room = SentRoom::new(alloc, self.setup().faults())?;
         Ok(match self.handle(event) {
             Ok(sent) => room.copies(alloc, sent),
