@@ -12,7 +12,7 @@ use Rattle.pvp_rooms.specs.declared.cell.Closed.{Closed}
 use Rattle.pvp_audit.specs.Runs.{Tagged, own, history_in, history_of, number_in, AreInOrder, AreBefore, WasSent, Arrives, IsLegal, IsReached}
 use Rattle.pvp_audit.specs.Named.{IsSent, IsNamed}
 use Rattle.pvp_audit.specs.Verdicts.{IsAlone, HoldOfAll, FailsAt, CannotArrive, CannotCome}
-use Rattle.pvp_audit.specs.Merging.{IsNextActor, IsProgress, AreEnds}
+use Rattle.pvp_audit.specs.Merging.{IsNextActor, IsMerged, IsProgress, AreEnds}
 use Rattle.pvp_audit.proofs.Together.{take_next, IsStepped}
 use Rattle.pvp_audit.proofs.Looks.{slice_get-first, get_set_same, get_set_other}
 use Rattle.pvp_audit.proofs.Order.{same_some, who_took, not_earlier, is_after, is_after_own}
@@ -57,11 +57,49 @@ module _ {A N E O L : Type 0} (delivers : E → Option L) (sent : O → List L) 
   pub arrives_named : (actor : A) (r : Recorded E O) → Arrives delivers sent is_for closed run actor r → IsNamed delivers sent is_for closed at actor r
   arrives_named actor r n = elim n [ inl e ↦ inl e | inr w ↦ inr (w.0, w.1, w.2, sent_named w.0 r.event w.3) ]
 
+-- THE NEXT EVENT OF ALL IS THE MERGED LIST'S NEXT
+module _ {A N E O : Type 0} (closed : List (Closed A N E O)) (order : AreInOrder closed) (alone : HoldOfAll closed (λ _ c. IsAlone c)) (at : List ℕ) (run : List (Tagged E O)) (merged : IsMerged closed run at) where
+  module _ (k : ℕ) (next : IsNextActor closed at k) (now : List ℕ) (stepped : IsStepped at now k) where
+    each_next : (j : ℕ) (b : Bool) → (k == j) ≡ b → own run j ++ (if b then next.what ∷ [] else []) ≡ take (slice_index now j) (history_of closed j)
+    each_next j true e =
+        let P : ℕ → Type 0 = λ n. own run n ++ next.what ∷ [] ≡ take (slice_index now n) (history_of closed n) in
+        subst P (eqb-true k j e) (ap (λ l. l ++ next.what ∷ []) (merged.each k) ∙ sym (take_next (history_of closed k) (slice_index at k) next.what next.next) ∙ ap (λ n. take n (history_of closed k)) (sym stepped.here))
+    each_next j false e = append-nil (own run j) ∙ merged.each j ∙ ap (λ n. take n (history_of closed j)) (sym (stepped.others j (eqb-false k j e)))
+
+    ahead_next : (j i : ℕ) (r : Recorded E O) (b : Bool) → (k == j) ≡ b → slice_index now j ≤ i → slice_get (history_of closed j) i ≡ Some r → AreBefore closed (record { by = k; what = next.what } ∷ run) (record { by = j; what = r })
+    ahead_next j i r true e =
+        let P : ℕ → Type 0 = λ n. slice_index now n ≤ i → slice_get (history_of closed n) i ≡ Some r → AreBefore closed (record { by = k; what = next.what } ∷ run) (record { by = n; what = r }) in
+        subst P (eqb-true k j e) (λ low there. (let h = stepped.here in (is_after_own closed alone at k next i r (omega (arith, low, h)) there, merged.ahead k i r (omega (arith, low, h)) there)))
+    ahead_next j i r false e = λ low there.
+        let other = eqb-false k j e in
+        let o = stepped.others j other in
+        let low2 : slice_index at j ≤ i = omega (arith, low, o) in
+        (is_after closed alone at k next order j i r other low2 there, merged.ahead j i r low2 there)
+
+    pub merged_next : IsMerged closed (record { by = k; what = next.what } ∷ run) now
+    merged_next = record {
+      sorted = (merged.sorted, merged.ahead k (slice_index at k) next.what (omega arith) next.next);
+      each = λ j. each_next j (k == j) refl;
+      ahead = λ j i r low there. ahead_next j i r (k == j) refl low there;
+    }
+
+  -- at the end of all histories
+  pub merged_all : ((k : ℕ) → length (history_of closed k) ≤ slice_index at k) → (k : ℕ) → own run k ≡ history_of closed k
+  merged_all done k = merged.each k ∙ take_all (slice_index at k) (history_of closed k) (done k)
+
+-- at the beginning
+pub merged_none : {A N E O : Type 0} (closed : List (Closed A N E O)) (at : List ℕ) → ((k : ℕ) → slice_index at k ≡ 0) → IsMerged closed [] at
+merged_none closed at none = record {
+  sorted = tt;
+  each = λ k. sym (ap (λ n. take n (history_of closed k)) (none k));
+  ahead = λ k i r low there. tt;
+}
+
 module _ {A N E O L : Type 0} (m : Ghosts A N E O) (delivers : E → Option L) (sent : O → List L) (is_for : A → E → Bool) (closed : List (Closed A N E O)) (order : AreInOrder closed) (alone : HoldOfAll closed (λ _ c. IsAlone c)) (start : ℕ → m.State) (at : List ℕ) (actors : List A) (p : IsProgress m delivers sent is_for closed start at actors) where
   -- at the end of all histories
   pub legal_all : ((k : ℕ) → length (history_of closed k) ≤ slice_index at k) → length actors ≡ length closed → IsLegal m delivers sent is_for closed start × AreEnds m closed start actors
   legal_all done many = (
-    record { run = p.run; sorted = p.sorted; each = λ k. p.each k ∙ take_all (slice_index at k) (history_of closed k) (done k); legal = p.legal },
+    record { run = p.run; sorted = p.merged.sorted; each = merged_all closed order alone at p.run p.merged done; legal = p.legal },
     (
       many,
       λ k c actor is there.
@@ -73,10 +111,10 @@ module _ {A N E O L : Type 0} (m : Ghosts A N E O) (delivers : E → Option L) (
   module _ (k : ℕ) (next : IsNextActor closed at k) where
     pub reached : IsReached m delivers sent is_for closed start p.run at (record { by = k; what = next.what })
     reached = record {
-      sorted = p.sorted;
+      sorted = p.merged.sorted;
       legal = p.legal;
-      before = p.ahead k (slice_index at k) next.what (omega arith) next.next;
-      each = p.each;
+      before = p.merged.ahead k (slice_index at k) next.what (omega arith) next.next;
+      each = p.merged.each;
       not_before = not_earlier closed alone at k next;
     }
 
@@ -85,10 +123,10 @@ module _ {A N E O L : Type 0} (m : Ghosts A N E O) (delivers : E → Option L) (
       next_is = ap (λ o. slice_get (history_in o) (slice_index at k)) (sym is) ∙ next.next
 
       own_is : own p.run k ≡ take (slice_index at k) c.history.items
-      own_is = p.each k ∙ ap (λ o. take (slice_index at k) (history_in o)) is
+      own_is = p.merged.each k ∙ ap (λ o. take (slice_index at k) (history_in o)) is
 
       pub cannot_arrive : (event : ℕ) → event ≡ slice_index at k + 1 → ¬ IsNamed delivers sent is_for closed at c.end next.what → FailsAt m delivers sent is_for closed start k event (CannotArrive delivers sent is_for closed)
-      cannot_arrive event count never = record { who = c; is = is; what = next.what; past = p.run; at = at; count = count; next = next_is; reached = reached; fails = λ a. never (arrives_named delivers sent is_for closed at p.run p.each c.end next.what a) }
+      cannot_arrive event count never = record { who = c; is = is; what = next.what; past = p.run; at = at; count = count; next = next_is; reached = reached; fails = λ a. never (arrives_named delivers sent is_for closed at p.run p.merged.each c.end next.what a) }
 
       pub cannot_come : (event : ℕ) → event ≡ slice_index at k + 1 → IsNamed delivers sent is_for closed at c.end next.what → ¬ m.comes (replay m.after (take (slice_index at k) c.history.items) (start k)) next.what.event next.what.outcome
           → FailsAt m delivers sent is_for closed start k event (CannotCome m delivers sent is_for closed start)
@@ -101,27 +139,11 @@ module _ {A N E O L : Type 0} (m : Ghosts A N E O) (delivers : E → Option L) (
         count = count;
         next = next_is;
         reached = reached;
-        fails = (named_arrives delivers sent is_for closed at p.run p.each c.end next.what named, λ comes. never (subst (λ h. m.comes (replay m.after h (start k)) next.what.event next.what.outcome) own_is comes));
+        fails = (named_arrives delivers sent is_for closed at p.run p.merged.each c.end next.what named, λ comes. never (subst (λ h. m.comes (replay m.after h (start k)) next.what.event next.what.outcome) own_is comes));
       }
 
       module _ (now : List ℕ) (a : A) (named : IsNamed delivers sent is_for closed at c.end next.what) (comes : m.comes (replay m.after (take (slice_index at k) c.history.items) (start k)) next.what.event next.what.outcome)
           (shown : m.shows a (m.after (replay m.after (take (slice_index at k) c.history.items) (start k)) next.what.event next.what.outcome)) (within : k < length actors) (stepped : IsStepped at now k) where
-        each_next : (j : ℕ) (b : Bool) → (k == j) ≡ b → own p.run j ++ (if b then next.what ∷ [] else []) ≡ take (slice_index now j) (history_of closed j)
-        each_next j true e =
-            let P : ℕ → Type 0 = λ n. own p.run n ++ next.what ∷ [] ≡ take (slice_index now n) (history_of closed n) in
-            subst P (eqb-true k j e) (ap (λ l. l ++ next.what ∷ []) (p.each k) ∙ sym (take_next (history_of closed k) (slice_index at k) next.what next.next) ∙ ap (λ n. take n (history_of closed k)) (sym stepped.here))
-        each_next j false e = append-nil (own p.run j) ∙ p.each j ∙ ap (λ n. take n (history_of closed j)) (sym (stepped.others j (eqb-false k j e)))
-
-        ahead_next : (j i : ℕ) (r : Recorded E O) (b : Bool) → (k == j) ≡ b → slice_index now j ≤ i → slice_get (history_of closed j) i ≡ Some r → AreBefore closed (record { by = k; what = next.what } ∷ p.run) (record { by = j; what = r })
-        ahead_next j i r true e =
-            let P : ℕ → Type 0 = λ n. slice_index now n ≤ i → slice_get (history_of closed n) i ≡ Some r → AreBefore closed (record { by = k; what = next.what } ∷ p.run) (record { by = n; what = r }) in
-            subst P (eqb-true k j e) (λ low there. (let h = stepped.here in (is_after_own closed alone at k next i r (omega (arith, low, h)) there, p.ahead k i r (omega (arith, low, h)) there)))
-        ahead_next j i r false e = λ low there.
-            let other = eqb-false k j e in
-            let o = stepped.others j other in
-            let low2 : slice_index at j ≤ i = omega (arith, low, o) in
-            (is_after closed alone at k next order j i r other low2 there, p.ahead j i r low2 there)
-
         shown_next : (j : ℕ) (d : Closed A N E O) (actor : A) → slice_get closed j ≡ Some d → slice_get (slice_set actors k a) j ≡ Some actor → (b : Bool) → (k == j) ≡ b → m.shows actor (replay m.after (take (slice_index now j) d.history.items) (start j))
         shown_next j d actor hd ha true e =
             let same : k ≡ j = eqb-true k j e in
@@ -139,10 +161,8 @@ module _ {A N E O L : Type 0} (m : Ghosts A N E O) (delivers : E → Option L) (
         pub progress_next : IsProgress m delivers sent is_for closed start now (slice_set actors k a)
         progress_next = record {
           run = record { by = k; what = next.what } ∷ p.run;
-          sorted = (p.sorted, p.ahead k (slice_index at k) next.what (omega arith) next.next);
-          legal = (p.legal, record { who = c; is = is; arrives = named_arrives delivers sent is_for closed at p.run p.each c.end next.what named; comes = subst (λ h. m.comes (replay m.after h (start k)) next.what.event next.what.outcome) (sym own_is) comes });
-          each = λ j. each_next j (k == j) refl;
-          ahead = λ j i r low there. ahead_next j i r (k == j) refl low there;
+          merged = merged_next closed order alone at p.run p.merged k next now stepped;
+          legal = (p.legal, record { who = c; is = is; arrives = named_arrives delivers sent is_for closed at p.run p.merged.each c.end next.what named; comes = subst (λ h. m.comes (replay m.after h (start k)) next.what.event next.what.outcome) (sym own_is) comes });
           shown = λ j d actor hd ha. shown_next j d actor hd ha (k == j) refl;
         }
 
@@ -151,10 +171,8 @@ pub progress_none : {A N E O L : Type 0} (m : Ghosts A N E O) (delivers : E → 
     → ((k : ℕ) (c : Closed A N E O) (actor : A) → slice_get closed k ≡ Some c → slice_get actors k ≡ Some actor → m.shows actor (start k)) → IsProgress m delivers sent is_for closed start at actors
 progress_none m delivers sent is_for closed start at actors none fresh = record {
   run = [];
-  sorted = tt;
+  merged = merged_none closed at none;
   legal = tt;
-  each = λ k. sym (ap (λ n. take n (history_of closed k)) (none k));
-  ahead = λ k i r low there. tt;
   shown = λ k c actor is there. subst (λ n. m.shows actor (replay m.after (take n c.history.items) (start k))) (sym (none k)) (fresh k c actor is there);
 }
 

@@ -23,13 +23,17 @@ abbrev pub AreShown : {A N E O : Type 0} → (m : Ghosts A N E O) → List (Clos
 AreShown {A} {N} {E} {O} m closed start at actors =
     (k : ℕ) (c : Closed A N E O) (actor : A) → slice_get closed k ≡ Some c → slice_get actors k ≡ Some actor → m.shows actor (replay m.after (take (slice_index at k) c.history.items) (start k))
 
+-- THESE ARE THE FIRST EVENTS OF THE MERGED LIST, the newest first: of each history as many as at says.
+pub record IsMerged {A N E O : Type 0} (closed : List (Closed A N E O)) (run : List (Tagged E O)) (at : List ℕ) : Type 0 where
+  pub sorted : IsSorted closed run
+  pub each : (k : ℕ) → own run k ≡ take (slice_index at k) (history_of closed k)
+  pub ahead : (k i : ℕ) (r : Recorded E O) → slice_index at k ≤ i → slice_get (history_of closed k) i ≡ Some r → AreBefore closed run (record { by = k; what = r })
+
 -- The first events of each history, as many as at says, are the first of the merged list, and they are a run.
 pub record IsProgress {A N E O L : Type 0} (m : Ghosts A N E O) (delivers : E → Option L) (sent : O → List L) (is_for : A → E → Bool) (closed : List (Closed A N E O)) (start : ℕ → m.State) (at : List ℕ) (actors : List A) : Type 0 where
   pub run : List (Tagged E O)
-  pub sorted : IsSorted closed run
+  pub merged : IsMerged closed run at
   pub legal : IsRun m delivers sent is_for closed start run
-  pub each : (k : ℕ) → own run k ≡ take (slice_index at k) (history_of closed k)
-  pub ahead : (k i : ℕ) (r : Recorded E O) → slice_index at k ≤ i → slice_get (history_of closed k) i ≡ Some r → AreBefore closed run (record { by = k; what = r })
   pub shown : AreShown m closed start at actors
 
 -- the actors show the replays of the histories

@@ -4,8 +4,8 @@
 pub mod audited;
 mod clocks;
 mod ends;
-mod merge;
-mod receipts;
+pub mod merge;
+pub mod receipts;
 mod sent;
 pub mod verdict;
 

@@ -24,7 +24,7 @@ pub enum Followed<A> {
 }
 
 /// The actor whose next event comes first: by clock, and then by actor number.
-fn next_actor<A: Audited>(closed: &[Closed<A>], at: &[usize]) -> Option<usize>
+pub fn next_actor<A: Audited>(closed: &[Closed<A>], at: &[usize]) -> Option<usize>
     requires same { length at.now ≡ length closed.now }
     requires order { AreInOrder closed.now }
     ensures some { IfSome result (λ k. IsNextActor closed.now at.now k) }

@@ -35,7 +35,8 @@ pub fn unreceipted<A: Audited>(
     Ok(None)
 }
 
-pub(crate) fn zeros(alloc: Global, n: usize) -> Result<Vec<usize>, AllocError>
+/// So many zeros. `Err` where memory is refused.
+pub fn zeros(alloc: Global, n: usize) -> Result<Vec<usize>, AllocError>
     ensures { IfOk result (λ at. at.items ≡ replicate n 0) }
 {
     Ok(vec![in alloc; 0usize; n]?)

@@ -43,7 +43,8 @@ pub enum Verdict {
 /// each end state. `NoMemory` comes where memory is refused.
 pub fn audit<A: Audited>(alloc: Global, closed: &[Closed<A>]) -> Verdict
     requires { AreInOrder closed.now }
-    ensures { (start : ℕ → A.State) → AreOpenings A.Actor closed.now start → Means A.Actor A.delivers A.sent A.is_for closed.now start result }
+    ensures means { (start : ℕ → A.State) → AreOpenings A.Actor closed.now start → Means A.Actor A.delivers A.sent A.is_for closed.now start result }
+    ensures alone { result ≡ Verdict.Yes → HoldOfAll closed.now (λ _ c. IsAlone c) }
 {
     match first_alone(alloc, closed) {
         Err(_) => return no_memory(),

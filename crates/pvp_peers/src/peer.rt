@@ -2,6 +2,7 @@
 ghost use Rattle.std.specs.Prelude.{◌≡◌};
 ghost use Rattle.pvp_peers.specs.Peers.{IsPosted, HasRead, IsServed, why_of};
 
+use crate::outbox::Outbox;
 use crate::served::Served;
 use pvp_rooms::{ActorCell, Answer, Gate, Input, Seat};
 use pvp_wire::{Feeder, Stamped, WireFault};
@@ -35,19 +36,21 @@ pub struct PeerEnd {
 
 /// Reads a stream to its end and posts each frame at the actor, with its stamp. The seat has a receipt of each that was
 /// taken: of the first `frames` frames of the bytes that were read, in order. It ends where the input ends, a read
-/// fails, what was read is no frame, memory is refused, or the actor's clock is spent.
-pub fn serve_peer<A: Served, R: Read, G: Gate, T: Wait>(
+/// fails, what was read is no frame, memory is refused, or the actor's clock is spent. What the actor sent in each step is
+/// put into the outbox, which may lose it.
+pub fn serve_peer<A: Served, R: Read, G: Gate, O: Outbox, T: Wait>(
     rt: &T,
     alloc: Global,
     cell: &ActorCell<A>,
     seat: &mut Seat<A::Event, A::Outcome>,
     reader: &mut R,
     gate: &G,
+    outbox: &O,
 ) -> PeerEnd
     ensures { IsServed A.Served.delivery (R.remaining reader.old) (R.remaining reader.new) seat.old seat.new result }
 {
     let before = seat.receipts().len();
-    let why = read_all::<A, R, G, T>(rt, alloc, cell, seat, reader, gate);
+    let why = read_all::<A, R, G, O, T>(rt, alloc, cell, seat, reader, gate, outbox);
     PeerEnd {
         frames: seat.receipts().len() - before,
         why,
@@ -55,13 +58,14 @@ pub fn serve_peer<A: Served, R: Read, G: Gate, T: Wait>(
 }
 
 /// Reads a stream to its end and posts each frame. An empty piece is fed too, so that a fault that waits is told.
-fn read_all<A: Served, R: Read, G: Gate, T: Wait>(
+fn read_all<A: Served, R: Read, G: Gate, O: Outbox, T: Wait>(
     rt: &T,
     alloc: Global,
     cell: &ActorCell<A>,
     seat: &mut Seat<A::Event, A::Outcome>,
     reader: &mut R,
     gate: &G,
+    outbox: &O,
 ) -> Why
     ensures { HasRead A.Served.delivery (R.remaining reader.old) (R.remaining reader.new) seat.old seat.new result }
 {
@@ -74,7 +78,9 @@ fn read_all<A: Served, R: Read, G: Gate, T: Wait>(
         match feeder.feed(&buffer[..got]) {
             Err(fault) => return why_of(fault),
             Ok(frames) => {
-                if let Some(why) = post_all::<A, G, T>(rt, alloc, cell, seat, frames, gate) {
+                if let Some(why) = post_all::<A, G, O, T>(
+                    rt, alloc, cell, seat, frames, gate, outbox,
+                ) {
                     return why;
                 }
             }
@@ -90,14 +96,15 @@ fn read_all<A: Served, R: Read, G: Gate, T: Wait>(
     unreachable!()
 }
 
-/// Posts frames, up to the first that is not taken.
-fn post_all<A: Served, G: Gate, T: Wait>(
+/// Posts frames, up to the first that is not taken, and puts what the actor sent at each into the outbox.
+fn post_all<A: Served, G: Gate, O: Outbox, T: Wait>(
     rt: &T,
     alloc: Global,
     cell: &ActorCell<A>,
     seat: &mut Seat<A::Event, A::Outcome>,
     frames: Vec<Stamped>,
     gate: &G,
+    outbox: &O,
 ) -> Option<Why>
     ensures { IsPosted A.Served.delivery frames.items seat.old seat.new result }
 {
@@ -107,7 +114,9 @@ fn post_all<A: Served, G: Gate, T: Wait>(
             stamp: Some(frame.stamp),
         };
         match cell.post(rt, alloc, seat, input, gate) {
-            Answer::Done { .. } => {}
+            Answer::Done { clock, outcome } => {
+                outbox.put(rt, alloc, cell.number(), clock, A::sent(&outcome));
+            }
             Answer::NoMemory => return Some(Why::Memory),
             Answer::ClockSpent => return Some(Why::Clock),
         }

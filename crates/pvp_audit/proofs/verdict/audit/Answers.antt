@@ -6,8 +6,8 @@ use Rattle.pvp_audit.specs.Verdicts.{HoldOfAll, IsAlone}
 use Rattle.pvp_audit.specs.Merging.{IsFollowed, AreEnds}
 use Rattle.pvp_audit.proofs.verdict.audit.Goals as goal
 
-pub returns-in-None : goal.returns-in-None
-returns-in-None g c = λ start opens.
+pub returns-in-None-clause-means : goal.returns-in-None-clause-means
+returns-in-None-clause-means g c = λ start opens.
     let m = g.A.Actor in
     let a = g.A.Audited in
     let closed = c.args.closed.now in
@@ -19,8 +19,8 @@ returns-in-None g c = λ start opens.
       ends = c.in-None.ensures.none start ends;
     }
 
-pub returns : goal.returns
-returns g c = λ start opens.
+pub returns-clause-means : goal.returns-clause-means
+returns-clause-means g c = λ start opens.
     let m = g.A.Actor in
     let a = g.A.Audited in
     let closed = c.args.closed.now in
@@ -37,3 +37,7 @@ returns g c = λ start opens.
         unlike = c.in-Some.ensures.some start ends;
       },
     )
+
+pub returns-in-None-clause-alone : goal.returns-in-None-clause-alone
+returns-in-None-clause-alone g c = λ _.
+    subst (λ o. IfNone o (HoldOfAll c.args.closed.now (λ _ d. IsAlone d))) c.in-Ok-None.field-0-is c.in-Ok-None.ensures.none

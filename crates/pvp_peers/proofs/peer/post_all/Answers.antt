@@ -19,8 +19,8 @@ loop-frame-init g c = (
   },
 )
 
-pub loop-frame-preserved-in-Done : goal.loop-frame-preserved-in-Done
-loop-frame-preserved-in-Done g c =
+pub loop-frame-preserved : goal.loop-frame-preserved
+loop-frame-preserved g c =
     let d = g.A.Served.delivery in
     let p = subst (IsPosting d c.args.frames.items c.args.seat.now c.loop-frame.seat) c.in-Some.ensures.steps.0 c.loop-frame.invariant.2 in (
       tt,
