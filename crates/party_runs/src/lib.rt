@@ -1,0 +1,5 @@
+//! Tests of the bank's actors as one kind of actor, over public names alone.
+#![tactic(auto)]
+
+#[cfg(test)]
+mod bank;

@@ -1,0 +1,31 @@
+-- An actor, and what it was made from.
+use Rattle.std.specs.Prelude.{◌≡◌, ℕ}
+use Rattle.pvp_types.specs.declared.setup.Setup.{Setup}
+use Rattle.pvp_types.specs.Setup.{faults}
+use Rattle.vr_types.specs.declared.cell.BootCell.{Ghosts as Cell}
+use Rattle.vr_types.specs.declared.cell.MemCell.{MemCell}
+use Rattle.vr_types.specs.MemoryCell.{held_by, faults_of, IsReliable, after_save}
+use Rattle.rtgs_node.specs.Shown as node
+use Rattle.pvp_world.specs.Client as client
+use Rattle.pvp_parties.specs.Alike.{Site}
+
+-- the ghost members of the cell in memory
+abbrev pub memory : Cell MemCell
+memory = record { held = held_by; faults = faults_of; is_reliable = IsReliable; saves = λ old boot new. new ≡ after_save old boot }
+
+-- the setup of the bank, which of its kind the actor is, and what it shows now
+pub record Made (A : Type 0) : Type 0 where
+  pub setup : Setup
+  pub place : ℕ
+  pub now : A
+
+-- an actor as it was made
+
+abbrev pub made_site : Made Site → Site
+made_site p = record p.now { f = faults p.setup; me = p.place; setup = p.setup }
+
+abbrev pub made_node : Made node.Shown → node.Shown
+made_node p = record p.now { setup = p.setup; ccy = p.place }
+
+abbrev pub made_client : Made client.Shown → client.Shown
+made_client p = record p.now { f = faults p.setup; me = p.place }

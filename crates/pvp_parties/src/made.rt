@@ -1,0 +1,318 @@
+//! An actor of each kind, with what it was made from.
+ghost use Rattle.std.specs.Prelude.{◌≡◌, ◌*◌, ◌<◌, ◌≤◌, ◌↔◌, IsTrue, length, IfOk, OnErr};
+ghost use Rattle.pvp_audit.specs.Runs.{Follows};
+ghost use Rattle.pvp_types.specs.Setup.{IsValid, faults};
+ghost use Rattle.pvp_book.specs.Ledger.{Ledger, node_of};
+ghost use Rattle.vr_types.specs.Group.{actor_of};
+ghost use Rattle.pvp_types.specs.declared.command.Cmd.{Cmd as AnyCmd};
+ghost use Rattle.headline.specs.Machine.{book};
+ghost use Rattle.pvp_rooms.specs.Histories.{Takes};
+ghost use Rattle.pvp_rooms.specs.Nodes as nodes;
+ghost use Rattle.pvp_rooms.specs.Clients as clients;
+ghost use Rattle.pvp_rooms.specs.Sites as sites;
+ghost use Rattle.pvp_parties.specs.Alike.{AreAlikeSites};
+ghost use Rattle.pvp_parties.specs.Made.{memory, made_site, made_node, made_client};
+
+use crate::follow::{follow_client, follow_node, follow_site};
+use crate::like::{are_alike_clients, are_alike_nodes, are_alike_sites};
+use headline::{ClientEvent, ClientFault};
+use pvp_book::{Book, node_of};
+use pvp_rooms::{Actor, Came, Copies, Told};
+use pvp_types::Setup;
+use pvp_world::{Client, FIRST_SITE};
+use rtgs_node::{Node, NodeEvent, NodeFault};
+use std::alloc::{AllocError, Global};
+use std::marker::Model;
+use vr_site::Replica;
+use vr_types::{Boot, BootCell, Config, Event, MemCell};
+
+/// A site of the bank.
+#[derive(Drop)]
+pub struct SiteParty {
+    setup: Setup,
+    me: u16,
+    site: Replica<Book, MemCell>,
+}
+
+impl Model for SiteParty {
+    ghost use Rattle.pvp_types.specs.Setup.{IsValid, faults};
+    ghost use Rattle.std.specs.Prelude.{◌*◌, ◌≤◌};
+    ghost use Rattle.pvp_parties.specs.Alike.{Site};
+    ghost use Rattle.pvp_parties.specs.Made.{Made};
+
+    ghost Value = { Made Site };
+
+    ghost view = { λ a. record { setup = a.setup; place = a.me; now = a.site } };
+
+    ghost invariant = { λ a. IsValid a.setup × (a.me ≤ 2 * faults a.setup) };
+}
+
+impl SiteParty {
+    /// The site of this place in its group, over a cell. `Err` where memory is refused.
+    pub fn new(alloc: Global, setup: &Setup, me: u16, cell: MemCell) -> Result<Self, AllocError>
+        requires valid { IsValid setup.now }
+        requires known { me ≤ 2 * faults setup.now }
+        ensures setup { IfOk result (λ made. made.setup ≡ setup.now) }
+        ensures place { IfOk result (λ made. made.place ≡ me) }
+        ensures opens { IfOk result (λ made. (x : sites.SiteState Ledger AnyCmd) →
+            sites.Opens book (made_site made) (memory.held cell) x → sites.Shows book memory made.now x) }
+    {
+        let f = setup.faults();
+        let config = Config { f, me };
+        Ok(SiteParty {
+            setup: setup.copy()?,
+            me,
+            site: Replica::new(alloc, config, setup.copy()?, cell)?,
+        })
+    }
+
+    /// The same site as it opened over this.
+    pub fn reopened(&self, alloc: Global, boot: Boot) -> Result<Self, AllocError>
+        ensures { IfOk result (λ made. (x : sites.SiteState Ledger AnyCmd) →
+            sites.Opens book (made_site self.now) boot x → sites.Shows book memory made.now x) }
+    {
+        SiteParty::new(alloc, &self.setup, self.me, MemCell::of(boot))
+    }
+
+    /// Its number as an actor.
+    pub fn number(&self) -> u16
+        ensures { result ≡ actor_of self.now.place }
+    {
+        let f = self.setup.faults();
+        prove!(self.me <= 2 * f);
+        FIRST_SITE + self.me
+    }
+
+    /// Takes an event. Where memory for the copies is refused, it falls.
+    pub fn take(
+        &mut self,
+        alloc: Global,
+        event: Event<Book>,
+    ) -> Result<Copies<Came<Book>>, AllocError>
+        ensures step { IfOk result (λ copies. (x : sites.SiteState Ledger AnyCmd) → sites.Shows book memory self.old.now x →
+            Takes (sites.Comes book) sites.after x event copies.answered (sites.Shows book memory self.new.now)) }
+        ensures kept { self.new ≡ record self.old { now = self.new.now } }
+        ensures recorded { IfOk result (λ copies. copies.recorded ≡ copies.answered) }
+        ensures receipted { IfOk result (λ copies. copies.receipted ≡ copies.answered) }
+        ensures err { OnErr result (self.new ≡ self.old) }
+    {
+        Actor::take(&mut self.site, alloc, event)
+    }
+
+    /// Takes an event that came out so, and says whether it can. After `Err` or a no it may only be dropped.
+    pub fn follow(
+        &mut self,
+        alloc: Global,
+        event: &Event<Book>,
+        came: &Came<Book>,
+    ) -> Result<bool, AllocError>
+        ensures { IfOk result (λ can. (x : sites.SiteState Ledger AnyCmd) → sites.Shows book memory self.old.now x →
+            Follows (sites.Comes book) sites.after x event.now came.now (sites.Shows book memory self.new.now) can) }
+    {
+        follow_site(&mut self.site, alloc, event, came)
+    }
+
+    /// The site itself.
+    pub fn replica(&self) -> &Replica<Book, MemCell>
+        ensures { result.now ≡ self.now.now }
+    {
+        &self.site
+    }
+
+    /// Whether the reading calls of this site and of another show the same.
+    pub fn is_like(&self, other: &SiteParty) -> bool
+        ensures { IsTrue result ↔ AreAlikeSites self.now.now other.now.now }
+    {
+        are_alike_sites(&self.site, &other.site)
+    }
+}
+
+/// A node of the bank.
+#[derive(Drop)]
+pub struct NodeParty {
+    setup: Setup,
+    ccy: u8,
+    node: Node,
+}
+
+impl Model for NodeParty {
+    ghost use Rattle.pvp_types.specs.Setup.{IsValid};
+    ghost use Rattle.std.specs.Prelude.{◌<◌, length};
+    ghost use Rattle.rtgs_node.specs.Shown.{Shown};
+    ghost use Rattle.pvp_parties.specs.Made.{Made};
+
+    ghost Value = { Made Shown };
+
+    ghost view = { λ a. record { setup = a.setup; place = a.ccy; now = a.node } };
+
+    ghost invariant = { λ a. IsValid a.setup × (a.ccy < length a.setup.currencies) };
+}
+
+impl NodeParty {
+    /// The node of a currency. `Err` where memory is refused.
+    pub fn new(alloc: Global, setup: &Setup, ccy: u8) -> Result<Self, AllocError>
+        requires valid { IsValid setup.now }
+        requires known { ccy < length setup.now.currencies }
+        ensures setup { IfOk result (λ made. made.setup ≡ setup.now) }
+        ensures place { IfOk result (λ made. made.place ≡ ccy) }
+        ensures opens { IfOk result (λ made. nodes.Opens (made_node made) made.now) }
+    {
+        Ok(NodeParty {
+            setup: setup.copy()?,
+            ccy,
+            node: Node::new(alloc, setup, ccy)?,
+        })
+    }
+
+    /// The same node as it opened.
+    pub fn reopened(&self, alloc: Global) -> Result<Self, AllocError>
+        ensures { IfOk result (λ made. nodes.Opens (made_node self.now) made.now) }
+    {
+        NodeParty::new(alloc, &self.setup, self.ccy)
+    }
+
+    /// Its number as an actor.
+    pub fn number(&self) -> u16
+        ensures { result ≡ node_of self.now.place }
+    {
+        node_of(self.ccy)
+    }
+
+    /// Takes an event. After an `Err` it is as it was.
+    pub fn take(
+        &mut self,
+        alloc: Global,
+        event: NodeEvent,
+    ) -> Result<Copies<Told<NodeFault>>, AllocError>
+        ensures step { IfOk result (λ copies.
+            Takes nodes.Comes nodes.after self.old.now event copies.answered (λ y. y ≡ self.new.now)) }
+        ensures kept { self.new ≡ record self.old { now = self.new.now } }
+        ensures recorded { IfOk result (λ copies. copies.recorded ≡ copies.answered) }
+        ensures receipted { IfOk result (λ copies. copies.receipted ≡ copies.answered) }
+        ensures err { OnErr result (self.new ≡ self.old) }
+    {
+        Actor::take(&mut self.node, alloc, event)
+    }
+
+    /// Takes an event that came out so, and says whether it can. After `Err` or a no it may only be dropped.
+    pub fn follow(
+        &mut self,
+        alloc: Global,
+        event: &NodeEvent,
+        told: &Told<NodeFault>,
+    ) -> Result<bool, AllocError>
+        ensures { IfOk result (λ can.
+            Follows nodes.Comes nodes.after self.old.now event.now told.now (λ y. y ≡ self.new.now) can) }
+    {
+        follow_node(&mut self.node, alloc, event, told)
+    }
+
+    /// The node itself.
+    pub fn node(&self) -> &Node
+        ensures { result.now ≡ self.now.now }
+    {
+        &self.node
+    }
+
+    /// Whether the reading calls of this node and of another show the same.
+    pub fn is_like(&self, other: &NodeParty) -> bool
+        ensures { IsTrue result ↔ nodes.Reads self.now.now other.now.now }
+    {
+        are_alike_nodes(&self.node, &other.node)
+    }
+}
+
+/// A client of the bank.
+#[derive(Drop)]
+pub struct ClientParty {
+    setup: Setup,
+    number: u16,
+    client: Client,
+}
+
+impl Model for ClientParty {
+    ghost use Rattle.pvp_types.specs.Setup.{IsValid};
+    ghost use Rattle.std.specs.Prelude.{◌≤◌, length};
+    ghost use Rattle.pvp_world.specs.Client.{Shown};
+    ghost use Rattle.pvp_parties.specs.Made.{Made};
+
+    ghost Value = { Made Shown };
+
+    ghost view = { λ a. record { setup = a.setup; place = a.number; now = a.client } };
+
+    ghost invariant = { λ a. IsValid a.setup × (a.number ≤ length a.setup.members) };
+}
+
+impl ClientParty {
+    /// The client of this number, 0 for the operator or a member's. `Err` where memory is refused.
+    pub fn new(setup: &Setup, number: u16) -> Result<Self, AllocError>
+        requires valid { IsValid setup.now }
+        requires known { number ≤ length setup.now.members }
+        ensures setup { IfOk result (λ made. made.setup ≡ setup.now) }
+        ensures place { IfOk result (λ made. made.place ≡ number) }
+        ensures opens { IfOk result (λ made. clients.Opens (made_client made) made.now) }
+    {
+        Ok(ClientParty {
+            setup: setup.copy()?,
+            number,
+            client: Client::new(setup, number),
+        })
+    }
+
+    /// The same client as it opened.
+    pub fn reopened(&self) -> Result<Self, AllocError>
+        ensures { IfOk result (λ made. clients.Opens (made_client self.now) made.now) }
+    {
+        ClientParty::new(&self.setup, self.number)
+    }
+
+    /// Its number as an actor.
+    pub fn number(&self) -> u16
+        ensures { result ≡ self.now.place }
+    {
+        self.number
+    }
+
+    /// Takes an event. After an `Err` it is as it was.
+    pub fn take(
+        &mut self,
+        alloc: Global,
+        event: ClientEvent,
+    ) -> Result<Copies<Told<ClientFault>>, AllocError>
+        ensures step { IfOk result (λ copies.
+            Takes clients.Comes clients.after self.old.now event copies.answered (λ y. y ≡ self.new.now)) }
+        ensures kept { self.new ≡ record self.old { now = self.new.now } }
+        ensures recorded { IfOk result (λ copies. copies.recorded ≡ copies.answered) }
+        ensures receipted { IfOk result (λ copies. copies.receipted ≡ copies.answered) }
+        ensures err { OnErr result (self.new ≡ self.old) }
+    {
+        Actor::take(&mut self.client, alloc, event)
+    }
+
+    /// Takes an event that came out so, and says whether it can. After `Err` or a no it may only be dropped.
+    pub fn follow(
+        &mut self,
+        alloc: Global,
+        event: &ClientEvent,
+        told: &Told<ClientFault>,
+    ) -> Result<bool, AllocError>
+        ensures { IfOk result (λ can.
+            Follows clients.Comes clients.after self.old.now event.now told.now (λ y. y ≡ self.new.now) can) }
+    {
+        follow_client(&mut self.client, alloc, event, told)
+    }
+
+    /// The client itself.
+    pub fn client(&self) -> &Client
+        ensures { result.now ≡ self.now.now }
+    {
+        &self.client
+    }
+
+    /// Whether the reading calls of this client and of another show the same.
+    pub fn is_like(&self, other: &ClientParty) -> bool
+        ensures { IsTrue result ↔ clients.Reads self.now.now other.now.now }
+    {
+        are_alike_clients(&self.client, &other.client)
+    }
+}

@@ -1,0 +1,213 @@
+//! An actor of the bank, of any kind.
+ghost use Rattle.std.specs.Prelude.{◌≡◌, ◌*◌, ◌<◌, ◌≤◌, length, IfOk};
+ghost use Rattle.pvp_types.specs.Setup.{IsValid, faults};
+
+use crate::made::{ClientParty, NodeParty, SiteParty};
+use headline::{ClientEvent, ClientFault};
+use pvp_book::Book;
+use pvp_rooms::{Actor, Came, Copies, Told};
+use pvp_types::Setup;
+use pvp_world::Client;
+use rtgs_node::{Node, NodeEvent, NodeFault};
+use std::alloc::{AllocError, Global};
+use vr_types::{Boot, Event, MemCell};
+
+/// An actor of the bank.
+#[derive(Drop)]
+pub enum Party {
+    Site(SiteParty),
+    Node(NodeParty),
+    Client(ClientParty),
+}
+
+/// What may happen to an actor of the bank.
+#[derive(Drop)]
+pub enum PartyEvent {
+    OfSite(Event<Book>),
+    OfNode(NodeEvent),
+    OfClient(ClientEvent),
+}
+
+/// How an event came out at an actor of the bank.
+#[derive(Drop)]
+pub enum PartyOutcome {
+    OfSite(Came<Book>),
+    OfNode(Told<NodeFault>),
+    OfClient(Told<ClientFault>),
+    /// The event is of another kind of actor; nothing was done.
+    Stray,
+}
+
+impl Actor for Party {
+    ghost use Rattle.pvp_parties.specs.Parties.{PartyState, Opens, Shows, Comes, Reads, after};
+
+    /// What a site's cell held; a node and a client open over nothing.
+    type Opening = Option<Boot>;
+
+    type Event = PartyEvent;
+
+    type Outcome = PartyOutcome;
+
+    ghost State = { PartyState };
+
+    ghost opens = { Opens };
+
+    ghost shows = { Shows };
+
+    ghost comes = { Comes };
+
+    ghost after = { after };
+
+    ghost reads = { Reads };
+
+    /// An event of another kind of actor is a stray.
+    fn take(
+        &mut self,
+        alloc: Global,
+        event: PartyEvent,
+    ) -> Result<Copies<PartyOutcome>, AllocError> {
+        match self {
+            Party::Site(site) => match event {
+                PartyEvent::OfSite(event) => Ok(of_site(site.take(alloc, event)?)),
+                _ => Ok(stray()),
+            },
+            Party::Node(node) => match event {
+                PartyEvent::OfNode(event) => Ok(of_node(node.take(alloc, event)?)),
+                _ => Ok(stray()),
+            },
+            Party::Client(client) => match event {
+                PartyEvent::OfClient(event) => Ok(of_client(client.take(alloc, event)?)),
+                _ => Ok(stray()),
+            },
+        }
+    }
+
+    fn copy_event(alloc: Global, event: &PartyEvent) -> Result<PartyEvent, AllocError> {
+        Ok(match event {
+            PartyEvent::OfSite(event) => PartyEvent::OfSite(event.copy(alloc)?),
+            PartyEvent::OfNode(event) => PartyEvent::OfNode(Node::copy_event(alloc, event)?),
+            PartyEvent::OfClient(event) => {
+                PartyEvent::OfClient(Client::copy_event(alloc, event)?)
+            }
+        })
+    }
+}
+
+/// How an event came out at a site, three times.
+fn of_site(copies: Copies<Came<Book>>) -> Copies<PartyOutcome>
+    ensures answered { result.answered ≡ PartyOutcome.OfSite copies.answered }
+    ensures recorded { result.recorded ≡ PartyOutcome.OfSite copies.recorded }
+    ensures receipted { result.receipted ≡ PartyOutcome.OfSite copies.receipted }
+{
+    let Copies {
+        answered,
+        recorded,
+        receipted,
+    } = copies;
+    Copies {
+        answered: PartyOutcome::OfSite(answered),
+        recorded: PartyOutcome::OfSite(recorded),
+        receipted: PartyOutcome::OfSite(receipted),
+    }
+}
+
+/// How an event came out at a node, three times.
+fn of_node(copies: Copies<Told<NodeFault>>) -> Copies<PartyOutcome>
+    ensures answered { result.answered ≡ PartyOutcome.OfNode copies.answered }
+    ensures recorded { result.recorded ≡ PartyOutcome.OfNode copies.recorded }
+    ensures receipted { result.receipted ≡ PartyOutcome.OfNode copies.receipted }
+{
+    let Copies {
+        answered,
+        recorded,
+        receipted,
+    } = copies;
+    Copies {
+        answered: PartyOutcome::OfNode(answered),
+        recorded: PartyOutcome::OfNode(recorded),
+        receipted: PartyOutcome::OfNode(receipted),
+    }
+}
+
+/// How an event came out at a client, three times.
+fn of_client(copies: Copies<Told<ClientFault>>) -> Copies<PartyOutcome>
+    ensures answered { result.answered ≡ PartyOutcome.OfClient copies.answered }
+    ensures recorded { result.recorded ≡ PartyOutcome.OfClient copies.recorded }
+    ensures receipted { result.receipted ≡ PartyOutcome.OfClient copies.receipted }
+{
+    let Copies {
+        answered,
+        recorded,
+        receipted,
+    } = copies;
+    Copies {
+        answered: PartyOutcome::OfClient(answered),
+        recorded: PartyOutcome::OfClient(recorded),
+        receipted: PartyOutcome::OfClient(receipted),
+    }
+}
+
+/// A stray, three times.
+fn stray() -> Copies<PartyOutcome>
+    ensures answered { result.answered ≡ PartyOutcome.Stray }
+    ensures recorded { result.recorded ≡ PartyOutcome.Stray }
+    ensures receipted { result.receipted ≡ PartyOutcome.Stray }
+{
+    Copies {
+        answered: PartyOutcome::Stray,
+        recorded: PartyOutcome::Stray,
+        receipted: PartyOutcome::Stray,
+    }
+}
+
+impl Party {
+    ghost use Rattle.std.specs.Prelude.{Some, None};
+    ghost use Rattle.vr_types.specs.MemoryCell.{held_by};
+    ghost use Rattle.vr_types.specs.Group.{actor_of};
+    ghost use Rattle.pvp_book.specs.Ledger.{node_of};
+    ghost use Rattle.pvp_parties.specs.Parties.{PartyState, Opens, Shows, number_of, setup_of};
+
+    /// The site of this place in its group, over a cell. `Err` where memory is refused.
+    pub fn site(alloc: Global, setup: &Setup, me: u16, cell: MemCell) -> Result<Self, AllocError>
+        requires valid { IsValid setup.now }
+        requires known { me ≤ 2 * faults setup.now }
+        ensures number { IfOk result (λ party. number_of party ≡ actor_of me) }
+        ensures setup { IfOk result (λ party. setup_of party ≡ setup.now) }
+        ensures opens { IfOk result (λ party. (x : PartyState) → Opens party (Some (held_by cell)) x → Shows party x) }
+    {
+        Ok(Party::Site(SiteParty::new(alloc, setup, me, cell)?))
+    }
+
+    /// The node of a currency. `Err` where memory is refused.
+    pub fn node(alloc: Global, setup: &Setup, ccy: u8) -> Result<Self, AllocError>
+        requires valid { IsValid setup.now }
+        requires known { ccy < length setup.now.currencies }
+        ensures number { IfOk result (λ party. number_of party ≡ node_of ccy) }
+        ensures setup { IfOk result (λ party. setup_of party ≡ setup.now) }
+        ensures opens { IfOk result (λ party. (x : PartyState) → Opens party None x → Shows party x) }
+    {
+        Ok(Party::Node(NodeParty::new(alloc, setup, ccy)?))
+    }
+
+    /// The client of this number, 0 for the operator or a member's. `Err` where memory is refused.
+    pub fn client(setup: &Setup, number: u16) -> Result<Self, AllocError>
+        requires valid { IsValid setup.now }
+        requires known { number ≤ length setup.now.members }
+        ensures number { IfOk result (λ party. number_of party ≡ number) }
+        ensures setup { IfOk result (λ party. setup_of party ≡ setup.now) }
+        ensures opens { IfOk result (λ party. (x : PartyState) → Opens party None x → Shows party x) }
+    {
+        Ok(Party::Client(ClientParty::new(setup, number)?))
+    }
+
+    /// Its number as an actor.
+    pub fn number(&self) -> u16
+        ensures { result ≡ number_of self.now }
+    {
+        match self {
+            Party::Site(site) => site.number(),
+            Party::Node(node) => node.number(),
+            Party::Client(client) => client.number(),
+        }
+    }
+}

@@ -1,0 +1,38 @@
+//! How envelopes come to an actor of the bank.
+use crate::party::{Party, PartyEvent, PartyOutcome};
+use headline::ClientEvent;
+use pvp_book::Book;
+use pvp_peers::Served;
+use pvp_rooms::CameOf;
+use pvp_world::{FIRST_NODE, FIRST_SITE};
+use rtgs_node::NodeEvent;
+use vr_types::{Envelope, EventOf};
+
+impl Served for Party {
+    ghost use Rattle.pvp_parties.specs.Parties.{delivered, sent};
+
+    ghost delivery = { delivered };
+
+    ghost sent = { sent };
+
+    /// It comes as to the kind of actor that it is addressed to: to one of another kind it is a stray.
+    fn deliver(envelope: Envelope<Book>) -> PartyEvent {
+        let to = envelope.to;
+        if to >= FIRST_SITE {
+            PartyEvent::OfSite(EventOf::Deliver(envelope))
+        } else if to >= FIRST_NODE {
+            PartyEvent::OfNode(NodeEvent::Takes(envelope))
+        } else {
+            PartyEvent::OfClient(ClientEvent::Takes(envelope))
+        }
+    }
+
+    fn sent(outcome: &PartyOutcome) -> &[Envelope<Book>] {
+        match outcome {
+            PartyOutcome::OfSite(CameOf::Did { sent, .. }) => sent.as_slice(),
+            PartyOutcome::OfNode(Ok(sent)) => sent.as_slice(),
+            PartyOutcome::OfClient(Ok(sent)) => sent.as_slice(),
+            _ => &[],
+        }
+    }
+}

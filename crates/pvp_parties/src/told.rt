@@ -1,0 +1,114 @@
+//! Whether two events, or what came of two, are the same.
+ghost use Rattle.std.specs.Prelude.{◌≡◌, ◌↔◌, IsTrue};
+
+use crate::same::{same_boot, same_cmd, same_envelope, same_fault, same_sent, same_why};
+use headline::{ClientEvent, ClientFault};
+use pvp_book::Book;
+use pvp_rooms::{Came, CameOf, Told};
+use rtgs_node::{NodeEvent, NodeFault};
+use vr_types::{Event, EventOf};
+
+/// Whether two events of sites are the same.
+pub fn same_site_event(a: &Event<Book>, b: &Event<Book>) -> bool
+    ensures { IsTrue result ↔ (a.now ≡ b.now) }
+{
+    match (a, b) {
+        (EventOf::Deliver(x), EventOf::Deliver(y)) => same_envelope(x, y),
+        (EventOf::Timer, EventOf::Timer) => true,
+        (EventOf::Beat, EventOf::Beat) => true,
+        (EventOf::Crash, EventOf::Crash) => true,
+        (EventOf::Restart, EventOf::Restart) => true,
+        _ => false,
+    }
+}
+
+/// Whether two events of nodes are the same.
+pub fn same_node_event(a: &NodeEvent, b: &NodeEvent) -> bool
+    ensures { IsTrue result ↔ (a.now ≡ b.now) }
+{
+    match (a, b) {
+        (
+            NodeEvent::PaysIn { member, amt },
+            NodeEvent::PaysIn {
+                member: other,
+                amt: paid,
+            },
+        ) => *member == *other && *amt == *paid,
+        (NodeEvent::Closes(member), NodeEvent::Closes(other)) => *member == *other,
+        (NodeEvent::Takes(x), NodeEvent::Takes(y)) => same_envelope(x, y),
+        (NodeEvent::Beats, NodeEvent::Beats) => true,
+        _ => false,
+    }
+}
+
+/// Whether two events of clients are the same.
+pub fn same_client_event(a: &ClientEvent, b: &ClientEvent) -> bool
+    ensures { IsTrue result ↔ (a.now ≡ b.now) }
+{
+    match (a, b) {
+        (ClientEvent::Submits(x), ClientEvent::Submits(y)) => same_cmd(*x, *y),
+        (ClientEvent::Takes(x), ClientEvent::Takes(y)) => same_envelope(x, y),
+        (ClientEvent::Beats, ClientEvent::Beats) => true,
+        _ => false,
+    }
+}
+
+/// Whether two events came out the same at a site.
+pub fn same_came(a: &Came<Book>, b: &Came<Book>) -> bool
+    ensures { IsTrue result ↔ (a.now ≡ b.now) }
+{
+    match (a, b) {
+        (
+            CameOf::Did { sent, dropped },
+            CameOf::Did {
+                sent: also,
+                dropped: other,
+            },
+        ) => same_why(*dropped, *other) && same_sent(sent.as_slice(), also.as_slice()),
+        (CameOf::Refused(x), CameOf::Refused(y)) => same_fault(*x, *y),
+        (
+            CameOf::Fell { why, cell },
+            CameOf::Fell {
+                why: other,
+                cell: left,
+            },
+        ) => same_fault(*why, *other) && same_boot(*cell, *left),
+        _ => false,
+    }
+}
+
+/// Whether two events came out the same at a node.
+pub fn same_node_told(a: &Told<NodeFault>, b: &Told<NodeFault>) -> bool
+    ensures { IsTrue result ↔ (a.now ≡ b.now) }
+{
+    match (a, b) {
+        (Ok(x), Ok(y)) => same_sent(x.as_slice(), y.as_slice()),
+        (Err(x), Err(y)) => same_node_fault(*x, *y),
+        _ => false,
+    }
+}
+
+/// Whether two faults of a node are the same.
+pub fn same_node_fault(a: NodeFault, b: NodeFault) -> bool
+    ensures { IsTrue result ↔ (a ≡ b) }
+{
+    a == b
+}
+
+/// Whether two events came out the same at a client.
+pub fn same_client_told(a: &Told<ClientFault>, b: &Told<ClientFault>) -> bool
+    ensures { IsTrue result ↔ (a.now ≡ b.now) }
+{
+    match (a, b) {
+        (Ok(x), Ok(y)) => same_sent(x.as_slice(), y.as_slice()),
+        (Err(x), Err(y)) => same_client_fault(*x, *y),
+        _ => false,
+    }
+}
+
+/// Whether two faults of a client are the same.
+pub fn same_client_fault(a: ClientFault, b: ClientFault) -> bool
+    ensures { IsTrue result ↔ (a ≡ b) }
+{
+    a == b
+}
