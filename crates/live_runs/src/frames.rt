@@ -9,7 +9,7 @@ pub const COMMIT: [u8; 28] = [
 ];
 
 /// REQUEST 1 of USD's node: its pay-in 1 brought 1200 for member 1. To site 0, clock 1, index 0.
-const REQUEST: [u8; 42] = [
+pub const REQUEST: [u8; 42] = [
     0, 0, 0, 38, 2, 1, 0, 102, 0, 0, 0, 0, 0, 0, 0, 1, 0, 0, 0, 0, 0, 200, 0, 0, 0, 1, 3, 1, 0, 0,
     0, 1, 0, 1, 0, 0, 0, 0, 0, 0, 4, 176,
 ];
@@ -90,6 +90,17 @@ pub struct Pieces<'a> {
     pub left: &'a [u8],
     pub size: usize,
     pub good: Option<usize>,
+}
+
+impl<'a> Pieces<'a> {
+    /// A reader that gives all at once, and then ends.
+    pub fn whole(left: &'a [u8]) -> Self {
+        Pieces {
+            left,
+            size: 4096,
+            good: None,
+        }
+    }
 }
 
 impl Read for Pieces<'_> {

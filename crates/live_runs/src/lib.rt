@@ -3,6 +3,12 @@
 #![tactic(auto)]
 
 #[cfg(test)]
+mod common;
+#[cfg(test)]
 mod frames;
 #[cfg(test)]
+mod loopback;
+#[cfg(test)]
 mod streams;
+#[cfg(test)]
+mod systems;

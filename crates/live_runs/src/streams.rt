@@ -1,24 +1,16 @@
 //! Streams that end anywhere, that fail, and whose bytes were altered, each posted at a new actor.
+use crate::common::{Lost, Open};
 use crate::frames::{ANSWER, COMMIT, ORDER, Pieces, commit_with, ten_frames, whole_frames};
 use fixtures::setup::three_currencies;
 use pvp_book::Book;
 use pvp_peers::{PeerEnd, Why, serve_peer};
-use pvp_rooms::{ClientCell, Gate, NodeCell, SiteCell};
+use pvp_rooms::{ClientCell, NodeCell, SiteCell};
 use pvp_wire::{Stamp, WireFault, decode};
 use std::alloc::Global;
 use std::process::Abort;
 use std::sync::Wait;
 use std::test::Fail;
 use vr_types::{Config, MemCell};
-
-/// A gate that anyone may pass.
-struct Open;
-
-impl Gate for Open {
-    fn enter(&self, _actor: u16) {}
-
-    fn leave(&self, _actor: u16) {}
-}
 
 /// How a stream ends at a new site 1, and the stamps of what the seat has receipts of.
 fn served<R: Abort + Wait + AllocGlobal>(
@@ -38,7 +30,7 @@ fn served<R: Abort + Wait + AllocGlobal>(
     let Some(mut seat) = seats.pop() else {
         return Err(Fail::new("a seat"));
     };
-    let end = serve_peer(rt, alloc, &cell, &mut seat, &mut stream, &Open);
+    let end = serve_peer(rt, alloc, &cell, &mut seat, &mut stream, &Open, &Lost);
     let mut stamps = Vec::new(alloc);
     for receipt in seat.receipts() {
         stamps.push(receipt.stamp)?;
@@ -209,7 +201,7 @@ fn a_node_and_a_client_are_served(rt: HostRuntime) -> Result<(), Fail> {
             good: None,
         };
         assert_eq!(rt;
-            serve_peer(&rt, alloc, &node, &mut seat, &mut order, &Open),
+            serve_peer(&rt, alloc, &node, &mut seat, &mut order, &Open, &Lost),
             want
         );
     }
@@ -221,7 +213,7 @@ fn a_node_and_a_client_are_served(rt: HostRuntime) -> Result<(), Fail> {
             good: None,
         };
         assert_eq!(rt;
-            serve_peer(&rt, alloc, &client, &mut seat, &mut answer, &Open),
+            serve_peer(&rt, alloc, &client, &mut seat, &mut answer, &Open, &Lost),
             want
         );
     }

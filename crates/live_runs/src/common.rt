@@ -1,0 +1,59 @@
+//! New sites, and a gate and an outbox that do nothing.
+ghost use Rattle.std.specs.Prelude.{◌≤◌};
+
+use fixtures::setup::three_currencies;
+use pvp_book::Book;
+use pvp_peers::Outbox;
+use pvp_rooms::{Gate, SiteCell, SiteSeat};
+use std::alloc::Global;
+use std::sync::Wait;
+use std::test::Fail;
+use vr_types::{Config, Envelope, MemCell};
+
+/// A gate that anyone may pass.
+pub struct Open;
+
+impl Gate for Open {
+    fn enter(&self, _actor: u16) {}
+
+    fn leave(&self, _actor: u16) {}
+}
+
+/// An outbox that loses all.
+pub struct Lost;
+
+impl Outbox for Lost {
+    fn put<T: Wait>(
+        &self,
+        _rt: &T,
+        _alloc: Global,
+        _actor: u16,
+        _clock: u64,
+        _sent: &[Envelope<Book>],
+    ) {}
+}
+
+/// A new site of three, with one seat.
+pub fn site(alloc: Global, me: u16) -> Result<(SiteCell<Book, MemCell>, SiteSeat<Book>), Fail>
+    requires { me ≤ 2 }
+{
+    let (cell, mut seats) = sites(alloc, me, 1)?;
+    match seats.pop() {
+        Some(seat) => Ok((cell, seat)),
+        None => Err(Fail::new("a seat")),
+    }
+}
+
+/// A new site of three, with so many seats.
+pub fn sites(
+    alloc: Global,
+    me: u16,
+    seats: u16,
+) -> Result<(SiteCell<Book, MemCell>, Vec<SiteSeat<Book>>), Fail>
+    requires { me ≤ 2 }
+{
+    let setup = three_currencies(alloc)?;
+    let config = Config { f: 1, me };
+    let made = SiteCell::<Book, MemCell>::new(alloc, config, setup, MemCell::new(), seats)?;
+    Ok(made)
+}

@@ -1,0 +1,105 @@
+//! All workers of a system at once.
+ghost use Rattle.std.specs.Fork.{AcceptsEach};
+ghost use Rattle.pvp_streams.specs.Serving.{AllChanged, AreServed};
+
+use crate::peer::Peer;
+use crate::player::Player;
+use crate::writer::Writer;
+use crate::writers::Writers;
+use pvp_peers::Served;
+use pvp_rooms::Gate;
+use std::alloc::Global;
+use std::io::{Read, Write};
+use std::sync::Wait;
+use std::thread::{self, Threads};
+
+/// Serves a whole system of actors: a worker for each incoming stream, one that writes for each actor, and the player, who
+/// runs on the calling thread. When the player has returned the writers are told to stop; they write what they were given
+/// before, and close their streams. It returns when all have ended. A worker for which no thread can be made runs later,
+/// on the thread that was to start it; a writer then comes before any reader, and the player before them all.
+pub fn serve_streams<A, R, W, G, P, T>(
+    rt: &T,
+    alloc: Global,
+    peers: &mut [Peer<'_, A, R>],
+    writers: &mut [Writer<W>],
+    out: &Writers,
+    gate: &G,
+    player: &mut P,
+)
+where
+    A: Served + Send,
+    A::Opening: Send,
+    A::Event: Send,
+    A::Outcome: Send,
+    R: Read + Send,
+    W: Write + Send + Drop,
+    G: Gate,
+    P: Player,
+    T: Threads + Wait + Sync,
+    ensures { AreServed A.Served.delivery (λ r. R.remaining r) peers.old peers.new }
+{
+    let write = &mut || write_all(rt, out, player, writers);
+    each_beside(
+        rt,
+        &|_, peer: &mut Peer<'_, A, R>| peer.serve(rt, alloc, gate, out),
+        write,
+        peers,
+    );
+}
+
+/// Calls a function at each of these, in a thread of its own where one can be made, and another in this thread.
+fn each_beside<X: Send, F: Fn(usize, &mut X) + Sync, H: FnMut(), T: Threads + Sync>(
+    rt: &T,
+    f: &F,
+    other: &mut H,
+    items: &mut [X],
+)
+    requires each { AcceptsEach F.Fn f.now items.old }
+    requires other { H.pre other.old }
+    ensures { AllChanged F.Fn f.now items.old items.new }
+{
+    let mut work = ||
+        requires { AcceptsEach F.Fn f.now items.now }
+        ensures { AllChanged F.Fn f.entry.now items.entry.now items.exit.now }
+    { each(rt, f, items) };
+    thread::join_mut(rt, &mut work, other);
+}
+
+/// Calls a function at each of these, in a thread of its own where one can be made.
+fn each<X: Send, F: Fn(usize, &mut X) + Sync, T: Threads + Sync>(rt: &T, f: &F, items: &mut [X])
+    requires { AcceptsEach F.Fn f.now items.old }
+    ensures { AllChanged F.Fn f.now items.old items.new }
+{
+    let threads = items.len().max(1);
+    thread::for_each_mut(rt, items, threads, f);
+}
+
+/// Runs the player beside the writers, and then tells these to stop.
+fn write_all<W, P, T>(rt: &T, out: &Writers, player: &mut P, writers: &mut [Writer<W>])
+where
+    W: Write + Send + Drop,
+    P: Player,
+    T: Threads + Wait + Sync,
+{
+    thread::join_mut(
+        rt,
+        &mut || run_all(rt, writers),
+        &mut || play(rt, out, player),
+    );
+}
+
+/// Runs each writer, in a thread of its own where one can be made.
+fn run_all<W, T>(rt: &T, writers: &mut [Writer<W>])
+where
+    W: Write + Send + Drop,
+    T: Threads + Wait + Sync,
+{
+    let threads = writers.len().max(1);
+    thread::for_each_mut(rt, writers, threads, &|_, writer| writer.run(rt));
+}
+
+/// Runs the player, and then tells the writers to stop.
+fn play<P: Player, T: Wait>(rt: &T, out: &Writers, player: &mut P) {
+    player.play(out);
+    out.stop(rt);
+}

@@ -1,0 +1,77 @@
+//! The worker that writes what one actor sends.
+
+use crate::frame::{Frame, Order};
+use crate::writers::{Lane, Writers};
+use crossbeam_channel::{Receiver, unbounded};
+use pvp_wire::encode;
+use std::alloc::{AllocError, Global};
+use std::io::Write;
+use std::sync::Wait;
+
+/// A stream to another actor.
+#[derive(Drop)]
+pub struct Outgoing<W> {
+    /// The number of the actor that reads it.
+    pub to: u16,
+    pub stream: W,
+}
+
+/// Takes what one actor sends off its channel, and writes each to the stream of its receiver.
+#[derive(Drop)]
+pub struct Writer<W> {
+    alloc: Global,
+    from: Receiver<Order>,
+    streams: Vec<Outgoing<W>>,
+}
+
+impl Writers {
+    /// No writers. It takes no memory.
+    pub fn new(alloc: Global) -> Self {
+        Writers {
+            lanes: Vec::new(alloc),
+        }
+    }
+
+    /// The writer of an actor, over a stream to each actor to which it sends. `Err` where memory is refused.
+    pub fn add<W: Write + Drop>(
+        &mut self,
+        alloc: Global,
+        actor: u16,
+        streams: Vec<Outgoing<W>>,
+    ) -> Result<Writer<W>, AllocError> {
+        let (to, from) = unbounded(alloc)?;
+        self.lanes.push(Lane { actor, to })?;
+        Ok(Writer {
+            alloc,
+            from,
+            streams,
+        })
+    }
+}
+
+impl<W: Write + Drop> Writer<W> {
+    /// Writes until it is told to stop, and then closes its streams by letting them go. A stream to which a write failed
+    /// is closed at once, since it may have taken part of a frame; what is for it from then on is lost.
+    pub(crate) fn run<T: Wait>(&mut self, rt: &T) {
+        for _ in rt.forever() {
+            match self.from.recv(rt) {
+                Ok(Order::Send(frame)) => self.write(&frame),
+                Ok(Order::Stop) | Err(_) => break,
+            }
+        }
+        self.streams.clear();
+    }
+
+    /// Writes a frame to the stream of its receiver.
+    fn write(&mut self, frame: &Frame) {
+        let stamped = frame.stamped();
+        let to = stamped.envelope.to;
+        let Some(at) = self.streams.iter().position(|out| out.to == to) else {
+            return;
+        };
+        let out = &mut self.streams[at];
+        if encode(self.alloc, stamped, &mut out.stream).is_err() {
+            self.streams.swap_remove(at);
+        }
+    }
+}

@@ -1,0 +1,85 @@
+//! What actors send, on its way to the writers.
+
+use crate::frame::{Frame, Order};
+use crossbeam_channel::{SendError, Sender};
+use pvp_book::Book;
+use pvp_peers::Outbox;
+use pvp_wire::{Stamp, Stamped};
+use std::alloc::Global;
+use std::sync::Wait;
+use std::thread;
+use vr_types::Envelope;
+
+/// One actor's writer, as others reach it.
+#[derive(Drop)]
+pub(crate) struct Lane {
+    pub(crate) actor: u16,
+    pub(crate) to: Sender<Order>,
+}
+
+/// The writers of all actors, as others reach them. Nothing blocks on them: their channels have no bound.
+#[derive(Drop)]
+pub struct Writers {
+    pub(crate) lanes: Vec<Lane>,
+}
+
+impl Writers {
+    /// Tells each writer to stop, again where memory for that is refused.
+    pub(crate) fn stop<T: Wait>(&self, rt: &T) {
+        for lane in self.lanes.as_slice() {
+            stop_one(rt, &lane.to);
+        }
+    }
+
+    fn lane(&self, actor: u16) -> Option<&Lane> {
+        self.lanes
+            .as_slice()
+            .iter()
+            .find(|lane| lane.actor == actor)
+    }
+}
+
+/// An envelope without a spelling, one for whose copy memory is refused, and one that the channel does not take are lost.
+impl Outbox for Writers {
+    fn put<T: Wait>(&self, rt: &T, alloc: Global, actor: u16, clock: u64, sent: &[Envelope<Book>]) {
+        let Some(lane) = self.lane(actor) else {
+            return;
+        };
+        let mut index = 0u32;
+        for envelope in sent {
+            let stamp = Stamp {
+                actor,
+                clock,
+                index,
+            };
+            send_one(rt, alloc, &lane.to, stamp, envelope);
+            index = index.saturating_add(1);
+        }
+    }
+}
+
+/// Sends a copy of an envelope to a writer.
+fn send_one<T: Wait>(
+    rt: &T,
+    alloc: Global,
+    to: &Sender<Order>,
+    stamp: Stamp,
+    envelope: &Envelope<Book>,
+) {
+    let Ok(envelope) = envelope.copy(alloc) else {
+        return;
+    };
+    if let Some(frame) = Frame::new(Stamped { stamp, envelope }) {
+        let _lost = to.send(rt, Order::Send(frame));
+    }
+}
+
+/// Tells a writer to stop, as often as memory for that is refused.
+fn stop_one<T: Wait>(rt: &T, to: &Sender<Order>) {
+    for _ in rt.forever() {
+        match to.send(rt, Order::Stop) {
+            Err(SendError::OutOfMemory(_)) => thread::yield_now(),
+            Ok(()) | Err(SendError::Disconnected(_)) => break,
+        }
+    }
+}
