@@ -1,0 +1,70 @@
+-- What the audit of a whole bank says.
+use Rattle.std.specs.Prelude.{◌≡◌, ℕ, ◌-◌, min, List, [], ◌∷◌, ◌++◌, slice_get, option_to_list, Option, Some}
+use Rattle.pvp_types.specs.declared.setup.Setup.{Setup}
+use Rattle.vr_types.specs.declared.cell.Boot.{Boot}
+use Rattle.vr_types.specs.declared.cell.MemCell.{MemCell}
+use Rattle.vr_types.specs.MemoryCell.{held_by}
+use Rattle.rtgs_node.specs.Shown as node
+use Rattle.pvp_world.specs.Client as client
+use Rattle.pvp_world.specs.World.{Shown, IsProved}
+use Rattle.pvp_rooms.specs.declared.actor.Actor.{Ghosts}
+use Rattle.pvp_rooms.specs.declared.cell.Closed.{Closed}
+use Rattle.pvp_rooms.specs.Nodes as nodes
+use Rattle.pvp_rooms.specs.Clients as clients
+use Rattle.pvp_audit.specs.declared.verdict.Verdict.{Verdict}
+use Rattle.pvp_audit.specs.declared.verdict.Verdict.TheVariants.{Yes as Passes, No as Fails}
+use Rattle.pvp_audit.specs.Runs.{AreOpenings}
+use Rattle.pvp_audit.specs.Verdicts.{Means}
+use Rattle.pvp_parties.specs.declared.party.Party.{Party}
+use Rattle.pvp_parties.specs.declared.party.Party.TheVariants.{Site, Node, Client}
+use Rattle.pvp_parties.specs.declared.party.PartyEvent.{PartyEvent}
+use Rattle.pvp_parties.specs.declared.party.PartyOutcome.{PartyOutcome}
+use Rattle.pvp_parties.specs.Alike as alike
+use Rattle.pvp_parties.specs.Alike.{AreAlikeSites}
+use Rattle.pvp_parties.specs.Parties.{PartyState, Opens, Shows, Comes, Reads, after, delivers, sent, is_for}
+use Rattle.pvp_judge.specs.declared.judgement.Judgement.{Judgement}
+use Rattle.pvp_judge.specs.declared.judgement.Judgement.TheVariants.{Yes, No}
+use Rattle.pvp_judge.specs.Retold.{WentThrough}
+
+-- what an actor of the bank left
+abbrev pub Left : Type 0
+Left = Closed Party (Option Boot) PartyEvent PartyOutcome
+
+-- the ghost members of an actor of the bank
+abbrev pub party : Ghosts Party (Option Boot) PartyEvent PartyOutcome
+party = record { State = PartyState; opens = Opens; shows = Shows; comes = Comes; after = after; reads = Reads }
+
+-- what the sites opened over, in order
+abbrev pub openings : List Left → List Boot
+openings [] = []
+openings (c ∷ more) = option_to_list c.opening ++ openings more
+
+-- the verdict is right, whatever right choices the sites take
+abbrev pub IsRightVerdict : List Left → Verdict → Type 0
+IsRightVerdict closed verdict = (start : ℕ → PartyState) → AreOpenings party closed start → Means party delivers sent is_for closed start verdict
+
+-- all tests pass
+abbrev pub AreSound : List Left → Type 0
+AreSound closed = IsRightVerdict closed Passes
+
+-- what an actor's reading calls show is what those of the world's actor of this number show
+abbrev pub ReadsWorld : Shown MemCell → ℕ → Party → Type 0
+ReadsWorld world number (Site p) = (v : alike.Site) × (slice_get world.sites (number - 200) ≡ Some v) × AreAlikeSites p.now v
+ReadsWorld world number (Node p) = (v : node.Shown) × (slice_get world.nodes (min (number - 101) 255) ≡ Some v) × nodes.Reads p.now v
+ReadsWorld world number (Client p) = (v : client.Shown) × (slice_get world.clients number ≡ Some v) × clients.Reads p.now v
+
+-- so of each actor
+abbrev pub EndsAgree : List Left → Shown MemCell → Type 0
+EndsAgree closed world = (k : ℕ) (c : Left) → slice_get closed k ≡ Some c → ReadsWorld world c.number c.end
+
+-- A YES: all tests pass; the world went through the merged list from a new one, over what the sites opened over; each actor
+-- ended as the world's; and the headline holds of the world
+pub record IsYes (setup : Setup) (closed : List Left) (world : Shown MemCell) : Type 0 where
+  pub sound : AreSound closed
+  pub went : WentThrough setup (openings closed) closed world
+  pub ends : EndsAgree closed world
+  pub headline : IsProved held_by world
+
+abbrev pub Judges : Setup → List Left → Judgement → Type 0
+Judges setup closed (Yes world) = IsYes setup closed world
+Judges setup closed (No actor event why) = IsRightVerdict closed (Fails actor event why)

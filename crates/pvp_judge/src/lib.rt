@@ -1,0 +1,12 @@
+//! The audit of a whole bank: what its actors left, judged as one run, and that run taken again in one world, of which the
+//! headline holds.
+#![tactic(auto)]
+
+mod ends;
+mod fitting;
+pub mod judgement;
+mod moves;
+mod numbers;
+mod replay;
+
+pub use judgement::{Judgement, NotTheBank, judge};
