@@ -1,0 +1,12 @@
+//! A bank that runs by itself: each actor behind its own lock and its own listener on this machine, frames between them,
+//! and at the end a judgement of all that they did.
+#![tactic(auto)]
+
+pub mod actors;
+pub mod events;
+mod player;
+pub mod running;
+pub mod told;
+
+pub use running::{LiveFault, live};
+pub use told::print_judgement;

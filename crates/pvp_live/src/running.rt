@@ -1,0 +1,206 @@
+//! A live run, from the first connection to the judgement.
+ghost use Rattle.std.specs.Prelude.{IfOk};
+ghost use Rattle.pvp_types.specs.Setup.{IsValid};
+ghost use Rattle.pvp_live.specs.Told.{WasJudged};
+
+use crate::actors::{Bank, numbers_of};
+use crate::player::{LinePlayer, Open, place_of};
+use pvp_judge::{Judgement, judge};
+use pvp_parties::{Party, PartyCell, PartySeat};
+use pvp_rooms::Closed;
+use pvp_streams::{
+    Connected, Incoming, NetFault, Peer, Sending, Writer, Writers, connect_all, serve_streams,
+};
+use pvp_text::script::Line;
+use pvp_types::Setup;
+use std::alloc::{AllocError, AllocFailed, Global};
+use std::io::{Read, Write};
+use std::net::Net;
+use std::sync::Wait;
+use std::thread::Threads;
+use std::time::Clock;
+
+/// Why there is no judgement.
+#[derive(Clone, Copy, Debug, PartialEq, Eq)]
+pub enum LiveFault {
+    /// A listener could not be opened, or a connection not be made.
+    Net,
+    /// Memory was refused.
+    NoMemory,
+    /// A seat did not come back.
+    Seats,
+}
+
+impl From<AllocError> for LiveFault {
+    fn from(_refused: AllocError) -> Self {
+        LiveFault::NoMemory
+    }
+}
+
+/// A refusal of memory is told as that.
+impl<T: Drop> From<AllocFailed<T>> for LiveFault {
+    fn from(_refused: AllocFailed<T>) -> Self {
+        LiveFault::NoMemory
+    }
+}
+
+impl From<NetFault> for LiveFault {
+    fn from(fault: NetFault) -> Self {
+        match fault {
+            NetFault::Net => LiveFault::Net,
+            NetFault::NoMemory => LiveFault::NoMemory,
+        }
+    }
+}
+
+/// Runs a bank by itself while a script is played, and judges what its actors did. Each actor has a lock of its own and a
+/// stream from each other that may send to it. At the script's end the writers stop, all workers end, and the actors are
+/// judged; a refused step of the script stands in the history.
+pub fn live<R>(rt: &R, alloc: Global, setup: &Setup, lines: &[Line]) -> Result<Judgement, LiveFault>
+where
+    R: Threads + Wait + Clock + Net + Sync,
+    R::Stream: Read + Write + Send + Drop,
+    requires { IsValid setup.now }
+    ensures { IfOk result (WasJudged setup.now) }
+{
+    let actors = numbers_of(alloc, setup)?;
+    let connected = connect_all(rt, alloc, actors.as_slice())?;
+    let Bank { cells, seats } = Bank::open(alloc, setup)?;
+    let seats = run(rt, alloc, cells.as_slice(), seats, connected, lines)?;
+    let closed = close_all(alloc, cells, seats)?;
+    match judge(alloc, setup, closed.as_slice()) {
+        Ok(judgement) => Ok(judgement),
+        Err(_) => Err(LiveFault::Seats),
+    }
+}
+
+/// Plays the script while all workers are at work, and answers the seats of each cell.
+fn run<R>(
+    rt: &R,
+    alloc: Global,
+    cells: &[PartyCell],
+    mut seats: Vec<Vec<PartySeat>>,
+    connected: Connected<R::Stream>,
+    lines: &[Line],
+) -> Result<Vec<Vec<PartySeat>>, LiveFault>
+where
+    R: Threads + Wait + Clock + Net + Sync,
+    R::Stream: Read + Write + Send + Drop,
+{
+    let Connected { incoming, outgoing } = connected;
+    let mut out = Writers::new(alloc);
+    let mut writers = writers_of(alloc, &mut out, outgoing)?;
+    let mut peers = peers_of(alloc, cells, seats.as_mut_slice(), incoming)?;
+    let mut player = LinePlayer {
+        rt,
+        alloc,
+        cells,
+        seats: own_seats(alloc, seats.as_mut_slice())?,
+        lines,
+    };
+    serve_streams(
+        rt,
+        alloc,
+        peers.as_mut_slice(),
+        writers.as_mut_slice(),
+        &out,
+        &Open,
+        &mut player,
+    );
+    let LinePlayer { seats: own, .. } = player;
+    give_back(cells, seats.as_mut_slice(), own)?;
+    give_back(cells, seats.as_mut_slice(), seats_of(alloc, peers)?)?;
+    Ok(seats)
+}
+
+/// A writer for each actor over its streams.
+fn writers_of<S: Write + Drop>(
+    alloc: Global,
+    out: &mut Writers,
+    outgoing: Vec<Sending<S>>,
+) -> Result<Vec<Writer<S>>, AllocError> {
+    let mut writers = Vec::with_capacity(alloc, outgoing.len())?;
+    for sending in outgoing {
+        let Sending { actor, streams } = sending;
+        writers.push(out.add(alloc, actor, streams)?)?;
+    }
+    Ok(writers)
+}
+
+/// A peer for each incoming stream, at the cell of its reader, with a seat of that cell.
+fn peers_of<'a, S: Drop>(
+    alloc: Global,
+    cells: &'a [PartyCell],
+    seats: &mut [Vec<PartySeat>],
+    incoming: Vec<Incoming<S>>,
+) -> Result<Vec<Peer<'a, Party, S>>, LiveFault> {
+    let mut peers = Vec::with_capacity(alloc, incoming.len())?;
+    for stream in incoming {
+        let Incoming { to, stream, .. } = stream;
+        let place = place_of(cells, to).ok_or(LiveFault::Seats)?;
+        let cell = cells.get(place).ok_or(LiveFault::Seats)?;
+        let free = seats.get_mut(place).ok_or(LiveFault::Seats)?;
+        let seat = free.pop().ok_or(LiveFault::Seats)?;
+        peers.push(Peer {
+            cell,
+            seat,
+            reader: stream,
+            end: None,
+        })?;
+    }
+    Ok(peers)
+}
+
+/// A seat of each cell, for the player.
+fn own_seats(alloc: Global, seats: &mut [Vec<PartySeat>]) -> Result<Vec<PartySeat>, LiveFault> {
+    let mut own = Vec::with_capacity(alloc, seats.len())?;
+    for free in seats {
+        own.push(free.pop().ok_or(LiveFault::Seats)?)?;
+    }
+    Ok(own)
+}
+
+/// The seats of peers.
+fn seats_of<S: Drop>(
+    alloc: Global,
+    peers: Vec<Peer<'_, Party, S>>,
+) -> Result<Vec<PartySeat>, AllocError> {
+    let mut seats = Vec::with_capacity(alloc, peers.len())?;
+    for peer in peers {
+        let Peer { seat, .. } = peer;
+        seats.push(seat)?;
+    }
+    Ok(seats)
+}
+
+/// Gives seats back, each to its cell.
+fn give_back(
+    cells: &[PartyCell],
+    seats: &mut [Vec<PartySeat>],
+    given: Vec<PartySeat>,
+) -> Result<(), LiveFault> {
+    for seat in given {
+        let place = place_of(cells, seat.actor()).ok_or(LiveFault::Seats)?;
+        let own = seats.get_mut(place).ok_or(LiveFault::Seats)?;
+        own.push(seat)?;
+    }
+    Ok(())
+}
+
+/// Closes each cell with its seats.
+fn close_all(
+    alloc: Global,
+    cells: Vec<PartyCell>,
+    seats: Vec<Vec<PartySeat>>,
+) -> Result<Vec<Closed<Party>>, LiveFault> {
+    let mut closed = Vec::with_capacity(alloc, cells.len())?;
+    let mut seats = seats.into_iter();
+    for cell in cells {
+        let own = seats.next().ok_or(LiveFault::Seats)?;
+        match cell.close(own) {
+            Ok(one) => closed.push(one)?,
+            Err(_) => return Err(LiveFault::Seats),
+        }
+    }
+    Ok(closed)
+}

@@ -1,0 +1,59 @@
+//! A judgement in words.
+ghost use Rattle.std.specs.Prelude.{◌≡◌, ◌⊎◌, ◌++◌, Err, OnOk, IfErr, string_bytes};
+ghost use Rattle.std.specs.Io.KnownBytes.{Appends};
+ghost use Rattle.pvp_text.specs.declared.book.RunFault.TheVariants.{NoMemory, Output};
+ghost use Rattle.pvp_live.specs.Told.{judgement_text, code_text};
+
+use pvp_audit::Why;
+use pvp_judge::Judgement;
+use pvp_play::books::push_books;
+use pvp_text::book::{RunFault, write_text};
+use std::alloc::{AllocError, Global};
+use std::io::Write;
+
+/// Writes the books of a Yes and `audit yes`, or of a No the one line `audit no ACTOR EVENT CODE`. Where memory is refused
+/// nothing is written; how much was where the writer fails is not said.
+pub fn print_judgement<W: Write>(
+    alloc: Global,
+    judgement: &Judgement,
+    writer: &mut W,
+) -> Result<(), RunFault>
+    ensures written { OnOk result
+        (Appends (W.contents writer.old) (W.contents writer.new) (judgement_text judgement.now)) }
+    ensures fault { IfErr result (λ fault. (fault ≡ NoMemory) ⊎ (fault ≡ Output)) }
+    ensures no_memory { result ≡ Err NoMemory → writer.new ≡ writer.old }
+{
+    let mut text = String::new(alloc);
+    push_judgement(&mut text, judgement)?;
+    write_text(writer, text.as_str())
+}
+
+/// Appends a judgement.
+fn push_judgement(text: &mut String, judgement: &Judgement) -> Result<(), AllocError>
+    ensures { OnOk result (string_bytes text.new ≡ string_bytes text.old ++ judgement_text judgement.now) }
+{
+    match judgement {
+        Judgement::Yes(world) => {
+            push_books(text, world)?;
+            text.push_str("audit yes\n")
+        }
+        Judgement::No { actor, event, why } => {
+            let code = code_of(*why);
+            write!(text, "audit no {actor} {event} {code}\n")
+        }
+    }
+}
+
+/// The code of a test.
+fn code_of(why: Why) -> &'static str
+    ensures { result.now ≡ code_text why }
+{
+    match why {
+        Why::Stamped => "A1",
+        Why::Clock => "A2",
+        Why::Answered => "A3",
+        Why::End => "A4",
+        Why::Receipts => "A5",
+        Why::NoMemory => "A6",
+    }
+}
