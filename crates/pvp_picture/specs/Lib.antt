@@ -1,0 +1,4 @@
+pub mod Escape
+pub mod Picture
+pub mod Replay
+pub mod Scene

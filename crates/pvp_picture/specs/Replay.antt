@@ -1,0 +1,57 @@
+-- Where the sites of a world stand, and where they stood along a run.
+use Rattle.std.specs.Prelude.{◌≡◌, ℕ, ◌+◌, ◌*◌, ◌==◌, ◌&&◌, true, List, [], ◌∷◌, Option, option_map, slice_get}
+use Rattle.std.specs.List.{filter_map, range_with_len}
+use Rattle.pvp_types.specs.declared.command.Cmd.{Cmd}
+use Rattle.pvp_types.specs.declared.setup.Setup.{Setup}
+use Rattle.pvp_types.specs.Setup.{faults}
+use Rattle.vr_types.specs.declared.cell.MemCell.{MemCell}
+use Rattle.vr_types.specs.MemoryCell.{held_by}
+use Rattle.vr_types.specs.Group.{primary}
+use Rattle.vr_types.specs.Site.{is_normal}
+use Rattle.vr_site.specs.Replica.{Shown as Replica}
+use Rattle.pvp_world.specs.World.{Shown as World}
+use Rattle.pvp_trace.specs.declared.attempt.Attempt.{Attempt}
+use Rattle.pvp_trace.specs.contracts.attempt.AttemptPartialEq.TheImpl.{ghosts as equal}
+use Rattle.pvp_trace.specs.Attempts.{Attempts}
+use Rattle.pvp_picture.specs.declared.scene.Standing.{Standing}
+
+-- where a site stands: it leads where it is normal, in a view of which it is the primary
+abbrev pub standing_of : ℕ → ℕ → Replica Cmd Setup MemCell → Standing
+standing_of f number site = record {
+  status = site.volatile.status;
+  view = site.volatile.view;
+  leads = is_normal site.volatile.status && (primary f site.volatile.view == number);
+  done = site.volatile.done;
+  boots = (held_by site.cell).boots;
+}
+
+-- where a site of a world stands, if it is there
+abbrev pub standing_at : World MemCell → ℕ → Option Standing
+standing_at world number = option_map (standing_of (faults world.setup) number) (slice_get world.sites number)
+
+-- where all sites of a world stand, in order
+abbrev pub standings_of : World MemCell → List Standing
+standings_of world = filter_map (standing_at world) (range_with_len 0 (2 * faults world.setup + 1))
+
+-- a step that was noted was tried again, and came out the same, as `==` finds
+pub record ComesAgain (old new : World MemCell) (noted : Attempt) : Type 0 where
+  pub again : Attempt
+  pub attempts : Attempts held_by old new noted.step again
+  pub same : equal.eq again noted ≡ true
+
+-- the attempts one after another: each came out the same in the world that the one before it left; and where the sites stand
+-- after each
+abbrev pub Replays : World MemCell → List Attempt → World MemCell → List (List Standing) → Type 0
+Replays first [] last after = (last ≡ first) × (after ≡ [])
+Replays first (attempt ∷ attempts) last after =
+    (next : World MemCell) × ComesAgain first next attempt
+    × (others : List (List Standing)) × (after ≡ standings_of next ∷ others) × Replays next attempts last others
+
+-- before the first attempt, and after each up to this world
+abbrev pub StandUpTo : World MemCell → List Attempt → World MemCell → List (List Standing) → Type 0
+StandUpTo first attempts last all =
+    (after : List (List Standing)) × (all ≡ standings_of first ∷ after) × Replays first attempts last after
+
+-- WHERE SITES STAND along a run of attempts from this world on
+abbrev pub StandAlong : World MemCell → List Attempt → List (List Standing) → Type 0
+StandAlong first attempts all = (last : World MemCell) × StandUpTo first attempts last all

@@ -1,0 +1,62 @@
+-- Which steps of a run a scene shows, and what it has of each, and of envelopes.
+use Rattle.std.specs.Prelude.{◌≡◌, ℕ, ◌+◌, ◌-◌, List, [], length, min, slice_get, Option, Some, None, option_map, unwrap_or, Result, Ok, Err, All, string_bytes}
+use Rattle.pvp_types.specs.declared.setup.Setup.{Setup}
+use Rattle.rtgs_node.specs.Node.{Envelope}
+use Rattle.vr_types.specs.declared.event.Why.{Why}
+use Rattle.pvp_world.specs.declared.fault.WorldFault.{WorldFault}
+use Rattle.pvp_world.specs.declared.report.Report.{Report}
+use Rattle.pvp_trace.specs.declared.attempt.Attempt.{Attempt}
+use Rattle.pvp_trace.specs.Attempts.{envelope_of, step_text}
+use Rattle.pvp_trace.specs.Messages.{envelope_text}
+use Rattle.pvp_picture.specs.declared.scene.Ending.{Ending}
+use Rattle.pvp_picture.specs.declared.scene.Ending.TheVariants.{Taken, Dropped, Refused}
+use Rattle.pvp_picture.specs.declared.scene.Flight.{Flight}
+use Rattle.pvp_picture.specs.declared.scene.Scene.{Scene}
+use Rattle.pvp_picture.specs.declared.scene.Standing.{Standing}
+use Rattle.pvp_picture.specs.declared.scene.Turn.{Turn}
+
+-- what came of a step
+
+abbrev pub dropped_for : Option Why → Ending
+dropped_for None = Taken
+dropped_for (Some why) = Dropped why
+
+abbrev pub ending_of : Result Report WorldFault → Ending
+ending_of (Ok report) = dropped_for report.dropped
+ending_of (Err fault) = Refused fault
+
+-- where sites stood after so many steps
+abbrev pub standings_after : List (List Standing) → ℕ → List Standing
+standings_after along count = unwrap_or (slice_get along count) []
+
+-- A STEP AS A SCENE HAS IT: its number, counted from 1, its words as a trace has them, what came of it, and where the sites
+-- stood after it
+pub record IsTurn (setup : Setup) (post : List Envelope) (noted : List Attempt) (along : List (List Standing)) (place : ℕ) (turn : Turn) : Type 0 where
+  pub attempt : Attempt
+  pub is_noted : slice_get noted place ≡ Some attempt
+  pub number : turn.number ≡ place + 1
+  pub words : string_bytes turn.words ≡ step_text setup post attempt.step
+  pub ending : turn.ending ≡ ending_of attempt.result
+  pub standings : turn.standings.items ≡ standings_after along (place + 1)
+
+-- so many steps from a place on
+pub record AreTurns (setup : Setup) (post : List Envelope) (noted : List Attempt) (along : List (List Standing)) (first size : ℕ) (turns : List Turn) : Type 0 where
+  pub count : length turns ≡ size
+  pub each : (i : ℕ) (turn : Turn) → slice_get turns i ≡ Some turn → IsTurn setup post noted along (first + i) turn
+
+-- AN ENVELOPE AS A SCENE HAS IT: one of the post, by its number, between whom it goes, and its whole message as a trace has it
+pub record IsFlight (setup : Setup) (post : List Envelope) (flight : Flight) : Type 0 where
+  pub envelope : Envelope
+  pub is_sent : envelope_of post flight.number ≡ Some envelope
+  pub from : flight.from ≡ envelope.from
+  pub to : flight.to ≡ envelope.to
+  pub words : string_bytes flight.words ≡ envelope_text setup envelope
+
+-- A SCENE of the steps of a run that stand from `first` on and before `end`: all of them that there are, with how many stand
+-- before and after, and where the sites stood before
+pub record ShowsPart (setup : Setup) (post : List Envelope) (noted : List Attempt) (along : List (List Standing)) (first end : ℕ) (scene : Scene) : Type 0 where
+  pub earlier : scene.earlier ≡ min first (min end (length noted))
+  pub later : scene.later ≡ length noted - min end (length noted)
+  pub turns : AreTurns setup post noted along scene.earlier (min end (length noted) - scene.earlier) scene.turns.items
+  pub opening : scene.opening.items ≡ standings_after along scene.earlier
+  pub flights : All (IsFlight setup post) scene.flights.items

@@ -1,0 +1,38 @@
+//! Steps that deliver nothing: a dot at whose turn it was, or a cross and why nothing came of it.
+
+use crate::arrows::push_cross;
+use crate::labels::{Stack, why_name};
+use crate::layout::row_of;
+use crate::scene::{Ending, Scene, Turn};
+use std::alloc::AllocError;
+
+/// Writes a step that delivers nothing, where there is the actor whose turn it was.
+pub fn push_act(text: &mut String, scene: &Scene, x: usize, turn: &Turn) -> Result<(), AllocError> {
+    let Some(actor) = turn.actor else {
+        return Ok(());
+    };
+    if turn.delivers {
+        return Ok(());
+    }
+    let y = row_of(scene.actors.as_slice(), actor);
+    let mut stack = Stack::new(x, y, true);
+    match turn.ending {
+        Ending::Taken => push_dot(text, x, y),
+        Ending::Dropped(why) => {
+            push_cross(text, x, y)?;
+            stack.push(text, "why", why_name(why))
+        }
+        Ending::Refused(fault) => {
+            push_cross(text, x, y)?;
+            stack.push_code(text, fault)
+        }
+    }
+}
+
+/// Writes a dot.
+pub fn push_dot(text: &mut String, x: usize, y: usize) -> Result<(), AllocError> {
+    write!(
+        text,
+        "<circle cx=\"{x}\" cy=\"{y}\" r=\"4.5\" fill=\"#111\"/>\n"
+    )
+}

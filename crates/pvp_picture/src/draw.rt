@@ -1,0 +1,169 @@
+//! The whole picture of a scene.
+
+use crate::acts::push_act;
+use crate::arrows::{push_ending, push_flights, push_numbers};
+use crate::escape::{push_cut, push_escaped};
+use crate::layout::{Stroke, TOP, column, height, legend_top, width};
+use crate::legend::push_legend;
+use crate::lifeline::{push_all_news, push_lifelines, push_line};
+use crate::scene::{Scene, Turn};
+use std::alloc::{AllocError, Global};
+
+/// How many signs of a step are shown above it.
+const MOST_SIGNS: usize = 38;
+
+/// How far above the first lifeline the steps' names begin.
+const NAMES: usize = 48;
+
+/// The look of each class. Statuses differ in dashes and in lightness, and every one is also told in words.
+const STYLE: &str = "<style>
+text{font-family:'DejaVu Sans',Verdana,sans-serif;font-size:11px;fill:#111;paint-order:stroke;stroke:#fff;stroke-width:3px}
+.heading{font-size:17px;font-weight:bold}
+.actor{font-size:14px;font-weight:bold}
+.number{font-weight:bold}
+.status{fill:#333}
+.leads{font-weight:bold}
+.why{fill:#8a0000;font-weight:bold}
+.plain{stroke:#555;stroke-width:1.5}
+.normal{stroke:#00406b;stroke-width:6}
+.change{stroke:#c05a00;stroke-width:6;stroke-dasharray:10 4}
+.recovering{stroke:#7fb8e6;stroke-width:6;stroke-dasharray:3 3}
+.down{stroke:#999;stroke-width:2;stroke-dasharray:2 7}
+.lead{stroke:#00406b;stroke-width:1.5}
+.guide{stroke:#e4e4e4;stroke-width:1}
+.tick{stroke:#000;stroke-width:2.5}
+.save{fill:#fff;stroke:#000;stroke-width:2}
+.arrow{stroke:#333;stroke-width:1.3;marker-end:url(#head)}
+.lost{stroke:#8a0000;stroke-width:1.3;stroke-dasharray:6 3}
+.cross{stroke:#8a0000;stroke-width:2.5;fill:none}
+.stub{stroke:#333;stroke-width:1.3;stroke-dasharray:2 2}
+.later{stroke:#333;stroke-width:1.3;stroke-dasharray:2 2;marker-end:url(#head)}
+.ring{fill:#fff;stroke:#333;stroke-width:1.3}
+</style>
+";
+
+/// The head of an arrow.
+const HEAD: &str =
+    "<defs><marker id=\"head\" viewBox=\"0 0 10 10\" refX=\"8\" refY=\"5\" markerWidth=\"8\" markerHeight=\"8\" orient=\"auto\"><path d=\"M0 1L9 5L0 9z\" fill=\"#333\"/></marker></defs>
+";
+
+/// The picture of a scene, as one SVG that stands alone. `Err` where memory is refused.
+pub fn drawn(alloc: Global, scene: &Scene) -> Result<String, AllocError> {
+    let mut text = String::new(alloc);
+    push_opening(&mut text, scene)?;
+    push_heading(&mut text, scene)?;
+    push_guides(&mut text, scene)?;
+    push_lifelines(&mut text, scene)?;
+    push_flights(&mut text, scene)?;
+    push_names(&mut text, scene)?;
+    push_all_news(&mut text, scene)?;
+    push_numbers(&mut text, scene)?;
+    push_legend(&mut text, scene)?;
+    text.push_str("</svg>\n")?;
+    Ok(text)
+}
+
+/// Writes what stands before all else: how large the picture is, its looks and its ground.
+fn push_opening(text: &mut String, scene: &Scene) -> Result<(), AllocError> {
+    let width = width(scene);
+    let height = height(scene);
+    text.push_str("<svg xmlns=\"http://www.w3.org/2000/svg\" role=\"img\"")?;
+    write!(
+        text,
+        " width=\"{width}\" height=\"{height}\" viewBox=\"0 0 {width} {height}\">\n"
+    )?;
+    text.push_str(STYLE)?;
+    text.push_str(HEAD)?;
+    write!(
+        text,
+        "<rect width=\"{width}\" height=\"{height}\" fill=\"#fff\"/>\n"
+    )
+}
+
+/// Writes the title: which steps of how many are shown.
+fn push_heading(text: &mut String, scene: &Scene) -> Result<(), AllocError> {
+    text.push_str("<text class=\"heading\" x=\"14\" y=\"28\">A run of the bank: ")?;
+    push_which(text, scene)?;
+    text.push_str("</text>\n")
+}
+
+/// Appends which steps are shown, and how many are not.
+fn push_which(text: &mut String, scene: &Scene) -> Result<(), AllocError> {
+    let shown = scene.turns.len();
+    let first = scene.earlier.saturating_add(1);
+    let last = scene.earlier.saturating_add(shown);
+    let total = last.saturating_add(scene.later);
+    if shown == 0 {
+        write!(text, "no step of {total}")?;
+    } else {
+        write!(text, "steps {first} to {last} of {total}")?;
+    }
+    push_more(text, scene.earlier, " before them")?;
+    push_more(text, scene.later, " after them")
+}
+
+/// Appends how many more steps there are, where there are some.
+fn push_more(text: &mut String, count: usize, side: &str) -> Result<(), AllocError> {
+    if count == 0 {
+        return Ok(());
+    }
+    write!(text, ", {count} more")?;
+    text.push_str(side)
+}
+
+/// Writes a pale line below the name of each step, down to the last lifeline.
+fn push_guides(text: &mut String, scene: &Scene) -> Result<(), AllocError> {
+    let low = legend_top(scene).saturating_sub(50);
+    for place in 0..scene.turns.len() {
+        let x = column(place);
+        push_line(
+            text,
+            "guide",
+            Stroke {
+                x1: x,
+                y1: TOP.saturating_sub(NAMES),
+                x2: x,
+                y2: low,
+            },
+        )?;
+    }
+    Ok(())
+}
+
+/// Writes the names of steps, and crosses for those that were refused and delivered nothing.
+fn push_names(text: &mut String, scene: &Scene) -> Result<(), AllocError> {
+    for (place, turn) in scene.turns.iter().enumerate() {
+        push_name(text, scene, place, turn)?;
+    }
+    Ok(())
+}
+
+/// Writes the name of a step, leaning, with all of it under the pointer.
+fn push_name(
+    text: &mut String,
+    scene: &Scene,
+    place: usize,
+    turn: &Turn,
+) -> Result<(), AllocError> {
+    let x = column(place);
+    let y = TOP.saturating_sub(NAMES).saturating_sub(6);
+    let number = turn.number;
+    write!(
+        text,
+        "<g transform=\"translate({x} {y}) rotate(-60)\"><text>"
+    )?;
+    push_turn_title(text, turn)?;
+    write!(text, "<tspan font-weight=\"bold\">{number}</tspan> ")?;
+    push_cut(text, turn.short.as_str(), MOST_SIGNS)?;
+    text.push_str("</text></g>\n")?;
+    push_act(text, scene, x, turn)
+}
+
+/// Writes what a browser shows of a step under the pointer.
+fn push_turn_title(text: &mut String, turn: &Turn) -> Result<(), AllocError> {
+    let number = turn.number;
+    write!(text, "<title>step {number}: ")?;
+    push_escaped(text, turn.words.as_str())?;
+    push_ending(text, turn.ending)?;
+    text.push_str("</title>")
+}

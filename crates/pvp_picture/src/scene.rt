@@ -1,0 +1,88 @@
+//! What happened in a run, as data: a picture is drawn from it alone.
+
+use pvp_world::WorldFault;
+use vr_types::{Status, Why};
+
+/// Where a site stands after a step.
+#[derive(Clone, Copy, Debug, PartialEq, Eq)]
+pub struct Standing {
+    pub status: Status,
+    pub view: u32,
+    /// Whether it is the primary of its view, and normal in it.
+    pub leads: bool,
+    /// How many rows it has executed.
+    pub done: usize,
+    /// What its boot cell holds.
+    pub boots: u32,
+}
+
+/// What came of a step.
+#[derive(Clone, Copy, Debug, PartialEq, Eq)]
+pub enum Ending {
+    Taken,
+    /// A site dropped the event.
+    Dropped(Why),
+    /// The step was refused, or the site fell.
+    Refused(WorldFault),
+}
+
+/// An actor that has a lifeline.
+#[derive(Debug, Drop)]
+pub struct Actor {
+    pub number: u16,
+    pub name: String,
+    /// Its number among the sites, where it is one.
+    pub site: Option<usize>,
+}
+
+/// A step that is shown.
+#[derive(Debug, Drop)]
+pub struct Turn {
+    /// Its number among all that were tried, from 1.
+    pub number: usize,
+    /// Whose turn it was, where there was one.
+    pub actor: Option<u16>,
+    /// What it was, in few words and in all.
+    pub short: String,
+    pub words: String,
+    pub ending: Ending,
+    /// Whether it delivers an envelope.
+    pub delivers: bool,
+    /// Whether it delivers an envelope of an actor whose lifeline stands below.
+    pub from_below: bool,
+    /// Where each site stands after it.
+    pub standings: Vec<Standing>,
+}
+
+/// An envelope on one of its ways.
+#[derive(Debug, Drop)]
+pub struct Flight {
+    /// Its number.
+    pub number: usize,
+    pub from: u16,
+    pub to: u16,
+    /// The number of the step that sent it.
+    pub sent: usize,
+    /// The number of the step that delivered it; `None` where none ever did.
+    pub came: Option<usize>,
+    /// What came of that step.
+    pub ending: Ending,
+    /// How many envelopes of the same step stand as stubs before it.
+    pub rank: usize,
+    /// The whole message, and between whom.
+    pub words: String,
+}
+
+/// A run, or some steps of it.
+#[derive(Debug, Drop)]
+pub struct Scene {
+    /// Clients and nodes that took part, then the sites.
+    pub actors: Vec<Actor>,
+    /// Where each site stands before the first step that is shown.
+    pub opening: Vec<Standing>,
+    pub turns: Vec<Turn>,
+    pub flights: Vec<Flight>,
+    /// How many steps were tried before those that are shown, and how many after.
+    pub earlier: usize,
+    pub later: usize,
+}

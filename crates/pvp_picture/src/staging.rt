@@ -1,0 +1,400 @@
+//! A scene, made of a run that was noted.
+
+ghost use Rattle.std.specs.Prelude.{◌≡◌, ◌<◌, ◌≤◌, ◌-◌, length, map, All, IfOk, OnOk};
+ghost use Rattle.pvp_picture.specs.Scene.{ending_of, standings_after, IsTurn, AreTurns, IsFlight, ShowsPart};
+
+use crate::scene::{Actor, Ending, Flight, Scene, Standing, Turn};
+use pvp_trace::Attempt;
+use pvp_trace::attempt::push_step;
+use pvp_trace::messages::{kind_name, push_envelope};
+use pvp_trace::names::push_actor;
+use pvp_world::{FIRST_NODE, FIRST_SITE, Report, Step, World, WorldFault};
+use std::alloc::{AllocError, Global};
+use vr_types::MemCell;
+
+/// A run: its world at the end, its steps, and where the sites stood before the first and after each.
+#[derive(Drop)]
+pub struct Run<'a> {
+    pub world: &'a World<MemCell>,
+    pub noted: &'a [Attempt],
+    pub standings: &'a [Vec<Standing>],
+}
+
+/// By which steps envelopes were sent and first delivered, by their places on the post; 0 where a step never did.
+#[derive(Drop)]
+struct Routes {
+    sent: Vec<usize>,
+    came: Vec<usize>,
+}
+
+/// The scene of the steps of a run that stand from `first` on and before `end`, counted from 0.
+pub fn stage(alloc: Global, run: &Run, first: usize, end: usize) -> Result<Scene, AllocError>
+    ensures { IfOk result (ShowsPart run.now.world.now.setup run.now.world.now.post run.now.noted.now
+        (map (λ standings. standings.items) run.now.standings.now) first end) }
+{
+    let total = run.noted.len();
+    let end = end.min(total);
+    let first = first.min(end);
+    let turns = turns_of(alloc, run, first, end)?;
+    let flights = flights_of(alloc, run, first, end)?;
+    Ok(Scene {
+        actors: actors_of(alloc, run, turns.as_slice(), flights.as_slice())?,
+        opening: standings_at(alloc, run, first)?,
+        turns,
+        flights,
+        earlier: first,
+        later: total - end,
+    })
+}
+
+/// Where the sites stood after so many steps.
+fn standings_at(alloc: Global, run: &Run, count: usize) -> Result<Vec<Standing>, AllocError>
+    ensures { IfOk result (λ all. all.items
+        ≡ standings_after (map (λ standings. standings.items) run.now.standings.now) count) }
+{
+    match run.standings.get(count) {
+        Some(standings) => Vec::from_slice(alloc, standings.as_slice()),
+        None => Ok(Vec::new(alloc)),
+    }
+}
+
+/// The steps that stand from `first` on and before `end`.
+fn turns_of(alloc: Global, run: &Run, first: usize, end: usize) -> Result<Vec<Turn>, AllocError>
+    requires order { first ≤ end }
+    requires there { end ≤ length run.now.noted.now }
+    ensures { IfOk result (λ turns. AreTurns run.now.world.now.setup run.now.world.now.post run.now.noted.now
+        (map (λ standings. standings.items) run.now.standings.now) first (end - first) turns.items) }
+{
+    let mut turns = Vec::new(alloc);
+    for place in first..end {
+        turns.push(turn_of(alloc, run, place)?)?;
+    }
+    Ok(turns)
+}
+
+/// The step at a place.
+fn turn_of(alloc: Global, run: &Run, place: usize) -> Result<Turn, AllocError>
+    requires { place < length run.now.noted.now }
+    ensures { IfOk result (IsTurn run.now.world.now.setup run.now.world.now.post run.now.noted.now
+        (map (λ standings. standings.items) run.now.standings.now) place) }
+{
+    let attempt = run.noted[place];
+    let mut words = String::new(alloc);
+    push_step(&mut words, run.world, attempt.step)?;
+    let mut short = String::new(alloc);
+    push_short(&mut short, run.world, attempt.step)?;
+    Ok(Turn {
+        number: place + 1,
+        actor: actor_of(run.world, attempt.step),
+        short,
+        words,
+        ending: ending_of(attempt.result),
+        delivers: matches!(attempt.step, Step::Deliver(_)),
+        from_below: is_from_below(run.world, attempt.step),
+        standings: standings_at(alloc, run, place + 1)?,
+    })
+}
+
+/// By which steps the envelopes of a run were sent and delivered.
+fn routes_of(alloc: Global, run: &Run) -> Result<Routes, AllocError> {
+    let mut routes = Routes {
+        sent: Vec::new(alloc),
+        came: Vec::new(alloc),
+    };
+    for place in 0..run.noted.len() {
+        if let Some(attempt) = run.noted.get(place) {
+            note_sent(&mut routes, *attempt, place.saturating_add(1))?;
+            note_came(&mut routes, *attempt, place.saturating_add(1));
+        }
+    }
+    Ok(routes)
+}
+
+/// Notes which envelopes a step sent.
+fn note_sent(routes: &mut Routes, attempt: Attempt, number: usize) -> Result<(), AllocError> {
+    for _sent in attempt.before..attempt.after {
+        routes.sent.push(number)?;
+        routes.came.push(0)?;
+    }
+    Ok(())
+}
+
+/// Notes which envelope a step delivered first, where it did.
+fn note_came(routes: &mut Routes, attempt: Attempt, number: usize) {
+    if let Step::Deliver(envelope) = attempt.step {
+        if let Some(came) = routes.came.get_mut(envelope.wrapping_sub(1)) {
+            if *came == 0 {
+                *came = number;
+            }
+        }
+    }
+}
+
+/// Appends a step in few words: of a delivery the kind of its message, of all else what a script's line says.
+fn push_short(text: &mut String, world: &World<MemCell>, step: Step) -> Result<(), AllocError> {
+    let Step::Deliver(number) = step else {
+        return push_step(text, world, step);
+    };
+    write!(text, "deliver {number}")?;
+    match world.envelope(number) {
+        Some(envelope) => {
+            text.push_str(" ")?;
+            text.push_str(kind_name(&envelope.msg))
+        }
+        None => Ok(()),
+    }
+}
+
+/// Whose turn a step is, where there is such an actor.
+fn actor_of(world: &World<MemCell>, step: Step) -> Option<u16> {
+    match step {
+        Step::Deliver(number) => world.envelope(number).map(|envelope| envelope.to),
+        Step::PayIn { ccy, .. } | Step::Close { ccy, .. } => {
+            Some(FIRST_NODE.saturating_add(u16::from(ccy)))
+        }
+        Step::Submit { client, .. } => Some(client),
+        Step::Beat(actor) => Some(actor),
+        Step::Timer(site) | Step::Crash(site) | Step::Restart(site) => {
+            Some(FIRST_SITE.saturating_add(site))
+        }
+    }
+}
+
+/// Whether a step delivers an envelope of an actor that has the greater number: lifelines stand in that order.
+fn is_from_below(world: &World<MemCell>, step: Step) -> bool {
+    match step {
+        Step::Deliver(number) => {
+            world
+                .envelope(number)
+                .map_or(false, |envelope| envelope.from > envelope.to)
+        }
+        _ => false,
+    }
+}
+
+/// What came of a step.
+fn ending_of(came: Result<Report, WorldFault>) -> Ending
+    ensures { result ≡ ending_of came }
+{
+    match came {
+        Ok(report) => match report.dropped {
+            Some(why) => Ending::Dropped(why),
+            None => Ending::Taken,
+        },
+        Err(fault) => Ending::Refused(fault),
+    }
+}
+
+/// The envelopes that the steps from `first` on and before `end` deliver, and those that they sent and that none of them
+/// delivers.
+fn flights_of(alloc: Global, run: &Run, first: usize, end: usize) -> Result<Vec<Flight>, AllocError>
+    ensures { IfOk result (λ flights. All (IsFlight run.now.world.now.setup run.now.world.now.post) flights.items) }
+{
+    let routes = routes_of(alloc, run)?;
+    let mut flights = Vec::new(alloc);
+    for place in first..end {
+        push_delivered(alloc, &mut flights, run, &routes, place)?;
+        push_sent(alloc, &mut flights, run, &routes, place, end)?;
+    }
+    Ok(flights)
+}
+
+/// Adds the envelope that a step delivers, where it does.
+fn push_delivered(
+    alloc: Global,
+    flights: &mut Vec<Flight>,
+    run: &Run,
+    routes: &Routes,
+    place: usize,
+) -> Result<(), AllocError>
+    requires { All (IsFlight run.now.world.now.setup run.now.world.now.post) flights.old.items }
+    ensures { OnOk result (All (IsFlight run.now.world.now.setup run.now.world.now.post) flights.new.items) }
+{
+    let Some(attempt) = run.noted.get(place) else {
+        return Ok(());
+    };
+    let Step::Deliver(number) = attempt.step else {
+        return Ok(());
+    };
+    let way = Way {
+        number,
+        sent: step_of(routes.sent.as_slice(), number),
+        came: place.checked_add(1),
+        ending: ending_of(attempt.result),
+        rank: 0,
+    };
+    push_flight(alloc, flights, run.world, way)
+}
+
+/// Adds the envelopes that a step sent and that no step before `end` delivers.
+fn push_sent(
+    alloc: Global,
+    flights: &mut Vec<Flight>,
+    run: &Run,
+    routes: &Routes,
+    place: usize,
+    end: usize,
+) -> Result<(), AllocError>
+    requires { All (IsFlight run.now.world.now.setup run.now.world.now.post) flights.old.items }
+    ensures { OnOk result (All (IsFlight run.now.world.now.setup run.now.world.now.post) flights.new.items) }
+{
+    let Some(attempt) = run.noted.get(place) else {
+        return Ok(());
+    };
+    let mut rank: usize = 0;
+    for sent in attempt.before..attempt.after {
+        let number = sent.saturating_add(1);
+        let came = step_of(routes.came.as_slice(), number);
+        if came == 0 || came > end {
+            let way = Way {
+                number,
+                sent: place.saturating_add(1),
+                came: if came == 0 { None } else { Some(came) },
+                ending: Ending::Taken,
+                rank,
+            };
+            push_flight(alloc, flights, run.world, way)?;
+            rank = rank.saturating_add(1);
+        }
+    }
+    Ok(())
+}
+
+/// The step that is noted for an envelope, 0 where none is.
+fn step_of(steps: &[usize], envelope: usize) -> usize {
+    match envelope.checked_sub(1) {
+        Some(place) => steps.get(place).copied().unwrap_or(0),
+        None => 0,
+    }
+}
+
+/// One way of an envelope: by which steps it was sent and delivered, what came of it, and how many stubs stand before it.
+#[derive(Clone, Copy)]
+struct Way {
+    number: usize,
+    sent: usize,
+    came: Option<usize>,
+    ending: Ending,
+    rank: usize,
+}
+
+/// Adds a way of an envelope, where one has the number.
+fn push_flight(
+    alloc: Global,
+    flights: &mut Vec<Flight>,
+    world: &World<MemCell>,
+    way: Way,
+) -> Result<(), AllocError>
+    requires { All (IsFlight world.now.setup world.now.post) flights.old.items }
+    ensures { OnOk result (All (IsFlight world.now.setup world.now.post) flights.new.items) }
+{
+    let Some(envelope) = world.envelope(way.number) else {
+        return Ok(());
+    };
+    let mut words = String::new(alloc);
+    push_envelope(&mut words, world.setup(), envelope)?;
+    flights.push(Flight {
+        number: way.number,
+        from: envelope.from,
+        to: envelope.to,
+        sent: way.sent,
+        came: way.came,
+        ending: way.ending,
+        rank: way.rank,
+        words,
+    })?;
+    Ok(())
+}
+
+/// The actors that have a lifeline: clients and nodes that took part, then every site.
+fn actors_of(
+    alloc: Global,
+    run: &Run,
+    turns: &[Turn],
+    flights: &[Flight],
+) -> Result<Vec<Actor>, AllocError> {
+    let mut taking = no_marks(alloc)?;
+    mark_turns(taking.as_mut_slice(), turns);
+    mark_flights(taking.as_mut_slice(), flights);
+    let mut actors = Vec::new(alloc);
+    push_others(alloc, &mut actors, run, taking.as_slice())?;
+    push_sites(alloc, &mut actors, run)?;
+    Ok(actors)
+}
+
+/// A mark for each actor that is no site.
+fn no_marks(alloc: Global) -> Result<Vec<bool>, AllocError> {
+    let mut taking = Vec::new(alloc);
+    for _actor in 0..FIRST_SITE {
+        taking.push(false)?;
+    }
+    Ok(taking)
+}
+
+/// Marks whose turns steps were.
+fn mark_turns(taking: &mut [bool], turns: &[Turn]) {
+    for turn in turns {
+        if let Some(actor) = turn.actor {
+            mark(taking, actor);
+        }
+    }
+}
+
+/// Marks whom envelopes go between.
+fn mark_flights(taking: &mut [bool], flights: &[Flight]) {
+    for flight in flights {
+        mark(taking, flight.from);
+        mark(taking, flight.to);
+    }
+}
+
+/// Marks an actor, where it is no site.
+fn mark(taking: &mut [bool], actor: u16) {
+    if let Some(taken) = taking.get_mut(usize::from(actor)) {
+        *taken = true;
+    }
+}
+
+/// Adds the clients and nodes that are marked.
+fn push_others(
+    alloc: Global,
+    actors: &mut Vec<Actor>,
+    run: &Run,
+    taking: &[bool],
+) -> Result<(), AllocError> {
+    for number in 0..FIRST_SITE {
+        if taking.get(usize::from(number)).copied().unwrap_or(false) {
+            push_new_actor(alloc, actors, run, number, None)?;
+        }
+    }
+    Ok(())
+}
+
+/// Adds the sites.
+fn push_sites(alloc: Global, actors: &mut Vec<Actor>, run: &Run) -> Result<(), AllocError> {
+    let sites = run
+        .world
+        .setup()
+        .faults()
+        .saturating_mul(2)
+        .saturating_add(1);
+    for site in 0..sites {
+        let number = FIRST_SITE.saturating_add(site);
+        push_new_actor(alloc, actors, run, number, Some(usize::from(site)))?;
+    }
+    Ok(())
+}
+
+/// Adds an actor.
+fn push_new_actor(
+    alloc: Global,
+    actors: &mut Vec<Actor>,
+    run: &Run,
+    number: u16,
+    site: Option<usize>,
+) -> Result<(), AllocError> {
+    let mut name = String::new(alloc);
+    push_actor(&mut name, run.world.setup(), number)?;
+    actors.push(Actor { number, name, site })?;
+    Ok(())
+}
