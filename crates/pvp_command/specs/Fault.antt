@@ -5,8 +5,10 @@ use Rattle.pvp_text.specs.declared.book.RunFault.TheVariants as run
 use Rattle.pvp_text.specs.declared.setup.TextFault.{TextFault}
 use Rattle.pvp_text.specs.declared.setup.TextFault.TheVariants as text
 use Rattle.pvp_command.specs.declared.fault.Fault.{Fault}
-use Rattle.pvp_command.specs.declared.fault.Fault.TheVariants.{Setup, Line, NoSuchSite, File, Output, NoMemory}
+use Rattle.pvp_command.specs.declared.fault.Fault.TheVariants.{Setup, Line, NoSuchSite, File, Output, Net, Seats, NoMemory}
 use Rattle.pvp_command.specs.declared.files.FileFault.{FileFault}
+use Rattle.pvp_live.specs.declared.running.LiveFault.{LiveFault}
+use Rattle.pvp_live.specs.declared.running.LiveFault.TheVariants as live
 use Rattle.pvp_command.specs.declared.files.FileFault.TheVariants as file
 
 -- a setup's fault; want of memory is the same in whichever part
@@ -25,6 +27,11 @@ abbrev pub file_told : FileFault → Fault
 file_told file.Unread = File
 file_told file.NoMemory = NoMemory
 
+abbrev pub live_told : LiveFault → Fault
+live_told live.Net = Net
+live_told live.NoMemory = NoMemory
+live_told live.Seats = Seats
+
 -- a site that is not there is a fault of the command line
 abbrev pub status_told : Fault → ℕ
 status_told (Setup fault) = 1
@@ -32,4 +39,6 @@ status_told (Line line code) = 1
 status_told (NoSuchSite site) = 2
 status_told File = 1
 status_told Output = 1
+status_told Net = 1
+status_told Seats = 1
 status_told NoMemory = 1

@@ -1,3 +1,5 @@
 pub mod Fails
 pub mod Fault
 pub mod Request
+pub mod Shows
+pub mod Lives

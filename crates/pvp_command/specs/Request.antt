@@ -21,6 +21,8 @@ use Rattle.pvp_play.specs.declared.cells.Fail.{Fail}
 use Rattle.pvp_play.specs.declared.notes.Telling.{Telling}
 use Rattle.pvp_play.specs.Player.{Position}
 use Rattle.pvp_play.specs.Lines.{IsOpening, ArePlayed}
+use Rattle.pvp_command.specs.declared.shows.Show.{Show}
+use Rattle.pvp_command.specs.declared.shows.Show.TheVariants.{Told, Drawn}
 
 -- a setup that meets the rules is told so
 abbrev pub CheckWrites : List ℕ → Option (List ℕ) → Option (List ℕ) → Type 0
@@ -39,10 +41,19 @@ PlaysScript telling s fails script old new =
     (lines : List Line) × (script_at Play s script ≡ Ok lines)
     × (first last : Position MemCell) × IsOpening s fails telling first × ArePlayed memory telling first lines last old new
 
+-- some text over a script that reads right: what a picture shows is not said
+abbrev pub DrawsScript : Setup → List ℕ → Option (List ℕ) → Option (List ℕ) → Type 0
+DrawsScript s script old new = (lines : List Line) × (script_at Play s script ≡ Ok lines) × (text : List ℕ) × Appends old new text
+
+-- the one or the other, as it is to be shown
+abbrev pub ShowsScript : Show → Setup → List Fail → List ℕ → Option (List ℕ) → Option (List ℕ) → Type 0
+ShowsScript (Told telling) s fails script old new = PlaysScript telling s fails script old new
+ShowsScript (Drawn steps) s fails script old new = DrawsScript s script old new
+
 -- the setup has each site of which a save is to fail
-abbrev pub PlayWrites : Telling → List ℕ → List Fail → List ℕ → Option (List ℕ) → Option (List ℕ) → Type 0
-PlayWrites telling setup fails script old new =
-    (s : Setup) × (setup_text setup ≡ Ok s) × (unknown_site s fails ≡ None) × PlaysScript telling s fails script old new
+abbrev pub PlayWrites : Show → List ℕ → List Fail → List ℕ → Option (List ℕ) → Option (List ℕ) → Type 0
+PlayWrites show setup fails script old new =
+    (s : Setup) × (setup_text setup ≡ Ok s) × (unknown_site s fails ≡ None) × ShowsScript show s fails script old new
 
 -- the fault of a file that may fail so
 abbrev pub TellsFile : (FileFault → Type 0) → Fault → Type 0

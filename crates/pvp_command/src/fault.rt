@@ -1,6 +1,7 @@
 //! What ends a run of the program, as it is told on standard error.
 
 use crate::files::FileFault;
+use pvp_live::LiveFault;
 use pvp_text::{LineCode, RunFault, TextFault};
 use thiserror::Error;
 
@@ -22,6 +23,12 @@ pub enum Fault {
     /// Standard output could not be written.
     #[error("fault output")]
     Output,
+    /// The connections of a live run could not be made.
+    #[error("fault net")]
+    Net,
+    /// E1: a seat of a live run did not come back.
+    #[error("fault E1")]
+    Seats,
     /// Memory was refused, in whichever part.
     #[error("fault memory")]
     NoMemory,
@@ -69,6 +76,21 @@ impl From<FileFault> for Fault {
         match fault {
             FileFault::Unread => Fault::File,
             FileFault::NoMemory => Fault::NoMemory,
+        }
+    }
+}
+
+impl From<LiveFault> for Fault {
+    ghost use Rattle.std.specs.Prelude.{◌≡◌};
+    ghost use Rattle.pvp_command.specs.Fault.{live_told};
+
+    ghost from_gives = { λ fault told. told ≡ live_told fault };
+
+    fn from(fault: LiveFault) -> Fault {
+        match fault {
+            LiveFault::Net => Fault::Net,
+            LiveFault::NoMemory => Fault::NoMemory,
+            LiveFault::Seats => Fault::Seats,
         }
     }
 }

@@ -4,9 +4,11 @@
 pub mod fails;
 pub mod fault;
 pub mod files;
+pub mod lives;
 pub mod program;
 pub mod request;
+pub mod shows;
 
 pub use fault::Fault;
 pub use files::{Disk, FileFault, Files};
-pub use program::{command, no_words};
+pub use program::{command, command_on, no_words};

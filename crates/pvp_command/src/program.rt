@@ -1,20 +1,28 @@
 //! The whole program, over its words, its files and its two outputs.
 
-ghost use Rattle.std.specs.Prelude.{◌≡◌, ◌≢◌, true, false, OnOk, OnErr, IfErr, IfSome};
+ghost use Rattle.std.specs.Prelude.{◌≡◌, ◌≢◌, true, false, OnOk, OnErr, IfOk, IfErr, IfSome};
 ghost use Rattle.pvp_types.specs.Setup.{IsValid};
 ghost use Rattle.pvp_command.specs.Fault.{status_told};
-ghost use Rattle.pvp_command.specs.Request.{CheckWrites, CheckTells, BookWrites, PlayWrites, RunTells, PlayTells, PlaysScript, TellsScript};
+ghost use Rattle.pvp_command.specs.Request.{CheckWrites, CheckTells, BookWrites, PlayWrites, RunTells, PlayTells, PlaysScript, DrawsScript, ShowsScript, TellsScript};
 
 use crate::fails::unknown_site;
 use crate::fault::Fault;
 use crate::files::Files;
+use crate::lives::live;
 use crate::request::{Request, is_help, parse};
+use crate::shows::Show;
+use clap::Error;
+use pvp_picture::picture::{Steps, picture};
 use pvp_play::{Fail, Telling, play_failing, trace};
 use pvp_text::{read_setup, run_book};
 use pvp_types::Setup;
 use std::alloc::Global;
 use std::convert::AsStr;
-use std::io::{ErrorKind, Write};
+use std::io::{ErrorKind, Read, Write};
+use std::net::Net;
+use std::sync::Wait;
+use std::thread::Threads;
+use std::time::Clock;
 
 /// The status of a run that ended as it should.
 const DONE: u8 = 0;
@@ -26,7 +34,30 @@ const FAULT: u8 = 1;
 const NO_FORM: u8 = 2;
 
 /// Does what the words ask for, and answers the status of the program: 0, or 1 for a fault, or 2
-/// for words of no form. Faults and help go to `err`, all else to `out`.
+/// for words of no form, or 3 where the audit of a live run says no. Faults and help go to `err`, all else to `out`.
+pub fn command_on<R, S: AsStr, F: Files, O: Write, E: Write>(
+    rt: &R,
+    alloc: Global,
+    words: &[S],
+    files: &F,
+    out: &mut O,
+    err: &mut E,
+) -> u8
+where
+    R: Threads + Wait + Clock + Net + Sync,
+    R::Stream: Read + Write + Send + Drop,
+{
+    match parse(alloc, words) {
+        Ok(Some(Request::Live { setup, script })) => {
+            let told = live(rt, alloc, files, setup, script, out);
+            tell(told, err)
+        }
+        asked => answer(alloc, asked, files, out, err),
+    }
+}
+
+/// Does what the words ask for as `command_on` does, on a machine without threads and net: a live run is told as
+/// `fault net` before its files are read.
 pub fn command<S: AsStr, F: Files, O: Write, E: Write>(
     alloc: Global,
     words: &[S],
@@ -34,7 +65,19 @@ pub fn command<S: AsStr, F: Files, O: Write, E: Write>(
     out: &mut O,
     err: &mut E,
 ) -> u8 {
-    let told = match parse(alloc, words) {
+    let asked = parse(alloc, words);
+    answer(alloc, asked, files, out, err)
+}
+
+/// Does what was asked for, where the words were of a form, and answers the status.
+fn answer<F: Files, O: Write, E: Write>(
+    alloc: Global,
+    asked: Result<Option<Request<'_>>, Error>,
+    files: &F,
+    out: &mut O,
+    err: &mut E,
+) -> u8 {
+    let told = match asked {
         Ok(Some(request)) => run(alloc, request, files, out),
         Ok(None) => return NO_FORM,
         Err(refusal) => {
@@ -45,6 +88,14 @@ pub fn command<S: AsStr, F: Files, O: Write, E: Write>(
             Err(Fault::NoMemory)
         }
     };
+    tell(told, err)
+}
+
+/// Tells a fault, and answers the status of the run.
+fn tell<E: Write>(told: Result<u8, Fault>, err: &mut E) -> u8
+    ensures ok { IfOk told (λ status. result ≡ status) }
+    ensures err { IfErr told (λ fault. result ≡ status_told fault) }
+{
     if let Err(fault) = told {
         let _ = write!(err, "{fault}\n");
     }
@@ -52,12 +103,12 @@ pub fn command<S: AsStr, F: Files, O: Write, E: Write>(
 }
 
 /// The status of a run that was asked for.
-fn status_of(told: Result<(), Fault>) -> u8
-    ensures ok { OnOk told (result ≡ 0) }
+fn status_of(told: Result<u8, Fault>) -> u8
+    ensures ok { IfOk told (λ status. result ≡ status) }
     ensures err { IfErr told (λ fault. result ≡ status_told fault) }
 {
     match told {
-        Ok(()) => DONE,
+        Ok(status) => status,
         Err(Fault::NoSuchSite(_)) => NO_FORM,
         Err(_) => FAULT,
     }
@@ -81,23 +132,25 @@ pub fn no_words<E: Write>(refusal: ErrorKind, err: &mut E) -> u8
     }
 }
 
-/// Does what was asked for: the setup first, then the script, and the first fault ends it.
+/// Does what was asked for, and answers the status: the setup first, then the script, and the first fault ends it.
 fn run<F: Files, O: Write>(
     alloc: Global,
     request: Request<'_>,
     files: &F,
     out: &mut O,
-) -> Result<(), Fault> {
+) -> Result<u8, Fault> {
     match request {
-        Request::Check { setup } => check(alloc, files, setup, out),
-        Request::Book { setup, script } => book(alloc, files, setup, script, out),
+        Request::Check { setup } => check(alloc, files, setup, out)?,
+        Request::Book { setup, script } => book(alloc, files, setup, script, out)?,
         Request::Play {
-            telling,
+            show,
             setup,
             script,
             fails,
-        } => play(alloc, files, telling, setup, script, fails.as_slice(), out),
+        } => play(alloc, files, show, setup, script, fails.as_slice(), out)?,
+        Request::Live { .. } => return Err(Fault::Net),
     }
+    Ok(DONE)
 }
 
 /// Tells that a setup meets the rules.
@@ -145,7 +198,7 @@ fn book<F: Files, O: Write>(
 fn play<F: Files, O: Write>(
     alloc: Global,
     files: &F,
-    telling: Telling,
+    show: Show,
     setup: &str,
     script: &str,
     fails: &[Fail],
@@ -153,7 +206,7 @@ fn play<F: Files, O: Write>(
 ) -> Result<(), Fault>
     ensures ok { OnOk result (IfSome (F.known files.now setup.now) (λ setup_bytes.
         IfSome (F.known files.now script.now) (λ script_bytes.
-        PlayWrites telling setup_bytes fails.now script_bytes (O.contents out.old) (O.contents out.new)))) }
+        PlayWrites show setup_bytes fails.now script_bytes (O.contents out.old) (O.contents out.new)))) }
     ensures err { IfErr result (λ fault. IfSome (F.known files.now setup.now) (λ setup_bytes.
         PlayTells (F.fails files.now setup.now) setup_bytes fails.now (F.fails files.now script.now) fault)) }
 {
@@ -162,14 +215,14 @@ fn play<F: Files, O: Write>(
     if let Some(site) = unknown_site(&bank, fails) {
         return Err(Fault::NoSuchSite(site));
     }
-    play_script(alloc, files, telling, &bank, script, fails, out)
+    play_script(alloc, files, show, &bank, script, fails, out)
 }
 
-/// Plays a script in a world of a setup, where some saves are to fail, and tells what is asked for.
+/// Plays a script in a world of a setup, where some saves are to fail, and shows it as it is asked for.
 fn play_script<F: Files, O: Write>(
     alloc: Global,
     files: &F,
-    telling: Telling,
+    show: Show,
     setup: &Setup,
     script: &str,
     fails: &[Fail],
@@ -177,12 +230,13 @@ fn play_script<F: Files, O: Write>(
 ) -> Result<(), Fault>
     requires { IsValid setup.now }
     ensures ok { OnOk result (IfSome (F.known files.now script.now) (λ bytes.
-        PlaysScript telling setup.now fails.now bytes (O.contents out.old) (O.contents out.new))) }
+        ShowsScript show setup.now fails.now bytes (O.contents out.old) (O.contents out.new))) }
     ensures err { IfErr result (TellsScript (F.fails files.now script.now)) }
 {
-    match telling {
-        Telling::Books => print_script(alloc, files, setup, script, fails, out),
-        Telling::Steps => trace_script(alloc, files, setup, script, fails, out),
+    match show {
+        Show::Told(Telling::Books) => print_script(alloc, files, setup, script, fails, out),
+        Show::Told(Telling::Steps) => trace_script(alloc, files, setup, script, fails, out),
+        Show::Drawn(steps) => draw_script(alloc, files, steps, setup, script, fails, out),
     }
 }
 
@@ -221,5 +275,25 @@ fn trace_script<F: Files, O: Write>(
 {
     let lines = files.read(alloc, script)?;
     trace(alloc, setup, fails, lines.as_slice(), out)?;
+    Ok(())
+}
+
+/// Draws some of the steps that the lines of a script try.
+fn draw_script<F: Files, O: Write>(
+    alloc: Global,
+    files: &F,
+    steps: Steps,
+    setup: &Setup,
+    script: &str,
+    fails: &[Fail],
+    out: &mut O,
+) -> Result<(), Fault>
+    requires { IsValid setup.now }
+    ensures ok { OnOk result (IfSome (F.known files.now script.now) (λ bytes.
+        DrawsScript setup.now bytes (O.contents out.old) (O.contents out.new))) }
+    ensures err { IfErr result (TellsScript (F.fails files.now script.now)) }
+{
+    let lines = files.read(alloc, script)?;
+    picture(alloc, setup, fails, lines.as_slice(), steps, out)?;
     Ok(())
 }

@@ -3,6 +3,7 @@
 ghost use Rattle.std.specs.Prelude.{◌≡◌, ◌≢◌, true, false};
 
 use crate::fails::read_fails;
+use crate::shows::{Show, show_at};
 use clap::error::ErrorKind;
 use clap::{Arg, ArgAction, ArgMatches, Command, Error};
 use pvp_play::{Fail, Telling};
@@ -21,12 +22,17 @@ pub enum Request<'a> {
         setup: &'a str,
         script: &'a str,
     },
-    /// A script, played in a world, what is told of that, and the saves that are to fail there: of each site one at most.
+    /// A script, played in a world, how that is to be shown, and the saves that are to fail there: of each site one at most.
     Play {
-        telling: Telling,
+        show: Show,
         setup: &'a str,
         script: &'a str,
         fails: Vec<Fail>,
+    },
+    /// A bank that runs by itself while a script is played.
+    Live {
+        setup: &'a str,
+        script: &'a str,
     },
 }
 
@@ -40,9 +46,31 @@ pub fn parse<'a, S: AsStr>(alloc: Global, words: &'a [S]) -> Result<Option<Reque
             (Some(setup), Some(script)) => Ok(Some(Request::Book { setup, script })),
             _ => Ok(None),
         },
-        Some(("play", inner)) => parse_play(alloc, &mut program, Telling::Books, inner),
-        Some(("trace", inner)) => parse_play(alloc, &mut program, Telling::Steps, inner),
+        Some(("play", inner)) => {
+            parse_play(alloc, &mut program, Show::Told(Telling::Books), inner)
+        }
+        Some(("trace", inner)) => parse_trace(alloc, &mut program, inner),
+        Some(("live", inner)) => match (inner.get_str("setup"), inner.get_str("script")) {
+            (Some(setup), Some(script)) => Ok(Some(Request::Live { setup, script })),
+            _ => Ok(None),
+        },
         _ => Ok(None),
+    }
+}
+
+/// The trace that the words are: of steps in words, or as a picture.
+fn parse_trace<'a>(
+    alloc: Global,
+    program: &mut Command<'a>,
+    words: &ArgMatches<'a>,
+) -> Result<Option<Request<'a>>, Error> {
+    match show_at(
+        words.get_flag("svg"),
+        words.get_str("from"),
+        words.get_str("to"),
+    ) {
+        Some(show) => parse_play(alloc, program, show, words),
+        None => Err(program.error(ErrorKind::ValueValidation, NO_STEPS)?),
     }
 }
 
@@ -50,7 +78,7 @@ pub fn parse<'a, S: AsStr>(alloc: Global, words: &'a [S]) -> Result<Option<Reque
 fn parse_play<'a>(
     alloc: Global,
     program: &mut Command<'a>,
-    telling: Telling,
+    show: Show,
     words: &ArgMatches<'a>,
 ) -> Result<Option<Request<'a>>, Error> {
     let (Some(setup), Some(script)) = (words.get_str("setup"), words.get_str("script")) else {
@@ -58,7 +86,7 @@ fn parse_play<'a>(
     };
     match read_fails(alloc, words.get_strs("fail").unwrap_or(&[]))? {
         Some(fails) => Ok(Some(Request::Play {
-            telling,
+            show,
             setup,
             script,
             fails,
@@ -94,6 +122,19 @@ const NO_FAILS: &str =
     "`--fail` takes SITE:AT:KEEP, and each site once: SITE and AT are numbers up to 65535 without a leading zero, AT is \
 not 0, and KEEP is `new` or `old`";
 
+const SVG_HELP: &str =
+    "Writes one picture in place of the text, an SVG that stands alone: a lifeline for each actor, and an arrow for each envelope";
+
+const FROM_HELP: &str =
+    "With --svg: the first step that is drawn, by its number in the trace; else the first of all";
+
+const TO_HELP: &str = "With --svg: the last step that is drawn; else 60 at most are";
+
+/// What is told of words that name no steps.
+const NO_STEPS: &str =
+    "`--from` and `--to` stand beside `--svg` and take a number of a step, from 1 to 4294967295 without a leading zero, \
+and the last step is not before the first";
+
 const CHECK_ABOUT: &str =
     "Tells whether a setup meets the rules: prints `setup ok`, or the first rule that is broken";
 
@@ -108,6 +149,9 @@ const TRACE_ABOUT: &str =
     "Plays a script as `play` does, and prints each step that it tries, what came of it, and the envelopes that it sent, \
 by their numbers";
 
+const LIVE_ABOUT: &str =
+    "Runs a bank by itself while a script is played, each actor in threads of its own with streams over the loopback of this machine: prints the books and `audit yes` where all that the actors did is one legal run, and else the first test that fails";
+
 /// The forms of the program's words.
 fn program<'a>(alloc: Global) -> Result<Command<'a>, AllocError> {
     Command::new(alloc, "pvpsim")
@@ -118,7 +162,8 @@ fn program<'a>(alloc: Global) -> Result<Command<'a>, AllocError> {
         .subcommand(with_setup(alloc, "check", CHECK_ABOUT)?)?
         .subcommand(with_script(alloc, "book", BOOK_ABOUT)?)?
         .subcommand(with_fails(alloc, "play", PLAY_ABOUT)?)?
-        .subcommand(with_fails(alloc, "trace", TRACE_ABOUT)?)
+        .subcommand(with_picture(alloc)?)?
+        .subcommand(with_script(alloc, "live", LIVE_ABOUT)?)
 }
 
 /// A command that takes a setup.
@@ -143,6 +188,14 @@ fn with_fails<'a>(alloc: Global, name: &'a str, about: &'a str) -> Result<Comman
     with_script(alloc, name, about)?.arg(fail(alloc))
 }
 
+/// The trace, which may ask for a picture too.
+fn with_picture<'a>(alloc: Global) -> Result<Command<'a>, AllocError> {
+    with_fails(alloc, "trace", TRACE_ABOUT)?
+        .arg(svg(alloc))?
+        .arg(step(alloc, "from", FROM_HELP))?
+        .arg(step(alloc, "to", TO_HELP))
+}
+
 /// A file that has to be named.
 fn file<'a>(alloc: Global, id: &'a str, help: &'a str) -> Arg<'a> {
     Arg::new(alloc, id)
@@ -158,4 +211,21 @@ fn fail<'a>(alloc: Global) -> Arg<'a> {
         .value_name("SITE:AT:KEEP")
         .help(FAIL_HELP)
         .action(ArgAction::Append)
+}
+
+/// That a picture is asked for.
+fn svg<'a>(alloc: Global) -> Arg<'a> {
+    Arg::new(alloc, "svg")
+        .long("svg")
+        .help(SVG_HELP)
+        .action(ArgAction::SetTrue)
+}
+
+/// A step that may be named.
+fn step<'a>(alloc: Global, id: &'a str, help: &'a str) -> Arg<'a> {
+    Arg::new(alloc, id)
+        .long(id)
+        .value_name("STEP")
+        .help(help)
+        .action(ArgAction::Set)
 }

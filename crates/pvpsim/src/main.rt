@@ -1,14 +1,15 @@
 //! `pvpsim`: runs scripts on a settlement bank and prints its books.
 #![tactic(auto)]
 
-use pvp_command::{Disk, command, no_words};
+use pvp_command::{Disk, command_on, no_words};
 use std::process::ExitCode;
 use std::{env, io};
 
 fn main(rt: HostRuntime) -> ExitCode {
     let files = Disk { rt: &rt };
     let status = match words(&rt) {
-        Ok(words) => command(
+        Ok(words) => command_on(
+            &rt,
             rt.alloc(),
             words.as_slice(),
             &files,

@@ -1,5 +1,7 @@
 mod cuts;
 mod fails;
+mod lives;
+mod pictures;
 mod plays;
 mod traces;
 mod worked;
