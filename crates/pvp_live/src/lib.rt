@@ -6,7 +6,9 @@ pub mod actors;
 pub mod events;
 mod player;
 pub mod running;
+pub mod scripts;
 pub mod told;
 
 pub use running::{LiveFault, live};
+pub use scripts::print_script;
 pub use told::print_judgement;

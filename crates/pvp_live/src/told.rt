@@ -29,7 +29,7 @@ pub fn print_judgement<W: Write>(
 }
 
 /// Appends a judgement.
-fn push_judgement(text: &mut String, judgement: &Judgement) -> Result<(), AllocError>
+pub(crate) fn push_judgement(text: &mut String, judgement: &Judgement) -> Result<(), AllocError>
     ensures { OnOk result (string_bytes text.new ≡ string_bytes text.old ++ judgement_text judgement.now) }
 {
     match judgement {
