@@ -26,9 +26,9 @@ impl Gate for Open {
     fn leave(&self, _actor: u16) {}
 }
 
-/// An actor and its only seat.
+/// An actor and its seats.
 #[derive(Drop)]
-struct Place {
+pub struct Place {
     cell: PartyCell,
     seats: Vec<PartySeat>,
 }
@@ -49,22 +49,38 @@ impl Place {
     }
 
     fn site(alloc: Global, me: u16) -> Result<Self, Fail> {
+        Place::seated_site(alloc, me, 1)
+    }
+
+    /// A site with so many seats.
+    pub fn seated_site(alloc: Global, me: u16, seats: u16) -> Result<Self, Fail> {
         let setup = three_currencies(alloc)?;
         if me > 2 * setup.faults() {
             return Err(Fail::new("no such site"));
         }
-        let (cell, seats) = site_cell(alloc, &setup, me, MemCell::new(), 1)?;
+        let (cell, seats) = site_cell(alloc, &setup, me, MemCell::new(), seats)?;
         Ok(Place { cell, seats })
     }
 
-    /// Posts an event, and answers the clock at which it was taken and how it came out.
-    fn post<R: Wait + AllocGlobal>(
+    /// Posts an event from the first seat, and answers the clock at which it was taken and how it came out.
+    pub fn post<R: Wait + AllocGlobal>(
         &mut self,
         rt: &R,
         event: PartyEvent,
         stamp: Option<Stamp>,
     ) -> Result<(u64, PartyOutcome), Fail> {
-        let Some(seat) = self.seats.first_mut() else {
+        self.post_from(rt, 0, event, stamp)
+    }
+
+    /// Posts an event from a seat.
+    pub fn post_from<R: Wait + AllocGlobal>(
+        &mut self,
+        rt: &R,
+        seat: usize,
+        event: PartyEvent,
+        stamp: Option<Stamp>,
+    ) -> Result<(u64, PartyOutcome), Fail> {
+        let Some(seat) = self.seats.get_mut(seat) else {
             return Err(Fail::new("a seat"));
         };
         match self
@@ -104,17 +120,17 @@ impl Place {
         self.post(rt, Party::deliver(envelope), Some(stamp))
     }
 
-    fn close(self) -> Result<Closed<Party>, Fail> {
+    pub fn close(self) -> Result<Closed<Party>, Fail> {
         let Place { cell, seats } = self;
         match cell.close(seats) {
             Ok(closed) => Ok(closed),
-            Err(_) => Err(Fail::new("the only seat")),
+            Err(_) => Err(Fail::new("all seats")),
         }
     }
 }
 
 /// The first envelope that an outcome sent.
-fn first_letter(alloc: Global, outcome: &PartyOutcome) -> Result<Envelope<Book>, Fail> {
+pub fn first_letter(alloc: Global, outcome: &PartyOutcome) -> Result<Envelope<Book>, Fail> {
     let found = match outcome {
         PartyOutcome::OfSite(CameOf::Did { sent, .. }) => sent.get(0),
         PartyOutcome::OfClient(Ok(sent)) => sent.get(0),
@@ -127,7 +143,7 @@ fn first_letter(alloc: Global, outcome: &PartyOutcome) -> Result<Envelope<Book>,
 }
 
 /// What an audit says of actors in order of their numbers.
-fn judged(alloc: Global, closed: &[Closed<Party>]) -> Result<Verdict, Fail> {
+pub fn judged(alloc: Global, closed: &[Closed<Party>]) -> Result<Verdict, Fail> {
     if !are_in_order(closed) {
         return Err(Fail::new("order"));
     }

@@ -1,0 +1,123 @@
+//! What a site left, altered in one place, and the test that finds it.
+use crate::bank::{Place, first_letter, judged};
+use pvp_audit::{Verdict, Why};
+use pvp_parties::{Party, PartyEvent};
+use pvp_peers::Served;
+use pvp_rooms::Closed;
+use pvp_wire::Stamp;
+use std::alloc::Global;
+use std::sync::Wait;
+use std::test::Fail;
+use vr_types::EventOf;
+
+/// What a site left that beat once from each of these seats, in this order.
+fn beaten<R: Wait + AllocGlobal>(rt: &R, me: u16, seats: &[usize]) -> Result<Closed<Party>, Fail> {
+    let mut place = Place::seated_site(rt.alloc(), me, 2)?;
+    for seat in seats {
+        place.post_from(rt, *seat, PartyEvent::OfSite(EventOf::Beat), None)?;
+    }
+    place.close()
+}
+
+/// Puts the last of the others in place of the last.
+fn replace_last<T: Drop>(items: &mut Vec<T>, mut others: Vec<T>) -> Result<(), Fail> {
+    let (Some(_last), Some(other)) = (items.pop(), others.pop()) else {
+        return Err(Fail::new("too few"));
+    };
+    items.push(other)?;
+    Ok(())
+}
+
+/// What an audit says of one actor alone.
+fn judged_alone(alloc: Global, closed: Closed<Party>) -> Result<Verdict, Fail> {
+    let mut all = Vec::new(alloc);
+    all.push(closed)?;
+    judged(alloc, all.as_slice())
+}
+
+fn no(actor: u16, event: usize, why: Why) -> Verdict {
+    Verdict::No { actor, event, why }
+}
+
+#[test]
+fn nothing_is_altered(rt: HostRuntime) -> Result<(), Fail> {
+    let closed = beaten(&rt, 0, [0, 1].as_slice())?;
+    assert_eq!(rt; judged_alone(rt.alloc(), closed)?, Verdict::Yes);
+    Ok(())
+}
+
+/// The second beat's receipt is that of a backup, which sends nothing.
+#[test]
+fn a_receipt_is_altered(rt: HostRuntime) -> Result<(), Fail> {
+    let mut closed = beaten(&rt, 0, [0, 1].as_slice())?;
+    let backup = beaten(&rt, 1, [0, 1].as_slice())?;
+    replace_last(&mut closed.seats, backup.seats)?;
+    let told = no(200, 2, Why::Receipts);
+    assert_eq!(rt; judged_alone(rt.alloc(), closed)?, told);
+    Ok(())
+}
+
+/// The second beat stands at clock 1, as the first does, in the history and in its receipt.
+#[test]
+fn a_clock_is_altered(rt: HostRuntime) -> Result<(), Fail> {
+    let mut closed = beaten(&rt, 0, [0, 1].as_slice())?;
+    let once = beaten(&rt, 0, [1].as_slice())?;
+    replace_last(&mut closed.history, once.history)?;
+    replace_last(&mut closed.seats, once.seats)?;
+    let told = no(200, 2, Why::Clock);
+    assert_eq!(rt; judged_alone(rt.alloc(), closed)?, told);
+    Ok(())
+}
+
+/// The second beat sent nothing by the history and by its receipt, as that of a backup.
+#[test]
+fn envelopes_are_taken_out(rt: HostRuntime) -> Result<(), Fail> {
+    let mut closed = beaten(&rt, 0, [0, 1].as_slice())?;
+    let backup = beaten(&rt, 1, [0, 1].as_slice())?;
+    replace_last(&mut closed.history, backup.history)?;
+    replace_last(&mut closed.seats, backup.seats)?;
+    let told = no(200, 2, Why::Answered);
+    assert_eq!(rt; judged_alone(rt.alloc(), closed)?, told);
+    Ok(())
+}
+
+/// The end is that of a site that crashed.
+#[test]
+fn an_end_is_altered(rt: HostRuntime) -> Result<(), Fail> {
+    let closed = beaten(&rt, 0, [0, 1].as_slice())?;
+    let mut crashed = Place::seated_site(rt.alloc(), 0, 2)?;
+    crashed.post(&rt, PartyEvent::OfSite(EventOf::Crash), None)?;
+    let crashed = crashed.close()?;
+    let altered = Closed {
+        number: closed.number,
+        opening: closed.opening,
+        history: closed.history,
+        seats: closed.seats,
+        end: crashed.end,
+    };
+    let told = no(200, 0, Why::End);
+    assert_eq!(rt; judged_alone(rt.alloc(), altered)?, told);
+    Ok(())
+}
+
+/// A backup was delivered an envelope that the primary would have sent at clock 5, and the primary had no event.
+#[test]
+fn an_envelope_comes_from_nowhere(rt: HostRuntime) -> Result<(), Fail> {
+    let alloc = rt.alloc();
+    let mut other = Place::seated_site(alloc, 0, 1)?;
+    let beat = other.post(&rt, PartyEvent::OfSite(EventOf::Beat), None)?;
+    let envelope = first_letter(alloc, &beat.1)?;
+    let stamp = Stamp {
+        actor: 200,
+        clock: 5,
+        index: 0,
+    };
+    let mut backup = Place::seated_site(alloc, 1, 1)?;
+    backup.post(&rt, Party::deliver(envelope), Some(stamp))?;
+    let mut all = Vec::new(alloc);
+    all.push(Place::seated_site(alloc, 0, 1)?.close()?)?;
+    all.push(backup.close()?)?;
+    let told = no(201, 1, Why::Stamped);
+    assert_eq!(rt; judged(alloc, all.as_slice())?, told);
+    Ok(())
+}
