@@ -3,3 +3,4 @@ pub mod Fault
 pub mod Request
 pub mod Shows
 pub mod Lives
+pub mod Codes

@@ -1,7 +1,10 @@
 //! The whole program, over its words, its files and its two outputs.
 
-ghost use Rattle.std.specs.Prelude.{◌≡◌, ◌≢◌, true, false, OnOk, OnErr, IfOk, IfErr, IfSome};
+ghost use Rattle.std.specs.Prelude.{◌≡◌, ◌≢◌, ◌⊎◌, true, false, OnOk, OnErr, IfOk, IfErr, IfSome};
+ghost use Rattle.std.specs.Io.KnownBytes.{Appends};
 ghost use Rattle.pvp_types.specs.Setup.{IsValid};
+ghost use Rattle.pvp_codes.specs.Codes.{codes_text};
+ghost use Rattle.pvp_command.specs.declared.fault.Fault.TheVariants.{NoMemory, Output};
 ghost use Rattle.pvp_command.specs.Fault.{status_told};
 ghost use Rattle.pvp_command.specs.Request.{CheckWrites, CheckTells, BookWrites, PlayWrites, RunTells, PlayTells, PlaysScript, DrawsScript, ShowsScript, TellsScript};
 
@@ -12,6 +15,7 @@ use crate::lives::live;
 use crate::request::{Request, is_help, parse};
 use crate::shows::Show;
 use clap::Error;
+use pvp_codes::print_codes;
 use pvp_picture::picture::{Steps, picture};
 use pvp_play::{Fail, Telling, play_failing, trace};
 use pvp_text::{read_setup, run_book};
@@ -149,8 +153,18 @@ fn run<F: Files, O: Write>(
             fails,
         } => play(alloc, files, show, setup, script, fails.as_slice(), out)?,
         Request::Live { .. } => return Err(Fault::Net),
+        Request::Codes => codes(alloc, out)?,
     }
     Ok(DONE)
+}
+
+/// Tells what each fault code means.
+fn codes<O: Write>(alloc: Global, out: &mut O) -> Result<(), Fault>
+    ensures ok { OnOk result (Appends (O.contents out.old) (O.contents out.new) codes_text) }
+    ensures err { IfErr result (λ fault. (fault ≡ NoMemory) ⊎ (fault ≡ Output)) }
+{
+    print_codes(alloc, out)?;
+    Ok(())
 }
 
 /// Tells that a setup meets the rules.

@@ -1,6 +1,7 @@
 //! What the words of a command line ask for.
 
-ghost use Rattle.std.specs.Prelude.{◌≡◌, ◌≢◌, true, false};
+ghost use Rattle.std.specs.Prelude.{◌≡◌, ◌≢◌, true, false, map};
+ghost use Rattle.pvp_command.specs.Codes.{asks_for_codes};
 
 use crate::fails::read_fails;
 use crate::shows::{Show, show_at};
@@ -34,10 +35,15 @@ pub enum Request<'a> {
         setup: &'a str,
         script: &'a str,
     },
+    /// What each fault code means.
+    Codes,
 }
 
 /// The request that the words are, the program's own name first.
 pub fn parse<'a, S: AsStr>(alloc: Global, words: &'a [S]) -> Result<Option<Request<'a>>, Error> {
+    if asks_for_codes(words) {
+        return Ok(Some(Request::Codes));
+    }
     let mut program = program(alloc)?;
     let matches = program.try_get_matches_from_mut(words)?;
     match matches.subcommand() {
@@ -55,6 +61,17 @@ pub fn parse<'a, S: AsStr>(alloc: Global, words: &'a [S]) -> Result<Option<Reque
             _ => Ok(None),
         },
         _ => Ok(None),
+    }
+}
+
+/// Whether the words ask what the fault codes mean: `help codes` after the program's own name. The reader of the words has
+/// a `help` of its own, which takes the names of commands alone.
+fn asks_for_codes<S: AsStr>(words: &[S]) -> bool
+    ensures { result ≡ asks_for_codes (map S.text words.now) }
+{
+    match words {
+        [_, first, second] => first.as_str() == "help" && second.as_str() == "codes",
+        _ => false,
     }
 }
 
@@ -105,8 +122,8 @@ pub fn is_help(kind: ErrorKind) -> bool
 
 /// What stands at the end of each help text.
 const MORE: &str =
-    "Setups, scripts, printed text, fault codes and statuses are described in docs/formats.md, \
-the rules of settlement in docs/settlement.md, and examples/ has commented scripts.";
+    "`pvpsim help codes` prints every fault code and what it means. Setups, scripts, printed text, fault codes and \
+statuses are described in docs/formats.md, the rules of settlement in docs/settlement.md, and examples/ has commented scripts.";
 
 const SETUP_HELP: &str =
     "A setup: a JSON file with the sites, the currencies and the members of the bank";

@@ -1,3 +1,4 @@
+mod codes;
 mod cuts;
 mod fails;
 mod lives;
