@@ -4,3 +4,4 @@ pub mod Request
 pub mod Shows
 pub mod Lives
 pub mod Codes
+pub mod Explain

@@ -39,24 +39,62 @@ pub enum Request<'a> {
     Codes,
 }
 
+impl<'a> Request<'a> {
+    /// The name of the script's file, where it has one.
+    pub fn script(&self) -> Option<&'a str> {
+        match self {
+            Request::Book { script, .. }
+            | Request::Play { script, .. }
+            | Request::Live { script, .. } => Some(*script),
+            Request::Check { .. } | Request::Codes => None,
+        }
+    }
+}
+
+/// A request, and whether a fault is to be explained.
+#[derive(Debug, Drop)]
+pub struct Asked<'a> {
+    pub request: Request<'a>,
+    pub explains: bool,
+}
+
 /// The request that the words are, the program's own name first.
-pub fn parse<'a, S: AsStr>(alloc: Global, words: &'a [S]) -> Result<Option<Request<'a>>, Error> {
+pub fn parse<'a, S: AsStr>(alloc: Global, words: &'a [S]) -> Result<Option<Asked<'a>>, Error> {
     if asks_for_codes(words) {
-        return Ok(Some(Request::Codes));
+        let request = Request::Codes;
+        return Ok(Some(Asked {
+            request,
+            explains: false,
+        }));
     }
     let mut program = program(alloc)?;
     let matches = program.try_get_matches_from_mut(words)?;
-    match matches.subcommand() {
-        Some(("check", inner)) => Ok(inner.get_str("setup").map(|setup| Request::Check { setup })),
-        Some(("book", inner)) => match (inner.get_str("setup"), inner.get_str("script")) {
+    let Some((name, inner)) = matches.subcommand() else {
+        return Ok(None);
+    };
+    let explains = inner.get_flag("explain");
+    match parse_command(alloc, &mut program, name, inner)? {
+        Some(request) => Ok(Some(Asked { request, explains })),
+        None => Ok(None),
+    }
+}
+
+/// The request that the words of a command are.
+fn parse_command<'a>(
+    alloc: Global,
+    program: &mut Command<'a>,
+    name: &str,
+    words: &ArgMatches<'a>,
+) -> Result<Option<Request<'a>>, Error> {
+    match name {
+        "check" => Ok(words.get_str("setup").map(|setup| Request::Check { setup })),
+        "book" => match (words.get_str("setup"), words.get_str("script")) {
             (Some(setup), Some(script)) => Ok(Some(Request::Book { setup, script })),
             _ => Ok(None),
         },
-        Some(("play", inner)) => {
-            parse_play(alloc, &mut program, Show::Told(Telling::Books), inner)
-        }
-        Some(("trace", inner)) => parse_trace(alloc, &mut program, inner),
-        Some(("live", inner)) => match (inner.get_str("setup"), inner.get_str("script")) {
+        "play" => parse_play(alloc, program, Show::Told(Telling::Books), words),
+        "trace" => parse_trace(alloc, program, words),
+        "live" => match (words.get_str("setup"), words.get_str("script")) {
             (Some(setup), Some(script)) => Ok(Some(Request::Live { setup, script })),
             _ => Ok(None),
         },
@@ -130,6 +168,9 @@ const SETUP_HELP: &str =
 
 const SCRIPT_HELP: &str = "A script: a text file with one statement a line";
 
+const EXPLAIN_HELP: &str =
+    "Tells after a fault on the setup or the script, in a second line, which rule is broken, and by which line";
+
 const FAIL_HELP: &str =
     "Lets a save of a site's boot cell fail; may stand once for each site. SITE is the number of a site, AT counts its saves \
 from 1 and is at most 65535, and the cell then holds the new value at `new` and the one before at `old`. Numbers have no leading zero";
@@ -188,7 +229,8 @@ fn with_setup<'a>(alloc: Global, name: &'a str, about: &'a str) -> Result<Comman
     Command::new(alloc, name)
         .about(about)
         .after_help(MORE)
-        .arg(file(alloc, "setup", SETUP_HELP))
+        .arg(file(alloc, "setup", SETUP_HELP))?
+        .arg(explain(alloc))
 }
 
 /// One that takes a script too.
@@ -219,6 +261,14 @@ fn file<'a>(alloc: Global, id: &'a str, help: &'a str) -> Arg<'a> {
         .help(help)
         .required(true)
         .action(ArgAction::Set)
+}
+
+/// That faults are to be explained.
+fn explain<'a>(alloc: Global) -> Arg<'a> {
+    Arg::new(alloc, "explain")
+        .long("explain")
+        .help(EXPLAIN_HELP)
+        .action(ArgAction::SetTrue)
 }
 
 /// A save that is to fail.
