@@ -23,7 +23,7 @@ use pvp_text::{read_setup, run_book};
 use pvp_types::Setup;
 use std::alloc::Global;
 use std::convert::AsStr;
-use std::io::{ErrorKind, Read, Write};
+use std::io::{ErrorKind, Read, Write, sink};
 use std::net::Net;
 use std::sync::Wait;
 use std::thread::Threads;
@@ -56,12 +56,21 @@ where
         Ok(
             Some(
                 Asked {
-                    request: Request::Live { setup, script },
+                    request: Request::Live {
+                        ending,
+                        verbose,
+                        setup,
+                        script,
+                    },
                     explains,
                 },
             ),
         ) => {
-            let told = live(rt, alloc, files, setup, script, out);
+            let told = if verbose {
+                live(rt, alloc, files, ending, setup, script, out, err)
+            } else {
+                live(rt, alloc, files, ending, setup, script, out, &mut sink())
+            };
             tell_more(alloc, told, explains, files, Some(script), err)
         }
         asked => answer(alloc, asked, files, out, err),

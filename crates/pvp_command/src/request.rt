@@ -4,6 +4,7 @@ ghost use Rattle.std.specs.Prelude.{◌≡◌, ◌≢◌, true, false, map};
 ghost use Rattle.pvp_command.specs.Codes.{asks_for_codes};
 
 use crate::fails::read_fails;
+use crate::lives::Ending;
 use crate::shows::{Show, show_at};
 use clap::error::ErrorKind;
 use clap::{Arg, ArgAction, ArgMatches, Command, Error};
@@ -30,8 +31,10 @@ pub enum Request<'a> {
         script: &'a str,
         fails: Vec<Fail>,
     },
-    /// A bank that runs by itself while a script is played.
+    /// A bank that runs by itself while a script is played, how that is told at its end, and whether it is told what goes on.
     Live {
+        ending: Ending,
+        verbose: bool,
         setup: &'a str,
         script: &'a str,
     },
@@ -94,12 +97,26 @@ fn parse_command<'a>(
         },
         "play" => parse_play(alloc, program, Show::Told(Telling::Books), words),
         "trace" => parse_trace(alloc, program, words),
-        "live" => match (words.get_str("setup"), words.get_str("script")) {
-            (Some(setup), Some(script)) => Ok(Some(Request::Live { setup, script })),
-            _ => Ok(None),
-        },
+        "live" => Ok(parse_live(words)),
         _ => Ok(None),
     }
+}
+
+/// The live run that the words are.
+fn parse_live<'a>(words: &ArgMatches<'a>) -> Option<Request<'a>> {
+    let setup = words.get_str("setup")?;
+    let script = words.get_str("script")?;
+    let ending = if words.get_flag("script-again") {
+        Ending::Script
+    } else {
+        Ending::Books
+    };
+    Some(Request::Live {
+        ending,
+        verbose: words.get_flag("verbose"),
+        setup,
+        script,
+    })
 }
 
 /// Whether the words ask what the fault codes mean: `help codes` after the program's own name. The reader of the words has
@@ -180,6 +197,12 @@ const NO_FAILS: &str =
     "`--fail` takes SITE:AT:KEEP, and each site once: SITE and AT are numbers up to 65535 without a leading zero, AT is \
 not 0, and KEEP is `new` or `old`";
 
+const AGAIN_HELP: &str =
+    "Prints, where the audit says yes, a script in place of the books, which `play` takes: a line for each step that was taken, in one order that explains the run";
+
+const VERBOSE_HELP: &str =
+    "Tells on standard error what goes on, while it does: the connections, each line and what came of it, and how many frames came";
+
 const SVG_HELP: &str =
     "Writes one picture in place of the text, an SVG that stands alone: a lifeline for each actor, and an arrow for each envelope";
 
@@ -221,7 +244,7 @@ fn program<'a>(alloc: Global) -> Result<Command<'a>, AllocError> {
         .subcommand(with_script(alloc, "book", BOOK_ABOUT)?)?
         .subcommand(with_fails(alloc, "play", PLAY_ABOUT)?)?
         .subcommand(with_picture(alloc)?)?
-        .subcommand(with_script(alloc, "live", LIVE_ABOUT)?)
+        .subcommand(with_ending(alloc)?)
 }
 
 /// A command that takes a setup.
@@ -255,6 +278,13 @@ fn with_picture<'a>(alloc: Global) -> Result<Command<'a>, AllocError> {
         .arg(step(alloc, "to", TO_HELP))
 }
 
+/// The live run, which may be told as a script.
+fn with_ending<'a>(alloc: Global) -> Result<Command<'a>, AllocError> {
+    with_script(alloc, "live", LIVE_ABOUT)?
+        .arg(again(alloc))?
+        .arg(verbose(alloc))
+}
+
 /// A file that has to be named.
 fn file<'a>(alloc: Global, id: &'a str, help: &'a str) -> Arg<'a> {
     Arg::new(alloc, id)
@@ -285,6 +315,22 @@ fn svg<'a>(alloc: Global) -> Arg<'a> {
     Arg::new(alloc, "svg")
         .long("svg")
         .help(SVG_HELP)
+        .action(ArgAction::SetTrue)
+}
+
+/// That a live run is told as a script.
+fn again<'a>(alloc: Global) -> Arg<'a> {
+    Arg::new(alloc, "script-again")
+        .long("script")
+        .help(AGAIN_HELP)
+        .action(ArgAction::SetTrue)
+}
+
+/// That what goes on is told.
+fn verbose<'a>(alloc: Global) -> Arg<'a> {
+    Arg::new(alloc, "verbose")
+        .long("verbose")
+        .help(VERBOSE_HELP)
         .action(ArgAction::SetTrue)
 }
 

@@ -4,6 +4,7 @@
 
 pub mod actors;
 pub mod events;
+mod notes;
 mod player;
 pub mod running;
 pub mod scripts;

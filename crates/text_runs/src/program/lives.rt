@@ -5,7 +5,7 @@ use pvp_play::play;
 use pvp_text::book::read_lines;
 use pvp_text::read_setup;
 use pvp_text::script::Kind;
-use std::io::{Read, Write};
+use std::io::{Read, Write, sink};
 use std::net::Net;
 use std::process::Abort;
 use std::sync::Wait;
@@ -22,6 +22,8 @@ fn a_net_that_is_not_there(rt: HostRuntime) -> Result<(), Fail> {
         script,
     };
     let words = ["pvpsim", "live", "setup.json", "script.txt"];
+    runs(&rt, words.as_slice(), &files, (1, "", "fault net\n"))?;
+    let words = ["pvpsim", "live", "setup.json", "script.txt", "--script"];
     runs(&rt, words.as_slice(), &files, (1, "", "fault net\n"))
 }
 
@@ -55,7 +57,7 @@ where
     let lines = read_lines(alloc, &setup, Kind::Live, LIVE.as_bytes()).map_err(|_| Fail::new(
         "the lines",
     ))?;
-    let judgement = live(rt, alloc, &setup, lines.as_slice()).map_err(|_| Fail::new(
+    let judgement = live(rt, alloc, &setup, lines.as_slice(), &mut sink()).map_err(|_| Fail::new(
         "the live run",
     ))?;
     let mut books: Vec<u8> = Vec::new(alloc);
