@@ -1,7 +1,8 @@
 -- A fault of a setup or of a script in words: the rule, and the line of the script that broke it.
-use Rattle.std.specs.Prelude.{ℕ, zero, suc, ◌-◌, ◌==◌, ◌&&◌, Bool, true, false, List, [], ◌∷◌, ◌++◌, length, nat_le, decimal, codes, if◌then◌else◌}
+use Rattle.std.specs.Prelude.{◌≡◌, ℕ, zero, suc, ◌+◌, ◌-◌, ◌==◌, ◌&&◌, Bool, true, false, List, [], ◌∷◌, ◌++◌, length, nat_le, decimal, codes, if◌then◌else◌}
 use Rattle.std.specs.List.{list_all, before_first, after_first}
 use Rattle.pvp_types.specs.Setup.{is_between}
+use Rattle.pvp_text.specs.ScriptWords.{lines}
 use Rattle.pvp_text.specs.declared.setup.TextFault.{TextFault}
 use Rattle.pvp_text.specs.declared.script.LineFault.{LineFault}
 use Rattle.pvp_text.specs.declared.script.LineCode.{LineCode}
@@ -48,3 +49,15 @@ line_explained fault script =
 -- THE FAULT OF A SETUP in words: the rule
 abbrev pub setup_explained : TextFault → List ℕ
 setup_explained fault = codes "setup: " ++ text_meaning fault ++ codes "\n"
+
+-- ---- what holds of the line of a number
+
+-- one of some lines by its place, counted from 0; nothing where there is none
+abbrev pub line_in : List (List ℕ) → ℕ → List ℕ
+line_in [] place = []
+line_in (line ∷ rest) zero = line
+line_in (line ∷ rest) (suc place) = line_in rest place
+
+-- it is the line that the reader of scripts counts so
+abbrev pub IsLineCounted : Type 0
+IsLineCounted = (place : ℕ) (text : List ℕ) → line_of (place + 1) text ≡ line_in (lines text) place
