@@ -46,38 +46,46 @@ fn nothing_is_altered(rt: HostRuntime) -> Result<(), Fail> {
     Ok(())
 }
 
+/// What an audit says of a primary that beat twice, where its last receipt is the last of another site's, and its last
+/// event too where that is asked.
+fn altered<R: Wait + AllocGlobal>(
+    rt: &R,
+    other: Closed<Party>,
+    with_history: bool,
+) -> Result<Verdict, Fail> {
+    let mut closed = beaten(rt, 0, [0, 1].as_slice())?;
+    let Closed { history, seats, .. } = other;
+    if with_history {
+        replace_last(&mut closed.history, history)?;
+    }
+    replace_last(&mut closed.seats, seats)?;
+    judged_alone(rt.alloc(), closed)
+}
+
 /// The second beat's receipt is that of a backup, which sends nothing.
 #[test]
 fn a_receipt_is_altered(rt: HostRuntime) -> Result<(), Fail> {
-    let mut closed = beaten(&rt, 0, [0, 1].as_slice())?;
     let backup = beaten(&rt, 1, [0, 1].as_slice())?;
-    replace_last(&mut closed.seats, backup.seats)?;
-    let told = no(200, 2, Why::Receipts);
-    assert_eq!(rt; judged_alone(rt.alloc(), closed)?, told);
+    let told = altered(&rt, backup, false)?;
+    assert_eq!(rt; told, no(200, 2, Why::Receipts));
     Ok(())
 }
 
 /// The second beat stands at clock 1, as the first does, in the history and in its receipt.
 #[test]
 fn a_clock_is_altered(rt: HostRuntime) -> Result<(), Fail> {
-    let mut closed = beaten(&rt, 0, [0, 1].as_slice())?;
     let once = beaten(&rt, 0, [1].as_slice())?;
-    replace_last(&mut closed.history, once.history)?;
-    replace_last(&mut closed.seats, once.seats)?;
-    let told = no(200, 2, Why::Clock);
-    assert_eq!(rt; judged_alone(rt.alloc(), closed)?, told);
+    let told = altered(&rt, once, true)?;
+    assert_eq!(rt; told, no(200, 2, Why::Clock));
     Ok(())
 }
 
 /// The second beat sent nothing by the history and by its receipt, as that of a backup.
 #[test]
 fn envelopes_are_taken_out(rt: HostRuntime) -> Result<(), Fail> {
-    let mut closed = beaten(&rt, 0, [0, 1].as_slice())?;
     let backup = beaten(&rt, 1, [0, 1].as_slice())?;
-    replace_last(&mut closed.history, backup.history)?;
-    replace_last(&mut closed.seats, backup.seats)?;
-    let told = no(200, 2, Why::Answered);
-    assert_eq!(rt; judged_alone(rt.alloc(), closed)?, told);
+    let told = altered(&rt, backup, true)?;
+    assert_eq!(rt; told, no(200, 2, Why::Answered));
     Ok(())
 }
 

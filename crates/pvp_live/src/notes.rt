@@ -1,9 +1,10 @@
 //! What goes on in a live run, told line by line while it runs. Who listens may be slow or gone: what cannot be told is not.
 
 use headline::ClientFault;
-use pvp_parties::PartyOutcome;
+use pvp_parties::{Party, PartyOutcome};
 use pvp_peers::{PeerEnd, Why};
 use pvp_rooms::{Answer, CameOf};
+use pvp_streams::Peer;
 use pvp_trace::meanings::{meaning, reason};
 use pvp_trace::names::push_actor;
 use pvp_types::Setup;
@@ -36,29 +37,27 @@ pub fn tell_posted<N: Write>(
     }
 }
 
-/// Tells of how many frames were taken over all streams, and how many of these ended before their end.
-pub fn tell_ends<N: Write, I: Iterator<Item = Option<PeerEnd>>>(notes: &mut N, ends: I) {
+/// Tells how many frames were taken over all streams, and how many of these ended before their end.
+pub fn tell_ends<N: Write, S>(notes: &mut N, peers: &[Peer<'_, Party, S>]) {
     let mut frames: usize = 0;
     let mut broken: usize = 0;
-    for end in ends {
-        match end {
-            Some(
-                PeerEnd {
-                    frames: more,
-                    why: Why::End,
-                },
-            ) => frames = frames.saturating_add(more),
-            Some(PeerEnd { frames: more, .. }) => {
-                frames = frames.saturating_add(more);
-                broken = broken.saturating_add(1);
-            }
-            None => broken = broken.saturating_add(1),
-        }
+    for peer in peers {
+        let (taken, is_broken) = ended(peer.end);
+        frames = frames.saturating_add(taken);
+        broken = broken.saturating_add(usize::from(is_broken));
     }
     let _ = write!(
         notes,
         "{frames} frames came, and {broken} connections broke\n"
     );
+}
+
+/// How many frames were taken of a stream, and whether it ended before its end.
+fn ended(end: Option<PeerEnd>) -> (usize, bool) {
+    match end {
+        Some(PeerEnd { frames, why }) => (frames, why != Why::End),
+        None => (0, true),
+    }
 }
 
 /// Appends what came of the event that a line posted.

@@ -142,7 +142,7 @@ where
         notes,
         ..
     } = player;
-    tell_ends(notes, peers.iter().map(|peer| peer.end));
+    tell_ends(notes, peers.as_slice());
     give_back(cells, seats.as_mut_slice(), own)?;
     give_back(cells, seats.as_mut_slice(), seats_of(alloc, peers)?)?;
     Ok(seats)
