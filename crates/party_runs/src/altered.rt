@@ -1,9 +1,9 @@
 //! What a site left, altered in one place, and the test that finds it.
 use crate::bank::{Place, first_letter, judged};
 use pvp_audit::{Verdict, Why};
-use pvp_parties::{Party, PartyEvent};
+use pvp_parties::{Party, PartyEvent, PartyOutcome, PartySeat};
 use pvp_peers::Served;
-use pvp_rooms::Closed;
+use pvp_rooms::{Closed, Recorded};
 use pvp_wire::Stamp;
 use std::alloc::Global;
 use std::sync::Wait;
@@ -19,13 +19,38 @@ fn beaten<R: Wait + AllocGlobal>(rt: &R, me: u16, seats: &[usize]) -> Result<Clo
     place.close()
 }
 
-/// Puts the last of the others in place of the last.
-fn replace_last<T: Drop>(items: &mut Vec<T>, mut others: Vec<T>) -> Result<(), Fail> {
+/// The items with the last of the others in place of their last.
+fn replace_last<T: Drop>(mut items: Vec<T>, mut others: Vec<T>) -> Result<Vec<T>, Fail> {
     let (Some(_last), Some(other)) = (items.pop(), others.pop()) else {
         return Err(Fail::new("too few"));
     };
     items.push(other)?;
-    Ok(())
+    Ok(items)
+}
+
+/// What one left, with the last receipt of another in place of its last.
+fn with_receipt(closed: Closed<Party>, seats: Vec<PartySeat>) -> Result<Closed<Party>, Fail> {
+    Ok(Closed {
+        number: closed.number,
+        opening: closed.opening,
+        history: closed.history,
+        seats: replace_last(closed.seats, seats)?,
+        end: closed.end,
+    })
+}
+
+/// What one left, with the last event of another in place of its last.
+fn with_event(
+    closed: Closed<Party>,
+    history: Vec<Recorded<PartyEvent, PartyOutcome>>,
+) -> Result<Closed<Party>, Fail> {
+    Ok(Closed {
+        number: closed.number,
+        opening: closed.opening,
+        history: replace_last(closed.history, history)?,
+        seats: closed.seats,
+        end: closed.end,
+    })
 }
 
 /// What an audit says of one actor alone.
@@ -46,27 +71,13 @@ fn nothing_is_altered(rt: HostRuntime) -> Result<(), Fail> {
     Ok(())
 }
 
-/// What an audit says of a primary that beat twice, where its last receipt is the last of another site's, and its last
-/// event too where that is asked.
-fn altered<R: Wait + AllocGlobal>(
-    rt: &R,
-    other: Closed<Party>,
-    with_history: bool,
-) -> Result<Verdict, Fail> {
-    let mut closed = beaten(rt, 0, [0, 1].as_slice())?;
-    let Closed { history, seats, .. } = other;
-    if with_history {
-        replace_last(&mut closed.history, history)?;
-    }
-    replace_last(&mut closed.seats, seats)?;
-    judged_alone(rt.alloc(), closed)
-}
-
 /// The second beat's receipt is that of a backup, which sends nothing.
 #[test]
 fn a_receipt_is_altered(rt: HostRuntime) -> Result<(), Fail> {
+    let primary = beaten(&rt, 0, [0, 1].as_slice())?;
     let backup = beaten(&rt, 1, [0, 1].as_slice())?;
-    let told = altered(&rt, backup, false)?;
+    let altered = with_receipt(primary, backup.seats)?;
+    let told = judged_alone(rt.alloc(), altered)?;
     assert_eq!(rt; told, no(200, 2, Why::Receipts));
     Ok(())
 }
@@ -74,8 +85,7 @@ fn a_receipt_is_altered(rt: HostRuntime) -> Result<(), Fail> {
 /// The second beat stands at clock 1, as the first does, in the history and in its receipt.
 #[test]
 fn a_clock_is_altered(rt: HostRuntime) -> Result<(), Fail> {
-    let once = beaten(&rt, 0, [1].as_slice())?;
-    let told = altered(&rt, once, true)?;
+    let told = altered(&rt, 0, [1].as_slice())?;
     assert_eq!(rt; told, no(200, 2, Why::Clock));
     Ok(())
 }
@@ -83,10 +93,19 @@ fn a_clock_is_altered(rt: HostRuntime) -> Result<(), Fail> {
 /// The second beat sent nothing by the history and by its receipt, as that of a backup.
 #[test]
 fn envelopes_are_taken_out(rt: HostRuntime) -> Result<(), Fail> {
-    let backup = beaten(&rt, 1, [0, 1].as_slice())?;
-    let told = altered(&rt, backup, true)?;
+    let told = altered(&rt, 1, [0, 1].as_slice())?;
     assert_eq!(rt; told, no(200, 2, Why::Answered));
     Ok(())
+}
+
+/// What an audit says of a primary that beat twice, where its last event and its receipt are those of a site that beat from
+/// these seats.
+fn altered<R: Wait + AllocGlobal>(rt: &R, me: u16, seats: &[usize]) -> Result<Verdict, Fail> {
+    let primary = beaten(rt, 0, [0, 1].as_slice())?;
+    let other = beaten(rt, me, seats)?;
+    let altered = with_receipt(primary, other.seats)?;
+    let altered = with_event(altered, other.history)?;
+    judged_alone(rt.alloc(), altered)
 }
 
 /// The end is that of a site that crashed.
