@@ -1,7 +1,7 @@
 //! A live run, from the first connection to the judgement.
-ghost use Rattle.std.specs.Prelude.{IfOk};
+ghost use Rattle.std.specs.Prelude.{◌≡◌, IfOk};
 ghost use Rattle.pvp_types.specs.Setup.{IsValid};
-ghost use Rattle.pvp_live.specs.Told.{WasJudged};
+ghost use Rattle.pvp_live.specs.Told.{WasJudged, net_told};
 
 use crate::actors::{Bank, numbers_of};
 use crate::player::{LinePlayer, Open, place_of};
@@ -45,6 +45,8 @@ impl<T: Drop> From<AllocFailed<T>> for LiveFault {
 }
 
 impl From<NetFault> for LiveFault {
+    ghost from_gives = { λ fault told. told ≡ net_told fault };
+
     fn from(fault: NetFault) -> Self {
         match fault {
             NetFault::Net => LiveFault::Net,
