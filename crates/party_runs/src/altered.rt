@@ -19,35 +19,55 @@ fn beaten<R: Wait + AllocGlobal>(rt: &R, me: u16, seats: &[usize]) -> Result<Clo
     place.close()
 }
 
-/// The items with the last of the others in place of their last.
-fn replace_last<T: Drop>(mut items: Vec<T>, mut others: Vec<T>) -> Result<Vec<T>, Fail> {
-    let (Some(_last), Some(other)) = (items.pop(), others.pop()) else {
-        return Err(Fail::new("too few"));
-    };
+/// The last of some items.
+fn last<T: Drop>(mut items: Vec<T>) -> Result<T, Fail> {
+    match items.pop() {
+        Some(last) => Ok(last),
+        None => Err(Fail::new("too few")),
+    }
+}
+
+/// The last seat, with its receipts, of a site that beat from these seats.
+fn last_seat<R: Wait + AllocGlobal>(rt: &R, me: u16, seats: &[usize]) -> Result<PartySeat, Fail> {
+    last(beaten(rt, me, seats)?.seats)
+}
+
+/// The last event of a site that beat from these seats.
+fn last_event<R: Wait + AllocGlobal>(
+    rt: &R,
+    me: u16,
+    seats: &[usize],
+) -> Result<Recorded<PartyEvent, PartyOutcome>, Fail> {
+    last(beaten(rt, me, seats)?.history)
+}
+
+/// The items with another in place of their last.
+fn with_last<T: Drop>(mut items: Vec<T>, other: T) -> Result<Vec<T>, Fail> {
+    let _last = items.pop();
     items.push(other)?;
     Ok(items)
 }
 
-/// What one left, with the last receipt of another in place of its last.
-fn with_receipt(closed: Closed<Party>, seats: Vec<PartySeat>) -> Result<Closed<Party>, Fail> {
+/// What a site left, with this seat in place of its last.
+fn with_seat(closed: Closed<Party>, seat: PartySeat) -> Result<Closed<Party>, Fail> {
     Ok(Closed {
         number: closed.number,
         opening: closed.opening,
         history: closed.history,
-        seats: replace_last(closed.seats, seats)?,
+        seats: with_last(closed.seats, seat)?,
         end: closed.end,
     })
 }
 
-/// What one left, with the last event of another in place of its last.
+/// What a site left, with this event in place of its last.
 fn with_event(
     closed: Closed<Party>,
-    history: Vec<Recorded<PartyEvent, PartyOutcome>>,
+    event: Recorded<PartyEvent, PartyOutcome>,
 ) -> Result<Closed<Party>, Fail> {
     Ok(Closed {
         number: closed.number,
         opening: closed.opening,
-        history: replace_last(closed.history, history)?,
+        history: with_last(closed.history, event)?,
         seats: closed.seats,
         end: closed.end,
     })
@@ -74,9 +94,8 @@ fn nothing_is_altered(rt: HostRuntime) -> Result<(), Fail> {
 /// The second beat's receipt is that of a backup, which sends nothing.
 #[test]
 fn a_receipt_is_altered(rt: HostRuntime) -> Result<(), Fail> {
-    let primary = beaten(&rt, 0, [0, 1].as_slice())?;
-    let backup = beaten(&rt, 1, [0, 1].as_slice())?;
-    let altered = with_receipt(primary, backup.seats)?;
+    let seat = last_seat(&rt, 1, [0, 1].as_slice())?;
+    let altered = with_seat(beaten(&rt, 0, [0, 1].as_slice())?, seat)?;
     let told = judged_alone(rt.alloc(), altered)?;
     assert_eq!(rt; told, no(200, 2, Why::Receipts));
     Ok(())
@@ -101,10 +120,9 @@ fn envelopes_are_taken_out(rt: HostRuntime) -> Result<(), Fail> {
 /// What an audit says of a primary that beat twice, where its last event and its receipt are those of a site that beat from
 /// these seats.
 fn altered<R: Wait + AllocGlobal>(rt: &R, me: u16, seats: &[usize]) -> Result<Verdict, Fail> {
-    let primary = beaten(rt, 0, [0, 1].as_slice())?;
-    let other = beaten(rt, me, seats)?;
-    let altered = with_receipt(primary, other.seats)?;
-    let altered = with_event(altered, other.history)?;
+    let event = last_event(rt, me, seats)?;
+    let primary = with_event(beaten(rt, 0, [0, 1].as_slice())?, event)?;
+    let altered = with_seat(primary, last_seat(rt, me, seats)?)?;
     judged_alone(rt.alloc(), altered)
 }
 

@@ -5,6 +5,7 @@ use pvp_play::play;
 use pvp_text::book::read_lines;
 use pvp_text::read_setup;
 use pvp_text::script::Kind;
+use std::alloc::Global;
 use std::io::{Read, Write, sink};
 use std::net::Net;
 use std::process::Abort;
@@ -62,11 +63,18 @@ where
     ))?;
     let mut books: Vec<u8> = Vec::new(alloc);
     let mut script: Vec<u8> = Vec::new(alloc);
-    let mut again: Vec<u8> = Vec::new(alloc);
     print_judgement(alloc, &judgement, &mut books).map_err(|_| Fail::new("the books"))?;
     print_script(alloc, &judgement, &mut script).map_err(|_| Fail::new("the script"))?;
-    play(alloc, &setup, script.as_slice(), &mut again).map_err(|_| Fail::new("the play"))?;
-    again.extend_from_slice(b"audit yes\n")?;
+    let again = played(alloc, script.as_slice())?;
     assert_eq!(rt; again.as_slice(), books.as_slice());
     Ok(())
+}
+
+/// What a play of a script prints, and a line that says yes.
+fn played(alloc: Global, script: &[u8]) -> Result<Vec<u8>, Fail> {
+    let setup = read_setup(alloc, SETUP.as_bytes()).map_err(|_| Fail::new("the setup"))?;
+    let mut printed: Vec<u8> = Vec::new(alloc);
+    play(alloc, &setup, script, &mut printed).map_err(|_| Fail::new("the play"))?;
+    printed.extend_from_slice(b"audit yes\n")?;
+    Ok(printed)
 }
