@@ -73,29 +73,44 @@ def write(path, text):
         it.write(text)
 
 
-def main():
-    with tempfile.TemporaryDirectory(prefix="edits-test-") as room:
-        write(f"{room}/crates.txt", "counter:\n")
-        write(f"{room}/HANDLES", "Handles allowed: none.\n")
-        write(f"{room}/crates/counter/src/lib.rt", SOURCE)
-        for name, (old, new, _) in EDITS.items():
-            write(f"{room}/crates/counter/wrong/{name}.edit", f"file: src/lib.rt\nold: {old}\nnew: {new}\n")
-        os.makedirs(f"{room}/.ci")
-        shutil.copy(f"{HERE}/edits", f"{room}/.ci/edits")
-        ran = subprocess.run([f"{room}/.ci/edits"], stdout=subprocess.PIPE, stderr=subprocess.STDOUT, text=True)
+# what `rt ci` prints of the small crate's functions
+PROVED = "".join(f"fn counter::{name}: proved\n" for name in ("next", "after_next", "smaller", "twice"))
+
+
+def wrong_of(ran, way):
+    """What a run of the edits says otherwise than it should."""
     wrong = []
     for name, (_, _, wanted) in EDITS.items():
         said = re.search(rf"^counter/{name}\.edit: (.*)", ran.stdout, re.M)
         if not said or not said[1].startswith(wanted):
-            wrong.append(f"{name}: wanted '{wanted}', and it said '{said and said[1]}'")
+            wrong.append(f"{name} {way}: wanted '{wanted}', and it said '{said and said[1]}'")
     refused = sum(wanted.startswith("refused") for _, _, wanted in EDITS.values())
     last = f"{refused} passed, {len(EDITS) - refused} failed"
     if ran.stdout.rstrip("\n").split("\n")[-1] != last or ran.returncode != 1:
-        wrong.append(f"the last line is not '{last}' with status 1")
+        wrong.append(f"{way}: the last line is not '{last}' with status 1")
     if wrong:
         print(ran.stdout)
+    return wrong
+
+
+def main():
+    wrong = []
+    with tempfile.TemporaryDirectory(prefix="edits-test-") as room:
+        write(f"{room}/crates.txt", "counter:\n")
+        write(f"{room}/HANDLES", "Handles allowed: none.\n")
+        write(f"{room}/crates/counter/src/lib.rt", SOURCE)
+        write(f"{room}/proved", PROVED)
+        for name, (old, new, _) in EDITS.items():
+            write(f"{room}/crates/counter/wrong/{name}.edit", f"file: src/lib.rt\nold: {old}\nnew: {new}\n")
+        os.makedirs(f"{room}/.ci")
+        shutil.copy(f"{HERE}/edits", f"{room}/.ci/edits")
+        ways = {"over its own proof": [], "over a proof of before": ["--proved", f"{room}/proved"]}
+        for way, words in ways.items():
+            ran = subprocess.run([f"{room}/.ci/edits", *words], stdout=subprocess.PIPE, stderr=subprocess.STDOUT, text=True)
+            wrong += wrong_of(ran, way)
+    if wrong:
         print("\n".join(wrong))
-    print(f"{len(EDITS) - len(wrong)} passed, {len(wrong)} failed")
+    print(f"{2 * len(EDITS) - len(wrong)} passed, {len(wrong)} failed")
     return 1 if wrong else 0
 
 

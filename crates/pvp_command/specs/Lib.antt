@@ -3,3 +3,5 @@ pub mod Fault
 pub mod Request
 pub mod Shows
 pub mod Lives
+pub mod Codes
+pub mod Explain

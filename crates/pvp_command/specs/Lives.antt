@@ -9,6 +9,9 @@ use Rattle.pvp_text.specs.Script.{script_at}
 use Rattle.pvp_judge.specs.declared.judgement.Judgement.{Judgement}
 use Rattle.pvp_judge.specs.declared.judgement.Judgement.TheVariants.{Yes, No}
 use Rattle.pvp_live.specs.Told.{WasJudged, judgement_text}
+use Rattle.pvp_live.specs.Scripts.{script_text}
+use Rattle.pvp_command.specs.declared.lives.Ending.{Ending}
+use Rattle.pvp_command.specs.declared.lives.Ending.TheVariants.{Books, Script}
 use Rattle.pvp_command.specs.declared.fault.Fault.{Fault}
 use Rattle.pvp_command.specs.declared.fault.Fault.TheVariants.{Net, Seats}
 use Rattle.pvp_command.specs.Fault.{run_told}
@@ -21,16 +24,21 @@ abbrev pub status_judged : Judgement → ℕ
 status_judged (Yes world) = 0
 status_judged (No actor event why) = 3
 
+-- the books that a run left, or the script that plays it again
+abbrev pub ending_text : Ending → Judgement → List ℕ
+ending_text Books judgement = judgement_text judgement
+ending_text Script judgement = script_text judgement
+
 -- what some actors of the bank left was judged, and that is written
-abbrev pub IsTold : Setup → Option (List ℕ) → Option (List ℕ) → ℕ → Type 0
-IsTold s old new status =
-    (judgement : Judgement) × WasJudged s judgement × Appends old new (judgement_text judgement) × (status ≡ status_judged judgement)
+abbrev pub IsTold : Ending → Setup → Option (List ℕ) → Option (List ℕ) → ℕ → Type 0
+IsTold ending s old new status =
+    (judgement : Judgement) × WasJudged s judgement × Appends old new (ending_text ending judgement) × (status ≡ status_judged judgement)
 
-abbrev pub LivesScript : Setup → List ℕ → Option (List ℕ) → Option (List ℕ) → ℕ → Type 0
-LivesScript s script old new status = (lines : List Line) × (script_at Live s script ≡ Ok lines) × IsTold s old new status
+abbrev pub LivesScript : Ending → Setup → List ℕ → Option (List ℕ) → Option (List ℕ) → ℕ → Type 0
+LivesScript ending s script old new status = (lines : List Line) × (script_at Live s script ≡ Ok lines) × IsTold ending s old new status
 
-abbrev pub LiveWrites : List ℕ → List ℕ → Option (List ℕ) → Option (List ℕ) → ℕ → Type 0
-LiveWrites setup script old new status = (s : Setup) × (setup_text setup ≡ Ok s) × LivesScript s script old new status
+abbrev pub LiveWrites : Ending → List ℕ → List ℕ → Option (List ℕ) → Option (List ℕ) → ℕ → Type 0
+LiveWrites ending setup script old new status = (s : Setup) × (setup_text setup ≡ Ok s) × LivesScript ending s script old new status
 
 -- the fault of a live run: that of its script or of its text, or that it could not be run
 abbrev pub TellsRun : Fault → Type 0

@@ -2,13 +2,12 @@
 ghost use Rattle.std.specs.Prelude.{◌≡◌, OnOk, IfOk, IfErr, IfSome};
 ghost use Rattle.std.specs.Io.KnownBytes.{Appends};
 ghost use Rattle.pvp_types.specs.Setup.{IsValid};
-ghost use Rattle.pvp_live.specs.Told.{judgement_text};
-ghost use Rattle.pvp_command.specs.Lives.{LiveWrites, LiveTells, LivesScript, TellsLive, IsTold, TellsRun, status_judged};
+ghost use Rattle.pvp_command.specs.Lives.{LiveWrites, LiveTells, LivesScript, TellsLive, IsTold, TellsRun, ending_text, status_judged};
 
 use crate::fault::Fault;
 use crate::files::Files;
 use pvp_judge::Judgement;
-use pvp_live::{live as run_live, print_judgement};
+use pvp_live::{live as run_live, print_judgement, print_script};
 use pvp_text::book::read_lines;
 use pvp_text::read_setup;
 use pvp_text::script::{Kind, Line};
@@ -23,77 +22,101 @@ use std::time::Clock;
 /// The status of a live run whose audit says no.
 const AUDIT_NO: u8 = 3;
 
-/// Runs a bank by itself while a script is played, prints how it was judged, and answers the status.
-pub fn live<R, F: Files, O: Write>(
+/// How a live run is told at its end.
+#[derive(Clone, Copy, Debug, PartialEq, Eq)]
+pub enum Ending {
+    /// By the books that it left.
+    Books,
+    /// As the script of a play that leaves the same books.
+    Script,
+}
+
+/// Runs a bank by itself while a script is played, prints how it was judged, and answers the status. What goes on is told
+/// to `notes` while it runs.
+pub fn live<R, F: Files, O: Write, N: Write>(
     rt: &R,
     alloc: Global,
     files: &F,
+    ending: Ending,
     setup: &str,
     script: &str,
     out: &mut O,
+    notes: &mut N,
 ) -> Result<u8, Fault>
 where
     R: Threads + Wait + Clock + Net + Sync,
     R::Stream: Read + Write + Send + Drop,
     ensures ok { IfOk result (λ status. IfSome (F.known files.now setup.now) (λ setup_bytes.
         IfSome (F.known files.now script.now) (λ script_bytes.
-        LiveWrites setup_bytes script_bytes (O.contents out.old) (O.contents out.new) status))) }
+        LiveWrites ending setup_bytes script_bytes (O.contents out.old) (O.contents out.new) status))) }
     ensures err { IfErr result (λ fault. IfSome (F.known files.now setup.now) (λ setup_bytes.
         LiveTells (F.fails files.now setup.now) setup_bytes (F.fails files.now script.now) fault)) }
 {
     let setup = files.read(alloc, setup)?;
     let setup = read_setup(alloc, setup.as_slice())?;
-    live_script(rt, alloc, files, &setup, script, out)
+    live_script(rt, alloc, files, ending, &setup, script, out, notes)
 }
 
 /// Runs a bank of a setup by itself while a script is played.
-fn live_script<R, F: Files, O: Write>(
+fn live_script<R, F: Files, O: Write, N: Write>(
     rt: &R,
     alloc: Global,
     files: &F,
+    ending: Ending,
     setup: &Setup,
     script: &str,
     out: &mut O,
+    notes: &mut N,
 ) -> Result<u8, Fault>
 where
     R: Threads + Wait + Clock + Net + Sync,
     R::Stream: Read + Write + Send + Drop,
     requires { IsValid setup.now }
     ensures ok { IfOk result (λ status. IfSome (F.known files.now script.now) (λ bytes.
-        LivesScript setup.now bytes (O.contents out.old) (O.contents out.new) status)) }
+        LivesScript ending setup.now bytes (O.contents out.old) (O.contents out.new) status)) }
     ensures err { IfErr result (TellsLive (F.fails files.now script.now)) }
 {
     let script = files.read(alloc, script)?;
     let lines = read_lines(alloc, setup, Kind::Live, script.as_slice())?;
-    live_lines(rt, alloc, setup, lines.as_slice(), out)
+    live_lines(rt, alloc, ending, setup, lines.as_slice(), out, notes)
 }
 
 /// Runs a bank of a setup by itself while lines are played.
-fn live_lines<R, O: Write>(
+fn live_lines<R, O: Write, N: Write>(
     rt: &R,
     alloc: Global,
+    ending: Ending,
     setup: &Setup,
     lines: &[Line],
     out: &mut O,
+    notes: &mut N,
 ) -> Result<u8, Fault>
 where
     R: Threads + Wait + Clock + Net + Sync,
     R::Stream: Read + Write + Send + Drop,
     requires { IsValid setup.now }
-    ensures ok { IfOk result (IsTold setup.now (O.contents out.old) (O.contents out.new)) }
+    ensures ok { IfOk result (IsTold ending setup.now (O.contents out.old) (O.contents out.new)) }
     ensures err { IfErr result TellsRun }
 {
-    let judgement = run_live(rt, alloc, setup, lines)?;
-    tell(alloc, &judgement, out)
+    let judgement = run_live(rt, alloc, setup, lines, notes)?;
+    tell(alloc, ending, &judgement, out)
 }
 
 /// Prints how a live run was judged, and answers the status.
-fn tell<O: Write>(alloc: Global, judgement: &Judgement, out: &mut O) -> Result<u8, Fault>
-    ensures text { OnOk result (Appends (O.contents out.old) (O.contents out.new) (judgement_text judgement.now)) }
+fn tell<O: Write>(
+    alloc: Global,
+    ending: Ending,
+    judgement: &Judgement,
+    out: &mut O,
+) -> Result<u8, Fault>
+    ensures text { OnOk result (Appends (O.contents out.old) (O.contents out.new) (ending_text ending judgement.now)) }
     ensures status { IfOk result (λ status. status ≡ status_judged judgement.now) }
     ensures err { IfErr result TellsRun }
 {
-    print_judgement(alloc, judgement, out)?;
+    match ending {
+        Ending::Books => print_judgement(alloc, judgement, out)?,
+        Ending::Script => print_script(alloc, judgement, out)?,
+    }
     Ok(status_judged(judgement))
 }
 

@@ -1,24 +1,29 @@
 //! The whole program, over its words, its files and its two outputs.
 
-ghost use Rattle.std.specs.Prelude.{◌≡◌, ◌≢◌, true, false, OnOk, OnErr, IfOk, IfErr, IfSome};
+ghost use Rattle.std.specs.Prelude.{◌≡◌, ◌≢◌, ◌⊎◌, true, false, OnOk, OnErr, IfOk, IfErr, IfSome};
+ghost use Rattle.std.specs.Io.KnownBytes.{Appends};
 ghost use Rattle.pvp_types.specs.Setup.{IsValid};
+ghost use Rattle.pvp_codes.specs.Codes.{codes_text};
+ghost use Rattle.pvp_command.specs.declared.fault.Fault.TheVariants.{NoMemory, Output};
 ghost use Rattle.pvp_command.specs.Fault.{status_told};
 ghost use Rattle.pvp_command.specs.Request.{CheckWrites, CheckTells, BookWrites, PlayWrites, RunTells, PlayTells, PlaysScript, DrawsScript, ShowsScript, TellsScript};
 
+use crate::explain::explained;
 use crate::fails::unknown_site;
 use crate::fault::Fault;
 use crate::files::Files;
 use crate::lives::live;
-use crate::request::{Request, is_help, parse};
+use crate::request::{Asked, Request, is_help, parse};
 use crate::shows::Show;
 use clap::Error;
+use pvp_codes::print_codes;
 use pvp_picture::picture::{Steps, picture};
 use pvp_play::{Fail, Telling, play_failing, trace};
 use pvp_text::{read_setup, run_book};
 use pvp_types::Setup;
 use std::alloc::Global;
 use std::convert::AsStr;
-use std::io::{ErrorKind, Read, Write};
+use std::io::{ErrorKind, Read, Write, sink};
 use std::net::Net;
 use std::sync::Wait;
 use std::thread::Threads;
@@ -48,9 +53,25 @@ where
     R::Stream: Read + Write + Send + Drop,
 {
     match parse(alloc, words) {
-        Ok(Some(Request::Live { setup, script })) => {
-            let told = live(rt, alloc, files, setup, script, out);
-            tell(told, err)
+        Ok(
+            Some(
+                Asked {
+                    request: Request::Live {
+                        ending,
+                        verbose,
+                        setup,
+                        script,
+                    },
+                    explains,
+                },
+            ),
+        ) => {
+            let told = if verbose {
+                live(rt, alloc, files, ending, setup, script, out, err)
+            } else {
+                live(rt, alloc, files, ending, setup, script, out, &mut sink())
+            };
+            tell_more(alloc, told, explains, files, Some(script), err)
         }
         asked => answer(alloc, asked, files, out, err),
     }
@@ -72,23 +93,24 @@ pub fn command<S: AsStr, F: Files, O: Write, E: Write>(
 /// Does what was asked for, where the words were of a form, and answers the status.
 fn answer<F: Files, O: Write, E: Write>(
     alloc: Global,
-    asked: Result<Option<Request<'_>>, Error>,
+    asked: Result<Option<Asked<'_>>, Error>,
     files: &F,
     out: &mut O,
     err: &mut E,
 ) -> u8 {
-    let told = match asked {
-        Ok(Some(request)) => run(alloc, request, files, out),
-        Ok(None) => return NO_FORM,
-        Err(refusal) => {
-            if is_help(refusal.kind()) {
-                let _ = write!(err, "{refusal}");
-                return NO_FORM;
-            }
-            Err(Fault::NoMemory)
+    match asked {
+        Ok(Some(Asked { request, explains })) => {
+            let script = request.script();
+            let told = run(alloc, request, files, out);
+            tell_more(alloc, told, explains, files, script, err)
         }
-    };
-    tell(told, err)
+        Ok(None) => NO_FORM,
+        Err(refusal) if is_help(refusal.kind()) => {
+            let _ = write!(err, "{refusal}");
+            NO_FORM
+        }
+        Err(_) => tell(Err(Fault::NoMemory), err),
+    }
 }
 
 /// Tells a fault, and answers the status of the run.
@@ -100,6 +122,27 @@ fn tell<E: Write>(told: Result<u8, Fault>, err: &mut E) -> u8
         let _ = write!(err, "{fault}\n");
     }
     status_of(told)
+}
+
+/// Tells a fault as `tell` does, and where that is asked for the line that explains it.
+fn tell_more<F: Files, E: Write>(
+    alloc: Global,
+    told: Result<u8, Fault>,
+    explains: bool,
+    files: &F,
+    script: Option<&str>,
+    err: &mut E,
+) -> u8
+    ensures ok { IfOk told (λ status. result ≡ status) }
+    ensures err { IfErr told (λ fault. result ≡ status_told fault) }
+{
+    let status = tell(told, err);
+    if let (true, Err(fault)) = (explains, told) {
+        if let Some(line) = explained(alloc, files, script, fault) {
+            let _ = err.write_all(line.as_slice());
+        }
+    }
+    status
 }
 
 /// The status of a run that was asked for.
@@ -149,8 +192,18 @@ fn run<F: Files, O: Write>(
             fails,
         } => play(alloc, files, show, setup, script, fails.as_slice(), out)?,
         Request::Live { .. } => return Err(Fault::Net),
+        Request::Codes => codes(alloc, out)?,
     }
     Ok(DONE)
+}
+
+/// Tells what each fault code means.
+fn codes<O: Write>(alloc: Global, out: &mut O) -> Result<(), Fault>
+    ensures ok { OnOk result (Appends (O.contents out.old) (O.contents out.new) codes_text) }
+    ensures err { IfErr result (λ fault. (fault ≡ NoMemory) ⊎ (fault ≡ Output)) }
+{
+    print_codes(alloc, out)?;
+    Ok(())
 }
 
 /// Tells that a setup meets the rules.

@@ -1,8 +1,10 @@
 //! What the words of a command line ask for.
 
-ghost use Rattle.std.specs.Prelude.{◌≡◌, ◌≢◌, true, false};
+ghost use Rattle.std.specs.Prelude.{◌≡◌, ◌≢◌, true, false, map};
+ghost use Rattle.pvp_command.specs.Codes.{asks_for_codes};
 
 use crate::fails::read_fails;
+use crate::lives::Ending;
 use crate::shows::{Show, show_at};
 use clap::error::ErrorKind;
 use clap::{Arg, ArgAction, ArgMatches, Command, Error};
@@ -29,32 +31,102 @@ pub enum Request<'a> {
         script: &'a str,
         fails: Vec<Fail>,
     },
-    /// A bank that runs by itself while a script is played.
+    /// A bank that runs by itself while a script is played, how that is told at its end, and whether it is told what goes on.
     Live {
+        ending: Ending,
+        verbose: bool,
         setup: &'a str,
         script: &'a str,
     },
+    /// What each fault code means.
+    Codes,
+}
+
+impl<'a> Request<'a> {
+    /// The name of the script's file, where it has one.
+    pub fn script(&self) -> Option<&'a str> {
+        match self {
+            Request::Book { script, .. }
+            | Request::Play { script, .. }
+            | Request::Live { script, .. } => Some(*script),
+            Request::Check { .. } | Request::Codes => None,
+        }
+    }
+}
+
+/// A request, and whether a fault is to be explained.
+#[derive(Debug, Drop)]
+pub struct Asked<'a> {
+    pub request: Request<'a>,
+    pub explains: bool,
 }
 
 /// The request that the words are, the program's own name first.
-pub fn parse<'a, S: AsStr>(alloc: Global, words: &'a [S]) -> Result<Option<Request<'a>>, Error> {
+pub fn parse<'a, S: AsStr>(alloc: Global, words: &'a [S]) -> Result<Option<Asked<'a>>, Error> {
+    if asks_for_codes(words) {
+        let request = Request::Codes;
+        return Ok(Some(Asked {
+            request,
+            explains: false,
+        }));
+    }
     let mut program = program(alloc)?;
     let matches = program.try_get_matches_from_mut(words)?;
-    match matches.subcommand() {
-        Some(("check", inner)) => Ok(inner.get_str("setup").map(|setup| Request::Check { setup })),
-        Some(("book", inner)) => match (inner.get_str("setup"), inner.get_str("script")) {
+    let Some((name, inner)) = matches.subcommand() else {
+        return Ok(None);
+    };
+    let explains = inner.get_flag("explain");
+    match parse_command(alloc, &mut program, name, inner)? {
+        Some(request) => Ok(Some(Asked { request, explains })),
+        None => Ok(None),
+    }
+}
+
+/// The request that the words of a command are.
+fn parse_command<'a>(
+    alloc: Global,
+    program: &mut Command<'a>,
+    name: &str,
+    words: &ArgMatches<'a>,
+) -> Result<Option<Request<'a>>, Error> {
+    match name {
+        "check" => Ok(words.get_str("setup").map(|setup| Request::Check { setup })),
+        "book" => match (words.get_str("setup"), words.get_str("script")) {
             (Some(setup), Some(script)) => Ok(Some(Request::Book { setup, script })),
             _ => Ok(None),
         },
-        Some(("play", inner)) => {
-            parse_play(alloc, &mut program, Show::Told(Telling::Books), inner)
-        }
-        Some(("trace", inner)) => parse_trace(alloc, &mut program, inner),
-        Some(("live", inner)) => match (inner.get_str("setup"), inner.get_str("script")) {
-            (Some(setup), Some(script)) => Ok(Some(Request::Live { setup, script })),
-            _ => Ok(None),
-        },
+        "play" => parse_play(alloc, program, Show::Told(Telling::Books), words),
+        "trace" => parse_trace(alloc, program, words),
+        "live" => Ok(parse_live(words)),
         _ => Ok(None),
+    }
+}
+
+/// The live run that the words are.
+fn parse_live<'a>(words: &ArgMatches<'a>) -> Option<Request<'a>> {
+    let setup = words.get_str("setup")?;
+    let script = words.get_str("script")?;
+    let ending = if words.get_flag("script-again") {
+        Ending::Script
+    } else {
+        Ending::Books
+    };
+    Some(Request::Live {
+        ending,
+        verbose: words.get_flag("verbose"),
+        setup,
+        script,
+    })
+}
+
+/// Whether the words ask what the fault codes mean: `help codes` after the program's own name. The reader of the words has
+/// a `help` of its own, which takes the names of commands alone.
+fn asks_for_codes<S: AsStr>(words: &[S]) -> bool
+    ensures { result ≡ asks_for_codes (map S.text words.now) }
+{
+    match words {
+        [_, first, second] => first.as_str() == "help" && second.as_str() == "codes",
+        _ => false,
     }
 }
 
@@ -105,13 +177,16 @@ pub fn is_help(kind: ErrorKind) -> bool
 
 /// What stands at the end of each help text.
 const MORE: &str =
-    "Setups, scripts, printed text, fault codes and statuses are described in docs/formats.md, \
-the rules of settlement in docs/settlement.md, and examples/ has commented scripts.";
+    "`pvpsim help codes` prints every fault code and what it means. Setups, scripts, printed text, fault codes and \
+statuses are described in docs/formats.md, the rules of settlement in docs/settlement.md, and examples/ has commented scripts.";
 
 const SETUP_HELP: &str =
     "A setup: a JSON file with the sites, the currencies and the members of the bank";
 
 const SCRIPT_HELP: &str = "A script: a text file with one statement a line";
+
+const EXPLAIN_HELP: &str =
+    "Tells after a fault on the setup or the script, in a second line, which rule is broken, and by which line";
 
 const FAIL_HELP: &str =
     "Lets a save of a site's boot cell fail; may stand once for each site. SITE is the number of a site, AT counts its saves \
@@ -121,6 +196,12 @@ from 1 and is at most 65535, and the cell then holds the new value at `new` and 
 const NO_FAILS: &str =
     "`--fail` takes SITE:AT:KEEP, and each site once: SITE and AT are numbers up to 65535 without a leading zero, AT is \
 not 0, and KEEP is `new` or `old`";
+
+const AGAIN_HELP: &str =
+    "Prints, where the audit says yes, a script in place of the books, which `play` takes: a line for each step that was taken, in one order that explains the run";
+
+const VERBOSE_HELP: &str =
+    "Tells on standard error what goes on, while it does: the connections, each line and what came of it, and how many frames came";
 
 const SVG_HELP: &str =
     "Writes one picture in place of the text, an SVG that stands alone: a lifeline for each actor, and an arrow for each envelope";
@@ -163,7 +244,7 @@ fn program<'a>(alloc: Global) -> Result<Command<'a>, AllocError> {
         .subcommand(with_script(alloc, "book", BOOK_ABOUT)?)?
         .subcommand(with_fails(alloc, "play", PLAY_ABOUT)?)?
         .subcommand(with_picture(alloc)?)?
-        .subcommand(with_script(alloc, "live", LIVE_ABOUT)?)
+        .subcommand(with_ending(alloc)?)
 }
 
 /// A command that takes a setup.
@@ -171,7 +252,8 @@ fn with_setup<'a>(alloc: Global, name: &'a str, about: &'a str) -> Result<Comman
     Command::new(alloc, name)
         .about(about)
         .after_help(MORE)
-        .arg(file(alloc, "setup", SETUP_HELP))
+        .arg(file(alloc, "setup", SETUP_HELP))?
+        .arg(explain(alloc))
 }
 
 /// One that takes a script too.
@@ -196,12 +278,27 @@ fn with_picture<'a>(alloc: Global) -> Result<Command<'a>, AllocError> {
         .arg(step(alloc, "to", TO_HELP))
 }
 
+/// The live run, which may be told as a script.
+fn with_ending<'a>(alloc: Global) -> Result<Command<'a>, AllocError> {
+    with_script(alloc, "live", LIVE_ABOUT)?
+        .arg(again(alloc))?
+        .arg(verbose(alloc))
+}
+
 /// A file that has to be named.
 fn file<'a>(alloc: Global, id: &'a str, help: &'a str) -> Arg<'a> {
     Arg::new(alloc, id)
         .help(help)
         .required(true)
         .action(ArgAction::Set)
+}
+
+/// That faults are to be explained.
+fn explain<'a>(alloc: Global) -> Arg<'a> {
+    Arg::new(alloc, "explain")
+        .long("explain")
+        .help(EXPLAIN_HELP)
+        .action(ArgAction::SetTrue)
 }
 
 /// A save that is to fail.
@@ -218,6 +315,22 @@ fn svg<'a>(alloc: Global) -> Arg<'a> {
     Arg::new(alloc, "svg")
         .long("svg")
         .help(SVG_HELP)
+        .action(ArgAction::SetTrue)
+}
+
+/// That a live run is told as a script.
+fn again<'a>(alloc: Global) -> Arg<'a> {
+    Arg::new(alloc, "script-again")
+        .long("script")
+        .help(AGAIN_HELP)
+        .action(ArgAction::SetTrue)
+}
+
+/// That what goes on is told.
+fn verbose<'a>(alloc: Global) -> Arg<'a> {
+    Arg::new(alloc, "verbose")
+        .long("verbose")
+        .help(VERBOSE_HELP)
         .action(ArgAction::SetTrue)
 }
 

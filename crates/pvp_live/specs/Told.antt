@@ -2,8 +2,8 @@
 use Rattle.std.specs.Prelude.{ℕ, List, ◌++◌, codes, decimal}
 use Rattle.pvp_types.specs.declared.setup.Setup.{Setup}
 use Rattle.vr_types.specs.MemoryCell.{held_by}
-use Rattle.pvp_audit.specs.declared.verdict.Why.{Why}
-use Rattle.pvp_audit.specs.declared.verdict.Why.TheVariants.{Stamped, Clock, Answered, End, Receipts, NoMemory}
+use Rattle.pvp_codes.specs.Codes.{code_text}
+use Rattle.pvp_codes.specs.declared.code.Code.TheVariants.{Audit}
 use Rattle.pvp_play.specs.BooksText.{books_text}
 use Rattle.pvp_judge.specs.declared.judgement.Judgement.{Judgement}
 use Rattle.pvp_judge.specs.declared.judgement.Judgement.TheVariants.{Yes, No}
@@ -13,19 +13,10 @@ use Rattle.pvp_streams.specs.declared.sockets.NetFault.TheVariants as net
 use Rattle.pvp_live.specs.declared.running.LiveFault.{LiveFault}
 use Rattle.pvp_live.specs.declared.running.LiveFault.TheVariants as faults
 
--- the code of a test
-abbrev pub code_text : Why → List ℕ
-code_text Stamped = codes "A1"
-code_text Clock = codes "A2"
-code_text Answered = codes "A3"
-code_text End = codes "A4"
-code_text Receipts = codes "A5"
-code_text NoMemory = codes "A6"
-
 -- the books of a Yes and a line, or the line of a No
 abbrev pub judgement_text : Judgement → List ℕ
 judgement_text (Yes world) = books_text held_by world ++ codes "audit yes\n"
-judgement_text (No actor event why) = codes "audit no " ++ decimal actor ++ codes " " ++ decimal event ++ codes " " ++ code_text why ++ codes "\n"
+judgement_text (No actor event why) = codes "audit no " ++ decimal actor ++ codes " " ++ decimal event ++ codes " " ++ code_text (Audit why) ++ codes "\n"
 
 -- what some actors left was judged so
 pub record WasJudged (setup : Setup) (judgement : Judgement) : Type 0 where

@@ -4,9 +4,12 @@
 
 pub mod actors;
 pub mod events;
+mod notes;
 mod player;
 pub mod running;
+pub mod scripts;
 pub mod told;
 
 pub use running::{LiveFault, live};
+pub use scripts::print_script;
 pub use told::print_judgement;

@@ -4,6 +4,7 @@ ghost use Rattle.pvp_types.specs.Setup.{IsValid};
 ghost use Rattle.pvp_live.specs.Told.{WasJudged, net_told};
 
 use crate::actors::{Bank, numbers_of};
+use crate::notes::{tell_connected, tell_ends};
 use crate::player::{LinePlayer, Open, place_of};
 use pvp_judge::{Judgement, judge};
 use pvp_parties::{Party, PartyCell, PartySeat};
@@ -57,8 +58,14 @@ impl From<NetFault> for LiveFault {
 
 /// Runs a bank by itself while a script is played, and judges what its actors did. Each actor has a lock of its own and a
 /// stream from each other that may send to it. At the script's end the writers stop, all workers end, and the actors are
-/// judged; a refused step of the script stands in the history.
-pub fn live<R>(rt: &R, alloc: Global, setup: &Setup, lines: &[Line]) -> Result<Judgement, LiveFault>
+/// judged; a refused step of the script stands in the history. What goes on is told to `notes` while it runs.
+pub fn live<R, N: Write>(
+    rt: &R,
+    alloc: Global,
+    setup: &Setup,
+    lines: &[Line],
+    notes: &mut N,
+) -> Result<Judgement, LiveFault>
 where
     R: Threads + Wait + Clock + Net + Sync,
     R::Stream: Read + Write + Send + Drop,
@@ -67,8 +74,14 @@ where
 {
     let actors = numbers_of(alloc, setup)?;
     let connected = connect_all(rt, alloc, actors.as_slice())?;
+    tell_connected(notes, actors.len(), connected.incoming.len());
     let Bank { cells, seats } = Bank::open(alloc, setup)?;
-    let seats = run(rt, alloc, cells.as_slice(), seats, connected, lines)?;
+    let script = Script {
+        setup,
+        lines,
+        notes,
+    };
+    let seats = run(rt, alloc, cells.as_slice(), seats, connected, script)?;
     let closed = close_all(alloc, cells, seats)?;
     match judge(alloc, setup, closed.as_slice()) {
         Ok(judgement) => Ok(judgement),
@@ -76,14 +89,22 @@ where
     }
 }
 
+/// The lines to play, and who is told what goes on.
+#[derive(Drop)]
+struct Script<'a, N> {
+    setup: &'a Setup,
+    lines: &'a [Line],
+    notes: &'a mut N,
+}
+
 /// Plays the script while all workers are at work, and answers the seats of each cell.
-fn run<R>(
+fn run<R, N: Write>(
     rt: &R,
     alloc: Global,
     cells: &[PartyCell],
     mut seats: Vec<Vec<PartySeat>>,
     connected: Connected<R::Stream>,
-    lines: &[Line],
+    script: Script<'_, N>,
 ) -> Result<Vec<Vec<PartySeat>>, LiveFault>
 where
     R: Threads + Wait + Clock + Net + Sync,
@@ -93,9 +114,16 @@ where
     let mut out = Writers::new(alloc);
     let mut writers = writers_of(alloc, &mut out, outgoing)?;
     let mut peers = peers_of(alloc, cells, seats.as_mut_slice(), incoming)?;
+    let Script {
+        setup,
+        lines,
+        notes,
+    } = script;
     let mut player = LinePlayer {
         rt,
         alloc,
+        setup,
+        notes,
         cells,
         seats: own_seats(alloc, seats.as_mut_slice())?,
         lines,
@@ -109,7 +137,12 @@ where
         &Open,
         &mut player,
     );
-    let LinePlayer { seats: own, .. } = player;
+    let LinePlayer {
+        seats: own,
+        notes,
+        ..
+    } = player;
+    tell_ends(notes, peers.as_slice());
     give_back(cells, seats.as_mut_slice(), own)?;
     give_back(cells, seats.as_mut_slice(), seats_of(alloc, peers)?)?;
     Ok(seats)

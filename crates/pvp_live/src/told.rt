@@ -2,9 +2,9 @@
 ghost use Rattle.std.specs.Prelude.{◌≡◌, ◌⊎◌, ◌++◌, Err, OnOk, IfErr, string_bytes};
 ghost use Rattle.std.specs.Io.KnownBytes.{Appends};
 ghost use Rattle.pvp_text.specs.declared.book.RunFault.TheVariants.{NoMemory, Output};
-ghost use Rattle.pvp_live.specs.Told.{judgement_text, code_text};
+ghost use Rattle.pvp_live.specs.Told.{judgement_text};
 
-use pvp_audit::Why;
+use pvp_codes::Code;
 use pvp_judge::Judgement;
 use pvp_play::books::push_books;
 use pvp_text::book::{RunFault, write_text};
@@ -29,7 +29,7 @@ pub fn print_judgement<W: Write>(
 }
 
 /// Appends a judgement.
-fn push_judgement(text: &mut String, judgement: &Judgement) -> Result<(), AllocError>
+pub(crate) fn push_judgement(text: &mut String, judgement: &Judgement) -> Result<(), AllocError>
     ensures { OnOk result (string_bytes text.new ≡ string_bytes text.old ++ judgement_text judgement.now) }
 {
     match judgement {
@@ -38,22 +38,8 @@ fn push_judgement(text: &mut String, judgement: &Judgement) -> Result<(), AllocE
             text.push_str("audit yes\n")
         }
         Judgement::No { actor, event, why } => {
-            let code = code_of(*why);
+            let code = Code::Audit(*why);
             write!(text, "audit no {actor} {event} {code}\n")
         }
-    }
-}
-
-/// The code of a test.
-fn code_of(why: Why) -> &'static str
-    ensures { result.now ≡ code_text why }
-{
-    match why {
-        Why::Stamped => "A1",
-        Why::Clock => "A2",
-        Why::Answered => "A3",
-        Why::End => "A4",
-        Why::Receipts => "A5",
-        Why::NoMemory => "A6",
     }
 }

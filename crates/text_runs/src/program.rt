@@ -1,4 +1,6 @@
+mod codes;
 mod cuts;
+mod explained;
 mod fails;
 mod lives;
 mod pictures;

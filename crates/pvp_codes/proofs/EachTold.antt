@@ -1,0 +1,79 @@
+-- Each code has its line in the table.
+use Rattle.std.proofs.Common.{◌≡◌, refl}
+use Rattle.pvp_types.specs.declared.command.Reason.TheVariants as reason
+use Rattle.pvp_types.specs.declared.setup.SetupFault.TheVariants as rule
+use Rattle.pvp_text.specs.declared.setup.TextFault.TheVariants as text
+use Rattle.pvp_text.specs.declared.script.LineCode.TheVariants as line
+use Rattle.vr_types.specs.declared.event.SiteFault.TheVariants as site
+use Rattle.rtgs_node.specs.declared.fault.NodeFault.TheVariants as node
+use Rattle.pvp_world.specs.declared.fault.WorldFault.TheVariants as world
+use Rattle.pvp_audit.specs.declared.verdict.Why.TheVariants as audit
+use Rattle.pvp_wire.specs.declared.fault.WireFault.TheVariants as wire
+use Rattle.pvp_codes.specs.declared.code.Code.TheVariants.{Setup, Line, Refusal, Step, Audit, Frame, Seats}
+use Rattle.pvp_codes.specs.Codes.{EachIsTold}
+
+pub each-told : EachIsTold
+each-told (Setup text.NotJson) other = refl
+each-told (Setup text.BadMember) other = refl
+each-told (Setup text.NoMemory) other = absurd (other refl)
+each-told (Setup (text.BadSetup rule.SiteCount)) other = refl
+each-told (Setup (text.BadSetup rule.CurrencyCount)) other = refl
+each-told (Setup (text.BadSetup rule.CurrencyCode)) other = refl
+each-told (Setup (text.BadSetup rule.Rate)) other = refl
+each-told (Setup (text.BadSetup rule.Haircut)) other = refl
+each-told (Setup (text.BadSetup rule.MemberCount)) other = refl
+each-told (Setup (text.BadSetup rule.MemberName)) other = refl
+each-told (Setup (text.BadSetup rule.ListLength)) other = refl
+each-told (Setup (text.BadSetup rule.Limit)) other = refl
+each-told (Line line.Byte) other = refl
+each-told (Line line.UnknownWord) other = refl
+each-told (Line line.WordCount) other = refl
+each-told (Line line.Number) other = refl
+each-told (Line line.UnknownName) other = refl
+each-told (Line line.LineLength) other = refl
+each-told (Line line.LineCount) other = refl
+each-told (Line line.NoMemory) other = refl
+each-told (Refusal reason.NotYours) other = refl
+each-told (Refusal reason.UnknownMember) other = refl
+each-told (Refusal reason.UnknownCurrency) other = refl
+each-told (Refusal reason.BadAmount) other = refl
+each-told (Refusal reason.Repeated) other = refl
+each-told (Refusal reason.Mismatch) other = refl
+each-told (Refusal reason.UnknownReference) other = refl
+each-told (Refusal reason.Late) other = refl
+each-told (Refusal reason.Short) other = refl
+each-told (Refusal reason.TestFails) other = refl
+each-told (Refusal reason.BankShort) other = refl
+each-told (Step world.NoSuchEnvelope) other = refl
+each-told (Step world.NoSuchActor) other = refl
+each-told (Step world.Outstanding) other = refl
+each-told (Step world.Spent) other = refl
+each-told (Step world.NoMemory) other = refl
+each-told (Step (world.Site site.NoMemory)) other = refl
+each-told (Step (world.Site site.CellFault)) other = refl
+each-told (Step (world.Site site.NotUp)) other = refl
+each-told (Step (world.Site site.AlreadyUp)) other = refl
+each-told (Step (world.Site site.ViewsSpent)) other = refl
+each-told (Step (world.Site site.BootsSpent)) other = refl
+each-told (Step (world.Site site.NotMine)) other = refl
+each-told (Step (world.Node node.Short)) other = refl
+each-told (Step (world.Node node.UnknownMember)) other = refl
+each-told (Step (world.Node node.BadAmount)) other = refl
+each-told (Step (world.Node node.NoMemory)) other = refl
+each-told (Step (world.Node node.Spent)) other = refl
+each-told (Step (world.Node node.NotMine)) other = refl
+each-told (Step (world.Node node.Closed)) other = refl
+each-told (Audit audit.Stamped) other = refl
+each-told (Audit audit.Clock) other = refl
+each-told (Audit audit.Answered) other = refl
+each-told (Audit audit.End) other = refl
+each-told (Audit audit.Receipts) other = refl
+each-told (Audit audit.NoMemory) other = refl
+each-told (Frame wire.Short) other = refl
+each-told (Frame wire.TooLong) other = refl
+each-told (Frame wire.Version) other = refl
+each-told (Frame wire.Kind) other = refl
+each-told (Frame wire.Field) other = refl
+each-told (Frame wire.Length) other = refl
+each-told (Frame wire.NoMemory) other = refl
+each-told Seats other = refl

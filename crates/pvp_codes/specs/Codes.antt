@@ -1,0 +1,121 @@
+-- All codes that the program or its parts print, and the text that tells each with its meaning.
+use Rattle.std.specs.Prelude.{◌≡◌, ◌≢◌, ℕ, true, List, [], ◌∷◌, ◌++◌, map, codes}
+use Rattle.std.specs.List.{flat_map}
+use Rattle.pvp_types.specs.declared.command.Reason.{Reason}
+use Rattle.pvp_types.specs.declared.command.Reason.TheVariants as reason
+use Rattle.pvp_types.specs.Setup.{rules, rule_text, is_among, are_different}
+use Rattle.pvp_types.specs.Reply.{reason_text}
+use Rattle.pvp_text.specs.declared.setup.TextFault.{TextFault}
+use Rattle.pvp_text.specs.declared.setup.TextFault.TheVariants as text
+use Rattle.pvp_text.specs.declared.script.LineCode.{LineCode}
+use Rattle.pvp_text.specs.declared.script.LineCode.TheVariants as line
+use Rattle.pvp_text.specs.Script.{line_code_text}
+use Rattle.vr_types.specs.declared.event.SiteFault.{SiteFault}
+use Rattle.vr_types.specs.declared.event.SiteFault.TheVariants as site
+use Rattle.rtgs_node.specs.declared.fault.NodeFault.{NodeFault}
+use Rattle.rtgs_node.specs.declared.fault.NodeFault.TheVariants as node
+use Rattle.pvp_world.specs.declared.fault.WorldFault.{WorldFault}
+use Rattle.pvp_world.specs.declared.fault.WorldFault.TheVariants as world
+use Rattle.pvp_world.specs.Fault.{fault_text}
+use Rattle.pvp_trace.specs.Meanings.{meaning as step_meaning}
+use Rattle.pvp_audit.specs.declared.verdict.Why.{Why}
+use Rattle.pvp_audit.specs.declared.verdict.Why.TheVariants as audit
+use Rattle.pvp_wire.specs.declared.fault.WireFault.{WireFault}
+use Rattle.pvp_wire.specs.declared.fault.WireFault.TheVariants as wire
+use Rattle.pvp_wire.specs.Fault.{fault_code_text}
+use Rattle.pvp_codes.specs.declared.code.Code.{Code}
+use Rattle.pvp_codes.specs.declared.code.Code.TheVariants.{Setup, Line, Refusal, Step, Audit, Frame, Seats}
+use Rattle.pvp_codes.specs.Meanings.{text_meaning, line_meaning, reason_meaning, audit_meaning, wire_meaning, seats_meaning}
+
+-- ---- a code and its meaning
+
+-- the program tells J3 as `fault memory`, and so no line of the table has it
+abbrev pub setup_code : TextFault → List ℕ
+setup_code text.NotJson = codes "J1"
+setup_code text.BadMember = codes "J2"
+setup_code text.NoMemory = codes "J3"
+setup_code (text.BadSetup rule) = rule_text rule
+
+abbrev pub audit_code : Why → List ℕ
+audit_code audit.Stamped = codes "A1"
+audit_code audit.Clock = codes "A2"
+audit_code audit.Answered = codes "A3"
+audit_code audit.End = codes "A4"
+audit_code audit.Receipts = codes "A5"
+audit_code audit.NoMemory = codes "A6"
+
+-- THE CODE that is printed
+abbrev pub code_text : Code → List ℕ
+code_text (Setup fault) = setup_code fault
+code_text (Line code) = line_code_text code
+code_text (Refusal why) = reason_text why
+code_text (Step fault) = fault_text fault
+code_text (Audit why) = audit_code why
+code_text (Frame fault) = fault_code_text fault
+code_text Seats = codes "E1"
+
+-- WHAT IT MEANS
+abbrev pub meaning : Code → List ℕ
+meaning (Setup fault) = text_meaning fault
+meaning (Line code) = line_meaning code
+meaning (Refusal why) = reason_meaning why
+meaning (Step fault) = step_meaning fault
+meaning (Audit why) = audit_meaning why
+meaning (Frame fault) = wire_meaning fault
+meaning Seats = seats_meaning
+
+-- ---- all of them
+
+abbrev pub line_codes : List LineCode
+line_codes = line.Byte ∷ line.UnknownWord ∷ line.WordCount ∷ line.Number ∷ line.UnknownName ∷ line.LineLength ∷ line.LineCount ∷ line.NoMemory ∷ []
+
+abbrev pub reasons : List Reason
+reasons =
+    reason.NotYours ∷ reason.UnknownMember ∷ reason.UnknownCurrency ∷ reason.BadAmount ∷ reason.Repeated ∷ reason.Mismatch
+    ∷ reason.UnknownReference ∷ reason.Late ∷ reason.Short ∷ reason.TestFails ∷ reason.BankShort ∷ []
+
+abbrev pub world_faults : List WorldFault
+world_faults = world.NoSuchEnvelope ∷ world.NoSuchActor ∷ world.Outstanding ∷ world.NoMemory ∷ []
+
+abbrev pub site_faults : List SiteFault
+site_faults = site.NoMemory ∷ site.CellFault ∷ site.NotUp ∷ site.AlreadyUp ∷ site.ViewsSpent ∷ site.BootsSpent ∷ site.NotMine ∷ []
+
+abbrev pub node_faults : List NodeFault
+node_faults = node.Short ∷ node.UnknownMember ∷ node.BadAmount ∷ node.NoMemory ∷ node.Spent ∷ node.NotMine ∷ node.Closed ∷ []
+
+abbrev pub audit_tests : List Why
+audit_tests = audit.Stamped ∷ audit.Clock ∷ audit.Answered ∷ audit.End ∷ audit.Receipts ∷ audit.NoMemory ∷ []
+
+abbrev pub frame_faults : List WireFault
+frame_faults = wire.Short ∷ wire.TooLong ∷ wire.Version ∷ wire.Kind ∷ wire.Field ∷ wire.Length ∷ wire.NoMemory ∷ []
+
+-- setups, scripts, commands, steps of the world, of sites, nodes and clients, audits, frames, live runs
+abbrev pub all_codes : List Code
+all_codes =
+    Setup text.NotJson ∷ Setup text.BadMember ∷ map (λ broken. Setup (text.BadSetup broken)) rules
+    ++ map (λ code. Line code) line_codes
+    ++ map (λ why. Refusal why) reasons
+    ++ map (λ fault. Step fault) world_faults
+    ++ map (λ fault. Step (world.Site fault)) site_faults
+    ++ map (λ fault. Step (world.Node fault)) node_faults
+    ++ Step world.Spent ∷ map (λ why. Audit why) audit_tests
+    ++ map (λ fault. Frame fault) frame_faults
+    ++ Seats ∷ []
+
+-- a line: the code, two spaces, its meaning
+abbrev pub code_line : Code → List ℕ
+code_line code = code_text code ++ codes "  " ++ meaning code ++ codes "\n"
+
+-- THE TEXT OF ALL CODES
+abbrev pub codes_text : List ℕ
+codes_text = flat_map code_line all_codes
+
+-- ---- what holds of the table
+
+-- each code stands in it, but J3, which the program tells as `fault memory`
+abbrev pub EachIsTold : Type 0
+EachIsTold = (code : Code) → code ≢ Setup text.NoMemory → is_among (code_text code) (map code_text all_codes) ≡ true
+
+-- none stands twice
+abbrev pub NoneIsToldTwice : Type 0
+NoneIsToldTwice = are_different (map code_text all_codes) ≡ true

@@ -1,0 +1,76 @@
+-- What the codes mean that are printed of setups, scripts, commands, audits and frames, in words. What those of a step mean
+-- is said in pvp_trace.
+use Rattle.std.specs.Prelude.{ℕ, List, codes}
+use Rattle.pvp_types.specs.declared.setup.SetupFault.{SetupFault}
+use Rattle.pvp_types.specs.declared.setup.SetupFault.TheVariants.{SiteCount, CurrencyCount, CurrencyCode, Rate, Haircut, MemberCount, MemberName, ListLength, Limit}
+use Rattle.pvp_types.specs.declared.command.Reason.{Reason}
+use Rattle.pvp_types.specs.declared.command.Reason.TheVariants as reason
+use Rattle.pvp_text.specs.declared.setup.TextFault.{TextFault}
+use Rattle.pvp_text.specs.declared.setup.TextFault.TheVariants as text
+use Rattle.pvp_text.specs.declared.script.LineCode.{LineCode}
+use Rattle.pvp_text.specs.declared.script.LineCode.TheVariants as line
+use Rattle.pvp_audit.specs.declared.verdict.Why.{Why}
+use Rattle.pvp_audit.specs.declared.verdict.Why.TheVariants as audit
+use Rattle.pvp_wire.specs.declared.fault.WireFault.{WireFault}
+use Rattle.pvp_wire.specs.declared.fault.WireFault.TheVariants as wire
+
+abbrev pub rule_meaning : SetupFault → List ℕ
+rule_meaning SiteCount = codes "the sites are not 3, 5 or 7"
+rule_meaning CurrencyCount = codes "the currencies are not 1 to 8"
+rule_meaning CurrencyCode = codes "a currency's code is not three letters A to Z, or stands twice"
+rule_meaning Rate = codes "a rate is not 1 to 1000000"
+rule_meaning Haircut = codes "a haircut is not 0 to 9999"
+rule_meaning MemberCount = codes "the members are not 1 to 64"
+rule_meaning MemberName = codes "a member's name is not 1 to 8 of A to Z and digits, a letter first, or it stands twice, is OP or is a currency's code"
+rule_meaning ListLength = codes "a member's short limits or deposits are not one for each currency"
+rule_meaning Limit = codes "a limit is not 0 to 1000000000000000000, or a deposit is not 0 to 1000000000000000"
+
+abbrev pub text_meaning : TextFault → List ℕ
+text_meaning text.NotJson = codes "the text is no JSON"
+text_meaning text.BadMember = codes "a member of an object is missing or of another type; a number is digits alone, below 2^64"
+text_meaning text.NoMemory = codes "memory was refused"
+text_meaning (text.BadSetup rule) = rule_meaning rule
+
+abbrev pub line_meaning : LineCode → List ℕ
+line_meaning line.Byte = codes "a byte outside 32 to 126"
+line_meaning line.UnknownWord = codes "the first word, or a command's, is unknown, or the first word is not of the script's kind"
+line_meaning line.WordCount = codes "too many or too few words"
+line_meaning line.Number = codes "a number that is malformed or too large for its field"
+line_meaning line.UnknownName = codes "a name that nothing has, or that may not stand there"
+line_meaning line.LineLength = codes "a line of more than 256 bytes"
+line_meaning line.LineCount = codes "more than 65535 lines"
+line_meaning line.NoMemory = codes "memory was refused"
+
+abbrev pub reason_meaning : Reason → List ℕ
+reason_meaning reason.NotYours = codes "the sender is of the wrong kind, or no side of the pair that it takes back"
+reason_meaning reason.UnknownMember = codes "the sender or a member that is named is not in the setup, or the other side is the sender itself"
+reason_meaning reason.UnknownCurrency = codes "a currency is not in the setup, or is sold for itself"
+reason_meaning reason.BadAmount = codes "an amount is not 1 to 1000000000000"
+reason_meaning reason.Repeated = codes "this was done already"
+reason_meaning reason.Mismatch = codes "the instruction is not the exact mirror of the one that waits"
+reason_meaning reason.UnknownReference = codes "there is no such pair or order, or the number is 0"
+reason_meaning reason.Late = codes "the pair is settled or taken back"
+reason_meaning reason.Short = codes "the sender's balance is below the amount"
+reason_meaning reason.TestFails = codes "the sender would fail its tests once the amount is paid out"
+reason_meaning reason.BankShort = codes "the bank's figure is below the amount"
+
+abbrev pub audit_meaning : Why → List ℕ
+audit_meaning audit.Stamped = codes "what is delivered is not what its stamp names, or may not come to this actor"
+audit_meaning audit.Clock = codes "a clock is not above the one before it and above its stamp's"
+audit_meaning audit.Answered = codes "the event cannot come out as it is recorded"
+audit_meaning audit.End = codes "the end state does not read like the replay's"
+audit_meaning audit.Receipts = codes "an event is no seat's next receipt, or a receipt is left over"
+audit_meaning audit.NoMemory = codes "memory was refused"
+
+abbrev pub wire_meaning : WireFault → List ℕ
+wire_meaning wire.Short = codes "the bytes end within a frame"
+wire_meaning wire.TooLong = codes "the frame's length is above 4194304"
+wire_meaning wire.Version = codes "the version is not 2"
+wire_meaning wire.Kind = codes "no message has this kind"
+wire_meaning wire.Field = codes "a field has a value that it may not have"
+wire_meaning wire.Length = codes "the fields end before the frame does, or after it"
+wire_meaning wire.NoMemory = codes "memory was refused"
+
+-- of a live run whose actors cannot be audited
+abbrev pub seats_meaning : List ℕ
+seats_meaning = codes "a seat of a live run did not come back, so its actors could not be audited"

@@ -1,0 +1,90 @@
+//! All codes that the program and its parts print.
+
+ghost use Rattle.std.specs.Prelude.{◌≡◌};
+ghost use Rattle.pvp_codes.specs.Codes.{audit_code as code_of_test};
+
+use crate::meanings::{
+    audit_meaning, line_meaning, reason_meaning, seats_meaning, text_meaning, wire_meaning,
+};
+use pvp_audit::Why;
+use pvp_text::{LineCode, TextFault};
+use pvp_trace::meanings::meaning;
+use pvp_types::Reason;
+use pvp_wire::WireFault;
+use pvp_world::WorldFault;
+use std::fmt;
+
+/// A code that the program or one of its parts prints.
+#[derive(Clone, Copy, Debug, PartialEq, Eq)]
+pub enum Code {
+    /// J1, J2 and K1 to K9: of a setup.
+    Setup(TextFault),
+    /// L1 to L8: of a script's line.
+    Line(LineCode),
+    /// B1 to B11: of a command that the book refuses.
+    Refusal(Reason),
+    /// G1 to G5, S1 to S7, N1 to N7 and C1: of a step that is not taken.
+    Step(WorldFault),
+    /// A1 to A6: of a test of the audit.
+    Audit(Why),
+    /// F1 to F7: of bytes that are no frame.
+    Frame(WireFault),
+    /// E1: of a live run whose actors cannot be audited.
+    Seats,
+}
+
+impl Code {
+    ghost use Rattle.pvp_codes.specs.Codes.{meaning as meaning_of};
+
+    /// What the code means.
+    pub fn meaning(self) -> &'static str
+        ensures { result.now ≡ meaning_of self }
+    {
+        match self {
+            Code::Setup(fault) => text_meaning(fault),
+            Code::Line(code) => line_meaning(code),
+            Code::Refusal(why) => reason_meaning(why),
+            Code::Step(fault) => meaning(fault),
+            Code::Audit(why) => audit_meaning(why),
+            Code::Frame(fault) => wire_meaning(fault),
+            Code::Seats => seats_meaning(),
+        }
+    }
+}
+
+/// Prints the code, as `K3`.
+impl fmt::Display for Code {
+    ghost use Rattle.std.specs.Prelude.{Some};
+    ghost use Rattle.pvp_codes.specs.Codes.{code_text};
+
+    ghost output = { λ code. Some (code_text code) };
+
+    fn fmt<W: fmt::Write>(&self, f: &mut fmt::Formatter<W>) -> fmt::Result {
+        match self {
+            Code::Setup(TextFault::NotJson) => f.write_str("J1"),
+            Code::Setup(TextFault::BadMember) => f.write_str("J2"),
+            Code::Setup(TextFault::NoMemory) => f.write_str("J3"),
+            Code::Setup(TextFault::BadSetup(rule)) => write!(f, "{rule}"),
+            Code::Line(code) => write!(f, "{code}"),
+            Code::Refusal(why) => write!(f, "{why}"),
+            Code::Step(fault) => write!(f, "{fault}"),
+            Code::Audit(why) => f.write_str(audit_code(*why)),
+            Code::Frame(fault) => write!(f, "{fault}"),
+            Code::Seats => f.write_str("E1"),
+        }
+    }
+}
+
+/// The code of a test of the audit.
+fn audit_code(why: Why) -> &'static str
+    ensures { result.now ≡ code_of_test why }
+{
+    match why {
+        Why::Stamped => "A1",
+        Why::Clock => "A2",
+        Why::Answered => "A3",
+        Why::End => "A4",
+        Why::Receipts => "A5",
+        Why::NoMemory => "A6",
+    }
+}

@@ -1,0 +1,12 @@
+//! What each code means that the program or one of its parts prints, and faults of setups and scripts in words.
+#![tactic(auto)]
+
+pub mod code;
+pub mod explain;
+pub mod laws;
+pub mod meanings;
+pub mod table;
+
+pub use code::Code;
+pub use explain::{explain_line, explain_setup};
+pub use table::print_codes;

@@ -1,0 +1,128 @@
+//! What the codes mean that are printed of setups, scripts, commands, audits and frames, in words. What those of a step mean
+//! is said in `pvp_trace`.
+
+ghost use Rattle.std.specs.Prelude.{◌≡◌};
+ghost use Rattle.pvp_codes.specs.Meanings as spec;
+
+use pvp_audit::Why;
+use pvp_text::{LineCode, TextFault};
+use pvp_types::{Reason, SetupFault};
+use pvp_wire::WireFault;
+
+/// What it means that a setup breaks a rule.
+pub fn rule_meaning(fault: SetupFault) -> &'static str
+    ensures { result.now ≡ spec.rule_meaning fault }
+{
+    match fault {
+        SetupFault::SiteCount => "the sites are not 3, 5 or 7",
+        SetupFault::CurrencyCount => "the currencies are not 1 to 8",
+        SetupFault::CurrencyCode => {
+            "a currency's code is not three letters A to Z, or stands twice"
+        }
+        SetupFault::Rate => "a rate is not 1 to 1000000",
+        SetupFault::Haircut => "a haircut is not 0 to 9999",
+        SetupFault::MemberCount => "the members are not 1 to 64",
+        SetupFault::MemberName => {
+            "a member's name is not 1 to 8 of A to Z and digits, a letter first, or it stands twice, is OP or is a currency's code"
+        }
+        SetupFault::ListLength => {
+            "a member's short limits or deposits are not one for each currency"
+        }
+        SetupFault::Limit => {
+            "a limit is not 0 to 1000000000000000000, or a deposit is not 0 to 1000000000000000"
+        }
+    }
+}
+
+/// What the fault of a text means that is no setup.
+pub fn text_meaning(fault: TextFault) -> &'static str
+    ensures { result.now ≡ spec.text_meaning fault }
+{
+    match fault {
+        TextFault::NotJson => "the text is no JSON",
+        TextFault::BadMember => {
+            "a member of an object is missing or of another type; a number is digits alone, below 2^64"
+        }
+        TextFault::NoMemory => "memory was refused",
+        TextFault::BadSetup(rule) => rule_meaning(rule),
+    }
+}
+
+/// What the fault of a script's line means.
+pub fn line_meaning(code: LineCode) -> &'static str
+    ensures { result.now ≡ spec.line_meaning code }
+{
+    match code {
+        LineCode::Byte => "a byte outside 32 to 126",
+        LineCode::UnknownWord => {
+            "the first word, or a command's, is unknown, or the first word is not of the script's kind"
+        }
+        LineCode::WordCount => "too many or too few words",
+        LineCode::Number => "a number that is malformed or too large for its field",
+        LineCode::UnknownName => "a name that nothing has, or that may not stand there",
+        LineCode::LineLength => "a line of more than 256 bytes",
+        LineCode::LineCount => "more than 65535 lines",
+        LineCode::NoMemory => "memory was refused",
+    }
+}
+
+/// What it means that the book refuses a command so.
+pub fn reason_meaning(why: Reason) -> &'static str
+    ensures { result.now ≡ spec.reason_meaning why }
+{
+    match why {
+        Reason::NotYours => {
+            "the sender is of the wrong kind, or no side of the pair that it takes back"
+        }
+        Reason::UnknownMember => {
+            "the sender or a member that is named is not in the setup, or the other side is the sender itself"
+        }
+        Reason::UnknownCurrency => "a currency is not in the setup, or is sold for itself",
+        Reason::BadAmount => "an amount is not 1 to 1000000000000",
+        Reason::Repeated => "this was done already",
+        Reason::Mismatch => "the instruction is not the exact mirror of the one that waits",
+        Reason::UnknownReference => "there is no such pair or order, or the number is 0",
+        Reason::Late => "the pair is settled or taken back",
+        Reason::Short => "the sender's balance is below the amount",
+        Reason::TestFails => "the sender would fail its tests once the amount is paid out",
+        Reason::BankShort => "the bank's figure is below the amount",
+    }
+}
+
+/// What it means that a test of an audit fails.
+pub fn audit_meaning(why: Why) -> &'static str
+    ensures { result.now ≡ spec.audit_meaning why }
+{
+    match why {
+        Why::Stamped => {
+            "what is delivered is not what its stamp names, or may not come to this actor"
+        }
+        Why::Clock => "a clock is not above the one before it and above its stamp's",
+        Why::Answered => "the event cannot come out as it is recorded",
+        Why::End => "the end state does not read like the replay's",
+        Why::Receipts => "an event is no seat's next receipt, or a receipt is left over",
+        Why::NoMemory => "memory was refused",
+    }
+}
+
+/// What it means that bytes are no frame.
+pub fn wire_meaning(fault: WireFault) -> &'static str
+    ensures { result.now ≡ spec.wire_meaning fault }
+{
+    match fault {
+        WireFault::Short => "the bytes end within a frame",
+        WireFault::TooLong => "the frame's length is above 4194304",
+        WireFault::Version => "the version is not 2",
+        WireFault::Kind => "no message has this kind",
+        WireFault::Field => "a field has a value that it may not have",
+        WireFault::Length => "the fields end before the frame does, or after it",
+        WireFault::NoMemory => "memory was refused",
+    }
+}
+
+/// What it means that the actors of a live run cannot be audited.
+pub fn seats_meaning() -> &'static str
+    ensures { result.now ≡ spec.seats_meaning }
+{
+    "a seat of a live run did not come back, so its actors could not be audited"
+}

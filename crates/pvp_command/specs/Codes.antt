@@ -1,0 +1,7 @@
+-- Which words of a command line ask what the fault codes mean.
+use Rattle.std.specs.Prelude.{ℕ, ◌&&◌, Bool, false, List, [], ◌∷◌, bytes_eq, codes}
+
+-- `help codes`, after the program's own name
+abbrev pub asks_for_codes : List (List ℕ) → Bool
+asks_for_codes (program ∷ first ∷ second ∷ []) = bytes_eq first (codes "help") && bytes_eq second (codes "codes")
+asks_for_codes _ = false

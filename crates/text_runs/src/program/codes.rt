@@ -1,0 +1,119 @@
+//! What each fault code means.
+use super::{Failing, SETUP, TwoFiles, runs};
+use pvp_command::command;
+use std::test::Fail;
+
+const WORDS: [&str; 3] = ["pvpsim", "help", "codes"];
+
+/// All codes, in the order of `docs/formats.md`, with what each means.
+const CODES: &str = "J1  the text is no JSON
+J2  a member of an object is missing or of another type; a number is digits alone, below 2^64
+K1  the sites are not 3, 5 or 7
+K2  the currencies are not 1 to 8
+K3  a currency's code is not three letters A to Z, or stands twice
+K4  a rate is not 1 to 1000000
+K5  a haircut is not 0 to 9999
+K6  the members are not 1 to 64
+K7  a member's name is not 1 to 8 of A to Z and digits, a letter first, or it stands twice, is OP or is a currency's code
+K8  a member's short limits or deposits are not one for each currency
+K9  a limit is not 0 to 1000000000000000000, or a deposit is not 0 to 1000000000000000
+L1  a byte outside 32 to 126
+L2  the first word, or a command's, is unknown, or the first word is not of the script's kind
+L3  too many or too few words
+L4  a number that is malformed or too large for its field
+L5  a name that nothing has, or that may not stand there
+L6  a line of more than 256 bytes
+L7  more than 65535 lines
+L8  memory was refused
+B1  the sender is of the wrong kind, or no side of the pair that it takes back
+B2  the sender or a member that is named is not in the setup, or the other side is the sender itself
+B3  a currency is not in the setup, or is sold for itself
+B4  an amount is not 1 to 1000000000000
+B5  this was done already
+B6  the instruction is not the exact mirror of the one that waits
+B7  there is no such pair or order, or the number is 0
+B8  the pair is settled or taken back
+B9  the sender's balance is below the amount
+B10  the sender would fail its tests once the amount is paid out
+B11  the bank's figure is below the amount
+G1  no envelope has this number
+G2  there is no such actor
+G3  the client still waits for an answer
+G5  memory was refused
+S1  memory was refused, and the site is down
+S2  the boot cell did not save, and the site is down
+S3  the site is down
+S4  the site is not down
+S5  there is no greater view
+S6  there is no greater boot number
+S7  not for this site, or of a sender who may not send it
+N1  the account that pays is short
+N2  there is no such member
+N3  the amount is not 1 to 1000000000000
+N4  memory was refused
+N5  the node has 65535 such payments
+N6  not for this node
+N7  the member's account is closed
+C1  the client has no greater request number
+A1  what is delivered is not what its stamp names, or may not come to this actor
+A2  a clock is not above the one before it and above its stamp's
+A3  the event cannot come out as it is recorded
+A4  the end state does not read like the replay's
+A5  an event is no seat's next receipt, or a receipt is left over
+A6  memory was refused
+F1  the bytes end within a frame
+F2  the frame's length is above 4194304
+F3  the version is not 2
+F4  no message has this kind
+F5  a field has a value that it may not have
+F6  the fields end before the frame does, or after it
+F7  memory was refused
+E1  a seat of a live run did not come back, so its actors could not be audited
+";
+
+#[test]
+fn each_code_is_told_with_its_meaning(rt: HostRuntime) -> Result<(), Fail> {
+    let files = TwoFiles {
+        setup: "",
+        script: "",
+    };
+    runs(&rt, WORDS.as_slice(), &files, (0, CODES, ""))
+}
+
+#[test]
+fn a_writer_that_takes_no_codes(rt: HostRuntime) -> Result<(), Fail> {
+    let files = TwoFiles {
+        setup: SETUP,
+        script: "",
+    };
+    let mut out = Failing { left: 0 };
+    let mut err: Vec<u8> = Vec::new(rt.alloc());
+    let status = command(rt.alloc(), WORDS.as_slice(), &files, &mut out, &mut err);
+    assert_eq!(rt; status, 1);
+    assert_eq!(rt; err.as_slice(), "fault output\n".as_bytes());
+    Ok(())
+}
+
+/// Other words after `help` are its reader's: it tells of a command, or that there is none.
+#[test]
+fn help_tells_of_commands_too(rt: HostRuntime) -> Result<(), Fail> {
+    let files = TwoFiles {
+        setup: SETUP,
+        script: "",
+    };
+    let cases: [(&[&str], &str); 4] = [
+        (&["pvpsim", "help"], "`pvpsim help codes`"),
+        (&["pvpsim", "help", "check"], "A setup: a JSON file"),
+        (&["pvpsim", "help", "code"], "code"),
+        (&["pvpsim", "help", "codes", "codes"], "codes"),
+    ];
+    for (words, told) in cases {
+        let mut out: Vec<u8> = Vec::new(rt.alloc());
+        let mut err: Vec<u8> = Vec::new(rt.alloc());
+        let status = command(rt.alloc(), words, &files, &mut out, &mut err);
+        let said = std::str::from_utf8(err.as_slice())?;
+        assert_eq!(rt; (status, out.len()), (2, 0), "{said}");
+        assert!(rt; said.contains(told), "{said}");
+    }
+    Ok(())
+}
