@@ -8,6 +8,7 @@ use std::test::Fail;
 
 mod answers;
 mod histories;
+mod long;
 mod rows;
 mod walks;
 

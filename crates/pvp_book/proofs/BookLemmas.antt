@@ -1,15 +1,14 @@
 -- What a book keeps beside its entries stays what the entries say.
-use Rattle.std.proofs.Common.{◌≡◌, ℕ, suc, zero, ◌+◌, ◌<◌, Bool, true, false, cond, List, [], ◌∷◌, ◌++◌, ◌*◌, ◌≤◌, length, map, filter, find, count_by, arith, refl, ap, sym, subst, ◌∙◌, Option, Some, None, nat_eq, add-one, ℤ, pos, ◌+ℤ◌, ◌-ℤ◌, replicate, slice_index_or, ◌⊎◌, inl, inr}
+use Rattle.std.proofs.Common.{◌≡◌, ℕ, suc, zero, ◌+◌, ◌<◌, Bool, true, false, List, [], ◌∷◌, ◌++◌, ◌*◌, ◌≤◌, length, map, filter, count_by, arith, refl, ap, sym, subst, ◌∙◌, Option, Some, None, add-one, ℤ, pos, ◌+ℤ◌, ◌-ℤ◌, replicate, slice_index_or, ◌⊎◌, inl, inr}
 use Rattle.std.specs.Prelude.{not, if◌then◌else◌, ◌&&◌, ◌||◌, ◌==◌}
 use Rattle.std.specs.List.{cons_option, AllByRecursion}
 use Rattle.std.proofs.lemmas.Int.{ints}
 use Rattle.std.proofs.lemmas.Bool.{ltb-true, eqb-true}
 use Rattle.std.proofs.lemmas.List.{get_or-replicate, length-replicate}
-use Rattle.std.specs.Map.{lookup}
 use Rattle.std.proofs.lemmas.List.Elements.{filter_map-append}
 use Rattle.pvp_types.specs.declared.setup.Setup.{Setup}
 use Rattle.pvp_types.specs.declared.command.Cmd.{Cmd}
-use Rattle.pvp_types.specs.declared.command.Cmd.TheVariants.{Instruct, Settle}
+use Rattle.pvp_types.specs.declared.command.Cmd.TheVariants.{Instruct, Rescind, Fund, Settle, PayOut, Paid, Returned}
 use Rattle.pvp_types.specs.declared.command.Reply.{Reply}
 use Rattle.pvp_types.specs.declared.command.Reply.TheVariants.{Done, Matched, Settled, Order, No}
 use Rattle.pvp_types.specs.declared.command.Reason.TheVariants.{NotYours, UnknownMember, UnknownCurrency, BadAmount, UnknownReference, Repeated, Mismatch}
@@ -23,17 +22,17 @@ use Rattle.pvp_types.specs.declared.command.PayOrder.{PayOrder}
 use Rattle.pvp_types.proofs.SetupLemmas.{valid-currencies, valid-members}
 use Rattle.pvp_book.specs.declared.account.Account.{Account}
 use Rattle.pvp_book.specs.declared.account.Movement.{Movement}
-use Rattle.pvp_book.specs.Orders.{orders}
+use Rattle.pvp_book.specs.Orders.{orders, order_of, has_end}
 use Rattle.pvp_book.specs.Accounts.{balance_with}
 use Rattle.pvp_book.specs.Laws.{AreOrdered, IsCovered}
 use Rattle.pvp_book.specs.Ledger.{Ledger, opening, balance, figure, sum_of_balances, state_with, state_of, is_state}
-use Rattle.pvp_book.specs.Bounds.{IsLedger, total, most_total, IsWithin, IsWithinMatched}
+use Rattle.pvp_book.specs.Bounds.{IsLedger, total, most_total, IsWithin}
 use Rattle.pvp_book.specs.Kept.{Kept, IsKept, AreSettled, IsLine, CanPost, empty_account, no_account, IsAccount, AreAccounts, AreFigures, movement_with, movement_by, moved_to, accounts_after, figures_after}
 use Rattle.pvp_book.specs.Answer.{Row, book_of, has_member, answer, answer_to, after, with_entry, is_walk, is_refusal, is_mirror, on_mirror, on_instruct, is_member_number, has_currency, is_amount}
 use Rattle.pvp_book.proofs.SettlementLemmas.{append-nil, settled-push, IsWithinMatched-nil}
 use Rattle.pvp_book.proofs.LedgerLemmas.{total-small, orders-few, pairs-few, IsSmall-ledger, IsLedger-accepted, sum_of_balances-more}
 use Rattle.pvp_book.proofs.Reached.{entry_of, reached, reached-more}
-use Rattle.pvp_book.proofs.OrderLemmas.{are-ordered}
+use Rattle.pvp_book.proofs.OrderLemmas.{are-ordered, pay_out-order}
 use Rattle.pvp_book.proofs.FigureLemmas.{orders-of-members, is-covered}
 use Rattle.pvp_book.proofs.Members.{is-member}
 use Rattle.pvp_book.proofs.KeptLemmas.{small-account, small-sum, AreAccounts-same, AreAccounts-moved, AreFigures-moved, IsAccount-empty}
@@ -41,20 +40,21 @@ use Rattle.pvp_book.proofs.WalkLemmas.{IsWalked-start, IsWalked-all}
 use Rattle.pvp_book.proofs.WalkingLemmas.{IsTradable, IsOffered, IsWalking, IsUnderWay, offered-tradable}
 use Rattle.pvp_book.proofs.CandidateLemmas.{line-of-candidates, line-more}
 use Rattle.pvp_book.specs.declared.order_table.OrderTable.{OrderTable}
-use Rattle.pvp_book.specs.OrderTable.{order_at, AreMade}
+use Rattle.pvp_book.specs.OrderTable.{order_at, open_at, step_of, AreAscending, IsFresh, AreMade}
 use Rattle.std.proofs.lemmas.List.Elements.{All-from_get_or}
+use Rattle.std.proofs.lemmas.List.Kept.{AllPairs-filter}
 use Rattle.std.specs.Prelude.{All}
 use Rattle.pvp_book.proofs.OrderTableLemmas.{AreMade-still}
 use Rattle.pvp_book.specs.declared.tally.Tally.{Tally}
 use Rattle.pvp_book.specs.declared.pair.PairState.{PairState}
-use Rattle.pvp_book.specs.Tally.{tallied, is_at, counted, named_by, state_named, AreTallied}
+use Rattle.pvp_book.specs.Tally.{tallied, is_at, counted, named_by, state_named}
 use Rattle.pvp_book.proofs.PassLemmas.{AreDistinct, distinct-once}
 use Rattle.pvp_book.proofs.Counts.{count-push}
 use Rattle.pvp_book.proofs.TallyLemmas.{kept_as, named-same, found-at, entry-moved, tally-is, IsLookedUp, not-found, state-kept, says-none}
 use Rattle.pvp_book.specs.declared.seen.Seen.{Seen}
 use Rattle.pvp_book.specs.Seen.{HasSeen, has_settled, is_waiting, seen_pay_in, seen_matched, seen_asked}
 use Rattle.pvp_book.proofs.SeenLemmas.{HasSeen-more, still, waiting-same}
-use Rattle.pvp_book.proofs.MovementLemmas.{walk-moves-none, balance-moved, known-movement, sum-moved, sum-still}
+use Rattle.pvp_book.proofs.MovementLemmas.{numbered-ascend, next-new, next-open, walk-moves-none, balance-moved, known-movement, sum-moved, sum-still}
 
 -- with no entries each balance is 0
 none-held : (n c : ℕ) → sum_of_balances n [] [] c ≡ pos 0
@@ -374,6 +374,37 @@ IsKept-same held kept shown table is has made = record {
   line = is.line;
   pairs = is.pairs;
 }
+
+-- the open orders of a currency ascend by number
+pub open-ascending : (held : Ledger) (kept : Kept) (table : OrderTable) → IsKept held kept → AreMade held.entries table → (c : ℕ) → AreAscending (open_at table c)
+open-ascending held kept table is are c =
+    let ordered = (is-reached held.setup held.entries is.history is.reached).ordered c in
+    subst AreAscending (sym (are.outstanding c))
+    (AllPairs-filter (λ (a b : PayOrder). a.out < b.out) (λ (o : PayOrder). not (has_end held.entries c o.out)) (orders held.entries c)
+    (numbered-ascend 1 (orders held.entries c) ordered.numbered))
+
+-- an order that is made is new
+fresh-order : (setup : Setup) (entries : List Entry) (client : ℕ) (cmd : Cmd) (reply : Reply) (table : OrderTable) → ((c : ℕ) → AreOrdered entries c) → AreMade entries table
+    → reply ≡ answer setup entries client cmd → is_refusal (answer setup entries client cmd) ≡ false → IsFresh (step_of client cmd reply) table
+unfolding answer
+fresh-order setup entries client (PayOut ccy amt) (Order out) table ordered are answered accepted =
+    let next : out ≡ length (orders entries ccy) + 1 = cc (answered ∙ pay_out-order setup entries client ccy amt accepted) in
+    (are.made ccy out ∙ ap (order_of entries ccy) next ∙ next-new entries ccy (ordered ccy), are.ended ccy out ∙ ap (has_end entries ccy) next ∙ next-open entries ccy (ordered ccy))
+fresh-order setup entries client (PayOut ccy amt) Done table ordered are answered accepted = tt
+fresh-order setup entries client (PayOut ccy amt) Matched table ordered are answered accepted = tt
+fresh-order setup entries client (PayOut ccy amt) (Settled n) table ordered are answered accepted = tt
+fresh-order setup entries client (PayOut ccy amt) (No reason) table ordered are answered accepted = tt
+fresh-order setup entries client (Instruct reference other sell sell_amt buy buy_amt) reply table ordered are answered accepted = tt
+fresh-order setup entries client (Rescind reference) reply table ordered are answered accepted = tt
+fresh-order setup entries client (Fund ccy pay member amt) reply table ordered are answered accepted = tt
+fresh-order setup entries client (Settle most) reply table ordered are answered accepted = tt
+fresh-order setup entries client (Paid ccy out) reply table ordered are answered accepted = tt
+fresh-order setup entries client (Returned ccy out) reply table ordered are answered accepted = tt
+
+pub fresh-step : (held : Ledger) (kept : Kept) (table : OrderTable) (client : ℕ) (cmd : Cmd) (reply : Reply) → IsKept held kept → AreMade held.entries table
+    → reply ≡ answer_to held client cmd → is_refusal reply ≡ false → IsFresh (step_of client cmd reply) table
+fresh-step held kept table client cmd reply is are answered accepted =
+    fresh-order held.setup held.entries client cmd reply table (is-reached held.setup held.entries is.history is.reached).ordered are answered (ap is_refusal (sym answered) ∙ accepted)
 
 -- there are few orders
 pub few-made : (held : Ledger) (table : OrderTable) → IsLedger held → held.applied < 65535 → AreMade held.entries table → All (λ n. n < 65535) table.counts

@@ -1,6 +1,6 @@
 -- Why no sum over a ledger leaves its type.
 use Rattle.std.proofs.Common.{◌≡◌, ℕ, suc, ◌+◌, ◌*◌, ◌≤◌, ◌<◌, Bool, true, false, cond, find, List, [], ◌∷◌, ◌++◌, length, arith, refl, ap, sym, subst, ◌∙◌, length-append, Option, Some, None}
-use Rattle.std.specs.Prelude.{IfSome, not, sum_by, ◌-◌, ◌^◌, zero, slice_get, map, filter, fold, ◌==◌, ◌&&◌, if◌then◌else◌}
+use Rattle.std.specs.Prelude.{IfSome, not, sum_by, ◌-◌, zero, slice_get, map, filter, fold, ◌==◌, ◌&&◌, if◌then◌else◌}
 use Rattle.std.specs.List.{filter_map, cons_option, range_with_len}
 use Rattle.std.proofs.Common.{pos, ◌+ℤ◌, ◌-ℤ◌}
 use Rattle.std.proofs.lemmas.Int.{ints}
@@ -17,21 +17,22 @@ use Rattle.pvp_types.specs.declared.command.PayOrder.{PayOrder}
 use Rattle.pvp_types.specs.declared.command.Reply.{Reply}
 use Rattle.pvp_types.specs.declared.command.Reply.TheVariants.{Done, Matched, Settled, Order, No}
 use Rattle.pvp_types.specs.declared.command.Reason.TheVariants.{NotYours, UnknownMember, UnknownCurrency, BadAmount}
-use Rattle.pvp_types.specs.declared.command.Cmd.TheVariants.{Instruct, Fund, PayOut}
+use Rattle.pvp_types.specs.declared.command.Cmd.TheVariants.{Instruct, Fund, PayOut, Paid, Returned}
 use Rattle.pvp_book.specs.declared.entry.Entry.{Entry}
 use Rattle.pvp_book.specs.declared.pair.Pair.{Pair}
 use Rattle.pvp_book.specs.Accounts.{paid_in_to, paid_out_of, pay_ins, pay_outs, returned, bought, sold, balance_with}
 use Rattle.pvp_book.specs.declared.pair.PairState.{PairState}
 use Rattle.pvp_book.specs.Pairs.{opened_by, pairs, matched_by, matched}
 use Rattle.pvp_book.specs.Settlement.{candidates, settled}
-use Rattle.pvp_book.specs.Ledger.{Ledger, most_amount, node_of, open_orders, state_with, is_state, sum_of_balances, outstanding_in, outstanding_from}
+use Rattle.pvp_book.specs.Ledger.{Ledger, most_amount, node_of, open_orders, state_with, is_state, sum_of_balances}
+use Rattle.pvp_book.specs.Open.{outstanding_at}
 use Rattle.pvp_book.specs.Orders.{order_by, order_of, orders, has_return, has_end}
 use Rattle.pvp_book.specs.declared.order_table.OrderTable.{OrderTable}
 use Rattle.pvp_book.specs.OrderTable.{IsCounted, step_of, order_at, AreMade}
 use Rattle.pvp_types.proofs.SetupLemmas.{valid-currencies}
 use Rattle.pvp_types.specs.Setup.{IsValid}
 use Rattle.pvp_book.specs.Bounds.{IsLedger, IsWithinMatched, IsSmall, most_total, IsWithin, amount_of, total}
-use Rattle.pvp_book.specs.Answer.{answer, answer_to, on_instruct, on_fund, on_pay_out, has_currency, has_member, is_member_number, is_refusal, is_amount, fund_checks, pay_out_checks}
+use Rattle.pvp_book.specs.Answer.{answer, answer_to, on_instruct, on_fund, on_pay_out, has_currency, has_member, is_member_number, is_refusal, is_amount, fund_checks, pay_out_checks, end_checks}
 use Rattle.pvp_book.proofs.Checks.{passed, is-so}
 use Rattle.pvp_book.proofs.SettlementLemmas.{at_most, settled-push, IsWithinMatched-push}
 
@@ -240,7 +241,7 @@ accepted-small setup entries client (Fund ccy pay member amt) e = let one = fund
 accepted-small setup entries client (PayOut ccy amt) e = let one = pay_out-small setup entries client ccy amt e in omega arith
 accepted-small setup entries client _ e = omega arith
 
--- an order that is made is in a currency of the setup
+-- an order that is made, and one that ends, is in a currency of the setup
 pub counted-known : (setup : Setup) (entries : List Entry) (client : ℕ) (cmd : Cmd) (reply : Reply) → IsValid setup
     → is_refusal (answer setup entries client cmd) ≡ false → IsCounted (step_of client cmd reply)
 unfolding answer
@@ -252,6 +253,14 @@ counted-known setup entries client (PayOut ccy amt) Done valid accepted = tt
 counted-known setup entries client (PayOut ccy amt) Matched valid accepted = tt
 counted-known setup entries client (PayOut ccy amt) (Settled n) valid accepted = tt
 counted-known setup entries client (PayOut ccy amt) (No reason) valid accepted = tt
+counted-known setup entries client (Paid ccy out) reply valid accepted =
+    let known = ltb-true ccy (length setup.currencies) (is-so _ (passed (end_checks setup entries client ccy out) Done accepted).1.0) in
+    let few = (valid-currencies setup valid).1 in
+    omega arith
+counted-known setup entries client (Returned ccy out) reply valid accepted =
+    let known = ltb-true ccy (length setup.currencies) (is-so _ (passed (end_checks setup entries client ccy out) Done accepted).1.0) in
+    let few = (valid-currencies setup valid).1 in
+    omega arith
 counted-known setup entries client _ reply valid accepted = tt
 
 -- a refusal keeps a ledger
@@ -299,9 +308,6 @@ length-open-le entries c =
     let part = count_by-le-length (λ (order : PayOrder). not (has_end entries c order.out)) (orders entries c) in
     omega arith
 
-pub open-fits : (entries : List Entry) (c : ℕ) → length entries ≤ 65535 → 0 + length (open_orders entries c) < 2 ^ 64
-open-fits entries c few = let part = length-open-le entries c in omega arith
-
 slice_get-left : {X : Type 0} (xs ys : List X) (i : ℕ) → i < length xs → slice_get (xs ++ ys) i ≡ slice_get xs i
 slice_get-left [] ys i h = absurd (omega arith)
 slice_get-left (x ∷ xs) ys zero h = refl
@@ -312,39 +318,39 @@ slice_get-right [] ys i h = ap (slice_get ys) (omega arith)
 slice_get-right (x ∷ xs) ys zero h = absurd (omega arith)
 slice_get-right (x ∷ xs) ys (suc i) h = slice_get-right xs ys i (omega arith) ∙ ap (slice_get ys) (omega arith)
 
--- an order of the first of the currencies
-pub outstanding-here : (entries : List Entry) (c n at : ℕ) (order : PayOrder) → 0 < n
-    → slice_get (open_orders entries c) at ≡ Some order
-    → slice_get (outstanding_from c n entries) at ≡ Some (node_of c, order)
-outstanding-here entries c zero at order some found = absurd (omega arith)
-outstanding-here entries c (suc n) at order some found =
-    let mapped = slice_get-map (λ (o : PayOrder). (node_of c, o)) (open_orders entries c) at
-    ∙ ap (option_map (λ (o : PayOrder). (node_of c, o))) found in
-    let within = slice_get_within (outstanding_in entries c) at (node_of c, order) mapped in
-    slice_get-left (outstanding_in entries c) (outstanding_from (c + 1) n entries) at within ∙ mapped
+-- the open orders of several currencies
+module _ (orders : ℕ → List PayOrder) where
+  -- those of one, each with the client number of its node
+  abbrev with_node : ℕ → List (ℕ × PayOrder)
+  with_node c = map (λ (o : PayOrder). (node_of c, o)) (orders c)
 
--- an order of a later one
-pub outstanding-later : (entries : List Entry) (c n at : ℕ) → 0 < n → length (open_orders entries c) ≤ at
-    → slice_get (outstanding_from c n entries) at ≡ slice_get (outstanding_from (c + 1) (n - 1) entries) (at - length (open_orders entries c))
-outstanding-later entries c zero at some past = absurd (omega arith)
-outstanding-later entries c (suc n) at some past =
-    let same : length (outstanding_in entries c) ≡ length (open_orders entries c) =
-    length-map (open_orders entries c) (λ (o : PayOrder). (node_of c, o)) in
-    slice_get-right (outstanding_in entries c) (outstanding_from (c + 1) n entries) at (omega (arith, same))
-    ∙ ap (λ l. slice_get (outstanding_from (c + 1) n entries) (at - l)) same
-    ∙ ap (λ m. slice_get (outstanding_from (c + 1) m entries) (at - length (open_orders entries c))) (omega arith)
+  -- an order of the first of the currencies
+  pub outstanding-here : (c n at : ℕ) (order : PayOrder) → 0 < n → slice_get (orders c) at ≡ Some order → slice_get (outstanding_at orders c n) at ≡ Some (node_of c, order)
+  outstanding-here c zero at order some found = absurd (omega arith)
+  outstanding-here c (suc n) at order some found =
+      let mapped = slice_get-map (λ (o : PayOrder). (node_of c, o)) (orders c) at ∙ ap (option_map (λ (o : PayOrder). (node_of c, o))) found in
+      let within = slice_get_within (with_node c) at (node_of c, order) mapped in
+      slice_get-left (with_node c) (outstanding_at orders (c + 1) n) at within ∙ mapped
+
+  -- an order of a later one
+  pub outstanding-later : (c n at : ℕ) → 0 < n → length (orders c) ≤ at
+      → slice_get (outstanding_at orders c n) at ≡ slice_get (outstanding_at orders (c + 1) (n - 1)) (at - length (orders c))
+  outstanding-later c zero at some past = absurd (omega arith)
+  outstanding-later c (suc n) at some past =
+      let same : length (with_node c) ≡ length (orders c) = length-map (orders c) (λ (o : PayOrder). (node_of c, o)) in
+      slice_get-right (with_node c) (outstanding_at orders (c + 1) n) at (omega (arith, same))
+      ∙ ap (λ l. slice_get (outstanding_at orders (c + 1) n) (at - l)) same
+      ∙ ap (λ m. slice_get (outstanding_at orders (c + 1) m) (at - length (orders c))) (omega arith)
+
+  -- the orders of one more currency
+  pub length-outstanding-more : (n : ℕ) → length (outstanding_at orders 0 (n + 1)) ≡ length (outstanding_at orders 0 n) + length (orders n)
+  length-outstanding-more n =
+      let same : length (with_node n) ≡ length (orders n) = length-map (orders n) (λ (o : PayOrder). (node_of n, o)) in
+      let both = length-append (outstanding_at orders 0 n) (with_node n) in
+      ap length (flat_map-range_with_len_more with_node n) ∙ omega (arith, same, both)
 
 -- no item stands at a place past the end alone
 pub past-end : {X : Type 0} (xs : List X) (i : ℕ) → slice_get xs i ≡ None → length xs ≤ i
 past-end [] i e = omega arith
 past-end (x ∷ xs) zero e = absurd (cc)
 past-end (x ∷ xs) (suc i) e = let rest = past-end xs i e in omega arith
-
--- the orders of one more currency
-pub length-outstanding-more : (entries : List Entry) (n : ℕ)
-    → length (outstanding_from 0 (n + 1) entries) ≡ length (outstanding_from 0 n entries) + length (open_orders entries n)
-length-outstanding-more entries n =
-    let same : length (outstanding_in entries n) ≡ length (open_orders entries n) =
-    length-map (open_orders entries n) (λ (o : PayOrder). (node_of n, o)) in
-    let both = length-append (outstanding_from 0 n entries) (outstanding_in entries n) in
-    ap length (flat_map-range_with_len_more (outstanding_in entries) n) ∙ omega (arith, same, both)

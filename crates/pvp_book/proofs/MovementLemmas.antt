@@ -7,7 +7,9 @@ use Rattle.std.proofs.lemmas.Int.{ints}
 use Rattle.std.proofs.lemmas.Bool.{and_parts, ne_eqb, eq-eqb, cases_eq, or_left}
 use Rattle.std.proofs.lemmas.List.Sums.{sum_by-cons, sum_by-append}
 use Rattle.std.proofs.lemmas.List.Folds.{list_any-append}
-use Rattle.std.proofs.lemmas.List.Elements.{filter_map-append}
+use Rattle.std.specs.Prelude.{All}
+use Rattle.std.proofs.lemmas.List.Kept.{AllPairs-cons}
+use Rattle.std.proofs.lemmas.List.Elements.{All-nil, All-cons, filter_map-append}
 use Rattle.pvp_types.specs.declared.setup.Setup.{Setup}
 use Rattle.pvp_types.specs.declared.command.Cmd.{Cmd}
 use Rattle.pvp_types.specs.declared.command.Cmd.TheVariants.{Instruct, Rescind, Fund, Settle, PayOut, Paid, Returned}
@@ -19,6 +21,7 @@ use Rattle.pvp_book.specs.declared.account.Movement.{Movement}
 use Rattle.pvp_book.specs.Accounts.{paid_in_to, paid_out_of, pay_ins, pay_outs, returned, bought, sold, balance_with}
 use Rattle.pvp_book.specs.Orders.{order_of, order_by, orders, is_return, has_return, is_end, has_end}
 use Rattle.pvp_book.specs.Ledger.{sum_of_balances}
+use Rattle.pvp_book.specs.OrderTable.{AreAscending}
 use Rattle.pvp_book.specs.Answer.{answer, is_refusal, has_order, has_member, has_currency, fund_checks, pay_out_checks, end_checks, on_pay_out}
 use Rattle.pvp_book.specs.Laws.{AreOrdered, funded, paid_out, funds, all_paid_out, all_returned}
 use Rattle.pvp_book.specs.Kept.{movement_by, moved_to, moved_in}
@@ -52,6 +55,19 @@ none-above k n [] is high = refl
 none-above k n (o ∷ os) is high =
     ap (λ b. cond b (Some o) (find (λ (p : PayOrder). p.out == n) os)) (ne_eqb o.out n (λ same. let first = heads k o os is in absurd (omega arith)))
     ∙ none-above (k + 1) n os (tails k o os is) (omega arith)
+
+-- all have higher numbers than one before the first, so they ascend
+all-above : (k n : ℕ) (os : List PayOrder) → AreFrom k os → n < k → All (λ (o : PayOrder). n < o.out) os
+all-above k n [] is low = All-nil (λ (o : PayOrder). n < o.out)
+all-above k n (o ∷ os) is low =
+    All-cons (λ (o : PayOrder). n < o.out) o os (let first = heads k o os is in omega arith) (all-above (k + 1) n os (tails k o os is) (omega arith))
+
+pub numbered-ascend : (k : ℕ) (os : List PayOrder) → AreFrom k os → AreAscending os
+numbered-ascend k [] is = λ i j d before within. absurd (omega arith)
+numbered-ascend k (o ∷ os) is =
+    AllPairs-cons (λ (a b : PayOrder). a.out < b.out) o os
+    (subst (λ n. All (λ (p : PayOrder). n < p.out) os) (sym (heads k o os is)) (all-above (k + 1) k os (tails k o os is) (omega arith)))
+    (numbered-ascend (k + 1) os (tails k o os is))
 
 -- an order is there where one is found
 pub found-any : (os : List PayOrder) (n : ℕ) → find (λ (o : PayOrder). o.out == n) os ≡ None → list_any (λ (o : PayOrder). o.out == n) os ≡ false
@@ -102,7 +118,11 @@ return-end (e ∷ es) c n is = by (is_return c n e.cmd) (is_end c n e.cmd) (one 
     by false true h is more = refl
     by false false h is more = more is
 
--- so the next order is not returned
+-- the next order is new
+pub next-new : (entries : List Entry) (c : ℕ) → AreOrdered entries c → order_of entries c (length (orders entries c) + 1) ≡ None
+next-new entries c are = none-above 1 (length (orders entries c) + 1) (orders entries c) are.numbered (omega arith)
+
+-- so it is not returned
 pub next-open : (entries : List Entry) (c : ℕ) → AreOrdered entries c → has_end entries c (length (orders entries c) + 1) ≡ false
 next-open entries c are = by (has_end entries c (length (orders entries c) + 1)) refl
   where

@@ -13,10 +13,9 @@ use Rattle.pvp_book.specs.declared.pair.Pair.{Pair}
 use Rattle.pvp_book.specs.declared.seen.Seen.{Seen}
 use Rattle.pvp_book.specs.declared.seen.Mark.{Mark}
 use Rattle.pvp_book.specs.declared.seen.Mark.TheVariants as mark
-use Rattle.pvp_book.specs.declared.pair.PairState.{PairState}
 use Rattle.pvp_book.specs.declared.pair.PairState.TheVariants as state
 use Rattle.pvp_book.specs.Pairs.{matched_by, matched, has_reference, is_rescission, has_asked, both_have_asked, is_rescinded}
-use Rattle.pvp_book.specs.Ledger.{is_pay_in, has_pay_in, state_with, is_state}
+use Rattle.pvp_book.specs.Ledger.{is_pay_in, has_pay_in, state_with}
 use Rattle.pvp_book.specs.Seen.{mark_of, seen_pay_in, seen_matched, seen_asked, both_seen, is_seen_back, state_seen, is_waiting, HasSeen}
 use Rattle.pvp_book.specs.Kept.{AreSettled, waiting}
 

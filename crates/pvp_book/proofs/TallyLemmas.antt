@@ -1,7 +1,7 @@
 -- How the numbers of pairs in each state change where one pair moves.
 use Rattle.std.proofs.Common.{◌≡◌, ℕ, ◌+◌, ◌≤◌, Bool, true, false, cond, List, [], ◌∷◌, ◌++◌, length, filter, find, map, nat_eq, arith, refl, ap, sym, subst, ◌∙◌, Option, Some, None, length-append}
 use Rattle.std.specs.Prelude.{◌&&◌, ◌||◌, ◌==◌, if◌then◌else◌}
-use Rattle.std.specs.List.{cons_option, list_any}
+use Rattle.std.specs.List.{cons_option}
 use Rattle.std.specs.Option.{option_map}
 use Rattle.std.proofs.lemmas.Bool.{eq-eqb, ne_eqb, eqb-true, eqb-false}
 use Rattle.std.proofs.lemmas.List.Folds.{list_any-append}
@@ -14,9 +14,7 @@ use Rattle.pvp_book.specs.declared.entry.Entry.{Entry}
 use Rattle.pvp_book.specs.declared.pair.Pair.{Pair}
 use Rattle.pvp_book.specs.declared.pair.PairState.{PairState}
 use Rattle.pvp_book.specs.declared.pair.PairState.TheVariants as state
-use Rattle.pvp_book.specs.declared.seen.Mark.{Mark}
-use Rattle.pvp_book.specs.declared.seen.Mark.TheVariants as mark
-use Rattle.pvp_book.specs.Pairs.{opened_by, pairs, pair_of, matched, has_reference, has_asked, is_matched}
+use Rattle.pvp_book.specs.Pairs.{opened_by, pairs, pair_of, has_reference, has_asked, is_matched}
 use Rattle.pvp_book.specs.Ledger.{state_with, is_state}
 use Rattle.std.specs.Map.{lookup}
 use Rattle.pvp_book.specs.declared.seen.Seen.{Seen}
@@ -29,7 +27,7 @@ use Rattle.pvp_book.proofs.CandidateLemmas.{turned}
 use Rattle.pvp_book.proofs.SettlementLemmas.{append-nil}
 use Rattle.pvp_book.proofs.SeenLemmas.{or-false, says_matched, says_asked, matched-more, asked-more, state-same}
 
-length-kept : (b : Bool) (p : Pair) (ps : List Pair) → length (cond b (p ∷ ps) ps) ≡ (if b then 1 else 0) + length ps
+pub length-kept : (b : Bool) (p : Pair) (ps : List Pair) → length (cond b (p ∷ ps) ps) ≡ (if b then 1 else 0) + length ps
 length-kept true p ps = omega arith
 length-kept false p ps = omega arith
 

@@ -1,5 +1,5 @@
 -- What a book keeps beside its entries, and what each kept value is by its definition.
-use Rattle.std.specs.Prelude.{◌≡◌, ℕ, ◌+◌, ◌<◌, ◌==◌, ◌&&◌, Bool, false, not, ◌-◌, ◌≤◌, slice_get, map, nat_le, if◌then◌else◌, List, [], length, sum_by, find, Option, Some, None, slice_set, slice_index_or, replicate, All, ◌*◌, ℤ, pos, neg_ℤ, ◌+ℤ◌, int_lt, filter}
+use Rattle.std.specs.Prelude.{◌≡◌, ℕ, ◌+◌, ◌<◌, ◌==◌, ◌&&◌, Bool, false, not, ◌-◌, ◌≤◌, slice_get, map, nat_le, if◌then◌else◌, List, [], length, sum_by, Option, Some, None, slice_set, slice_index_or, replicate, All, ◌*◌, ℤ, pos, neg_ℤ, ◌+ℤ◌, int_lt, filter}
 use Rattle.std.specs.List.{zip}
 use Rattle.std.specs.Option.{option_map, option_map_or}
 use Rattle.pvp_types.specs.declared.setup.Setup.{Setup}

@@ -132,7 +132,7 @@ impl Book {
     pub fn queued(&self) -> usize
         ensures { result ≡ length (queue self.now.setup self.now.entries) }
     {
-        pair::count_waiting(self.line.as_slice(), &self.seen, &self.settled)
+        self.tally.get(PairState::Matched) as usize
     }
 
     /// The reference of the waiting pair at a place, in the order in which they were matched, which
@@ -149,23 +149,21 @@ impl Book {
     pub fn open(&self, at: usize) -> Option<(u16, PayOrder)>
         ensures { result ≡ slice_get (outstanding self.now.setup self.now.entries) at }
     {
-        let entries = self.entries.as_slice();
-        open::outstanding_at(entries, &self.table, self.setup.currency_count(), at)
+        open::outstanding_at(&self.table, self.setup.currency_count(), at)
     }
 
     /// A currency's orders that are neither paid nor returned, in the order in which they were made.
     pub fn open_orders(&self, c: u8) -> OpenOrders<'_>
         ensures { orders_left result ≡ open_orders self.now.entries c }
     {
-        OpenOrders::new(self.entries.as_slice(), &self.table, c)
+        OpenOrders::new(&self.table, c)
     }
 
     /// How many orders of all currencies are outstanding.
     pub fn open_count(&self) -> usize
         ensures { result ≡ length (outstanding self.now.setup self.now.entries) }
     {
-        let entries = self.entries.as_slice();
-        open::count_outstanding(entries, &self.table, self.setup.currency_count())
+        open::count_outstanding(&self.table, self.setup.currency_count())
     }
 
     /// How many orders were made in a currency.
@@ -287,7 +285,7 @@ impl Book {
         self.entries.reserve(1)?;
         self.pairs.reserve(1)?;
         self.line.reserve(1)?;
-        self.table.reserve()?;
+        self.table.reserve(&entry)?;
         let moved = account::movement_by(&self.table, &entry);
         let named = pair::named_by(&entry);
         let before = pair::state_named(&self.pairs, &self.seen, &self.settled, named);

@@ -1,10 +1,8 @@
-ghost use Rattle.std.specs.Prelude.{◌≡◌, ◌≤◌, length, not, slice_get};
-ghost use Rattle.pvp_book.specs.Ledger.{open_orders, outstanding_from};
-ghost use Rattle.pvp_book.specs.OrderTable.{AreMade};
+ghost use Rattle.std.specs.Prelude.{◌≡◌, ℕ, ◌≤◌, length, slice_get};
+ghost use Rattle.pvp_book.specs.Open.{outstanding_at};
+ghost use Rattle.pvp_book.specs.OrderTable.{open_at};
 
-use crate::entry::Entry;
 use crate::order_table::OrderTable;
-use crate::sums::order_by;
 use crate::terms::node_of;
 use pvp_types::PayOrder;
 
@@ -12,33 +10,24 @@ use pvp_types::PayOrder;
 /// made.
 #[derive(Debug, Drop)]
 pub struct OpenOrders<'a> {
-    /// Which orders are paid or returned.
+    /// What is kept of the orders.
     table: &'a OrderTable,
-    /// The entries that are still to be looked at.
-    rest: &'a [Entry],
     ccy: u8,
+    /// How many were given.
+    given: usize,
 }
 
 impl<'a> OpenOrders<'a> {
     ghost use Rattle.pvp_book.specs.Open.{orders_left};
-    ghost use Rattle.pvp_book.specs.OrderTable.{has_ended};
 
-    pub(crate) fn new(entries: &'a [Entry], table: &'a OrderTable, ccy: u8) -> Self
-        requires { AreMade entries.now table.now }
-        ensures { orders_left result ≡ open_orders entries.now ccy }
+    pub(crate) fn new(table: &'a OrderTable, ccy: u8) -> Self
+        ensures { orders_left result ≡ open_at table.now ccy }
     {
         OpenOrders {
             table,
-            rest: entries,
             ccy,
+            given: 0,
         }
-    }
-
-    /// Whether the order is neither paid nor returned.
-    fn is_open(&self, order: PayOrder) -> bool
-        ensures { result ≡ not (has_ended self.now.table.now self.now.ccy order.out) }
-    {
-        !self.table.has_ended(self.ccy, order.out)
     }
 }
 
@@ -53,65 +42,39 @@ impl<'a> Iterator for OpenOrders<'a> {
     ghost remaining = { item_count orders_left };
 
     fn next(&mut self) -> Option<PayOrder> {
-        while let Some((first, rest)) = self.rest.split_first() {
-            self.rest = rest;
-            match order_by(first, self.ccy) {
-                Some(order) if self.is_open(order) => return Some(order),
-                _ => {}
-            }
-        }
-        None
+        let order = self.table.open_at(self.ccy, self.given)?;
+        self.given += 1;
+        Some(order)
     }
 }
 
 /// The order at a place among the open ones of the first currencies, and the client number of its
 /// node.
 pub(crate) fn outstanding_at(
-    entries: &[Entry],
     table: &OrderTable,
     currencies: u8,
     at: usize,
 ) -> Option<(u16, PayOrder)>
-    requires few { length entries.now ≤ 65535 }
-    requires made { AreMade entries.now table.now }
-    ensures { result ≡ slice_get (outstanding_from 0 currencies entries.now) at }
+    ensures { result ≡ slice_get (outstanding_at (open_at table.now) 0 currencies) at }
 {
     let mut left = at;
     for ccy in 0..currencies {
-        if let Some(order) = open_at(entries, table, ccy, left) {
+        if let Some(order) = table.open_at(ccy, left) {
             return Some((node_of(ccy), order));
         }
-        left -= count_open(entries, table, ccy);
+        left -= table.open_count(ccy);
     }
     None
 }
 
 /// How many orders of the first currencies are open.
-pub(crate) fn count_outstanding(entries: &[Entry], table: &OrderTable, currencies: u8) -> usize
-    requires few { length entries.now ≤ 65535 }
-    requires made { AreMade entries.now table.now }
-    ensures { result ≡ length (outstanding_from 0 currencies entries.now) }
+pub(crate) fn count_outstanding(table: &OrderTable, currencies: u8) -> usize
+    requires few { (c : ℕ) → length (open_at table.now c) ≤ 65535 }
+    ensures { result ≡ length (outstanding_at (open_at table.now) 0 currencies) }
 {
     let mut count = 0;
     for ccy in 0..currencies {
-        count += count_open(entries, table, ccy);
+        count += table.open_count(ccy);
     }
     count
-}
-
-/// The order at a place among a currency's open ones.
-fn open_at(entries: &[Entry], table: &OrderTable, ccy: u8, at: usize) -> Option<PayOrder>
-    requires { AreMade entries.now table.now }
-    ensures { result ≡ slice_get (open_orders entries.now ccy) at }
-{
-    OpenOrders::new(entries, table, ccy).nth(at)
-}
-
-/// How many orders of a currency are open.
-fn count_open(entries: &[Entry], table: &OrderTable, ccy: u8) -> usize
-    requires few { length entries.now ≤ 65535 }
-    requires made { AreMade entries.now table.now }
-    ensures { result ≡ length (open_orders entries.now ccy) }
-{
-    OpenOrders::new(entries, table, ccy).count()
 }

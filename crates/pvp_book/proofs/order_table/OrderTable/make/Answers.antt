@@ -1,18 +1,20 @@
-use Rattle.std.proofs.Common.{◌∙◌, sym, false, true, ap}
+use Rattle.std.proofs.Common.{◌<◌, ◌∙◌, arith, length}
 use Rattle.std.specs.Prelude.{◌&&◌, ◌==◌}
-use Rattle.pvp_book.specs.declared.order_table.OrderTable.{OrderTable}
+use Rattle.std.specs.VecDeque.{deque_items}
 use Rattle.pvp_book.specs.OrderTable.{order_at}
-use Rattle.pvp_book.proofs.OrderTableLemmas.{succeeded, put-order, keep-order, at-number}
-use Rattle.pvp_book.proofs.order_table.OrderTable.make.Goals.{then-not-contains_key, else-not-contains_key}
+use Rattle.pvp_book.proofs.OrderTableLemmas.{succeeded, put-order, at-number}
+use Rattle.pvp_book.proofs.OpenLemmas.{queues-more}
 use Rattle.pvp_book.proofs.order_table.OrderTable.make.Goals as goal
 
 pub returns-clause-made : goal.returns-clause-made
 returns-clause-made c = λ k n.
-    let same = (c.args.order.ccy == k) && (c.args.order.out == n) in
-    elim c.if-not-contains_key.branch [
-      | then-not-contains_key w ↦
-          rw w.self-is ((succeeded w.insert.result (w.insert.ensures.succeeds c.requires.room) w.insert.ensures.updates).0 (k, n)
-          ∙ put-order same (order_at c.args.self.now k n) c.args.order (at-number c.args.self.now c.args.order.ccy c.args.order.out k n false (sym c.contains_key.ensures ∙ w.if-not-contains_key.true)))
-      | else-not-contains_key w ↦
-          rw w.self-is (keep-order same (order_at c.args.self.now k n) c.args.order (at-number c.args.self.now c.args.order.ccy c.args.order.out k n true (sym c.contains_key.ensures ∙ w.if-not-contains_key.false)))
-    ]
+    (succeeded c.insert.result (c.insert.ensures.succeeds c.requires.room.0) c.insert.ensures.updates).0 (k, n)
+    ∙ put-order ((c.args.order.ccy == k) && (c.args.order.out == n)) (order_at c.args.self.now k n) c.args.order (at-number c.args.self.now c.args.order.ccy c.args.order.out k n c.requires.fresh)
+
+pub returns-clause-outstanding : goal.returns-clause-outstanding
+returns-clause-outstanding c =
+    let ccy = c.from-2.ensures in
+    let places = c.requires.places in
+    let known = c.requires.known in
+    let within : c.from-2.result < length c.args.self.now.outstanding = omega arith in
+    queues-more deque_items c.args.self.now.outstanding c.from-2.result c.push_back_reserved.new.self c.index-self-from.result within c.args.order ccy c.push_back_reserved.ensures.items
