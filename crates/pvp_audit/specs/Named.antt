@@ -5,6 +5,10 @@ use Rattle.pvp_rooms.specs.declared.message.Recorded.{Recorded}
 use Rattle.pvp_rooms.specs.declared.cell.Closed.{Closed}
 use Rattle.pvp_audit.specs.Runs.{Sends}
 
+-- what has this key in a list stands there, if anywhere
+abbrev pub IsPlaceOf : {X : Type 0} → (X → ℕ) → List X → ℕ → ℕ → Type 0
+IsPlaceOf {X} key xs t at = (place : ℕ) (x : X) → slice_get xs place ≡ Some x → key x ≡ t → place ≡ at
+
 pub record IsSentBy {E O L : Type 0} (delivers : E → Option L) (sent : O → List L) (history : List (Recorded E O)) (upto : ℕ) (stamp : Stamp) (event : E) : Type 0 where
   pub place : ℕ
   pub what : Recorded E O
