@@ -1,2 +1,4 @@
 pub mod EachTold
 pub mod LineCounted
+pub mod BrokenWords
+pub mod Finding

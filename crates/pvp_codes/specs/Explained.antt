@@ -1,13 +1,27 @@
--- A fault of a setup or of a script in words: the rule, and the line of the script that broke it.
-use Rattle.std.specs.Prelude.{◌≡◌, ℕ, zero, suc, ◌+◌, ◌-◌, ◌==◌, ◌&&◌, Bool, true, false, List, [], ◌∷◌, ◌++◌, length, nat_le, decimal, codes, if◌then◌else◌}
+-- A fault of a setup or of a script in words: the rule, and what broke it.
+use Rattle.std.specs.Prelude.{◌≡◌, ℕ, zero, suc, ◌+◌, ◌-◌, ◌==◌, ◌&&◌, Bool, true, false, List, [], ◌∷◌, ◌++◌, length, nat_le, nat_lt, decimal, Option, Some, None, Result, Ok, codes, if◌then◌else◌}
 use Rattle.std.specs.List.{list_all, before_first, after_first}
 use Rattle.pvp_types.specs.Setup.{is_between}
-use Rattle.pvp_text.specs.ScriptWords.{lines}
+use Rattle.pvp_types.specs.declared.setup.Setup.{Setup}
+use Rattle.pvp_text.specs.ScriptWords.{lines, words}
+use Rattle.pvp_text.specs.declared.script.Kind.{Kind}
+use Rattle.pvp_types.specs.declared.setup.Currency.{Currency}
+use Rattle.pvp_types.specs.declared.setup.Member.{Member}
+use Rattle.pvp_types.specs.declared.setup.SetupFault.{SetupFault}
+use Rattle.pvp_types.specs.declared.setup.SetupFault.TheVariants.{SiteCount, CurrencyCount, CurrencyCode, Rate, Haircut, MemberCount, MemberName, ListLength, Limit}
+use Rattle.pvp_text.specs.SetupText.{parts_where}
 use Rattle.pvp_text.specs.declared.setup.TextFault.{TextFault}
+use Rattle.pvp_text.specs.declared.setup.TextFault.TheVariants.{BadSetup}
 use Rattle.pvp_text.specs.declared.script.LineFault.{LineFault}
 use Rattle.pvp_text.specs.declared.script.LineCode.{LineCode}
 use Rattle.pvp_text.specs.declared.script.LineCode.TheVariants.{Byte, UnknownWord, WordCount, Number, UnknownName, LineLength, LineCount, NoMemory}
 use Rattle.pvp_codes.specs.Meanings.{text_meaning, line_meaning}
+use Rattle.pvp_codes.specs.Fields.{line_form}
+use Rattle.pvp_codes.specs.Broken.{breaks, first_broken, why_text}
+use Rattle.pvp_codes.specs.Parts.{currency_fault, member_fault, first_part, part_text}
+use Rattle.pvp_codes.specs.declared.parts.PartWhy.{PartWhy}
+use Rattle.pvp_codes.specs.declared.fields.Field.{Field}
+use Rattle.pvp_codes.specs.declared.broken.Why.{Why}
 
 -- the byte that ends a line
 abbrev pub is_end : ℕ → Bool
@@ -37,18 +51,94 @@ is_of_words LineLength = false
 is_of_words LineCount = false
 is_of_words NoMemory = false
 
--- the line, where its words are at fault and can be shown
-abbrev pub quoted : LineCode → List ℕ → List ℕ
-quoted code line = if is_of_words code && is_shown line then codes ": " ++ line else []
+-- a word that is quoted, and why it may not stand where it does
+abbrev pub broken_told : List ℕ × Why → List ℕ
+broken_told broken = codes "\"" ++ broken.0 ++ codes "\" " ++ why_text broken.1
 
--- THE FAULT OF A SCRIPT in words: its line's number, the rule, and the line
-abbrev pub line_explained : LineFault → List ℕ → List ℕ
-line_explained fault script =
-    codes "line " ++ decimal fault.line ++ codes ": " ++ line_meaning fault.code ++ quoted fault.code (line_of fault.line script) ++ codes "\n"
+-- which it is of too many or too few words, where the form has so many
+abbrev pub which_told : ℕ → List (List ℕ) → List ℕ
+which_told count said = if nat_lt count (length said) then codes "too many words" else codes "too few words"
 
--- THE FAULT OF A SETUP in words: the rule
-abbrev pub setup_explained : TextFault → List ℕ
-setup_explained fault = codes "setup: " ++ text_meaning fault ++ codes "\n"
+abbrev pub counted_told : ℕ → List (List ℕ) → List ℕ
+counted_told count said = which_told count said ++ codes ", the form has " ++ decimal count
+
+-- too few words may tell no form
+abbrev pub count_told : List Field → List (List ℕ) → List ℕ
+count_told [] said = codes "too few words"
+count_told (field ∷ form) said = counted_told (length (field ∷ form)) said
+
+-- the rule of a line's words; of their count it is told which it is
+abbrev pub rule_told : LineCode → List (List ℕ) → List ℕ
+rule_told Byte said = line_meaning Byte
+rule_told UnknownWord said = line_meaning UnknownWord
+rule_told WordCount said = count_told (line_form said) said
+rule_told Number said = line_meaning Number
+rule_told UnknownName said = line_meaning UnknownName
+rule_told LineLength said = line_meaning LineLength
+rule_told LineCount said = line_meaning LineCount
+rule_told NoMemory said = line_meaning NoMemory
+
+-- the word that broke the rule; where none is found, the rule and the line
+abbrev pub found_told : LineCode → List ℕ → Option (List ℕ × Why) → List ℕ
+found_told code line (Some broken) = broken_told broken
+found_told code line None = rule_told code (words line) ++ codes ": " ++ line
+
+-- what is told of a line: its words where they are at fault and can be shown, else the rule
+abbrev pub line_told : LineCode → Kind → Setup → List ℕ → List ℕ
+line_told code kind setup line =
+    if is_of_words code && is_shown line
+    then found_told code line (first_broken (breaks code kind setup) (line_form (words line)) (words line))
+    else line_meaning code
+
+-- THE FAULT OF A SCRIPT in words: its line's number, and what is told of the line
+abbrev pub line_explained : LineFault → Kind → Setup → List ℕ → List ℕ
+line_explained fault kind setup script =
+    codes "line " ++ decimal fault.line ++ codes ": " ++ line_told fault.code kind setup (line_of fault.line script) ++ codes "\n"
+
+-- ---- a setup
+
+-- a name that can be shown, quoted
+abbrev pub name_told : List ℕ → List ℕ
+name_told name = if is_shown name then codes " \"" ++ name ++ codes "\"" else []
+
+-- a rule of a setup
+abbrev pub alone_told : TextFault → List ℕ
+alone_told fault = codes "setup: " ++ text_meaning fault
+
+-- the rule, and how many there are
+abbrev pub amount_told : SetupFault → ℕ → List ℕ
+amount_told rule amount = alone_told (BadSetup rule) ++ codes ": " ++ decimal amount
+
+-- a currency by its number, as a script tells it, and why it breaks the rule
+abbrev pub currency_told : SetupFault → Option (ℕ × Currency × PartWhy) → List ℕ
+currency_told rule (Some found) = codes "currency " ++ decimal found.0 ++ name_told found.1.code ++ codes ": " ++ part_text found.2
+currency_told rule None = alone_told (BadSetup rule)
+
+-- a member likewise: members are numbered from 1
+abbrev pub member_told : SetupFault → Option (ℕ × Member × PartWhy) → List ℕ
+member_told rule (Some found) = codes "member " ++ decimal (found.0 + 1) ++ name_told found.1.name ++ codes ": " ++ part_text found.2
+member_told rule None = alone_told (BadSetup rule)
+
+-- the part of a setup that broke a rule
+abbrev pub part_told : SetupFault → Setup → List ℕ
+part_told SiteCount setup = amount_told SiteCount setup.sites
+part_told CurrencyCount setup = amount_told CurrencyCount (length setup.currencies)
+part_told CurrencyCode setup = currency_told CurrencyCode (first_part (currency_fault CurrencyCode) [] setup.currencies)
+part_told Rate setup = currency_told Rate (first_part (currency_fault Rate) [] setup.currencies)
+part_told Haircut setup = currency_told Haircut (first_part (currency_fault Haircut) [] setup.currencies)
+part_told MemberCount setup = amount_told MemberCount (length setup.members)
+part_told MemberName setup = member_told MemberName (first_part (member_fault MemberName setup) [] setup.members)
+part_told ListLength setup = member_told ListLength (first_part (member_fault ListLength setup) [] setup.members)
+part_told Limit setup = member_told Limit (first_part (member_fault Limit setup) [] setup.members)
+
+-- what is told of a text that is no setup, given its parts, which one without a tree has not
+abbrev pub setup_told : TextFault → Result Setup TextFault → List ℕ
+setup_told (BadSetup rule) (Ok parts) = part_told rule parts
+setup_told fault _ = alone_told fault
+
+-- THE FAULT OF A SETUP in words: what broke the rule, or the rule
+abbrev pub setup_explained : TextFault → List ℕ → List ℕ
+setup_explained fault bytes = setup_told fault (parts_where None bytes) ++ codes "\n"
 
 -- ---- what holds of the line of a number
 

@@ -1,45 +1,264 @@
-//! Faults of setups and of scripts in words, with the line of a script that is at fault.
+//! Faults of setups and of scripts in words, with what broke the rule.
 
-ghost use Rattle.std.specs.Prelude.{◌≡◌, ◌++◌, IfOk, OnOk};
+ghost use Rattle.std.specs.Prelude.{◌≡◌, ◌++◌, [], length, nat_lt, codes, IfOk, OnOk};
 ghost use Rattle.std.specs.List.{list_all};
 ghost use Rattle.pvp_types.specs.Setup.{is_between};
+ghost use Rattle.pvp_text.specs.ScriptWords.{words};
+ghost use Rattle.pvp_codes.specs.Parts.{currency_fault, member_fault, first_part};
 ghost use Rattle.pvp_codes.specs.Explained as spec;
 
+use crate::broken::{Why, first_broken};
+use crate::fields::{Field, line_form};
 use crate::meanings::{line_meaning, text_meaning};
-use pvp_text::{LineCode, LineFault, TextFault, cut};
+use crate::parts::{first_currency, first_member};
+use pvp_text::{Kind, LineCode, LineFault, TextFault, cut, next_word, read_parts};
+use pvp_types::{Setup, SetupFault};
 use std::alloc::{AllocError, Global};
 
-/// The fault of a setup in words, as a line: the rule.
-pub fn explain_setup(alloc: Global, fault: TextFault) -> Result<Vec<u8>, AllocError>
-    ensures { IfOk result (λ text. text.items ≡ spec.setup_explained fault) }
+/// The fault of a setup in words, as a line: of a rule that the text breaks, which currency or member breaks it first and
+/// how, or how many there are; else the rule.
+///
+/// The parts of the text are read once more for it.
+#[tactic(auto, unfolding(pvp_text::specs::SetupText::parts_where))]
+pub fn explain_setup(alloc: Global, fault: TextFault, bytes: &[u8]) -> Result<Vec<u8>, AllocError>
+    ensures { IfOk result (λ text. text.items ≡ spec.setup_explained fault bytes.now) }
 {
-    let meaning = text_meaning(fault);
-    let text = format!(in alloc; "setup: {meaning}\n")?;
-    Ok(text.into_bytes())
+    let mut text = Vec::new(alloc);
+    match (fault, read_parts(alloc, bytes)) {
+        (TextFault::BadSetup(rule), Ok(parts)) => push_part(alloc, &mut text, rule, &parts)?,
+        (_, Err(TextFault::NoMemory)) => return Err(AllocError),
+        (fault, _) => push_alone(&mut text, fault)?,
+    }
+    text.extend_from_slice(b"\n")?;
+    Ok(text)
 }
 
-/// The fault of a script in words, as a line: the number of its line, the rule, and the line itself, where its words are at
-/// fault and can be printed.
-pub fn explain_line(alloc: Global, fault: LineFault, script: &[u8]) -> Result<Vec<u8>, AllocError>
-    ensures { IfOk result (λ text. text.items ≡ spec.line_explained fault script.now) }
+/// Appends the rule of a setup.
+fn push_alone(text: &mut Vec<u8>, fault: TextFault) -> Result<(), AllocError>
+    ensures { OnOk result (text.new.items ≡ text.old.items ++ spec.alone_told fault) }
 {
-    let line = fault.line;
-    let meaning = line_meaning(fault.code);
-    let text = format!(in alloc; "line {line}: {meaning}")?;
+    push(text, "setup: ")?;
+    push(text, text_meaning(fault))
+}
+
+/// Appends which part of a setup broke a rule, and how.
+fn push_part(
+    alloc: Global,
+    text: &mut Vec<u8>,
+    rule: SetupFault,
+    setup: &Setup,
+) -> Result<(), AllocError>
+    ensures { OnOk result (text.new.items ≡ text.old.items ++ spec.part_told rule setup.now) }
+{
+    match rule {
+        SetupFault::SiteCount => push_amount(alloc, text, rule, setup.sites),
+        SetupFault::CurrencyCount => push_amount(alloc, text, rule, setup.currencies.len() as u64),
+        SetupFault::MemberCount => push_amount(alloc, text, rule, setup.members.len() as u64),
+        SetupFault::CurrencyCode | SetupFault::Rate | SetupFault::Haircut => {
+            push_currency(alloc, text, rule, setup)
+        }
+        SetupFault::MemberName | SetupFault::ListLength | SetupFault::Limit => {
+            push_member(alloc, text, rule, setup)
+        }
+    }
+}
+
+/// Appends a rule, and how many there are.
+fn push_amount(
+    alloc: Global,
+    text: &mut Vec<u8>,
+    rule: SetupFault,
+    amount: u64,
+) -> Result<(), AllocError>
+    ensures { OnOk result (text.new.items ≡ text.old.items ++ spec.amount_told rule amount) }
+{
+    let more = format!(in alloc; ": {amount}")?;
+    push_alone(text, TextFault::BadSetup(rule))?;
+    push(text, more.as_str())
+}
+
+/// Appends which currency breaks a rule, and how; the rule where none does.
+fn push_currency(
+    alloc: Global,
+    text: &mut Vec<u8>,
+    rule: SetupFault,
+    setup: &Setup,
+) -> Result<(), AllocError>
+    ensures { OnOk result (text.new.items ≡ text.old.items
+        ++ spec.currency_told rule (first_part (currency_fault rule) [] setup.now.currencies)) }
+{
+    let Some((place, currency, why)) = first_currency(rule, setup.currencies.as_slice()) else {
+        return push_alone(text, TextFault::BadSetup(rule));
+    };
+    let number = format!(in alloc; "currency {place}")?;
+    let reason = format!(in alloc; ": {why}")?;
+    push(text, number.as_str())?;
+    push_name(text, currency.code.as_str())?;
+    push(text, reason.as_str())
+}
+
+/// Appends which member breaks a rule, and how; the rule where none does.
+fn push_member(
+    alloc: Global,
+    text: &mut Vec<u8>,
+    rule: SetupFault,
+    setup: &Setup,
+) -> Result<(), AllocError>
+    ensures { OnOk result (text.new.items ≡ text.old.items
+        ++ spec.member_told rule (first_part (member_fault rule setup.now) [] setup.now.members)) }
+{
+    let Some((place, member, why)) = first_member(rule, setup) else {
+        return push_alone(text, TextFault::BadSetup(rule));
+    };
+    let number = format!(in alloc; "member {}", place + 1)?;
+    let reason = format!(in alloc; ": {why}")?;
+    push(text, number.as_str())?;
+    push_name(text, member.name.as_str())?;
+    push(text, reason.as_str())
+}
+
+/// Appends a name, quoted, where it can be shown.
+fn push_name(text: &mut Vec<u8>, name: &str) -> Result<(), AllocError>
+    ensures { OnOk result (text.new.items ≡ text.old.items ++ spec.name_told name.now) }
+{
+    if is_shown(name.as_bytes()) {
+        push(text, " \"")?;
+        push(text, name)?;
+        push(text, "\"")?;
+    }
+    Ok(())
+}
+
+/// The fault of a script in words, as a line: the number of its line, and the first word that broke the rule, where one
+/// did and can be printed; else the rule, and the line where its words are at fault and can be printed.
+///
+/// The script's kind and its setup are those that it was read with.
+pub fn explain_line(
+    alloc: Global,
+    fault: LineFault,
+    kind: Kind,
+    setup: &Setup,
+    script: &[u8],
+) -> Result<Vec<u8>, AllocError>
+    ensures { IfOk result (λ text. text.items ≡ spec.line_explained fault kind setup.now script.now) }
+{
+    let number = fault.line;
+    let text = format!(in alloc; "line {number}: ")?;
     let mut bytes = text.into_bytes();
-    push_quoted(&mut bytes, fault.code, line_of(line, script))?;
+    let line = line_of(number, script);
+    push_line(alloc, &mut bytes, fault.code, kind, setup, line)?;
     bytes.extend_from_slice(b"\n")?;
     Ok(bytes)
 }
 
-/// Appends the line, where its words are at fault and can be shown.
-fn push_quoted(text: &mut Vec<u8>, code: LineCode, line: &[u8]) -> Result<(), AllocError>
-    ensures { OnOk result (text.new.items ≡ text.old.items ++ spec.quoted code line.now) }
+/// Appends what is told of a line: its words where they are at fault and can be shown, else the rule.
+fn push_line(
+    alloc: Global,
+    text: &mut Vec<u8>,
+    code: LineCode,
+    kind: Kind,
+    setup: &Setup,
+    line: &[u8],
+) -> Result<(), AllocError>
+    ensures { OnOk result (text.new.items ≡ text.old.items ++ spec.line_told code kind setup.now line.now) }
 {
     if is_of_words(code) && is_shown(line) {
-        text.extend_from_slice(b": ")?;
-        text.extend_from_slice(line)?;
+        match first_broken(code, kind, setup, line_form(line), line) {
+            Some((word, why)) => push_broken(alloc, text, word, why),
+            None => push_rule(alloc, text, code, line),
+        }
+    } else {
+        push(text, line_meaning(code))
     }
+}
+
+/// Appends a word that is quoted, and why it may not stand where it does.
+fn push_broken(alloc: Global, text: &mut Vec<u8>, word: &[u8], why: Why) -> Result<(), AllocError>
+    ensures { OnOk result (text.new.items ≡ text.old.items ++ spec.broken_told (word.now, why)) }
+{
+    let reason = format!(in alloc; "{why}")?;
+    text.extend_from_slice(b"\"")?;
+    text.extend_from_slice(word)?;
+    text.extend_from_slice(b"\" ")?;
+    push(text, reason.as_str())
+}
+
+/// Appends the rule of a line's words, and the line.
+fn push_rule(
+    alloc: Global,
+    text: &mut Vec<u8>,
+    code: LineCode,
+    line: &[u8],
+) -> Result<(), AllocError>
+    ensures { OnOk result (text.new.items ≡ text.old.items ++ spec.rule_told code (words line.now) ++ codes ": " ++ line.now) }
+{
+    match code {
+        LineCode::WordCount => push_count(alloc, text, line_form(line), line)?,
+        _ => push(text, line_meaning(code))?,
+    }
+    text.extend_from_slice(b": ")?;
+    text.extend_from_slice(line)?;
+    Ok(())
+}
+
+/// Appends which it is of too many or too few words, and how many the form has where that is known.
+fn push_count(
+    alloc: Global,
+    text: &mut Vec<u8>,
+    form: &[Field],
+    line: &[u8],
+) -> Result<(), AllocError>
+    ensures { OnOk result (text.new.items ≡ text.old.items ++ spec.count_told form.now (words line.now)) }
+{
+    match form {
+        [] => push(text, "too few words"),
+        [_, ..] => push_counted(alloc, text, form.len(), line),
+    }
+}
+
+/// Appends which it is of too many or too few words, and how many the form has.
+fn push_counted(
+    alloc: Global,
+    text: &mut Vec<u8>,
+    count: usize,
+    line: &[u8],
+) -> Result<(), AllocError>
+    ensures { OnOk result (text.new.items ≡ text.old.items ++ spec.counted_told count (words line.now)) }
+{
+    let which = which(count, line);
+    let told = format!(in alloc; "{which}, the form has {count}")?;
+    push(text, told.as_str())
+}
+
+/// Which it is of too many or too few words, where the form has so many.
+fn which(count: usize, line: &[u8]) -> &'static str
+    ensures { result.now ≡ spec.which_told count (words line.now) }
+{
+    if has_more(count, line) {
+        "too many words"
+    } else {
+        "too few words"
+    }
+}
+
+/// Whether a line has more words than this.
+fn has_more(count: usize, line: &[u8]) -> bool
+    ensures { result ≡ nat_lt count (length (words line.now)) }
+{
+    let mut rest = line;
+    for _passed in 0..count {
+        match next_word(rest) {
+            Some((_, after)) => rest = after,
+            None => return false,
+        }
+    }
+    next_word(rest).is_some()
+}
+
+fn push(text: &mut Vec<u8>, more: &str) -> Result<(), AllocError>
+    ensures { OnOk result (text.new.items ≡ text.old.items ++ more.now) }
+{
+    text.extend_from_slice(more.as_bytes())?;
     Ok(())
 }
 

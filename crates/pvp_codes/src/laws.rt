@@ -1,6 +1,7 @@
 //! What holds of the table and of explanations: functions that do nothing, whose contracts say it.
 ghost use Rattle.pvp_codes.specs.Codes.{EachIsTold, NoneIsToldTwice};
 ghost use Rattle.pvp_codes.specs.Explained.{IsLineCounted};
+ghost use Rattle.pvp_codes.specs.Finding.{IsAWord, FindsWhereItFails, CountsWhereItFails};
 
 /// The table has each code, but J3, which the program tells as `fault memory`, and none twice.
 pub fn table()
@@ -11,4 +12,12 @@ pub fn table()
 /// The line that an explanation quotes is the one that the reader of scripts counts so.
 pub fn lines()
     ensures { IsLineCounted }
+{}
+
+/// The word that an explanation quotes is one of the line's, and one is found wherever the reader of lines fails at a word; where
+/// it fails by the count of words, these are more or fewer than the form has that the explanation tells.
+pub fn words()
+    ensures word { IsAWord }
+    ensures finds { FindsWhereItFails }
+    ensures counts { CountsWhereItFails }
 {}

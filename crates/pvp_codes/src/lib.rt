@@ -1,10 +1,13 @@
 //! What each code means that the program or one of its parts prints, and faults of setups and scripts in words.
 #![tactic(auto)]
 
+mod broken;
 pub mod code;
 pub mod explain;
+mod fields;
 pub mod laws;
 pub mod meanings;
+mod parts;
 pub mod table;
 
 pub use code::Code;

@@ -8,7 +8,7 @@ ghost use Rattle.pvp_command.specs.declared.fault.Fault.TheVariants.{NoMemory, O
 ghost use Rattle.pvp_command.specs.Fault.{status_told};
 ghost use Rattle.pvp_command.specs.Request.{CheckWrites, CheckTells, BookWrites, PlayWrites, RunTells, PlayTells, PlaysScript, DrawsScript, ShowsScript, TellsScript};
 
-use crate::explain::explained;
+use crate::explain::{Sources, explained};
 use crate::fails::unknown_site;
 use crate::fault::Fault;
 use crate::files::Files;
@@ -19,7 +19,7 @@ use clap::Error;
 use pvp_codes::print_codes;
 use pvp_picture::picture::{Steps, picture};
 use pvp_play::{Fail, Telling, play_failing, trace};
-use pvp_text::{read_setup, run_book};
+use pvp_text::{Kind, read_setup, run_book};
 use pvp_types::Setup;
 use std::alloc::Global;
 use std::convert::AsStr;
@@ -71,7 +71,12 @@ where
             } else {
                 live(rt, alloc, files, ending, setup, script, out, &mut sink())
             };
-            tell_more(alloc, told, explains, files, Some(script), err)
+            let sources = Sources {
+                kind: Kind::Live,
+                setup,
+                script: Some(script),
+            };
+            tell_more(alloc, told, explains, files, Some(sources), err)
         }
         asked => answer(alloc, asked, files, out, err),
     }
@@ -100,9 +105,9 @@ fn answer<F: Files, O: Write, E: Write>(
 ) -> u8 {
     match asked {
         Ok(Some(Asked { request, explains })) => {
-            let script = request.script();
+            let sources = request.sources();
             let told = run(alloc, request, files, out);
-            tell_more(alloc, told, explains, files, script, err)
+            tell_more(alloc, told, explains, files, sources, err)
         }
         Ok(None) => NO_FORM,
         Err(refusal) if is_help(refusal.kind()) => {
@@ -130,15 +135,15 @@ fn tell_more<F: Files, E: Write>(
     told: Result<u8, Fault>,
     explains: bool,
     files: &F,
-    script: Option<&str>,
+    sources: Option<Sources<'_>>,
     err: &mut E,
 ) -> u8
     ensures ok { IfOk told (λ status. result ≡ status) }
     ensures err { IfErr told (λ fault. result ≡ status_told fault) }
 {
     let status = tell(told, err);
-    if let (true, Err(fault)) = (explains, told) {
-        if let Some(line) = explained(alloc, files, script, fault) {
+    if let (true, Some(sources), Err(fault)) = (explains, sources, told) {
+        if let Some(line) = explained(alloc, files, sources, fault) {
             let _ = err.write_all(line.as_slice());
         }
     }

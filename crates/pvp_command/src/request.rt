@@ -3,12 +3,14 @@
 ghost use Rattle.std.specs.Prelude.{◌≡◌, ◌≢◌, true, false, map};
 ghost use Rattle.pvp_command.specs.Codes.{asks_for_codes};
 
+use crate::explain::Sources;
 use crate::fails::read_fails;
 use crate::lives::Ending;
 use crate::shows::{Show, show_at};
 use clap::error::ErrorKind;
 use clap::{Arg, ArgAction, ArgMatches, Command, Error};
 use pvp_play::{Fail, Telling};
+use pvp_text::Kind;
 use std::alloc::{AllocError, Global};
 use std::convert::AsStr;
 
@@ -43,14 +45,20 @@ pub enum Request<'a> {
 }
 
 impl<'a> Request<'a> {
-    /// The name of the script's file, where it has one.
-    pub fn script(&self) -> Option<&'a str> {
-        match self {
-            Request::Book { script, .. }
-            | Request::Play { script, .. }
-            | Request::Live { script, .. } => Some(*script),
-            Request::Check { .. } | Request::Codes => None,
-        }
+    /// What it reads; `None` where it reads no file.
+    pub fn sources(&self) -> Option<Sources<'a>> {
+        let (kind, setup, script) = match self {
+            Request::Check { setup } => (Kind::Book, *setup, None),
+            Request::Book { setup, script } => (Kind::Book, *setup, Some(*script)),
+            Request::Play { setup, script, .. } => (Kind::Play, *setup, Some(*script)),
+            Request::Live { setup, script, .. } => (Kind::Live, *setup, Some(*script)),
+            Request::Codes => return None,
+        };
+        Some(Sources {
+            kind,
+            setup,
+            script,
+        })
     }
 }
 
@@ -201,7 +209,7 @@ const AGAIN_HELP: &str =
     "Prints, where the audit says yes, a script in place of the books, which `play` takes: a line for each step that was taken, in one order that explains the run";
 
 const VERBOSE_HELP: &str =
-    "Tells on standard error what goes on, while it does: the connections, each line and what came of it, and how many frames came";
+    "Tells on standard error what goes on, while it does: the connections, each line and what came of it, which sites are up and in which views, and the frames";
 
 const SVG_HELP: &str =
     "Writes one picture in place of the text, an SVG that stands alone: a lifeline for each actor, and an arrow for each envelope";

@@ -96,6 +96,12 @@ setup_where refused bytes = do
   s ← setup refused d
   unless_broken (fault_of s) s
 
+-- its parts alone, whatever rules they break
+unfoldable pub parts_where : Option TextFault → List ℕ → Result Setup TextFault
+parts_where refused bytes = do
+  d ← tree refused bytes
+  setup refused d
+
 -- THE SETUP that a text is, or the first of its faults
 abbrev pub setup_text : List ℕ → Result Setup TextFault
 setup_text bytes = setup_where None bytes

@@ -6,5 +6,5 @@ pub mod script;
 pub mod setup;
 
 pub use book::{RunFault, run_book};
-pub use script::{Kind, Line, LineCode, LineFault, Statement, amount, cut, read_script};
-pub use setup::{TextFault, read_setup};
+pub use script::{Kind, Line, LineCode, LineFault, Statement, amount, cut, next_word, read_script};
+pub use setup::{TextFault, read_parts, read_setup};

@@ -56,7 +56,7 @@ pub use fields::amount;
 use pvp_types::{Cmd, Setup};
 use std::alloc::{AllocFailed, Global};
 use std::fmt;
-pub use words::cut;
+pub use words::{cut, next_word};
 
 /// What a script is run on, which decides what lines it may have.
 #[derive(Clone, Copy, Debug, PartialEq, Eq)]

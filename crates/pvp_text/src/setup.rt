@@ -5,7 +5,7 @@ ghost use Rattle.pvp_types.specs.Setup.{IsValid};
 ghost use Rattle.serde_json.specs.View.{view};
 ghost use Rattle.pvp_text.specs.declared.setup.TextFault.TheVariants.{NoMemory};
 ghost use Rattle.pvp_text.specs.Reading.{Reads};
-ghost use Rattle.pvp_text.specs.SetupText.{tree, setup_where, text_fault_is_memory, itself};
+ghost use Rattle.pvp_text.specs.SetupText.{tree, setup_where, parts_where, text_fault_is_memory, itself};
 
 mod tree;
 
@@ -86,6 +86,18 @@ pub fn read_setup(alloc: Global, bytes: &[u8]) -> Result<Setup, TextFault>
         Ok(()) => Ok(setup),
         Err(rule) => Err(TextFault::BadSetup(rule)),
     }
+}
+
+/// The parts of the setup that a text is, whatever rules it breaks.
+///
+/// The faults are those of `read_setup` but for the rules', and J3 may come in place of any other answer.
+#[tactic(auto, unfolding(crate::specs::SetupText::parts_where))]
+pub fn read_parts(alloc: Global, bytes: &[u8]) -> Result<Setup, TextFault>
+    ensures { Reads itself text_fault_is_memory result
+        (λ refused. parts_where refused bytes.now) }
+{
+    let tree = read_tree(alloc, bytes)?;
+    Setup::from_tree(alloc, &tree)
 }
 
 /// The tree of a JSON text.

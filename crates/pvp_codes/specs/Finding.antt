@@ -1,0 +1,31 @@
+-- What holds of the word that an explanation finds.
+use Rattle.std.specs.Prelude.{◌≡◌, ◌≢◌, ℕ, true, List, ◌∷◌, length, Option, Some, None, Err}
+use Rattle.pvp_types.specs.declared.setup.Setup.{Setup}
+use Rattle.pvp_types.specs.Setup.{is_among}
+use Rattle.pvp_text.specs.declared.script.Kind.{Kind}
+use Rattle.pvp_text.specs.declared.script.LineCode.{LineCode}
+use Rattle.pvp_text.specs.declared.script.LineCode.TheVariants.{WordCount}
+use Rattle.pvp_text.specs.Script.{statement_at}
+use Rattle.pvp_codes.specs.declared.broken.Why.{Why}
+use Rattle.pvp_codes.specs.Fields.{line_form}
+use Rattle.pvp_codes.specs.Broken.{breaks, first_broken}
+
+-- the word that is found for a code in the words of a line, and why
+abbrev pub found_in : LineCode → Kind → Setup → List (List ℕ) → Option (List ℕ × Why)
+found_in code kind setup said = first_broken (breaks code kind setup) (line_form said) said
+
+-- it is one of them
+abbrev pub IsAWord : Type 0
+IsAWord = (code : LineCode) (kind : Kind) (setup : Setup) (said : List (List ℕ)) (word : List ℕ) (why : Why)
+    → found_in code kind setup said ≡ Some (word, why) → is_among word said ≡ true
+
+-- WHERE THE READER OF LINES FAILS at a word, one is found: of a line with words it answers no code, but that of their count,
+-- whose rule no word breaks
+abbrev pub FindsWhereItFails : Type 0
+FindsWhereItFails = (code : LineCode) (kind : Kind) (setup : Setup) (first : List ℕ) (rest : List (List ℕ))
+    → code ≢ WordCount → statement_at kind setup (first ∷ rest) ≡ Err code → found_in code kind setup (first ∷ rest) ≢ None
+
+-- WHERE IT FAILS by the count of words, there are more than the form has, or fewer
+abbrev pub CountsWhereItFails : Type 0
+CountsWhereItFails = (kind : Kind) (setup : Setup) (first : List ℕ) (rest : List (List ℕ))
+    → statement_at kind setup (first ∷ rest) ≡ Err WordCount → length (first ∷ rest) ≢ length (line_form (first ∷ rest))
