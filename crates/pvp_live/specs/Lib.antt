@@ -1,3 +1,4 @@
 pub mod Events
 pub mod Told
 pub mod Scripts
+pub mod Voices

@@ -3,12 +3,15 @@
 #![tactic(auto)]
 
 pub mod actors;
+mod board;
 pub mod events;
 mod notes;
 mod player;
 pub mod running;
 pub mod scripts;
+mod standing;
 pub mod told;
+mod voices;
 
 pub use running::{LiveFault, live};
 pub use scripts::print_script;

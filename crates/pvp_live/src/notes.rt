@@ -1,9 +1,13 @@
 //! What goes on in a live run, told line by line while it runs. Who listens may be slow or gone: what cannot be told is not.
 
+use crate::board::{Board, Frames};
+use crate::standing::Standing;
+use crate::voices::Heard;
 use headline::ClientFault;
+use pvp_book::Book;
 use pvp_parties::{Party, PartyOutcome};
-use pvp_peers::{PeerEnd, Why};
-use pvp_rooms::{Answer, CameOf};
+use pvp_peers::{PeerEnd, Served, Why};
+use pvp_rooms::{Answer, CameOf, Closed};
 use pvp_streams::Peer;
 use pvp_trace::meanings::{meaning, reason};
 use pvp_trace::names::push_actor;
@@ -11,6 +15,8 @@ use pvp_types::Setup;
 use pvp_world::WorldFault;
 use std::alloc::{AllocError, Global};
 use std::io::Write;
+use vr_site::Replica;
+use vr_types::{MemCell, Status};
 
 /// Tells that all connections are made.
 pub fn tell_connected<N: Write>(notes: &mut N, actors: usize, streams: usize) {
@@ -37,6 +43,28 @@ pub fn tell_posted<N: Write>(
     }
 }
 
+/// Tells where the sites stand, as far as that is known, and how many frames went over the streams so far.
+pub fn tell_sites<N: Write>(
+    alloc: Global,
+    notes: &mut N,
+    line: u32,
+    standings: &[Standing],
+    board: &Board,
+) {
+    let mut text = String::new(alloc);
+    if push_sites(&mut text, line, standings, board).is_ok() {
+        let _ = notes.write_all(text.as_str().as_bytes());
+    }
+}
+
+/// Tells how many envelopes were sent in all, how many of these did not come, and where each site stands at the end.
+pub fn tell_left<N: Write>(alloc: Global, notes: &mut N, closed: &[Closed<Party>]) {
+    let mut text = String::new(alloc);
+    if push_left(&mut text, closed).is_ok() {
+        let _ = notes.write_all(text.as_str().as_bytes());
+    }
+}
+
 /// Tells how many frames were taken over all streams, and how many of these ended before their end.
 pub fn tell_ends<N: Write, S>(notes: &mut N, peers: &[Peer<'_, Party, S>]) {
     let mut frames: usize = 0;
@@ -57,6 +85,107 @@ fn ended(end: Option<PeerEnd>) -> (usize, bool) {
     match end {
         Some(PeerEnd { frames, why }) => (frames, why != Why::End),
         None => (0, true),
+    }
+}
+
+/// Appends where the sites stand, and how many frames went over the streams.
+fn push_sites(
+    text: &mut String,
+    line: u32,
+    standings: &[Standing],
+    board: &Board,
+) -> Result<(), AllocError> {
+    write!(text, "line {line}: ")?;
+    for (site, (standing, voice)) in standings.iter().zip(board.voices()).enumerate() {
+        write!(text, "s{site} ")?;
+        push_standing(text, *standing, voice.heard())?;
+        text.push_str(", ")?;
+    }
+    let Frames { sent, came } = board.frames();
+    write!(text, "{sent} frames sent, {came} came\n")
+}
+
+/// Appends where a site stands. One that came up again is up once it was heard to run since.
+fn push_standing(text: &mut String, standing: Standing, heard: Heard) -> Result<(), AllocError> {
+    match standing {
+        Standing::Down => text.push_str("down"),
+        Standing::Restarted(clock) if heard.clock <= clock => text.push_str("restarted"),
+        Standing::Restarted(clock) | Standing::Up(clock) => push_heard(text, heard, clock),
+    }
+}
+
+/// Appends that a site is up, in which view, and for which later one it asked, where it said so since it came up.
+fn push_heard(text: &mut String, heard: Heard, since: u64) -> Result<(), AllocError> {
+    let Heard { normal, asked, .. } = heard;
+    text.push_str("up")?;
+    let is_normal = normal.clock > since;
+    if is_normal {
+        let view = normal.view;
+        write!(text, " in view {view}")?;
+    }
+    if asked.clock > since && (!is_normal || asked.view > normal.view) {
+        let view = asked.view;
+        write!(text, " and asked for view {view}")?;
+    }
+    Ok(())
+}
+
+/// Appends how many envelopes were sent and how many of them did not come, and where each site stands at the end.
+fn push_left(text: &mut String, closed: &[Closed<Party>]) -> Result<(), AllocError> {
+    let mut sent: usize = 0;
+    let mut came: usize = 0;
+    for one in closed {
+        sent = sent.saturating_add(sent_by(one));
+        came = came.saturating_add(came_to(one));
+    }
+    let lost = sent.saturating_sub(came);
+    write!(
+        text,
+        "{sent} envelopes were sent, and {lost} of them did not come\nat the end "
+    )?;
+    push_ends(text, closed)
+}
+
+/// How many envelopes an actor sent in all.
+fn sent_by(closed: &Closed<Party>) -> usize {
+    let mut sent: usize = 0;
+    for recorded in closed.history.as_slice() {
+        sent = sent.saturating_add(Party::sent(&recorded.outcome).len());
+    }
+    sent
+}
+
+/// How many envelopes an actor took: those of its events that have a stamp.
+fn came_to(closed: &Closed<Party>) -> usize {
+    closed
+        .history
+        .iter()
+        .filter(|recorded| recorded.stamp.is_some())
+        .count()
+}
+
+/// Appends where each site stands at the end.
+fn push_ends(text: &mut String, closed: &[Closed<Party>]) -> Result<(), AllocError> {
+    let mut site: u16 = 0;
+    for one in closed {
+        if let Party::Site(party) = &one.end {
+            text.push_str(if site == 0 { "" } else { ", " })?;
+            write!(text, "s{site} ")?;
+            push_end(text, party.replica())?;
+            site = site.saturating_add(1);
+        }
+    }
+    text.push_str("\n")
+}
+
+/// Appends where a site stands at the end.
+fn push_end(text: &mut String, site: &Replica<Book, MemCell>) -> Result<(), AllocError> {
+    let view = site.view();
+    match site.status() {
+        Status::Normal => write!(text, "normal in view {view}"),
+        Status::Change => write!(text, "in change to view {view}"),
+        Status::Recovering => text.push_str("recovering"),
+        Status::Down => text.push_str("down"),
     }
 }
 

@@ -1,13 +1,16 @@
 //! The player of a live script: it posts at each actor from a seat of its own.
 
+use crate::board::Board;
 use crate::events::{Post, posted};
-use crate::notes::{tell_posted, tell_rest};
-use pvp_parties::{Party, PartyCell, PartySeat};
+use crate::notes::{tell_posted, tell_rest, tell_sites};
+use crate::standing::Standing;
+use pvp_parties::{Party, PartyCell, PartyOutcome, PartySeat};
 use pvp_peers::{Outbox, Served};
 use pvp_rooms::{Answer, Gate, Input};
 use pvp_streams::{Player, Writers};
 use pvp_text::script::{Line, Statement};
 use pvp_types::Setup;
+use pvp_world::FIRST_SITE;
 use std::alloc::Global;
 use std::io::Write;
 use std::sync::Wait;
@@ -24,7 +27,7 @@ impl Gate for Open {
     fn leave(&self, _actor: u16) {}
 }
 
-/// Posts what the lines of a script say, one after another, and tells what came of each.
+/// Posts what the lines of a script say, one after another, and tells what came of each, and where the sites stand.
 #[derive(Drop)]
 pub struct LinePlayer<'a, R, N> {
     pub rt: &'a R,
@@ -35,11 +38,16 @@ pub struct LinePlayer<'a, R, N> {
     /// By cell.
     pub seats: Vec<PartySeat>,
     pub lines: &'a [Line],
+    /// What the workers count and hear.
+    pub board: &'a Board,
+    /// By site.
+    pub standings: Vec<Standing>,
 }
 
 impl<R: Wait + Clock, N: Write> LinePlayer<'_, R, N> {
-    /// Posts the event of a line, where there is its actor, and hands on what that sends.
-    fn post(&mut self, line: u32, post: Post, out: &Writers) {
+    /// Posts the event of a line, where there is its actor, and hands on what that sends. What came of it is told before, so
+    /// that what is told rests on nothing that it brought about.
+    fn post(&mut self, line: Line, post: Post, out: &Writers) {
         let Some(place) = place_of(self.cells, post.actor) else {
             return;
         };
@@ -52,9 +60,15 @@ impl<R: Wait + Clock, N: Write> LinePlayer<'_, R, N> {
         };
         let answer = cell.post(self.rt, self.alloc, seat, input, &Open);
         tell_posted(
-            self.alloc, self.notes, self.setup, line, post.actor, &answer,
+            self.alloc,
+            self.notes,
+            self.setup,
+            line.number,
+            post.actor,
+            &answer,
         );
         if let Answer::Done { clock, outcome } = answer {
+            self.see(line, post.actor, clock, &outcome);
             out.put(
                 self.rt,
                 self.alloc,
@@ -63,6 +77,33 @@ impl<R: Wait + Clock, N: Write> LinePlayer<'_, R, N> {
                 Party::sent(&outcome),
             );
         }
+    }
+
+    /// Keeps what is known of a site by what came of a line that was posted there, and tells where all stand. Of another
+    /// actor nothing is kept or told.
+    fn see(&mut self, line: Line, actor: u16, clock: u64, outcome: &PartyOutcome) {
+        let (PartyOutcome::OfSite(came), Some(site)) = (outcome, actor.checked_sub(FIRST_SITE))
+        else {
+            return;
+        };
+        for envelope in Party::sent(outcome) {
+            self.board.hear(actor, clock, &envelope.msg);
+        }
+        if let Some(standing) = self.standings.get_mut(usize::from(site)) {
+            *standing = standing.after(line.statement, clock, came);
+        }
+        self.tell(line.number);
+    }
+
+    /// Tells where the sites stand, and how many frames went over the streams.
+    fn tell(&mut self, line: u32) {
+        tell_sites(
+            self.alloc,
+            self.notes,
+            line,
+            self.standings.as_slice(),
+            self.board,
+        );
     }
 }
 
@@ -73,10 +114,11 @@ impl<R: Wait + Clock, N: Write> Player for LinePlayer<'_, R, N> {
                 Statement::Rest { milliseconds } => {
                     tell_rest(self.notes, line.number, milliseconds);
                     thread::sleep(self.rt, Duration::from_millis(u64::from(milliseconds)));
+                    self.tell(line.number);
                 }
                 statement => {
                     if let Some(post) = posted(statement) {
-                        self.post(line.number, post, out);
+                        self.post(*line, post, out);
                     }
                 }
             }

@@ -4,16 +4,20 @@ ghost use Rattle.pvp_types.specs.Setup.{IsValid};
 ghost use Rattle.pvp_live.specs.Told.{WasJudged, net_told};
 
 use crate::actors::{Bank, numbers_of};
-use crate::notes::{tell_connected, tell_ends};
-use crate::player::{LinePlayer, Open, place_of};
+use crate::board::{Board, Watched};
+use crate::notes::{tell_connected, tell_ends, tell_left};
+use crate::player::{LinePlayer, place_of};
+use crate::standing::Standing;
 use pvp_judge::{Judgement, judge};
 use pvp_parties::{Party, PartyCell, PartySeat};
 use pvp_rooms::Closed;
 use pvp_streams::{
-    Connected, Incoming, NetFault, Peer, Sending, Writer, Writers, connect_all, serve_streams,
+    Connected, Incoming, NetFault, Outgoing, Peer, Sending, Writer, Writers, connect_all,
+    serve_streams,
 };
 use pvp_text::script::Line;
 use pvp_types::Setup;
+use pvp_world::FIRST_SITE;
 use std::alloc::{AllocError, AllocFailed, Global};
 use std::io::{Read, Write};
 use std::net::Net;
@@ -79,10 +83,11 @@ where
     let script = Script {
         setup,
         lines,
-        notes,
+        notes: &mut *notes,
     };
     let seats = run(rt, alloc, cells.as_slice(), seats, connected, script)?;
     let closed = close_all(alloc, cells, seats)?;
+    tell_left(alloc, notes, closed.as_slice());
     match judge(alloc, setup, closed.as_slice()) {
         Ok(judgement) => Ok(judgement),
         Err(_) => Err(LiveFault::Seats),
@@ -110,9 +115,11 @@ where
     R: Threads + Wait + Clock + Net + Sync,
     R::Stream: Read + Write + Send + Drop,
 {
+    let sites = site_count(cells);
+    let board = Board::new(alloc, sites)?;
     let Connected { incoming, outgoing } = connected;
     let mut out = Writers::new(alloc);
-    let mut writers = writers_of(alloc, &mut out, outgoing)?;
+    let mut writers = writers_of(alloc, &mut out, outgoing, &board)?;
     let mut peers = peers_of(alloc, cells, seats.as_mut_slice(), incoming)?;
     let Script {
         setup,
@@ -127,6 +134,8 @@ where
         cells,
         seats: own_seats(alloc, seats.as_mut_slice())?,
         lines,
+        board: &board,
+        standings: all_up(alloc, sites)?,
     };
     serve_streams(
         rt,
@@ -134,7 +143,7 @@ where
         peers.as_mut_slice(),
         writers.as_mut_slice(),
         &out,
-        &Open,
+        &board,
         &mut player,
     );
     let LinePlayer {
@@ -148,18 +157,54 @@ where
     Ok(seats)
 }
 
-/// A writer for each actor over its streams.
-fn writers_of<S: Write + Drop>(
+/// How many of these actors are sites.
+fn site_count(cells: &[PartyCell]) -> usize {
+    cells
+        .iter()
+        .filter(|cell| cell.number() >= FIRST_SITE)
+        .count()
+}
+
+/// All sites as they open.
+fn all_up(alloc: Global, sites: usize) -> Result<Vec<Standing>, AllocError> {
+    let mut standings = Vec::with_capacity(alloc, sites)?;
+    for _ in 0..sites {
+        standings.push(Standing::Up(0))?;
+    }
+    Ok(standings)
+}
+
+/// A writer for each actor over its streams, which are heard on the board.
+fn writers_of<'a, S: Write + Drop>(
     alloc: Global,
     out: &mut Writers,
     outgoing: Vec<Sending<S>>,
-) -> Result<Vec<Writer<S>>, AllocError> {
+    board: &'a Board,
+) -> Result<Vec<Writer<Watched<'a, S>>>, AllocError> {
     let mut writers = Vec::with_capacity(alloc, outgoing.len())?;
     for sending in outgoing {
         let Sending { actor, streams } = sending;
+        let streams = watched(alloc, streams, board)?;
         writers.push(out.add(alloc, actor, streams)?)?;
     }
     Ok(writers)
+}
+
+/// The streams of an actor, heard on the board.
+fn watched<'a, S: Write + Drop>(
+    alloc: Global,
+    streams: Vec<Outgoing<S>>,
+    board: &'a Board,
+) -> Result<Vec<Outgoing<Watched<'a, S>>>, AllocError> {
+    let mut watched = Vec::with_capacity(alloc, streams.len())?;
+    for one in streams {
+        let Outgoing { to, stream } = one;
+        watched.push(Outgoing {
+            to,
+            stream: Watched::new(alloc, stream, board),
+        })?;
+    }
+    Ok(watched)
 }
 
 /// A peer for each incoming stream, at the cell of its reader, with a seat of that cell.

@@ -1,5 +1,7 @@
-//! Live runs: on a machine without a net, and as the script that one is told as. `.ci/live` runs the program.
+//! Live runs: on a machine without a net, what is told while one runs, and as the script that one is told as. `.ci/live` runs
+//! the program.
 use crate::program::{SETUP, TwoFiles, runs};
+use pvp_judge::Judgement;
 use pvp_live::{live, print_judgement, print_script};
 use pvp_play::play;
 use pvp_text::book::read_lines;
@@ -34,33 +36,60 @@ do ALFA instruct 1 BETA USD 1100 EUR 1000\nrest 60\ndo BETA instruct 1 ALFA EUR 
 do OP settle 10\nrest 60\nbeat s0\nrest 60\ncrash s0\ntimer s1\nrest 100\ndo ALFA payout USD 100\nrest 60\n\
 beat s1\nrestart s0\nrest 100\nbeat s1\nrest 60\n";
 
+/// The same with short rests: what came in time is another thing in each run.
+const HASTY: &str = "payin ALFA USD 1200\npayin BETA EUR 48\nrest 4\nbeat s0\nrest 4\n\
+do ALFA instruct 1 BETA USD 1100 EUR 1000\nrest 4\ndo BETA instruct 1 ALFA EUR 1000 USD 1100\nrest 4\n\
+do OP settle 10\nrest 4\nbeat s0\nrest 4\ncrash s0\ntimer s1\nrest 8\ndo ALFA payout USD 100\nrest 4\n\
+beat s1\nrestart s0\nrest 8\nbeat s1\nrest 4\n";
+
 /// What the threads did, played again as the script that it is told as, gives the books that it left. How the threads'
 /// turns fell is another thing each time, so it is done some times.
 #[test]
 fn a_run_is_played_again(rt: HostRuntime) -> Result<(), Fail> {
-    for _ in 0..RUNS {
-        played_again(&rt)?;
+    are_played_again(&rt, LIVE, 3)
+}
+
+/// A hundred runs with short rests are played again, in four parts, each of which ends in time.
+#[test]
+fn hasty_runs_are_played_again(rt: HostRuntime) -> Result<(), Fail> {
+    are_played_again(&rt, HASTY, 25)
+}
+
+#[test]
+fn more_hasty_runs_are_played_again(rt: HostRuntime) -> Result<(), Fail> {
+    are_played_again(&rt, HASTY, 25)
+}
+
+#[test]
+fn as_many_hasty_runs_are_played_again(rt: HostRuntime) -> Result<(), Fail> {
+    are_played_again(&rt, HASTY, 25)
+}
+
+#[test]
+fn the_last_hasty_runs_are_played_again(rt: HostRuntime) -> Result<(), Fail> {
+    are_played_again(&rt, HASTY, 25)
+}
+
+/// Runs the bank so many times, and plays the script of each run.
+fn are_played_again<R>(rt: &R, script: &str, times: u32) -> Result<(), Fail>
+where
+    R: Abort + AllocGlobal + Threads + Wait + Clock + Net + Sync,
+    R::Stream: Read + Write + Send + Drop,
+{
+    for _ in 0..times {
+        played_again(rt, script)?;
     }
     Ok(())
 }
 
-/// How often a run is played again.
-const RUNS: u32 = 3;
-
 /// Runs the bank, and plays the script of it.
-fn played_again<R>(rt: &R) -> Result<(), Fail>
+fn played_again<R>(rt: &R, script: &str) -> Result<(), Fail>
 where
     R: Abort + AllocGlobal + Threads + Wait + Clock + Net + Sync,
     R::Stream: Read + Write + Send + Drop,
 {
     let alloc = rt.alloc();
-    let setup = read_setup(alloc, SETUP.as_bytes()).map_err(|_| Fail::new("the setup"))?;
-    let lines = read_lines(alloc, &setup, Kind::Live, LIVE.as_bytes()).map_err(|_| Fail::new(
-        "the lines",
-    ))?;
-    let judgement = live(rt, alloc, &setup, lines.as_slice(), &mut sink()).map_err(|_| Fail::new(
-        "the live run",
-    ))?;
+    let judgement = ran(rt, script, &mut sink())?;
     let mut books: Vec<u8> = Vec::new(alloc);
     let mut script: Vec<u8> = Vec::new(alloc);
     print_judgement(alloc, &judgement, &mut books).map_err(|_| Fail::new("the books"))?;
@@ -70,6 +99,20 @@ where
     Ok(())
 }
 
+/// How a live run of a script was judged; what goes on is told to `notes`.
+fn ran<R, N: Write>(rt: &R, script: &str, notes: &mut N) -> Result<Judgement, Fail>
+where
+    R: AllocGlobal + Threads + Wait + Clock + Net + Sync,
+    R::Stream: Read + Write + Send + Drop,
+{
+    let alloc = rt.alloc();
+    let setup = read_setup(alloc, SETUP.as_bytes()).map_err(|_| Fail::new("the setup"))?;
+    let lines = read_lines(alloc, &setup, Kind::Live, script.as_bytes()).map_err(|_| Fail::new(
+        "the lines",
+    ))?;
+    live(rt, alloc, &setup, lines.as_slice(), notes).map_err(|_| Fail::new("the live run"))
+}
+
 /// What a play of a script prints, and a line that says yes.
 fn played(alloc: Global, script: &[u8]) -> Result<Vec<u8>, Fail> {
     let setup = read_setup(alloc, SETUP.as_bytes()).map_err(|_| Fail::new("the setup"))?;
@@ -77,4 +120,103 @@ fn played(alloc: Global, script: &[u8]) -> Result<Vec<u8>, Fail> {
     play(alloc, &setup, script, &mut printed).map_err(|_| Fail::new("the play"))?;
     printed.extend_from_slice(b"audit yes\n")?;
     Ok(printed)
+}
+
+/// A run in which up to line 5 no actor sends anything, so that all that is told of these lines is known. Line 6 names no
+/// actor. The restart sends 2 RECOVERYs, and from then on it is for the threads what comes when.
+const TOLD: &str = "crash s2\nbeat s2\nrest 1\nbeat s1\nrestart s2\ncrash s9\npayin ALFA USD 0\n\
+do ALFA payout USD 5\nbeat s0\nrest 30\ntimer s1\nrest 30\ncrash s0\n";
+
+/// What is told of it, line by line. `#` is a number; of parts between commas that may be told in several ways each stands
+/// behind `|`.
+const LINES: &[&str] = &[
+    "42 connections between 9 actors",
+    "line 1: s2 at clock 1: sends 0",
+    "line 1: s0 up, s1 up, s2 down, 0 frames sent, 0 came",
+    "line 2: s2 at clock 2: S3, the site is down",
+    "line 2: s0 up, s1 up, s2 down, 0 frames sent, 0 came",
+    "line 3: rests 1 ms",
+    "line 3: s0 up, s1 up, s2 down, 0 frames sent, 0 came",
+    "line 4: s1 at clock 1: sends 0",
+    "line 4: s0 up, s1 up, s2 down, 0 frames sent, 0 came",
+    "line 5: s2 at clock 3: sends 2",
+    "line 5: s0 up, s1 up, s2 restarted, 0 frames sent, 0 came",
+    "line 7: USD at clock 1: N3, the amount is not 1 to 1000000000000",
+    "line 8: ALFA at clock 1: sends 3",
+    "line 9: s0 at clock #: sends 2",
+    "line 9: s0 up in view 0, s1 up|s1 up in view 0, s2 restarted|s2 up|s2 up in view 0, # frames sent, # came",
+    "line 10: rests 30 ms",
+    "line 10: s0 up in view 0, s1 up|s1 up in view 0, s2 restarted|s2 up|s2 up in view 0, # frames sent, # came",
+    "line 11: s1 at clock #: sends 2",
+    "line 11: s0 up in view 0, s1 up and asked for view 1|s1 up in view 0 and asked for view 1, \
+s2 restarted|s2 up|s2 up in view 0, # frames sent, # came",
+    "line 12: rests 30 ms",
+    "line 12: s0 up in view #|line 12: s0 up in view # and asked for view #, \
+s1 up and asked for view 1|s1 up in view #|s1 up in view 0 and asked for view 1, \
+s2 restarted|s2 up|s2 up in view #|s2 up and asked for view 1|s2 up in view 0 and asked for view 1, \
+# frames sent, # came",
+    "line 13: s0 at clock #: sends 0",
+    "line 13: s0 down, s1 up and asked for view 1|s1 up in view #|s1 up in view 0 and asked for view 1, \
+s2 restarted|s2 up|s2 up in view #|s2 up and asked for view 1|s2 up in view 0 and asked for view 1, \
+# frames sent, # came",
+    "# frames came, and 0 connections broke",
+    "# envelopes were sent, and # of them did not come",
+    "at the end s0 down, s1 normal in view #|s1 in change to view 1, s2 normal in view #|s2 in change to view 1|s2 recovering",
+    "",
+];
+
+#[test]
+fn tells_what_goes_on(rt: HostRuntime) -> Result<(), Fail> {
+    let mut notes: Vec<u8> = Vec::new(rt.alloc());
+    let judgement = ran(&rt, TOLD, &mut notes)?;
+    assert!(rt; matches!(judgement, Judgement::Yes(_)));
+    let told = std::str::from_utf8(notes.as_slice())?;
+    for (line, wanted) in told.split('\n').zip(LINES) {
+        assert!(rt; is_told(line, *wanted), "{line}, not {wanted}");
+    }
+    assert_eq!(rt; told.split('\n').count(), LINES.len(), "{told}");
+    Ok(())
+}
+
+/// Whether a line is told as one of these has it, part by part.
+fn is_told(line: &str, wanted: &str) -> bool {
+    let mut parts = wanted.split(", ");
+    for part in line.split(", ") {
+        let Some(ways) = parts.next() else {
+            return false;
+        };
+        if !ways.split('|').any(|way| is_shaped(part, way)) {
+            return false;
+        }
+    }
+    parts.next().is_none()
+}
+
+/// Whether a text is as this has it, in which `#` is a number.
+fn is_shaped(text: &str, shape: &str) -> bool {
+    let mut rest = text.as_bytes();
+    for byte in shape.as_bytes() {
+        match behind(rest, *byte) {
+            Some(more) => rest = more,
+            None => return false,
+        }
+    }
+    rest.is_empty()
+}
+
+/// What stands behind a byte, or behind a number where the byte is `#`.
+fn behind(text: &[u8], byte: u8) -> Option<&[u8]> {
+    let (first, rest) = text.split_first()?;
+    if byte != b'#' {
+        return if *first == byte { Some(rest) } else { None };
+    }
+    let digits = text
+        .iter()
+        .take_while(|digit| digit.is_ascii_digit())
+        .count();
+    if digits == 0 {
+        None
+    } else {
+        text.get(digits..)
+    }
 }

@@ -1,0 +1,61 @@
+-- What a site's message says of where its sender stands, and what is known of a site by what came of the lines that were posted at it.
+use Rattle.std.specs.Prelude.{ℕ, Bool, true, false, List, Some, None}
+use Rattle.std.specs.List.{list_any}
+use Rattle.vr_types.specs.declared.event.SiteFault.TheVariants.{NotUp}
+use Rattle.vr_types.specs.declared.message.EnvelopeOf.{EnvelopeOf}
+use Rattle.vr_types.specs.declared.message.MsgOf.{MsgOf}
+use Rattle.vr_types.specs.declared.message.MsgOf.TheVariants.{Request, Prepare, PrepareOk, Commit, StartViewChange, DoViewChange, StartView, GetState, NewState, Recovery, RecoveryResponse, Reply, PayOrder}
+use Rattle.pvp_rooms.specs.declared.site.CameOf.{CameOf}
+use Rattle.pvp_rooms.specs.declared.site.CameOf.TheVariants.{Did, Refused, Fell}
+use Rattle.pvp_text.specs.declared.script.Statement.{Statement}
+use Rattle.pvp_text.specs.declared.script.Statement.TheVariants as line
+use Rattle.pvp_live.specs.declared.voices.Saying.{Saying}
+use Rattle.pvp_live.specs.declared.voices.Saying.TheVariants.{Normal, Asks, Runs, Nothing}
+use Rattle.pvp_live.specs.declared.standing.Standing.{Standing}
+use Rattle.pvp_live.specs.declared.standing.Standing.TheVariants.{Up, Down, Restarted}
+
+-- a normal site alone sends what names its view, but for the two messages of a change of view; a GETSTATE names the view that is asked, which may be a later one
+abbrev pub said_by : {C R O : Type 0} → MsgOf C R O → Saying
+said_by (Request number cmd) = Nothing
+said_by (Prepare view place done row) = Normal view
+said_by (PrepareOk view place) = Normal view
+said_by (Commit view done) = Normal view
+said_by (StartViewChange view known) = Asks view
+said_by (DoViewChange view last_normal done rows known) = Asks view
+said_by (StartView view done rows) = Normal view
+said_by (GetState view base) = Runs
+said_by (NewState view base done rows) = Normal view
+said_by (Recovery nonce) = Nothing
+said_by (RecoveryResponse view nonce state known) = Normal view
+said_by (Reply view number reply) = Normal view
+said_by (PayOrder order) = Runs
+
+-- a site that came up again, and beats and asks nobody for the state, has it
+abbrev pub after_beat : Standing → Bool → Standing
+after_beat (Up clock) asks = Up clock
+after_beat Down asks = Down
+after_beat (Restarted clock) true = Restarted clock
+after_beat (Restarted clock) false = Up clock
+
+-- after a line whose event the site took, at which clock, and whether it then asked for the state
+abbrev pub after_taken : Standing → Statement → ℕ → Bool → Standing
+after_taken before (line.Crash site) clock asks = Down
+after_taken before (line.Restart site) clock asks = Restarted clock
+after_taken before (line.Beat actor) clock asks = after_beat before asks
+after_taken before _ clock asks = before
+
+abbrev pub is_recovery : {C R O : Type 0} → MsgOf C R O → Bool
+is_recovery (Recovery nonce) = true
+is_recovery _ = false
+
+-- one of these asks for the state
+abbrev pub asks_for_state : {C R O : Type 0} → List (EnvelopeOf C R O) → Bool
+asks_for_state sent = list_any (λ envelope. is_recovery envelope.msg) sent
+
+-- WHAT IS KNOWN of a site once the event of a line came out so, at which clock: after a drop, and after a refusal that is not for its being down, what was known before
+abbrev pub standing_after : {C R O : Type 0} → Standing → Statement → ℕ → CameOf C R O → Standing
+standing_after before statement clock (Did sent None) = after_taken before statement clock (asks_for_state sent)
+standing_after before statement clock (Did sent (Some why)) = before
+standing_after before statement clock (Refused NotUp) = Down
+standing_after before statement clock (Refused _) = before
+standing_after before statement clock (Fell why cell) = Down

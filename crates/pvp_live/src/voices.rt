@@ -1,0 +1,129 @@
+//! What sites say of themselves on the streams of a run, heard while it runs. Nobody waits for who listens: what was heard
+//! stands in atomics, each of which only grows, so that whoever reads one after another reads nothing that is untrue.
+ghost use Rattle.std.specs.Prelude.{◌≡◌};
+ghost use Rattle.pvp_live.specs.Voices.{said_by};
+
+use pvp_wire::Message;
+use std::sync::atomic::{AtomicU64, Ordering};
+use vr_types::MsgOf;
+
+/// What a site's message says of where its sender stands.
+#[derive(Clone, Copy, Debug, PartialEq, Eq)]
+pub enum Saying {
+    /// It is normal in this view.
+    Normal(u32),
+    /// It asks for this view.
+    Asks(u32),
+    /// It runs, in whichever view.
+    Runs,
+    /// That it runs is not said: a recovering site says so too.
+    Nothing,
+}
+
+/// What a message says of where the site stands that sends it.
+pub fn said_by(msg: &Message) -> Saying
+    ensures { result ≡ said_by msg.now }
+{
+    match msg {
+        MsgOf::Prepare { view, .. }
+        | MsgOf::PrepareOk { view, .. }
+        | MsgOf::Commit { view, .. }
+        | MsgOf::StartView { view, .. }
+        | MsgOf::NewState { view, .. }
+        | MsgOf::RecoveryResponse { view, .. }
+        | MsgOf::Reply { view, .. } => Saying::Normal(*view),
+        MsgOf::StartViewChange { view, .. } => Saying::Asks(*view),
+        MsgOf::DoViewChange { view, .. } => Saying::Asks(*view),
+        MsgOf::GetState { .. } | MsgOf::PayOrder(_) => Saying::Runs,
+        MsgOf::Recovery { .. } | MsgOf::Request { .. } => Saying::Nothing,
+    }
+}
+
+/// What was heard of a site so far.
+#[derive(Clone, Copy, Debug, PartialEq, Eq)]
+pub struct Heard {
+    /// The greatest clock at which it said that it runs; 0 before it did.
+    pub clock: u64,
+    /// In which view it said that it is normal.
+    pub normal: Named,
+    /// For which view it asked.
+    pub asked: Named,
+}
+
+/// The greatest view that a site named, and the greatest clock at which it named one; 0 before it did.
+#[derive(Clone, Copy, Debug, PartialEq, Eq)]
+pub struct Named {
+    pub view: u64,
+    pub clock: u64,
+}
+
+/// The voice of a site.
+#[derive(Drop)]
+pub struct Voice {
+    clock: AtomicU64,
+    normal: Naming,
+    asked: Naming,
+}
+
+/// What becomes a `Named`.
+#[derive(Drop)]
+struct Naming {
+    view: AtomicU64,
+    clock: AtomicU64,
+}
+
+impl Naming {
+    fn new() -> Self {
+        Naming {
+            view: AtomicU64::new(0),
+            clock: AtomicU64::new(0),
+        }
+    }
+
+    fn hear(&self, view: u32, clock: u64) {
+        raise(&self.view, u64::from(view));
+        raise(&self.clock, clock);
+    }
+
+    fn named(&self) -> Named {
+        let clock = self.clock.load(Ordering::SeqCst);
+        let view = self.view.load(Ordering::SeqCst);
+        Named { view, clock }
+    }
+}
+
+impl Voice {
+    /// A voice of which nothing was heard.
+    pub fn new() -> Self {
+        Voice {
+            clock: AtomicU64::new(0),
+            normal: Naming::new(),
+            asked: Naming::new(),
+        }
+    }
+
+    /// Hears a message that the site sent at a clock of its own.
+    pub fn hear(&self, clock: u64, msg: &Message) {
+        match said_by(msg) {
+            Saying::Normal(view) => self.normal.hear(view, clock),
+            Saying::Asks(view) => self.asked.hear(view, clock),
+            Saying::Runs => {}
+            Saying::Nothing => return,
+        }
+        raise(&self.clock, clock);
+    }
+
+    /// What was heard so far.
+    pub fn heard(&self) -> Heard {
+        Heard {
+            clock: self.clock.load(Ordering::SeqCst),
+            normal: self.normal.named(),
+            asked: self.asked.named(),
+        }
+    }
+}
+
+/// Raises a number, where it is lower.
+fn raise(word: &AtomicU64, number: u64) {
+    word.fetch_max(number, Ordering::SeqCst);
+}
