@@ -1,138 +1,15 @@
 //! A request that goes through two of three sites, audited; and events that stray.
-use fixtures::setup::three_currencies;
+use crate::common::{Place, first_letter, judged};
 use headline::ClientEvent;
-use pvp_audit::{Verdict, Why, audit};
-use pvp_book::Book;
-use pvp_parties::{
-    Party, PartyCell, PartyEvent, PartyOutcome, PartySeat, are_in_order, client_cell, node_cell,
-    site_cell,
-};
-use pvp_peers::Served;
-use pvp_rooms::{Answer, CameOf, Closed, Gate, Input};
+use pvp_audit::{Verdict, Why};
+use pvp_parties::{Party, PartyEvent, PartyOutcome};
+use pvp_rooms::Closed;
 use pvp_types::{Cmd, Reply};
-use pvp_wire::Stamp;
 use rtgs_node::NodeEvent;
 use std::alloc::Global;
 use std::sync::Wait;
 use std::test::Fail;
-use vr_types::{Envelope, EventOf, MemCell, MsgOf};
-
-/// A gate that anyone may pass.
-struct Open;
-
-impl Gate for Open {
-    fn enter(&self, _actor: u16) {}
-
-    fn leave(&self, _actor: u16) {}
-}
-
-/// An actor and its only seat.
-#[derive(Drop)]
-struct Place {
-    cell: PartyCell,
-    seats: Vec<PartySeat>,
-}
-
-impl Place {
-    fn client(alloc: Global) -> Result<Self, Fail> {
-        let (cell, seats) = client_cell(alloc, &three_currencies(alloc)?, 0, 1)?;
-        Ok(Place { cell, seats })
-    }
-
-    fn node(alloc: Global) -> Result<Self, Fail> {
-        let setup = three_currencies(alloc)?;
-        if setup.currency_count() == 0 {
-            return Err(Fail::new("no currency"));
-        }
-        let (cell, seats) = node_cell(alloc, &setup, 0, 1)?;
-        Ok(Place { cell, seats })
-    }
-
-    fn site(alloc: Global, me: u16) -> Result<Self, Fail> {
-        let setup = three_currencies(alloc)?;
-        if me > 2 * setup.faults() {
-            return Err(Fail::new("no such site"));
-        }
-        let (cell, seats) = site_cell(alloc, &setup, me, MemCell::new(), 1)?;
-        Ok(Place { cell, seats })
-    }
-
-    /// Posts an event, and answers the clock at which it was taken and how it came out.
-    fn post<R: Wait + AllocGlobal>(
-        &mut self,
-        rt: &R,
-        event: PartyEvent,
-        stamp: Option<Stamp>,
-    ) -> Result<(u64, PartyOutcome), Fail> {
-        let Some(seat) = self.seats.first_mut() else {
-            return Err(Fail::new("a seat"));
-        };
-        match self
-            .cell
-            .post(rt, rt.alloc(), seat, Input { event, stamp }, &Open)
-        {
-            Answer::Done { clock, outcome } => Ok((clock, outcome)),
-            Answer::NoMemory => Err(Fail::new("memory")),
-            Answer::ClockSpent => Err(Fail::new("clock")),
-        }
-    }
-
-    /// Delivers the first envelope that an actor sent at a clock.
-    fn deliver<R: Wait + AllocGlobal>(
-        &mut self,
-        rt: &R,
-        actor: u16,
-        took: &(u64, PartyOutcome),
-    ) -> Result<(u64, PartyOutcome), Fail> {
-        self.deliver_as(rt, actor, took, 0)
-    }
-
-    /// Delivers the first envelope that an actor sent at a clock, stamped as the one of this place.
-    fn deliver_as<R: Wait + AllocGlobal>(
-        &mut self,
-        rt: &R,
-        actor: u16,
-        took: &(u64, PartyOutcome),
-        index: u32,
-    ) -> Result<(u64, PartyOutcome), Fail> {
-        let envelope = first_letter(rt.alloc(), &took.1)?;
-        let stamp = Stamp {
-            actor,
-            clock: took.0,
-            index,
-        };
-        self.post(rt, Party::deliver(envelope), Some(stamp))
-    }
-
-    fn close(self) -> Result<Closed<Party>, Fail> {
-        let Place { cell, seats } = self;
-        match cell.close(seats) {
-            Ok(closed) => Ok(closed),
-            Err(_) => Err(Fail::new("the only seat")),
-        }
-    }
-}
-
-/// The first envelope that an outcome sent.
-fn first_letter(alloc: Global, outcome: &PartyOutcome) -> Result<Envelope<Book>, Fail> {
-    let found = match outcome {
-        PartyOutcome::OfSite(CameOf::Did { sent, .. }) => sent.get(0),
-        PartyOutcome::OfClient(Ok(sent)) => sent.get(0),
-        _ => None,
-    };
-    match found {
-        Some(envelope) => Ok(envelope.copy(alloc)?),
-        None => Err(Fail::new("an envelope")),
-    }
-}
-
-/// What an audit says of actors in order of their numbers.
-fn judged(alloc: Global, closed: &[Closed<Party>]) -> Result<Verdict, Fail> {
-    if !are_in_order(closed) {
-        return Err(Fail::new("order"));
-    }
-    Ok(audit(alloc, closed))
-}
+use vr_types::{EventOf, MsgOf};
 
 /// The operator, the primary and one backup.
 #[derive(Drop)]

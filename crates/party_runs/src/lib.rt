@@ -2,4 +2,8 @@
 #![tactic(auto)]
 
 #[cfg(test)]
+mod altered;
+#[cfg(test)]
 mod bank;
+#[cfg(test)]
+mod common;

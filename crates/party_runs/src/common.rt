@@ -1,0 +1,147 @@
+//! Actors of a bank with their seats, and what an audit says of what they left.
+use fixtures::setup::three_currencies;
+use pvp_audit::{Verdict, audit};
+use pvp_book::Book;
+use pvp_parties::{
+    Party, PartyCell, PartyEvent, PartyOutcome, PartySeat, are_in_order, client_cell, node_cell,
+    site_cell,
+};
+use pvp_peers::Served;
+use pvp_rooms::{Answer, CameOf, Closed, Gate, Input};
+use pvp_wire::Stamp;
+use std::alloc::Global;
+use std::sync::Wait;
+use std::test::Fail;
+use vr_types::{Envelope, MemCell};
+
+/// A gate that anyone may pass.
+pub struct Open;
+
+impl Gate for Open {
+    fn enter(&self, _actor: u16) {}
+
+    fn leave(&self, _actor: u16) {}
+}
+
+/// An actor and its seats.
+#[derive(Drop)]
+pub struct Place {
+    cell: PartyCell,
+    seats: Vec<PartySeat>,
+}
+
+impl Place {
+    pub fn client(alloc: Global) -> Result<Self, Fail> {
+        let (cell, seats) = client_cell(alloc, &three_currencies(alloc)?, 0, 1)?;
+        Ok(Place { cell, seats })
+    }
+
+    pub fn node(alloc: Global) -> Result<Self, Fail> {
+        let setup = three_currencies(alloc)?;
+        if setup.currency_count() == 0 {
+            return Err(Fail::new("no currency"));
+        }
+        let (cell, seats) = node_cell(alloc, &setup, 0, 1)?;
+        Ok(Place { cell, seats })
+    }
+
+    pub fn site(alloc: Global, me: u16) -> Result<Self, Fail> {
+        Place::site_with_seats(alloc, me, 1)
+    }
+
+    pub fn site_with_seats(alloc: Global, me: u16, seats: u16) -> Result<Self, Fail> {
+        let setup = three_currencies(alloc)?;
+        if me > 2 * setup.faults() {
+            return Err(Fail::new("no such site"));
+        }
+        let (cell, seats) = site_cell(alloc, &setup, me, MemCell::new(), seats)?;
+        Ok(Place { cell, seats })
+    }
+
+    /// Posts an event from the first seat, and answers the clock at which it was taken and how it came out.
+    pub fn post<R: Wait + AllocGlobal>(
+        &mut self,
+        rt: &R,
+        event: PartyEvent,
+        stamp: Option<Stamp>,
+    ) -> Result<(u64, PartyOutcome), Fail> {
+        self.post_from(rt, 0, event, stamp)
+    }
+
+    /// The same from any seat.
+    pub fn post_from<R: Wait + AllocGlobal>(
+        &mut self,
+        rt: &R,
+        seat: usize,
+        event: PartyEvent,
+        stamp: Option<Stamp>,
+    ) -> Result<(u64, PartyOutcome), Fail> {
+        let Some(seat) = self.seats.get_mut(seat) else {
+            return Err(Fail::new("a seat"));
+        };
+        match self
+            .cell
+            .post(rt, rt.alloc(), seat, Input { event, stamp }, &Open)
+        {
+            Answer::Done { clock, outcome } => Ok((clock, outcome)),
+            Answer::NoMemory => Err(Fail::new("memory")),
+            Answer::ClockSpent => Err(Fail::new("clock")),
+        }
+    }
+
+    /// Delivers the first envelope that an actor sent at a clock.
+    pub fn deliver<R: Wait + AllocGlobal>(
+        &mut self,
+        rt: &R,
+        actor: u16,
+        took: &(u64, PartyOutcome),
+    ) -> Result<(u64, PartyOutcome), Fail> {
+        self.deliver_as(rt, actor, took, 0)
+    }
+
+    /// Delivers the first envelope that an actor sent at a clock, stamped as the one of this place.
+    pub fn deliver_as<R: Wait + AllocGlobal>(
+        &mut self,
+        rt: &R,
+        actor: u16,
+        took: &(u64, PartyOutcome),
+        index: u32,
+    ) -> Result<(u64, PartyOutcome), Fail> {
+        let envelope = first_letter(rt.alloc(), &took.1)?;
+        let stamp = Stamp {
+            actor,
+            clock: took.0,
+            index,
+        };
+        self.post(rt, Party::deliver(envelope), Some(stamp))
+    }
+
+    pub fn close(self) -> Result<Closed<Party>, Fail> {
+        let Place { cell, seats } = self;
+        match cell.close(seats) {
+            Ok(closed) => Ok(closed),
+            Err(_) => Err(Fail::new("all seats")),
+        }
+    }
+}
+
+/// The first envelope that an outcome sent.
+pub fn first_letter(alloc: Global, outcome: &PartyOutcome) -> Result<Envelope<Book>, Fail> {
+    let found = match outcome {
+        PartyOutcome::OfSite(CameOf::Did { sent, .. }) => sent.get(0),
+        PartyOutcome::OfClient(Ok(sent)) => sent.get(0),
+        _ => None,
+    };
+    match found {
+        Some(envelope) => Ok(envelope.copy(alloc)?),
+        None => Err(Fail::new("an envelope")),
+    }
+}
+
+/// What an audit says of actors in order of their numbers.
+pub fn judged(alloc: Global, closed: &[Closed<Party>]) -> Result<Verdict, Fail> {
+    if !are_in_order(closed) {
+        return Err(Fail::new("order"));
+    }
+    Ok(audit(alloc, closed))
+}
