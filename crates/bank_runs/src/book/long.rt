@@ -77,34 +77,52 @@ fn sent(out: u32) -> Option<(u16, PayOrder)> {
     Some((EUR_NODE, order))
 }
 
+/// How many orders are open, and which are the first, the one at a place, and the one after it.
+fn has_open(rt: &impl Abort, book: &Book, count: usize, orders: [Option<(u16, PayOrder)>; 3]) {
+    assert_eq!(rt; book.open_count(), count);
+    let last = count.wrapping_sub(1);
+    assert_eq!(rt; [book.open(0), book.open(last), book.open(count)], orders);
+}
+
+/// How many pairs wait, which is the last of them, and how many are settled and rescinded.
+fn has_pairs(rt: &impl Abort, book: &Book, queued: usize, last: Option<u32>, ended: [u32; 2]) {
+    assert_eq!(rt; book.queued(), queued);
+    assert_eq!(rt; book.queue_at(queued.wrapping_sub(1)), last);
+    let states = [PairState::Settled, PairState::Rescinded];
+    assert_eq!(rt; states.map(|state| book.pairs(state)), ended);
+}
+
+/// What came to ALFA and BETA in the end, and to the bank.
+fn has_sums(rt: &impl Abort, book: &Book) {
+    let balances = [(ALFA, EUR), (BETA, EUR), (ALFA, USD), (BETA, USD)].map(|(
+        member,
+        ccy,
+    )| book.balance(member, ccy));
+    assert_eq!(rt; balances, [44_500, 500, 500, 500]);
+    assert_eq!(rt; book.figure(EUR), 45_000);
+    assert_eq!(rt; book.value(ALFA), 47_002_500_000);
+}
+
+/// 60,000 rows, and what the book has on the way and in the end.
+fn play(rt: &impl Abort, book: &mut Book) -> Result<(), Fail> {
+    pay_in_and_out(rt, book, 20_000)?;
+    has_open(rt, book, 20_000, [sent(1), sent(20_000), None]);
+    pay_even(rt, book, 10_000)?;
+    return_down(rt, book, 19_999, 5_000)?;
+    has_open(rt, book, 5_000, [sent(1), sent(9_999), None]);
+    agree(rt, book, 1_000)?;
+    rescind_even(rt, book, 500)?;
+    has_pairs(rt, book, 500, Some(999), [0, 500]);
+    walk(rt, book, 500, 1)?;
+    walk(rt, book, 500, 0)?;
+    assert_eq!(rt; book.applied(), 60_000);
+    has_pairs(rt, book, 0, None, [500, 500]);
+    has_sums(rt, book);
+    Ok(())
+}
+
 #[test]
 fn keeps_60_000_rows(rt: HostRuntime) -> Result<(), Fail> {
     let mut book = book(rt.alloc())?;
-    pay_in_and_out(&rt, &mut book, 20_000)?;
-    assert_eq!(rt; book.open_count(), 20_000);
-    assert_eq!(rt; book.open(19_999), sent(20_000));
-    pay_even(&rt, &mut book, 10_000)?;
-    return_down(&rt, &mut book, 19_999, 5_000)?;
-    assert_eq!(rt; book.open_count(), 5_000);
-    assert_eq!(rt; book.open(0), sent(1));
-    assert_eq!(rt; book.open(4_999), sent(9_999));
-    assert_eq!(rt; book.open(5_000), None);
-    assert_eq!(rt; book.orders(EUR), 20_000);
-    agree(&rt, &mut book, 1_000)?;
-    rescind_even(&rt, &mut book, 500)?;
-    assert_eq!(rt; book.queued(), 500);
-    assert_eq!(rt; book.queue_at(499), Some(999));
-    walk(&rt, &mut book, 500, 1)?;
-    walk(&rt, &mut book, 500, 0)?;
-    assert_eq!(rt; book.applied(), 60_000);
-    assert_eq!(rt; book.queued(), 0);
-    assert_eq!(rt; book.pairs(PairState::Settled), 500);
-    assert_eq!(rt; book.pairs(PairState::Rescinded), 500);
-    assert_eq!(rt; book.balance(ALFA, EUR), 44_500);
-    assert_eq!(rt; book.balance(BETA, EUR), 500);
-    assert_eq!(rt; book.balance(ALFA, USD), 500);
-    assert_eq!(rt; book.balance(BETA, USD), 500);
-    assert_eq!(rt; book.figure(EUR), 45_000);
-    assert_eq!(rt; book.value(ALFA), 47_002_500_000);
-    Ok(())
+    play(&rt, &mut book)
 }
