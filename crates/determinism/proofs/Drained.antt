@@ -19,9 +19,9 @@ use Rattle.pvp_trace.specs.Attempts.{Attempts}
 use Rattle.pvp_play.specs.Player.{TriesIn, is_open, open_number, open_after, AreDelivered}
 use Rattle.pvp_play.proofs.Draining.{drop-drop, drop-length, numbers, open-more}
 use Rattle.pvp_play.proofs.Growing.{Grows, applies-grow}
-use Rattle.determinism.specs.Unhindered.{is_hindered, AreFree}
+use Rattle.pvp_world.specs.Refusals.{turn_refuses}
+use Rattle.determinism.specs.Unhindered.{is_hindered, AreFree, refused_as}
 use Rattle.determinism.specs.Twins.{AreTwins}
-use Rattle.determinism.specs.Refusals.{turn_refuses, refused_as}
 use Rattle.determinism.proofs.Outcome.{refused-bank, refused-stays, twin-post, twins-go-on, attempt-once}
 
 -- NUMBERS IN ORDER

@@ -4,5 +4,4 @@ mod Dropped
 mod OneText
 mod Outcome
 mod Printed
-mod Refused
 mod Twinned

@@ -20,30 +20,12 @@ use Rattle.pvp_world.specs.declared.fault.WorldFault.TheVariants as fault
 use Rattle.pvp_world.specs.declared.report.Report.{Report}
 use Rattle.pvp_trace.specs.declared.attempt.Attempt.{Attempt}
 use Rattle.pvp_trace.specs.Attempts.{Attempts, fell_by}
-use Rattle.determinism.specs.Unhindered.{hinders, hinders_site, is_hindered}
-use Rattle.determinism.specs.Refusals.{bank_refuses, turn_refuses, refused_as}
+use Rattle.pvp_world.specs.Refusals.{bank_refuses, turn_refuses, hinders, hinders_site}
+use Rattle.determinism.specs.Unhindered.{is_hindered, refused_as}
 use Rattle.determinism.specs.Twins.{AreTwins}
 use Rattle.determinism.proofs.Banks.{one-bank, was-at, after-list}
 use Rattle.determinism.proofs.Dropped.{dropped-once}
-use Rattle.determinism.proofs.Refused.{taken-none, why-told}
-
-fall-hinders : (why : SiteFault) → hinders_site why ≡ false → is_fall why ≡ false
-fall-hinders site.NoMemory had = had
-fall-hinders site.CellFault had = had
-fall-hinders site.NotUp had = refl
-fall-hinders site.AlreadyUp had = refl
-fall-hinders site.ViewsSpent had = refl
-fall-hinders site.BootsSpent had = refl
-fall-hinders site.NotMine had = refl
-
-no-fall : (why : WorldFault) → hinders why ≡ false → is_world_fall why ≡ false
-no-fall (fault.Site why) had = fall-hinders why had
-no-fall fault.NoSuchEnvelope had = refl
-no-fall fault.NoSuchActor had = refl
-no-fall fault.Outstanding had = refl
-no-fall (fault.Node why) had = refl
-no-fall fault.Spent had = refl
-no-fall fault.NoMemory had = refl
+use Rattle.pvp_world.proofs.Refused.{taken-none, why-told, fall-hinders, no-fall}
 
 module _ {B : Type 0} (held : B → Boot) where
   -- the reason that is told is the bank's

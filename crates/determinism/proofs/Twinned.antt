@@ -38,7 +38,7 @@ use Rattle.determinism.specs.Twins.{AreTwins, AreTwinPlayers}
 use Rattle.determinism.specs.Plays.{ActIsFree, TurnsAreFree}
 use Rattle.determinism.proofs.Outcome.{twin-bank, twin-post, attempt-once}
 use Rattle.determinism.proofs.Drained.{drain-twins}
-use Rattle.determinism.proofs.Refused.{within}
+use Rattle.pvp_world.proofs.Refused.{within}
 
 module _ {B : Type 0} (c : Cell B) where
   -- WHAT THE TWO WORLDS HAVE ALIKE

@@ -1,4 +1,3 @@
 pub mod Plays
-pub mod Refusals
 pub mod Twins
 pub mod Unhindered

@@ -13,8 +13,8 @@ ghost use Rattle.pvp_world.specs.declared.fault.WorldFault.{WorldFault};
 ghost use Rattle.pvp_world.specs.declared.report.Report.{Report};
 ghost use Rattle.pvp_play.specs.declared.cells.Fail.{Fail};
 ghost use Rattle.pvp_play.specs.declared.notes.Telling.{Telling};
-ghost use Rattle.determinism.specs.Unhindered.{is_hindered};
-ghost use Rattle.determinism.specs.Refusals.{refused_as, bank_refuses};
+ghost use Rattle.pvp_world.specs.Refusals.{bank_refuses};
+ghost use Rattle.determinism.specs.Unhindered.{is_hindered, refused_as};
 ghost use Rattle.determinism.specs.Twins.{AreTwins};
 ghost use Rattle.determinism.specs.Plays.{FreePlay};
 

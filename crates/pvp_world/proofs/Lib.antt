@@ -18,3 +18,7 @@ mod Saves
 mod Proved
 -- many steps, one after another
 mod Many
+-- each reason that a world has is its bank's
+pub mod Refused
+-- an allowed step is refused only where memory is
+pub mod Allowed

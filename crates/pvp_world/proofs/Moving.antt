@@ -40,8 +40,8 @@ use Rattle.pvp_world.specs.declared.fault.WorldFault.TheVariants.{Site as OfSite
 use Rattle.pvp_world.specs.declared.report.Report.{Report}
 use Rattle.pvp_world.specs.Client as client
 use Rattle.pvp_world.specs.World.{Shown, world_of, AreEach, IsSite, IsNode, IsClient, ShowsBank, IsAt}
-use Rattle.pvp_world.specs.Steps.{IsReport, Moves, IsTaken, HasFallen, IsRefused, IsWhy, is_fall, is_world_fall, told_as}
-use Rattle.pvp_world.specs.Serving.{IsServed, IsUnserved, IsDown, IsKept}
+use Rattle.pvp_world.specs.Steps.{IsReport, Moves, IsOverSaved, IsTaken, HasFallen, IsRefused, IsWhy, is_fall, is_world_fall, told_as}
+use Rattle.pvp_world.specs.Serving.{IsServed, IsUnserved, IsDown, IsKept, HoldsSaved}
 use Rattle.pvp_world.proofs.Sites.{refusal-stays}
 
 -- one event at a turn
@@ -191,6 +191,17 @@ module _ {B : Type 0} (held : B → Boot) (setup : Setup) (first : List Boot) (s
           post = kept ∙ at.shows.post;
         })
         refl refl noted
+
+    -- over what its event saves
+    pub down-saved : (i : ℕ) (event : EventOf Cmd Answer PaymentOrder) (v new : replica.Shown Cmd Setup B) (posted : List Envelope) (trailed : List Move) (cell : Boot)
+        (is : turn post step ≡ Some (OfSite i event)) (there : slice_get sites i ≡ Some v) (cell_is : cell ≡ held new.cell)
+        (goes : (x : Site Cmd) (choose : Choice Cmd) → IsRight (faults setup) choose → IsSite held setup i v x → IsDown held setup choose i x event new)
+        (kept : posted ≡ post) (noted : trailed ≡ trail ++ Falls step cell ∷ []) → HoldsSaved held setup i v new event
+        → IsOverSaved held old (world_of setup first (slice_set sites i new) nodes clients posted trailed) step cell (site-down i event v new posted trailed cell is there cell_is goes kept noted)
+    unfolding site-down moved
+    down-saved i event v new posted trailed cell is there cell_is goes kept noted saves =
+        let x = other-there sites bank.sites i v at.shows.sites.count there in
+        cell_is ∙ saves x.0 choose at.list.right (at.shows.sites.each i v x.0 there x.1)
 
     pub site-fell : (i : ℕ) (event : EventOf Cmd Answer PaymentOrder) (v new : replica.Shown Cmd Setup B) (posted : List Envelope) (trailed : List Move) (fault : SiteFault) (cell : Boot)
         → turn post step ≡ Some (OfSite i event) → slice_get sites i ≡ Some v → is_fall fault ≡ true → cell ≡ held new.cell

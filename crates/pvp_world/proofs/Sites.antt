@@ -162,12 +162,20 @@ module _ {H B : Type 0} (m : Ghosts H Cmd Answer PaymentOrder Setup) (c : Cell B
           }
       by None at = falls at (subst (λ (r : Result (OutcomeOf Cmd Answer PaymentOrder) SiteFault). IfErr r (λ fault. (choose : Choice Cmd) (acks : List Ack) → IsRight old.f choose → SumUp old.volatile.acked acks → Falls c old new (site_shown c.held old acks) (site_step choose old.f old.me (site_shown c.held old acks) event) fault)) answered (handles.fall at) choose x.collected.acks right_here is.acks)
 
+  -- its cell then holds what the event saves
+  pub saved-after : (out : OutcomeOf Cmd Answer PaymentOrder) (mid : replica.Shown Cmd Setup B) (result : Result (OutcomeOf Cmd Answer PaymentOrder) SiteFault)
+      → Handles m c old mid event result → result ≡ Ok out → new ≡ record mid { volatile = lost }
+      → c.held new.cell ≡ step.site.cell
+  saved-after out mid result handles answered fallen =
+      ap (λ (v : replica.Shown Cmd Setup B). c.held v.cell) fallen
+      ∙ sym (ap (λ (s : Step Cmd Answer PaymentOrder). s.site.cell) (sym same) ∙ ap (λ (y : Site Cmd). y.cell) (done out mid result handles answered).site)
+
   -- a site that handled the event, and then fell
   pub down-after : (out : OutcomeOf Cmd Answer PaymentOrder) (mid : replica.Shown Cmd Setup B) (result : Result (OutcomeOf Cmd Answer PaymentOrder) SiteFault)
       → Handles m c old mid event result → result ≡ Ok out → new ≡ record mid { volatile = lost }
       → IsDown c.held setup choose i x event new
   down-after out mid result handles answered fallen = record {
-    falls = record { allowed = allowed; down = inr (ap (λ (k : Boot). over k Down) (cell_is ∙ sym held_is)) };
+    falls = record { allowed = allowed; down = inr (ap (λ (k : Boot). over k Down) (saved-after out mid result handles answered fallen)) };
     site = record {
       f = ap (λ (v : replica.Shown Cmd Setup B). v.f) fallen ∙ does.f ∙ is.f;
       me = ap (λ (v : replica.Shown Cmd Setup B). v.me) fallen ∙ does.me ∙ is.me;
@@ -182,9 +190,6 @@ module _ {H B : Type 0} (m : Ghosts H Cmd Answer PaymentOrder Setup) (c : Cell B
 
       allowed : is_refused step.ending ≡ false
       allowed = ap (λ (s : Step Cmd Answer PaymentOrder). is_refused s.ending) (sym same) ∙ ap (λ (e : Ending). is_refused e) does.ending ∙ ended-allowed out.dropped
-
-      held_is : step.site.cell ≡ c.held mid.cell
-      held_is = ap (λ (s : Step Cmd Answer PaymentOrder). s.site.cell) (sym same) ∙ ap (λ (y : Site Cmd). y.cell) does.site
 
       cell_is : c.held new.cell ≡ c.held mid.cell
       cell_is = ap (λ (v : replica.Shown Cmd Setup B). c.held v.cell) fallen

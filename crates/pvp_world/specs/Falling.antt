@@ -3,15 +3,17 @@ use Rattle.std.specs.Prelude.{◌≡◌, ◌≢◌, ◌⊎◌, Bool, true, false
 use Rattle.pvp_types.specs.declared.setup.Setup.{Setup}
 use Rattle.pvp_types.specs.declared.command.Cmd.{Cmd}
 use Rattle.vr_types.specs.declared.cell.Boot.{Boot}
+use Rattle.vr_types.specs.declared.cell.BootCell.{Ghosts as Cell}
+use Rattle.vr_types.specs.declared.event.SiteFault.TheVariants.{CellFault}
 use Rattle.vr_site.specs.Replica as replica
 use Rattle.headline.specs.declared.step.Step.{Step}
 use Rattle.headline.specs.declared.step.Move.TheVariants.{Falls}
 use Rattle.headline.specs.declared.step.Turn.{Turn}
 use Rattle.headline.specs.declared.step.Turn.TheVariants.{OfSite, OfNode, OfClient}
 use Rattle.pvp_world.specs.World.{Shown}
-use Rattle.pvp_world.specs.Steps.{Moves, InTurn, IsWhy, is_world_fall}
+use Rattle.pvp_world.specs.Steps.{Moves, InTurn, IsOverSaved, IsWhy, AreReliable, is_world_fall}
 use Rattle.pvp_world.specs.declared.fault.WorldFault.{WorldFault}
-use Rattle.pvp_world.specs.declared.fault.WorldFault.TheVariants.{NoSuchActor}
+use Rattle.pvp_world.specs.declared.fault.WorldFault.TheVariants.{NoSuchActor, Site as OfSiteFault}
 use Rattle.pvp_world.specs.declared.fault.FallFault.{FallFault}
 use Rattle.pvp_world.specs.declared.fault.FallFault.TheVariants.{Step as OfStep, Elsewhere}
 
@@ -32,6 +34,11 @@ pub record FellElsewhere {B : Type 0} (held : B → Boot) (old new : Shown B) (s
   pub was_another : InTurn old step (HoldsAnother held old cell)
   pub moves : Moves held old new (Falls step other)
 
+-- and that other value is what the step saves
+pub record FellAsSaved {B : Type 0} (held : B → Boot) (old new : Shown B) (step : Step) (cell : Boot) : Type 0 where
+  pub fell : FellElsewhere held old new step cell
+  pub saved : IsOverSaved held old new step fell.other fell.moves
+
 -- why the step has no fall: as it is not taken, or it is no site's
 abbrev pub IsWhyNot : {B : Type 0} → (B → Boot) → Shown B → Step → WorldFault → Type 0
 IsWhyNot held world step fault = IsWhy held world step fault ⊎ ((fault ≡ NoSuchActor) × InTurn world step (λ t. is_of_site t ≡ false))
@@ -49,5 +56,9 @@ is_miss (OfStep fault) = is_world_fall fault
 -- THE FALL IS THE MOVE, or there is none, or it is another
 abbrev pub FallsTo : {B : Type 0} → (B → Boot) → Shown B → Shown B → Step → Boot → Result (Unit {0}) FallFault → Type 0
 FallsTo held old new step cell (Ok _) = Moves held old new (Falls step cell)
-FallsTo held old new step cell (Err Elsewhere) = FellElsewhere held old new step cell
+FallsTo held old new step cell (Err Elsewhere) = FellAsSaved held old new step cell
 FallsTo held old new step cell (Err (OfStep fault)) = IsUnfallen held old new step cell fault
+
+-- where no save of a cell fails, none did
+abbrev pub KeepsReliable : {B : Type 0} → Cell B → Shown B → Shown B → Result (Unit {0}) FallFault → Type 0
+KeepsReliable c old new result = AreReliable c old → AreReliable c new × (result ≢ Err (OfStep (OfSiteFault CellFault)))

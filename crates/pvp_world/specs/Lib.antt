@@ -4,3 +4,4 @@ pub mod Serving
 pub mod Steps
 pub mod World
 pub mod Falling
+pub mod Refusals

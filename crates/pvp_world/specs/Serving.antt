@@ -52,6 +52,12 @@ GoesDown held setup i old new event result =
     (x : Site Cmd) (choose : Choice Cmd) → IsRight (faults setup) choose → IsSite held setup i old x
     → MatchResult result (λ _. IsDown held setup choose i x event new) (IsKept setup i x event old new)
 
+-- its cell then holds what the event saves: so of each site of a bank that the replica shows
+abbrev pub HoldsSaved : {B : Type 0} → (B → Boot) → Setup → ℕ → replica.Shown Cmd Setup B → replica.Shown Cmd Setup B → EventOf Cmd Answer PaymentOrder → Type 0
+HoldsSaved held setup i old new event =
+    (x : Site Cmd) (choose : Choice Cmd) → IsRight (faults setup) choose → IsSite held setup i old x
+    → held new.cell ≡ (site_step {R = Answer} {O = PaymentOrder} choose (faults setup) i x event).site.cell
+
 -- it refuses, and is as it was; or it fell
 pub record IsUnserved {B : Type 0} (held : B → Boot) (setup : Setup) (choose : Choice Cmd) (i : ℕ) (x : Site Cmd) (event : EventOf Cmd Answer PaymentOrder) (old new : replica.Shown Cmd Setup B) (post posted : List Envelope) (fault : SiteFault) : Type 0 where
   pub sent : posted ≡ post

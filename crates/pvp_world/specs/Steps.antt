@@ -151,6 +151,18 @@ ending_in setup choose f bank (OfSite i event) cell after falls = (site_step {R 
 ending_in setup choose f bank (OfNode c event) cell after falls = absurd falls
 ending_in setup choose f bank (OfClient k event) cell after falls = absurd falls
 
+-- what its event would have saved
+abbrev pub saved_in : (setup : Setup) (choose : Choice Cmd) (f : ℕ) (bank : Bank) (t : Turn) (cell : Boot) (after : Bank) → FallsBy setup choose f bank t cell after → Boot
+saved_in setup choose f bank (OfSite i event) cell after falls = (site_step {R = Answer} {O = PaymentOrder} choose f i falls.before event).site.cell
+saved_in setup choose f bank (OfNode c event) cell after falls = absurd falls
+saved_in setup choose f bank (OfClient k event) cell after falls = absurd falls
+
+-- it fell over what its event saves
+abbrev pub IsOverSaved : {B : Type 0} (held : B → Boot) (old new : Shown B) (step : Step) (cell : Boot) → Moves held old new (Falls step cell) → Type 0
+IsOverSaved held old new step cell moves =
+    let by : Fails old.setup moves.list.choose (faults old.setup) moves.list.bank step cell moves.after = moves.leads in
+    cell ≡ saved_in old.setup moves.list.choose (faults old.setup) moves.list.bank by.turn_is cell moves.after by.falls
+
 -- A FALL, which is the move: only of a site that would handle its event, and neither drop nor refuse it, and by no crash
 pub record HasFallen {B : Type 0} (held : B → Boot) (old new : Shown B) (step : Step) : Type 0 where
   pub cell : Boot

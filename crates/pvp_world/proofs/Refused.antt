@@ -10,6 +10,7 @@ use Rattle.pvp_types.specs.Setup.{faults}
 use Rattle.vr_types.specs.declared.cell.Boot.{Boot}
 use Rattle.vr_types.specs.declared.event.EventOf.{EventOf}
 use Rattle.vr_types.specs.declared.event.SiteFault.{SiteFault}
+use Rattle.vr_types.specs.declared.event.SiteFault.TheVariants as site_fault
 use Rattle.vr_types.specs.Choice.{Choice}
 use Rattle.vr_types.specs.Handling.{refusal, site_step, is_refused, refused_or, on_event}
 use Rattle.vr_types.specs.Site.{Site}
@@ -29,7 +30,7 @@ use Rattle.headline.specs.declared.step.Turn.{Turn}
 use Rattle.headline.specs.declared.step.Turn.TheVariants.{OfSite, OfNode, OfClient}
 use Rattle.headline.specs.Client.{Client, client_step}
 use Rattle.headline.specs.Bank.{Bank, turn}
-use Rattle.headline.specs.Legal.{Acts, LegalList}
+use Rattle.headline.specs.Legal.{Acts, FallsBy}
 use Rattle.headline.proofs.Basics.{none-some, some-same}
 use Rattle.pvp_world.specs.Client as client
 use Rattle.pvp_world.specs.World.{Shown, AreEach, IsSite, IsNode, IsClient, ShowsBank, IsAt}
@@ -37,8 +38,8 @@ use Rattle.pvp_world.specs.Steps.{Moves, IsTaken, IsRefused, IsTurn, IsWhy, Site
 use Rattle.pvp_world.specs.declared.fault.WorldFault.{WorldFault}
 use Rattle.pvp_world.specs.declared.fault.WorldFault.TheVariants as fault
 use Rattle.pvp_world.specs.declared.report.Report.{Report}
-use Rattle.determinism.specs.Unhindered.{hinders, hinders_site, hinders_node, is_hindered}
-use Rattle.determinism.specs.Refusals.{site_refuses, node_refuses, client_refuses, turn_refuses, bank_refuses}
+use Rattle.pvp_world.specs.Falling.{is_of_site}
+use Rattle.pvp_world.specs.Refusals.{site_refuses, node_refuses, client_refuses, turn_refuses, bank_refuses, hinders, hinders_site, hinders_node}
 
 past : {A : Type 0} (xs : List A) (i : ℕ) → nat_lt i (length xs) ≡ false → slice_get xs i ≡ None
 past xs i off = slice_get_past xs i (grind (arith, nat_tests))
@@ -67,6 +68,18 @@ module _ (setup : Setup) (choose : Choice Cmd) (bank : Bank) where
       ap (λ (o : Option Node). node_refuses setup (faults setup) c event o) a.is_there ∙ ap (λ (o : Option NodeFault). option_map (λ why. fault.Node why) o) a.allowed
   taken-none (OfClient k event) after a =
       ap (λ (o : Option Client). client_refuses (faults setup) k event o) a.is_there ∙ ap (λ (o : Option ClientFault). option_map told_as o) a.allowed
+
+  pub fallen-none : (t : Turn) (cell : Boot) (after : Bank) → FallsBy setup choose (faults setup) bank t cell after → turn_refuses setup (faults setup) bank (Some t) ≡ None
+  fallen-none (OfSite i event) cell after a =
+      ap (λ (o : Option (Site Cmd)). site_refuses (faults setup) i event o) a.is_there
+      ∙ ap (λ (o : Option SiteFault). option_map (λ why. fault.Site why) o) (allowed-none choose (faults setup) i a.before event a.falls.allowed)
+  fallen-none (OfNode c event) cell after a = absurd a
+  fallen-none (OfClient k event) cell after a = absurd a
+
+  pub falls-of-site : (t : Turn) (cell : Boot) (after : Bank) → FallsBy setup choose (faults setup) bank t cell after → is_of_site t ≡ true
+  falls-of-site (OfSite i event) cell after a = refl
+  falls-of-site (OfNode c event) cell after a = absurd a
+  falls-of-site (OfClient k event) cell after a = absurd a
 
 module _ {B : Type 0} (held : B → Boot) (w : Shown B) (bank : Bank) (shows : ShowsBank held w bank) (step : Step) where
   abbrev f : ℕ
@@ -147,3 +160,23 @@ module _ {B : Type 0} (held : B → Boot) (w : Shown B) (bank : Bank) (shows : S
   why-told (fault.Node why) had is = turns (Some is.0) is.1 ∙ node-why is.0 why had is.2
   why-told fault.Spent had is = turns (Some is.0) is.1 ∙ client-why is.0 client_fault.Spent had is.2
   why-told fault.NoMemory had is = absurd (true≢false had)
+
+-- WHAT IS NO FALL
+
+pub fall-hinders : (why : SiteFault) → hinders_site why ≡ false → is_fall why ≡ false
+fall-hinders site_fault.NoMemory had = had
+fall-hinders site_fault.CellFault had = had
+fall-hinders site_fault.NotUp had = refl
+fall-hinders site_fault.AlreadyUp had = refl
+fall-hinders site_fault.ViewsSpent had = refl
+fall-hinders site_fault.BootsSpent had = refl
+fall-hinders site_fault.NotMine had = refl
+
+pub no-fall : (why : WorldFault) → hinders why ≡ false → is_world_fall why ≡ false
+no-fall (fault.Site why) had = fall-hinders why had
+no-fall fault.NoSuchEnvelope had = refl
+no-fall fault.NoSuchActor had = refl
+no-fall fault.Outstanding had = refl
+no-fall (fault.Node why) had = refl
+no-fall fault.Spent had = refl
+no-fall fault.NoMemory had = refl
