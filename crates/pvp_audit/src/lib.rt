@@ -6,7 +6,7 @@ mod clocks;
 mod ends;
 pub mod merge;
 pub mod receipts;
-mod sent;
+pub mod sent;
 pub mod verdict;
 
 pub use audited::Audited;

@@ -9,7 +9,7 @@ use pvp_rooms::{Closed, Recorded};
 use pvp_wire::Stamp;
 
 /// Where the event of this clock stands in a history, if anywhere. As clocks rise, it is found by halving.
-fn place_at<E, O>(history: &[Recorded<E, O>], clock: u64) -> usize
+pub fn place_at<E, O>(history: &[Recorded<E, O>], clock: u64) -> usize
     requires { IsRising history.now 0 }
     ensures { IsPlaceOf (λ r. r.clock) history.now clock result }
 {
@@ -17,7 +17,7 @@ fn place_at<E, O>(history: &[Recorded<E, O>], clock: u64) -> usize
 }
 
 /// Where the actor of this number stands, if anywhere. As numbers rise, it is found by halving.
-fn place_of<A: Audited>(closed: &[Closed<A>], number: u16) -> usize
+pub fn place_of<A: Audited>(closed: &[Closed<A>], number: u16) -> usize
     requires { AreInOrder closed.now }
     ensures { IsPlaceOf (λ c. c.number) closed.now number result }
 {

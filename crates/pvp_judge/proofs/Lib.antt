@@ -2,3 +2,17 @@
 mod Telling
 -- what sites opened over, one actor further
 mod Furthers
+-- a merged list of first events ends the merged list of all
+mod Endings
+-- a bank that goes through the merged list beside the actors
+mod Agrees
+-- a world that goes through the merged list beside the actors
+mod Follows
+-- what was noted of actors, and the event that a stamp names
+mod Noting
+-- the numbers of what a run sends
+mod Numbering
+-- what is delivered was sent before, and has the number that is found for it
+mod Naming
+-- a world that takes the merged list again
+mod Retelling

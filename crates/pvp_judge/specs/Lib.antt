@@ -1,3 +1,5 @@
 pub mod Moves
+pub mod Numbered
 pub mod Retold
 pub mod Judged
+pub mod Banked

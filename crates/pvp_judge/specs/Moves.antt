@@ -1,5 +1,5 @@
 -- Which move of a world an event of an actor was.
-use Rattle.std.specs.Prelude.{ℕ, ◌-◌, min, Option, Some, None, Ok, Err}
+use Rattle.std.specs.Prelude.{ℕ, ◌-◌, min, Option, Some, None, Ok}
 use Rattle.pvp_types.specs.declared.command.Cmd.{Cmd}
 use Rattle.pvp_types.specs.declared.command.Reply.{Reply as Answer}
 use Rattle.pvp_types.specs.declared.command.PayOrder.{PayOrder as PaymentOrder}

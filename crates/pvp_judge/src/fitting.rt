@@ -1,14 +1,17 @@
-//! How many actors a bank has, and the cells over which its sites opened.
-ghost use Rattle.std.specs.Prelude.{◌≡◌, IfOk, map};
+//! Whether actors are those of a bank, and the cells over which its sites opened.
+ghost use Rattle.std.specs.Prelude.{◌≡◌, ◌+◌, IsTrue, IfOk, map};
 ghost use Rattle.pvp_types.specs.Setup.{IsValid};
-ghost use Rattle.vr_types.specs.MemoryCell.{held_by};
+ghost use Rattle.vr_types.specs.MemoryCell.{held_by, IsReliable};
 ghost use Rattle.pvp_judge.specs.Judged.{openings};
+ghost use Rattle.pvp_judge.specs.Banked.{AreOfBank, IsOfBank, OpenedOver, HasPlace, OpensInOrder, AllAre};
 
+use crate::setups::same_setup;
 use pvp_parties::Party;
 use pvp_rooms::Closed;
 use pvp_types::Setup;
+use pvp_world::{FIRST_NODE, FIRST_SITE};
 use std::alloc::{AllocError, Global};
-use vr_types::MemCell;
+use vr_types::{Boot, MemCell};
 
 /// How many actors a bank has: the operator, the members, the nodes and the sites.
 pub fn count_of(setup: &Setup) -> usize
@@ -20,9 +23,83 @@ pub fn count_of(setup: &Setup) -> usize
     clients + nodes + sites
 }
 
-/// A cell for each site, which holds what that site opened over. `Err` where memory is refused.
+/// Whether each of these is what an actor of this bank left, under its number.
+pub fn are_of_bank(setup: &Setup, closed: &[Closed<Party>]) -> bool
+    requires { IsValid setup.now }
+    ensures { IsTrue result → AreOfBank setup.now closed.now }
+{
+    for k in 0..closed.len() {
+        if !is_of_bank(setup, &closed[k]) {
+            return false;
+        }
+    }
+    true
+}
+
+/// Whether this is what an actor of this bank left, under its number.
+fn is_of_bank(setup: &Setup, one: &Closed<Party>) -> bool
+    requires { IsValid setup.now }
+    ensures { IsTrue result → IsOfBank setup.now one.now }
+{
+    one.number == one.end.number()
+        && same_setup(one.end.setup(), setup)
+        && is_opened(&one.end, one.opening)
+        && has_place(setup, &one.end)
+}
+
+/// Whether a site opened over what its cell held, and a node or a client over nothing.
+fn is_opened(end: &Party, opening: Option<Boot>) -> bool
+    ensures { IsTrue result → OpenedOver end.now opening }
+{
+    match (end, opening) {
+        (Party::Site(_), Some(_)) => true,
+        (Party::Node(_), None) => true,
+        (Party::Client(_), None) => true,
+        _ => false,
+    }
+}
+
+/// Whether a bank has such an actor.
+fn has_place(setup: &Setup, end: &Party) -> bool
+    requires { IsValid setup.now }
+    ensures { IsTrue result → HasPlace setup.now end.now }
+{
+    match end {
+        Party::Site(site) => site.number() <= FIRST_SITE + 2 * setup.faults(),
+        Party::Node(node) => node.number() < FIRST_NODE + u16::from(setup.currency_count()),
+        Party::Client(client) => client.number() <= setup.member_count(),
+    }
+}
+
+/// Whether the sites are numbered without a gap, in order.
+pub fn open_in_order(closed: &[Closed<Party>]) -> bool
+    ensures { IsTrue result → OpensInOrder closed.now }
+{
+    let mut sites = 0;
+    for k in 0..closed.len() {
+        let one = &closed[k];
+        let Some(_boot) = one.opening else {
+            continue;
+        };
+        if !is_site(one.number, sites) {
+            return false;
+        }
+        sites += 1;
+    }
+    true
+}
+
+/// Whether a number is this site's.
+fn is_site(number: u16, site: usize) -> bool
+    ensures { IsTrue result → number ≡ 200 + site }
+{
+    number >= FIRST_SITE && usize::from(number - FIRST_SITE) == site
+}
+
+/// A cell for each site, which holds what that site opened over, and no save of which fails. `Err` where memory is refused.
 pub fn cells_of(alloc: Global, closed: &[Closed<Party>]) -> Result<Vec<MemCell>, AllocError>
-    ensures { IfOk result (λ cells. map held_by cells.items ≡ openings closed.now) }
+    ensures held { IfOk result (λ cells. map held_by cells.items ≡ openings closed.now) }
+    ensures reliable { IfOk result (λ cells. AllAre IsReliable cells.items) }
 {
     let mut cells = Vec::new(alloc);
     for k in 0..closed.len() {

@@ -1,13 +1,13 @@
 //! What the audit of a whole bank says.
 ghost use Rattle.std.specs.Prelude.{◌≡◌, ◌+◌, ◌*◌, IfOk, length, map};
 ghost use Rattle.pvp_types.specs.Setup.{IsValid, faults};
-ghost use Rattle.vr_types.specs.MemoryCell.{held_by};
+ghost use Rattle.vr_types.specs.MemoryCell.{held_by, IsReliable};
 ghost use Rattle.pvp_audit.specs.Runs.{AreInOrder};
 ghost use Rattle.pvp_audit.specs.Verdicts.{HoldOfAll, IsAlone};
+ghost use Rattle.pvp_judge.specs.Banked.{AreOfBank, OpensInOrder, AllAre};
 ghost use Rattle.pvp_judge.specs.Judged.{Judges, AreSound, openings};
 
-use crate::ends::read_like;
-use crate::fitting::{cells_of, count_of};
+use crate::fitting::{are_of_bank, cells_of, count_of, open_in_order};
 use crate::replay::retell;
 use pvp_audit::{Verdict, Why, audit};
 use pvp_parties::{Party, are_in_order};
@@ -26,14 +26,15 @@ pub enum Judgement {
     No { actor: u16, event: usize, why: Why },
 }
 
-/// These are not the actors of the bank, each once, in order of their numbers.
+/// These are not the actors of the bank, each of its setup and once, in order of their numbers, the sites alone over what
+/// their cells held.
 #[derive(Clone, Copy, Debug, PartialEq, Eq)]
 pub struct NotTheBank;
 
 /// Judges what all actors of a bank left, in order of their numbers: whether it is one run of them all, with a receipt of
-/// each event, or which test fails first (`pvp_audit` has their order). A run is taken again in a new world, of which the
-/// headline holds. `No` with `NoMemory` where memory is refused, or where that world does not follow the run, which no
-/// run is known to lead to; and `Err` where these are not the bank's actors.
+/// each event, or which test fails first (`pvp_audit` has their order). A run is taken again in a new world, which follows
+/// it to its end, and of which the headline holds. `No` with `NoMemory` where memory is refused; and `Err` where these are
+/// not the bank's actors.
 pub fn judge(
     alloc: Global,
     setup: &Setup,
@@ -42,7 +43,11 @@ pub fn judge(
     requires { IsValid setup.now }
     ensures { IfOk result (Judges setup.now closed.now) }
 {
-    if closed.len() != count_of(setup) || !are_in_order(closed) {
+    if closed.len() != count_of(setup)
+        || !are_in_order(closed)
+        || !are_of_bank(setup, closed)
+        || !open_in_order(closed)
+    {
         return Err(NotTheBank);
     }
     let Ok(cells) = cells_of(alloc, closed) else {
@@ -66,8 +71,11 @@ fn taken_again(
 ) -> Judgement
     requires valid { IsValid setup.now }
     requires sites { length cells.items ≡ 2 * faults setup.now + 1 }
-    requires openings { map held_by cells.items ≡ openings closed.now }
+    requires held { map held_by cells.items ≡ openings closed.now }
+    requires reliable { AllAre IsReliable cells.items }
     requires order { AreInOrder closed.now }
+    requires bank { AreOfBank setup.now closed.now }
+    requires opened { OpensInOrder closed.now }
     requires alone { HoldOfAll closed.now (λ _ c. IsAlone c) }
     requires sound { AreSound closed.now }
     ensures { Judges setup.now closed.now result }
@@ -75,9 +83,6 @@ fn taken_again(
     let Ok(world) = retell(alloc, setup, closed, cells) else {
         return no_memory();
     };
-    if !read_like(&world, closed) {
-        return no_memory();
-    }
     world.is_proved();
     Judgement::Yes(world)
 }

@@ -2,11 +2,11 @@
 //! headline holds.
 #![tactic(auto)]
 
-mod ends;
 mod fitting;
 pub mod judgement;
 mod moves;
 mod numbers;
 mod replay;
+mod setups;
 
 pub use judgement::{Judgement, NotTheBank, judge};

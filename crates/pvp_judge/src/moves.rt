@@ -1,13 +1,12 @@
 //! Which move of a world an event of an actor was.
-ghost use Rattle.std.specs.Prelude.{◌≡◌};
+ghost use Rattle.std.specs.Prelude.{◌≡◌, ◌-◌, min};
 ghost use Rattle.pvp_judge.specs.Moves.{move_of, site_step, node_step, client_step};
 
-use crate::ends::currency_of;
 use headline::{ClientEvent, Move, Step};
 use pvp_book::Book;
 use pvp_parties::{PartyEvent, PartyOutcome};
 use pvp_rooms::{CameOf, Recorded};
-use pvp_world::FIRST_SITE;
+use pvp_world::{FIRST_NODE, FIRST_SITE};
 use rtgs_node::NodeEvent;
 use vr_types::{Event, EventOf};
 
@@ -85,4 +84,11 @@ fn client_step(actor: u16, event: &ClientEvent, number: usize) -> Step
         ClientEvent::Takes(_) => Step::Deliver(number),
         ClientEvent::Beats => Step::Beat(actor),
     }
+}
+
+/// The currency of a node's number.
+fn currency_of(number: u16) -> u8
+    ensures { result ≡ min (number - 101) 255 }
+{
+    u8::try_from(number.saturating_sub(FIRST_NODE)).unwrap_or(u8::MAX)
 }

@@ -112,6 +112,13 @@ impl SiteParty {
         follow_site(&mut self.site, alloc, event, came)
     }
 
+    /// What its bank was set up with.
+    pub fn setup(&self) -> &Setup
+        ensures { result.now ≡ self.now.setup }
+    {
+        &self.setup
+    }
+
     /// The site itself.
     pub fn replica(&self) -> &Replica<Book, MemCell>
         ensures { result.now ≡ self.now.now }
@@ -207,6 +214,13 @@ impl NodeParty {
         follow_node(&mut self.node, alloc, event, told)
     }
 
+    /// What its bank was set up with.
+    pub fn setup(&self) -> &Setup
+        ensures { result.now ≡ self.now.setup }
+    {
+        &self.setup
+    }
+
     /// The node itself.
     pub fn node(&self) -> &Node
         ensures { result.now ≡ self.now.now }
@@ -300,6 +314,13 @@ impl ClientParty {
             Follows clients.Comes clients.after self.old.now event.now told.now (λ y. y ≡ self.new.now) can) }
     {
         follow_client(&mut self.client, alloc, event, told)
+    }
+
+    /// What its bank was set up with.
+    pub fn setup(&self) -> &Setup
+        ensures { result.now ≡ self.now.setup }
+    {
+        &self.setup
     }
 
     /// The client itself.

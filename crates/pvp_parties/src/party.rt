@@ -200,6 +200,17 @@ impl Party {
         Ok(Party::Client(ClientParty::new(setup, number)?))
     }
 
+    /// What its bank was set up with.
+    pub fn setup(&self) -> &Setup
+        ensures { result.now ≡ setup_of self.now }
+    {
+        match self {
+            Party::Site(site) => site.setup(),
+            Party::Node(node) => node.setup(),
+            Party::Client(client) => client.setup(),
+        }
+    }
+
     /// Its number as an actor.
     pub fn number(&self) -> u16
         ensures { result ≡ number_of self.now }

@@ -1,13 +1,12 @@
-use Rattle.std.proofs.Common.{◌≡◌, length, map}
-use Rattle.vr_types.specs.MemoryCell.{held_by}
+use Rattle.std.proofs.Common.{◌≡◌, length}
 use Rattle.pvp_audit.proofs.Grows.{left}
-use Rattle.pvp_judge.specs.Retold.{IsTelling}
+use Rattle.pvp_judge.proofs.Retelling.{IsRetelling}
 use Rattle.pvp_judge.proofs.replay.retell.Given as goal
 
 abbrev pub invariant-loop-k : goal.invariant-loop-k
 invariant-loop-k l = record {
   same : length l.at.items ≡ length l.closed;
-  so : IsTelling l.setup (map held_by l.fn.cells.items) l.closed l.at.items l.world;
+  so : IsRetelling l.setup l.closed l.at.items l.numbers l.world;
 }
 
 abbrev pub decreases-loop-k : goal.decreases-loop-k

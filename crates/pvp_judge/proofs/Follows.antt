@@ -1,0 +1,236 @@
+-- A world that goes through the merged list beside the actors: it takes each event that can come, or memory is refused.
+use Rattle.std.proofs.Common.{◌≡◌, ◌⊎◌, ℕ, zero, suc, ◌+◌, ◌*◌, ◌<◌, ◌≤◌, List, [], ◌∷◌, ◌++◌, length, map, slice_get, true, Option, Some, None, refl, sym, ap, subst, ◌∙◌, arith}
+use Rattle.std.proofs.lemmas.Option.{slice_get_within}
+use Rattle.pvp_types.specs.declared.setup.Setup.{Setup}
+use Rattle.pvp_types.specs.declared.command.Cmd.{Cmd}
+use Rattle.pvp_types.specs.Setup.{IsValid, faults}
+use Rattle.vr_types.specs.declared.cell.Boot.{Boot}
+use Rattle.vr_types.specs.declared.cell.MemCell.{MemCell}
+use Rattle.vr_types.specs.MemoryCell.{held_by}
+use Rattle.vr_types.specs.Choice.{Choice, IsRight}
+use Rattle.vr_types.specs.Site.{Site, opening_site, boot_of}
+use Rattle.rtgs_node.specs.Node.{Envelope, opening_node}
+use Rattle.rtgs_node.specs.Shown as node
+use Rattle.headline.specs.declared.step.Move.{Move}
+use Rattle.headline.specs.Client.{opening_client}
+use Rattle.headline.specs.Bank.{Bank, opening_bank}
+use Rattle.headline.specs.Legal.{IsRun, Leads, LegalList}
+use Rattle.headline.proofs.Basics.{none-some, some-same}
+use Rattle.pvp_world.specs.World.{Shown, ShowsBank, IsProved}
+use Rattle.pvp_world.specs.Steps.{Moves, AreReliable}
+use Rattle.pvp_world.specs.Refusals.{IsAllowed}
+use Rattle.pvp_world.specs.Client as client
+use Rattle.pvp_world.proofs.Refused.{within}
+use Rattle.pvp_world.proofs.Allowed.{shows-other}
+use Rattle.pvp_rooms.specs.declared.message.Recorded.{Recorded}
+use Rattle.pvp_rooms.specs.Histories.{replay}
+use Rattle.pvp_rooms.specs.Nodes as nodes
+use Rattle.pvp_rooms.specs.Clients as clients
+use Rattle.pvp_audit.specs.Runs.{Tagged, own, history_in, history_of, AreInOrder}
+use Rattle.pvp_audit.specs.Ends.{AreAlike}
+use Rattle.pvp_parties.specs.declared.party.Party.{Party}
+use Rattle.pvp_parties.specs.declared.party.Party.TheVariants as party_of
+use Rattle.pvp_parties.specs.declared.party.PartyEvent.{PartyEvent}
+use Rattle.pvp_parties.specs.declared.party.PartyOutcome.{PartyOutcome}
+use Rattle.pvp_parties.specs.Made.{memory}
+use Rattle.pvp_parties.specs.Parties.{PartyState, AtSite, AtNode, AtClient, Comes, Reads, after, delivers, is_for, number_of}
+use Rattle.pvp_judge.specs.Judged.{Left, party, openings, ReadsWorld, EndsAgree}
+use Rattle.pvp_judge.specs.Moves.{move_of}
+use Rattle.pvp_judge.specs.Retold.{Names, GoesBy}
+use Rattle.pvp_judge.specs.Banked.{AreOfBank, OpenedOver, HasPlace, OpensInOrder}
+use Rattle.pvp_judge.proofs.Agrees.{site_at, node_at, client_at, opened, start_in, start_of, number_is, IsThere, Agrees, Goes, takes_next}
+
+module _ (setup : Setup) (closed : List Left) where
+  -- a world of this setup, over cells no save of which fails, that went through a run as the actors did
+  pub record Follows (run : List (Tagged PartyEvent PartyOutcome)) (world : Shown MemCell) : Type 0 where
+    pub choose : Choice Cmd
+    pub right : IsRight (faults setup) choose
+    pub bank : Bank
+    pub agrees : Agrees setup choose closed world.opening run world.trail bank
+    pub made : world.setup ≡ setup
+    pub proved : IsProved held_by world
+    pub reliable : AreReliable memory world
+
+  -- THE BEGINNING
+
+  module _ (all : AreOfBank setup closed) (numbered : OpensInOrder closed) (world : Shown MemCell) (made : world.setup ≡ setup) (cells : world.opening ≡ openings closed) (nothing : world.trail ≡ []) (proved : IsProved held_by world) (reliable : AreReliable memory world) where
+    abbrev list : LegalList world.setup (faults world.setup)
+    list = proved.is_at.list
+
+    abbrev first : Bank
+    first = opening_bank setup (faults setup) world.opening
+
+    mapped : {X Y : Type 0} (g : X → Y) (xs : List X) (i : ℕ) (x : X) → slice_get xs i ≡ Some x → slice_get (map g xs) i ≡ Some (g x)
+    mapped g [] i x e = absurd (none-some x e)
+    mapped g (y ∷ xs) zero x e = ap (λ (z : _). Some (g z)) (some-same y x e)
+    mapped g (y ∷ xs) (suc i) x e = mapped g xs i x e
+
+    same_all : {X Y : Type 0} (y : Y) (xs : List X) (i : ℕ) → i < length xs → slice_get (map (λ x. y) xs) i ≡ Some y
+    same_all y [] i low = absurd (omega arith)
+    same_all y (x ∷ xs) zero low = refl
+    same_all y (x ∷ xs) (suc i) low = same_all y xs i (omega arith)
+
+    client_there : (i : ℕ) → i ≤ length setup.members → slice_get first.clients i ≡ Some opening_client
+    client_there zero low = refl
+    client_there (suc i) low = same_all opening_client setup.members i (omega arith)
+
+    opens_there : (k : ℕ) (c : Left) → slice_get closed k ≡ Some c → (e : Party) → c.end ≡ e → (over : Option Boot) → c.opening ≡ over → OpenedOver e over → HasPlace setup e → IsThere setup list.choose first e (opened setup list.choose e over)
+    opens_there k c is (party_of.Site p) ends (Some boot) over by place = (
+      opening_site (faults setup) boot,
+      refl,
+      mapped (opening_site (faults setup)) world.opening p.place boot
+          (ap (λ (l : List Boot). slice_get l p.place) cells ∙ numbered k c is p.place boot ((all k c is).number ∙ ap number_of ends) over),
+    )
+    opens_there k c is (party_of.Site p) ends None over by place = absurd by
+    opens_there k c is (party_of.Node p) ends (Some boot) over by place = absurd by
+    opens_there k c is (party_of.Node p) ends None over by place = (opening_node, refl, same_all opening_node setup.currencies p.place place.0)
+    opens_there k c is (party_of.Client p) ends (Some boot) over by place = absurd by
+    opens_there k c is (party_of.Client p) ends None over by place = (opening_client, refl, client_there p.place place.0)
+
+    pub follows_none : Follows [] world
+    follows_none = record {
+      choose = list.choose;
+      right = subst (λ (s : Setup). IsRight (faults s) list.choose) made list.right;
+      bank = first;
+      agrees = record {
+        legal = record {
+          all = ap length (sym proved.is_at.cells) ∙ list.legal.all ∙ ap (λ (s : Setup). 2 * faults s + 1) made;
+          run = subst (λ (ms : List Move). IsRun setup list.choose (faults setup) first ms first) (sym nothing) refl;
+        };
+        there = λ k c is. subst (λ (o : Option Left). IsThere setup list.choose first c.end (start_in setup list.choose o)) (sym is) (opens_there k c is c.end refl c.opening refl (all k c is).opened (all k c is).place);
+        post = refl;
+      };
+      made = made;
+      proved = proved;
+      reliable = reliable;
+    }
+
+  -- ONE EVENT MORE
+
+  module _ (order : AreInOrder closed) (all : AreOfBank setup closed) (run : List (Tagged PartyEvent PartyOutcome)) (world : Shown MemCell) (p : Follows run world)
+      (one_bank : (setup : Setup) (f : ℕ) (a b : LegalList setup f) → a.cells ≡ b.cells → a.moves ≡ b.moves → a.bank ≡ b.bank) where
+    -- the legal list of the world's trail, by the actors' choices
+    abbrev mine : LegalList setup (faults setup)
+    mine = record {
+      valid = subst (λ (s : Setup). IsValid s) p.made p.proved.is_at.list.valid;
+      choose = p.choose;
+      right = p.right;
+      cells = world.opening;
+      moves = world.trail;
+      bank = p.bank;
+      legal = p.agrees.legal;
+    }
+
+    pub shows_bank : ShowsBank held_by world p.bank
+    shows_bank =
+        subst (λ (s : Setup). (l : LegalList s (faults s)) → l.cells ≡ world.opening → l.moves ≡ world.trail → ShowsBank held_by world l.bank) p.made
+        (λ l cells moves. shows-other held_by one_bank world p.proved.is_at l cells moves) mine refl refl
+
+    abbrev allowed_in : Setup → Move → Type 0
+    allowed_in s move = (l : LegalList s (faults s)) × (l.cells ≡ world.opening) × (l.moves ≡ world.trail) × (later : Bank) × Leads s l.choose (faults s) l.bank move later
+
+    allowed_is : (move : Move) → allowed_in world.setup move → IsAllowed world move
+    allowed_is move a = record { list = a.0; cells = a.1; moves = a.2; after = a.3; leads = a.4 }
+
+    module _ (k : ℕ) (c : Left) (is : slice_get closed k ≡ Some c) (r : Recorded PartyEvent PartyOutcome) (number : ℕ)
+        (come : Comes (replay after (own run k) (start_of setup p.choose closed k)) r.event r.outcome) (here : (delivers r.event ≡ None) ⊎ (is_for c.end r.event ≡ true)) (named : Names world.post number r.event) where
+      abbrev pub next : List (Tagged PartyEvent PartyOutcome)
+      next = record { by = k; what = r } ∷ run
+
+      goes : Goes setup p.choose closed order all world.opening run world.trail p.bank p.agrees k c is r (move_of c.number r number)
+      goes = takes_next setup p.choose closed order all world.opening run world.trail p.bank p.agrees k c is r number come here (subst (λ (post : List Envelope). Names post number r.event) shows_bank.post named)
+
+      goes_by : (move : Move) → move_of c.number r number ≡ Some move
+          → (later : Bank) × Leads setup p.choose (faults setup) p.bank move later × Agrees setup p.choose closed world.opening next (world.trail ++ move ∷ []) later
+      goes_by move e = subst (λ (o : Option Move). Goes setup p.choose closed order all world.opening run world.trail p.bank p.agrees k c is r o) e goes
+
+      -- the world may take the event's move
+      pub may_take : (move : Move) → move_of c.number r number ≡ Some move → IsAllowed world move
+      may_take move e =
+          let g = goes_by move e in
+          allowed_is move (subst (λ (s : Setup). allowed_in s move) (sym p.made) (mine, refl, refl, g.0, g.1))
+
+      -- and when it took it, it is where the actors are
+      took : (move : Move) → move_of c.number r number ≡ Some move → (new : Shown MemCell) → Moves held_by world new move → IsProved held_by new → AreReliable memory new → Follows next new
+      took move e new moves proved reliable =
+          let g = goes_by move e in
+          record {
+            choose = p.choose;
+            right = p.right;
+            bank = g.0;
+            agrees = subst (λ (cells : List Boot). Agrees setup p.choose closed cells next new.trail g.0) (sym moves.opening)
+                (subst (λ (trail : List Move). Agrees setup p.choose closed world.opening next trail g.0) (sym moves.trail) g.2);
+            made = moves.setup ∙ p.made;
+            proved = proved;
+            reliable = reliable;
+          }
+
+      took_none : move_of c.number r number ≡ None → (new : Shown MemCell) → new ≡ world → IsProved held_by new → AreReliable memory new → Follows next new
+      took_none e new same proved reliable =
+          let g : Agrees setup p.choose closed world.opening next world.trail p.bank = subst (λ (o : Option Move). Goes setup p.choose closed order all world.opening run world.trail p.bank p.agrees k c is r o) e goes in
+          record {
+            choose = p.choose;
+            right = p.right;
+            bank = p.bank;
+            agrees = subst (λ (w : Shown MemCell). Agrees setup p.choose closed w.opening next w.trail p.bank) (sym same) g;
+            made = ap (λ (w : Shown MemCell). w.setup) same ∙ p.made;
+            proved = proved;
+            reliable = reliable;
+          }
+
+      pub follows_next : (new : Shown MemCell) → GoesBy held_by world new (move_of c.number r number) → IsProved held_by new → AreReliable memory new → Follows next new
+      follows_next new went proved reliable = by (move_of c.number r number) refl went
+        where
+          by : (o : Option Move) → move_of c.number r number ≡ o → GoesBy held_by world new o → Follows next new
+          by None e same = took_none e new same proved reliable
+          by (Some move) e moves = took move e new moves proved reliable
+
+    -- THE END
+
+    module _ (each : (k : ℕ) → own run k ≡ history_of closed k) (alike : AreAlike party closed (start_of setup p.choose closed) (length closed)) where
+      shown : ShowsBank held_by world p.bank
+      shown = shows_bank
+
+      -- what an actor's calls show is of the state in which the bank's actor is
+      read_state : (k : ℕ) (c : Left) → slice_get closed k ≡ Some c → Reads c.end (replay after (own run k) (start_of setup p.choose closed k))
+      read_state k c is = subst (λ (l : List (Recorded PartyEvent PartyOutcome)). Reads c.end (replay after l (start_of setup p.choose closed k))) (sym (each k ∙ ap history_in is)) (alike k c is (slice_get_within closed k c is))
+
+      reads_by : (k : ℕ) (e : Party) (x : PartyState) → HasPlace setup e → IsThere setup p.choose p.bank e x → Reads e x → ReadsWorld world (number_of e) e
+      reads_by k (party_of.Site q) x place there reads =
+          let v = within p.bank.sites world.sites q.place there.0 (sym shown.sites.count) there.2 in
+          let is = shown.sites.each q.place v.0 there.0 v.1 there.2 in
+          let r : Reads (party_of.Site q) (AtSite (site_at setup p.choose q.place there.0)) = subst (λ (y : PartyState). Reads (party_of.Site q) y) there.1 reads in (
+            v.0,
+            ap (λ (i : ℕ). slice_get world.sites i) (omega arith) ∙ v.1,
+            record {
+              status = r.status ∙ ap (λ (s : Site Cmd). s.status) is.site;
+              view = r.view ∙ ap (λ (s : Site Cmd). s.view) is.site;
+              log = r.log ∙ ap (λ (s : Site Cmd). s.log) is.site;
+              done = r.done ∙ ap (λ (s : Site Cmd). s.done) is.site;
+              known = λ i low. r.known i low ∙ ap (λ (s : Site Cmd). boot_of s.known i) is.site;
+              cell = r.cell ∙ ap (λ (s : Site Cmd). s.cell) is.site;
+            },
+          )
+      reads_by k (party_of.Node q) x place there reads =
+          let v = within p.bank.nodes world.nodes q.place there.0 (sym shown.nodes.count) there.2 in
+          let is = shown.nodes.each q.place v.0 there.0 v.1 there.2 in
+          let same : v.0 ≡ node_at setup p.choose q.place there.0 = is ∙ ap (λ (s : Setup). record { setup = s; ccy = q.place; node = there.0 }) p.made in
+          let r : Reads (party_of.Node q) (AtNode (node_at setup p.choose q.place there.0)) = subst (λ (y : PartyState). Reads (party_of.Node q) y) there.1 reads in (
+            v.0,
+            ap (λ (i : ℕ). slice_get world.nodes i) (number_is q.place place.1) ∙ v.1,
+            subst (λ (u : node.Shown). nodes.Reads q.now u) (sym same) r,
+          )
+      reads_by k (party_of.Client q) x place there reads =
+          let v = within p.bank.clients world.clients q.place there.0 (sym shown.clients.count) there.2 in
+          let is = shown.clients.each q.place v.0 there.0 v.1 there.2 in
+          let same : v.0 ≡ client_at setup p.choose q.place there.0 = is ∙ ap (λ (s : Setup). record { f = faults s; me = q.place; client = there.0 }) p.made in
+          let r : Reads (party_of.Client q) (AtClient (client_at setup p.choose q.place there.0)) = subst (λ (y : PartyState). Reads (party_of.Client q) y) there.1 reads in (
+            v.0,
+            v.1,
+            subst (λ (u : client.Shown). clients.Reads q.now u) (sym same) r,
+          )
+
+      pub ends_agree : EndsAgree closed world
+      ends_agree k c is =
+          subst (λ (n : ℕ). ReadsWorld world n c.end) (sym (all k c is).number)
+          (reads_by k c.end (replay after (own run k) (start_of setup p.choose closed k)) (all k c is).place (p.agrees.there k c is) (read_state k c is))

@@ -1,0 +1,41 @@
+-- The actors of one bank, as they opened.
+use Rattle.std.specs.Prelude.{◌≡◌, ℕ, ◌+◌, ◌*◌, ◌<◌, ◌≤◌, List, length, slice_get, Option, Some, None}
+use Rattle.pvp_types.specs.declared.setup.Setup.{Setup}
+use Rattle.pvp_types.specs.Setup.{faults}
+use Rattle.vr_types.specs.declared.cell.Boot.{Boot}
+use Rattle.pvp_audit.specs.Verdicts.{HoldOfAll}
+use Rattle.pvp_parties.specs.declared.party.Party.{Party}
+use Rattle.pvp_parties.specs.declared.party.Party.TheVariants.{Site, Node, Client}
+use Rattle.pvp_parties.specs.Parties.{number_of, setup_of}
+use Rattle.pvp_judge.specs.Judged.{Left, openings}
+
+-- a site opened over what its cell held, a node and a client over nothing
+abbrev pub OpenedOver : Party → Option Boot → Type 0
+OpenedOver (Site p) (Some boot) = Unit {0}
+OpenedOver (Node p) None = Unit {0}
+OpenedOver (Client p) None = Unit {0}
+OpenedOver _ _ = ⊥
+
+-- the bank has such an actor
+abbrev pub HasPlace : Setup → Party → Type 0
+HasPlace setup (Site p) = p.place < 2 * faults setup + 1
+HasPlace setup (Node p) = (p.place < length setup.currencies) × (p.place < 99)
+HasPlace setup (Client p) = (p.place ≤ length setup.members) × (p.place < 101)
+
+-- what an actor of this bank left, under the number that its kind and its place give
+pub record IsOfBank (setup : Setup) (c : Left) : Type 0 where
+  pub made_from : setup_of c.end ≡ setup
+  pub number : c.number ≡ number_of c.end
+  pub opened : OpenedOver c.end c.opening
+  pub place : HasPlace setup c.end
+
+abbrev pub AreOfBank : Setup → List Left → Type 0
+AreOfBank setup closed = HoldOfAll closed (λ _ c. IsOfBank setup c)
+
+-- what the sites opened over stands in order of their numbers
+abbrev pub OpensInOrder : List Left → Type 0
+OpensInOrder closed = (k : ℕ) (c : Left) → slice_get closed k ≡ Some c → (site : ℕ) (boot : Boot) → c.number ≡ 200 + site → c.opening ≡ Some boot → slice_get (openings closed) site ≡ Some boot
+
+-- each of these is so
+abbrev pub AllAre : {X : Type 0} → (X → Type 0) → List X → Type 0
+AllAre {X} Is xs = (i : ℕ) (x : X) → slice_get xs i ≡ Some x → Is x
