@@ -1,5 +1,5 @@
 -- A step that a world's trail allows is refused only where memory is.
-use Rattle.std.proofs.Common.{◌≡◌, ◌≢◌, ◌⊎◌, inl, inr, ℕ, Bool, true, false, List, [], ◌∷◌, ◌++◌, slice_get, Option, Some, None, Result, Ok, Err, refl, sym, ap, ◌∙◌, subst, true≢false}
+use Rattle.std.proofs.Common.{◌≡◌, ◌≢◌, inl, inr, ℕ, Bool, true, false, List, [], ◌∷◌, ◌++◌, slice_get, Some, None, Err, refl, sym, ap, ◌∙◌, subst, true≢false}
 use Rattle.pvp_types.specs.declared.setup.Setup.{Setup}
 use Rattle.pvp_types.specs.Setup.{faults}
 use Rattle.pvp_types.specs.declared.command.Cmd.{Cmd}
@@ -25,7 +25,7 @@ use Rattle.headline.specs.Legal.{LegalList, SiteFalls, FallsBy}
 use Rattle.headline.proofs.Basics.{none-some, some-same, set-here}
 use Rattle.headline.proofs.Runs.{legal-more}
 use Rattle.pvp_world.specs.World.{Shown, ShowsBank, IsAt}
-use Rattle.pvp_world.specs.Steps.{Moves, IsWhy, IsRefused, TellsFailures, AreReliable, saved_in}
+use Rattle.pvp_world.specs.Steps.{IsWhy, IsRefused, TellsFailures, AreReliable, saved_in}
 use Rattle.pvp_world.specs.Falling.{is_of_site, HoldsAnother, IsWhyNot, FellAsSaved, FallsTo, KeepsReliable}
 use Rattle.pvp_world.specs.Refusals.{turn_refuses, bank_refuses, hinders, wants, wants_fall, IsAllowed}
 use Rattle.pvp_world.specs.declared.fault.WorldFault.{WorldFault}

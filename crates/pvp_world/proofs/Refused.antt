@@ -1,5 +1,5 @@
 -- A world tells the reason that its bank has, where nothing hinders a step.
-use Rattle.std.proofs.Common.{◌≡◌, ◌⊎◌, inl, inr, ℕ, zero, suc, ◌<◌, ◌≤◌, Bool, true, false, nat_lt, if◌then◌else◌, List, [], ◌∷◌, length, slice_get, Option, Some, None, option_map, Result, Ok, Err, refl, sym, ap, ◌∙◌, subst, arith, true≢false}
+use Rattle.std.proofs.Common.{◌≡◌, ◌⊎◌, inl, inr, ℕ, zero, suc, ◌<◌, Bool, true, false, nat_lt, List, [], ◌∷◌, length, slice_get, Option, Some, None, option_map, refl, sym, ap, ◌∙◌, arith, true≢false}
 use Rattle.std.proofs.lemmas.Bool.Decides.{nat_tests}
 use Rattle.std.proofs.lemmas.Option.{slice_get_past}
 use Rattle.pvp_types.specs.declared.setup.Setup.{Setup}
@@ -25,19 +25,17 @@ use Rattle.headline.specs.declared.step.ClientEvent.{ClientEvent}
 use Rattle.headline.specs.declared.step.ClientFault.{ClientFault}
 use Rattle.headline.specs.declared.step.ClientFault.TheVariants as client_fault
 use Rattle.headline.specs.declared.step.Step.{Step}
-use Rattle.headline.specs.declared.step.Move.TheVariants.{Takes}
 use Rattle.headline.specs.declared.step.Turn.{Turn}
 use Rattle.headline.specs.declared.step.Turn.TheVariants.{OfSite, OfNode, OfClient}
 use Rattle.headline.specs.Client.{Client, client_step}
 use Rattle.headline.specs.Bank.{Bank, turn}
 use Rattle.headline.specs.Legal.{Acts, FallsBy}
-use Rattle.headline.proofs.Basics.{none-some, some-same}
+use Rattle.headline.proofs.Basics.{none-some}
 use Rattle.pvp_world.specs.Client as client
-use Rattle.pvp_world.specs.World.{Shown, AreEach, IsSite, IsNode, IsClient, ShowsBank, IsAt}
-use Rattle.pvp_world.specs.Steps.{Moves, IsTaken, IsRefused, IsTurn, IsWhy, SiteRefuses, NodeRefuses, ClientRefuses, Applies, has_actor, is_fall, is_world_fall, told_as}
+use Rattle.pvp_world.specs.World.{Shown, IsSite, ShowsBank}
+use Rattle.pvp_world.specs.Steps.{IsWhy, SiteRefuses, NodeRefuses, ClientRefuses, has_actor, is_fall, is_world_fall, told_as}
 use Rattle.pvp_world.specs.declared.fault.WorldFault.{WorldFault}
 use Rattle.pvp_world.specs.declared.fault.WorldFault.TheVariants as fault
-use Rattle.pvp_world.specs.declared.report.Report.{Report}
 use Rattle.pvp_world.specs.Falling.{is_of_site}
 use Rattle.pvp_world.specs.Refusals.{site_refuses, node_refuses, client_refuses, turn_refuses, bank_refuses, hinders, hinders_site, hinders_node}
 

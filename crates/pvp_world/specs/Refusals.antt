@@ -1,5 +1,5 @@
 -- Why a bank refuses a step, where nothing hinders it: by the bank and the step alone; and what hinders a step.
-use Rattle.std.specs.Prelude.{◌≡◌, ℕ, Bool, true, false, List, slice_get, Option, Some, None, option_map}
+use Rattle.std.specs.Prelude.{◌≡◌, ℕ, Bool, true, false, slice_get, Option, Some, None, option_map}
 use Rattle.pvp_types.specs.declared.setup.Setup.{Setup}
 use Rattle.pvp_types.specs.Setup.{faults}
 use Rattle.pvp_types.specs.declared.command.Cmd.{Cmd}
