@@ -4,6 +4,7 @@ use Rattle.pvp_types.specs.declared.setup.Setup.{Setup}
 use Rattle.pvp_types.specs.declared.command.Cmd.{Cmd}
 use Rattle.pvp_types.specs.declared.command.Reply.{Reply as Answer}
 use Rattle.pvp_types.specs.declared.command.PayOrder.{PayOrder as PaymentOrder}
+use Rattle.vr_types.specs.Actors.{first_node, first_site}
 use Rattle.vr_types.specs.declared.cell.Boot.{Boot}
 use Rattle.vr_types.specs.declared.event.EventOf.{EventOf}
 use Rattle.vr_types.specs.declared.event.EventOf.TheVariants.{Deliver, Timer, Beat, Crash, Restart}
@@ -38,8 +39,8 @@ opening_bank setup f cells = record {
 -- an actor's turn, by its number: clients from 0, nodes from 101, sites from 200
 abbrev pub turn_of : ℕ → EventOf Cmd Answer PaymentOrder → NodeEvent → ClientEvent → Turn
 turn_of actor at_site at_node at_client =
-    if nat_le 200 actor then OfSite (actor - 200) at_site
-    else if nat_le 101 actor then OfNode (actor - 101) at_node
+    if nat_le first_site actor then OfSite (actor - first_site) at_site
+    else if nat_le first_node actor then OfNode (actor - first_node) at_node
     else OfClient actor at_client
 
 -- the envelope of a number comes to the actor that it is addressed to

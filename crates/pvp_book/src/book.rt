@@ -14,9 +14,7 @@ use pvp_types::{Cmd, PayOrder, Reason, Reply, Setup};
 use std::alloc::{AllocError, Global};
 use std::collections::HashSet;
 use std::marker::Model;
-
-/// The most members that a bank has.
-const MOST_MEMBERS: u16 = 64;
+use vr_types::MOST_MEMBERS;
 
 /// The operator's client number.
 const OPERATOR: u16 = 0;

@@ -4,12 +4,10 @@ ghost use Rattle.pvp_book.specs.Ledger.{node_of};
 ghost use Rattle.pvp_book.specs.Answer.{has_member, is_amount};
 
 use pvp_types::Setup;
+use vr_types::FIRST_NODE;
 
 /// The greatest amount of a command, in minor units.
 const MOST_AMOUNT: u64 = 1_000_000_000_000;
-
-/// The client number of the first currency's node.
-const FIRST_NODE: u16 = 101;
 
 /// The client number of a currency's node.
 pub fn node_of(c: u8) -> u16

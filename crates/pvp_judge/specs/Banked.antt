@@ -2,6 +2,7 @@
 use Rattle.std.specs.Prelude.{◌≡◌, ℕ, ◌+◌, ◌*◌, ◌<◌, ◌≤◌, List, length, slice_get, Option, Some, None}
 use Rattle.pvp_types.specs.declared.setup.Setup.{Setup}
 use Rattle.pvp_types.specs.Setup.{faults}
+use Rattle.vr_types.specs.Actors.{first_node, first_site}
 use Rattle.vr_types.specs.declared.cell.Boot.{Boot}
 use Rattle.pvp_audit.specs.Verdicts.{HoldOfAll}
 use Rattle.pvp_parties.specs.declared.party.Party.{Party}
@@ -20,7 +21,7 @@ OpenedOver _ _ = ⊥
 abbrev pub HasPlace : Setup → Party → Type 0
 HasPlace setup (Site p) = p.place < 2 * faults setup + 1
 HasPlace setup (Node p) = (p.place < length setup.currencies) × (p.place < 99)
-HasPlace setup (Client p) = (p.place ≤ length setup.members) × (p.place < 101)
+HasPlace setup (Client p) = (p.place ≤ length setup.members) × (p.place < first_node)
 
 -- what an actor of this bank left, under the number that its kind and its place give
 pub record IsOfBank (setup : Setup) (c : Left) : Type 0 where
@@ -34,7 +35,7 @@ AreOfBank setup closed = HoldOfAll closed (λ _ c. IsOfBank setup c)
 
 -- what the sites opened over stands in order of their numbers
 abbrev pub OpensInOrder : List Left → Type 0
-OpensInOrder closed = (k : ℕ) (c : Left) → slice_get closed k ≡ Some c → (site : ℕ) (boot : Boot) → c.number ≡ 200 + site → c.opening ≡ Some boot → slice_get (openings closed) site ≡ Some boot
+OpensInOrder closed = (k : ℕ) (c : Left) → slice_get closed k ≡ Some c → (site : ℕ) (boot : Boot) → c.number ≡ first_site + site → c.opening ≡ Some boot → slice_get (openings closed) site ≡ Some boot
 
 -- each of these is so
 abbrev pub AllAre : {X : Type 0} → (X → Type 0) → List X → Type 0

@@ -1,6 +1,7 @@
 -- What the audit of a whole bank says.
 use Rattle.std.specs.Prelude.{◌≡◌, ℕ, ◌-◌, min, List, [], ◌∷◌, ◌++◌, slice_get, option_to_list, Option, Some}
 use Rattle.pvp_types.specs.declared.setup.Setup.{Setup}
+use Rattle.vr_types.specs.Actors.{first_node, first_site}
 use Rattle.vr_types.specs.declared.cell.Boot.{Boot}
 use Rattle.vr_types.specs.declared.cell.MemCell.{MemCell}
 use Rattle.vr_types.specs.MemoryCell.{held_by}
@@ -49,8 +50,8 @@ AreSound closed = IsRightVerdict closed Passes
 
 -- what an actor's reading calls show is what those of the world's actor of this number show
 abbrev pub ReadsWorld : Shown MemCell → ℕ → Party → Type 0
-ReadsWorld world number (Site p) = (v : alike.Site) × (slice_get world.sites (number - 200) ≡ Some v) × AreAlikeSites p.now v
-ReadsWorld world number (Node p) = (v : node.Shown) × (slice_get world.nodes (min (number - 101) 255) ≡ Some v) × nodes.Reads p.now v
+ReadsWorld world number (Site p) = (v : alike.Site) × (slice_get world.sites (number - first_site) ≡ Some v) × AreAlikeSites p.now v
+ReadsWorld world number (Node p) = (v : node.Shown) × (slice_get world.nodes (min (number - first_node) 255) ≡ Some v) × nodes.Reads p.now v
 ReadsWorld world number (Client p) = (v : client.Shown) × (slice_get world.clients number ≡ Some v) × clients.Reads p.now v
 
 -- so of each actor

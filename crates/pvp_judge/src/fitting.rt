@@ -9,9 +9,8 @@ use crate::setups::same_setup;
 use pvp_parties::Party;
 use pvp_rooms::Closed;
 use pvp_types::Setup;
-use pvp_world::{FIRST_NODE, FIRST_SITE};
 use std::alloc::{AllocError, Global};
-use vr_types::{Boot, MemCell};
+use vr_types::{Boot, FIRST_NODE, FIRST_SITE, MemCell};
 
 /// How many actors a bank has: the operator, the members, the nodes and the sites.
 pub fn count_of(setup: &Setup) -> usize

@@ -6,9 +6,8 @@ use headline::{ClientEvent, Move, Step};
 use pvp_book::Book;
 use pvp_parties::{PartyEvent, PartyOutcome};
 use pvp_rooms::{CameOf, Recorded};
-use pvp_world::{FIRST_NODE, FIRST_SITE};
 use rtgs_node::NodeEvent;
-use vr_types::{Event, EventOf};
+use vr_types::{Event, EventOf, FIRST_NODE, FIRST_SITE};
 
 /// The move that an event of an actor was, where it was one; an event that was refused is none. `number` is that of the
 /// envelope that the event delivers.

@@ -19,12 +19,12 @@ use headline::{ClientEvent, ClientFault};
 use pvp_book::{Book, node_of};
 use pvp_rooms::{Actor, Came, Copies, Told};
 use pvp_types::Setup;
-use pvp_world::{Client, FIRST_SITE};
+use pvp_world::Client;
 use rtgs_node::{Node, NodeEvent, NodeFault};
 use std::alloc::{AllocError, Global};
 use std::marker::Model;
 use vr_site::Replica;
-use vr_types::{Boot, BootCell, Config, Event, MemCell};
+use vr_types::{Boot, BootCell, Config, Event, FIRST_SITE, MemCell};
 
 /// A site of the bank.
 #[derive(Drop)]

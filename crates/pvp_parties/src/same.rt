@@ -65,18 +65,11 @@ fn same_known(a: &Known, b: &Known) -> bool
 fn same_rows(a: &Rows<Book>, b: &Rows<Book>) -> bool
     ensures { IsTrue result ↔ (a.now ≡ b.now) }
 {
-    same_log(a.as_slice(), b.as_slice())
-}
-
-/// Whether two logs are the same.
-fn same_log(a: &[Row<Book>], b: &[Row<Book>]) -> bool
-    ensures { IsTrue result ↔ (a.now ≡ b.now) }
-{
     if a.len() != b.len() {
         return false;
     }
-    for i in 0..a.len() {
-        if !same_row(a[i], b[i]) {
+    for at in 0..a.len() {
+        if !same_row(a.row(at), b.row(at)) {
             return false;
         }
     }

@@ -4,9 +4,8 @@ use headline::ClientEvent;
 use pvp_book::Book;
 use pvp_peers::Served;
 use pvp_rooms::CameOf;
-use pvp_world::{FIRST_NODE, FIRST_SITE};
 use rtgs_node::NodeEvent;
-use vr_types::{Envelope, EventOf};
+use vr_types::{Envelope, EventOf, FIRST_NODE, FIRST_SITE};
 
 impl Served for Party {
     ghost use Rattle.pvp_parties.specs.Parties.{delivered, sent};

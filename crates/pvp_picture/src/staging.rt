@@ -8,9 +8,9 @@ use pvp_trace::Attempt;
 use pvp_trace::attempt::push_step;
 use pvp_trace::messages::{kind_name, push_envelope};
 use pvp_trace::names::push_actor;
-use pvp_world::{FIRST_NODE, FIRST_SITE, Report, Step, World, WorldFault};
+use pvp_world::{Report, Step, World, WorldFault};
 use std::alloc::{AllocError, Global};
-use vr_types::MemCell;
+use vr_types::{FIRST_NODE, FIRST_SITE, MemCell};
 
 /// A run: its world at the end, its steps, and where the sites stood before the first and after each.
 #[derive(Drop)]

@@ -5,6 +5,7 @@ use Rattle.std.specs.Option.{option_map_or}
 use Rattle.pvp_types.specs.declared.setup.Setup.{Setup}
 use Rattle.pvp_types.specs.declared.command.Cmd.{Cmd}
 use Rattle.pvp_types.specs.declared.command.Cmd.TheVariants.{Instruct, Rescind, Settle, PayOut}
+use Rattle.vr_types.specs.Actors.{first_node, first_site}
 use Rattle.vr_types.specs.declared.cell.BootCell.{Ghosts as Cell}
 use Rattle.vr_types.specs.Site.{is_normal}
 use Rattle.headline.specs.declared.step.Step.{Step}
@@ -34,8 +35,8 @@ any_currency setup b = (b / 64) % currency_count setup
 abbrev pub any_actor : Setup → ℕ → ℕ
 any_actor setup b =
     let k = b % (setup.sites + currency_count setup + 1 + length setup.members) in
-    if nat_lt k setup.sites then 200 + k
-    else if nat_lt k (setup.sites + currency_count setup) then 101 + (k - setup.sites)
+    if nat_lt k setup.sites then first_site + k
+    else if nat_lt k (setup.sites + currency_count setup) then first_node + (k - setup.sites)
     else k - (setup.sites + currency_count setup)
 
 -- THE TRADES that chaos has made, one a reference

@@ -6,11 +6,11 @@ ghost use Rattle.pvp_play.specs.Chaos.{currency_count, any_member, any_currency,
 use crate::player::Player;
 use headline::Step;
 use pvp_types::{Cmd, Setup};
-use pvp_world::{FIRST_NODE, FIRST_SITE, World};
+use pvp_world::World;
 use rand_core::utils::NextWord;
 use rand_pcg::Lcg64Xsh32;
 use std::alloc::{AllocError, Global};
-use vr_types::{BootCell, Status};
+use vr_types::{BootCell, FIRST_NODE, FIRST_SITE, Status};
 
 /// What a turn of chaos does.
 #[derive(Clone, Copy, Debug, PartialEq, Eq)]

@@ -8,10 +8,11 @@ use crate::actor::Actor;
 use crate::cell::ActorCell;
 use crate::message::Copies;
 use crate::seat::Seat;
-use pvp_world::FIRST_SITE;
 use std::alloc::{AllocError, Global};
 use vr_site::Replica;
-use vr_types::{Boot, BootCell, Config, Event, Machine, Outcome, Sent, SentOf, SiteFault, Why};
+use vr_types::{
+    Boot, BootCell, Config, Event, FIRST_SITE, Machine, Outcome, Sent, SentOf, SiteFault, Why,
+};
 
 /// How an event came out at a site.
 #[derive(Drop)]

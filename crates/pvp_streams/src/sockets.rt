@@ -3,11 +3,11 @@ ghost use Rattle.std.specs.Prelude.{◌≡◌, ◌≢◌, ◌++◌, ◌∷◌, [
 ghost use Rattle.pvp_streams.specs.Links.{is_site, talks, links, links_from, receivers, actors_of, ends_of, goals_of, lists_of, wanted};
 
 use crate::writer::Outgoing;
-use pvp_world::FIRST_SITE;
 use std::alloc::{AllocFailed, Global};
 use std::io::{self, ErrorKind};
 use std::net::{IpAddr, Ipv4Addr, Net, OpenListener, OpenStream, SocketAddr};
 use std::time::Duration;
+use vr_types::FIRST_SITE;
 
 /// The reading end of a stream.
 #[derive(Drop)]

@@ -19,9 +19,10 @@ pub struct Outgoing<W> {
 /// Takes what one actor sends off its channel, and writes each to the stream of its receiver.
 #[derive(Drop)]
 pub struct Writer<W> {
-    alloc: Global,
     from: Receiver<Order>,
     streams: Vec<Outgoing<W>>,
+    /// The bytes of the frame that goes out, so that it goes in one write.
+    bytes: Vec<u8>,
 }
 
 impl Writers {
@@ -42,9 +43,9 @@ impl Writers {
         let (to, from) = unbounded(alloc)?;
         self.lanes.push(Lane { actor, to })?;
         Ok(Writer {
-            alloc,
             from,
             streams,
+            bytes: Vec::new(alloc),
         })
     }
 }
@@ -62,15 +63,16 @@ impl<W: Write + Drop> Writer<W> {
         self.streams.clear();
     }
 
-    /// Writes a frame to the stream of its receiver.
+    /// Writes a frame to the stream of its receiver. Where memory for its bytes is refused the stream is closed too.
     fn write(&mut self, frame: &Frame) {
         let stamped = frame.stamped();
         let to = stamped.envelope.to;
         let Some(at) = self.streams.iter().position(|out| out.to == to) else {
             return;
         };
+        self.bytes.clear();
         let out = &mut self.streams[at];
-        if encode(self.alloc, stamped, &mut out.stream).is_err() {
+        if encode(stamped, &mut self.bytes).is_err() || out.stream.write_all(&self.bytes).is_err() {
             self.streams.swap_remove(at);
         }
     }

@@ -2,6 +2,7 @@
 use Rattle.std.specs.Prelude.{ℕ, ◌-◌, ◌==◌, ◌++◌, nat_le, List, slice_get, if◌then◌else◌, codes, decimal}
 use Rattle.std.specs.Option.{option_map_or}
 use Rattle.pvp_types.specs.declared.setup.Setup.{Setup}
+use Rattle.vr_types.specs.Actors.{first_node, first_site}
 
 -- what the setup has no name for
 abbrev pub numbered : ℕ → List ℕ
@@ -13,7 +14,7 @@ currency_text setup c = option_map_or (λ currency. currency.code) (slice_get se
 -- a site by its number, a node by its currency's code, a client by its name
 abbrev pub actor_text : Setup → ℕ → List ℕ
 actor_text setup actor =
-    if nat_le 200 actor then codes "s" ++ decimal (actor - 200)
-    else if nat_le 101 actor then option_map_or (λ currency. currency.code) (slice_get setup.currencies (actor - 101)) (numbered actor)
+    if nat_le first_site actor then codes "s" ++ decimal (actor - first_site)
+    else if nat_le first_node actor then option_map_or (λ currency. currency.code) (slice_get setup.currencies (actor - first_node)) (numbered actor)
     else if actor == 0 then codes "OP"
     else option_map_or (λ member. member.name) (slice_get setup.members (actor - 1)) (numbered actor)

@@ -4,8 +4,8 @@ ghost use Rattle.std.specs.Prelude.{◌≡◌, ◌++◌, ◌-◌, ◌<◌, slice
 ghost use Rattle.pvp_trace.specs.Names.{currency_text, actor_text};
 
 use pvp_types::Setup;
-use pvp_world::{FIRST_NODE, FIRST_SITE};
 use std::alloc::AllocError;
+use vr_types::{FIRST_NODE, FIRST_SITE};
 
 /// Appends a currency's code, and `@N` where the setup has no such currency.
 pub fn push_currency(text: &mut String, setup: &Setup, ccy: u8) -> Result<(), AllocError>

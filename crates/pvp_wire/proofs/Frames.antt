@@ -7,11 +7,12 @@ use Rattle.byteorder.specs.Endian.{big_number}
 use Rattle.byteorder.specs.Numbers.{big_from-append}
 use Rattle.vr_types.specs.declared.message.MsgOf.TheVariants.{Request, Prepare, PrepareOk, Commit, StartViewChange, DoViewChange, StartView, GetState, NewState, Recovery, RecoveryResponse, Reply, PayOrder}
 use Rattle.vr_types.specs.Messages.{rows_in, known_in}
+use Rattle.vr_types.specs.Actors.{is_actor}
 use Rattle.pvp_wire.specs.declared.fault.WireFault.{WireFault}
 use Rattle.pvp_wire.specs.declared.fault.WireFault.TheVariants.{Short, TooLong, Version, Kind, Length}
 use Rattle.pvp_wire.specs.declared.stamped.Stamp.{Stamp}
 use Rattle.pvp_wire.specs.declared.stamped.Stamped.{Stamped}
-use Rattle.pvp_wire.specs.Spelling.{number, version, kind, body, stamp, head, spelling, has_client, has_site_count, is_actor, most_body, BankMsg}
+use Rattle.pvp_wire.specs.Spelling.{number, version, kind, body, stamp, head, spelling, has_client, has_site_count, most_body, BankMsg}
 use Rattle.pvp_wire.specs.Fits.{IsBytes, Fits, StampFits, IsSpelled}
 use Rattle.pvp_wire.specs.Reading.{◌>>=◌, number_at, stamp_at, envelope_at, all_read, counted_at, frame_where, frame_at, most_length}
 use Rattle.pvp_wire.proofs.Formats.{IsBytes-rest, IsBytes-drop, IsBytes-take, TakesBy, IsFormat, bind_ok, guard_ok, guarded, wanted_ok, not-false, ok_is, fault_is, takes3, again3}

@@ -9,9 +9,11 @@ use Rattle.pvp_types.specs.declared.command.Reply as replies
 use Rattle.pvp_types.specs.declared.command.Reply.TheVariants.{Done, Matched, Settled, Order, No}
 use Rattle.vr_types.specs.declared.message.MsgOf.TheVariants.{Request, Prepare, PrepareOk, Commit, StartViewChange, DoViewChange, StartView, GetState, NewState, Recovery, RecoveryResponse, Reply, PayOrder}
 use Rattle.vr_types.specs.declared.message.StateOf.{StateOf}
+use Rattle.vr_types.specs.Actors.{is_actor}
 use Rattle.vr_types.specs.Messages.{rows_in, known_in}
 use Rattle.pvp_wire.specs.declared.stamped.Stamped.{Stamped}
-use Rattle.pvp_wire.specs.Spelling.{number, command, reply, row, rows, boots, state, body, head, stamp, most_command, most_row, most_rows, most_boots, most_body, BankMsg, BankRow, is_actor, has_client, is_site_count, has_site_count, is_wireable}
+use Rattle.pvp_wire.specs.Spelling.{number, command, reply, row, rows, boots, state, body, head, stamp, most_command, most_row, most_rows, most_boots, most_body, BankMsg, BankRow, has_client, is_site_count, has_site_count, is_wireable}
+use Rattle.pvp_wire.specs.Pieces.{command_size}
 use Rattle.pvp_wire.specs.Fits.{MessageFits, StateFits}
 use Rattle.pvp_wire.proofs.Numbers.{length-number}
 
@@ -52,10 +54,10 @@ reply-short (Settled a) = omega (arith, num 4 a)
 reply-short (Order a) = omega (arith, num 4 a)
 reply-short (No why) = omega arith
 
-row-short : (r : BankRow) → length (row r) ≤ most_row
+pub row-short : (r : BankRow) → length (row r) ≤ most_row
 row-short r = omega (arith, two _ _ _ _ (two _ _ _ _ (num 2 r.client) (num 4 r.number)) (command-short r.cmd))
 
-each-short : (log : List BankRow) → length (flat_map row log) ≤ most_row * length log
+pub each-short : (log : List BankRow) → length (flat_map row log) ≤ most_row * length log
 each-short [] = omega arith
 each-short (r ∷ log) = omega (arith, length-append (row r) (flat_map row log), row-short r, each-short log)
 
@@ -98,6 +100,24 @@ body-short (Recovery a) h k = omega (arith, num 4 a)
 body-short (RecoveryResponse a b c d) h k = omega (arith, two _ _ _ _ (two _ _ _ _ (two _ _ _ _ (num 4 a) (num 4 b)) (boots-short d k)) (state-short c h.3))
 body-short (Reply a b c) h k = omega (arith, two _ _ _ _ (two _ _ _ _ (num 4 a) (num 4 b)) (reply-short c))
 body-short (PayOrder a) h k = omega (arith, two _ _ _ _ (two _ _ _ _ (two _ _ _ _ (num 1 a.ccy) (num 4 a.out)) (num 2 a.member)) (num 8 a.amt))
+
+-- two parts, exactly
+both : (a b : List ℕ) (m n : ℕ) → length a ≡ m → length b ≡ n → length (a ++ b) ≡ m + n
+both a b m n ha hb = omega (arith, length-append a b, ha, hb)
+
+length-command : (cmd : Cmd) → length (command cmd) ≡ command_size cmd
+length-command (Instruct a b c d e f) =
+    let h = both _ _ _ _ (both _ _ _ _ (both _ _ _ _ (both _ _ _ _ (both _ _ _ _ (length-number 4 a) (length-number 2 b)) (length-number 1 c)) (length-number 8 d)) (length-number 1 e)) (length-number 8 f) in
+    omega (arith, h)
+length-command (Rescind a) = omega (arith, length-number 4 a)
+length-command (Fund a b c d) = omega (arith, both _ _ _ _ (both _ _ _ _ (both _ _ _ _ (length-number 1 a) (length-number 4 b)) (length-number 2 c)) (length-number 8 d))
+length-command (Settle a) = omega (arith, length-number 4 a)
+length-command (PayOut a b) = omega (arith, both _ _ _ _ (length-number 1 a) (length-number 8 b))
+length-command (Paid a b) = omega (arith, both _ _ _ _ (length-number 1 a) (length-number 4 b))
+length-command (Returned a b) = omega (arith, both _ _ _ _ (length-number 1 a) (length-number 4 b))
+
+pub length-row : (r : BankRow) → length (row r) ≡ 6 + command_size r.cmd
+length-row r = omega (arith, both _ _ _ _ (both _ _ _ _ (length-number 2 r.client) (length-number 4 r.number)) (length-command r.cmd))
 
 -- of an envelope that has a spelling
 pub spelled-short : (s : Stamped) → MessageFits s.envelope.msg → is_wireable s ≡ true → length (body s.envelope.msg) ≤ most_body

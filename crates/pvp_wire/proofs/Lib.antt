@@ -7,4 +7,5 @@ pub mod Lengths
 pub mod Frames
 pub mod Refusals
 pub mod Streams
+pub mod Written
 pub mod WorkedFrames

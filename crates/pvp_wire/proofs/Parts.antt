@@ -12,7 +12,7 @@ use Rattle.pvp_types.specs.declared.command.Reason.{Reason}
 use Rattle.pvp_types.specs.declared.command.Reason.TheVariants as reason
 use Rattle.pvp_types.specs.declared.command.Reply as replies
 use Rattle.pvp_types.specs.declared.command.Reply.TheVariants.{Done, Matched, Settled, Order, No}
-use Rattle.vr_types.specs.Group.{is_client}
+use Rattle.vr_types.specs.Actors.{is_client}
 use Rattle.pvp_wire.specs.declared.fault.WireFault.TheVariants.{Field}
 use Rattle.pvp_wire.specs.Spelling.{number, command, reply, reason_number, order, row, rows, boots, BankRow, has_client, is_site_count}
 use Rattle.pvp_wire.specs.Fits.{IsBytes, Fits, CommandFits, ReplyFits, OrderFits, RowFits, EachFits, RowsFit, BootsFit}

@@ -1,20 +1,18 @@
 -- Where reading takes memory: only where an item of a list was read.
-use Rattle.std.proofs.Common.{◌≡◌, ◌≢◌, inl, inr, ℕ, zero, suc, ◌+◌, ◌<◌, ◌≤◌, ◌==◌, ◌&&◌, ◌||◌, Bool, true, false, not, nat_lt, nat_le, List, [], ◌∷◌, length, get_or, take, drop, Option, Some, Result, Ok, Err, refl, sym, ap, ◌∙◌, subst, if◌then◌else◌, arith}
+use Rattle.std.proofs.Common.{◌≡◌, ◌≢◌, inl, inr, ℕ, zero, suc, ◌+◌, ◌<◌, ◌≤◌, ◌==◌, ◌&&◌, ◌||◌, Bool, true, false, not, nat_lt, nat_le, List, [], ◌∷◌, length, get_or, take, drop, Some, Result, Ok, Err, refl, sym, ap, ◌∙◌, subst, if◌then◌else◌, arith}
 use Rattle.std.proofs.lemmas.Bool.{ltb-false, leb-true}
 use Rattle.std.proofs.lemmas.List.{get_or-drop, get_or-take}
 use Rattle.byteorder.specs.Endian.{big_number}
-use Rattle.pvp_types.specs.declared.command.Cmd.{Cmd}
 use Rattle.pvp_types.specs.declared.command.Cmd.TheVariants.{Instruct, Rescind, Fund, Settle, PayOut, Paid, Returned}
 use Rattle.pvp_types.specs.declared.command.Reason.{Reason}
 use Rattle.pvp_types.specs.declared.command.Reply.TheVariants.{Settled, Order, No}
-use Rattle.vr_types.specs.declared.message.MsgOf.TheVariants.{Request, Prepare, PrepareOk, Commit, StartViewChange, DoViewChange, StartView, GetState, NewState, Recovery, RecoveryResponse, Reply, PayOrder}
-use Rattle.vr_types.specs.declared.message.StateOf.{StateOf}
-use Rattle.vr_types.specs.Group.{is_client}
-use Rattle.vr_types.specs.Messages.{rows_in, known_in}
+use Rattle.vr_types.specs.declared.message.MsgOf.TheVariants.{Request, Prepare, PrepareOk, Commit, StartViewChange, StartView, GetState, NewState, Recovery, Reply, PayOrder}
+use Rattle.vr_types.specs.Actors.{is_actor, is_client}
+use Rattle.vr_types.specs.Messages.{known_in}
 use Rattle.pvp_wire.specs.declared.fault.WireFault.{WireFault}
 use Rattle.pvp_wire.specs.declared.fault.WireFault.TheVariants.{Short, TooLong, Version, Kind, Field, Length, NoMemory}
 use Rattle.pvp_wire.specs.declared.stamped.Stamped.{Stamped}
-use Rattle.pvp_wire.specs.Spelling.{BankMsg, BankRow, version, is_actor, is_site_count}
+use Rattle.pvp_wire.specs.Spelling.{BankMsg, BankRow, version, is_site_count}
 use Rattle.pvp_wire.specs.Reading.{◌>>=◌, Reads, number_at, listed_at, instruct_at, command_at, reason_at, reply_at, order_at, row_at, items_from, rows_at, boots_at, state_at, option_at, view_and_place_at, request_at, prepare_at, start_view_change_at, do_view_change_at, start_view_at, new_state_at, recovery_response_at, answer_at, message_at, stamp_at, envelope_at, all_read, counted_at, frame_where, most_length, carries_a_list, HasAnItem, IsOfField, frame_at}
 use Rattle.pvp_wire.proofs.Formats.{failed, done, bind_ok, wanted_ok, ok_is, fault_is, reads1, reads2, reads3, reads4, reads5}
 use Rattle.pvp_wire.proofs.Parts.{make_order, make_row, parted}

@@ -10,13 +10,13 @@ use Rattle.pvp_types.specs.declared.command.Reply as replies
 use Rattle.pvp_types.specs.declared.command.Reply.TheVariants.{Done, Matched, Settled, Order, No}
 use Rattle.vr_types.specs.declared.message.MsgOf.TheVariants.{Request, Prepare, PrepareOk, Commit, StartViewChange, DoViewChange, StartView, GetState, NewState, Recovery, RecoveryResponse, Reply, PayOrder}
 use Rattle.vr_types.specs.declared.message.StateOf.{StateOf}
-use Rattle.vr_types.specs.Group.{is_client}
+use Rattle.vr_types.specs.Actors.{is_actor, is_client}
 use Rattle.vr_types.specs.Messages.{rows_in, known_in}
 use Rattle.pvp_wire.specs.declared.fault.WireFault.{WireFault}
 use Rattle.pvp_wire.specs.declared.fault.WireFault.TheVariants.{Short, TooLong, Version, Kind, Field, Length, NoMemory}
 use Rattle.pvp_wire.specs.declared.stamped.Stamp.{Stamp}
 use Rattle.pvp_wire.specs.declared.stamped.Stamped.{Stamped}
-use Rattle.pvp_wire.specs.Spelling.{BankMsg, BankRow, is_actor, is_site_count, version}
+use Rattle.pvp_wire.specs.Spelling.{BankMsg, BankRow, is_site_count, version}
 
 -- one step after another, up to the first that fails
 infixl 10 ◌>>=◌

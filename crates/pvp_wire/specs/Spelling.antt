@@ -1,5 +1,5 @@
 -- How a stamped envelope is spelled in bytes. All numbers are big-endian.
-use Rattle.std.specs.Prelude.{ℕ, ◌+◌, ◌*◌, ◌==◌, ◌&&◌, ◌||◌, Bool, true, nat_le, List, [], ◌∷◌, ◌++◌, length, Option, Some, None}
+use Rattle.std.specs.Prelude.{ℕ, ◌+◌, ◌*◌, ◌==◌, ◌&&◌, Bool, true, nat_le, List, [], ◌∷◌, ◌++◌, length, Option, Some, None}
 use Rattle.std.specs.List.{flat_map, list_all}
 use Rattle.byteorder.specs.Endian.{big_bytes}
 use Rattle.pvp_types.specs.declared.command.Cmd.{Cmd}
@@ -13,7 +13,7 @@ use Rattle.vr_types.specs.declared.message.MsgOf.{MsgOf}
 use Rattle.vr_types.specs.declared.message.MsgOf.TheVariants.{Request, Prepare, PrepareOk, Commit, StartViewChange, DoViewChange, StartView, GetState, NewState, Recovery, RecoveryResponse, Reply, PayOrder}
 use Rattle.vr_types.specs.declared.message.StateOf.{StateOf}
 use Rattle.vr_types.specs.declared.row.RowOf.{RowOf}
-use Rattle.vr_types.specs.Group.{is_client}
+use Rattle.vr_types.specs.Actors.{is_actor, is_client, most_sites}
 use Rattle.vr_types.specs.Messages.{rows_in, known_in}
 use Rattle.pvp_wire.specs.declared.stamped.Stamp.{Stamp}
 use Rattle.pvp_wire.specs.declared.stamped.Stamped.{Stamped}
@@ -145,16 +145,12 @@ most_body = 11 + most_boots + most_rows
 abbrev pub spelling : Stamped → List ℕ
 spelling s = number 4 (18 + length (body s.envelope.msg)) ++ head s ++ body s.envelope.msg
 
--- the numbers that actors may have: clients' and sites'
-abbrev pub is_actor : ℕ → Bool
-is_actor actor = is_client actor || (nat_le 200 actor && nat_le actor 206)
-
 abbrev pub has_client : BankRow → Bool
 has_client r = is_client r.client
 
 -- a group has 1 to 7 sites
 abbrev pub is_site_count : ℕ → Bool
-is_site_count count = nat_le 1 count && nat_le count 7
+is_site_count count = nat_le 1 count && nat_le count most_sites
 
 -- what a message tells of boots, where it tells of them, it tells of so many sites
 abbrev pub has_site_count : Option (List ℕ) → Bool

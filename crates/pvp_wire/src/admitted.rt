@@ -4,10 +4,9 @@ ghost use Rattle.std.specs.List.{list_all};
 ghost use Rattle.vr_types.specs.Messages.{rows_in, rows_of_state, known_in};
 ghost use Rattle.pvp_wire.specs.Spelling.{is_wireable, has_client, is_site_count, has_site_count};
 
-use crate::fields::{is_actor, is_client};
 use crate::stamped::{Message, Stamped};
 use pvp_types::Cmd;
-use vr_types::{MsgOf, RowsOf, StateOf};
+use vr_types::{MOST_SITES, MsgOf, RowsOf, StateOf, is_actor, is_client};
 
 /// Whether a stamped envelope has a spelling: it is from the actor of its stamp, its actors are 0 to 64, 101 to 108 or
 /// 200 to 206, the clients of its rows 0 to 64 or 101 to 108, and the boots that it tells of are those of 1 to 7 sites. It
@@ -59,7 +58,7 @@ fn has_site_count(msg: &Message) -> bool
 pub fn is_site_count(count: usize) -> bool
     ensures { result ≡ is_site_count count }
 {
-    1 <= count && count <= 7
+    1 <= count && count <= usize::from(MOST_SITES)
 }
 
 fn state_has_clients(state: &Option<StateOf<Cmd>>) -> bool
@@ -74,5 +73,10 @@ fn state_has_clients(state: &Option<StateOf<Cmd>>) -> bool
 fn are_of_clients(rows: &RowsOf<Cmd>) -> bool
     ensures { result ≡ list_all has_client rows.now }
 {
-    rows.as_slice().iter().all(|row| is_client(row.client))
+    for at in 0..rows.len() {
+        if !is_client(rows.row(at).client) {
+            return false;
+        }
+    }
+    true
 }

@@ -1,7 +1,7 @@
 //! Fields that take no memory: each is read from the front of the bytes, and answered with the bytes after it.
 ghost use Rattle.std.specs.Prelude.{◌≡◌};
-ghost use Rattle.vr_types.specs.Group.{is_client};
-ghost use Rattle.pvp_wire.specs.Spelling.{is_actor, is_site_count};
+ghost use Rattle.vr_types.specs.Actors.{is_actor, is_client};
+ghost use Rattle.pvp_wire.specs.Spelling.{is_site_count};
 ghost use Rattle.pvp_wire.specs.Reading.{Finds, number_at, listed_at, instruct_at, fund_at, pay_out_at, paid_at, returned_at, command_at, reason_at, reply_at, order_at, row_at, view_and_place_at, stamp_at};
 
 use crate::admitted::is_site_count;
@@ -9,7 +9,7 @@ use crate::fault::WireFault;
 use crate::stamped::Stamp;
 use byteorder::{BigEndian, ByteOrder};
 use pvp_types::{Cmd, PayOrder, Reason, Reply};
-use vr_types::RowOf;
+use vr_types::{RowOf, is_actor, is_client};
 
 pub fn u8_at(bytes: &[u8]) -> Result<(u8, &[u8]), WireFault>
     ensures { Finds (λ x. (x.0, x.1.now)) result (number_at 1 bytes.now) }
@@ -78,18 +78,6 @@ pub fn site_count_at(bytes: &[u8]) -> Result<(u8, &[u8]), WireFault>
         return Err(WireFault::Field);
     }
     Ok((count, rest))
-}
-
-pub fn is_client(number: u16) -> bool
-    ensures { result ≡ is_client number }
-{
-    number <= 64 || 101 <= number && number <= 108
-}
-
-pub fn is_actor(number: u16) -> bool
-    ensures { result ≡ is_actor number }
-{
-    is_client(number) || 200 <= number && number <= 206
 }
 
 fn instruct_at(bytes: &[u8]) -> Result<(Cmd, &[u8]), WireFault>

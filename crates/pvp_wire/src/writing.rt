@@ -1,113 +1,249 @@
-//! The spelling of frames.
-ghost use Rattle.std.specs.Prelude.{◌≡◌, ◌+◌, ◌≤◌, ◌++◌, ◌∷◌, [], true, length, OnOk};
+//! The spelling of frames. All of a frame but its rows fits on the stack, and the rows are written one by one, so that a
+//! frame takes no memory.
+ghost use Rattle.std.specs.Prelude.{◌≡◌, ◌+◌, ◌<◌, ◌≤◌, ◌++◌, ◌∷◌, [], true, length, OnOk, option_map};
 ghost use Rattle.std.specs.Io.KnownBytes.{Appends};
+ghost use Rattle.std.specs.List.{flat_map};
+ghost use Rattle.arrayvec.specs.ArrayVec.{array_vec_len};
 ghost use Rattle.pvp_types.specs.declared.command.Cmd.TheVariants.{PayOut, Paid, Returned};
 ghost use Rattle.vr_types.specs.declared.message.MsgOf.TheVariants as message;
 ghost use Rattle.vr_types.specs.Messages.{known_in};
 ghost use Rattle.pvp_wire.specs.Spelling as spell;
-ghost use Rattle.pvp_wire.specs.Fits.{Fits, CommandFits, ReplyFits, OrderFits, RowFits, RowsFit, BootsFit, StateFits, MessageFits, StampFits, IsSpelled};
+ghost use Rattle.pvp_wire.specs.Pieces as piece;
+ghost use Rattle.pvp_wire.specs.Fits.{Fits, CommandFits, ReplyFits, OrderFits, RowFits, RowsFit, EachFits, BootsFit, StateFits, MessageFits, StampFits, IsSpelled};
 
 use crate::reading::VERSION;
 use crate::stamped::{Message, Stamp, Stamped};
+use arrayvec::ArrayVec;
 use byteorder::{BigEndian, ByteOrder};
 use pvp_types::{Cmd, PayOrder, Reason, Reply};
-use std::alloc::{AllocError, Global};
 use std::io::{self, Write};
 use vr_types::{Known, MsgOf, RowOf, RowsOf, StateOf};
 
-/// Writes the one spelling of a stamped envelope, which has to have one: `wireable` tells.
+/// Bytes on the stack. What of a message stands in front of its rows fits, and so does each row.
+type Piece = ArrayVec<u8, 64>;
+
+/// Writes the one spelling of a stamped envelope, which has to have one: `wireable` tells. It takes no memory.
 ///
-/// An `Err` is the writer's, or says that memory was refused; how much was written then is not said.
-pub fn encode<W: Write>(alloc: Global, stamped: &Stamped, writer: &mut W) -> io::Result<()>
+/// An `Err` is the writer's; how much was written then is not said. A row is written at a time, so a writer for which each
+/// write is dear should be one that holds back what it is given.
+pub fn encode<W: Write>(stamped: &Stamped, writer: &mut W) -> io::Result<()>
     requires { spell.is_wireable stamped.now ≡ true }
     ensures written { OnOk result (Appends (W.contents writer.old) (W.contents writer.new) (spell.spelling stamped.now)) }
     // So `decode` reads it again.
     ensures spelled { OnOk result (IsSpelled stamped.now) }
 {
-    let mut body = Vec::new(alloc);
-    push_body(&mut body, &stamped.envelope.msg)?;
-    let mut head = Vec::new(alloc);
-    push_head(&mut head, stamped, body.len() as u32)?;
+    let msg = &stamped.envelope.msg;
+    let mut front = Piece::new();
+    push_front(&mut front, msg);
+    let mut head = Piece::new();
+    push_head(&mut head, stamped, front.len() as u32 + rows_len(msg));
     writer.write_all(head.as_slice())?;
-    writer.write_all(body.as_slice())
+    writer.write_all(front.as_slice())?;
+    write_rows(msg, writer)
+}
+
+/// The rows with which a message ends.
+fn last_rows(msg: &Message) -> Option<&RowsOf<Cmd>>
+    ensures { option_map (λ lent. lent.now) result ≡ piece.last_rows msg.now }
+{
+    match msg {
+        MsgOf::DoViewChange { rows, .. } => Some(rows),
+        MsgOf::StartView { rows, .. } => Some(rows),
+        MsgOf::NewState { rows, .. } => Some(rows),
+        MsgOf::RecoveryResponse { state, .. } => rows_of(state),
+        _ => None,
+    }
+}
+
+/// The rows of a state, where there is one.
+fn rows_of(state: &Option<StateOf<Cmd>>) -> Option<&RowsOf<Cmd>>
+    ensures { option_map (λ lent. lent.now) result ≡ piece.rows_of state.now }
+{
+    match state {
+        Some(state) => Some(&state.rows),
+        None => None,
+    }
+}
+
+/// How many bytes the rows take with which a message ends.
+fn rows_len(msg: &Message) -> u32
+    ensures exact { result ≡ length (piece.spelled (piece.last_rows msg.now)) }
+    ensures few { result ≤ spell.most_rows }
+    ensures fits { piece.LastFits (piece.last_rows msg.now) }
+{
+    match last_rows(msg) {
+        Some(rows) => each_len(rows),
+        None => 0,
+    }
+}
+
+/// How many bytes the rows of a list take.
+fn each_len(rows: &RowsOf<Cmd>) -> u32
+    ensures exact { result ≡ length (flat_map spell.row rows.now) }
+    ensures few { result ≤ spell.most_rows }
+    ensures fits { RowsFit rows.now }
+{
+    let mut len = 0;
+    for at in 0..rows.len() {
+        len += row_len(rows.row(at));
+    }
+    len
+}
+
+/// How many bytes a row takes.
+fn row_len(row: RowOf<Cmd>) -> u32
+    ensures exact { result ≡ length (spell.row row) }
+    ensures few { result ≤ spell.most_row }
+    ensures fits { RowFits row }
+{
+    6 + command_len(row.cmd)
+}
+
+/// How many bytes a command takes: its tag and its fields.
+fn command_len(cmd: Cmd) -> u32
+    ensures { result ≡ piece.command_size cmd }
+{
+    match cmd {
+        Cmd::Instruct { .. } => 25,
+        Cmd::Rescind { .. } => 5,
+        Cmd::Fund { .. } => 16,
+        Cmd::Settle { .. } => 5,
+        Cmd::PayOut { .. } => 10,
+        Cmd::Paid { .. } => 6,
+        Cmd::Returned { .. } => 6,
+    }
+}
+
+/// Writes the rows with which a message ends, one by one.
+fn write_rows<W: Write>(msg: &Message, writer: &mut W) -> io::Result<()>
+    ensures { OnOk result (Appends (W.contents writer.old) (W.contents writer.new) (piece.spelled (piece.last_rows msg.now))) }
+{
+    match last_rows(msg) {
+        Some(rows) => write_each(rows, writer),
+        None => Ok(()),
+    }
+}
+
+/// Writes the rows of a list one by one.
+fn write_each<W: Write>(rows: &RowsOf<Cmd>, writer: &mut W) -> io::Result<()>
+    ensures { OnOk result (Appends (W.contents writer.old) (W.contents writer.new) (flat_map spell.row rows.now)) }
+{
+    for at in 0..rows.len() {
+        write_row(rows.row(at), writer)?;
+    }
+    Ok(())
+}
+
+/// Writes a row at once.
+fn write_row<W: Write>(row: RowOf<Cmd>, writer: &mut W) -> io::Result<()>
+    ensures { OnOk result (Appends (W.contents writer.old) (W.contents writer.new) (spell.row row)) }
+{
+    let mut piece = Piece::new();
+    push_row(&mut piece, row);
+    writer.write_all(piece.as_slice())
 }
 
 /// The length of a frame whose body has so many bytes, and its head.
-fn push_head(out: &mut Vec<u8>, stamped: &Stamped, body: u32) -> Result<(), AllocError>
-    requires { body ≤ spell.most_body }
-    ensures bytes { OnOk result (out.new.items ≡ out.old.items ++ spell.number 4 (18 + body) ++ spell.head stamped.now) }
-    ensures fits { OnOk result (StampFits stamped.now.stamp × Fits 2 stamped.now.envelope.to) }
+fn push_head(out: &mut Piece, stamped: &Stamped, body: u32)
+    requires room { array_vec_len out.old + 22 ≤ piece.room }
+    requires short { body ≤ spell.most_body }
+    ensures bytes { out.new.items ≡ out.old.items ++ spell.number 4 (18 + body) ++ spell.head stamped.now }
+    ensures fits { StampFits stamped.now.stamp × Fits 2 stamped.now.envelope.to }
 {
-    push_u32(out, 18 + body)?;
-    push_kind(out, &stamped.envelope.msg)?;
-    push_stamp(out, stamped.stamp)?;
-    push_u16(out, stamped.envelope.to)
+    push_u32(out, 18 + body);
+    push_kind(out, &stamped.envelope.msg);
+    push_stamp(out, stamped.stamp);
+    push_u16(out, stamped.envelope.to);
 }
 
 /// The version, and a message's kind.
-fn push_kind(out: &mut Vec<u8>, msg: &Message) -> Result<(), AllocError>
-    ensures { OnOk result (out.new.items ≡ out.old.items ++ spell.version ∷ spell.kind msg.now ∷ []) }
+fn push_kind(out: &mut Piece, msg: &Message)
+    requires { array_vec_len out.old + 2 ≤ piece.room }
+    ensures bytes { out.new.items ≡ out.old.items ++ spell.version ∷ spell.kind msg.now ∷ [] }
+    ensures len { array_vec_len out.new ≡ array_vec_len out.old + 2 }
 {
-    push_tag(out, VERSION)?;
-    push_tag(out, kind_of(msg))
+    push_tag(out, VERSION);
+    push_tag(out, kind_of(msg));
 }
 
-fn push_stamp(out: &mut Vec<u8>, stamp: Stamp) -> Result<(), AllocError>
-    ensures bytes { OnOk result (out.new.items ≡ out.old.items ++ spell.stamp stamp) }
-    ensures fits { OnOk result (StampFits stamp) }
+fn push_stamp(out: &mut Piece, stamp: Stamp)
+    requires { array_vec_len out.old + 14 ≤ piece.room }
+    ensures bytes { out.new.items ≡ out.old.items ++ spell.stamp stamp }
+    ensures len { array_vec_len out.new ≡ array_vec_len out.old + 14 }
+    ensures fits { StampFits stamp }
 {
-    push_u16(out, stamp.actor)?;
-    push_u64(out, stamp.clock)?;
-    push_u32(out, stamp.index)
+    push_u16(out, stamp.actor);
+    push_u64(out, stamp.clock);
+    push_u32(out, stamp.index);
+}
+
+/// The bytes of a field.
+fn push_field(out: &mut Piece, field: &[u8])
+    requires { array_vec_len out.old + length field.now ≤ piece.room }
+    ensures bytes { out.new.items ≡ out.old.items ++ field.now }
+    ensures len { array_vec_len out.new ≡ array_vec_len out.old + length field.now }
+{
+    // there is room
+    let _ = out.try_extend_from_slice(field);
 }
 
 #[tactic(auto, unfolding(crate::specs::Spelling::number))]
-fn push_u8(out: &mut Vec<u8>, number: u8) -> Result<(), AllocError>
-    ensures { OnOk result (out.new.items ≡ out.old.items ++ spell.number 1 number) }
+fn push_u8(out: &mut Piece, number: u8)
+    requires { array_vec_len out.old + 1 ≤ piece.room }
+    ensures bytes { out.new.items ≡ out.old.items ++ spell.number 1 number }
+    ensures len { array_vec_len out.new ≡ array_vec_len out.old + 1 }
 {
-    out.push(number)?;
-    Ok(())
+    out.push(number);
 }
 
 #[tactic(auto, unfolding(crate::specs::Spelling::number))]
-fn push_u16(out: &mut Vec<u8>, number: u16) -> Result<(), AllocError>
-    ensures { OnOk result (out.new.items ≡ out.old.items ++ spell.number 2 number) }
+fn push_u16(out: &mut Piece, number: u16)
+    requires { array_vec_len out.old + 2 ≤ piece.room }
+    ensures bytes { out.new.items ≡ out.old.items ++ spell.number 2 number }
+    ensures len { array_vec_len out.new ≡ array_vec_len out.old + 2 }
 {
     let mut field = [0; 2];
     BigEndian::write_u16(&mut field, number);
-    out.extend_from_slice(&field)
+    push_field(out, &field);
 }
 
 #[tactic(auto, unfolding(crate::specs::Spelling::number))]
-fn push_u32(out: &mut Vec<u8>, number: u32) -> Result<(), AllocError>
-    ensures { OnOk result (out.new.items ≡ out.old.items ++ spell.number 4 number) }
+fn push_u32(out: &mut Piece, number: u32)
+    requires { array_vec_len out.old + 4 ≤ piece.room }
+    ensures bytes { out.new.items ≡ out.old.items ++ spell.number 4 number }
+    ensures len { array_vec_len out.new ≡ array_vec_len out.old + 4 }
 {
     let mut field = [0; 4];
     BigEndian::write_u32(&mut field, number);
-    out.extend_from_slice(&field)
+    push_field(out, &field);
 }
 
 #[tactic(auto, unfolding(crate::specs::Spelling::number))]
-fn push_u64(out: &mut Vec<u8>, number: u64) -> Result<(), AllocError>
-    ensures { OnOk result (out.new.items ≡ out.old.items ++ spell.number 8 number) }
+fn push_u64(out: &mut Piece, number: u64)
+    requires { array_vec_len out.old + 8 ≤ piece.room }
+    ensures bytes { out.new.items ≡ out.old.items ++ spell.number 8 number }
+    ensures len { array_vec_len out.new ≡ array_vec_len out.old + 8 }
 {
     let mut field = [0; 8];
     BigEndian::write_u64(&mut field, number);
-    out.extend_from_slice(&field)
+    push_field(out, &field);
 }
 
 /// A byte that tells what follows.
-fn push_tag(out: &mut Vec<u8>, tag: u8) -> Result<(), AllocError>
-    ensures { OnOk result (out.new.items ≡ out.old.items ++ tag ∷ []) }
+fn push_tag(out: &mut Piece, tag: u8)
+    requires { array_vec_len out.old + 1 ≤ piece.room }
+    ensures bytes { out.new.items ≡ out.old.items ++ tag ∷ [] }
+    ensures len { array_vec_len out.new ≡ array_vec_len out.old + 1 }
 {
-    out.push(tag)?;
-    Ok(())
+    out.push(tag);
 }
 
 /// A command: its tag, then its fields.
-fn push_command(out: &mut Vec<u8>, cmd: Cmd) -> Result<(), AllocError>
-    ensures bytes { OnOk result (out.new.items ≡ out.old.items ++ spell.command cmd) }
-    ensures fits { OnOk result (CommandFits cmd) }
+fn push_command(out: &mut Piece, cmd: Cmd)
+    requires { array_vec_len out.old + 25 ≤ piece.room }
+    ensures bytes { out.new.items ≡ out.old.items ++ spell.command cmd }
+    ensures len { array_vec_len out.new ≤ array_vec_len out.old + 25 }
+    ensures fits { CommandFits cmd }
 {
     match cmd {
         Cmd::Instruct {
@@ -118,10 +254,10 @@ fn push_command(out: &mut Vec<u8>, cmd: Cmd) -> Result<(), AllocError>
             buy,
             buy_amt,
         } => {
-            push_tagged(out, 1, reference)?;
-            push_u16(out, other)?;
-            push_leg(out, sell, sell_amt)?;
-            push_leg(out, buy, buy_amt)
+            push_tagged(out, 1, reference);
+            push_u16(out, other);
+            push_leg(out, sell, sell_amt);
+            push_leg(out, buy, buy_amt);
         }
         Cmd::Rescind { reference } => push_tagged(out, 2, reference),
         Cmd::Fund {
@@ -130,8 +266,8 @@ fn push_command(out: &mut Vec<u8>, cmd: Cmd) -> Result<(), AllocError>
             member,
             amt,
         } => {
-            push_tag(out, 3)?;
-            push_payment(out, ccy, pay, member, amt)
+            push_tag(out, 3);
+            push_payment(out, ccy, pay, member, amt);
         }
         Cmd::Settle { most } => push_tagged(out, 4, most),
         Cmd::PayOut { ccy, amt } => push_pay_out(out, ccy, amt),
@@ -141,61 +277,67 @@ fn push_command(out: &mut Vec<u8>, cmd: Cmd) -> Result<(), AllocError>
 }
 
 /// That a member asks for a pay-out.
-fn push_pay_out(out: &mut Vec<u8>, ccy: u8, amt: u64) -> Result<(), AllocError>
-    ensures { OnOk result (out.new.items ≡ out.old.items ++ spell.command (PayOut ccy amt)) }
+fn push_pay_out(out: &mut Piece, ccy: u8, amt: u64)
+    requires { array_vec_len out.old + 10 ≤ piece.room }
+    ensures bytes { out.new.items ≡ out.old.items ++ spell.command (PayOut ccy amt) }
+    ensures len { array_vec_len out.new ≡ array_vec_len out.old + 10 }
 {
-    push_tag(out, 5)?;
-    push_leg(out, ccy, amt)
+    push_tag(out, 5);
+    push_leg(out, ccy, amt);
 }
 
 /// That a pay-out is paid.
-fn push_paid(out: &mut Vec<u8>, ccy: u8, number: u32) -> Result<(), AllocError>
-    ensures { OnOk result (out.new.items ≡ out.old.items ++ spell.command (Paid ccy number)) }
+fn push_paid(out: &mut Piece, ccy: u8, number: u32)
+    requires { array_vec_len out.old + 6 ≤ piece.room }
+    ensures bytes { out.new.items ≡ out.old.items ++ spell.command (Paid ccy number) }
+    ensures len { array_vec_len out.new ≡ array_vec_len out.old + 6 }
 {
-    push_tag(out, 6)?;
-    push_u8(out, ccy)?;
-    push_u32(out, number)
+    push_tag(out, 6);
+    push_u8(out, ccy);
+    push_u32(out, number);
 }
 
 /// That a pay-out could not be paid.
-fn push_returned(out: &mut Vec<u8>, ccy: u8, number: u32) -> Result<(), AllocError>
-    ensures { OnOk result (out.new.items ≡ out.old.items ++ spell.command (Returned ccy number)) }
+fn push_returned(out: &mut Piece, ccy: u8, number: u32)
+    requires { array_vec_len out.old + 6 ≤ piece.room }
+    ensures bytes { out.new.items ≡ out.old.items ++ spell.command (Returned ccy number) }
+    ensures len { array_vec_len out.new ≡ array_vec_len out.old + 6 }
 {
-    push_tag(out, 7)?;
-    push_u8(out, ccy)?;
-    push_u32(out, number)
+    push_tag(out, 7);
+    push_u8(out, ccy);
+    push_u32(out, number);
 }
 
 /// A tag and a number of four bytes.
-fn push_tagged(out: &mut Vec<u8>, tag: u8, number: u32) -> Result<(), AllocError>
-    ensures { OnOk result (out.new.items ≡ out.old.items ++ tag ∷ spell.number 4 number) }
+fn push_tagged(out: &mut Piece, tag: u8, number: u32)
+    requires { array_vec_len out.old + 5 ≤ piece.room }
+    ensures bytes { out.new.items ≡ out.old.items ++ tag ∷ spell.number 4 number }
+    ensures len { array_vec_len out.new ≡ array_vec_len out.old + 5 }
 {
-    push_tag(out, tag)?;
-    push_u32(out, number)
+    push_tag(out, tag);
+    push_u32(out, number);
 }
 
 /// A currency and an amount.
-fn push_leg(out: &mut Vec<u8>, ccy: u8, amt: u64) -> Result<(), AllocError>
-    ensures { OnOk result (out.new.items ≡ out.old.items ++ spell.number 1 ccy ++ spell.number 8 amt) }
+fn push_leg(out: &mut Piece, ccy: u8, amt: u64)
+    requires { array_vec_len out.old + 9 ≤ piece.room }
+    ensures bytes { out.new.items ≡ out.old.items ++ spell.number 1 ccy ++ spell.number 8 amt }
+    ensures len { array_vec_len out.new ≡ array_vec_len out.old + 9 }
 {
-    push_u8(out, ccy)?;
-    push_u64(out, amt)
+    push_u8(out, ccy);
+    push_u64(out, amt);
 }
 
 /// A payment at a currency's node, in or out: its number there, the member and the amount.
-fn push_payment(
-    out: &mut Vec<u8>,
-    ccy: u8,
-    number: u32,
-    member: u16,
-    amt: u64,
-) -> Result<(), AllocError>
-    ensures { OnOk result (out.new.items ≡ out.old.items ++ spell.number 1 ccy ++ spell.number 4 number ++ spell.number 2 member ++ spell.number 8 amt) }
+fn push_payment(out: &mut Piece, ccy: u8, number: u32, member: u16, amt: u64)
+    requires { array_vec_len out.old + 15 ≤ piece.room }
+    ensures bytes { out.new.items ≡ out.old.items ++ spell.number 1 ccy ++ spell.number 4 number ++ spell.number 2 member ++ spell.number 8 amt }
+    ensures len { array_vec_len out.new ≡ array_vec_len out.old + 15 }
 {
-    push_u8(out, ccy)?;
-    push_u32(out, number)?;
-    push_u16(out, member)?;
-    push_u64(out, amt)
+    push_u8(out, ccy);
+    push_u32(out, number);
+    push_u16(out, member);
+    push_u64(out, amt);
 }
 
 /// The number of a reason's code.
@@ -218,9 +360,11 @@ fn reason_number(reason: Reason) -> u8
 }
 
 /// An answer: its tag, then its field.
-fn push_reply(out: &mut Vec<u8>, reply: Reply) -> Result<(), AllocError>
-    ensures bytes { OnOk result (out.new.items ≡ out.old.items ++ spell.reply reply) }
-    ensures fits { OnOk result (ReplyFits reply) }
+fn push_reply(out: &mut Piece, reply: Reply)
+    requires { array_vec_len out.old + 5 ≤ piece.room }
+    ensures bytes { out.new.items ≡ out.old.items ++ spell.reply reply }
+    ensures len { array_vec_len out.new ≤ array_vec_len out.old + 5 }
+    ensures fits { ReplyFits reply }
 {
     match reply {
         Reply::Done => push_tag(out, 1),
@@ -228,65 +372,68 @@ fn push_reply(out: &mut Vec<u8>, reply: Reply) -> Result<(), AllocError>
         Reply::Settled(count) => push_tagged(out, 3, count),
         Reply::Order(number) => push_tagged(out, 4, number),
         Reply::No(reason) => {
-            push_tag(out, 5)?;
-            push_tag(out, reason_number(reason))
+            push_tag(out, 5);
+            push_tag(out, reason_number(reason));
         }
     }
 }
 
 /// A pay-out's order.
-fn push_order(out: &mut Vec<u8>, order: PayOrder) -> Result<(), AllocError>
-    ensures bytes { OnOk result (out.new.items ≡ out.old.items ++ spell.order order) }
-    ensures fits { OnOk result (OrderFits order) }
+fn push_order(out: &mut Piece, order: PayOrder)
+    requires { array_vec_len out.old + 15 ≤ piece.room }
+    ensures bytes { out.new.items ≡ out.old.items ++ spell.order order }
+    ensures len { array_vec_len out.new ≡ array_vec_len out.old + 15 }
+    ensures fits { OrderFits order }
 {
-    push_payment(out, order.ccy, order.out, order.member, order.amt)
+    push_payment(out, order.ccy, order.out, order.member, order.amt);
 }
 
-fn push_row(out: &mut Vec<u8>, row: &RowOf<Cmd>) -> Result<(), AllocError>
-    ensures bytes { OnOk result (out.new.items ≡ out.old.items ++ spell.row row.now) }
-    ensures fits { OnOk result (RowFits row.now) }
+fn push_row(out: &mut Piece, row: RowOf<Cmd>)
+    requires { array_vec_len out.old + 31 ≤ piece.room }
+    ensures bytes { out.new.items ≡ out.old.items ++ spell.row row }
+    ensures len { array_vec_len out.new ≤ array_vec_len out.old + 31 }
+    ensures fits { RowFits row }
 {
-    push_u16(out, row.client)?;
-    push_u32(out, row.number)?;
-    push_command(out, row.cmd)
+    push_u16(out, row.client);
+    push_u32(out, row.number);
+    push_command(out, row.cmd);
 }
 
-/// A count, and the rows.
-fn push_rows(out: &mut Vec<u8>, rows: &RowsOf<Cmd>) -> Result<(), AllocError>
-    ensures bytes { OnOk result (out.new.items ≡ out.old.items ++ spell.rows rows.now) }
-    ensures fits { OnOk result (RowsFit rows.now) }
+/// How many rows there are. They come behind it.
+fn push_count(out: &mut Piece, rows: &RowsOf<Cmd>)
+    requires { array_vec_len out.old + 2 ≤ piece.room }
+    ensures bytes { out.new.items ++ flat_map spell.row rows.now ≡ out.old.items ++ spell.rows rows.now }
+    ensures len { array_vec_len out.new ≡ array_vec_len out.old + 2 }
 {
-    push_u16(out, rows.len() as u16)?;
-    for row in rows.as_slice() {
-        push_row(out, row)?;
-    }
-    Ok(())
+    push_u16(out, rows.len() as u16);
 }
 
 /// Of how many sites the boots are told, and the boot number of each.
-fn push_boots(out: &mut Vec<u8>, known: &Known) -> Result<(), AllocError>
-    requires { spell.is_site_count (length known.now) ≡ true }
-    ensures bytes { OnOk result (out.new.items ≡ out.old.items ++ spell.boots known.now) }
-    ensures fits { OnOk result (BootsFit known.now) }
+fn push_boots(out: &mut Piece, known: &Known)
+    requires room { array_vec_len out.old + 29 ≤ piece.room }
+    requires count { spell.is_site_count (length known.now) ≡ true }
+    ensures bytes { out.new.items ≡ out.old.items ++ spell.boots known.now }
+    ensures len { array_vec_len out.new ≤ array_vec_len out.old + 29 }
+    ensures fits { BootsFit known.now }
 {
-    push_u8(out, known.len() as u8)?;
+    push_u8(out, known.len() as u8);
     for site in 0..known.len() {
-        push_u32(out, known.get(site as u16))?;
+        push_u32(out, known.get(site as u16));
     }
-    Ok(())
 }
 
-/// 0, or 1 and the state.
-fn push_state(out: &mut Vec<u8>, state: &Option<StateOf<Cmd>>) -> Result<(), AllocError>
-    ensures bytes { OnOk result (out.new.items ≡ out.old.items ++ spell.state state.now) }
-    ensures fits { OnOk result (StateFits state.now) }
+/// 0, or 1 and the state in front of its rows.
+fn push_state(out: &mut Piece, state: &Option<StateOf<Cmd>>)
+    requires { array_vec_len out.old + 5 ≤ piece.room }
+    ensures bytes { out.new.items ++ piece.spelled (piece.rows_of state.now) ≡ out.old.items ++ spell.state state.now }
+    ensures fits { piece.LastFits (piece.rows_of state.now) → StateFits state.now }
 {
     match state {
         None => push_tag(out, 0),
         Some(state) => {
-            push_tag(out, 1)?;
-            push_u16(out, state.done)?;
-            push_rows(out, &state.rows)
+            push_tag(out, 1);
+            push_u16(out, state.done);
+            push_count(out, &state.rows);
         }
     }
 }
@@ -313,18 +460,21 @@ fn kind_of(msg: &Message) -> u8
 }
 
 /// A view and a number of two bytes.
-fn push_view_and_place(out: &mut Vec<u8>, view: u32, place: u16) -> Result<(), AllocError>
-    ensures { OnOk result (out.new.items ≡ out.old.items ++ spell.number 4 view ++ spell.number 2 place) }
+fn push_view_and_place(out: &mut Piece, view: u32, place: u16)
+    requires { array_vec_len out.old + 6 ≤ piece.room }
+    ensures bytes { out.new.items ≡ out.old.items ++ spell.number 4 view ++ spell.number 2 place }
+    ensures len { array_vec_len out.new ≡ array_vec_len out.old + 6 }
 {
-    push_u32(out, view)?;
-    push_u16(out, place)
+    push_u32(out, view);
+    push_u16(out, place);
 }
 
-/// The fields of a message.
-fn push_body(out: &mut Vec<u8>, msg: &Message) -> Result<(), AllocError>
-    requires { spell.has_site_count (known_in msg.now) ≡ true }
-    ensures bytes { OnOk result (out.new.items ≡ out.old.items ++ spell.body msg.now) }
-    ensures fits { OnOk result (MessageFits msg.now) }
+/// The fields of a message in front of its last rows.
+fn push_front(out: &mut Piece, msg: &Message)
+    requires count { spell.has_site_count (known_in msg.now) ≡ true }
+    requires room { array_vec_len out.old + 42 ≤ piece.room }
+    ensures bytes { out.new.items ++ piece.spelled (piece.last_rows msg.now) ≡ out.old.items ++ spell.body msg.now }
+    ensures fits { piece.LastFits (piece.last_rows msg.now) → MessageFits msg.now }
 {
     match msg {
         MsgOf::Request { number, cmd } => push_request(out, *number, *cmd),
@@ -333,7 +483,7 @@ fn push_body(out: &mut Vec<u8>, msg: &Message) -> Result<(), AllocError>
             place,
             done,
             row,
-        } => push_prepare(out, *view, *place, *done, row),
+        } => push_prepare(out, *view, *place, *done, *row),
         MsgOf::PrepareOk { view, place } => push_view_and_place(out, *view, *place),
         MsgOf::Commit { view, done } => push_view_and_place(out, *view, *done),
         MsgOf::StartViewChange { view, known } => push_start_view_change(out, *view, known),
@@ -368,111 +518,99 @@ fn push_body(out: &mut Vec<u8>, msg: &Message) -> Result<(), AllocError>
     }
 }
 
-fn push_request(out: &mut Vec<u8>, number: u32, cmd: Cmd) -> Result<(), AllocError>
-    ensures bytes { OnOk result (out.new.items ≡ out.old.items ++ spell.body (message.Request number cmd)) }
-    ensures fits { OnOk result (CommandFits cmd) }
+fn push_request(out: &mut Piece, number: u32, cmd: Cmd)
+    requires { array_vec_len out.old + 29 ≤ piece.room }
+    ensures bytes { out.new.items ≡ out.old.items ++ spell.body (message.Request number cmd) }
+    ensures fits { CommandFits cmd }
 {
-    push_u32(out, number)?;
-    push_command(out, cmd)
+    push_u32(out, number);
+    push_command(out, cmd);
 }
 
-fn push_prepare(
-    out: &mut Vec<u8>,
-    view: u32,
-    place: u16,
-    done: u16,
-    row: &RowOf<Cmd>,
-) -> Result<(), AllocError>
-    ensures bytes { OnOk result (out.new.items ≡ out.old.items ++ spell.body (message.Prepare view place done row.now)) }
-    ensures fits { OnOk result (RowFits row.now) }
+fn push_prepare(out: &mut Piece, view: u32, place: u16, done: u16, row: RowOf<Cmd>)
+    requires { array_vec_len out.old + 39 ≤ piece.room }
+    ensures bytes { out.new.items ≡ out.old.items ++ spell.body (message.Prepare view place done row) }
+    ensures fits { RowFits row }
 {
-    push_view_and_place(out, view, place)?;
-    push_u16(out, done)?;
-    push_row(out, row)
+    push_view_and_place(out, view, place);
+    push_u16(out, done);
+    push_row(out, row);
 }
 
-fn push_start_view_change(out: &mut Vec<u8>, view: u32, known: &Known) -> Result<(), AllocError>
-    requires { spell.is_site_count (length known.now) ≡ true }
-    ensures bytes { OnOk result (out.new.items
-        ≡ out.old.items ++ spell.body (message.StartViewChange view known.now)) }
-    ensures fits { OnOk result (BootsFit known.now) }
+fn push_start_view_change(out: &mut Piece, view: u32, known: &Known)
+    requires count { spell.is_site_count (length known.now) ≡ true }
+    requires room { array_vec_len out.old + 33 ≤ piece.room }
+    ensures bytes { out.new.items ≡ out.old.items ++ spell.body (message.StartViewChange view known.now) }
+    ensures fits { BootsFit known.now }
 {
-    push_u32(out, view)?;
-    push_boots(out, known)
+    push_u32(out, view);
+    push_boots(out, known);
 }
 
 fn push_do_view_change(
-    out: &mut Vec<u8>,
+    out: &mut Piece,
     view: u32,
     last_normal: u32,
     done: u16,
     rows: &RowsOf<Cmd>,
     known: &Known,
-) -> Result<(), AllocError>
-    requires { spell.is_site_count (length known.now) ≡ true }
-    ensures bytes { OnOk result (out.new.items ≡ out.old.items
-        ++ spell.body (message.DoViewChange view last_normal done rows.now known.now)) }
-    ensures fits { OnOk result (BootsFit known.now × RowsFit rows.now) }
+)
+    requires count { spell.is_site_count (length known.now) ≡ true }
+    requires room { array_vec_len out.old + 41 ≤ piece.room }
+    ensures bytes { out.new.items ++ flat_map spell.row rows.now ≡ out.old.items
+        ++ spell.body (message.DoViewChange view last_normal done rows.now known.now) }
+    ensures fits { BootsFit known.now }
 {
-    push_u32(out, view)?;
-    push_view_and_place(out, last_normal, done)?;
-    push_boots(out, known)?;
-    push_rows(out, rows)
+    push_u32(out, view);
+    push_view_and_place(out, last_normal, done);
+    push_boots(out, known);
+    push_count(out, rows);
 }
 
-fn push_start_view(
-    out: &mut Vec<u8>,
-    view: u32,
-    done: u16,
-    rows: &RowsOf<Cmd>,
-) -> Result<(), AllocError>
-    ensures bytes { OnOk result (out.new.items ≡ out.old.items ++ spell.body (message.StartView view done rows.now)) }
-    ensures fits { OnOk result (RowsFit rows.now) }
+fn push_start_view(out: &mut Piece, view: u32, done: u16, rows: &RowsOf<Cmd>)
+    requires { array_vec_len out.old + 8 ≤ piece.room }
+    ensures bytes { out.new.items ++ flat_map spell.row rows.now ≡ out.old.items ++ spell.body (message.StartView view done rows.now) }
 {
-    push_view_and_place(out, view, done)?;
-    push_rows(out, rows)
+    push_view_and_place(out, view, done);
+    push_count(out, rows);
 }
 
-fn push_new_state(
-    out: &mut Vec<u8>,
-    view: u32,
-    base: u16,
-    done: u16,
-    rows: &RowsOf<Cmd>,
-) -> Result<(), AllocError>
-    ensures bytes { OnOk result (out.new.items ≡ out.old.items ++ spell.body (message.NewState view base done rows.now)) }
-    ensures fits { OnOk result (RowsFit rows.now) }
+fn push_new_state(out: &mut Piece, view: u32, base: u16, done: u16, rows: &RowsOf<Cmd>)
+    requires { array_vec_len out.old + 10 ≤ piece.room }
+    ensures bytes { out.new.items ++ flat_map spell.row rows.now ≡ out.old.items ++ spell.body (message.NewState view base done rows.now) }
 {
-    push_view_and_place(out, view, base)?;
-    push_u16(out, done)?;
-    push_rows(out, rows)
+    push_view_and_place(out, view, base);
+    push_u16(out, done);
+    push_count(out, rows);
 }
 
 /// What a site answers to a recovering one.
 fn push_regained(
-    out: &mut Vec<u8>,
+    out: &mut Piece,
     view: u32,
     nonce: u32,
     state: &Option<StateOf<Cmd>>,
     known: &Known,
-) -> Result<(), AllocError>
-    requires { spell.is_site_count (length known.now) ≡ true }
-    ensures bytes { OnOk result (out.new.items ≡ out.old.items
-        ++ spell.body (message.RecoveryResponse view nonce state.now known.now)) }
-    ensures fits { OnOk result (BootsFit known.now × StateFits state.now) }
+)
+    requires count { spell.is_site_count (length known.now) ≡ true }
+    requires room { array_vec_len out.old + 42 ≤ piece.room }
+    ensures bytes { out.new.items ++ piece.spelled (piece.rows_of state.now) ≡ out.old.items
+        ++ spell.body (message.RecoveryResponse view nonce state.now known.now) }
+    ensures fits { piece.LastFits (piece.rows_of state.now) → BootsFit known.now × StateFits state.now }
 {
-    push_u32(out, view)?;
-    push_u32(out, nonce)?;
-    push_boots(out, known)?;
-    push_state(out, state)
+    push_u32(out, view);
+    push_u32(out, nonce);
+    push_boots(out, known);
+    push_state(out, state);
 }
 
 /// What a client is answered.
-fn push_answer(out: &mut Vec<u8>, view: u32, number: u32, reply: Reply) -> Result<(), AllocError>
-    ensures bytes { OnOk result (out.new.items ≡ out.old.items ++ spell.body (message.Reply view number reply)) }
-    ensures fits { OnOk result (ReplyFits reply) }
+fn push_answer(out: &mut Piece, view: u32, number: u32, reply: Reply)
+    requires { array_vec_len out.old + 13 ≤ piece.room }
+    ensures bytes { out.new.items ≡ out.old.items ++ spell.body (message.Reply view number reply) }
+    ensures fits { ReplyFits reply }
 {
-    push_u32(out, view)?;
-    push_u32(out, number)?;
-    push_reply(out, reply)
+    push_u32(out, view);
+    push_u32(out, number);
+    push_reply(out, reply);
 }

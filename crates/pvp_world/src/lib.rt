@@ -14,5 +14,4 @@ pub use client::Client;
 pub use fault::{FallFault, WorldFault};
 pub use headline::{Move, Step};
 pub use report::Report;
-pub use turn::{FIRST_NODE, FIRST_SITE};
 pub use world::World;

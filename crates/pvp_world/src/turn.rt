@@ -8,13 +8,7 @@ ghost use Rattle.headline.specs.Bank.{turn_of, delivery};
 use headline::{ClientEvent, Turn};
 use pvp_book::Book;
 use rtgs_node::NodeEvent;
-use vr_types::{Envelope, EventOf};
-
-/// The number of node 0 as an actor.
-pub const FIRST_NODE: u16 = 101;
-
-/// The number of site 0 as an actor.
-pub const FIRST_SITE: u16 = 200;
+use vr_types::{Envelope, EventOf, FIRST_NODE, FIRST_SITE};
 
 /// An envelope comes to the actor that it is addressed to.
 pub fn delivery(envelope: Envelope<Book>) -> Turn

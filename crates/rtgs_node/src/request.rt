@@ -5,10 +5,7 @@ ghost use Rattle.rtgs_node.specs.Node.{to_sites};
 use pvp_book::Book;
 use pvp_types::Cmd;
 use std::alloc::{AllocError, Global};
-use vr_types::{Envelope, EnvelopeOf, MsgOf};
-
-/// The number of site 0 as an actor.
-const FIRST_SITE: u16 = 200;
+use vr_types::{Envelope, EnvelopeOf, FIRST_SITE, MsgOf};
 
 /// A client's REQUEST of this number to each of 2f+1 sites, in ascending order (section 4 of 'Viewstamped
 /// Replication Revisited', MIT-CSAIL-TR-2012-021, sends it to the primary alone at first). `Err` where memory is

@@ -1,5 +1,5 @@
 -- Lists of rows that grow by one, and what they say of a client.
-use Rattle.std.proofs.Common.{◌≡◌, ℕ, zero, suc, ◌+◌, ◌-◌, ◌==◌, ◌≤◌, Bool, true, false, List, [], ◌∷◌, ◌++◌, length, take, drop, filter, slice_get, Option, Some, None, if◌then◌else◌, refl, sym, ap, ◌∙◌, arith, ◌⊎◌, inl, inr, eqb→eq}
+use Rattle.std.proofs.Common.{◌≡◌, ℕ, zero, suc, ◌+◌, ◌-◌, ◌==◌, ◌≤◌, Bool, true, false, List, [], ◌∷◌, ◌++◌, length, take, drop, filter, slice_get, Option, Some, None, if◌then◌else◌, refl, sym, ap, ◌∙◌, append_assoc, arith, ◌⊎◌, inl, inr, eqb→eq}
 use Rattle.std.specs.List.{enumerate_from, last_or, range_with_len, filter_map, cons_option}
 use Rattle.std.specs.Option.{option_map_or}
 use Rattle.std.proofs.lemmas.Option.{slice_get_within, get_or_from_slice_get}
@@ -71,6 +71,13 @@ newest-snoc {C} rows row q = ap number (last_of-snoc rows row q) ∙ by_test (ro
     by_test : (b : Bool) → number (if b then Some (length rows + 1, row) else last_of rows q) ≡ (if b then row.number else number (last_of rows q))
     by_test true = refl
     by_test false = refl
+
+-- the row at a place is noted behind a log and the rows before it
+pub newest_next : {C : Type 0} (log rows : List (RowOf C)) (at : ℕ) (row : RowOf C) (q : ℕ) → slice_get rows at ≡ Some row → (if row.client == q then row.number else newest (log ++ take at rows) q) ≡ newest (log ++ take (at + 1) rows) q
+newest_next log rows at row q there =
+    let before = log ++ take at rows in
+    sym (newest-snoc before row q)
+    ∙ ap (λ l. newest l q) (append_assoc log (take at rows) (row ∷ []) ∙ ap (λ l. log ++ l) (sym (take_next rows at row there)))
 
 -- where a client's last row stands, and whose it is
 pub record IsPlaced {C : Type 0} (n : ℕ) (rows : List (RowOf C)) (client : ℕ) (p : ℕ × RowOf C) : Type 0 where

@@ -1,19 +1,35 @@
 ghost use Rattle.std.specs.Prelude.{◌≡◌, ℕ, ◌==◌, ◌++◌, List, Some, None, IfOk, OnOk, OnErr, if◌then◌else◌};
 ghost use Rattle.vr_types.specs.declared.row.RowOf.{RowOf};
 ghost use Rattle.vr_types.specs.Rows.{newest};
-ghost use Rattle.vr_log.specs.Numbers.{number_at};
 
-use crate::log::LogOf;
 use std::alloc::{AllocError, Global};
 use std::collections::BTreeMap;
 use vr_types::{Machine, RowsOf};
+
+/// The number of a client's newest row, 0 for none, and the number of its last executed row, with the answer to it.
+#[derive(Clone, Copy)]
+struct ClientOf<R> {
+    newest: u32,
+    answer: Option<(u32, R)>,
+}
+
+impl<R> ClientOf<R> {
+    /// A client that has sent nothing.
+    fn new() -> Self
+        ensures { result ≡ record { newest = 0; answer = None } }
+    {
+        ClientOf {
+            newest: 0,
+            answer: None,
+        }
+    }
+}
 
 /// Of each client the number of its newest row, and what it was last answered.
 #[derive(Drop)]
 pub struct ClientsOf<R> {
     alloc: Global,
-    numbers: BTreeMap<u16, u32>,
-    answers: BTreeMap<u16, (u32, R)>,
+    table: BTreeMap<u16, ClientOf<R>>,
 }
 
 /// The clients of a machine.
@@ -30,8 +46,7 @@ impl<R: Copy> ClientsOf<R> {
     {
         ClientsOf {
             alloc,
-            numbers: BTreeMap::new(alloc),
-            answers: BTreeMap::new(alloc),
+            table: BTreeMap::new(alloc),
         }
     }
 
@@ -39,7 +54,7 @@ impl<R: Copy> ClientsOf<R> {
     pub fn newest(&self, client: u16) -> u32
         ensures { result ≡ newest_in self.now client }
     {
-        self.numbers.get(&client).copied().unwrap_or(0)
+        self.table.get(&client).map_or(0, |known| known.newest)
     }
 
     /// Notes the number of a client's newest row. An `Err` leaves the table as it was.
@@ -48,7 +63,8 @@ impl<R: Copy> ClientsOf<R> {
         ensures err { OnErr result ((q : ℕ) → newest_in self.new q ≡ newest_in self.old q) }
         ensures replies { (q : ℕ) → reply_in self.new q ≡ reply_in self.old q }
     {
-        let _ = self.numbers.insert(client, number)?;
+        let known = self.table.entry(client)?.or_insert(ClientOf::new());
+        known.newest = number;
         Ok(())
     }
 
@@ -56,7 +72,7 @@ impl<R: Copy> ClientsOf<R> {
     pub fn reply(&self, client: u16) -> Option<(u32, R)>
         ensures { result ≡ reply_in self.now client }
     {
-        self.answers.get(&client).copied()
+        self.table.get(&client)?.answer
     }
 
     /// Notes that a client's row of this number was executed and answered so. An `Err` leaves the table as it was.
@@ -65,7 +81,8 @@ impl<R: Copy> ClientsOf<R> {
         ensures err { OnErr result ((q : ℕ) → reply_in self.new q ≡ reply_in self.old q) }
         ensures newest { (q : ℕ) → newest_in self.new q ≡ newest_in self.old q }
     {
-        let _ = self.answers.insert(client, (number, reply))?;
+        let known = self.table.entry(client)?.or_insert(ClientOf::new());
+        known.answer = Some((number, reply));
         Ok(())
     }
 
@@ -75,32 +92,38 @@ impl<R: Copy> ClientsOf<R> {
             (q : ℕ) → newest_in self.new q ≡ newest (log ++ rows.now) q) }
         ensures replies { (q : ℕ) → reply_in self.new q ≡ reply_in self.old q }
     {
-        for row in rows.as_slice() {
+        for at in 0..rows.len() {
+            let row = rows.row(at);
             self.note(row.client, row.number)?;
         }
         Ok(())
     }
 
     /// Takes the newest numbers from a log; the answers stay. An `Err` leaves the table as it was.
-    pub fn rebuild<C: Copy>(&mut self, log: &LogOf<C>) -> Result<(), AllocError>
+    pub fn rebuild<C: Copy>(&mut self, log: &RowsOf<C>) -> Result<(), AllocError>
         ensures ok { OnOk result ((q : ℕ) → newest_in self.new q ≡ newest log.now q) }
         ensures err { OnErr result ((q : ℕ) → newest_in self.new q ≡ newest_in self.old q) }
         ensures replies { (q : ℕ) → reply_in self.new q ≡ reply_in self.old q }
     {
-        let numbers = newest_numbers(self.alloc, log)?;
-        self.numbers = numbers;
+        let mut clients = self.without_numbers()?;
+        clients.note_rows(log)?;
+        *self = clients;
         Ok(())
     }
-}
 
-/// The number of each client's newest row.
-fn newest_numbers<C: Copy>(alloc: Global, log: &LogOf<C>) -> Result<BTreeMap<u16, u32>, AllocError>
-    ensures { IfOk result (λ numbers. (q : ℕ) → number_at numbers q ≡ newest log.now q) }
-{
-    let mut numbers = BTreeMap::new(alloc);
-    for at in 0..log.len() {
-        let row = log.row(at);
-        let _ = numbers.insert(row.client, row.number)?;
+    /// A table with the same answers, and no numbers.
+    fn without_numbers(&self) -> Result<Self, AllocError>
+        ensures newest { IfOk result (λ clients. (q : ℕ) → newest_in clients q ≡ 0) }
+        ensures replies { IfOk result (λ clients. (q : ℕ) → reply_in clients q ≡ reply_in self.now q) }
+    {
+        let mut clients = ClientsOf::new(self.alloc);
+        for (client, known) in &self.table {
+            let unnumbered = ClientOf {
+                newest: 0,
+                ..*known
+            };
+            let _ = clients.table.insert(*client, unnumbered)?;
+        }
+        Ok(clients)
     }
-    Ok(numbers)
 }

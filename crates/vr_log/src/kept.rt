@@ -2,9 +2,11 @@ ghost use Rattle.std.specs.Prelude.{◌≡◌, ℕ, ◌+◌, ◌<◌, ◌≤◌,
 ghost use Rattle.std.specs.List.{starts_with};
 
 use crate::clients::Clients;
-use crate::log::Log;
 use std::alloc::{AllocError, Global};
-use vr_types::{MAX_ROWS, Machine, Row, RowsOf, is_same};
+use vr_types::{MAX_ROWS, Machine, Row, Rows, RowsOf, is_same};
+
+/// A site's log: it is a list of rows, as messages carry them.
+pub type Log<M> = Rows<M>;
 
 /// What a client is told of its request.
 #[derive(Clone, Copy, Debug, PartialEq, Eq)]
@@ -56,12 +58,11 @@ impl<M: Machine> Kept<M> {
     {
         let done = self.done as usize;
         let _len = self.log.len();
-        let part = rows.as_slice();
-        if base + part.len() < done {
+        if base + rows.len() < done {
             return false;
         }
         for at in base..done {
-            if !is_same_row::<M>(part[at - base], self.log.row(at)) {
+            if !is_same_row::<M>(rows.row(at - base), self.log.row(at)) {
                 return false;
             }
         }

@@ -4,11 +4,9 @@
 
 pub mod clients;
 pub mod kept;
-pub mod log;
 pub mod running;
 pub mod send;
 
 pub use clients::{Clients, ClientsOf};
-pub use kept::{Answer, AnswerOf, Kept};
-pub use log::{Log, LogOf};
+pub use kept::{Answer, AnswerOf, Kept, Log};
 pub use running::{Running, StartOf, VoteOf};

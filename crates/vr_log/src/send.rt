@@ -7,10 +7,7 @@ ghost use Rattle.vr_log.specs.News.{news_msg};
 
 use crate::kept::AnswerOf;
 use std::alloc::{AllocError, Global};
-use vr_types::{Config, EnvelopeOf, MsgOf, OutcomeOf, RowOf, Status, Why};
-
-/// The number of site 0 as an actor.
-pub const FIRST_SITE: u16 = 200;
+use vr_types::{Config, EnvelopeOf, FIRST_SITE, MsgOf, OutcomeOf, RowOf, Status, Why};
 
 /// What a site tells all the others.
 #[derive(Clone, Copy)]

@@ -8,7 +8,7 @@ ghost use Rattle.vr_recover.specs.Recovering.{recovers_with};
 
 use crate::recovering::ResponseOf;
 use std::alloc::{AllocError, Global};
-use vr_log::{ClientsOf, Kept, LogOf, Running};
+use vr_log::{ClientsOf, Kept, Running};
 use vr_types::{Config, Known, Machine, RowsOf, StateOf, Status};
 
 /// A site that is normal in a view with the state of its primary: a fresh machine executes as far as the primary had,
@@ -47,14 +47,13 @@ pub fn regain<M: Machine>(
 fn fresh<M: Machine>(
     alloc: Global,
     setup: &M::Setup,
-    rows: RowsOf<M::Cmd>,
+    log: RowsOf<M::Cmd>,
 ) -> Result<Kept<M>, AllocError>
     requires { M.admits setup.now }
     ensures kept { IfOk result (λ kept. IsKept M.Machine (M.start setup.now) kept) }
-    ensures log { IfOk result (λ kept. kept.log ≡ rows) }
+    ensures log { IfOk result (λ kept. kept.log ≡ log) }
     ensures done { IfOk result (λ kept. kept.done ≡ 0) }
 {
-    let log = LogOf::from_rows(rows);
     let mut clients = ClientsOf::new(alloc);
     clients.rebuild(&log)?;
     Ok(Kept {

@@ -1,8 +1,7 @@
 ghost use Rattle.std.specs.Prelude.{◌≡◌, ◌-◌};
-ghost use Rattle.vr_types.specs.Group.{is_client as is_number_of_client, is_of_all as is_told_of_all, is_other_site as is_number_of_other, may_send as may_come, is_mine as is_addressed, site_of};
+ghost use Rattle.vr_types.specs.Group.{is_of_all as is_told_of_all, is_other_site as is_number_of_other, may_send as may_come, is_mine as is_addressed, site_of};
 
-use vr_log::send::FIRST_SITE;
-use vr_types::{Config, EnvelopeOf, Known, MsgOf};
+use vr_types::{Config, EnvelopeOf, FIRST_SITE, Known, MsgOf, is_client};
 
 /// Whether an envelope is for this site, from an actor that may send it that.
 pub(crate) fn is_mine<C, R, O>(config: Config, envelope: &EnvelopeOf<C, R, O>) -> bool
@@ -36,13 +35,6 @@ fn may_send<C, R, O>(config: Config, actor: u16, msg: &MsgOf<C, R, O>) -> bool
         MsgOf::Reply { .. } => false,
         MsgOf::PayOrder(_) => false,
     }
-}
-
-/// Whether an actor is a client.
-fn is_client(actor: u16) -> bool
-    ensures { result ≡ is_number_of_client actor }
-{
-    actor <= 64 || 101 <= actor && actor <= 108
 }
 
 /// Whether an actor is another site of the group.

@@ -3,6 +3,7 @@ pub mod ChoosingPick
 pub mod ChoosingPlace
 pub mod ChoosingRight
 pub mod ChoosingState
+pub mod Pages
 mod Runs
 pub mod Saving
 pub mod Vectors

@@ -1,3 +1,4 @@
+pub mod Actors
 pub mod Cell
 pub mod Change
 pub mod Choice
@@ -7,6 +8,7 @@ pub mod Handling
 pub mod MemoryCell
 pub mod Messages
 pub mod Normal
+pub mod Pages
 pub mod Recovery
 pub mod Rows
 pub mod Saved

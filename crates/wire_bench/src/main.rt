@@ -1,10 +1,11 @@
 //! Times the feeder: how long a stream takes in pieces of several sizes, and one of twice as many frames; and the same of
 //! one frame, and of one with twice as many rows. A feeder that moves all it holds at each piece shows in the last alone.
+//! And how long the frame of a whole log takes to write and to read, beside a plain copy of its bytes.
 //! With no words it does nothing.
 #![tactic(auto)]
 
 use pvp_types::Cmd;
-use pvp_wire::{Feeder, Stamp, Stamped, encode, wireable};
+use pvp_wire::{Feeder, Stamp, Stamped, decode, encode, wireable};
 use std::alloc::{AllocError, Global};
 use std::process::ExitCode;
 use std::rt::Clock;
@@ -20,6 +21,9 @@ const FRAMES: usize = 200;
 
 /// How many rows the shorter of the great frames has.
 const GREAT: u16 = 32_000;
+
+/// How many rows a whole log has.
+const LOG: u16 = 65_535;
 
 /// How many bytes a piece has.
 const PIECES: [usize; 3] = [1, 64, 65_536];
@@ -69,9 +73,9 @@ fn log(alloc: Global, count: u16) -> Result<RowsOf<Cmd>, AllocError> {
     Ok(rows)
 }
 
-/// A frame with a log of so many rows.
-fn frame(alloc: Global, rows: u16) -> Result<Vec<u8>, BenchFault> {
-    let stamped = Stamped {
+/// What a site sends that tells a log of so many rows.
+fn sent(alloc: Global, rows: u16) -> Result<Stamped, AllocError> {
+    Ok(Stamped {
         stamp: Stamp {
             actor: 200,
             clock: 1,
@@ -86,13 +90,22 @@ fn frame(alloc: Global, rows: u16) -> Result<Vec<u8>, BenchFault> {
                 rows: log(alloc, rows)?,
             },
         },
-    };
-    if !wireable(&stamped) {
+    })
+}
+
+/// Its frame.
+fn spelled(alloc: Global, stamped: &Stamped) -> Result<Vec<u8>, BenchFault> {
+    if !wireable(stamped) {
         return Err(BenchFault::Unread);
     }
     let mut out = Vec::new(alloc);
-    encode(alloc, &stamped, &mut out)?;
+    encode(stamped, &mut out)?;
     Ok(out)
+}
+
+/// A frame with a log of so many rows.
+fn frame(alloc: Global, rows: u16) -> Result<Vec<u8>, BenchFault> {
+    spelled(alloc, &sent(alloc, rows)?)
 }
 
 /// So many frames of so many rows, one after the other.
@@ -151,6 +164,61 @@ fn bench<R: AllocGlobal + Clock + Print>(rt: &R) -> Result<(), BenchFault> {
     Ok(())
 }
 
+/// Whether the bytes are those of a frame.
+fn is_read(alloc: Global, bytes: &[u8]) -> bool {
+    decode(alloc, bytes).is_ok()
+}
+
+/// Whether there is memory for a copy of the bytes.
+fn is_copied(alloc: Global, bytes: &[u8]) -> bool {
+    Vec::from_slice(alloc, bytes).is_ok()
+}
+
+/// How many microseconds an envelope takes to write.
+fn write_time<R: AllocGlobal + Clock>(rt: &R, stamped: &Stamped) -> Result<u128, BenchFault> {
+    let began = Instant::now(rt)?;
+    let is_written = spelled(rt.alloc(), stamped).is_ok();
+    let took = began.elapsed(rt)?.as_micros();
+    if is_written {
+        Ok(took)
+    } else {
+        Err(BenchFault::Refused)
+    }
+}
+
+/// How many microseconds a frame takes to read, and how many a copy of its bytes takes.
+fn read_times<R: AllocGlobal + Clock>(rt: &R, bytes: &[u8]) -> Result<(u128, u128), BenchFault> {
+    let began = Instant::now(rt)?;
+    let is_whole = is_read(rt.alloc(), bytes);
+    let took = began.elapsed(rt)?.as_micros();
+    let began = Instant::now(rt)?;
+    let is_whole = is_copied(rt.alloc(), bytes) && is_whole;
+    let copied = began.elapsed(rt)?.as_micros();
+    if is_whole {
+        Ok((took, copied))
+    } else {
+        Err(BenchFault::Unread)
+    }
+}
+
+/// How many microseconds the frame of a whole log takes to write, to read, and to copy.
+fn log_times<R: AllocGlobal + Clock>(rt: &R) -> Result<(u128, u128, u128), BenchFault> {
+    let stamped = sent(rt.alloc(), LOG)?;
+    let wrote = write_time(rt, &stamped)?;
+    let bytes = spelled(rt.alloc(), &stamped)?;
+    let (read, copied) = read_times(rt, bytes.as_slice())?;
+    Ok((wrote, read, copied))
+}
+
+/// Prints the times of a whole log.
+fn bench_log<R: AllocGlobal + Clock + Print>(rt: &R) -> Result<(), BenchFault> {
+    let (wrote, read, copied) = log_times(rt)?;
+    rt.println(&format!(in rt.alloc();
+        "{LOG} rows of one frame: written in {wrote} us, read in {read} us, its bytes copied in {copied} us"
+    )?)?;
+    Ok(())
+}
+
 fn main(rt: HostRuntime) -> ExitCode {
     let words: Vec<String> = match env::args(&rt).map(|words| words.collect(rt.alloc())) {
         Ok(Ok(words)) => words,
@@ -159,7 +227,7 @@ fn main(rt: HostRuntime) -> ExitCode {
     if words.len() < 2 {
         return ExitCode::from(0);
     }
-    match bench(&rt) {
+    match bench(&rt).and_then(|()| bench_log(&rt)) {
         Ok(()) => ExitCode::from(0),
         Err(_) => ExitCode::from(1),
     }

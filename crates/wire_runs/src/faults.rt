@@ -159,16 +159,16 @@ impl Write for Failing {
     }
 }
 
-/// A writer that fails at its first write is told; one that takes all writes is not.
+/// A writer that fails at its first write or in the middle of a frame is told; one that takes all writes is not.
 #[test]
 fn a_failing_writer_is_told(rt: HostRuntime) -> Result<(), Fail> {
-    for (left, want) in [(0, false), (100, true)] {
+    for (left, want) in [(0, false), (1, false), (2, true)] {
         let commit = stamped(200, 5, 0, 201, MsgOf::Commit { view: 0, done: 1 });
         if !wireable(&commit) {
             return Err(Fail::new("it has no spelling"));
         }
         let mut writer = Failing { left };
-        let wrote = encode(rt.alloc(), &commit, &mut writer).is_ok();
+        let wrote = encode(&commit, &mut writer).is_ok();
         assert_eq!(rt; wrote, want, "after {left} writes");
     }
     Ok(())

@@ -50,3 +50,30 @@ fn a_state_has_a_whole_log_and_seven_sites(rt: HostRuntime) -> Result<(), Fail> 
     };
     comes_back(&rt, regained, 2_031_649)
 }
+
+/// Votes of so many rows, and how long their frames are: about where pages of rows begin and end, and a whole log.
+const VOTES: [(usize, usize); 7] = [
+    (0, 47),
+    (1, 78),
+    (63, 2_000),
+    (64, 2_031),
+    (65, 2_062),
+    (128, 4_015),
+    (MOST_ROWS, 2_031_632),
+];
+
+#[test]
+fn votes_of_whole_pages_and_of_more(rt: HostRuntime) -> Result<(), Fail> {
+    let alloc = rt.alloc();
+    for (count, length) in VOTES {
+        let vote = MsgOf::DoViewChange {
+            view: 2,
+            last_normal: 1,
+            done: 0,
+            rows: rows(alloc, row(), count)?,
+            known: known(alloc, [1, 2, 3].as_slice())?,
+        };
+        comes_back(&rt, vote, length)?;
+    }
+    Ok(())
+}

@@ -24,7 +24,7 @@ pub fn frame(alloc: Global, stamped: &Stamped) -> Result<Vec<u8>, Fail> {
         return Err(Fail::new("it has no spelling"));
     }
     let mut out = Vec::new(alloc);
-    encode(alloc, stamped, &mut out)?;
+    encode(stamped, &mut out)?;
     Ok(out)
 }
 

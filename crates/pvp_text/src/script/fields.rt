@@ -8,9 +8,8 @@ use crate::script::words::is;
 use crate::script::{Kind, LineCode};
 use pvp_types::Setup;
 use std::str;
+use vr_types::FIRST_SITE;
 
-/// The actor number of the first site.
-const SITES: u16 = 200;
 /// How many turns chaos may take.
 const TURNS: u32 = 1_000_000;
 
@@ -103,7 +102,7 @@ pub fn actor_reference(word: &[u8]) -> Result<Reference<'_, u16>, LineCode>
     match word {
         [b's', digits @ ..] => {
             let site = site_number(digits)?;
-            Ok(Reference::Number(SITES + u16::from(site)))
+            Ok(Reference::Number(FIRST_SITE + u16::from(site)))
         }
         _ => client_reference(word),
     }

@@ -5,7 +5,7 @@ use Rattle.vr_log.specs.Clients.{newest_in, reply_in}
 use Rattle.vr_log.proofs.clients.ClientsOf.note_rows.Given as goal
 
 -- the rows so far are noted behind any log of which the table was; the answers stay
-abbrev pub invariant-loop-row : goal.invariant-loop-row
-invariant-loop-row g l =
-    ((log : List (RowOf _)) → ((q : ℕ) → newest_in l.initial.self q ≡ newest log q) → (q : ℕ) → newest_in l.self q ≡ newest (log ++ take l.row-index l.row-items) q)
+abbrev pub invariant-loop-at : goal.invariant-loop-at
+invariant-loop-at g l =
+    ((log : List (RowOf _)) → ((q : ℕ) → newest_in l.initial.self q ≡ newest log q) → (q : ℕ) → newest_in l.self q ≡ newest (log ++ take l.at l.rows) q)
     × ((q : ℕ) → reply_in l.self q ≡ reply_in l.initial.self q)

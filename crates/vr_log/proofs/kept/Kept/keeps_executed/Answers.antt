@@ -1,4 +1,5 @@
-use Rattle.std.proofs.Common.{◌≡◌, ◌+◌, ◌-◌, ◌<◌, ◌++◌, length, take, get_or, true, false, true≢false, arith, sym, ap, ◌∙◌, refl}
+use Rattle.std.proofs.Common.{◌≡◌, ◌+◌, ◌-◌, ◌<◌, ◌++◌, length, take, get_or, true, false, true≢false, arith, sym, ◌∙◌, refl}
+use Rattle.std.proofs.lemmas.Option.{get_or_from_slice_get}
 use Rattle.vr_log.proofs.Begins.{begins_is, one_there, one_more, fewer}
 use Rattle.vr_log.proofs.kept.Kept.keeps_executed.Goals as goal
 
@@ -9,10 +10,10 @@ returns-then-not-is_same_row-clause-same g c = λ f choose right.
     let base = c.args.base in
     let done = c.args.self.now.done in
     let at = c.loop-at.at in
-    let row = c.index-part-at.result in
-    let there : row ≡ get_or rows (at - base) row = c.index-part-at.is ∙ ap (λ l. get_or l (at - base) row) c.as_slice-part.ensures.value in
+    let row = c.row.result in
+    let there : row ≡ get_or rows (at - base) row = sym (get_or_from_slice_get rows (at - base) row row c.row.ensures) in
     begins_is choose.same right.same false done own (take base own ++ rows) c.requires.ready.within
-    ((λ e. absurd (true≢false (sym e))), (λ same. absurd (true≢false (sym (c.is_same_row.ensures.1 (one_there own rows base at done row c.row.result c.requires.base (omega arith) (omega arith) there c.row.ensures same)) ∙ c.if-not-is_same_row.true))))
+    ((λ e. absurd (true≢false (sym e))), (λ same. absurd (true≢false (sym (c.is_same_row.ensures.1 (one_there own rows base at done row c.row-in-loop-at.result c.requires.base (omega arith) (omega arith) there c.row-in-loop-at.ensures same)) ∙ c.if-not-is_same_row.true))))
 
 pub loop-at-preserved : goal.loop-at-preserved
 loop-at-preserved g c =
@@ -20,10 +21,10 @@ loop-at-preserved g c =
     let rows = c.args.rows.now in
     let base = c.args.base in
     let at = c.loop-at.at in
-    let row = c.index-part-at.result in
-    let there : row ≡ get_or rows (at - base) row = c.index-part-at.is ∙ ap (λ l. get_or l (at - base) row) c.as_slice-part.ensures.value in
-    let room : at < base + length rows = omega (arith, ap (λ l. length l) c.as_slice-part.ensures.value) in
-    one_more own rows base at row c.row.result c.requires.base (omega arith) room there c.row.ensures
+    let row = c.row.result in
+    let there : row ≡ get_or rows (at - base) row = sym (get_or_from_slice_get rows (at - base) row row c.row.ensures) in
+    let room : at < base + length rows = omega arith in
+    one_more own rows base at row c.row-in-loop-at.result c.requires.base (omega arith) room there c.row-in-loop-at.ensures
     (c.is_same_row.ensures.0 c.if-not-is_same_row.false) c.loop-at.invariant
 
 pub returns-clause-same : goal.returns-clause-same

@@ -1,0 +1,46 @@
+-- The two parts in which the fields of a message are written: what stands in front of its rows, and the rows one by one.
+use Rattle.std.specs.Prelude.{ℕ, List, [], Option, Some, None}
+use Rattle.std.specs.List.{flat_map}
+use Rattle.vr_types.specs.declared.message.MsgOf.TheVariants.{DoViewChange, StartView, NewState, RecoveryResponse}
+use Rattle.vr_types.specs.declared.message.StateOf.{StateOf}
+use Rattle.pvp_types.specs.declared.command.Cmd.{Cmd}
+use Rattle.pvp_types.specs.declared.command.Cmd.TheVariants.{Instruct, Rescind, Fund, Settle, PayOut, Paid, Returned}
+use Rattle.pvp_wire.specs.Spelling.{BankMsg, BankRow, row}
+use Rattle.pvp_wire.specs.Fits.{RowsFit}
+
+-- the rows of a state, where there is one
+abbrev pub rows_of : Option (StateOf Cmd) → Option (List BankRow)
+rows_of None = None
+rows_of (Some state) = Some state.rows
+
+-- the rows with which a message ends
+abbrev pub last_rows : BankMsg → Option (List BankRow)
+last_rows (DoViewChange view last_normal k log known) = Some log
+last_rows (StartView view k log) = Some log
+last_rows (NewState view base k log) = Some log
+last_rows (RecoveryResponse view nonce s known) = rows_of s
+last_rows _ = None
+
+-- their bytes
+abbrev pub spelled : Option (List BankRow) → List ℕ
+spelled None = []
+spelled (Some log) = flat_map row log
+
+-- how many bytes a command takes
+abbrev pub command_size : Cmd → ℕ
+command_size (Instruct reference other sell sell_amt buy buy_amt) = 25
+command_size (Rescind reference) = 5
+command_size (Fund ccy pay member amt) = 16
+command_size (Settle most) = 5
+command_size (PayOut ccy amt) = 10
+command_size (Paid ccy out) = 6
+command_size (Returned ccy out) = 6
+
+-- they fit
+abbrev pub LastFits : Option (List BankRow) → Type 0
+LastFits None = Unit {0}
+LastFits (Some log) = RowsFit log
+
+-- how many bytes a piece has room for
+abbrev pub room : ℕ
+room = 64
