@@ -1,13 +1,16 @@
--- The line that explains a fault.
-use Rattle.std.specs.Prelude.{ℕ, List, Option, Some, None, Result, Ok, Err}
+-- The line that explains a fault, and what hinders that it is had.
+use Rattle.std.specs.Prelude.{◌≡◌, ◌⊎◌, ℕ, List, Option, Some, None, Result, Ok, Err, option_map, IsSome, IfSome, IsOk}
 use Rattle.pvp_types.specs.declared.setup.Setup.{Setup}
 use Rattle.pvp_text.specs.SetupText.{setup_text}
 use Rattle.pvp_text.specs.declared.script.Kind.{Kind}
 use Rattle.pvp_text.specs.declared.script.LineFault.{LineFault}
 use Rattle.pvp_text.specs.declared.setup.TextFault.{TextFault}
 use Rattle.pvp_codes.specs.Explained.{setup_explained, line_explained}
+use Rattle.pvp_command.specs.declared.explain.Sources.{Sources}
 use Rattle.pvp_command.specs.declared.fault.Fault.{Fault}
 use Rattle.pvp_command.specs.declared.fault.Fault.TheVariants as told
+use Rattle.pvp_command.specs.declared.files.FileFault.{FileFault}
+use Rattle.pvp_command.specs.Request.{TellsFile, TellsSetup}
 
 -- that of a fault on a script, whose setup was read
 abbrev pub line_with : LineFault → Kind → Result Setup TextFault → List ℕ → Option (List ℕ)
@@ -17,13 +20,54 @@ line_with fault kind (Err bad) script = None
 abbrev pub line_of_script : LineFault → Kind → List ℕ → List ℕ → Option (List ℕ)
 line_of_script fault kind setup script = line_with fault kind (setup_text setup) script
 
--- that of a fault on a setup of these bytes, or on a script of the others
-abbrev pub explained : Kind → Fault → List ℕ → List ℕ → Option (List ℕ)
-explained kind (told.Setup fault) setup script = Some (setup_explained fault setup)
-explained kind (told.Line line code) setup script = line_of_script (record { line = line; code = code }) kind setup script
-explained kind (told.NoSuchSite site) setup script = None
-explained kind told.File setup script = None
-explained kind told.Output setup script = None
-explained kind told.Net setup script = None
-explained kind told.Seats setup script = None
-explained kind told.NoMemory setup script = None
+-- the name of the script, where there is one
+abbrev pub script_of : Sources → Option (List ℕ)
+script_of sources = option_map (λ name. name.now) sources.script
+
+-- a fault on a script is explained where there is a script: by what is known of its bytes and of the setup's
+abbrev pub ExplainsLine : (List ℕ → Option (List ℕ)) → Sources → LineFault → Option (List ℕ) → Option (List ℕ) → Type 0
+ExplainsLine known sources fault None line = line ≡ None
+ExplainsLine known sources fault (Some script) line =
+    IsSome line × IfSome (known sources.setup.now) (λ setup_bytes. IfSome (known script) (λ script_bytes.
+    line ≡ line_of_script fault sources.kind setup_bytes script_bytes))
+
+-- THE LINE THAT EXPLAINS A FAULT of a run over these sources, of whose bytes so much is known: a fault on the setup has one, and
+-- so has one on the script that there is; no other has one
+abbrev pub Explains : (List ℕ → Option (List ℕ)) → Sources → Fault → Option (List ℕ) → Type 0
+Explains known sources (told.Setup fault) line =
+    IsSome line × IfSome (known sources.setup.now) (λ bytes. line ≡ Some (setup_explained fault bytes))
+Explains known sources (told.Line number code) line =
+    ExplainsLine known sources (record { line = number; code = code }) (script_of sources) line
+Explains known sources (told.NoSuchSite site) line = line ≡ None
+Explains known sources told.File line = line ≡ None
+Explains known sources told.Output line = line ≡ None
+Explains known sources told.Net line = line ≡ None
+Explains known sources told.Seats line = line ≡ None
+Explains known sources told.NoMemory line = line ≡ None
+
+-- ---- what hinders that it is had
+
+-- a file that cannot be read again, or want of memory
+abbrev pub HindersFile : (FileFault → Type 0) → Fault → Type 0
+HindersFile fails why = TellsFile fails why ⊎ (why ≡ told.NoMemory)
+
+-- of a line of a script also that its setup does not read any more; the script is read after it
+abbrev pub HindersLine : (FileFault → Type 0) → List ℕ → (FileFault → Type 0) → Fault → Type 0
+HindersLine fails setup script_fails why =
+    TellsFile fails why ⊎ (TellsSetup setup why ⊎ (IsOk (setup_text setup) × HindersFile script_fails why))
+
+-- nothing does where there is no script, as there is no line
+abbrev pub HindersScript : (List ℕ → Option (List ℕ)) → (List ℕ → FileFault → Type 0) → List ℕ → Option (List ℕ) → Fault → Type 0
+HindersScript known fails setup None why = ⊥
+HindersScript known fails setup (Some script) why = IfSome (known setup) (λ bytes. HindersLine (fails setup) bytes (fails script) why)
+
+-- WHAT HINDERS THE EXPLANATION of a fault: nothing where it has none
+abbrev pub Hinders : (List ℕ → Option (List ℕ)) → (List ℕ → FileFault → Type 0) → Sources → Fault → Fault → Type 0
+Hinders known fails sources (told.Setup fault) why = HindersFile (fails sources.setup.now) why
+Hinders known fails sources (told.Line line code) why = HindersScript known fails sources.setup.now (script_of sources) why
+Hinders known fails sources (told.NoSuchSite site) why = ⊥
+Hinders known fails sources told.File why = ⊥
+Hinders known fails sources told.Output why = ⊥
+Hinders known fails sources told.Net why = ⊥
+Hinders known fails sources told.Seats why = ⊥
+Hinders known fails sources told.NoMemory why = ⊥

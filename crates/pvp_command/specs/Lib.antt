@@ -5,3 +5,4 @@ pub mod Shows
 pub mod Lives
 pub mod Codes
 pub mod Explain
+pub mod Sources

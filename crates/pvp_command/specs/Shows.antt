@@ -1,5 +1,5 @@
 -- How a play is to be shown, as the words of a command line have it.
-use Rattle.std.specs.Prelude.{ℕ, ◌^◌, Bool, true, false, ◌&&◌, List, Option, Some, None, option_map, option_and_then, nat_le, if◌then◌else◌}
+use Rattle.std.specs.Prelude.{ℕ, ◌^◌, Bool, true, ◌&&◌, List, Option, Some, None, option_map, nat_le, if◌then◌else◌}
 use Rattle.std.specs.Result.{result_ok}
 use Rattle.pvp_text.specs.ScriptFields as script
 use Rattle.pvp_play.specs.declared.notes.Telling.TheVariants as telling

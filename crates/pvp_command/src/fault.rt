@@ -3,6 +3,7 @@
 use crate::files::FileFault;
 use pvp_live::LiveFault;
 use pvp_text::{LineCode, RunFault, TextFault};
+use std::alloc::AllocError;
 use thiserror::Error;
 
 /// Why a run ended, printed as the line that tells it.
@@ -63,6 +64,17 @@ impl From<RunFault> for Fault {
             RunFault::NoMemory => Fault::NoMemory,
             RunFault::Output => Fault::Output,
         }
+    }
+}
+
+impl From<AllocError> for Fault {
+    ghost use Rattle.std.specs.Prelude.{◌≡◌};
+    ghost use Rattle.pvp_command.specs.declared.fault.Fault.TheVariants.{NoMemory};
+
+    ghost from_gives = { λ _ told. told ≡ NoMemory };
+
+    fn from(_refused: AllocError) -> Fault {
+        Fault::NoMemory
     }
 }
 

@@ -143,7 +143,7 @@ fn tell_more<F: Files, E: Write>(
 {
     let status = tell(told, err);
     if let (true, Some(sources), Err(fault)) = (explains, sources, told) {
-        if let Some(line) = explained(alloc, files, sources, fault) {
+        if let Ok(Some(line)) = explained(alloc, files, sources, fault) {
             let _ = err.write_all(line.as_slice());
         }
     }

@@ -45,8 +45,12 @@ pub enum Request<'a> {
 }
 
 impl<'a> Request<'a> {
+    ghost use Rattle.pvp_command.specs.Sources.{sources_of};
+
     /// What it reads; `None` where it reads no file.
-    pub fn sources(&self) -> Option<Sources<'a>> {
+    pub fn sources(&self) -> Option<Sources<'a>>
+        ensures { result ≡ sources_of self.now }
+    {
         let (kind, setup, script) = match self {
             Request::Check { setup } => (Kind::Book, *setup, None),
             Request::Book { setup, script } => (Kind::Book, *setup, Some(*script)),
