@@ -1,5 +1,7 @@
 -- What a site's message says of where its sender stands, and what is known of a site by what came of the lines that were posted at it.
-use Rattle.std.specs.Prelude.{ℕ, Bool, true, false, List, Some, None}
+use Rattle.std.specs.Prelude.{ℕ, ◌-◌, Bool, true, false, List, Option, Some, None, nat_le, if◌then◌else◌, slice_get, slice_set}
+use Rattle.std.specs.Option.{option_map_or}
+use Rattle.vr_types.specs.Actors.{first_site}
 use Rattle.std.specs.List.{list_any}
 use Rattle.vr_types.specs.declared.event.SiteFault.TheVariants.{NotUp}
 use Rattle.vr_types.specs.declared.message.EnvelopeOf.{EnvelopeOf}
@@ -9,6 +11,8 @@ use Rattle.pvp_rooms.specs.declared.site.CameOf.{CameOf}
 use Rattle.pvp_rooms.specs.declared.site.CameOf.TheVariants.{Did, Refused, Fell}
 use Rattle.pvp_text.specs.declared.script.Statement.{Statement}
 use Rattle.pvp_text.specs.declared.script.Statement.TheVariants as line
+use Rattle.pvp_live.specs.declared.voices.Heard.{Heard}
+use Rattle.pvp_live.specs.declared.voices.Named.{Named}
 use Rattle.pvp_live.specs.declared.voices.Saying.{Saying}
 use Rattle.pvp_live.specs.declared.voices.Saying.TheVariants.{Normal, Asks, Runs, Nothing}
 use Rattle.pvp_live.specs.declared.standing.Standing.{Standing}
@@ -29,6 +33,25 @@ said_by (Recovery nonce) = Nothing
 said_by (RecoveryResponse view nonce state known) = Normal view
 said_by (Reply view number reply) = Normal view
 said_by (PayOrder order) = Runs
+
+-- which site the actor of a number is
+abbrev pub site_of : ℕ → Option ℕ
+site_of actor = if nat_le first_site actor then Some (actor - first_site) else None
+
+-- no view was named
+abbrev pub unnamed : Named
+unnamed = record { view = 0; clock = 0 }
+
+-- what is heard of a site by one saying at a clock: a number that is not heard is 0
+abbrev pub heard_by : ℕ → Saying → Heard
+heard_by clock (Normal view) = record { clock = clock; normal = record { view = view; clock = clock }; asked = unnamed }
+heard_by clock (Asks view) = record { clock = clock; normal = unnamed; asked = record { view = view; clock = clock } }
+heard_by clock Runs = record { clock = clock; normal = unnamed; asked = unnamed }
+heard_by clock Nothing = record { clock = 0; normal = unnamed; asked = unnamed }
+
+-- what is heard of a site by one message that it sent at a clock
+abbrev pub heard_in : {C R O : Type 0} → ℕ → MsgOf C R O → Heard
+heard_in clock msg = heard_by clock (said_by msg)
 
 -- a site that came up again, and beats and asks nobody for the state, has it
 abbrev pub after_beat : Standing → Bool → Standing
@@ -59,3 +82,8 @@ standing_after before statement clock (Did sent (Some why)) = before
 standing_after before statement clock (Refused NotUp) = Down
 standing_after before statement clock (Refused _) = before
 standing_after before statement clock (Fell why cell) = Down
+
+-- what is known of all sites once the event of a line came out so at the site of this number: of the others what was known before
+abbrev pub all_after : {C R O : Type 0} → List Standing → ℕ → Statement → ℕ → CameOf C R O → List Standing
+all_after standings site statement clock came =
+    option_map_or (λ before. slice_set standings site (standing_after before statement clock came)) (slice_get standings site) standings

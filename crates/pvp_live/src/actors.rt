@@ -4,9 +4,8 @@ ghost use Rattle.pvp_types.specs.Setup.{IsValid};
 
 use pvp_parties::{PartyCell, PartySeat, client_cell, node_cell, site_cell};
 use pvp_types::Setup;
-use pvp_world::{FIRST_NODE, FIRST_SITE};
 use std::alloc::{AllocError, Global};
-use vr_types::MemCell;
+use vr_types::{FIRST_NODE, FIRST_SITE, MemCell};
 
 /// The cells of a bank's actors, with a seat each for every other actor and one for the script.
 #[derive(Drop)]

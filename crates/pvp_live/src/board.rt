@@ -1,8 +1,14 @@
 //! What goes over the streams of a run, counted and heard while it runs.
-use crate::voices::{Heard, Voice};
+ghost use Rattle.std.specs.Prelude.{◌≡◌, ◌≤◌, IfOk, length, option_map, option_and_then, slice_get};
+ghost use Rattle.std.specs.Io.{WritesAtMost};
+ghost use Rattle.std.specs.Io.KnownBytes.{WriteAppends};
+ghost use Rattle.pvp_wire.specs.Feeding.{empty};
+ghost use Rattle.pvp_live.specs.Voices.{site_of};
+ghost use Rattle.pvp_live.specs.Followed.{Follows, Hears, HearsWritten};
+
+use crate::voices::{Voice, site_of};
 use pvp_rooms::Gate;
 use pvp_wire::{Feeder, Message, Stamped};
-use pvp_world::FIRST_SITE;
 use std::alloc::{AllocError, Global};
 use std::io::{self, Write};
 use std::sync::atomic::{AtomicU64, Ordering};
@@ -27,7 +33,9 @@ pub struct Frames {
 
 impl Board {
     /// A board on which nothing stands yet. `Err` where memory is refused.
-    pub fn new(alloc: Global, sites: usize) -> Result<Self, AllocError> {
+    pub fn new(alloc: Global, sites: usize) -> Result<Self, AllocError>
+        ensures { IfOk result (λ board. length board.voices.items ≡ sites) }
+    {
         let mut voices = Vec::with_capacity(alloc, sites)?;
         for _ in 0..sites {
             voices.push(Voice::new())?;
@@ -41,12 +49,17 @@ impl Board {
 
     /// Hears a message that an actor sent at a clock of its own.
     pub fn hear(&self, actor: u16, clock: u64, msg: &Message) {
-        let Some(site) = actor.checked_sub(FIRST_SITE) else {
-            return;
-        };
-        if let Some(voice) = self.voices.get(usize::from(site)) {
+        if let Some(voice) = self.voice_of(actor) {
             voice.hear(clock, msg);
         }
+    }
+
+    /// The voice of the site that the actor of a number is.
+    fn voice_of(&self, actor: u16) -> Option<&Voice>
+        ensures { option_map (λ voice. voice.now) result
+            ≡ option_and_then (λ site. slice_get self.now.voices.items site) (site_of actor) }
+    {
+        self.voices.get(usize::from(site_of(actor)?))
     }
 
     /// Hears a frame that was written.
@@ -56,7 +69,9 @@ impl Board {
     }
 
     /// The frames so far. One that came was written, also where that is not counted yet.
-    pub fn frames(&self) -> Frames {
+    pub fn frames(&self) -> Frames
+        ensures { result.came ≤ result.sent }
+    {
         let came = self.came.load(Ordering::SeqCst);
         let sent = self.sent.load(Ordering::SeqCst);
         Frames {
@@ -66,7 +81,9 @@ impl Board {
     }
 
     /// What was heard of each site, in order.
-    pub fn voices(&self) -> &[Voice] {
+    pub fn voices(&self) -> &[Voice]
+        ensures { result.now ≡ self.now.voices.items }
+    {
         self.voices.as_slice()
     }
 }
@@ -91,7 +108,11 @@ pub struct Watched<'a, S> {
 
 impl<'a, S> Watched<'a, S> {
     /// The stream, heard on this board. It takes no memory.
-    pub fn new(alloc: Global, stream: S, board: &'a Board) -> Self {
+    pub fn new(alloc: Global, stream: S, board: &'a Board) -> Self
+        ensures stream { result.stream ≡ stream }
+        ensures board { result.board.now ≡ board.now }
+        ensures feeder { result.feeder ≡ Some empty }
+    {
         Watched {
             stream,
             board,
@@ -103,7 +124,11 @@ impl<'a, S> Watched<'a, S> {
 impl<S: Write> Write for Watched<'_, S> {
     ghost contents = { λ watched. S.contents watched.stream };
 
-    fn write(&mut self, buf: &[u8]) -> io::Result<usize> {
+    fn write(&mut self, buf: &[u8]) -> io::Result<usize>
+        ensures bound { WritesAtMost result buf.now }
+        ensures bytes { WriteAppends (S.contents self.old.stream) (S.contents self.new.stream) result buf.now }
+        ensures heard { HearsWritten self.old.feeder buf.now result self.new.feeder }
+    {
         let written = self.stream.write(buf)?;
         listen(self.board, &mut self.feeder, &buf[..written]);
         Ok(written)
@@ -115,12 +140,27 @@ impl<S: Write> Write for Watched<'_, S> {
 }
 
 /// Hears the frames that a piece of a stream makes whole.
-fn listen(board: &Board, feeder: &mut Option<Feeder>, piece: &[u8]) {
-    let Some(frames) = feeder.as_mut().and_then(|feeder| feeder.feed(piece).ok()) else {
-        *feeder = None;
+fn listen(board: &Board, feeder: &mut Option<Feeder>, piece: &[u8])
+    ensures { Hears feeder.old piece.now feeder.new }
+{
+    let Some(frames) = frames_in(feeder, piece) else {
         return;
     };
     for frame in frames.as_slice() {
         board.hear_frame(frame);
+    }
+}
+
+/// The frames that a piece of a stream makes whole; `None` once nothing follows the stream.
+fn frames_in(feeder: &mut Option<Feeder>, piece: &[u8]) -> Option<Vec<Stamped>>
+    ensures { Follows feeder.old piece.now result feeder.new }
+{
+    let followed = feeder.as_mut()?;
+    match followed.feed(piece) {
+        Ok(frames) => Some(frames),
+        Err(_) => {
+            *feeder = None;
+            None
+        }
     }
 }

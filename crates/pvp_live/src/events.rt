@@ -5,9 +5,8 @@ ghost use Rattle.pvp_live.specs.Events.{posted, beat_at};
 use headline::ClientEvent;
 use pvp_parties::PartyEvent;
 use pvp_text::script::Statement;
-use pvp_world::{FIRST_NODE, FIRST_SITE};
 use rtgs_node::NodeEvent;
-use vr_types::EventOf;
+use vr_types::{EventOf, FIRST_NODE, FIRST_SITE};
 
 /// An event for the actor of a number.
 #[derive(Drop)]

@@ -1,10 +1,13 @@
 //! What goes on in a live run, told line by line while it runs. Who listens may be slow or gone: what cannot be told is not.
 
+ghost use Rattle.std.specs.Prelude.{◌≡◌, ◌++◌, OnOk, string_bytes};
+ghost use Rattle.pvp_live.specs.Notes.{client_told, count_text, end_text, frames_text, refusal_text, site_text};
+ghost use Rattle.pvp_live.specs.Outcomes.{answer_text, outcome_text, posted_text};
+
 use crate::board::{Board, Frames};
-use crate::standing::Standing;
+use crate::standing::{Standing, push_standing};
 use crate::voices::Heard;
 use headline::ClientFault;
-use pvp_book::Book;
 use pvp_parties::{Party, PartyOutcome};
 use pvp_peers::{PeerEnd, Served, Why};
 use pvp_rooms::{Answer, CameOf, Closed};
@@ -15,8 +18,7 @@ use pvp_types::Setup;
 use pvp_world::WorldFault;
 use std::alloc::{AllocError, Global};
 use std::io::Write;
-use vr_site::Replica;
-use vr_types::{MemCell, Status};
+use vr_types::Status;
 
 /// Tells that all connections are made.
 pub fn tell_connected<N: Write>(notes: &mut N, actors: usize, streams: usize) {
@@ -97,37 +99,31 @@ fn push_sites(
 ) -> Result<(), AllocError> {
     write!(text, "line {line}: ")?;
     for (site, (standing, voice)) in standings.iter().zip(board.voices()).enumerate() {
-        write!(text, "s{site} ")?;
-        push_standing(text, *standing, voice.heard())?;
-        text.push_str(", ")?;
+        push_site(text, site, *standing, voice.heard())?;
     }
-    let Frames { sent, came } = board.frames();
+    push_frames(text, board.frames())
+}
+
+/// Appends where a site of a list of all stands.
+fn push_site(
+    text: &mut String,
+    site: usize,
+    standing: Standing,
+    heard: Heard,
+) -> Result<(), AllocError>
+    ensures { OnOk result (string_bytes text.new ≡ string_bytes text.old ++ site_text site standing heard) }
+{
+    write!(text, "s{site} ")?;
+    push_standing(text, standing, heard)?;
+    text.push_str(", ")
+}
+
+/// Appends how many frames went over the streams.
+fn push_frames(text: &mut String, frames: Frames) -> Result<(), AllocError>
+    ensures { OnOk result (string_bytes text.new ≡ string_bytes text.old ++ frames_text frames) }
+{
+    let Frames { sent, came } = frames;
     write!(text, "{sent} frames sent, {came} came\n")
-}
-
-/// Appends where a site stands. One that came up again is up once it was heard to run since.
-fn push_standing(text: &mut String, standing: Standing, heard: Heard) -> Result<(), AllocError> {
-    match standing {
-        Standing::Down => text.push_str("down"),
-        Standing::Restarted(clock) if heard.clock <= clock => text.push_str("restarted"),
-        Standing::Restarted(clock) | Standing::Up(clock) => push_heard(text, heard, clock),
-    }
-}
-
-/// Appends that a site is up, in which view, and for which later one it asked, where it said so since it came up.
-fn push_heard(text: &mut String, heard: Heard, since: u64) -> Result<(), AllocError> {
-    let Heard { normal, asked, .. } = heard;
-    text.push_str("up")?;
-    let is_normal = normal.clock > since;
-    if is_normal {
-        let view = normal.view;
-        write!(text, " in view {view}")?;
-    }
-    if asked.clock > since && (!is_normal || asked.view > normal.view) {
-        let view = asked.view;
-        write!(text, " and asked for view {view}")?;
-    }
-    Ok(())
 }
 
 /// Appends how many envelopes were sent and how many of them did not come, and where each site stands at the end.
@@ -171,17 +167,19 @@ fn push_ends(text: &mut String, closed: &[Closed<Party>]) -> Result<(), AllocErr
         if let Party::Site(party) = &one.end {
             text.push_str(if site == 0 { "" } else { ", " })?;
             write!(text, "s{site} ")?;
-            push_end(text, party.replica())?;
+            let replica = party.replica();
+            push_end(text, replica.status(), replica.view())?;
             site = site.saturating_add(1);
         }
     }
     text.push_str("\n")
 }
 
-/// Appends where a site stands at the end.
-fn push_end(text: &mut String, site: &Replica<Book, MemCell>) -> Result<(), AllocError> {
-    let view = site.view();
-    match site.status() {
+/// Appends where a site of this status and view stands at the end.
+fn push_end(text: &mut String, status: Status, view: u32) -> Result<(), AllocError>
+    ensures { OnOk result (string_bytes text.new ≡ string_bytes text.old ++ end_text status view) }
+{
+    match status {
         Status::Normal => write!(text, "normal in view {view}"),
         Status::Change => write!(text, "in change to view {view}"),
         Status::Recovering => text.push_str("recovering"),
@@ -196,22 +194,33 @@ fn push_posted(
     line: u32,
     actor: u16,
     answer: &Answer<PartyOutcome>,
-) -> Result<(), AllocError> {
+) -> Result<(), AllocError>
+    ensures { OnOk result (string_bytes text.new ≡ string_bytes text.old ++ posted_text setup.now line actor answer.now) }
+{
     write!(text, "line {line}: ")?;
     push_actor(text, setup, actor)?;
-    match answer {
-        Answer::Done { clock, outcome } => {
-            write!(text, " at clock {clock}: ")?;
-            push_outcome(text, outcome)?;
-        }
-        Answer::NoMemory => text.push_str(": memory was refused")?,
-        Answer::ClockSpent => text.push_str(": there is no greater clock")?,
-    }
+    push_answer(text, answer)?;
     text.push_str("\n")
 }
 
+/// Appends at which clock an event was taken and how it came out, or why it was not.
+fn push_answer(text: &mut String, answer: &Answer<PartyOutcome>) -> Result<(), AllocError>
+    ensures { OnOk result (string_bytes text.new ≡ string_bytes text.old ++ answer_text answer.now) }
+{
+    match answer {
+        Answer::Done { clock, outcome } => {
+            write!(text, " at clock {clock}: ")?;
+            push_outcome(text, outcome)
+        }
+        Answer::NoMemory => text.push_str(": memory was refused"),
+        Answer::ClockSpent => text.push_str(": there is no greater clock"),
+    }
+}
+
 /// Appends how an event came out.
-fn push_outcome(text: &mut String, outcome: &PartyOutcome) -> Result<(), AllocError> {
+fn push_outcome(text: &mut String, outcome: &PartyOutcome) -> Result<(), AllocError>
+    ensures { OnOk result (string_bytes text.new ≡ string_bytes text.old ++ outcome_text outcome.now) }
+{
     match outcome {
         PartyOutcome::OfSite(
             CameOf::Did {
@@ -241,18 +250,24 @@ fn push_outcome(text: &mut String, outcome: &PartyOutcome) -> Result<(), AllocEr
 }
 
 /// Appends how many envelopes were sent.
-fn push_count(text: &mut String, count: usize) -> Result<(), AllocError> {
+fn push_count(text: &mut String, count: usize) -> Result<(), AllocError>
+    ensures { OnOk result (string_bytes text.new ≡ string_bytes text.old ++ count_text count) }
+{
     write!(text, "sends {count}")
 }
 
 /// Appends a refusal, by its code and what that means.
-fn push_fault(text: &mut String, fault: WorldFault) -> Result<(), AllocError> {
+fn push_fault(text: &mut String, fault: WorldFault) -> Result<(), AllocError>
+    ensures { OnOk result (string_bytes text.new ≡ string_bytes text.old ++ refusal_text fault) }
+{
     let meaning = meaning(fault);
     write!(text, "{fault}, {meaning}")
 }
 
 /// A client's refusal as the world tells it.
-fn client_told(fault: ClientFault) -> WorldFault {
+fn client_told(fault: ClientFault) -> WorldFault
+    ensures { result ≡ client_told fault }
+{
     match fault {
         ClientFault::Outstanding => WorldFault::Outstanding,
         ClientFault::Spent => WorldFault::Spent,

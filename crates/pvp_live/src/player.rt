@@ -1,16 +1,19 @@
 //! The player of a live script: it posts at each actor from a seat of its own.
 
+ghost use Rattle.std.specs.Prelude.{◌≡◌};
+ghost use Rattle.pvp_live.specs.Outcomes.{seen_after};
+
 use crate::board::Board;
 use crate::events::{Post, posted};
 use crate::notes::{tell_posted, tell_rest, tell_sites};
-use crate::standing::Standing;
+use crate::standing::{Standing, see};
+use crate::voices::site_of;
 use pvp_parties::{Party, PartyCell, PartyOutcome, PartySeat};
 use pvp_peers::{Outbox, Served};
 use pvp_rooms::{Answer, Gate, Input};
 use pvp_streams::{Player, Writers};
 use pvp_text::script::{Line, Statement};
 use pvp_types::Setup;
-use pvp_world::FIRST_SITE;
 use std::alloc::Global;
 use std::io::Write;
 use std::sync::Wait;
@@ -81,22 +84,30 @@ impl<R: Wait + Clock, N: Write> LinePlayer<'_, R, N> {
 
     /// Keeps what is known of a site by what came of a line that was posted there, and tells where all stand. Of another
     /// actor nothing is kept or told.
-    fn see(&mut self, line: Line, actor: u16, clock: u64, outcome: &PartyOutcome) {
-        let (PartyOutcome::OfSite(came), Some(site)) = (outcome, actor.checked_sub(FIRST_SITE))
-        else {
+    fn see(&mut self, line: Line, actor: u16, clock: u64, outcome: &PartyOutcome)
+        ensures { self.new.standings.items
+            ≡ seen_after self.old.standings.items actor line.statement clock outcome.now }
+    {
+        let (PartyOutcome::OfSite(came), Some(site)) = (outcome, site_of(actor)) else {
             return;
         };
         for envelope in Party::sent(outcome) {
             self.board.hear(actor, clock, &envelope.msg);
         }
-        if let Some(standing) = self.standings.get_mut(usize::from(site)) {
-            *standing = standing.after(line.statement, clock, came);
-        }
+        see(
+            self.standings.as_mut_slice(),
+            site,
+            line.statement,
+            clock,
+            came,
+        );
         self.tell(line.number);
     }
 
     /// Tells where the sites stand, and how many frames went over the streams.
-    fn tell(&mut self, line: u32) {
+    fn tell(&mut self, line: u32)
+        ensures { self.new.standings ≡ self.old.standings }
+    {
         tell_sites(
             self.alloc,
             self.notes,

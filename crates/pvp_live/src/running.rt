@@ -1,5 +1,5 @@
 //! A live run, from the first connection to the judgement.
-ghost use Rattle.std.specs.Prelude.{◌≡◌, IfOk};
+ghost use Rattle.std.specs.Prelude.{◌≡◌, IfOk, replicate};
 ghost use Rattle.pvp_types.specs.Setup.{IsValid};
 ghost use Rattle.pvp_live.specs.Told.{WasJudged, net_told};
 
@@ -17,13 +17,13 @@ use pvp_streams::{
 };
 use pvp_text::script::Line;
 use pvp_types::Setup;
-use pvp_world::FIRST_SITE;
 use std::alloc::{AllocError, AllocFailed, Global};
 use std::io::{Read, Write};
 use std::net::Net;
 use std::sync::Wait;
 use std::thread::Threads;
 use std::time::Clock;
+use vr_types::FIRST_SITE;
 
 /// Why there is no judgement.
 #[derive(Clone, Copy, Debug, PartialEq, Eq)]
@@ -166,7 +166,9 @@ fn site_count(cells: &[PartyCell]) -> usize {
 }
 
 /// All sites as they open.
-fn all_up(alloc: Global, sites: usize) -> Result<Vec<Standing>, AllocError> {
+fn all_up(alloc: Global, sites: usize) -> Result<Vec<Standing>, AllocError>
+    ensures { IfOk result (λ standings. standings.items ≡ replicate sites (Standing.Up 0)) }
+{
     let mut standings = Vec::with_capacity(alloc, sites)?;
     for _ in 0..sites {
         standings.push(Standing::Up(0))?;

@@ -1,11 +1,11 @@
 //! What sites say of themselves on the streams of a run, heard while it runs. Nobody waits for who listens: what was heard
 //! stands in atomics, each of which only grows, so that whoever reads one after another reads nothing that is untrue.
 ghost use Rattle.std.specs.Prelude.{◌≡◌};
-ghost use Rattle.pvp_live.specs.Voices.{said_by};
+ghost use Rattle.pvp_live.specs.Voices.{said_by, heard_in, site_of};
 
 use pvp_wire::Message;
 use std::sync::atomic::{AtomicU64, Ordering};
-use vr_types::MsgOf;
+use vr_types::{FIRST_SITE, MsgOf};
 
 /// What a site's message says of where its sender stands.
 #[derive(Clone, Copy, Debug, PartialEq, Eq)]
@@ -57,6 +57,54 @@ pub struct Named {
     pub clock: u64,
 }
 
+/// No view was named.
+const UNNAMED: Named = Named { view: 0, clock: 0 };
+
+/// What is heard of a site by one message that it sent at a clock of its own; a number that is not heard is 0.
+fn heard_in(clock: u64, msg: &Message) -> Heard
+    ensures { result ≡ heard_in clock msg.now }
+{
+    match said_by(msg) {
+        Saying::Normal(view) => Heard {
+            clock,
+            normal: view_named(view, clock),
+            asked: UNNAMED,
+        },
+        Saying::Asks(view) => Heard {
+            clock,
+            normal: UNNAMED,
+            asked: view_named(view, clock),
+        },
+        Saying::Runs => Heard {
+            clock,
+            normal: UNNAMED,
+            asked: UNNAMED,
+        },
+        Saying::Nothing => Heard {
+            clock: 0,
+            normal: UNNAMED,
+            asked: UNNAMED,
+        },
+    }
+}
+
+/// A view that was named at a clock.
+fn view_named(view: u32, clock: u64) -> Named
+    ensures { result ≡ record { view = view; clock = clock } }
+{
+    Named {
+        view: u64::from(view),
+        clock,
+    }
+}
+
+/// Which site the actor of a number is.
+pub fn site_of(actor: u16) -> Option<u16>
+    ensures { result ≡ site_of actor }
+{
+    actor.checked_sub(FIRST_SITE)
+}
+
 /// The voice of a site.
 #[derive(Drop)]
 pub struct Voice {
@@ -80,9 +128,9 @@ impl Naming {
         }
     }
 
-    fn hear(&self, view: u32, clock: u64) {
-        raise(&self.view, u64::from(view));
-        raise(&self.clock, clock);
+    fn hear(&self, named: Named) {
+        raise(&self.view, named.view);
+        raise(&self.clock, named.clock);
     }
 
     fn named(&self) -> Named {
@@ -102,15 +150,12 @@ impl Voice {
         }
     }
 
-    /// Hears a message that the site sent at a clock of its own.
+    /// Hears a message that the site sent at a clock of its own. What it does not say is 0, and raises nothing.
     pub fn hear(&self, clock: u64, msg: &Message) {
-        match said_by(msg) {
-            Saying::Normal(view) => self.normal.hear(view, clock),
-            Saying::Asks(view) => self.asked.hear(view, clock),
-            Saying::Runs => {}
-            Saying::Nothing => return,
-        }
-        raise(&self.clock, clock);
+        let heard = heard_in(clock, msg);
+        self.normal.hear(heard.normal);
+        self.asked.hear(heard.asked);
+        raise(&self.clock, heard.clock);
     }
 
     /// What was heard so far.

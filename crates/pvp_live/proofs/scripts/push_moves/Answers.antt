@@ -1,4 +1,4 @@
-use Rattle.std.proofs.Common.{◌≡◌, ◌+◌, [], ◌++◌, get_or, string_bytes, ap, ◌∙◌, arith}
+use Rattle.std.proofs.Common.{[], ◌++◌, get_or, string_bytes, ap, ◌∙◌, arith}
 use Rattle.std.specs.List.{flat_map}
 use Rattle.std.proofs.lemmas.List.{take_more}
 use Rattle.pvp_trace.proofs.TextLemmas.{one-more, all-written}
