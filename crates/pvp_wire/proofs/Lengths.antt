@@ -13,7 +13,6 @@ use Rattle.vr_types.specs.Actors.{is_actor}
 use Rattle.vr_types.specs.Messages.{rows_in, known_in}
 use Rattle.pvp_wire.specs.declared.stamped.Stamped.{Stamped}
 use Rattle.pvp_wire.specs.Spelling.{number, command, reply, row, rows, boots, state, body, head, stamp, most_command, most_row, most_rows, most_boots, most_body, BankMsg, BankRow, has_client, is_site_count, has_site_count, is_wireable}
-use Rattle.pvp_wire.specs.Pieces.{command_size}
 use Rattle.pvp_wire.specs.Fits.{MessageFits, StateFits}
 use Rattle.pvp_wire.proofs.Numbers.{length-number}
 
@@ -105,19 +104,11 @@ body-short (PayOrder a) h k = omega (arith, two _ _ _ _ (two _ _ _ _ (two _ _ _ 
 both : (a b : List ℕ) (m n : ℕ) → length a ≡ m → length b ≡ n → length (a ++ b) ≡ m + n
 both a b m n ha hb = omega (arith, length-append a b, ha, hb)
 
-length-command : (cmd : Cmd) → length (command cmd) ≡ command_size cmd
-length-command (Instruct a b c d e f) =
-    let h = both _ _ _ _ (both _ _ _ _ (both _ _ _ _ (both _ _ _ _ (both _ _ _ _ (length-number 4 a) (length-number 2 b)) (length-number 1 c)) (length-number 8 d)) (length-number 1 e)) (length-number 8 f) in
-    omega (arith, h)
-length-command (Rescind a) = omega (arith, length-number 4 a)
-length-command (Fund a b c d) = omega (arith, both _ _ _ _ (both _ _ _ _ (both _ _ _ _ (length-number 1 a) (length-number 4 b)) (length-number 2 c)) (length-number 8 d))
-length-command (Settle a) = omega (arith, length-number 4 a)
-length-command (PayOut a b) = omega (arith, both _ _ _ _ (length-number 1 a) (length-number 8 b))
-length-command (Paid a b) = omega (arith, both _ _ _ _ (length-number 1 a) (length-number 4 b))
-length-command (Returned a b) = omega (arith, both _ _ _ _ (length-number 1 a) (length-number 4 b))
+-- how long parts and numbers are
+pub ruleset lengths = (length-append, length-number)
 
-pub length-row : (r : BankRow) → length (row r) ≡ 6 + command_size r.cmd
-length-row r = omega (arith, both _ _ _ _ (both _ _ _ _ (length-number 2 r.client) (length-number 4 r.number)) (length-command r.cmd))
+pub length-row : (r : BankRow) → length (row r) ≡ 6 + length (command r.cmd)
+length-row r = omega (arith, length-append (number 2 r.client ++ number 4 r.number) (command r.cmd), both _ _ _ _ (length-number 2 r.client) (length-number 4 r.number))
 
 -- of an envelope that has a spelling
 pub spelled-short : (s : Stamped) → MessageFits s.envelope.msg → is_wireable s ≡ true → length (body s.envelope.msg) ≤ most_body

@@ -8,4 +8,5 @@ pub mod Frames
 pub mod Refusals
 pub mod Streams
 pub mod Written
+pub mod Paged
 pub mod WorkedFrames

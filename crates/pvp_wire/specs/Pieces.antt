@@ -1,10 +1,10 @@
--- The two parts in which the fields of a message are written: what stands in front of its rows, and the rows one by one.
-use Rattle.std.specs.Prelude.{ℕ, List, [], Option, Some, None}
+-- The two parts in which the fields of a message are written: what stands in front of its rows, and the rows page by page.
+use Rattle.std.specs.Prelude.{ℕ, ◌*◌, List, [], take, drop, Option, Some, None}
 use Rattle.std.specs.List.{flat_map}
 use Rattle.vr_types.specs.declared.message.MsgOf.TheVariants.{DoViewChange, StartView, NewState, RecoveryResponse}
 use Rattle.vr_types.specs.declared.message.StateOf.{StateOf}
+use Rattle.vr_types.specs.Pages.{page_rows}
 use Rattle.pvp_types.specs.declared.command.Cmd.{Cmd}
-use Rattle.pvp_types.specs.declared.command.Cmd.TheVariants.{Instruct, Rescind, Fund, Settle, PayOut, Paid, Returned}
 use Rattle.pvp_wire.specs.Spelling.{BankMsg, BankRow, row}
 use Rattle.pvp_wire.specs.Fits.{RowsFit}
 
@@ -26,15 +26,9 @@ abbrev pub spelled : Option (List BankRow) → List ℕ
 spelled None = []
 spelled (Some log) = flat_map row log
 
--- how many bytes a command takes
-abbrev pub command_size : Cmd → ℕ
-command_size (Instruct reference other sell sell_amt buy buy_amt) = 25
-command_size (Rescind reference) = 5
-command_size (Fund ccy pay member amt) = 16
-command_size (Settle most) = 5
-command_size (PayOut ccy amt) = 10
-command_size (Paid ccy out) = 6
-command_size (Returned ccy out) = 6
+-- the rows of a page, counted from 0; none behind the last one
+abbrev pub rows_at : List BankRow → ℕ → List BankRow
+rows_at rows page = take page_rows (drop (page_rows * page) rows)
 
 -- they fit
 abbrev pub LastFits : Option (List BankRow) → Type 0

@@ -1,12 +1,13 @@
-//! The spelling of frames. All of a frame but its rows fits on the stack, and the rows are written one by one, so that a
-//! frame takes no memory.
-ghost use Rattle.std.specs.Prelude.{◌≡◌, ◌+◌, ◌<◌, ◌≤◌, ◌++◌, ◌∷◌, [], true, length, OnOk, option_map};
+//! The spelling of frames. All of a frame but its rows fits on the stack, and so do the rows of a page, which are written at
+//! once, so that a frame takes no memory.
+ghost use Rattle.std.specs.Prelude.{◌≡◌, ◌+◌, ◌*◌, ◌<◌, ◌≤◌, ◌++◌, ◌∷◌, [], true, length, OnOk, option_map};
 ghost use Rattle.std.specs.Io.KnownBytes.{Appends};
 ghost use Rattle.std.specs.List.{flat_map};
 ghost use Rattle.arrayvec.specs.ArrayVec.{array_vec_len};
 ghost use Rattle.pvp_types.specs.declared.command.Cmd.TheVariants.{PayOut, Paid, Returned};
 ghost use Rattle.vr_types.specs.declared.message.MsgOf.TheVariants as message;
 ghost use Rattle.vr_types.specs.Messages.{known_in};
+ghost use Rattle.vr_types.specs.Pages.{page_rows};
 ghost use Rattle.pvp_wire.specs.Spelling as spell;
 ghost use Rattle.pvp_wire.specs.Pieces as piece;
 ghost use Rattle.pvp_wire.specs.Fits.{Fits, CommandFits, ReplyFits, OrderFits, RowFits, RowsFit, EachFits, BootsFit, StateFits, MessageFits, StampFits, IsSpelled};
@@ -17,15 +18,17 @@ use arrayvec::ArrayVec;
 use byteorder::{BigEndian, ByteOrder};
 use pvp_types::{Cmd, PayOrder, Reason, Reply};
 use std::io::{self, Write};
-use vr_types::{Known, MsgOf, RowOf, RowsOf, StateOf};
+use vr_types::{Known, MAX_ROWS, MsgOf, PAGE_ROWS, RowOf, RowsOf, StateOf};
 
-/// Bytes on the stack. What of a message stands in front of its rows fits, and so does each row.
+/// Bytes on the stack. What of a message stands in front of its rows fits.
 type Piece = ArrayVec<u8, 64>;
+
+/// Bytes on the stack. The rows of a page fit. What stands in rows and in front of them is pushed to pieces of any room.
+type Page = ArrayVec<u8, 2048>;
 
 /// Writes the one spelling of a stamped envelope, which has to have one: `wireable` tells. It takes no memory.
 ///
-/// An `Err` is the writer's; how much was written then is not said. A row is written at a time, so a writer for which each
-/// write is dear should be one that holds back what it is given.
+/// An `Err` is the writer's; how much was written then is not said. A page of rows is written at a time.
 pub fn encode<W: Write>(stamped: &Stamped, writer: &mut W) -> io::Result<()>
     requires { spell.is_wireable stamped.now ≡ true }
     ensures written { OnOk result (Appends (W.contents writer.old) (W.contents writer.new) (spell.spelling stamped.now)) }
@@ -84,8 +87,41 @@ fn each_len(rows: &RowsOf<Cmd>) -> u32
     ensures fits { RowsFit rows.now }
 {
     let mut len = 0;
-    for at in 0..rows.len() {
-        len += row_len(rows.row(at));
+    for page in 0..page_count(rows) {
+        len += page_len(page_at(rows, page));
+    }
+    len
+}
+
+/// On how many pages the rows of a list lie.
+fn page_count(rows: &RowsOf<Cmd>) -> usize
+    ensures all { length rows.now ≤ page_rows * result }
+    ensures few { length rows.now ≤ MAX_ROWS }
+{
+    rows.len().div_ceil(PAGE_ROWS)
+}
+
+/// The rows of a page; none behind the last one.
+fn page_at(rows: &RowsOf<Cmd>, page: usize) -> &[RowOf<Cmd>]
+    ensures rows { result.now ≡ piece.rows_at rows.now page }
+    ensures few { length result.now ≤ page_rows }
+{
+    match rows.page(page) {
+        Some(rows) => rows,
+        None => &[],
+    }
+}
+
+/// How many bytes the rows of a page take.
+fn page_len(page: &[RowOf<Cmd>]) -> u32
+    requires { length page.now ≤ page_rows }
+    ensures exact { result ≡ length (flat_map spell.row page.now) }
+    ensures few { result ≤ spell.most_row * length page.now }
+    ensures fits { EachFits RowFits page.now }
+{
+    let mut len = 0;
+    for row in page {
+        len += row_len(*row);
     }
     len
 }
@@ -100,8 +136,9 @@ fn row_len(row: RowOf<Cmd>) -> u32
 }
 
 /// How many bytes a command takes: its tag and its fields.
+#[tactic(auto, using(crate::proofs::Lengths::lengths))]
 fn command_len(cmd: Cmd) -> u32
-    ensures { result ≡ piece.command_size cmd }
+    ensures { result ≡ length (spell.command cmd) }
 {
     match cmd {
         Cmd::Instruct { .. } => 25,
@@ -114,7 +151,7 @@ fn command_len(cmd: Cmd) -> u32
     }
 }
 
-/// Writes the rows with which a message ends, one by one.
+/// Writes the rows with which a message ends.
 fn write_rows<W: Write>(msg: &Message, writer: &mut W) -> io::Result<()>
     ensures { OnOk result (Appends (W.contents writer.old) (W.contents writer.new) (piece.spelled (piece.last_rows msg.now))) }
 {
@@ -124,23 +161,26 @@ fn write_rows<W: Write>(msg: &Message, writer: &mut W) -> io::Result<()>
     }
 }
 
-/// Writes the rows of a list one by one.
+/// Writes the rows of a list, a page at a time.
 fn write_each<W: Write>(rows: &RowsOf<Cmd>, writer: &mut W) -> io::Result<()>
     ensures { OnOk result (Appends (W.contents writer.old) (W.contents writer.new) (flat_map spell.row rows.now)) }
 {
-    for at in 0..rows.len() {
-        write_row(rows.row(at), writer)?;
+    for at in 0..page_count(rows) {
+        write_page(page_at(rows, at), writer)?;
     }
     Ok(())
 }
 
-/// Writes a row at once.
-fn write_row<W: Write>(row: RowOf<Cmd>, writer: &mut W) -> io::Result<()>
-    ensures { OnOk result (Appends (W.contents writer.old) (W.contents writer.new) (spell.row row)) }
+/// Writes the rows of a page at once.
+fn write_page<W: Write>(rows: &[RowOf<Cmd>], writer: &mut W) -> io::Result<()>
+    requires { length rows.now ≤ page_rows }
+    ensures { OnOk result (Appends (W.contents writer.old) (W.contents writer.new) (flat_map spell.row rows.now)) }
 {
-    let mut piece = Piece::new();
-    push_row(&mut piece, row);
-    writer.write_all(piece.as_slice())
+    let mut page = Page::new();
+    for row in rows {
+        push_row(&mut page, *row);
+    }
+    writer.write_all(page.as_slice())
 }
 
 /// The length of a frame whose body has so many bytes, and its head.
@@ -178,8 +218,8 @@ fn push_stamp(out: &mut Piece, stamp: Stamp)
 }
 
 /// The bytes of a field.
-fn push_field(out: &mut Piece, field: &[u8])
-    requires { array_vec_len out.old + length field.now ≤ piece.room }
+fn push_field<const N: usize>(out: &mut ArrayVec<u8, N>, field: &[u8])
+    requires { array_vec_len out.old + length field.now ≤ N }
     ensures bytes { out.new.items ≡ out.old.items ++ field.now }
     ensures len { array_vec_len out.new ≡ array_vec_len out.old + length field.now }
 {
@@ -188,8 +228,8 @@ fn push_field(out: &mut Piece, field: &[u8])
 }
 
 #[tactic(auto, unfolding(crate::specs::Spelling::number))]
-fn push_u8(out: &mut Piece, number: u8)
-    requires { array_vec_len out.old + 1 ≤ piece.room }
+fn push_u8<const N: usize>(out: &mut ArrayVec<u8, N>, number: u8)
+    requires { array_vec_len out.old + 1 ≤ N }
     ensures bytes { out.new.items ≡ out.old.items ++ spell.number 1 number }
     ensures len { array_vec_len out.new ≡ array_vec_len out.old + 1 }
 {
@@ -197,8 +237,8 @@ fn push_u8(out: &mut Piece, number: u8)
 }
 
 #[tactic(auto, unfolding(crate::specs::Spelling::number))]
-fn push_u16(out: &mut Piece, number: u16)
-    requires { array_vec_len out.old + 2 ≤ piece.room }
+fn push_u16<const N: usize>(out: &mut ArrayVec<u8, N>, number: u16)
+    requires { array_vec_len out.old + 2 ≤ N }
     ensures bytes { out.new.items ≡ out.old.items ++ spell.number 2 number }
     ensures len { array_vec_len out.new ≡ array_vec_len out.old + 2 }
 {
@@ -208,8 +248,8 @@ fn push_u16(out: &mut Piece, number: u16)
 }
 
 #[tactic(auto, unfolding(crate::specs::Spelling::number))]
-fn push_u32(out: &mut Piece, number: u32)
-    requires { array_vec_len out.old + 4 ≤ piece.room }
+fn push_u32<const N: usize>(out: &mut ArrayVec<u8, N>, number: u32)
+    requires { array_vec_len out.old + 4 ≤ N }
     ensures bytes { out.new.items ≡ out.old.items ++ spell.number 4 number }
     ensures len { array_vec_len out.new ≡ array_vec_len out.old + 4 }
 {
@@ -219,8 +259,8 @@ fn push_u32(out: &mut Piece, number: u32)
 }
 
 #[tactic(auto, unfolding(crate::specs::Spelling::number))]
-fn push_u64(out: &mut Piece, number: u64)
-    requires { array_vec_len out.old + 8 ≤ piece.room }
+fn push_u64<const N: usize>(out: &mut ArrayVec<u8, N>, number: u64)
+    requires { array_vec_len out.old + 8 ≤ N }
     ensures bytes { out.new.items ≡ out.old.items ++ spell.number 8 number }
     ensures len { array_vec_len out.new ≡ array_vec_len out.old + 8 }
 {
@@ -230,8 +270,8 @@ fn push_u64(out: &mut Piece, number: u64)
 }
 
 /// A byte that tells what follows.
-fn push_tag(out: &mut Piece, tag: u8)
-    requires { array_vec_len out.old + 1 ≤ piece.room }
+fn push_tag<const N: usize>(out: &mut ArrayVec<u8, N>, tag: u8)
+    requires { array_vec_len out.old + 1 ≤ N }
     ensures bytes { out.new.items ≡ out.old.items ++ tag ∷ [] }
     ensures len { array_vec_len out.new ≡ array_vec_len out.old + 1 }
 {
@@ -239,8 +279,8 @@ fn push_tag(out: &mut Piece, tag: u8)
 }
 
 /// A command: its tag, then its fields.
-fn push_command(out: &mut Piece, cmd: Cmd)
-    requires { array_vec_len out.old + 25 ≤ piece.room }
+fn push_command<const N: usize>(out: &mut ArrayVec<u8, N>, cmd: Cmd)
+    requires { array_vec_len out.old + 25 ≤ N }
     ensures bytes { out.new.items ≡ out.old.items ++ spell.command cmd }
     ensures len { array_vec_len out.new ≤ array_vec_len out.old + 25 }
     ensures fits { CommandFits cmd }
@@ -277,8 +317,8 @@ fn push_command(out: &mut Piece, cmd: Cmd)
 }
 
 /// That a member asks for a pay-out.
-fn push_pay_out(out: &mut Piece, ccy: u8, amt: u64)
-    requires { array_vec_len out.old + 10 ≤ piece.room }
+fn push_pay_out<const N: usize>(out: &mut ArrayVec<u8, N>, ccy: u8, amt: u64)
+    requires { array_vec_len out.old + 10 ≤ N }
     ensures bytes { out.new.items ≡ out.old.items ++ spell.command (PayOut ccy amt) }
     ensures len { array_vec_len out.new ≡ array_vec_len out.old + 10 }
 {
@@ -287,8 +327,8 @@ fn push_pay_out(out: &mut Piece, ccy: u8, amt: u64)
 }
 
 /// That a pay-out is paid.
-fn push_paid(out: &mut Piece, ccy: u8, number: u32)
-    requires { array_vec_len out.old + 6 ≤ piece.room }
+fn push_paid<const N: usize>(out: &mut ArrayVec<u8, N>, ccy: u8, number: u32)
+    requires { array_vec_len out.old + 6 ≤ N }
     ensures bytes { out.new.items ≡ out.old.items ++ spell.command (Paid ccy number) }
     ensures len { array_vec_len out.new ≡ array_vec_len out.old + 6 }
 {
@@ -298,8 +338,8 @@ fn push_paid(out: &mut Piece, ccy: u8, number: u32)
 }
 
 /// That a pay-out could not be paid.
-fn push_returned(out: &mut Piece, ccy: u8, number: u32)
-    requires { array_vec_len out.old + 6 ≤ piece.room }
+fn push_returned<const N: usize>(out: &mut ArrayVec<u8, N>, ccy: u8, number: u32)
+    requires { array_vec_len out.old + 6 ≤ N }
     ensures bytes { out.new.items ≡ out.old.items ++ spell.command (Returned ccy number) }
     ensures len { array_vec_len out.new ≡ array_vec_len out.old + 6 }
 {
@@ -309,8 +349,8 @@ fn push_returned(out: &mut Piece, ccy: u8, number: u32)
 }
 
 /// A tag and a number of four bytes.
-fn push_tagged(out: &mut Piece, tag: u8, number: u32)
-    requires { array_vec_len out.old + 5 ≤ piece.room }
+fn push_tagged<const N: usize>(out: &mut ArrayVec<u8, N>, tag: u8, number: u32)
+    requires { array_vec_len out.old + 5 ≤ N }
     ensures bytes { out.new.items ≡ out.old.items ++ tag ∷ spell.number 4 number }
     ensures len { array_vec_len out.new ≡ array_vec_len out.old + 5 }
 {
@@ -319,8 +359,8 @@ fn push_tagged(out: &mut Piece, tag: u8, number: u32)
 }
 
 /// A currency and an amount.
-fn push_leg(out: &mut Piece, ccy: u8, amt: u64)
-    requires { array_vec_len out.old + 9 ≤ piece.room }
+fn push_leg<const N: usize>(out: &mut ArrayVec<u8, N>, ccy: u8, amt: u64)
+    requires { array_vec_len out.old + 9 ≤ N }
     ensures bytes { out.new.items ≡ out.old.items ++ spell.number 1 ccy ++ spell.number 8 amt }
     ensures len { array_vec_len out.new ≡ array_vec_len out.old + 9 }
 {
@@ -329,8 +369,14 @@ fn push_leg(out: &mut Piece, ccy: u8, amt: u64)
 }
 
 /// A payment at a currency's node, in or out: its number there, the member and the amount.
-fn push_payment(out: &mut Piece, ccy: u8, number: u32, member: u16, amt: u64)
-    requires { array_vec_len out.old + 15 ≤ piece.room }
+fn push_payment<const N: usize>(
+    out: &mut ArrayVec<u8, N>,
+    ccy: u8,
+    number: u32,
+    member: u16,
+    amt: u64,
+)
+    requires { array_vec_len out.old + 15 ≤ N }
     ensures bytes { out.new.items ≡ out.old.items ++ spell.number 1 ccy ++ spell.number 4 number ++ spell.number 2 member ++ spell.number 8 amt }
     ensures len { array_vec_len out.new ≡ array_vec_len out.old + 15 }
 {
@@ -388,8 +434,8 @@ fn push_order(out: &mut Piece, order: PayOrder)
     push_payment(out, order.ccy, order.out, order.member, order.amt);
 }
 
-fn push_row(out: &mut Piece, row: RowOf<Cmd>)
-    requires { array_vec_len out.old + 31 ≤ piece.room }
+fn push_row<const N: usize>(out: &mut ArrayVec<u8, N>, row: RowOf<Cmd>)
+    requires { array_vec_len out.old + 31 ≤ N }
     ensures bytes { out.new.items ≡ out.old.items ++ spell.row row }
     ensures len { array_vec_len out.new ≤ array_vec_len out.old + 31 }
     ensures fits { RowFits row }

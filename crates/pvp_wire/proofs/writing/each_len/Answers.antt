@@ -1,21 +1,29 @@
-use Rattle.std.proofs.Common.{◌≡◌, ◌+◌, ◌<◌, ◌++◌, length, take, get_or, ap, ◌∙◌, arith, length-append}
+use Rattle.std.proofs.Common.{◌≡◌, ◌+◌, ◌*◌, length, take, sym, ap, ◌∙◌, subst, arith, length-append}
+use Rattle.std.proofs.lemmas.List.{length-take}
 use Rattle.std.specs.List.{flat_map}
-use Rattle.std.proofs.lemmas.Option.{slice_get_within, get_or_from_slice_get}
+use Rattle.vr_types.specs.Pages.{page_rows}
 use Rattle.pvp_wire.specs.Spelling.{row}
-use Rattle.pvp_wire.specs.Fits.{RowFits}
-use Rattle.pvp_wire.proofs.Parts.{each_more, flat_more}
+use Rattle.pvp_wire.specs.Pieces.{rows_at}
+use Rattle.pvp_wire.specs.Fits.{EachFits, RowFits}
+use Rattle.pvp_wire.proofs.Paged.{page-more, length-page-more, spelled-more, EachFits-append}
 use Rattle.pvp_wire.proofs.writing.each_len.Goals as goal
 
-pub loop-at-preserved : goal.loop-at-preserved
-loop-at-preserved c =
+pub overflow_add-len : goal.overflow_add-len
+overflow_add-len c =
     let rows = c.args.rows.now in
-    let at = c.loop-at.at in
-    let next = c.row.result in
-    let here : get_or rows at next ≡ next = get_or_from_slice_get rows at next next c.row.ensures in
-    let within : at < length rows = slice_get_within rows at next c.row.ensures in
-    let before = flat_map row (take at rows) in
-    let more : length (flat_map row (take (at + 1) rows)) ≡ length before + length (row next) = ap (λ l. length l) (flat_more row rows at next within) ∙ ap (λ r. length (before ++ row r)) here ∙ length-append before (row next) in (
-      omega (arith, more, c.loop-at.invariant.0, c.row_len-len.ensures.exact),
-      omega (arith, c.loop-at.invariant.1, c.row_len-len.ensures.few),
-      each_more RowFits rows at next within c.loop-at.invariant.2 (rw here c.row_len-len.ensures.fits),
+    let page = c.loop-page.page in
+    let here = ap (λ l. length l) c.page_at.ensures.rows in
+    omega (arith, c.loop-page.invariant.1, c.page_len-len.ensures.few, here, length-page-more rows page, length-take (page_rows * (page + 1)) rows, c.page_count-page-end.ensures.few)
+
+pub loop-page-preserved : goal.loop-page-preserved
+loop-page-preserved c =
+    let rows = c.args.rows.now in
+    let page = c.loop-page.page in
+    let more = rows_at rows page in
+    let before = take (page_rows * page) rows in
+    let here = c.page_at.ensures.rows in
+    let bytes : length (flat_map row (take (page_rows * (page + 1)) rows)) ≡ length (flat_map row before) + length (flat_map row more) = ap (λ l. length l) (spelled-more rows page) ∙ length-append (flat_map row before) (flat_map row more) in (
+      omega (arith, bytes, c.loop-page.invariant.0, c.page_len-len.ensures.exact, ap (λ l. length (flat_map row l)) here),
+      omega (arith, c.loop-page.invariant.1, c.page_len-len.ensures.few, ap (λ l. length l) here, length-page-more rows page),
+      subst (EachFits RowFits) (sym (page-more rows page)) (EachFits-append RowFits before more c.loop-page.invariant.2 (subst (EachFits RowFits) here c.page_len-len.ensures.fits)),
     )

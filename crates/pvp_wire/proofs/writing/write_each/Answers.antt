@@ -1,9 +1,9 @@
-use Rattle.std.proofs.Common.{◌≡◌, ◌+◌, ◌++◌, take, sym, ap, ◌∙◌, subst, List, ℕ}
+use Rattle.std.proofs.Common.{◌≡◌, ◌+◌, ◌*◌, ◌++◌, take, sym, ap, ◌∙◌, subst, List, ℕ}
 use Rattle.std.specs.Io.KnownBytes.{Appends}
 use Rattle.std.specs.List.{flat_map}
-use Rattle.std.proofs.lemmas.Option.{slice_get_within, get_or_from_slice_get}
+use Rattle.vr_types.specs.Pages.{page_rows}
 use Rattle.pvp_wire.specs.Spelling.{row}
-use Rattle.pvp_wire.proofs.Parts.{flat_more}
+use Rattle.pvp_wire.proofs.Paged.{spelled-more}
 use Rattle.pvp_wire.proofs.Written.{appends_then}
 use Rattle.pvp_wire.proofs.writing.write_each.Goals as goal
 
@@ -11,10 +11,9 @@ pub loop-at-preserved : goal.loop-at-preserved
 loop-at-preserved g c =
     let rows = c.args.rows.now in
     let at = c.loop-at.at in
-    let next = c.row.result in
+    let here = c.page_at.result.now in
     let bytes = g.W.Write.contents in
-    let before = flat_map row (take at rows) in
-    let more : before ++ row next ≡ flat_map row (take (at + 1) rows) =
-    sym (flat_more row rows at next (slice_get_within rows at next c.row.ensures) ∙ ap (λ r. before ++ row r) (get_or_from_slice_get rows at next next c.row.ensures)) in
-    subst (λ (all : List ℕ). Appends (bytes c.args.writer.now) (bytes c.write_row.new.writer) all) more
-    (appends_then (bytes c.args.writer.now) (bytes c.loop-at.writer) (bytes c.write_row.new.writer) before (row next) c.loop-at.invariant c.in_ok-write_row.ensures)
+    let before = flat_map row (take (page_rows * at) rows) in
+    let more : before ++ flat_map row here ≡ flat_map row (take (page_rows * (at + 1)) rows) = ap (λ l. before ++ flat_map row l) c.page_at.ensures.rows ∙ sym (spelled-more rows at) in
+    subst (λ (all : List ℕ). Appends (bytes c.args.writer.now) (bytes c.write_page.new.writer) all) more
+    (appends_then (bytes c.args.writer.now) (bytes c.loop-at.writer) (bytes c.write_page.new.writer) before (flat_map row here) c.loop-at.invariant c.in_ok-write_page.ensures)
