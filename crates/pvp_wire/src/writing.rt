@@ -23,8 +23,9 @@ use vr_types::{Known, MAX_ROWS, MsgOf, PAGE_ROWS, RowOf, RowsOf, StateOf};
 /// Bytes on the stack. What of a message stands in front of its rows fits.
 type Piece = ArrayVec<u8, 64>;
 
-/// Bytes on the stack. The rows of a page fit. What stands in rows and in front of them is pushed to pieces of any room.
-type Page = ArrayVec<u8, 2048>;
+/// Bytes on the stack, as many as the rows of a page take: 64 of at most 31. A new one is filled with zeros, so it is no
+/// larger.
+type Page = ArrayVec<u8, 1984>;
 
 /// Writes the one spelling of a stamped envelope, which has to have one: `wireable` tells. It takes no memory.
 ///
@@ -217,7 +218,7 @@ fn push_stamp(out: &mut Piece, stamp: Stamp)
     push_u32(out, stamp.index);
 }
 
-/// The bytes of a field.
+/// The bytes of a field. They go to a piece or to a page.
 fn push_field<const N: usize>(out: &mut ArrayVec<u8, N>, field: &[u8])
     requires { array_vec_len out.old + length field.now ≤ N }
     ensures bytes { out.new.items ≡ out.old.items ++ field.now }
