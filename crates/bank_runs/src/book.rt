@@ -87,6 +87,27 @@ fn run(rt: &impl Abort, book: &mut Book, rows: &[Row]) -> Result<(), Fail> {
     Ok(())
 }
 
+/// ALFA's order for USD 200, the first.
+const ORDER: PayOrder = PayOrder {
+    ccy: USD,
+    out: 1,
+    member: ALFA,
+    amt: 200,
+};
+
+fn shows_the_order(rt: &impl Abort, book: &Book) {
+    assert_eq!(rt; book.open(0), Some((USD_NODE, ORDER)));
+    assert_eq!(rt; book.open(1), None);
+    assert_eq!(rt; book.open_orders(USD).next(), Some(ORDER));
+    assert_eq!(rt; book.open_count(), 1);
+}
+
+fn shows_no_open_order(rt: &impl Abort, book: &Book) {
+    assert_eq!(rt; book.open(0), None);
+    assert_eq!(rt; book.open_count(), 0);
+    assert_eq!(rt; book.orders(USD), 1);
+}
+
 #[test]
 fn keeps_a_pay_out_until_it_is_paid(rt: HostRuntime) -> Result<(), Fail> {
     let mut book = book(rt.alloc())?;
@@ -95,20 +116,15 @@ fn keeps_a_pay_out_until_it_is_paid(rt: HostRuntime) -> Result<(), Fail> {
         (ALFA, pay_out(USD, 200), Reply::Order(1)),
     ];
     run(&rt, &mut book, &rows)?;
-    let order = PayOrder {
-        ccy: USD,
-        out: 1,
-        member: ALFA,
-        amt: 200,
-    };
-    assert_eq!(rt; book.open(0), Some((USD_NODE, order)));
-    assert_eq!(rt; book.open(1), None);
-    assert_eq!(rt; book.open_orders(USD).next(), Some(order));
-    assert_eq!(rt; book.open_count(), 1);
+    shows_the_order(&rt, &book);
     run(&rt, &mut book, &[(USD_NODE, paid(USD, 1), Reply::Done)])?;
-    assert_eq!(rt; book.open(0), None);
-    assert_eq!(rt; book.orders(USD), 1);
+    shows_no_open_order(&rt, &book);
     Ok(())
+}
+
+fn shows_1200(rt: &impl Abort, book: &Book) {
+    assert_eq!(rt; book.balance(ALFA, USD), 1200);
+    assert_eq!(rt; book.figure(USD), 1200);
 }
 
 #[test]
@@ -127,11 +143,17 @@ fn credits_a_returned_pay_out_once(rt: HostRuntime) -> Result<(), Fail> {
         ),
     ];
     run(&rt, &mut book, &rows)?;
-    assert_eq!(rt; book.balance(ALFA, USD), 1200);
-    assert_eq!(rt; book.figure(USD), 1200);
-    assert_eq!(rt; book.open_count(), 0);
-    assert_eq!(rt; book.orders(USD), 1);
+    shows_1200(&rt, &book);
+    shows_no_open_order(&rt, &book);
     Ok(())
+}
+
+/// Two commands came, of which the second was the first again.
+fn shows_what_came(rt: &impl Abort, book: &Book) {
+    assert_eq!(rt; book.applied(), 2);
+    assert!(rt; book.paid_in(USD, 1));
+    assert!(rt; !book.paid_in(USD, 2));
+    assert_eq!(rt; book.setup().sites, 3);
 }
 
 #[test]
@@ -147,13 +169,22 @@ fn counts_what_came(rt: HostRuntime) -> Result<(), Fail> {
         ),
     ];
     run(&rt, &mut book, &rows)?;
-    assert_eq!(rt; book.applied(), 2);
-    assert_eq!(rt; book.balance(ALFA, USD), 1200);
-    assert_eq!(rt; book.figure(USD), 1200);
-    assert!(rt; book.paid_in(USD, 1));
-    assert!(rt; !book.paid_in(USD, 2));
-    assert_eq!(rt; book.setup().sites, 3);
+    shows_what_came(&rt, &book);
+    shows_1200(&rt, &book);
     Ok(())
+}
+
+/// One pair of each state.
+fn shows_the_pairs(rt: &impl Abort, book: &Book) {
+    assert_eq!(rt; book.pair(1), None);
+    assert_eq!(rt; book.pair(7), Some(PairState::Unmatched));
+    assert_eq!(rt; book.pair(3), Some(PairState::Settled));
+    assert_eq!(rt; book.pair(4), Some(PairState::Rescinded));
+    assert_eq!(rt; book.pair(5), Some(PairState::Matched));
+    assert_eq!(rt; book.pairs(PairState::Unmatched), 1);
+    assert_eq!(rt; book.pairs(PairState::Matched), 1);
+    assert_eq!(rt; book.pairs(PairState::Settled), 1);
+    assert_eq!(rt; book.pairs(PairState::Rescinded), 1);
 }
 
 #[test]
@@ -172,14 +203,6 @@ fn knows_how_far_a_pair_has_come(rt: HostRuntime) -> Result<(), Fail> {
         (OPERATOR, settle(1), Reply::Settled(1)),
     ];
     run(&rt, &mut book, &rows)?;
-    assert_eq!(rt; book.pair(1), None);
-    assert_eq!(rt; book.pair(7), Some(PairState::Unmatched));
-    assert_eq!(rt; book.pair(3), Some(PairState::Settled));
-    assert_eq!(rt; book.pair(4), Some(PairState::Rescinded));
-    assert_eq!(rt; book.pair(5), Some(PairState::Matched));
-    assert_eq!(rt; book.pairs(PairState::Unmatched), 1);
-    assert_eq!(rt; book.pairs(PairState::Matched), 1);
-    assert_eq!(rt; book.pairs(PairState::Settled), 1);
-    assert_eq!(rt; book.pairs(PairState::Rescinded), 1);
+    shows_the_pairs(&rt, &book);
     Ok(())
 }

@@ -3,6 +3,7 @@ use fixtures::{Said, said_by};
 use pvp_book::Book;
 use pvp_types::{Cmd, Reply};
 use std::alloc::Global;
+use std::process::Abort;
 use std::test::Fail;
 use vr_site::Replica;
 use vr_types::{
@@ -16,7 +17,7 @@ pub type Site = Replica<Book, MemCell>;
 /// The node of USD, whose pay-ins the sites execute.
 const NODE: u16 = 102;
 
-/// What may be done to the group.
+/// What may be done to the group, and what has to be so then.
 #[derive(Clone, Copy, Debug, PartialEq, Eq)]
 pub enum Step {
     /// USD's node has one more pay-in for member 1, of 100 times its number.
@@ -33,6 +34,16 @@ pub enum Step {
     Restart(usize),
     Cut(u16),
     Heal,
+    /// A site shows this.
+    Shows(usize, Shown),
+    /// By a site's book member 1 has so much in USD.
+    Has(usize, i64),
+    /// So many envelopes were sent.
+    Sent(usize),
+    /// The envelope of this number waits; it is from the first actor to the second, and says this.
+    Waits(usize, u16, u16, Said<Reply>),
+    /// So often a site's cell failed.
+    Failed(usize),
 }
 
 /// What a site shows.
@@ -140,12 +151,27 @@ impl Group {
         self.crash = Some((events, site));
     }
 
-    /// Takes steps, one after the other. What a site refuses or drops changes nothing.
-    pub fn run(&mut self, steps: &[Step]) -> Result<(), Fail> {
+    /// Takes steps, one after the other, and compares what has to be so. What a site refuses or drops changes nothing.
+    pub fn run(&mut self, rt: &impl Abort, steps: &[Step]) -> Result<(), Fail> {
         for step in steps {
+            self.compare(rt, *step);
             self.take(*step)?;
         }
         Ok(())
+    }
+
+    /// Whether the group is as a step says that it has to be.
+    fn compare(&self, rt: &impl Abort, step: Step) {
+        match step {
+            Step::Shows(site, shown) => assert_eq!(rt; self.shows(site), shown),
+            Step::Has(site, balance) => assert_eq!(rt; self.balance(site), Some(balance)),
+            Step::Sent(count) => assert_eq!(rt; self.post.len(), count),
+            Step::Waits(number, from, to, said) => {
+                assert_eq!(rt; self.waits(number), Some((from, to, said)));
+            }
+            Step::Failed(count) => assert_eq!(rt; self.failures, count),
+            _ => {}
+        }
     }
 
     fn take(&mut self, step: Step) -> Result<(), Fail> {
@@ -169,6 +195,8 @@ impl Group {
                 self.cut = None;
                 Ok(())
             }
+            // what has to be so is compared, and changes nothing
+            _ => Ok(()),
         }
     }
 
@@ -331,13 +359,8 @@ impl Group {
         self.fell_well
     }
 
-    /// How many envelopes were sent.
-    pub fn sent(&self) -> usize {
-        self.post.len()
-    }
-
     /// What a site shows; a site that there is not is down.
-    pub fn shows(&self, site: usize) -> Shown {
+    fn shows(&self, site: usize) -> Shown {
         match self.sites.get(site) {
             None => showing(Status::Down, 0, 0, 0),
             Some(site) => Shown {
@@ -352,7 +375,7 @@ impl Group {
     }
 
     /// What an envelope says that was not delivered yet, with the actors that it goes between.
-    pub fn waits(&self, number: usize) -> Option<(u16, u16, Said<Reply>)> {
+    fn waits(&self, number: usize) -> Option<(u16, u16, Said<Reply>)> {
         let envelope = self.post.get(number.checked_sub(1)?)?.as_ref()?;
         Some((envelope.from, envelope.to, said_by(&envelope.msg)))
     }
@@ -375,7 +398,7 @@ impl Group {
     }
 
     /// What member 1 has in USD by a site's book, where the site runs.
-    pub fn balance(&self, site: usize) -> Option<i64> {
+    fn balance(&self, site: usize) -> Option<i64> {
         Some(self.sites.get(site)?.machine()?.balance(1, 1))
     }
 }

@@ -143,7 +143,8 @@ fn returns_the_orders_of_a_closed_account_once(rt: HostRuntime) -> Result<(), Fa
     ];
     let mut usd = node(rt.alloc(), USD)?;
     run(&rt, &mut usd, &rows);
-    assert_eq!(rt; (usd.pay_outs().len(), usd.returned()), (1, 1));
+    let ends = (usd.pay_outs().len(), usd.returned());
+    assert_eq!(rt; ends, (1, 1));
     Ok(())
 }
 
@@ -169,9 +170,7 @@ fn refuses_a_pay_in_in_order(rt: HostRuntime) -> Result<(), Fail> {
     Ok(())
 }
 
-#[test]
-fn refuses_an_envelope_in_order(rt: HostRuntime) -> Result<(), Fail> {
-    let mut usd = node(rt.alloc(), USD)?;
+fn refuse_in_order(rt: &impl Abort, usd: &mut Node) {
     let commit = to_node(USD_NODE, MsgOf::Commit { view: 0, done: 0 });
     assert_eq!(rt; usd.take(commit).err(), Some(NodeFault::NotMine));
     let refused = [
@@ -185,6 +184,11 @@ fn refuses_an_envelope_in_order(rt: HostRuntime) -> Result<(), Fail> {
         let envelope = to_node(*to, order_of(*ccy, 1, *member, *amt));
         assert_eq!(rt; usd.take(envelope).err(), Some(*fault));
     }
+}
+
+#[test]
+fn refuses_an_envelope_in_order(rt: HostRuntime) -> Result<(), Fail> {
+    refuse_in_order(&rt, &mut node(rt.alloc(), USD)?);
     Ok(())
 }
 
@@ -201,9 +205,8 @@ fn asks(sent: &[Envelope<Book>], wanted: u32, notice: Cmd) -> bool {
         })
 }
 
-#[test]
-fn tells_the_bank_of_each_payment(rt: HostRuntime) -> Result<(), Fail> {
-    let mut usd = node(rt.alloc(), USD)?;
+/// USD's node asks for each payment until it is answered.
+fn tell_of_each(rt: &impl Abort, usd: &mut Node) -> Result<(), Fail> {
     let fund = Cmd::Fund {
         ccy: USD,
         pay: 1,
@@ -221,17 +224,20 @@ fn tells_the_bank_of_each_payment(rt: HostRuntime) -> Result<(), Fail> {
         (Does::Reply(2), 3, returned),
     ];
     for (event, number, notice) in out.iter() {
-        done(&mut usd, USD, *event)?;
+        done(usd, USD, *event)?;
         assert!(rt; asks(usd.beat()?.as_slice(), *number, *notice));
     }
     Ok(())
 }
 
 #[test]
-fn shows_its_payments(rt: HostRuntime) -> Result<(), Fail> {
-    let mut usd = node(rt.alloc(), USD)?;
-    done(&mut usd, USD, Does::PayIn(BETA, 5))?;
-    done(&mut usd, USD, Does::Order(1, ALFA, 4))?;
+fn tells_the_bank_of_each_payment(rt: HostRuntime) -> Result<(), Fail> {
+    tell_of_each(&rt, &mut node(rt.alloc(), USD)?)
+}
+
+fn show_payments(rt: &impl Abort, usd: &mut Node) -> Result<(), Fail> {
+    done(usd, USD, Does::PayIn(BETA, 5))?;
+    done(usd, USD, Does::Order(1, ALFA, 4))?;
     let pay_ins = [PayIn {
         member: BETA,
         amt: 5,
@@ -248,22 +254,31 @@ fn shows_its_payments(rt: HostRuntime) -> Result<(), Fail> {
 }
 
 #[test]
-fn runs_out_of_numbers(rt: HostRuntime) -> Result<(), Fail> {
-    let mut jpy = node(rt.alloc(), JPY)?;
+fn shows_its_payments(rt: HostRuntime) -> Result<(), Fail> {
+    show_payments(&rt, &mut node(rt.alloc(), USD)?)
+}
+
+/// JPY's node pays in and out until its numbers are used up.
+fn use_all_numbers(rt: &impl Abort, jpy: &mut Node) -> Result<(), Fail> {
     for _ in 0..65_535 {
-        done(&mut jpy, JPY, Does::PayIn(ALFA, 2))?;
+        done(jpy, JPY, Does::PayIn(ALFA, 2))?;
     }
-    done(&mut jpy, JPY, Does::Close(BETA))?;
+    done(jpy, JPY, Does::Close(BETA))?;
     for out in 1..65_536 {
         let member = if out == 7 { BETA } else { ALFA };
-        done(&mut jpy, JPY, Does::Order(out, member, 1))?;
+        done(jpy, JPY, Does::Order(out, member, 1))?;
     }
     for event in [Does::PayIn(ALFA, 2), Does::Order(65_536, ALFA, 1)] {
-        assert_eq!(rt; done(&mut jpy, JPY, event), Err(NodeFault::Spent));
+        assert_eq!(rt; done(jpy, JPY, event), Err(NodeFault::Spent));
     }
-    assert_eq!(rt; (jpy.account(), alfas(&rt, &jpy)), (65_536, 934_464));
+    assert_eq!(rt; (jpy.account(), alfas(rt, jpy)), (65_536, 934_464));
     assert_eq!(rt; (jpy.pay_outs().len(), jpy.returned()), (65_534, 1));
     Ok(())
+}
+
+#[test]
+fn runs_out_of_numbers(rt: HostRuntime) -> Result<(), Fail> {
+    use_all_numbers(&rt, &mut node(rt.alloc(), JPY)?)
 }
 
 #[test]

@@ -3,35 +3,60 @@
 use crate::events::{known, row, rows};
 use fixtures::Ask;
 use std::alloc::{AllocError, Global};
+use std::process::Abort;
 use std::test::Fail;
 use vr_log::ClientsOf;
-use vr_types::{Boot, BootCell, MAX_ROWS, MemCell, RowsOf};
+use vr_types::{Boot, BootCell, Known, MAX_ROWS, MemCell, RowOf, RowsOf};
+
+fn is_empty(rt: &impl Abort, rows: &RowsOf<Ask>) {
+    assert!(rt; rows.is_empty());
+}
+
+fn has_len(rt: &impl Abort, rows: &RowsOf<Ask>, len: usize) {
+    assert_eq!(rt; rows.len(), len);
+}
+
+/// The row behind so many.
+fn has_row(rt: &impl Abort, rows: &RowsOf<Ask>, before: usize, row: Option<RowOf<Ask>>) {
+    assert_eq!(rt; rows.get(before), row);
+}
+
+/// Rows 1 and 2, on one page.
+fn has_two(rt: &impl Abort, rows: &RowsOf<Ask>) {
+    assert_eq!(rt; rows.len(), 2);
+    assert_eq!(rt; rows.page(0), Some([row(1), row(2)].as_slice()));
+    assert_eq!(rt; rows.page(1), None);
+}
 
 #[test]
 fn rows_are_read_and_copied(rt: HostRuntime) -> Result<(), Fail> {
     let alloc = rt.alloc();
     let mut rows = RowsOf::new(alloc);
-    assert!(rt; rows.is_empty());
+    is_empty(&rt, &rows);
     rows.push(row(1))?;
     rows.push(row(2))?;
     let copy = rows.copy(alloc)?;
     rows.push(row(3))?;
-    assert_eq!(rt; rows.len(), 3);
-    assert_eq!(rt; rows.get(2), Some(row(3)));
-    assert_eq!(rt; rows.get(3), None);
-    assert_eq!(rt; copy.len(), 2);
-    assert_eq!(rt; copy.page(0), Some([row(1), row(2)].as_slice()));
-    assert_eq!(rt; copy.page(1), None);
+    has_len(&rt, &rows, 3);
+    has_row(&rt, &rows, 2, Some(row(3)));
+    has_row(&rt, &rows, 3, None);
+    has_two(&rt, &copy);
+    Ok(())
+}
+
+/// Adds a row that has its place as its number.
+fn push_next(rows: &mut RowsOf<Ask>) -> Result<(), AllocError> {
+    if rows.len() < MAX_ROWS {
+        rows.push(row(rows.len() as u32 + 1))?;
+    }
     Ok(())
 }
 
 /// Rows of these many requests, numbered from 1.
 fn numbered(alloc: Global, count: u32) -> Result<RowsOf<Ask>, AllocError> {
     let mut rows = RowsOf::new(alloc);
-    for at in 0..count {
-        if rows.len() < MAX_ROWS {
-            rows.push(row(at + 1))?;
-        }
+    for _ in 0..count {
+        push_next(&mut rows)?;
     }
     Ok(rows)
 }
@@ -44,57 +69,68 @@ fn page_of(rows: &RowsOf<Ask>, page: usize) -> (usize, u32) {
     }
 }
 
+/// A page has so many rows, of which the first has this number.
+fn has_page(rt: &impl Abort, rows: &RowsOf<Ask>, page: usize, wanted: (usize, u32)) {
+    assert_eq!(rt; page_of(rows, page), wanted);
+}
+
 #[test]
 fn full_page_is_followed_by_a_new_one(rt: HostRuntime) -> Result<(), Fail> {
     let mut rows = numbered(rt.alloc(), 63)?;
-    assert_eq!(rt; page_of(&rows, 0), (63, 1));
-    if rows.len() == 63 {
-        rows.push(row(64))?;
-    }
-    assert_eq!(rt; page_of(&rows, 0), (64, 1));
-    assert_eq!(rt; page_of(&rows, 1), (0, 0));
-    if rows.len() == 64 {
-        rows.push(row(65))?;
-    }
-    assert_eq!(rt; page_of(&rows, 0), (64, 1));
-    assert_eq!(rt; page_of(&rows, 1), (1, 65));
-    assert_eq!(rt; rows.get(63), Some(row(64)));
-    assert_eq!(rt; rows.get(64), Some(row(65)));
-    assert_eq!(rt; rows.get(65), None);
+    has_page(&rt, &rows, 0, (63, 1));
+    push_next(&mut rows)?;
+    has_page(&rt, &rows, 0, (64, 1));
+    has_page(&rt, &rows, 1, (0, 0));
+    push_next(&mut rows)?;
+    has_page(&rt, &rows, 0, (64, 1));
+    has_page(&rt, &rows, 1, (1, 65));
+    has_row(&rt, &rows, 63, Some(row(64)));
+    has_row(&rt, &rows, 64, Some(row(65)));
+    has_row(&rt, &rows, 65, None);
     Ok(())
 }
 
 #[test]
 fn longest_log_ends_one_short_of_a_full_page(rt: HostRuntime) -> Result<(), Fail> {
     let rows = numbered(rt.alloc(), 65_535)?;
-    assert_eq!(rt; rows.len(), 65_535);
-    assert_eq!(rt; page_of(&rows, 1023), (63, 65_473));
-    assert_eq!(rt; page_of(&rows, 1024), (0, 0));
-    assert_eq!(rt; rows.get(65_534), Some(row(65_535)));
+    has_len(&rt, &rows, 65_535);
+    has_page(&rt, &rows, 1023, (63, 65_473));
+    has_page(&rt, &rows, 1024, (0, 0));
+    has_row(&rt, &rows, 65_534, Some(row(65_535)));
     Ok(())
+}
+
+/// Replaces the rows from 100 on of 200 by 100 others.
+fn replace_half(rows: &mut RowsOf<Ask>, part: RowsOf<Ask>) -> Result<(), AllocError> {
+    if rows.len() == 200 && part.len() == 100 {
+        rows.replace_from(100, part)?;
+    }
+    Ok(())
+}
+
+/// A copy of the rows from 130 on of 200.
+fn tail_of(alloc: Global, rows: &RowsOf<Ask>) -> Result<RowsOf<Ask>, AllocError> {
+    if rows.len() == 200 {
+        rows.copy_from(alloc, 130)
+    } else {
+        Ok(RowsOf::new(alloc))
+    }
 }
 
 #[test]
 fn rows_behind_a_part_that_stays_lie_on_pages(rt: HostRuntime) -> Result<(), Fail> {
     let alloc = rt.alloc();
     let mut rows = numbered(alloc, 200)?;
-    let part = numbered(alloc, 100)?;
-    if rows.len() == 200 && part.len() == 100 {
-        rows.replace_from(100, part)?;
-    }
-    assert_eq!(rt; rows.len(), 200);
-    assert_eq!(rt; page_of(&rows, 1), (64, 65));
-    assert_eq!(rt; rows.get(99), Some(row(100)));
-    assert_eq!(rt; rows.get(100), Some(row(1)));
-    assert_eq!(rt; page_of(&rows, 3), (8, 93));
-    let tail = if rows.len() == 200 {
-        rows.copy_from(alloc, 130)?
-    } else {
-        RowsOf::new(alloc)
-    };
-    assert_eq!(rt; tail.len(), 70);
-    assert_eq!(rt; page_of(&tail, 0), (64, 31));
-    assert_eq!(rt; page_of(&tail, 1), (6, 95));
+    replace_half(&mut rows, numbered(alloc, 100)?)?;
+    has_len(&rt, &rows, 200);
+    has_page(&rt, &rows, 1, (64, 65));
+    has_row(&rt, &rows, 99, Some(row(100)));
+    has_row(&rt, &rows, 100, Some(row(1)));
+    has_page(&rt, &rows, 3, (8, 93));
+    let tail = tail_of(alloc, &rows)?;
+    has_len(&rt, &tail, 70);
+    has_page(&rt, &tail, 0, (64, 31));
+    has_page(&rt, &tail, 1, (6, 95));
     Ok(())
 }
 
@@ -102,19 +138,26 @@ fn rows_behind_a_part_that_stays_lie_on_pages(rt: HostRuntime) -> Result<(), Fai
 fn log_takes_rows_at_its_end_and_in_its_middle(rt: HostRuntime) -> Result<(), Fail> {
     let alloc = rt.alloc();
     let mut log = RowsOf::new(alloc);
-    assert!(rt; log.is_empty());
+    is_empty(&rt, &log);
     log.push(row(1))?;
     log.push(row(2))?;
-    let tail = log.copy_from(alloc, 1)?;
-    assert_eq!(rt; tail.len(), 1);
+    has_len(&rt, &log.copy_from(alloc, 1)?, 1);
     let part = rows(alloc, &[3, 4])?;
     if part.len() == 2 && log.len() == 2 {
         log.replace_from(1, part)?;
     }
-    assert_eq!(rt; log.len(), 3);
-    assert_eq!(rt; log.get(1), Some(row(3)));
-    assert_eq!(rt; log.get(3), None);
+    has_len(&rt, &log, 3);
+    has_row(&rt, &log, 1, Some(row(3)));
+    has_row(&rt, &log, 3, None);
     Ok(())
+}
+
+fn has_newest(rt: &impl Abort, clients: &ClientsOf<u64>, client: u16, number: u32) {
+    assert_eq!(rt; clients.newest(client), number);
+}
+
+fn has_reply(rt: &impl Abort, clients: &ClientsOf<u64>, client: u16, reply: Option<(u32, u64)>) {
+    assert_eq!(rt; clients.reply(client), reply);
 }
 
 #[test]
@@ -123,14 +166,14 @@ fn clients_are_noted_and_answered(rt: HostRuntime) -> Result<(), Fail> {
     let mut clients: ClientsOf<u64> = ClientsOf::new(alloc);
     clients.note(5, 2)?;
     clients.answered(5, 1, 70)?;
-    assert_eq!(rt; clients.newest(5), 2);
-    assert_eq!(rt; clients.newest(6), 0);
+    has_newest(&rt, &clients, 5, 2);
+    has_newest(&rt, &clients, 6, 0);
     let mut log = RowsOf::new(alloc);
     log.push(row(4))?;
     clients.rebuild(&log)?;
-    assert_eq!(rt; clients.newest(5), 4);
-    assert_eq!(rt; clients.reply(5), Some((1, 70)));
-    assert_eq!(rt; clients.reply(6), None);
+    has_newest(&rt, &clients, 5, 4);
+    has_reply(&rt, &clients, 5, Some((1, 70)));
+    has_reply(&rt, &clients, 6, None);
     Ok(())
 }
 
@@ -150,26 +193,48 @@ fn cell_fails_once_and_counts_it(rt: HostRuntime) -> Result<(), Fail> {
     Ok(())
 }
 
-#[test]
-fn what_is_known_only_grows(rt: HostRuntime) -> Result<(), Fail> {
-    let alloc = rt.alloc();
-    let mut mine = known(alloc, [1, 0, 5])?;
-    let told = known(alloc, [0, 2, 9])?;
-    assert!(rt; mine.is_outdated(0, &told));
-    assert!(rt; !mine.is_outdated(2, &told));
+fn has_boots(rt: &impl Abort, known: &Known, site: u16, boots: u32) {
+    assert_eq!(rt; known.get(site), boots);
+}
+
+/// What is told is behind at the first site, and is not at the last.
+fn is_outdated(rt: &impl Abort, mine: &Known, told: &Known) {
+    assert!(rt; mine.is_outdated(0, told));
+    assert!(rt; !mine.is_outdated(2, told));
+}
+
+fn learn(mine: &mut Known, told: &Known) {
     if told.len() <= mine.len() {
-        mine.learn(&told);
+        mine.learn(told);
     }
+}
+
+/// The greater of both, and nothing of a fourth site.
+fn shows_the_greater(rt: &impl Abort, mine: &Known) {
     assert_eq!(rt;
         [mine.get(0), mine.get(1), mine.get(2), mine.get(3)],
         [1, 2, 9, 0]
     );
     assert_eq!(rt; mine.len(), 3);
-    let copy = mine.copy(alloc)?;
-    if mine.len() == 3 {
-        mine.note(1, 7);
+}
+
+fn note_one(known: &mut Known) {
+    if known.len() == 3 {
+        known.note(1, 7);
     }
-    assert_eq!(rt; mine.get(1), 7);
-    assert_eq!(rt; copy.get(1), 2);
+}
+
+#[test]
+fn what_is_known_only_grows(rt: HostRuntime) -> Result<(), Fail> {
+    let alloc = rt.alloc();
+    let mut mine = known(alloc, [1, 0, 5])?;
+    let told = known(alloc, [0, 2, 9])?;
+    is_outdated(&rt, &mine, &told);
+    learn(&mut mine, &told);
+    shows_the_greater(&rt, &mine);
+    let copy = mine.copy(alloc)?;
+    note_one(&mut mine);
+    has_boots(&rt, &mine, 1, 7);
+    has_boots(&rt, &copy, 1, 2);
     Ok(())
 }

@@ -4,6 +4,7 @@ ghost use Rattle.std.specs.Prelude.{◌≤◌};
 
 use fixtures::{Said, Tally, said_by};
 use std::alloc::{AllocError, Global};
+use std::process::Abort;
 use vr_site::Replica;
 use vr_types::{Config, Event, MemCell, Outcome, SiteFault, Status, Why};
 
@@ -107,9 +108,14 @@ impl Trial {
         }
     }
 
-    /// The number of the request in a row, counted from 1.
-    pub fn number_at(&self, place: usize) -> Option<u32> {
-        self.site.row(place).map(|row| row.number)
+    /// The site shows this.
+    pub fn shows(&self, rt: &impl Abort, shown: Shown) {
+        assert_eq!(rt; self.shown(), shown);
+    }
+
+    /// The request in a row, counted from 1, has this number.
+    pub fn has_number(&self, rt: &impl Abort, place: usize, number: Option<u32>) {
+        assert_eq!(rt; self.site.row(place).map(|row| row.number), number);
     }
 
     fn given(&mut self, event: Given) -> Option<Result<Outcome<Tally>, SiteFault>> {
@@ -117,53 +123,71 @@ impl Trial {
         Some(self.site.handle(self.alloc, event))
     }
 
-    /// Whether the event is handled, sends just this, each with the actor that it goes to, and leaves this site.
-    pub fn leads(&mut self, event: Given, sent: &[(u16, Said<u64>)], shown: Shown) -> bool {
-        match self.given(event) {
-            Some(Ok(out)) => out.dropped.is_none() && says(&out, sent) && self.shown() == shown,
-            _ => false,
+    /// Whether the event is handled, or its fault.
+    fn ended(&mut self, event: Given) -> Option<Result<(), SiteFault>> {
+        match self.given(event)? {
+            Ok(_) => Some(Ok(())),
+            Err(fault) => Some(Err(fault)),
         }
     }
 
-    /// Whether the event is dropped for this reason, and the site shows what it did.
-    pub fn drops(&mut self, event: Given, why: Why) -> bool {
+    /// Gives the site an event, whatever it leads to.
+    pub fn take(&mut self, event: Given) {
+        let _ = self.given(event);
+    }
+
+    /// The event is handled, sends just this, each with the actor that it goes to, and leaves this site.
+    pub fn leads(
+        &mut self,
+        rt: &impl Abort,
+        event: Given,
+        sent: &[(u16, Said<u64>)],
+        shown: Shown,
+    ) {
+        let leads = match self.given(event) {
+            Some(Ok(out)) => says(&out, sent),
+            _ => false,
+        };
+        assert_eq!(rt; (leads, self.shown()), (true, shown));
+    }
+
+    /// The event is dropped for this reason, and the site shows what it did.
+    pub fn drops(&mut self, rt: &impl Abort, event: Given, why: Why) {
         let before = self.shown();
-        match self.given(event) {
-            Some(Ok(out)) => {
-                out.dropped == Some(why) && out.sent.is_empty() && self.shown() == before
-            }
+        let drops = match self.given(event) {
+            Some(Ok(out)) => is_dropped(&out, why),
             _ => false,
-        }
+        };
+        assert_eq!(rt; (drops, self.shown()), (true, before));
     }
 
-    /// Whether the event is refused with this fault, and the site shows what it did.
-    pub fn refuses(&mut self, event: Given, fault: SiteFault) -> bool {
+    /// The event is refused with this fault, and the site shows what it did.
+    pub fn refuses(&mut self, rt: &impl Abort, event: Given, fault: SiteFault) {
         let before = self.shown();
-        match self.given(event) {
-            Some(Err(other)) => other == fault && self.shown() == before,
-            _ => false,
-        }
+        let ended = self.ended(event);
+        assert_eq!(rt; (ended, self.shown()), (Some(Err(fault)), before));
     }
 
-    /// Whether the site falls by the event with this fault, over a cell that then counts so many restarts.
-    pub fn falls(&mut self, event: Given, fault: SiteFault, boots: u32) -> bool {
-        match self.given(event) {
-            Some(Err(other)) => {
-                other == fault && self.shown() == lost(Status::Down, [0, 0, 0], boots)
-            }
-            _ => false,
-        }
+    /// The site falls by the event with this fault, over a cell that then counts so many restarts.
+    pub fn falls(&mut self, rt: &impl Abort, event: Given, fault: SiteFault, boots: u32) {
+        let down = lost(Status::Down, [0, 0, 0], boots);
+        let ended = self.ended(event);
+        assert_eq!(rt; (ended, self.shown()), (Some(Err(fault)), down));
     }
 
-    /// Whether the event is handled, or the site falls by it for want of memory; its cell then counts so many
-    /// restarts, or as many as before.
-    pub fn stands(&mut self, event: Given, boots: u32) -> bool {
+    /// The event is handled, or the site falls by it for want of memory; its cell then counts so many restarts, or as
+    /// many as before.
+    pub fn stands(&mut self, rt: &impl Abort, event: Given, boots: u32) {
+        assert!(rt; self.is_up_or_down(event, boots));
+    }
+
+    fn is_up_or_down(&mut self, event: Given, boots: u32) -> bool {
         let before = self.site.boot().boots;
         if self.site.status() == Status::Down && before == boots {
             return true;
         }
-        match self.given(event) {
-            Some(Ok(_)) => self.site.boot().boots == boots,
+        match self.ended(event) {
+            Some(Ok(())) => self.site.boot().boots == boots,
             Some(Err(SiteFault::NoMemory)) => {
                 let kept = self.site.boot().boots;
                 (kept == before || kept == boots) && self.site.status() == Status::Down
@@ -174,9 +198,14 @@ impl Trial {
     }
 }
 
-/// Whether this is sent.
+/// Whether just this is sent.
 fn says(out: &Outcome<Tally>, sent: &[(u16, Said<u64>)]) -> bool {
-    out.sent.len() == sent.len()
+    out.dropped.is_none()
+        && out.sent.len() == sent.len()
         && out.sent.iter().zip(sent).all(|(envelope, wanted)| (envelope.to, said_by(&envelope.msg))
             == *wanted)
+}
+
+fn is_dropped(out: &Outcome<Tally>, why: Why) -> bool {
+    out.dropped == Some(why) && out.sent.is_empty()
 }

@@ -5,7 +5,7 @@ use pvp_book::Book;
 use pvp_trace::attempt::push_attempt;
 use pvp_trace::messages::push_message;
 use pvp_trace::try_step;
-use pvp_types::{Cmd, PayOrder, Reason, Reply};
+use pvp_types::{Cmd, PayOrder, Reason, Reply, Setup};
 use pvp_world::{Step, World};
 use std::alloc::Global;
 use std::process::Abort;
@@ -20,6 +20,19 @@ fn told(alloc: Global, world: &mut World<MemCell>, steps: &[Step]) -> Result<Str
         push_attempt(&mut text, world, place + 1, attempt)?;
     }
     Ok(text)
+}
+
+/// Tries steps, which are told so.
+fn are_told(
+    rt: &impl Abort,
+    alloc: Global,
+    world: &mut World<MemCell>,
+    steps: &[Step],
+    want: &str,
+) -> Result<(), Fail> {
+    let text = told(alloc, world, steps)?;
+    assert_eq!(rt; text.as_str(), want);
+    Ok(())
 }
 
 #[test]
@@ -61,8 +74,7 @@ fn a_pay_in_is_told(rt: HostRuntime) -> Result<(), Fail> {
    9  s0 -> s1  COMMIT view 0 done 1
    10  s0 -> s2  COMMIT view 0 done 1
 ";
-    assert_eq!(rt; told(alloc, &mut world, &steps)?.as_str(), want);
-    Ok(())
+    are_told(&rt, alloc, &mut world, &steps, want)
 }
 
 #[test]
@@ -93,8 +105,7 @@ fn refusals_and_falls_are_told(rt: HostRuntime) -> Result<(), Fail> {
 6  beat USD
 7  restart s2: S2, the boot cell did not save, and the site is down, its cell holds 1
 ";
-    assert_eq!(rt; told(alloc, &mut world, &steps)?.as_str(), want);
-    Ok(())
+    are_told(&rt, alloc, &mut world, &steps, want)
 }
 
 /// Two rows of a log.
@@ -122,160 +133,155 @@ fn known(alloc: Global) -> Result<Known, Fail> {
     Ok(known)
 }
 
-/// A message of each kind that carries rows or boots, and how it is told.
-fn long_messages(alloc: Global) -> Result<[(Msg<Book>, &'static str); 6], Fail> {
-    Ok([
-        (
-            MsgOf::StartViewChange {
-                view: 1,
-                known: known(alloc)?,
-            },
-            "STARTVIEWCHANGE view 1 boots 0 2 0",
-        ),
-        (
-            MsgOf::DoViewChange {
-                view: 1,
-                last_normal: 0,
-                done: 1,
-                rows: rows(alloc)?,
-                known: known(alloc)?,
-            },
-            "DOVIEWCHANGE view 1 normal 0 done 1 rows 2 last ALFA 2 payout USD 300 boots 0 2 0",
-        ),
-        (
-            MsgOf::StartView {
-                view: 1,
-                done: 1,
-                rows: rows(alloc)?,
-            },
-            "STARTVIEW view 1 done 1 rows 2 last ALFA 2 payout USD 300",
-        ),
-        (
-            MsgOf::NewState {
-                view: 1,
-                base: 3,
-                done: 4,
-                rows: RowsOf::new(alloc),
-            },
-            "NEWSTATE view 1 base 3 done 4 rows 0",
-        ),
-        (
-            MsgOf::RecoveryResponse {
-                view: 4,
-                nonce: 2,
-                state: None,
-                known: known(alloc)?,
-            },
-            "RECOVERYRESPONSE view 4 nonce 2 boots 0 2 0",
-        ),
-        (
-            MsgOf::RecoveryResponse {
-                view: 4,
-                nonce: 2,
-                state: Some(StateOf {
-                    done: 1,
-                    rows: rows(alloc)?,
-                }),
-                known: known(alloc)?,
-            },
-            "RECOVERYRESPONSE view 4 nonce 2 done 1 rows 2 last ALFA 2 payout USD 300 boots 0 2 0",
-        ),
-    ])
+/// A message is told so, with the names of a setup.
+fn is_told(
+    rt: &impl Abort,
+    alloc: Global,
+    setup: &Setup,
+    msg: Msg<Book>,
+    want: &str,
+) -> Result<(), Fail> {
+    let mut text = String::new(alloc);
+    push_message(&mut text, setup, &msg)?;
+    assert_eq!(rt; text.as_str(), want);
+    Ok(())
+}
+
+/// Messages that change a view.
+fn changes_are_told(rt: &impl Abort, alloc: Global, setup: &Setup) -> Result<(), Fail> {
+    let starts = MsgOf::StartViewChange {
+        view: 1,
+        known: known(alloc)?,
+    };
+    let want = "STARTVIEWCHANGE view 1 boots 0 2 0";
+    is_told(rt, alloc, setup, starts, want)?;
+    let vote = MsgOf::DoViewChange {
+        view: 1,
+        last_normal: 0,
+        done: 1,
+        rows: rows(alloc)?,
+        known: known(alloc)?,
+    };
+    let want = "DOVIEWCHANGE view 1 normal 0 done 1 rows 2 last ALFA 2 payout USD 300 boots 0 2 0";
+    is_told(rt, alloc, setup, vote, want)?;
+    let start = MsgOf::StartView {
+        view: 1,
+        done: 1,
+        rows: rows(alloc)?,
+    };
+    let want = "STARTVIEW view 1 done 1 rows 2 last ALFA 2 payout USD 300";
+    is_told(rt, alloc, setup, start, want)
+}
+
+/// Messages that bring a state, or none.
+fn states_are_told(rt: &impl Abort, alloc: Global, setup: &Setup) -> Result<(), Fail> {
+    let state = MsgOf::NewState {
+        view: 1,
+        base: 3,
+        done: 4,
+        rows: RowsOf::new(alloc),
+    };
+    let want = "NEWSTATE view 1 base 3 done 4 rows 0";
+    is_told(rt, alloc, setup, state, want)?;
+    let without = MsgOf::RecoveryResponse {
+        view: 4,
+        nonce: 2,
+        state: None,
+        known: known(alloc)?,
+    };
+    let want = "RECOVERYRESPONSE view 4 nonce 2 boots 0 2 0";
+    is_told(rt, alloc, setup, without, want)?;
+    let state = Some(StateOf {
+        done: 1,
+        rows: rows(alloc)?,
+    });
+    let with = MsgOf::RecoveryResponse {
+        view: 4,
+        nonce: 2,
+        state,
+        known: known(alloc)?,
+    };
+    let want =
+        "RECOVERYRESPONSE view 4 nonce 2 done 1 rows 2 last ALFA 2 payout USD 300 boots 0 2 0";
+    is_told(rt, alloc, setup, with, want)
 }
 
 #[test]
 fn each_kind_with_a_list_is_told(rt: HostRuntime) -> Result<(), Fail> {
     let alloc = rt.alloc();
     let setup = three_currencies(alloc)?;
-    for (msg, want) in &long_messages(alloc)? {
-        let mut text = String::new(alloc);
-        push_message(&mut text, &setup, msg)?;
-        assert_eq!(rt; text.as_str(), *want);
+    changes_are_told(&rt, alloc, &setup)?;
+    states_are_told(&rt, alloc, &setup)
+}
+
+/// Requests of commands that are told nowhere else here.
+fn requests_are_told(rt: &impl Abort, alloc: Global, setup: &Setup) -> Result<(), Fail> {
+    let instruct = Cmd::Instruct {
+        reference: 5,
+        other: 2,
+        sell: 0,
+        sell_amt: 100,
+        buy: 7,
+        buy_amt: 200,
+    };
+    let paid = Cmd::Paid { ccy: 2, out: 1 };
+    let returned = Cmd::Returned { ccy: 2, out: 1 };
+    let requests = [
+        (1, instruct, "REQUEST 1 instruct 5 BETA EUR 100 @7 200"),
+        (2, Cmd::Settle { most: 8 }, "REQUEST 2 settle 8"),
+        (3, paid, "REQUEST 3 paid JPY 1"),
+        (4, returned, "REQUEST 4 returned JPY 1"),
+    ];
+    for (number, cmd, want) in requests {
+        let request = MsgOf::Request { number, cmd };
+        is_told(rt, alloc, setup, request, want)?;
     }
     Ok(())
 }
 
-/// Messages without lists, one of each kind and each command, and how they are told.
-fn short_messages() -> [(Msg<Book>, &'static str); 11] {
-    let request = |number, cmd| MsgOf::Request { number, cmd };
-    [
-        (
-            request(
-                1,
-                Cmd::Instruct {
-                    reference: 5,
-                    other: 2,
-                    sell: 0,
-                    sell_amt: 100,
-                    buy: 7,
-                    buy_amt: 200,
-                },
-            ),
-            "REQUEST 1 instruct 5 BETA EUR 100 @7 200",
-        ),
-        (request(2, Cmd::Settle { most: 8 }), "REQUEST 2 settle 8"),
-        (
-            request(3, Cmd::Paid { ccy: 2, out: 1 }),
-            "REQUEST 3 paid JPY 1",
-        ),
-        (
-            request(4, Cmd::Returned { ccy: 2, out: 1 }),
-            "REQUEST 4 returned JPY 1",
-        ),
-        (
-            MsgOf::Prepare {
-                view: 2,
-                place: 4,
-                done: 3,
-                row: row(9, Cmd::Rescind { reference: 7 }),
-            },
-            "PREPARE view 2 place 4 done 3 row ALFA 9 rescind 7",
-        ),
-        (
-            MsgOf::PrepareOk { view: 2, place: 4 },
-            "PREPAREOK view 2 place 4",
-        ),
-        (
-            MsgOf::GetState { view: 2, base: 4 },
-            "GETSTATE view 2 base 4",
-        ),
-        (MsgOf::Recovery { nonce: 3 }, "RECOVERY nonce 3"),
-        (
-            MsgOf::Reply {
-                view: 2,
-                number: 6,
-                reply: Reply::Settled(3),
-            },
-            "REPLY view 2 to 6 settled 3",
-        ),
-        (
-            MsgOf::Reply {
-                view: 2,
-                number: 6,
-                reply: Reply::No(Reason::Repeated),
-            },
-            "REPLY view 2 to 6 no B5",
-        ),
-        (
-            MsgOf::PayOrder(PayOrder {
-                ccy: USD,
-                out: 1,
-                member: ALFA,
-                amt: 300,
-            }),
-            "PAYORDER USD 1 ALFA 300",
-        ),
-    ]
+/// What sites say to one another without a list.
+fn short_messages_are_told(rt: &impl Abort, alloc: Global, setup: &Setup) -> Result<(), Fail> {
+    let prepare = MsgOf::Prepare {
+        view: 2,
+        place: 4,
+        done: 3,
+        row: row(9, Cmd::Rescind { reference: 7 }),
+    };
+    let want = "PREPARE view 2 place 4 done 3 row ALFA 9 rescind 7";
+    is_told(rt, alloc, setup, prepare, want)?;
+    let prepare_ok = MsgOf::PrepareOk { view: 2, place: 4 };
+    is_told(rt, alloc, setup, prepare_ok, "PREPAREOK view 2 place 4")?;
+    let get_state = MsgOf::GetState { view: 2, base: 4 };
+    is_told(rt, alloc, setup, get_state, "GETSTATE view 2 base 4")?;
+    let recovery = MsgOf::Recovery { nonce: 3 };
+    is_told(rt, alloc, setup, recovery, "RECOVERY nonce 3")
+}
+
+/// What goes to clients and nodes.
+fn answers_are_told(rt: &impl Abort, alloc: Global, setup: &Setup) -> Result<(), Fail> {
+    let reply = |reply| MsgOf::Reply {
+        view: 2,
+        number: 6,
+        reply,
+    };
+    let settled = reply(Reply::Settled(3));
+    is_told(rt, alloc, setup, settled, "REPLY view 2 to 6 settled 3")?;
+    let repeated = reply(Reply::No(Reason::Repeated));
+    is_told(rt, alloc, setup, repeated, "REPLY view 2 to 6 no B5")?;
+    let order = MsgOf::PayOrder(PayOrder {
+        ccy: USD,
+        out: 1,
+        member: ALFA,
+        amt: 300,
+    });
+    is_told(rt, alloc, setup, order, "PAYORDER USD 1 ALFA 300")
 }
 
 #[test]
 fn each_kind_without_a_list_is_told(rt: HostRuntime) -> Result<(), Fail> {
     let alloc = rt.alloc();
     let setup = three_currencies(alloc)?;
-    for (msg, want) in &short_messages() {
-        let mut text = String::new(alloc);
-        push_message(&mut text, &setup, msg)?;
-        assert_eq!(rt; text.as_str(), *want);
-    }
-    Ok(())
+    requests_are_told(&rt, alloc, &setup)?;
+    short_messages_are_told(&rt, alloc, &setup)?;
+    answers_are_told(&rt, alloc, &setup)
 }

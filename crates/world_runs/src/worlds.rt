@@ -3,6 +3,7 @@ use fixtures::setup::three_currencies;
 use pvp_types::{Reply, Setup};
 use pvp_world::{Report, Step, World, WorldFault};
 use std::alloc::Global;
+use std::process::Abort;
 use std::test::Fail;
 use vr_types::{MemCell, Status};
 
@@ -103,4 +104,51 @@ pub fn sent(first: usize, count: usize) -> Result<Report, WorldFault> {
         count,
         dropped: None,
     })
+}
+
+/// A site shows this.
+pub fn shows(rt: &impl Abort, world: &World<MemCell>, site: u16, wanted: Option<Shown>) {
+    assert_eq!(rt; shown(world, site), wanted);
+}
+
+/// The book of a site has this figure in USD.
+pub fn has_figure(rt: &impl Abort, world: &World<MemCell>, site: u16, wanted: i64) {
+    assert_eq!(rt; figure(world, site, USD), Some(wanted));
+}
+
+/// The node of USD holds this of the bank, and has so many pay-ins, pay-outs and returned orders.
+pub fn has_account(rt: &impl Abort, world: &World<MemCell>, wanted: (u64, usize, usize, usize)) {
+    assert_eq!(rt; account(world, USD), Some(wanted));
+}
+
+/// So many envelopes were sent.
+pub fn has_sent(rt: &impl Abort, world: &World<MemCell>, count: usize) {
+    assert_eq!(rt; world.post_len(), count);
+}
+
+/// A step reports this.
+pub fn reports(
+    rt: &impl Abort,
+    alloc: Global,
+    world: &mut World<MemCell>,
+    step: Step,
+    wanted: Result<Report, WorldFault>,
+) {
+    assert_eq!(rt; world.apply(alloc, step), wanted);
+}
+
+/// All of the steps are taken.
+pub fn takes(rt: &impl Abort, alloc: Global, world: &mut World<MemCell>, steps: &[Step]) {
+    assert_eq!(rt; world.run(alloc, steps), Ok(()));
+}
+
+/// Delivers the envelopes from a number on, up to the one before another; all of them are taken.
+pub fn delivers(
+    rt: &impl Abort,
+    alloc: Global,
+    world: &mut World<MemCell>,
+    first: usize,
+    end: usize,
+) {
+    assert!(rt; deliver(alloc, world, first, end));
 }

@@ -282,21 +282,33 @@ fn compare(rt: &impl Abort, book: &Book, settled: &[Deal]) {
     assert_eq!(rt; book.queued(), queued);
 }
 
+/// A row of a history, and what the book then has beside the plain sums.
+fn turn(
+    rt: &impl Abort,
+    alloc: Global,
+    book: &mut Book,
+    settled: &mut Vec<Deal>,
+    row: (u16, Cmd),
+) -> Result<(), Fail> {
+    let (client, cmd) = row;
+    if let (OPERATOR, Cmd::Settle { most }) = (client, cmd) {
+        walk(book.entries(), settled, most)?;
+    }
+    assert!(rt; book.applied() < 65_535);
+    book.apply(client, cmd)?;
+    compare(rt, book, settled.as_slice());
+    compare_pairs(rt, book, settled.as_slice());
+    compare_orders(rt, alloc, book)?;
+    Ok(())
+}
+
 /// A history of so many rows, compared after each; says whether it settled a pair.
 fn history(rt: &impl Abort, alloc: Global, seed: u64, rows: u32) -> Result<bool, Fail> {
     let mut dice = Dice { word: seed };
     let mut book = book(alloc)?;
     let mut settled = Vec::new(alloc);
     for _ in 0..rows {
-        let (client, cmd) = dice.row();
-        if let (OPERATOR, Cmd::Settle { most }) = (client, cmd) {
-            walk(book.entries(), &mut settled, most)?;
-        }
-        assert!(rt; book.applied() < 65_535);
-        book.apply(client, cmd)?;
-        compare(rt, &book, settled.as_slice());
-        compare_pairs(rt, &book, settled.as_slice());
-        compare_orders(rt, alloc, &book)?;
+        turn(rt, alloc, &mut book, &mut settled, dice.row())?;
     }
     Ok(!settled.is_empty())
 }

@@ -21,10 +21,8 @@ fn exchange(rt: &impl Abort, book: &mut Book, eur: u64, settled: u32) -> Result<
     run(rt, book, &rows)
 }
 
-#[test]
-fn a_negative_value_keeps_a_pair_waiting(rt: HostRuntime) -> Result<(), Fail> {
-    let mut book = book(rt.alloc())?;
-    exchange(&rt, &mut book, 47, 0)?;
+/// A pair waits, with nothing moved.
+fn shows_the_wait(rt: &impl Abort, book: &Book) {
     assert_eq!(rt; book.balance(ALFA, USD), 1200);
     assert_eq!(rt; book.balance(BETA, EUR), 47);
     assert_eq!(rt; book.pairs(PairState::Matched), 1);
@@ -33,13 +31,18 @@ fn a_negative_value_keeps_a_pair_waiting(rt: HostRuntime) -> Result<(), Fail> {
     assert_eq!(rt; book.queue_at(1), None);
     assert_eq!(rt; book.value(ALFA), 1_200_000_000);
     assert_eq!(rt; book.value(BETA), 49_115_000);
-    Ok(())
 }
 
 #[test]
-fn a_value_of_0_settles(rt: HostRuntime) -> Result<(), Fail> {
+fn a_negative_value_keeps_a_pair_waiting(rt: HostRuntime) -> Result<(), Fail> {
     let mut book = book(rt.alloc())?;
-    exchange(&rt, &mut book, 48, 1)?;
+    exchange(&rt, &mut book, 47, 0)?;
+    shows_the_wait(&rt, &book);
+    Ok(())
+}
+
+/// The pair is settled, and BETA is short of EUR.
+fn shows_the_exchange(rt: &impl Abort, book: &Book) {
     assert_eq!(rt; book.balance(ALFA, EUR), 1000);
     assert_eq!(rt; book.balance(ALFA, USD), 100);
     assert_eq!(rt; book.balance(BETA, EUR), -952);
@@ -51,6 +54,13 @@ fn a_value_of_0_settles(rt: HostRuntime) -> Result<(), Fail> {
     assert_eq!(rt; book.queue_at(0), None);
     assert_eq!(rt; book.value(ALFA), 1_145_000_000);
     assert_eq!(rt; book.value(BETA), 440_000);
+}
+
+#[test]
+fn a_value_of_0_settles(rt: HostRuntime) -> Result<(), Fail> {
+    let mut book = book(rt.alloc())?;
+    exchange(&rt, &mut book, 48, 1)?;
+    shows_the_exchange(&rt, &book);
     Ok(())
 }
 
@@ -77,8 +87,8 @@ fn short_of(rt: &impl Abort, book: &mut Book, jpy: u64, settled: u32) -> Result<
 fn the_short_limit_is_met_to_the_unit(rt: HostRuntime) -> Result<(), Fail> {
     let mut book = book(rt.alloc())?;
     short_of(&rt, &mut book, 100_000, 1)?;
-    assert_eq!(rt; book.balance(BETA, USD), 1200);
-    assert_eq!(rt; book.balance(BETA, JPY), -100_000);
+    let balances = (book.balance(BETA, USD), book.balance(BETA, JPY));
+    assert_eq!(rt; balances, (1200, -100_000));
     Ok(())
 }
 
@@ -156,6 +166,12 @@ fn both_sides_take_a_matched_pair_back(rt: HostRuntime) -> Result<(), Fail> {
     run(&rt, &mut book, &rows)
 }
 
+fn shows_no_eur(rt: &impl Abort, book: &Book) {
+    assert_eq!(rt; book.balance(ALFA, EUR), 952);
+    assert_eq!(rt; book.balance(BETA, EUR), -952);
+    assert_eq!(rt; book.figure(EUR), 0);
+}
+
 #[test]
 fn the_bank_pays_out_no_more_than_it_holds(rt: HostRuntime) -> Result<(), Fail> {
     let mut book = book(rt.alloc())?;
@@ -167,9 +183,7 @@ fn the_bank_pays_out_no_more_than_it_holds(rt: HostRuntime) -> Result<(), Fail> 
         (EUR_NODE, paid(EUR, 1), Reply::No(Reason::Repeated)),
     ];
     run(&rt, &mut book, &rows)?;
-    assert_eq!(rt; book.balance(ALFA, EUR), 952);
-    assert_eq!(rt; book.balance(BETA, EUR), -952);
-    assert_eq!(rt; book.figure(EUR), 0);
+    shows_no_eur(&rt, &book);
     Ok(())
 }
 
@@ -213,8 +227,11 @@ fn the_aggregate_limit_is_met_to_the_unit(rt: HostRuntime) -> Result<(), Fail> {
 fn one_unit_past_the_aggregate_limit_waits(rt: HostRuntime) -> Result<(), Fail> {
     let mut book = book(rt.alloc())?;
     short_of_two(&rt, &mut book, 40_001, 1)?;
-    assert_eq!(rt; book.pair(1), Some(PairState::Settled));
-    assert_eq!(rt; book.pair(2), Some(PairState::Matched));
+    let states = (book.pair(1), book.pair(2));
+    assert_eq!(rt;
+        states,
+        (Some(PairState::Settled), Some(PairState::Matched))
+    );
     Ok(())
 }
 

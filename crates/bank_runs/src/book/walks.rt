@@ -64,29 +64,26 @@ fn plain_walk(alfa: [i64; 3], beta: [i64; 3], offers: &[Offer; 3], most: u32) ->
     taken
 }
 
-/// Walks over three offers in a book, and compares what it settled.
-fn agrees(rt: &impl Abort, alloc: Global, offers: &[Offer; 3], most: u32) -> Result<(), Fail> {
-    let mut book = book(alloc)?;
+/// ALFA and BETA are funded, and agree on the offers.
+fn agree(rt: &impl Abort, book: &mut Book, offers: &[Offer; 3]) -> Result<(), Fail> {
     let funds = [
         (USD_NODE, fund(USD, 1, ALFA, 1500), Reply::Done),
         (EUR_NODE, fund(EUR, 1, BETA, 500), Reply::Done),
     ];
-    run(rt, &mut book, &funds)?;
+    run(rt, book, &funds)?;
     for (i, (sell, buy)) in offers.iter().enumerate() {
         let reference = i as u32 + 1;
         let both = [
             (ALFA, instruct(reference, BETA, *sell, *buy), Reply::Done),
             (BETA, instruct(reference, ALFA, *buy, *sell), Reply::Matched),
         ];
-        run(rt, &mut book, &both)?;
+        run(rt, book, &both)?;
     }
-    let taken = plain_walk([0, 1500, 0], [500, 0, 0], offers, most);
-    let count = taken.iter().filter(|mark| **mark).count() as u32;
-    run(
-        rt,
-        &mut book,
-        &[(OPERATOR, settle(most), Reply::Settled(count))],
-    )?;
+    Ok(())
+}
+
+/// The pairs that are marked are settled, and the others wait.
+fn shows_settled(rt: &impl Abort, book: &Book, taken: &[bool; 3]) {
     for (i, mark) in taken.iter().enumerate() {
         let state = if *mark {
             PairState::Settled
@@ -95,6 +92,15 @@ fn agrees(rt: &impl Abort, alloc: Global, offers: &[Offer; 3], most: u32) -> Res
         };
         assert_eq!(rt; book.pair(i as u32 + 1), Some(state));
     }
+}
+
+/// Walks over three offers in a new book, and compares what it settled.
+fn walk(rt: &impl Abort, book: &mut Book, offers: &[Offer; 3], most: u32) -> Result<(), Fail> {
+    agree(rt, book, offers)?;
+    let taken = plain_walk([0, 1500, 0], [500, 0, 0], offers, most);
+    let count = taken.iter().filter(|mark| **mark).count() as u32;
+    run(rt, book, &[(OPERATOR, settle(most), Reply::Settled(count))])?;
+    shows_settled(rt, book, &taken);
     Ok(())
 }
 
@@ -108,7 +114,7 @@ fn the_plain_walk_settles_the_same_pairs(rt: HostRuntime) -> Result<(), Fail> {
                     ((EUR, second), (USD, 1000)),
                     ((USD, 400), (JPY, 40_000)),
                 ];
-                agrees(&rt, rt.alloc(), &offers, most)?;
+                walk(&rt, &mut book(rt.alloc())?, &offers, most)?;
             }
         }
     }
