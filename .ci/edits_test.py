@@ -1,12 +1,17 @@
 #!/usr/bin/env python3
-"""Tests .ci/edits over a small crate: what the prover lets through is told, alone and in a round whose other edits are refused."""
+"""Tests .ci/edits over a small crate: what the prover lets through is told, alone and in a round whose other edits are refused;
+and that turns leave no edit out."""
+import importlib.machinery
+import importlib.util
 import os
 import re
 import shutil
 import subprocess
 import sys
 import tempfile
+from types import SimpleNamespace
 
+sys.dont_write_bytecode = True
 HERE = os.path.dirname(os.path.abspath(__file__))
 
 SOURCE = """//! A counter, for the test of the edits.
@@ -93,8 +98,23 @@ def wrong_of(ran, way):
     return wrong
 
 
+def turns_gone_wrong():
+    """What is wrong with the turns of seven edits, of which three touch one function, one another, one both, one a private one, one none."""
+    loader = importlib.machinery.SourceFileLoader("edits", f"{HERE}/edits")
+    module = importlib.util.module_from_spec(importlib.util.spec_from_loader("edits", loader))
+    loader.exec_module(module)
+    one, other, private = (SimpleNamespace(key=lambda it=it: it, is_public=it != "private") for it in ("one", "other", "private"))
+    touched = ([one], [one], [one], [other], [one, other], [], [private])
+    edits = [SimpleNamespace(name=name, functions=it) for name, it in enumerate(touched)]
+    turns = [module.in_turn(edits, turn) for turn in range(4)]
+    tried = [any(edit in turn for turn in turns) for edit in edits[:-1]]
+    each = [edits[5] in turn and any(one in it.functions for it in turn) and any(other in it.functions for it in turn) for turn in turns]
+    few = [len(turn) <= 3 and edits[-1] not in turn for turn in turns]
+    return [] if all(tried + each + few) else ["in four turns not each edit of a public function is tried, or in one not one of each"]
+
+
 def main():
-    wrong = []
+    wrong = turns_gone_wrong()
     with tempfile.TemporaryDirectory(prefix="edits-test-") as room:
         write(f"{room}/crates.txt", "counter:\n")
         write(f"{room}/HANDLES", "Handles allowed: none.\n")
@@ -110,7 +130,7 @@ def main():
             wrong += wrong_of(ran, way)
     if wrong:
         print("\n".join(wrong))
-    print(f"{2 * len(EDITS) - len(wrong)} passed, {len(wrong)} failed")
+    print(f"{2 * len(EDITS) + 1 - len(wrong)} passed, {len(wrong)} failed")
     return 1 if wrong else 0
 
 
