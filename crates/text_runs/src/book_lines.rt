@@ -1,16 +1,14 @@
 //! The lines of a script of one book, read.
+use crate::script::{has_fault, has_lines};
 use fixtures::setup::three_currencies;
-use pvp_text::{Kind, Line, LineCode, LineFault, Statement, read_script};
+use pvp_text::{Kind, Line, Statement};
 use pvp_types::Cmd;
 use std::process::Abort;
 use std::test::Fail;
 
 /// Reads a script, and compares its lines.
 fn says<R: Abort + AllocGlobal>(rt: &R, script: &str, want: &[Line]) -> Result<(), Fail> {
-    let setup = three_currencies(rt.alloc())?;
-    let lines = read_script(rt.alloc(), &setup, Kind::Book, script.as_bytes())?;
-    assert_eq!(rt; lines.as_slice(), want);
-    Ok(())
+    has_lines(rt, Kind::Book, &three_currencies(rt.alloc())?, script, want)
 }
 
 /// A line that asks for a command.
@@ -86,17 +84,7 @@ fn tells_the_faulty_line(rt: HostRuntime) -> Result<(), Fail> {
         ("do @65536 payout USD 1", 1, "L4"),
         ("do CARL payout USD 01", 1, "L4"),
     ] {
-        match read_script(rt.alloc(), &setup, Kind::Book, script.as_bytes()) {
-            Ok(_) => assert!(rt; false, "{script} is read"),
-            Err(fault) => {
-                assert_eq!(rt; fault.line, line, "in {script}");
-                assert_eq!(rt;
-                    format!(in rt.alloc(); "{}", fault.code)?.as_str(),
-                    code,
-                    "in {script}"
-                );
-            }
-        }
+        has_fault(&rt, Kind::Book, &setup, script.as_bytes(), (line, code))?;
     }
     Ok(())
 }
@@ -106,14 +94,6 @@ fn tells_what_is_too_long(rt: HostRuntime) -> Result<(), Fail> {
     let setup = three_currencies(rt.alloc())?;
     let long = vec![in rt.alloc(); b'x'; 257]?;
     let many = vec![in rt.alloc(); b'\n'; 65_536]?;
-    for (script, line, code) in [(&long, 1, "L6"), (&many, 65_536, "L7")] {
-        match read_script(rt.alloc(), &setup, Kind::Book, script) {
-            Ok(_) => assert!(rt; false, "it is read"),
-            Err(fault) => {
-                assert_eq!(rt; fault.line, line);
-                assert_eq!(rt; format!(in rt.alloc(); "{}", fault.code)?.as_str(), code);
-            }
-        }
-    }
-    Ok(())
+    has_fault(&rt, Kind::Book, &setup, &long, (1, "L6"))?;
+    has_fault(&rt, Kind::Book, &setup, &many, (65_536, "L7"))
 }

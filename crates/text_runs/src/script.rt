@@ -1,8 +1,23 @@
 use fixtures::setup::three_currencies;
-use pvp_text::{Kind, Line, Statement, read_script};
-use pvp_types::Cmd;
+use pvp_text::{Kind, Line, LineFault, Statement, read_script};
+use pvp_types::{Cmd, Setup};
+use std::alloc::{AllocError, Global};
 use std::process::Abort;
 use std::test::Fail;
+
+/// The lines of these statements, numbered from 1.
+fn lines_of(alloc: Global, statements: &[Statement]) -> Result<Vec<Line>, AllocError> {
+    let mut lines = Vec::new(alloc);
+    let mut number: u32 = 0;
+    for statement in statements {
+        number = number.saturating_add(1);
+        lines.push(Line {
+            number,
+            statement: *statement,
+        })?;
+    }
+    Ok(lines)
+}
 
 /// Reads a script of some kind, and compares its lines, which are numbered from 1.
 fn reads<R: Abort + AllocGlobal>(
@@ -11,18 +26,55 @@ fn reads<R: Abort + AllocGlobal>(
     script: &str,
     want: &[Statement],
 ) -> Result<(), Fail> {
-    let setup = three_currencies(rt.alloc())?;
-    let mut wanted = Vec::new(rt.alloc());
-    let mut number: u32 = 0;
-    for statement in want {
-        number = number.saturating_add(1);
-        wanted.push(Line {
-            number,
-            statement: *statement,
-        })?;
+    let wanted = lines_of(rt.alloc(), want)?;
+    has_lines(
+        rt,
+        kind,
+        &three_currencies(rt.alloc())?,
+        script,
+        wanted.as_slice(),
+    )
+}
+
+/// Reads a script of some kind over a setup, and compares its lines.
+pub fn has_lines<R: Abort + AllocGlobal>(
+    rt: &R,
+    kind: Kind,
+    setup: &Setup,
+    script: &str,
+    want: &[Line],
+) -> Result<(), Fail> {
+    let lines = read_script(rt.alloc(), setup, kind, script.as_bytes())?;
+    assert_eq!(rt; lines.as_slice(), want, "of {kind:?}");
+    Ok(())
+}
+
+/// Reads a faulty script of some kind over a setup, and compares the line and the code of its fault.
+pub fn has_fault<R: Abort + AllocGlobal>(
+    rt: &R,
+    kind: Kind,
+    setup: &Setup,
+    script: &[u8],
+    want: (u32, &str),
+) -> Result<(), Fail> {
+    match read_script(rt.alloc(), setup, kind, script) {
+        Ok(_) => Err(Fail::new("a faulty script is read")),
+        Err(fault) => tells(rt, fault, want),
     }
-    let lines = read_script(rt.alloc(), &setup, kind, script.as_bytes())?;
-    assert_eq!(rt; lines.as_slice(), wanted.as_slice(), "of {kind:?}");
+}
+
+/// A fault is of this line and has this code.
+fn tells<R: Abort + AllocGlobal>(
+    rt: &R,
+    fault: LineFault,
+    (line, code): (u32, &str),
+) -> Result<(), Fail> {
+    assert_eq!(rt; fault.line, line, "of {code}");
+    assert_eq!(rt;
+        format!(in rt.alloc(); "{}", fault.code)?.as_str(),
+        code,
+        "in line {line}"
+    );
     Ok(())
 }
 
@@ -36,17 +88,7 @@ fn refuses<R: Abort + AllocGlobal>(
 ) -> Result<(), Fail> {
     let setup = three_currencies(rt.alloc())?;
     for script in scripts {
-        match read_script(rt.alloc(), &setup, kind, script.as_bytes()) {
-            Ok(_) => assert!(rt; false, "{script} is read in {kind:?}"),
-            Err(fault) => {
-                assert_eq!(rt; fault.line, line, "in {script}");
-                assert_eq!(rt;
-                    format!(in rt.alloc(); "{}", fault.code)?.as_str(),
-                    code,
-                    "in {script} of {kind:?}"
-                );
-            }
-        }
+        has_fault(rt, kind, &setup, script.as_bytes(), (line, code))?;
     }
     Ok(())
 }

@@ -1,5 +1,6 @@
 //! Setups read from their text: each value at its place, each rule at its bounds, the first of several faults.
 use pvp_text::read_setup;
+use pvp_types::Setup;
 use std::alloc::{AllocError, Global};
 use std::process::Abort;
 use std::test::Fail;
@@ -42,10 +43,7 @@ fn agree(rt: &impl Abort, alloc: Global, rows: &[Row]) -> Result<(), Fail> {
     Ok(())
 }
 
-#[test]
-fn reads_each_value_at_its_place(rt: HostRuntime) -> Result<(), Fail> {
-    let setup = read_setup(rt.alloc(), BANK.as_bytes())?;
-    assert_eq!(rt; setup.sites, 3);
+fn has_currencies(rt: &impl Abort, setup: &Setup) -> Result<(), Fail> {
     assert_eq!(rt; setup.currencies.len(), 3);
     for (i, (code, rate, haircut)) in [("EUR", 110, 500), ("USD", 100, 0), ("JPY", 1, 1000)]
         .into_iter()
@@ -56,6 +54,10 @@ fn reads_each_value_at_its_place(rt: HostRuntime) -> Result<(), Fail> {
         assert_eq!(rt; currency.rate, rate);
         assert_eq!(rt; currency.haircut, haircut);
     }
+    Ok(())
+}
+
+fn has_members(rt: &impl Abort, setup: &Setup) -> Result<(), Fail> {
     assert_eq!(rt; setup.members.len(), 2);
     for (i, name) in ["ALFA", "BETA"].into_iter().enumerate() {
         let member = setup.members.get(i).ok_or("a member")?;
@@ -71,23 +73,34 @@ fn reads_each_value_at_its_place(rt: HostRuntime) -> Result<(), Fail> {
 }
 
 #[test]
+fn reads_each_value_at_its_place(rt: HostRuntime) -> Result<(), Fail> {
+    let setup = read_setup(rt.alloc(), BANK.as_bytes())?;
+    assert_eq!(rt; setup.sites, 3);
+    has_currencies(&rt, &setup)?;
+    has_members(&rt, &setup)
+}
+
+fn is_told(rt: &impl Abort, alloc: Global, text: &[u8], want: &str) -> Result<(), Fail> {
+    assert_eq!(rt; told(alloc, text)?.as_str(), want);
+    Ok(())
+}
+
+/// Brackets that are nested so deep: 127 are read, 128 are not.
+fn nested(alloc: Global, depth: usize) -> Result<String, AllocError> {
+    let open = "[".repeat(alloc, depth)?;
+    let shut = "]".repeat(alloc, depth)?;
+    format!(in alloc; "{open}{shut}")
+}
+
+#[test]
 fn texts_that_are_no_json(rt: HostRuntime) -> Result<(), Fail> {
     let alloc = rt.alloc();
-    assert_eq!(rt; told(alloc, b"")?.as_str(), "fault json J1");
-    assert_eq!(rt; told(alloc, b"{\"sites\":3")?.as_str(), "fault json J1");
-    assert_eq!(rt; told(alloc, b"{}{}")?.as_str(), "fault json J1");
-    assert_eq!(rt;
-        told(alloc, b"{\"note\":\"\xff\"}")?.as_str(),
-        "fault json J1"
-    );
-    let deep = "[".repeat(alloc, 128)?;
-    let shut = "]".repeat(alloc, 128)?;
-    let nested = format!(in alloc; "{deep}{shut}")?;
-    assert_eq!(rt; told(alloc, nested.as_bytes())?.as_str(), "fault json J1");
-    let inner = nested.as_str().strip_prefix("[").ok_or("nested")?;
-    let inner = inner.strip_suffix("]").ok_or("nested")?;
-    assert_eq!(rt; told(alloc, inner.as_bytes())?.as_str(), "fault json J2");
-    Ok(())
+    is_told(&rt, alloc, b"", "fault json J1")?;
+    is_told(&rt, alloc, b"{\"sites\":3", "fault json J1")?;
+    is_told(&rt, alloc, b"{}{}", "fault json J1")?;
+    is_told(&rt, alloc, b"{\"note\":\"\xff\"}", "fault json J1")?;
+    is_told(&rt, alloc, nested(alloc, 128)?.as_bytes(), "fault json J1")?;
+    is_told(&rt, alloc, nested(alloc, 127)?.as_bytes(), "fault json J2")
 }
 
 /// A number that is refused as JSON, also in a member that is ignored.

@@ -88,12 +88,17 @@ where
     R: Abort + AllocGlobal + Threads + Wait + Clock + Net + Sync,
     R::Stream: Read + Write + Send + Drop,
 {
-    let alloc = rt.alloc();
     let judgement = ran(rt, script, &mut sink())?;
+    is_played_again(rt, &judgement)
+}
+
+/// The script that a run is told as leaves the books that the run left.
+fn is_played_again<R: Abort + AllocGlobal>(rt: &R, judgement: &Judgement) -> Result<(), Fail> {
+    let alloc = rt.alloc();
     let mut books: Vec<u8> = Vec::new(alloc);
     let mut script: Vec<u8> = Vec::new(alloc);
-    print_judgement(alloc, &judgement, &mut books).map_err(|_| Fail::new("the books"))?;
-    print_script(alloc, &judgement, &mut script).map_err(|_| Fail::new("the script"))?;
+    print_judgement(alloc, judgement, &mut books).map_err(|_| Fail::new("the books"))?;
+    print_script(alloc, judgement, &mut script).map_err(|_| Fail::new("the script"))?;
     let again = played(alloc, script.as_slice())?;
     assert_eq!(rt; again.as_slice(), books.as_slice());
     Ok(())
@@ -165,16 +170,20 @@ s2 restarted|s2 up|s2 up in view #|s2 up and asked for view 1|s2 up in view 0 an
     "",
 ];
 
-#[test]
-fn tells_what_goes_on(rt: HostRuntime) -> Result<(), Fail> {
-    let mut notes: Vec<u8> = Vec::new(rt.alloc());
-    let judgement = ran(&rt, TOLD, &mut notes)?;
-    assert!(rt; matches!(judgement, Judgement::Yes(_)));
-    let told = std::str::from_utf8(notes.as_slice())?;
+/// The lines that are told of a run which is judged yes are these.
+fn tells_lines(rt: &impl Abort, told: &str) {
     for (line, wanted) in told.split('\n').zip(LINES) {
         assert!(rt; is_told(line, *wanted), "{line}, not {wanted}");
     }
     assert_eq!(rt; told.split('\n').count(), LINES.len(), "{told}");
+}
+
+#[test]
+fn tells_what_goes_on(rt: HostRuntime) -> Result<(), Fail> {
+    let mut notes: Vec<u8> = Vec::new(rt.alloc());
+    let is_yes = matches!(ran(&rt, TOLD, &mut notes)?, Judgement::Yes(_));
+    assert!(rt; is_yes);
+    tells_lines(&rt, std::str::from_utf8(notes.as_slice())?);
     Ok(())
 }
 
