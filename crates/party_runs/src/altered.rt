@@ -1,5 +1,5 @@
 //! What one site left, altered in one place after the run, and where the audit finds it.
-use crate::common::{Place, judged};
+use crate::common::{Place, is_judged};
 use pvp_audit::{Verdict, Why};
 use pvp_parties::{Party, PartyEvent};
 use pvp_rooms::{Actor, Closed};
@@ -68,11 +68,7 @@ fn another_receipt_is_told(rt: HostRuntime) -> Result<(), Fail> {
     let mut both = beside(&rt, beaten(&rt, 1, &[0, 1])?)?;
     swap_seats(both.as_mut_slice());
     both.truncate(1);
-    assert_eq!(rt;
-        judged(rt.alloc(), both.as_slice())?,
-        site_fails(2, Why::Receipts)
-    );
-    Ok(())
+    is_judged(&rt, both.as_slice(), site_fails(2, Why::Receipts))
 }
 
 /// The second beat has clock 1, as one that was the first of another run.
@@ -82,11 +78,7 @@ fn a_clock_that_stands_still_is_told(rt: HostRuntime) -> Result<(), Fail> {
     swap_seats(both.as_mut_slice());
     swap_events(both.as_mut_slice());
     both.truncate(1);
-    assert_eq!(rt;
-        judged(rt.alloc(), both.as_slice())?,
-        site_fails(2, Why::Clock)
-    );
-    Ok(())
+    is_judged(&rt, both.as_slice(), site_fails(2, Why::Clock))
 }
 
 /// The second beat sent nothing, as a backup's.
@@ -96,11 +88,7 @@ fn missing_envelopes_are_told(rt: HostRuntime) -> Result<(), Fail> {
     swap_seats(both.as_mut_slice());
     swap_events(both.as_mut_slice());
     both.truncate(1);
-    assert_eq!(rt;
-        judged(rt.alloc(), both.as_slice())?,
-        site_fails(2, Why::Answered)
-    );
-    Ok(())
+    is_judged(&rt, both.as_slice(), site_fails(2, Why::Answered))
 }
 
 /// The end is that of the same site after a crash.
@@ -111,11 +99,7 @@ fn another_end_is_told(rt: HostRuntime) -> Result<(), Fail> {
     let mut both = beside(&rt, crashed.close()?)?;
     swap_ends(both.as_mut_slice());
     both.truncate(1);
-    assert_eq!(rt;
-        judged(rt.alloc(), both.as_slice())?,
-        site_fails(0, Why::End)
-    );
-    Ok(())
+    is_judged(&rt, both.as_slice(), site_fails(0, Why::End))
 }
 
 /// What is delivered was sent by a first site that is not the one whose history is judged: that one took nothing.
@@ -133,6 +117,5 @@ fn a_stamp_of_no_event_is_told(rt: HostRuntime) -> Result<(), Fail> {
         event: 1,
         why: Why::Stamped,
     };
-    assert_eq!(rt; judged(rt.alloc(), closed.as_slice())?, told);
-    Ok(())
+    is_judged(&rt, closed.as_slice(), told)
 }

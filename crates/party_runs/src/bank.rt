@@ -1,5 +1,5 @@
 //! A request that goes through two of three sites, audited; and events that stray.
-use crate::common::{Place, first_letter, judged};
+use crate::common::{Place, first_letter, is_judged};
 use headline::ClientEvent;
 use pvp_audit::{Verdict, Why};
 use pvp_parties::{Party, PartyEvent, PartyOutcome};
@@ -69,8 +69,7 @@ fn a_run_is_audited(rt: HostRuntime) -> Result<(), Fail> {
         _ => assert!(rt; false, "a reply"),
     }
     let closed = three.close(rt.alloc())?;
-    assert_eq!(rt; judged(rt.alloc(), closed.as_slice())?, Verdict::Yes);
-    Ok(())
+    is_judged(&rt, closed.as_slice(), Verdict::Yes)
 }
 
 #[test]
@@ -84,8 +83,7 @@ fn a_missing_sender_is_told(rt: HostRuntime) -> Result<(), Fail> {
         event: 2,
         why: Why::Stamped,
     };
-    assert_eq!(rt; judged(rt.alloc(), closed.as_slice())?, told);
-    Ok(())
+    is_judged(&rt, closed.as_slice(), told)
 }
 
 /// A beat of the primary sends two envelopes, so none has the place 9 among them.
@@ -102,8 +100,7 @@ fn a_stamp_that_names_nothing_is_told(rt: HostRuntime) -> Result<(), Fail> {
         event: 1,
         why: Why::Stamped,
     };
-    assert_eq!(rt; judged(rt.alloc(), closed.as_slice())?, told);
-    Ok(())
+    is_judged(&rt, closed.as_slice(), told)
 }
 
 #[test]
@@ -120,6 +117,5 @@ fn strays_do_nothing(rt: HostRuntime) -> Result<(), Fail> {
     let mut closed = Vec::new(alloc);
     closed.push(operator.close()?)?;
     closed.push(node.close()?)?;
-    assert_eq!(rt; judged(alloc, closed.as_slice())?, Verdict::Yes);
-    Ok(())
+    is_judged(&rt, closed.as_slice(), Verdict::Yes)
 }

@@ -10,6 +10,7 @@ use pvp_peers::Served;
 use pvp_rooms::{Answer, CameOf, Closed, Gate, Input};
 use pvp_wire::Stamp;
 use std::alloc::Global;
+use std::process::Abort;
 use std::sync::Wait;
 use std::test::Fail;
 use vr_types::{Envelope, MemCell};
@@ -138,8 +139,18 @@ pub fn first_letter(alloc: Global, outcome: &PartyOutcome) -> Result<Envelope<Bo
     }
 }
 
+/// An audit says this of actors in order of their numbers.
+pub fn is_judged<R: Abort + AllocGlobal>(
+    rt: &R,
+    closed: &[Closed<Party>],
+    verdict: Verdict,
+) -> Result<(), Fail> {
+    assert_eq!(rt; judged(rt.alloc(), closed)?, verdict);
+    Ok(())
+}
+
 /// What an audit says of actors in order of their numbers.
-pub fn judged(alloc: Global, closed: &[Closed<Party>]) -> Result<Verdict, Fail> {
+fn judged(alloc: Global, closed: &[Closed<Party>]) -> Result<Verdict, Fail> {
     if !are_in_order(closed) {
         return Err(Fail::new("order"));
     }
