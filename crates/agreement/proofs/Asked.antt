@@ -36,16 +36,16 @@ module _ {C R O : Type 0} (P : RowOf C → Type 0) where
   -- a request has no rows of a log
   request_rows : (msg : MsgOf C R O) → is_request msg ≡ true → RowsAre P msg
   request_rows (Request number cmd) e = tt
-  request_rows (Prepare view place k row) e = absurd (true≢false (sym e))
+  request_rows (Prepare msg) e = absurd (true≢false (sym e))
   request_rows (PrepareOk view place) e = tt
   request_rows (Commit view k) e = tt
   request_rows (StartViewChange view known) e = tt
-  request_rows (DoViewChange view last k rows known) e = absurd (true≢false (sym e))
-  request_rows (StartView view k rows) e = absurd (true≢false (sym e))
+  request_rows (DoViewChange msg) e = absurd (true≢false (sym e))
+  request_rows (StartView msg) e = absurd (true≢false (sym e))
   request_rows (GetState view base) e = tt
-  request_rows (NewState view base k rows) e = absurd (true≢false (sym e))
+  request_rows (NewState msg) e = absurd (true≢false (sym e))
   request_rows (Recovery nonce) e = tt
-  request_rows (RecoveryResponse view nonce state known) e = absurd (true≢false (sym e))
+  request_rows (RecoveryResponse msg) e = absurd (true≢false (sym e))
   request_rows (Reply view number reply) e = tt
   request_rows (PayOrder order) e = tt
 

@@ -11,7 +11,7 @@ use Rattle.vr_types.specs.Group.{sites, others, primary, mail, to_all}
 use Rattle.vr_types.specs.Site.{Start, Vote, Collected, Site, boot_of, has_start, has_vote, is_normal, is_change, is_recovering, is_down, is_running}
 use Rattle.vr_types.specs.Choice.{Choice, IsPick, IsRight}
 use Rattle.vr_types.specs.Step.{does, greater, is_outdated, learns, executed_to, normal_in, begins_with_executed}
-use Rattle.vr_types.specs.Change.{Part, with_start, with_vote, with_voted, own_vote, sends_vote, is_to_vote, is_to_open, starts_view, starts_later_view, votes_where_due, opened_with, opens_where_due, on_start_view_change, on_do_view_change, on_timer, beats_in_change}
+use Rattle.vr_types.specs.Change.{ballot, Part, with_start, with_vote, with_voted, own_vote, sends_vote, is_to_vote, is_to_open, starts_view, starts_later_view, votes_where_due, opened_with, opens_where_due, on_start_view_change, on_do_view_change, on_timer, beats_in_change}
 use Rattle.vr_types.proofs.ChoosingPick.{Contains-cases, Contains-none, Contains-here, not_before, IsNotBefore}
 use Rattle.agreement.proofs.Quorums.{quorums_meet, with_one, one_more}
 use Rattle.agreement.proofs.Histories.{History}
@@ -56,13 +56,13 @@ module _ {C R O : Type 0} (f me : ℕ) where
       r = (holds.sites me).running (change_runs _ change)
 
       abbrev msg : MsgOf C R O
-      msg = DoViewChange (s me).view (s me).last_normal (s me).done (s me).log (s me).known
+      msg = DoViewChange (record { view = (s me).view; last_normal = (s me).last_normal; done = (s me).done; rows = (s me).log; known = (s me).known })
 
       own : boot_of (s me).known me ≡ (s me).cell.boots
       own = (holds.sites me).hears.own (runs_up _ (change_runs _ change))
 
       -- what a site in a view change says of its log is true
-      vote_vouched : (es : List (EnvelopeOf C R O)) → Says me msg es → IsBacked f (say es g) me (s me).view (s me).cell.boots → IsVote f (say es g) me (s me).view (s me).last_normal (s me).done (s me).log (s me).known
+      vote_vouched : (es : List (EnvelopeOf C R O)) → Says me msg es → IsBacked f (say es g) me (s me).view (s me).cell.boots → IsVote f (say es g) me (ballot (s me).view (own_vote me (s me)))
       vote_vouched es says backed = record {
         told = told_later f g (say es g) me 0 (later_say f g me msg es tt says 0) me (s me).view (s me).known (record { boots = (holds.sites me).hears.heard; lived = r.at_view.lived });
         backed = record { votes = backed.votes; among = backed.among; own = backed.own ∙ sym own };
@@ -183,11 +183,11 @@ module _ {C R O : Type 0} (f me : ℕ) where
           current v (inl in') = r.current change v in'
           current v (inr e) = subst (λ (u : Vote C). IsKeptVote (s me).known u) e (record { within = λ k. omega arith; current = omega arith })
 
-          said : (v : Vote C) → Contains (s me).collected.votes v ⊎ (own_vote me (s me) ≡ v) → (to : ℕ) × Contains (es ++ g.said) (mail v.from to (DoViewChange (s me).view v.last_normal v.done v.log v.known))
+          said : (v : Vote C) → Contains (s me).collected.votes v ⊎ (own_vote me (s me) ≡ v) → (to : ℕ) × Contains (es ++ g.said) (mail v.from to (DoViewChange (ballot ((s me).view) v)))
           said v (inl in') = told.votes change v in'
           said v (inr e) = (
             primary f (s me).view,
-            subst (λ (u : Vote C). Contains (es ++ g.said) (mail u.from (primary f (s me).view) (DoViewChange (s me).view u.last_normal u.done u.log u.known))) e (Contains-here _ g.said),
+            subst (λ (u : Vote C). Contains (es ++ g.said) (mail u.from (primary f (s me).view) (DoViewChange (ballot ((s me).view) u)))) e (Contains-here _ g.said),
           )
 
       -- it is kept at the primary of the view
@@ -229,15 +229,15 @@ module _ {C R O : Type 0} (f me : ℕ) where
               (λ _ a in'. by_place a (Contains-append_cases (s me).collected.starts (start ∷ []) a in')) refl
 
       -- the first DOVIEWCHANGE of a site is kept
-      vote_kept : (vote : Vote C) → IsKeptVote (s me).known vote → (to : ℕ) × Contains g.said (mail vote.from to (DoViewChange (s me).view vote.last_normal vote.done vote.log vote.known)) → Kept f g s me (does (with_vote vote (s me)) [])
+      vote_kept : (vote : Vote C) → IsKeptVote (s me).known vote → (to : ℕ) × Contains g.said (mail vote.from to (DoViewChange (ballot ((s me).view) vote))) → Kept f g s me (does (with_vote vote (s me)) [])
       vote_kept vote good said = by_test (has_vote (s me).collected.votes vote.from)
         where
-          by_place : (v : Vote C) → Contains (s me).collected.votes v ⊎ Contains (vote ∷ []) v → (to : ℕ) × Contains g.said (mail v.from to (DoViewChange (s me).view v.last_normal v.done v.log v.known))
+          by_place : (v : Vote C) → Contains (s me).collected.votes v ⊎ Contains (vote ∷ []) v → (to : ℕ) × Contains g.said (mail v.from to (DoViewChange (ballot ((s me).view) v)))
           by_place v (inl in') = r.votes change v in'
           by_place v (inr in') = this (Contains-cases vote v [] in')
             where
-              this : (vote ≡ v) ⊎ Contains [] v → (to : ℕ) × Contains g.said (mail v.from to (DoViewChange (s me).view v.last_normal v.done v.log v.known))
-              this (inl e) = subst (λ (u : Vote C). (to : ℕ) × Contains g.said (mail u.from to (DoViewChange (s me).view u.last_normal u.done u.log u.known))) e said
+              this : (vote ≡ v) ⊎ Contains [] v → (to : ℕ) × Contains g.said (mail v.from to (DoViewChange (ballot ((s me).view) v)))
+              this (inl e) = subst (λ (u : Vote C). (to : ℕ) × Contains g.said (mail u.from to (DoViewChange (ballot ((s me).view) u)))) e said
               this (inr none) = absurd (Contains-none v none)
 
           current : (v : Vote C) → Contains (s me).collected.votes v ⊎ Contains (vote ∷ []) v → IsKeptVote (s me).known v
@@ -256,7 +256,7 @@ module _ {C R O : Type 0} (f me : ℕ) where
 
     -- the view is opened by the votes that are kept
     opens_by : (choose : Choice C) → IsRight f choose → (votes : List (Vote C)) → (s me).collected.votes ≡ votes → (s me).status ≡ Change → me ≡ primary f (s me).view → f < count_by (has_vote votes) (sites f)
-        → (let y = executed_to (choose.most_done votes) (normal_in (s me).view (choose.pick votes).log (s me)) in Kept f g s me (does y (to_all f me (StartView y.view y.done y.log))))
+        → (let y = executed_to (choose.most_done votes) (normal_in (s me).view (choose.pick votes).log (s me)) in Kept f g s me (does y (to_all f me (StartView (record { view = y.view; done = y.done; rows = y.log })))))
     opens_by choose right votes same change leads many =
         kept_opens f g s me pick.log pick.last_normal (has_vote votes) holds change leads
         (good pick is_pick.kept).below (good pick is_pick.kept).log_of many (λ j h. elector j (found _ votes h))
@@ -285,10 +285,10 @@ module _ {C R O : Type 0} (f me : ℕ) where
         in_most : Contains votes most.1
         in_most = (most.0, most.2, most.3)
 
-        voted : (v : Vote C) → Contains votes v → (to : ℕ) × Contains g.said (mail v.from to (DoViewChange (s me).view v.last_normal v.done v.log v.known))
+        voted : (v : Vote C) → Contains votes v → (to : ℕ) × Contains g.said (mail v.from to (DoViewChange (ballot ((s me).view) v)))
         voted v in' = run.votes change v (subst (λ (l : List (Vote C)). Contains l v) (sym same) in')
 
-        good : (v : Vote C) → Contains votes v → IsVote f g v.from (s me).view v.last_normal v.done v.log v.known
+        good : (v : Vote C) → Contains votes v → IsVote f g v.from (ballot (s me).view v)
         good v in' = holds.said _ _ _ (voted v in').1
 
         upto_of : (v n u m : ℕ) → v ≤ u → (v ≡ u → n ≤ m) → IsUpto v n u m
@@ -341,7 +341,7 @@ module _ {C R O : Type 0} (f me : ℕ) where
             let rest = and_right (primary f part.site.view == me) _ leads in
             let many = and_right (has_vote votes me) _ rest in
             kept_step f g s me _ (kept_go f g s me part.site part.sent (λ x. executed_to (choose.most_done votes) (normal_in x.view (choose.pick votes).log x))
-            (λ x. let y = executed_to (choose.most_done votes) (normal_in x.view (choose.pick votes).log x) in to_all f me (StartView y.view y.done y.log)) k
+            (λ x. let y = executed_to (choose.most_done votes) (normal_in x.view (choose.pick votes).log x) in to_all f me (StartView (record { view = y.view; done = y.done; rows = y.log }))) k
             (λ h t grown e later. opens_by h t later choose right votes (ap (λ (x : Site C). x.collected.votes) e)
             (ap (λ (x : Site C). x.status) e ∙ change_of _ (and_left (is_change part.site.status) _ due))
             (sym (eq_of _ _ (and_left (primary f part.site.view == me) _ leads)) ∙ ap (λ (x : Site C). primary f x.view) (sym e))
@@ -410,7 +410,7 @@ module _ {C R O : Type 0} (f me : ℕ) where
             by_test false = change
 
     pub kept_do_view_change : (choose : Choice C) → IsRight f choose → (to w : ℕ) (vote : Vote C) → is_down (s me).status ≡ false
-        → Contains g.said (mail vote.from to (DoViewChange w vote.last_normal vote.done vote.log vote.known)) → Kept f g s me (on_do_view_change choose f me (s me) w vote)
+        → Contains g.said (mail vote.from to (DoViewChange (ballot w vote))) → Kept f g s me (on_do_view_change choose f me (s me) w vote)
     unfolding on_do_view_change
     kept_do_view_change choose right to w vote up in' =
         kept_if f g s me (is_recovering (s me).status) (λ _. kept_same f g s me holds _ refl refl) (λ e₁.
@@ -425,10 +425,10 @@ module _ {C R O : Type 0} (f me : ℕ) where
         opens_kept g s holds choose right (record part { site = with_vote vote part.site })
         (silently g s _ part.sent (kept_go f g s me part.site part.sent (λ x. with_vote vote x) (λ x. []) (begun_kept vote.known w good.told.boots run)
         (λ h t grown e later. vote_kept h t later (ap (λ (x : Site C). x.status) e ∙ is.0) vote (current_vote vote (t me) (ap (λ (x : Site C). x.known) e ∙ is.2) e₄)
-        (to, subst (λ (v : ℕ). Contains h.said (mail vote.from to (DoViewChange v vote.last_normal vote.done vote.log vote.known))) (sym (ap (λ (x : Site C). x.view) e ∙ is.1)) (grown.said _ in'))))))))))
+        (to, subst (λ (v : ℕ). Contains h.said (mail vote.from to (DoViewChange (ballot v vote)))) (sym (ap (λ (x : Site C). x.view) e ∙ is.1)) (grown.said _ in'))))))))))
       where
-        good : IsVote f g vote.from w vote.last_normal vote.done vote.log vote.known
-        good = holds.said vote.from to (DoViewChange w vote.last_normal vote.done vote.log vote.known) in'
+        good : IsVote f g vote.from (ballot w vote)
+        good = holds.said vote.from to (DoViewChange (ballot w vote)) in'
 
     pub kept_timer : is_down (s me).status ≡ false → Kept f g s me (on_timer f me (s me))
     unfolding on_timer
@@ -458,7 +458,7 @@ module _ {C R O : Type 0} (f me : ℕ) where
 
         votes_again : (h : History C R O) (t : ℕ → Site C) → Holds f h t → (t me).status ≡ Change → (b : Bool) → (b ≡ true → (t me).collected.voted ≡ true) → Kept f h t me (does (t me) (again (t me) b))
         votes_again h t later is true made =
-            let m : MsgOf C R O = DoViewChange (t me).view (t me).last_normal (t me).done (t me).log (t me).known in
+            let m : MsgOf C R O = DoViewChange (record { view = (t me).view; last_normal = (t me).last_normal; done = (t me).done; rows = (t me).log; known = (t me).known }) in
             let es = sends_vote f me (t me) in
             let says : Says me m es = says_one me (primary f (t me).view) m in
             let at = ((later.sites me).running (change_runs _ is)).at_view in

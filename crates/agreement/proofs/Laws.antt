@@ -8,6 +8,7 @@ use Rattle.vr_types.specs.declared.event.EventOf.TheVariants.{Deliver}
 use Rattle.vr_types.specs.declared.event.Status.TheVariants.{Normal, Change, Recovering}
 use Rattle.vr_types.specs.declared.machine.Machine.{Ghosts}
 use Rattle.vr_types.specs.declared.message.EnvelopeOf.{EnvelopeOf}
+use Rattle.vr_types.specs.declared.message.DoViewChangeOf.{DoViewChangeOf}
 use Rattle.vr_types.specs.declared.message.MsgOf.TheVariants.{DoViewChange}
 use Rattle.vr_types.specs.declared.row.RowOf.{RowOf}
 use Rattle.vr_types.specs.Group.{mail}
@@ -110,12 +111,11 @@ module _ {C R O : Type 0} (choose : Choice C) (f : ℕ) (right : IsRight f choos
         let i = has_number f world x in' in
         subst (λ (y : Site C). IsRising y.log) i.1 (log_rises f reached.history (site_at world) reached.holds.holds i.0)
 
-    pub votes_bind : (i to w u k : ℕ) (rows : List (RowOf C)) (known : List ℕ) (x : Site C) → Contains world.sent (mail i to (DoViewChange w u k rows known))
-        → slice_get world.sites i ≡ Some x → is_running x.status ≡ true → w ≤ x.view
-    votes_bind i to w u k rows known x in' there run =
+    pub votes_bind : (i to : ℕ) (msg : DoViewChangeOf C) (x : Site C) → Contains world.sent (mail i to (DoViewChange msg)) → slice_get world.sites i ≡ Some x → is_running x.status ≡ true → msg.view ≤ x.view
+    votes_bind i to msg x in' there run =
         let is = get_or_from_slice_get world.sites i x nobody there in
         let r = (reached.holds.holds.sites i).running (ap (λ (y : Site C). is_running y.status) is ∙ run) in
-        let low = r.at_view.promised to w u k rows known (reached.holds.said _ in') in
+        let low = r.at_view.promised to msg (reached.holds.said _ in') in
         let e = ap (λ (y : Site C). y.view) is in
         omega arith
 

@@ -210,7 +210,7 @@ module _ {C R O : Type 0} (f : ℕ) where
           at_view = record {
             lived = first_life (no_boots_is f j);
             votes = λ w a v is. absurd (first_votes j w a v);
-            promised = λ to w u k log a in'. absurd (Contains-none _ in');
+            promised = λ to msg in'. absurd (Contains-none _ in');
             answers = λ to w x a v is. absurd (Contains-none _ v.said);
             starts = λ _ a in'. absurd (Contains-none a in');
             backed = λ _ made. absurd (true≢false (sym made));

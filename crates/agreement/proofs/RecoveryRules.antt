@@ -20,7 +20,7 @@ use Rattle.agreement.proofs.Histories.{History}
 use Rattle.agreement.proofs.OneLog.{IsLogOf}
 use Rattle.agreement.proofs.PreparedRows.{Prepared}
 use Rattle.vr_types.proofs.Vectors.{greater_is, greater_right, set_here}
-use Rattle.agreement.proofs.Votes.{HasAsked, RecoversBy, IsTold, IsKeptResponse, nonce_of, asks_now, same_cell, still_recovers}
+use Rattle.agreement.proofs.Votes.{answer_by, HasAsked, RecoversBy, IsTold, IsKeptResponse, nonce_of, asks_now, same_cell, still_recovers}
 use Rattle.agreement.proofs.StatesCover.{MayBeState}
 use Rattle.agreement.proofs.Vouched.{IsVouched}
 use Rattle.agreement.proofs.Elections.{IsElected}
@@ -38,14 +38,14 @@ use Rattle.agreement.proofs.Tests.{eq_of, ge_of, runs_up, not_false, normal_of, 
 module _ {C R O : Type 0} (f me : ℕ) (g : History C R O) (s : ℕ → Site C) (holds : Holds f g s) where
   -- a normal site answers a restart that it has noted
   answers_kept : (from nonce : ℕ) → HasAsked (s from) nonce → nonce ≤ boot_of (s me).known from → (s me).status ≡ Normal
-      → Kept f g s me (does (s me) (mail me from (RecoveryResponse (s me).view nonce (state_of_view f me (s me)) (s me).known) ∷ []))
+      → Kept f g s me (does (s me) (mail me from (RecoveryResponse (record { view = (s me).view; nonce = nonce; state = state_of_view f me (s me); known = (s me).known })) ∷ []))
   answers_kept from nonce fresh noted normal = answers (primary f (s me).view == me) refl
     where
       r : StandsRunning f g me (s me)
       r = (holds.sites me).running (normal_runs _ normal)
 
       msg : Option (StateOf C) → MsgOf C R O
-      msg state = RecoveryResponse (s me).view nonce state (s me).known
+      msg state = RecoveryResponse (record { view = (s me).view; nonce = nonce; state = state; known = (s me).known })
 
       to_sender : (state : Option (StateOf C)) (to : ℕ) → Contains (mail me from (msg state) ∷ []) (mail me to (msg state)) → from ≡ to
       to_sender state to in' = by_place (Contains-cases (mail me from (msg state)) (mail me to (msg state)) [] in')
@@ -61,7 +61,7 @@ module _ {C R O : Type 0} (f me : ℕ) (g : History C R O) (s : ℕ → Site C) 
           let old = prepared_say f g me (msg state) (mail me from (msg state) ∷ []) tt (says_one me from (msg state)) from (suc v) n p in
           let elected : IsElected f g (suc v) = holds.elected (suc v) (omega arith) (prepared_within f g s holds from (suc v) n old).opened in
           let x = elected.each me e in
-          r.at_view.promised x.to (suc v) x.u x.k x.log x.known x.voted
+          r.at_view.promised x.to _ x.voted
 
       tells : (state : Option (StateOf C)) → MayBeState f (say (mail me from (msg state) ∷ []) g) s from (s me).view nonce state → Kept f g s me (does (s me) (mail me from (msg state) ∷ []))
       tells state good = kept_tell_boots f g s me holds (msg state) (mail me from (msg state) ∷ []) tt (says_one me from (msg state))
@@ -75,7 +75,7 @@ module _ {C R O : Type 0} (f me : ℕ) (g : History C R O) (s : ℕ → Site C) 
           ))
 
       answers : (b : Bool) → (primary f (s me).view == me) ≡ b
-          → Kept f g s me (does (s me) (mail me from (RecoveryResponse (s me).view nonce (if b then Some (record { done = (s me).done; rows = (s me).log }) else None) (s me).known) ∷ []))
+          → Kept f g s me (does (s me) (mail me from (RecoveryResponse (record { view = (s me).view; nonce = nonce; state = if b then Some (record { done = (s me).done; rows = (s me).log }) else None; known = (s me).known })) ∷ []))
       answers false e = tells None tt
       answers true e = tells (Some state) (record {
         log_of = log_of_later f g (say es g) me 0 (later_say f g me (msg (Some state)) es tt says 0) _ _ (subst (λ (v : ℕ). IsLogOf g v (s me).log) (r.normal normal) r.log_of);
@@ -110,7 +110,7 @@ module _ {C R O : Type 0} (f me : ℕ) (g : History C R O) (s : ℕ → Site C) 
 
   -- a response that is of its sender's boot that is known is kept
   response_kept : (response : Response C) → (s me).status ≡ Recovering → response.from ≢ me → IsKeptResponse (s me).known response
-      → Contains g.said (mail response.from me (RecoveryResponse response.view (s me).cell.boots response.state response.known)) → Kept f g s me (does (with_response response (s me)) [])
+      → Contains g.said (mail response.from me (RecoveryResponse (answer_by ((s me).cell.boots) response))) → Kept f g s me (does (with_response response (s me)) [])
   response_kept response recovering other good said =
       kept_quiet f g s me holds y (still_recovers (s me) y refl (λ _. recovering)) (record {
         running = λ run. absurd (recovering_rests (s me).status recovering run);
@@ -124,13 +124,13 @@ module _ {C R O : Type 0} (f me : ℕ) (g : History C R O) (s : ℕ → Site C) 
       y = with_response response (s me)
 
       each : (nonce : ℕ) → RecoversBy y nonce → (a : Response C) → Contains (filter (λ old. not (old.from == response.from)) (s me).collected.responses) a ⊎ Contains (response ∷ []) a
-          → (a.from ≢ me) × Contains g.said (mail a.from me (RecoveryResponse a.view nonce a.state a.known))
+          → (a.from ≢ me) × Contains g.said (mail a.from me (RecoveryResponse (answer_by nonce a)))
       each nonce by a (inl old) = (holds.sites me).responses nonce (record { status = recovering; boots = by.boots }) a (filter-has _ (s me).collected.responses a old)
       each nonce by a (inr new) = this (Contains-cases response a [] new)
         where
-          this : (response ≡ a) ⊎ Contains [] a → (a.from ≢ me) × Contains g.said (mail a.from me (RecoveryResponse a.view nonce a.state a.known))
-          this (inl e) = subst (λ (b : Response C). (b.from ≢ me) × Contains g.said (mail b.from me (RecoveryResponse b.view nonce b.state b.known))) e
-              (other, subst (λ (n : ℕ). Contains g.said (mail response.from me (RecoveryResponse response.view n response.state response.known))) by.boots said)
+          this : (response ≡ a) ⊎ Contains [] a → (a.from ≢ me) × Contains g.said (mail a.from me (RecoveryResponse (answer_by nonce a)))
+          this (inl e) = subst (λ (b : Response C). (b.from ≢ me) × Contains g.said (mail b.from me (RecoveryResponse (answer_by nonce b)))) e
+              (other, subst (λ (n : ℕ). Contains g.said (mail response.from me (RecoveryResponse (answer_by n response)))) by.boots said)
           this (inr none) = absurd (Contains-none a none)
 
       current : (a : Response C) → Contains (filter (λ old. not (old.from == response.from)) (s me).collected.responses) a ⊎ Contains (response ∷ []) a → IsKeptResponse (s me).known a
@@ -152,18 +152,18 @@ module _ {C R O : Type 0} (f me : ℕ) (g : History C R O) (s : ℕ → Site C) 
       y : Site C
       y = notes from nonce (s me)
 
-      answers : (s me).status ≡ Normal → boot_of (s me).known from ≤ nonce → Kept f g s me (does y (mail me from (RecoveryResponse y.view nonce (state_of_view f me y) y.known) ∷ []))
+      answers : (s me).status ≡ Normal → boot_of (s me).known from ≤ nonce → Kept f g s me (does y (mail me from (RecoveryResponse (record { view = y.view; nonce = nonce; state = state_of_view f me y; known = y.known })) ∷ []))
       answers normal low =
           let long = (holds.sites me).hears.long (runs_up _ (normal_runs _ normal)) in
           let fits : from < length (s me).known = omega arith in
-          kept_go f g s me y [] (λ x. x) (λ x. mail me from (RecoveryResponse x.view nonce (state_of_view f me x) x.known) ∷ [])
+          kept_go f g s me y [] (λ x. x) (λ x. mail me from (RecoveryResponse (record { view = x.view; nonce = nonce; state = state_of_view f me x; known = x.known })) ∷ [])
           (kept_notes f g s me holds from to nonce normal fits low in')
           (λ h t grown e later. answers_kept f me h t later from nonce (later.said from to (Recovery nonce) (grown.said _ in'))
           (let is = set_here (s me).known from nonce fits in let d = ap (λ (x : Site C). boot_of x.known from) e in omega arith)
           (ap (λ (x : Site C). x.status) e ∙ normal))
 
   pub kept_recovery_response : (choose : Choice C) → IsRight f choose → (nonce : ℕ) (response : Response C) → response.from ≢ me
-      → Contains g.said (mail response.from me (RecoveryResponse response.view nonce response.state response.known)) → Kept f g s me (on_recovery_response choose (s me) nonce response)
+      → Contains g.said (mail response.from me (RecoveryResponse (answer_by nonce response))) → Kept f g s me (on_recovery_response choose (s me) nonce response)
   unfolding on_recovery_response
   kept_recovery_response choose right nonce response other in' =
       kept_if f g s me (not (is_recovering (s me).status)) (λ _. kept_same f g s me holds _ refl refl) (λ e₁.
@@ -182,7 +182,7 @@ module _ {C R O : Type 0} (f me : ℕ) (g : History C R O) (s : ℕ → Site C) 
       chosen = choose.regained z.collected.responses
 
       told : IsTold g response.from response.view response.known
-      told = (holds.said response.from me (RecoveryResponse response.view nonce response.state response.known) in').2
+      told = (holds.said response.from me (RecoveryResponse (answer_by nonce response)) in').2
 
       regains_then : (s me).status ≡ Recovering → nonce ≡ (s me).cell.boots → is_outdated (s me).known response.from response.known ≡ false → Kept f g s me (regains z chosen)
       regains_then recovering is fresh = regains_by chosen (right.regained z.collected.responses)
@@ -196,7 +196,7 @@ module _ {C R O : Type 0} (f me : ℕ) (g : History C R O) (s : ℕ → Site C) 
           kept_z : Kept f g s me (does z [])
           kept_z = kept_go f g s me y [] (λ x. with_response response x) (λ x. []) (kept_learns_recovering f g s me holds response.known told.boots recovering)
               (λ h t grown e later. response_kept f me h t later response (ap (λ (x : Site C). x.status) e ∙ recovering) other (good (t me) e)
-              (subst (λ (n : ℕ). Contains h.said (mail response.from me (RecoveryResponse response.view n response.state response.known))) (is ∙ sym (ap (λ (x : Site C). x.cell.boots) e)) (grown.said _ in')))
+              (subst (λ (n : ℕ). Contains h.said (mail response.from me (RecoveryResponse (answer_by n response)))) (is ∙ sym (ap (λ (x : Site C). x.cell.boots) e)) (grown.said _ in')))
 
           regains_by : (regained : Option (Regained C)) → MatchOption regained ((x : Regained C) → ¬ IsRegained f z.collected.responses x) (IsRegained f z.collected.responses) → Kept f g s me (regains z regained)
           regains_by None none = kept_z

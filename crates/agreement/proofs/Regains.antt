@@ -14,7 +14,7 @@ use Rattle.agreement.proofs.Quorums.{Both, quorums_meet}
 use Rattle.agreement.proofs.Histories.{History, Regain}
 use Rattle.agreement.proofs.PreparedRows.{Prepared, acknowledged, led}
 use Rattle.vr_types.proofs.Vectors.{Within}
-use Rattle.agreement.proofs.Votes.{Voted, started, voted, Answered, HasLived, IsTold, IsAnswer, IsRegain, IsKeptResponse, MayWork, nonce_of, recovers_now, still_recovers}
+use Rattle.agreement.proofs.Votes.{answer_by, Voted, started, voted, Answered, HasLived, IsTold, IsAnswer, IsRegain, IsKeptResponse, MayWork, nonce_of, recovers_now, still_recovers}
 use Rattle.agreement.proofs.Recoveries.{above}
 use Rattle.agreement.proofs.VotesCover.{IsVote}
 use Rattle.agreement.proofs.Standing.{Stands}
@@ -51,18 +51,18 @@ module _ {C R O : Type 0} (f : ℕ) (g : History C R O) (s : ℕ → Site C) (ho
   -- what was told by a vote
   pub told_by : (k w : ℕ) (a : List ℕ) → Voted g k w a → IsTold g k w a
   told_by k w a (started to in') = holds.said k to _ in'
-  told_by k w a (voted to u n log in') = let vote : IsVote f g k w u n log a = holds.said k to _ in' in vote.told
+  told_by k w a (voted to u n log in') = let vote : IsVote f g k (record { view = w; last_normal = u; done = n; rows = log; known = a }) = holds.said k to _ in' in vote.told
 
   -- THE FIRST FACT: a site that recovers was normal, or will be, in no view below one for which it voted
   pub may_work_again : (c : Regain) → IsRegain f g c → (s c.site).status ≡ Recovering → c.boot ≡ (s c.site).cell.boots → MayWork g c.site c.view
-  may_work_again c regain recovering boot to w u k log a in' =
-      let vote : IsVote f g c.site w u k log a = holds.said c.site to _ in' in
-      let old = (holds.sites c.site).hears.no_vote recovering w a (voted to u k log in') in
+  may_work_again c regain recovering boot to msg in' =
+      let vote : IsVote f g c.site msg = holds.said c.site to _ in' in
+      let old = (holds.sites c.site).hears.no_vote recovering msg.view msg.known (voted to msg.last_normal msg.done msg.rows in') in
       let own = vote.backed.own in
-      above f g (λ j. (holds.sites j).hears.ordered) holds.regains w vote.backed.votes (λ l b v. (told_by l w b v).lived) c regain vote.backed.among (omega arith)
+      above f g (λ j. (holds.sites j).hears.ordered) holds.regains msg.view vote.backed.votes (λ l b v. (told_by l msg.view b v).lived) c regain vote.backed.among (omega arith)
 
   module _ (me : ℕ) (recovering : (s me).status ≡ Recovering) (responses : List (Response C)) (same : (s me).collected.responses ≡ responses) (regained : Regained C) (right : IsRegained f responses regained) where
-    kept : (a : Response C) → Contains responses a → (a.from ≢ me) × Contains g.said (mail a.from me (RecoveryResponse a.view (nonce_of (s me)) a.state a.known))
+    kept : (a : Response C) → Contains responses a → (a.from ≢ me) × Contains g.said (mail a.from me (RecoveryResponse (answer_by (nonce_of (s me)) a)))
     kept a in' = (holds.sites me).responses (nonce_of (s me)) (recovers_now (s me) recovering) a (subst (λ (l : List (Response C)). Contains l a) (sym same) in')
 
     current : (a : Response C) → Contains responses a → IsKeptResponse (s me).known a

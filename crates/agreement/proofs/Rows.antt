@@ -13,6 +13,9 @@ use Rattle.vr_types.specs.declared.limits.TheConstants.{MAX_ROWS}
 use Rattle.vr_types.specs.declared.message.EnvelopeOf.{EnvelopeOf}
 use Rattle.vr_types.specs.declared.message.MsgOf.{MsgOf}
 use Rattle.vr_types.specs.declared.message.MsgOf.TheVariants.{Request, Prepare, PrepareOk, Commit, StartViewChange, DoViewChange, StartView, GetState, NewState, Recovery, RecoveryResponse, Reply, PayOrder}
+use Rattle.vr_types.specs.declared.message.PrepareOf.{PrepareOf}
+use Rattle.vr_types.specs.declared.message.StartViewOf.{StartViewOf}
+use Rattle.vr_types.specs.declared.message.NewStateOf.{NewStateOf}
 use Rattle.vr_types.specs.declared.row.RowOf.{RowOf}
 use Rattle.vr_types.specs.Group.{others, primary, mail, to_all}
 use Rattle.vr_types.specs.Rows.{newest, last_of}
@@ -91,28 +94,28 @@ module _ {C R O : Type 0} (P : RowOf C → Type 0) where
         rows_if (not (primary f x.view == me)) (λ _. same x h _ refl refl) (λ _.
         rows_if (nat_lt (newest x.log row.client) row.number)
         (λ _. rows_if (length x.log == MAX_ROWS) (λ _. same x h _ refl refl)
-        (λ _. told (with_row row x) (row_kept P x h row p) _ (sends_to_all f me (Prepare x.view (length x.log + 1) x.done row) p)))
+        (λ _. told (with_row row x) (row_kept P x h row p) _ (sends_to_all f me (Prepare (record { view = x.view; place = length x.log + 1; done = x.done; row = row })) p)))
         (λ _. again_rows row.number (newest x.log row.client) (last_of (take x.done x.log) row.client))))
 
-    prepares_rows : (place k : ℕ) (row : RowOf C) → P row → HasRows P (prepares {R = R} {O = O} f me x place k row)
-    prepares_rows place k row p = by_place (place == length x.log + 1)
+    prepares_rows : (msg : PrepareOf C) → P msg.row → HasRows P (prepares {R = R} {O = O} f me x msg)
+    prepares_rows msg p = by_place (msg.place == length x.log + 1)
       where
-        from_site : (y : Site C) → Keeps P y → HasRows P (does {C = C} {R = R} {O = O} y (if nat_lt (length x.log + 1) place then asks_state f me x.view (length x.log) else acknowledges_all f me y))
-        from_site y kept = told y kept _ (sends_if (nat_lt (length x.log + 1) place) _ _ (asks_rows x.view (length x.log)) (acknowledges_rows y))
+        from_site : (y : Site C) → Keeps P y → HasRows P (does {C = C} {R = R} {O = O} y (if nat_lt (length x.log + 1) msg.place then asks_state f me x.view (length x.log) else acknowledges_all f me y))
+        from_site y kept = told y kept _ (sends_if (nat_lt (length x.log + 1) msg.place) _ _ (asks_rows x.view (length x.log)) (acknowledges_rows y))
 
         by_place : (b : Bool) → HasRows P (
-            let y = executed_to k (if b then with_row row x else x) in
-            does {C = C} {R = R} {O = O} y (if nat_lt (length x.log + 1) place then asks_state f me x.view (length x.log) else acknowledges_all f me y))
-        by_place true = from_site (executed_to k (with_row row x)) (executed_rows_kept P (with_row row x) (row_kept P x h row p) k)
-        by_place false = from_site (executed_to k x) (executed_rows_kept P x h k)
+            let y = executed_to msg.done (if b then with_row msg.row x else x) in
+            does {C = C} {R = R} {O = O} y (if nat_lt (length x.log + 1) msg.place then asks_state f me x.view (length x.log) else acknowledges_all f me y))
+        by_place true = from_site (executed_to msg.done (with_row msg.row x)) (executed_rows_kept P (with_row msg.row x) (row_kept P x h msg.row p) msg.done)
+        by_place false = from_site (executed_to msg.done x) (executed_rows_kept P x h msg.done)
 
-    prepare_rows : (from w place k : ℕ) (row : RowOf C) → P row → HasRows P (on_prepare {R = R} {O = O} f me x from w place k row)
+    prepare_rows : (from : ℕ) (msg : PrepareOf C) → P msg.row → HasRows P (on_prepare {R = R} {O = O} f me x from msg)
     unfolding on_prepare
-    prepare_rows from w place k row p =
-        rows_if (not (primary f w == from)) (λ _. same x h _ refl refl) (λ _.
+    prepare_rows from msg p =
+        rows_if (not (primary f msg.view == from)) (λ _. same x h _ refl refl) (λ _.
         rows_if (is_recovering x.status) (λ _. same x h _ refl refl) (λ _.
-        rows_if (nat_lt w x.view) (λ _. same x h _ refl refl) (λ _.
-        rows_if (nat_lt x.view w || is_change x.status) (λ _. told x h _ (asks_rows w x.done)) (λ _. prepares_rows place k row p))))
+        rows_if (nat_lt msg.view x.view) (λ _. same x h _ refl refl) (λ _.
+        rows_if (nat_lt x.view msg.view || is_change x.status) (λ _. told x h _ (asks_rows msg.view x.done)) (λ _. prepares_rows msg p))))
 
     commit_rows : (from w k : ℕ) → HasRows P (on_commit {R = R} {O = O} f me x from w k)
     unfolding on_commit
@@ -183,7 +186,7 @@ module _ {C R O : Type 0} (P : RowOf C → Type 0) where
           let all = picked_rows P f choose right part.site k.site many in
           record {
             site = normal_rows P part.site k.site part.site.view (choose.most_done part.site.collected.votes) (choose.pick part.site.collected.votes).log all;
-            sent = sends_both part.sent _ k.sent (sends_to_all f me (StartView part.site.view (executed_to (choose.most_done part.site.collected.votes) (normal_in part.site.view (choose.pick part.site.collected.votes).log part.site)).done (choose.pick part.site.collected.votes).log) all);
+            sent = sends_both part.sent _ k.sent (sends_to_all f me (StartView (record { view = part.site.view; done = (executed_to (choose.most_done part.site.collected.votes) (normal_in part.site.view (choose.pick part.site.collected.votes).log part.site)).done; rows = (choose.pick part.site.collected.votes).log })) all);
           }))
 
       start_view_change_rows : (w : ℕ) (start : Start) → HasRows P (on_start_view_change {R = R} {O = O} choose f me x w start)
@@ -220,13 +223,13 @@ module _ {C R O : Type 0} (P : RowOf C → Type 0) where
           from_site y kept = rows_if (begins_with_executed choose.same x log)
               (λ _. told y kept _ (sends_if (nat_lt y.done (length y.log)) _ _ (acknowledges_rows f me x h y) sends_none)) (λ _. same x h _ refl refl)
 
-      start_view_rows : (from w k : ℕ) (log : List (RowOf C)) → All P log → HasRows P (on_start_view {R = R} {O = O} choose f me x from w k log)
+      start_view_rows : (from : ℕ) (msg : StartViewOf C) → All P msg.rows → HasRows P (on_start_view {R = R} {O = O} choose f me x from msg)
       unfolding on_start_view
-      start_view_rows from w k log all =
-          rows_if (not (primary f w == from)) (λ _. same x h _ refl refl) (λ _.
+      start_view_rows from msg all =
+          rows_if (not (primary f msg.view == from)) (λ _. same x h _ refl refl) (λ _.
           rows_if (is_recovering x.status) (λ _. same x h _ refl refl) (λ _.
-          rows_if (nat_lt w x.view) (λ _. same x h _ refl refl) (λ _.
-          rows_if (is_normal x.status && (w == x.view)) (λ _. same x h _ refl refl) (λ _. taken_rows w k log all))))
+          rows_if (nat_lt msg.view x.view) (λ _. same x h _ refl refl) (λ _.
+          rows_if (is_normal x.status && (msg.view == x.view)) (λ _. same x h _ refl refl) (λ _. taken_rows msg.view msg.done msg.rows all))))
 
       timer_rows : HasRows P (on_timer {R = R} {O = O} f me x)
       unfolding on_timer
@@ -252,17 +255,17 @@ module _ {C R O : Type 0} (P : RowOf C → Type 0) where
           rows_if (nat_lt (length x.log) base) (λ _. same x h _ refl refl) (λ _.
           told x h _ (sends_one _ (All-drop P base x.log h.log))))))
 
-      new_state_rows : (from w base k : ℕ) (rows : List (RowOf C)) → All P rows → HasRows P (on_new_state {R = R} {O = O} choose f me x from w base k rows)
+      new_state_rows : (from : ℕ) (msg : NewStateOf C) → All P msg.rows → HasRows P (on_new_state {R = R} {O = O} choose f me x from msg)
       unfolding on_new_state
-      new_state_rows from w base k rows all =
-          let both = All-append P (take base x.log) rows (All-take P base x.log h.log) all in
-          rows_if (not (primary f w == from)) (λ _. same x h _ refl refl) (λ _.
+      new_state_rows from msg all =
+          let both = All-append P (take msg.base x.log) msg.rows (All-take P msg.base x.log h.log) all in
+          rows_if (not (primary f msg.view == from)) (λ _. same x h _ refl refl) (λ _.
           rows_if (is_recovering x.status) (λ _. same x h _ refl refl) (λ _.
-          rows_if (nat_lt w x.view) (λ _. same x h _ refl refl) (λ _.
-          rows_if (nat_lt MAX_ROWS (base + length rows)) (λ _. same x h _ refl refl) (λ _.
-          rows_if (is_normal x.status && (w == x.view))
-          (λ _. rows_if (nat_le base (length x.log) && nat_lt (length x.log) (base + length rows)) (λ _. taken_rows w k _ both) (λ _. same x h _ refl refl))
-          (λ _. rows_if (nat_le base x.done && nat_le x.done (base + length rows)) (λ _. taken_rows w k _ both) (λ _. same x h _ refl refl))))))
+          rows_if (nat_lt msg.view x.view) (λ _. same x h _ refl refl) (λ _.
+          rows_if (nat_lt MAX_ROWS (msg.base + length msg.rows)) (λ _. same x h _ refl refl) (λ _.
+          rows_if (is_normal x.status && (msg.view == x.view))
+          (λ _. rows_if (nat_le msg.base (length x.log) && nat_lt (length x.log) (msg.base + length msg.rows)) (λ _. taken_rows msg.view msg.done _ both) (λ _. same x h _ refl refl))
+          (λ _. rows_if (nat_le msg.base x.done && nat_le x.done (msg.base + length msg.rows)) (λ _. taken_rows msg.view msg.done _ both) (λ _. same x h _ refl refl))))))
 
       -- recovery
 
@@ -273,7 +276,7 @@ module _ {C R O : Type 0} (P : RowOf C → Type 0) where
           rows_if (nat_lt nonce (boot_of x.known from)) (λ _. same x h _ refl refl) (λ _.
           let y = notes from nonce x in
           told y (record { log = h.log; votes = h.votes; responses = h.responses }) _
-          (sends_one (mail me from (RecoveryResponse y.view nonce (state_of_view f me y) y.known)) (state_rows P x h (primary f x.view == me)))))
+          (sends_one (mail me from (RecoveryResponse (record { view = y.view; nonce = nonce; state = state_of_view f me y; known = y.known }))) (state_rows P x h (primary f x.view == me)))))
 
       regains_rows : (y : Site C) → Keeps P y → (regained : Option (Regained C))
           → MatchOption regained ((r : Regained C) → ¬ IsRegained f y.collected.responses r) (IsRegained f y.collected.responses) → HasRows P (regains {R = R} {O = O} y regained)
@@ -305,16 +308,16 @@ module _ {C R O : Type 0} (P : RowOf C → Type 0) where
 
       message_rows : (actor : ℕ) (msg : MsgOf C R O) → RowsAre P msg → ((number : ℕ) (cmd : C) → msg ≡ Request number cmd → P (record { client = actor; number = number; cmd = cmd })) → HasRows P (on_message choose f me x actor msg)
       message_rows actor (Request number cmd) rows asked = request_rows f me x h _ (asked number cmd refl)
-      message_rows actor (Prepare w place k row) rows asked = prepare_rows f me x h _ w place k row rows
+      message_rows actor (Prepare msg) rows asked = prepare_rows f me x h _ msg rows
       message_rows actor (PrepareOk w place) rows asked = prepare_ok_rows f me x h choose _ w place
       message_rows actor (Commit w k) rows asked = commit_rows f me x h _ w k
       message_rows actor (StartViewChange w known) rows asked = start_view_change_rows w _
-      message_rows actor (DoViewChange w last k log known) rows asked = do_view_change_rows w _ rows
-      message_rows actor (StartView w k log) rows asked = start_view_rows _ w k log rows
+      message_rows actor (DoViewChange msg) rows asked = do_view_change_rows msg.view _ rows
+      message_rows actor (StartView msg) rows asked = start_view_rows _ msg rows
       message_rows actor (GetState w base) rows asked = get_state_rows _ w base
-      message_rows actor (NewState w base k more) rows asked = new_state_rows _ w base k more rows
+      message_rows actor (NewState msg) rows asked = new_state_rows _ msg rows
       message_rows actor (Recovery nonce) rows asked = recovery_rows _ nonce
-      message_rows actor (RecoveryResponse w nonce state known) rows asked = recovery_response_rows nonce _ rows
+      message_rows actor (RecoveryResponse msg) rows asked = recovery_response_rows msg.nonce _ rows
       message_rows actor (Reply view number reply) rows asked = same x h _ refl refl
       message_rows actor (PayOrder order) rows asked = same x h _ refl refl
 

@@ -60,7 +60,7 @@ module _ {C R O : Type 0} (f : ℕ) (g : History C R O) (s : ℕ → Site C) (me
             at_view = record {
               lived = lived_higher g me (s me).view w (s me).known _ low r.at_view.lived;
               votes = λ v a p e. (let h = r.at_view.votes v a p e in omega arith);
-              promised = λ to v u n rows a in'. (let h = r.at_view.promised to v u n rows a in' in omega arith);
+              promised = λ to msg in'. (let h = r.at_view.promised to msg in' in omega arith);
               answers = r.at_view.answers;
               starts = λ e. absurd (let e' : Normal ≡ Change = e in cc);
               backed = λ e. absurd (let e' : Normal ≡ Change = e in cc);
@@ -154,7 +154,7 @@ module _ {C R O : Type 0} (f : ℕ) (g : History C R O) (s : ℕ → Site C) (me
       kept_after f g s holds me recovering responses same regained right _
       (regained_then regained_holds' (regained_holds'.said _ _ _ said.1) (λ e. said.0 (sym e)))
     where
-      said : (primary f regained.view ≢ me) × Contains g.said (mail (primary f regained.view) me (RecoveryResponse regained.view (nonce_of (s me)) (Some regained.state) right.known))
+      said : (primary f regained.view ≢ me) × Contains g.said (mail (primary f regained.view) me (RecoveryResponse (record { view = regained.view; nonce = nonce_of (s me); state = Some regained.state; known = right.known })))
       said = (holds.sites me).responses (nonce_of (s me)) (recovers_now (s me) recovering) _
           (subst (λ (l : List (Response C)). Contains l (record { from = primary f regained.view; view = regained.view; state = Some regained.state; known = right.known })) (sym same) right.answered)
 
@@ -170,7 +170,7 @@ module _ {C R O : Type 0} (f : ℕ) (g : History C R O) (s : ℕ → Site C) (me
       lived : HasLived h me regained.view (s me).known (length h.regains)
       lived = again c (Contains-here c g.regains) refl (sym ((holds.sites me).hears.own (ap is_down recovering))) (omega arith) (λ k. omega arith) (omega arith)
 
-      regained_then : Holds f h s → IsVouched f h s (primary f regained.view) me (RecoveryResponse regained.view (nonce_of (s me)) (Some regained.state) right.known) → me ≢ primary f regained.view
+      regained_then : Holds f h s → IsVouched f h s (primary f regained.view) me (RecoveryResponse (record { view = regained.view; nonce = nonce_of (s me); state = Some regained.state; known = right.known })) → me ≢ primary f regained.view
           → Kept f h s me (regains (s me) (Some regained))
       regained_then later vouched apart =
           let a = vouched.1 in
@@ -235,5 +235,5 @@ module _ {C R O : Type 0} (f : ℕ) (g : History C R O) (s : ℕ → Site C) (me
       no_vote w a (inr n) = absurd (true≢false (sym n.running))
 
       no_answer : (to w n : ℕ) (a : List ℕ) → Answered g me to w n a ⊎ (IsNow y w a × (n ≤ boot_of y.known to)) → boot_of a me < boots
-      no_answer to w n a (inl v) = let vouched : IsVouched f g s me to (RecoveryResponse w n v.state a) = holds.said me to _ v.said in was _ (vouched.2.boots me)
+      no_answer to w n a (inl v) = let vouched : IsVouched f g s me to (RecoveryResponse (record { view = w; nonce = n; state = v.state; known = a })) = holds.said me to _ v.said in was _ (vouched.2.boots me)
       no_answer to w n a (inr is) = absurd (true≢false (sym is.0.running))

@@ -179,12 +179,12 @@ module _ {C : Type 0} (R O : Type 0) (choose : Choice C) (f me : ℕ) (x : Site 
   used_fresh responses actor (StartViewChange w known) up e =
       let h = start_keeps w (record { from = site_of actor; known = known }) up e in
       (fresh_by (λ vote. vote.from) (λ vote. vote.known) (greater x.known known) _ (λ v in'. (h v in').within) (λ v in'. (h v in').current), none_fresh (λ response. response.from) (λ response. response.known))
-  used_fresh responses actor (DoViewChange w last_normal k log known) up e =
-      let h = vote_keeps w (record { from = site_of actor; last_normal = last_normal; done = k; log = log; known = known }) up e in
-      (fresh_by (λ vote. vote.from) (λ vote. vote.known) (greater x.known known) _ (λ v in'. (h v in').within) (λ v in'. (h v in').current), none_fresh (λ response. response.from) (λ response. response.known))
-  used_fresh responses actor (RecoveryResponse w nonce state known) up e =
-      let h = response_keeps responses nonce (record { from = site_of actor; view = w; state = state; known = known }) e in
-      (none_fresh (λ vote. vote.from) (λ vote. vote.known), fresh_by (λ response. response.from) (λ response. response.known) (greater x.known known) _ (λ r in'. (h r in').within) (λ r in'. (h r in').current))
+  used_fresh responses actor (DoViewChange msg) up e =
+      let h = vote_keeps msg.view (record { from = site_of actor; last_normal = msg.last_normal; done = msg.done; log = msg.rows; known = msg.known }) up e in
+      (fresh_by (λ vote. vote.from) (λ vote. vote.known) (greater x.known msg.known) _ (λ v in'. (h v in').within) (λ v in'. (h v in').current), none_fresh (λ response. response.from) (λ response. response.known))
+  used_fresh responses actor (RecoveryResponse msg) up e =
+      let h = response_keeps responses msg.nonce (record { from = site_of actor; view = msg.view; state = msg.state; known = msg.known }) e in
+      (none_fresh (λ vote. vote.from) (λ vote. vote.known), fresh_by (λ response. response.from) (λ response. response.known) (greater x.known msg.known) _ (λ r in'. (h r in').within) (λ r in'. (h r in').current))
   used_fresh responses actor _ up e = (none_fresh (λ vote. vote.from) (λ vote. vote.known), none_fresh (λ response. response.from) (λ response. response.known))
 
 -- a message that is handled is not refused, and its site is up

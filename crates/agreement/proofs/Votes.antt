@@ -4,7 +4,9 @@ use Rattle.std.specs.Prelude.{Contains}
 use Rattle.vr_types.specs.declared.cell.Boot.{Boot}
 use Rattle.vr_types.specs.declared.event.Status.{Status}
 use Rattle.vr_types.specs.declared.event.Status.TheVariants.{Change, Recovering}
+use Rattle.vr_types.specs.declared.message.DoViewChangeOf.{DoViewChangeOf}
 use Rattle.vr_types.specs.declared.message.MsgOf.TheVariants.{StartViewChange, DoViewChange, Recovery, RecoveryResponse}
+use Rattle.vr_types.specs.declared.message.RecoveryResponseOf.{RecoveryResponseOf}
 use Rattle.vr_types.specs.declared.message.StateOf.{StateOf}
 use Rattle.vr_types.specs.declared.row.RowOf.{RowOf}
 use Rattle.vr_types.specs.Group.{sites, mail}
@@ -14,15 +16,19 @@ use Rattle.vr_types.proofs.Vectors.{Within}
 
 -- WHAT WAS SAID
 
+-- the RECOVERYRESPONSE to a nonce that gives a response
+abbrev pub answer_by : {C : Type 0} → ℕ → Response C → RecoveryResponseOf C
+answer_by nonce response = record { view = response.view; nonce = nonce; state = response.state; known = response.known }
+
 -- site j spoke for view w, knowing this
 pub data Voted {C R O : Type 0} (g : History C R O) (j w : ℕ) (known : List ℕ) : Type 0 where
   started : (to : ℕ) → Contains g.said (mail j to (StartViewChange w known)) → Voted g j w known
-  voted : (to u k : ℕ) (log : List (RowOf C)) → Contains g.said (mail j to (DoViewChange w u k log known)) → Voted g j w known
+  voted : (to u k : ℕ) (log : List (RowOf C)) → Contains g.said (mail j to (DoViewChange (record { view = w; last_normal = u; done = k; rows = log; known = known }))) → Voted g j w known
 
 -- site j answered a restart of another site, in view w, knowing this
 pub record Answered {C R O : Type 0} (g : History C R O) (j to w nonce : ℕ) (known : List ℕ) : Type 0 where
   pub state : Option (StateOf C)
-  pub said : Contains g.said (mail j to (RecoveryResponse w nonce state known))
+  pub said : Contains g.said (mail j to (RecoveryResponse (record { view = w; nonce = nonce; state = state; known = known })))
 
 -- it is no boot number of site k, or one with which it has asked
 pub data WasBoot {C R O : Type 0} (g : History C R O) (k boot : ℕ) : Type 0 where
@@ -97,7 +103,7 @@ pub record IsKeptStart {C R O : Type 0} (g : History C R O) (view : ℕ) (known 
 pub record Takes {C R O : Type 0} (f : ℕ) (g : History C R O) (j : ℕ) (status : Status) (view boots : ℕ) (known : List ℕ) (kept : List Start) (made : Bool) : Type 0 where
   pub lived : HasLived g j view known (length g.regains)
   pub votes : (w : ℕ) (a : List ℕ) → Voted g j w a → boot_of a j ≡ boots → w ≤ view
-  pub promised : (to w u k : ℕ) (log : List (RowOf C)) (a : List ℕ) → Contains g.said (mail j to (DoViewChange w u k log a)) → w ≤ view
+  pub promised : (to : ℕ) (msg : DoViewChangeOf C) → Contains g.said (mail j to (DoViewChange msg)) → msg.view ≤ view
   pub answers : (to w x : ℕ) (a : List ℕ) → Answered g j to w x a → boot_of a j ≡ boots → x ≤ boot_of known to
   pub starts : status ≡ Change → (a : Start) → Contains kept a → IsKeptStart g view known a
   pub backed : status ≡ Change → made ≡ true → IsBacked f g j view boots
@@ -117,7 +123,7 @@ pub record IsKeptVote {C : Type 0} (known : List ℕ) (a : Vote C) : Type 0 wher
 
 -- the site may be normal in this view from now on: it has voted for none above it
 abbrev pub MayWork : {C R O : Type 0} → History C R O → ℕ → ℕ → Type 0
-MayWork {C} g j view = (to w u k : ℕ) (log : List (RowOf C)) (a : List ℕ) → Contains g.said (mail j to (DoViewChange w u k log a)) → w ≤ view
+MayWork {C} g j view = (to : ℕ) (msg : DoViewChangeOf C) → Contains g.said (mail j to (DoViewChange msg)) → msg.view ≤ view
 
 -- RESTARTS
 

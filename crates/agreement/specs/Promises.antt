@@ -6,6 +6,7 @@ use Rattle.vr_types.specs.declared.event.EventOf.TheVariants.{Deliver}
 use Rattle.vr_types.specs.declared.event.Status.TheVariants.{Normal, Change, Recovering}
 use Rattle.vr_types.specs.declared.machine.Machine.{Ghosts}
 use Rattle.vr_types.specs.declared.message.EnvelopeOf.{EnvelopeOf}
+use Rattle.vr_types.specs.declared.message.DoViewChangeOf.{DoViewChangeOf}
 use Rattle.vr_types.specs.declared.message.MsgOf.{MsgOf}
 use Rattle.vr_types.specs.declared.message.MsgOf.TheVariants.{Request, Prepare, PrepareOk, Commit, StartViewChange, DoViewChange, StartView, GetState, NewState, Recovery, RecoveryResponse, Reply, PayOrder}
 use Rattle.vr_types.specs.declared.row.RowOf.{RowOf}
@@ -69,9 +70,8 @@ CollectedAreFresh {C} world =
 -- a site that ever sent a DOVIEWCHANGE runs in no view below it, whether or not it restarted since
 abbrev pub VotesBind : {C R O : Type 0} → World C R O → Type 0
 VotesBind {C} {R} {O} world =
-    (i to w last_normal done : ℕ) (rows : List (RowOf C)) (known : List ℕ) (x : Site C)
-    → Contains world.sent (mail i to (DoViewChange w last_normal done rows known))
-    → slice_get world.sites i ≡ Some x → is_running x.status ≡ true → w ≤ x.view
+    (i to : ℕ) (msg : DoViewChangeOf C) (x : Site C) → Contains world.sent (mail i to (DoViewChange msg))
+    → slice_get world.sites i ≡ Some x → is_running x.status ≡ true → msg.view ≤ x.view
 
 -- WHAT CLIENTS ARE TOLD
 
@@ -148,16 +148,16 @@ pub record WasAsked {C R O : Type 0} (events : List (Happening C R O))
 -- the rows that a message between sites has
 abbrev pub RowsAre : {C R O : Type 0} → (RowOf C → Type 0) → MsgOf C R O → Type 0
 RowsAre P (Request number cmd) = ⊤
-RowsAre P (Prepare view place done row) = P row
+RowsAre P (Prepare msg) = P msg.row
 RowsAre P (PrepareOk view place) = ⊤
 RowsAre P (Commit view done) = ⊤
 RowsAre P (StartViewChange view known) = ⊤
-RowsAre P (DoViewChange view last_normal done rows known) = All P rows
-RowsAre P (StartView view done rows) = All P rows
+RowsAre P (DoViewChange msg) = All P msg.rows
+RowsAre P (StartView msg) = All P msg.rows
 RowsAre P (GetState view base) = ⊤
-RowsAre P (NewState view base done rows) = All P rows
+RowsAre P (NewState msg) = All P msg.rows
 RowsAre P (Recovery nonce) = ⊤
-RowsAre P (RecoveryResponse view nonce state known) = All P (rows_of_state state)
+RowsAre P (RecoveryResponse msg) = All P (rows_of_state msg.state)
 RowsAre P (Reply view number reply) = ⊤
 RowsAre P (PayOrder order) = ⊤
 

@@ -11,6 +11,9 @@ use Rattle.vr_types.specs.declared.limits.TheConstants.{MAX_ROWS}
 use Rattle.vr_types.specs.declared.message.EnvelopeOf.{EnvelopeOf}
 use Rattle.vr_types.specs.declared.message.MsgOf.{MsgOf}
 use Rattle.vr_types.specs.declared.message.MsgOf.TheVariants.{Request, Prepare, PrepareOk, Commit, StartViewChange, DoViewChange, StartView, GetState, NewState, Recovery, RecoveryResponse, Reply, PayOrder}
+use Rattle.vr_types.specs.declared.message.PrepareOf.{PrepareOf}
+use Rattle.vr_types.specs.declared.message.StartViewOf.{StartViewOf}
+use Rattle.vr_types.specs.declared.message.NewStateOf.{NewStateOf}
 use Rattle.vr_types.specs.declared.row.RowOf.{RowOf}
 use Rattle.vr_types.specs.Group.{others, primary, mail, to_all}
 use Rattle.vr_types.specs.Rows.{newest, last_of}
@@ -83,21 +86,21 @@ module _ {C R O : Type 0} where
         by_if (not (is_normal x.status)) (silent _ refl) (
         by_if (not (primary f x.view == me)) (silent _ refl) (
         by_if (nat_lt (newest x.log row.client) row.number)
-        (by_if (length x.log == MAX_ROWS) (silent _ refl) (told (with_row row x) _ (all f me (Prepare x.view (length x.log + 1) x.done row) refl)))
+        (by_if (length x.log == MAX_ROWS) (silent _ refl) (told (with_row row x) _ (all f me (Prepare (record { view = x.view; place = length x.log + 1; done = x.done; row = row })) refl)))
         (again row.number (newest x.log row.client) (last_of (take x.done x.log) row.client))))
 
-    prepares_between : (place k : ℕ) (row : RowOf C) → SendsBetween (prepares {R = R} {O = O} f me x place k row)
-    prepares_between place k row =
-        told (executed_to k (with_next place row x)) _
-        (either (nat_lt (length x.log + 1) place) _ _ (asks x.view (length x.log)) (acknowledges (executed_to k (with_next place row x))))
+    prepares_between : (msg : PrepareOf C) → SendsBetween (prepares {R = R} {O = O} f me x msg)
+    prepares_between msg =
+        told (executed_to msg.done (with_next msg.place msg.row x)) _
+        (either (nat_lt (length x.log + 1) msg.place) _ _ (asks x.view (length x.log)) (acknowledges (executed_to msg.done (with_next msg.place msg.row x))))
 
-    prepare : (from w place k : ℕ) (row : RowOf C) → SendsBetween (on_prepare {R = R} {O = O} f me x from w place k row)
+    prepare : (from : ℕ) (msg : PrepareOf C) → SendsBetween (on_prepare {R = R} {O = O} f me x from msg)
     unfolding on_prepare
-    prepare from w place k row =
-        by_if (not (primary f w == from)) (silent _ refl) (
+    prepare from msg =
+        by_if (not (primary f msg.view == from)) (silent _ refl) (
         by_if (is_recovering x.status) (silent _ refl) (
-        by_if (nat_lt w x.view) (silent _ refl) (
-        by_if (nat_lt x.view w || is_change x.status) (told x _ (asks w x.done)) (prepares_between place k row))))
+        by_if (nat_lt msg.view x.view) (silent _ refl) (
+        by_if (nat_lt x.view msg.view || is_change x.status) (told x _ (asks msg.view x.done)) (prepares_between msg))))
 
     commit : (from w k : ℕ) → SendsBetween (on_commit {R = R} {O = O} f me x from w k)
     unfolding on_commit
@@ -157,7 +160,7 @@ module _ {C R O : Type 0} where
       opens part k =
           by_if (not (is_to_open f me part.site)) (record { sent = k.sent }) (
           by_if (not (begins_with_executed choose.same part.site (choose.pick part.site.collected.votes).log)) (silent _ refl)
-          (record { sent = both part.sent _ k.sent (all f me (StartView part.site.view (executed_to (choose.most_done part.site.collected.votes) (normal_in part.site.view (choose.pick part.site.collected.votes).log part.site)).done (choose.pick part.site.collected.votes).log) refl) }))
+          (record { sent = both part.sent _ k.sent (all f me (StartView (record { view = part.site.view; done = (executed_to (choose.most_done part.site.collected.votes) (normal_in part.site.view (choose.pick part.site.collected.votes).log part.site)).done; rows = (choose.pick part.site.collected.votes).log })) refl) }))
 
       start_view_change : (w : ℕ) (start : Start) → SendsBetween (on_start_view_change {R = R} {O = O} choose f me x w start)
       unfolding on_start_view_change
@@ -189,13 +192,13 @@ module _ {C R O : Type 0} where
           by_if (begins_with_executed choose.same x log)
           (told y _ (either (nat_lt y.done (length y.log)) _ _ (acknowledges f me x y) none)) (silent _ refl)
 
-      start_view : (from w k : ℕ) (log : List (RowOf C)) → SendsBetween (on_start_view {R = R} {O = O} choose f me x from w k log)
+      start_view : (from : ℕ) (msg : StartViewOf C) → SendsBetween (on_start_view {R = R} {O = O} choose f me x from msg)
       unfolding on_start_view
-      start_view from w k log =
-          by_if (not (primary f w == from)) (silent _ refl) (
+      start_view from msg =
+          by_if (not (primary f msg.view == from)) (silent _ refl) (
           by_if (is_recovering x.status) (silent _ refl) (
-          by_if (nat_lt w x.view) (silent _ refl) (
-          by_if (is_normal x.status && (w == x.view)) (silent _ refl) (taken w k log))))
+          by_if (nat_lt msg.view x.view) (silent _ refl) (
+          by_if (is_normal x.status && (msg.view == x.view)) (silent _ refl) (taken msg.view msg.done msg.rows))))
 
       timer : SendsBetween (on_timer {R = R} {O = O} f me x)
       unfolding on_timer
@@ -217,16 +220,16 @@ module _ {C R O : Type 0} where
           by_if (not (primary f x.view == me)) (silent _ refl) (
           by_if (nat_lt (length x.log) base) (silent _ refl) (told x _ (one _ refl)))))
 
-      new_state : (from w base k : ℕ) (rows : List (RowOf C)) → SendsBetween (on_new_state {R = R} {O = O} choose f me x from w base k rows)
+      new_state : (from : ℕ) (msg : NewStateOf C) → SendsBetween (on_new_state {R = R} {O = O} choose f me x from msg)
       unfolding on_new_state
-      new_state from w base k rows =
-          by_if (not (primary f w == from)) (silent _ refl) (
+      new_state from msg =
+          by_if (not (primary f msg.view == from)) (silent _ refl) (
           by_if (is_recovering x.status) (silent _ refl) (
-          by_if (nat_lt w x.view) (silent _ refl) (
-          by_if (nat_lt MAX_ROWS (base + length rows)) (silent _ refl) (
-          by_if (is_normal x.status && (w == x.view))
-          (by_if (nat_le base (length x.log) && nat_lt (length x.log) (base + length rows)) (taken w k _) (silent _ refl))
-          (by_if (nat_le base x.done && nat_le x.done (base + length rows)) (taken w k _) (silent _ refl))))))
+          by_if (nat_lt msg.view x.view) (silent _ refl) (
+          by_if (nat_lt MAX_ROWS (msg.base + length msg.rows)) (silent _ refl) (
+          by_if (is_normal x.status && (msg.view == x.view))
+          (by_if (nat_le msg.base (length x.log) && nat_lt (length x.log) (msg.base + length msg.rows)) (taken msg.view msg.done _) (silent _ refl))
+          (by_if (nat_le msg.base x.done && nat_le x.done (msg.base + length msg.rows)) (taken msg.view msg.done _) (silent _ refl))))))
 
       -- recovery
 
@@ -236,7 +239,7 @@ module _ {C R O : Type 0} where
           by_if (not (is_normal x.status)) (silent _ refl) (
           by_if (nat_lt nonce (boot_of x.known from)) (silent _ refl) (
           let y = notes from nonce x in
-          told y _ (one (mail me from (RecoveryResponse y.view nonce (state_of_view f me y) y.known)) refl)))
+          told y _ (one (mail me from (RecoveryResponse (record { view = y.view; nonce = nonce; state = state_of_view f me y; known = y.known }))) refl)))
 
       regains_between : (y : Site C) (regained : Option (Regained C)) → SendsBetween (regains {R = R} {O = O} y regained)
       regains_between y None = silent _ refl
@@ -264,16 +267,16 @@ module _ {C R O : Type 0} where
 
       message : (actor : ℕ) (msg : MsgOf C R O) → SendsBetween (on_message choose f me x actor msg)
       message actor (Request number cmd) = request f me x _
-      message actor (Prepare w place k row) = prepare f me x _ w place k row
+      message actor (Prepare msg) = prepare f me x _ msg
       message actor (PrepareOk w place) = prepare_ok f me x choose _ w place
       message actor (Commit w k) = commit f me x _ w k
       message actor (StartViewChange w known) = start_view_change w _
-      message actor (DoViewChange w last k log known) = do_view_change w _
-      message actor (StartView w k log) = start_view _ w k log
+      message actor (DoViewChange msg) = do_view_change msg.view _
+      message actor (StartView msg) = start_view _ msg
       message actor (GetState w base) = get_state _ w base
-      message actor (NewState w base k more) = new_state _ w base k more
+      message actor (NewState msg) = new_state _ msg
       message actor (Recovery nonce) = recovery _ nonce
-      message actor (RecoveryResponse w nonce state known) = recovery_response nonce _
+      message actor (RecoveryResponse msg) = recovery_response msg.nonce _
       message actor (Reply view number reply) = silent _ refl
       message actor (PayOrder order) = silent _ refl
 

@@ -11,7 +11,7 @@ use std::test::Fail;
 use std::thread;
 use std::time::{Clock, Duration};
 use vr_site::Replica;
-use vr_types::{EventOf, MemCell, MsgOf};
+use vr_types::{EventOf, MemCell, MsgOf, PrepareOf};
 
 /// A player that does nothing.
 #[derive(Drop)]
@@ -123,7 +123,7 @@ fn reply_is_real(rt: HostRuntime) -> Result<(), Fail> {
     };
     let mut found = 0u32;
     for envelope in Replica::<Book, MemCell>::sent(&outcome) {
-        if let MsgOf::Prepare { row, .. } = &envelope.msg {
+        if let MsgOf::Prepare(PrepareOf { row, .. }) = &envelope.msg {
             assert!(&rt; row.client == 102 && row.number == number && row.cmd == cmd);
             found = found.saturating_add(1);
         }

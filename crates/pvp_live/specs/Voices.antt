@@ -21,16 +21,16 @@ use Rattle.pvp_live.specs.declared.standing.Standing.TheVariants.{Up, Down, Rest
 -- a normal site alone sends what names its view, but for the two messages of a change of view; a GETSTATE names the view that is asked, which may be a later one
 abbrev pub said_by : {C R O : Type 0} → MsgOf C R O → Saying
 said_by (Request number cmd) = Nothing
-said_by (Prepare view place done row) = Normal view
+said_by (Prepare msg) = Normal msg.view
 said_by (PrepareOk view place) = Normal view
 said_by (Commit view done) = Normal view
 said_by (StartViewChange view known) = Asks view
-said_by (DoViewChange view last_normal done rows known) = Asks view
-said_by (StartView view done rows) = Normal view
+said_by (DoViewChange msg) = Asks msg.view
+said_by (StartView msg) = Normal msg.view
 said_by (GetState view base) = Runs
-said_by (NewState view base done rows) = Normal view
+said_by (NewState msg) = Normal msg.view
 said_by (Recovery nonce) = Nothing
-said_by (RecoveryResponse view nonce state known) = Normal view
+said_by (RecoveryResponse msg) = Normal msg.view
 said_by (Reply view number reply) = Normal view
 said_by (PayOrder order) = Runs
 

@@ -5,7 +5,7 @@ ghost use Rattle.pvp_live.specs.Voices.{said_by, heard_in, site_of};
 
 use pvp_wire::Message;
 use std::sync::atomic::{AtomicU64, Ordering};
-use vr_types::{FIRST_SITE, MsgOf};
+use vr_types::{FIRST_SITE, MsgOf, NewStateOf, PrepareOf, RecoveryResponseOf, StartViewOf};
 
 /// What a site's message says of where its sender stands.
 #[derive(Clone, Copy, Debug, PartialEq, Eq)]
@@ -25,15 +25,15 @@ pub fn said_by(msg: &Message) -> Saying
     ensures { result ≡ said_by msg.now }
 {
     match msg {
-        MsgOf::Prepare { view, .. }
+        MsgOf::Prepare(PrepareOf { view, .. })
         | MsgOf::PrepareOk { view, .. }
         | MsgOf::Commit { view, .. }
-        | MsgOf::StartView { view, .. }
-        | MsgOf::NewState { view, .. }
-        | MsgOf::RecoveryResponse { view, .. }
+        | MsgOf::StartView(StartViewOf { view, .. })
+        | MsgOf::NewState(NewStateOf { view, .. })
+        | MsgOf::RecoveryResponse(RecoveryResponseOf { view, .. })
         | MsgOf::Reply { view, .. } => Saying::Normal(*view),
         MsgOf::StartViewChange { view, .. } => Saying::Asks(*view),
-        MsgOf::DoViewChange { view, .. } => Saying::Asks(*view),
+        MsgOf::DoViewChange(msg) => Saying::Asks(msg.view),
         MsgOf::GetState { .. } | MsgOf::PayOrder(_) => Saying::Runs,
         MsgOf::Recovery { .. } | MsgOf::Request { .. } => Saying::Nothing,
     }

@@ -3,7 +3,10 @@ ghost use Rattle.std.specs.Prelude.{◌≡◌, ◌↔◌, IsTrue};
 
 use pvp_book::Book;
 use pvp_types::{Cmd, PayOrder, Reply};
-use vr_types::{Boot, Envelope, Known, Msg, MsgOf, Row, Rows, SiteFault, State, Why, is_same};
+use vr_types::{
+    Boot, DoViewChangeOf, Envelope, Known, Msg, MsgOf, NewStateOf, PrepareOf, RecoveryResponseOf,
+    Row, Rows, SiteFault, StartViewOf, State, Why, is_same,
+};
 
 /// Whether two commands are the same.
 pub fn same_cmd(a: Cmd, b: Cmd) -> bool
@@ -100,37 +103,16 @@ pub fn same_msg(a: &Msg<Book>, b: &Msg<Book>) -> bool
 {
     match a {
         MsgOf::Request { number, cmd } => is_request(*number, *cmd, b),
-        MsgOf::Prepare {
-            view,
-            place,
-            done,
-            row,
-        } => is_prepare(*view, *place, *done, *row, b),
+        MsgOf::Prepare(prepare) => is_prepare(prepare, b),
         MsgOf::PrepareOk { view, place } => is_prepare_ok(*view, *place, b),
         MsgOf::Commit { view, done } => is_commit(*view, *done, b),
         MsgOf::StartViewChange { view, known } => is_start_view_change(*view, known, b),
-        MsgOf::DoViewChange {
-            view,
-            last_normal,
-            done,
-            rows,
-            known,
-        } => is_do_view_change(*view, *last_normal, *done, rows, known, b),
-        MsgOf::StartView { view, done, rows } => is_start_view(*view, *done, rows, b),
+        MsgOf::DoViewChange(vote) => is_do_view_change(vote, b),
+        MsgOf::StartView(opening) => is_start_view(opening, b),
         MsgOf::GetState { view, base } => is_get_state(*view, *base, b),
-        MsgOf::NewState {
-            view,
-            base,
-            done,
-            rows,
-        } => is_new_state(*view, *base, *done, rows, b),
+        MsgOf::NewState(state) => is_new_state(state, b),
         MsgOf::Recovery { nonce } => is_recovery(*nonce, b),
-        MsgOf::RecoveryResponse {
-            view,
-            nonce,
-            state,
-            known,
-        } => is_recovery_response(*view, *nonce, state, known, b),
+        MsgOf::RecoveryResponse(response) => is_recovery_response(response, b),
         MsgOf::Reply {
             view,
             number,
@@ -151,16 +133,16 @@ fn is_request(number: u32, cmd: Cmd, msg: &Msg<Book>) -> bool
 }
 
 /// Whether a message is this PREPARE.
-fn is_prepare(view: u32, place: u16, done: u16, row: Row<Book>, msg: &Msg<Book>) -> bool
-    ensures { IsTrue result ↔ (MsgOf.Prepare view place done row ≡ msg.now) }
+fn is_prepare(prepare: &PrepareOf<Cmd>, msg: &Msg<Book>) -> bool
+    ensures { IsTrue result ↔ (MsgOf.Prepare prepare.now ≡ msg.now) }
 {
     match msg {
-        MsgOf::Prepare {
-            view: v,
-            place: p,
-            done: d,
-            row: r,
-        } => view == *v && place == *p && done == *d && same_row(row, *r),
+        MsgOf::Prepare(other) => {
+            prepare.view == other.view
+                && prepare.place == other.place
+                && prepare.done == other.done
+                && same_row(prepare.row, other.row)
+        }
         _ => false,
     }
 }
@@ -196,44 +178,31 @@ fn is_start_view_change(view: u32, known: &Known, msg: &Msg<Book>) -> bool
 }
 
 /// Whether a message is this DOVIEWCHANGE.
-fn is_do_view_change(
-    view: u32,
-    last_normal: u32,
-    done: u16,
-    rows: &Rows<Book>,
-    known: &Known,
-    msg: &Msg<Book>,
-) -> bool
-    ensures { IsTrue result ↔ (MsgOf.DoViewChange view last_normal done rows.now known.now ≡ msg.now) }
+fn is_do_view_change(vote: &DoViewChangeOf<Cmd>, msg: &Msg<Book>) -> bool
+    ensures { IsTrue result ↔ (MsgOf.DoViewChange vote.now ≡ msg.now) }
 {
     match msg {
-        MsgOf::DoViewChange {
-            view: v,
-            last_normal: l,
-            done: d,
-            rows: r,
-            known: k,
-        } => {
-            view == *v
-                && last_normal == *l
-                && done == *d
-                && same_rows(rows, r)
-                && same_known(known, k)
+        MsgOf::DoViewChange(other) => {
+            vote.view == other.view
+                && vote.last_normal == other.last_normal
+                && vote.done == other.done
+                && same_rows(&vote.rows, &other.rows)
+                && same_known(&vote.known, &other.known)
         }
         _ => false,
     }
 }
 
 /// Whether a message is this STARTVIEW.
-fn is_start_view(view: u32, done: u16, rows: &Rows<Book>, msg: &Msg<Book>) -> bool
-    ensures { IsTrue result ↔ (MsgOf.StartView view done rows.now ≡ msg.now) }
+fn is_start_view(opening: &StartViewOf<Cmd>, msg: &Msg<Book>) -> bool
+    ensures { IsTrue result ↔ (MsgOf.StartView opening.now ≡ msg.now) }
 {
     match msg {
-        MsgOf::StartView {
-            view: v,
-            done: d,
-            rows: r,
-        } => view == *v && done == *d && same_rows(rows, r),
+        MsgOf::StartView(other) => {
+            opening.view == other.view
+                && opening.done == other.done
+                && same_rows(&opening.rows, &other.rows)
+        }
         _ => false,
     }
 }
@@ -249,16 +218,16 @@ fn is_get_state(view: u32, base: u16, msg: &Msg<Book>) -> bool
 }
 
 /// Whether a message is this NEWSTATE.
-fn is_new_state(view: u32, base: u16, done: u16, rows: &Rows<Book>, msg: &Msg<Book>) -> bool
-    ensures { IsTrue result ↔ (MsgOf.NewState view base done rows.now ≡ msg.now) }
+fn is_new_state(state: &NewStateOf<Cmd>, msg: &Msg<Book>) -> bool
+    ensures { IsTrue result ↔ (MsgOf.NewState state.now ≡ msg.now) }
 {
     match msg {
-        MsgOf::NewState {
-            view: v,
-            base: b,
-            done: d,
-            rows: r,
-        } => view == *v && base == *b && done == *d && same_rows(rows, r),
+        MsgOf::NewState(other) => {
+            state.view == other.view
+                && state.base == other.base
+                && state.done == other.done
+                && same_rows(&state.rows, &other.rows)
+        }
         _ => false,
     }
 }
@@ -274,22 +243,16 @@ fn is_recovery(nonce: u32, msg: &Msg<Book>) -> bool
 }
 
 /// Whether a message is this RECOVERYRESPONSE.
-fn is_recovery_response(
-    view: u32,
-    nonce: u32,
-    state: &Option<State<Book>>,
-    known: &Known,
-    msg: &Msg<Book>,
-) -> bool
-    ensures { IsTrue result ↔ (MsgOf.RecoveryResponse view nonce state.now known.now ≡ msg.now) }
+fn is_recovery_response(response: &RecoveryResponseOf<Cmd>, msg: &Msg<Book>) -> bool
+    ensures { IsTrue result ↔ (MsgOf.RecoveryResponse response.now ≡ msg.now) }
 {
     match msg {
-        MsgOf::RecoveryResponse {
-            view: v,
-            nonce: n,
-            state: s,
-            known: k,
-        } => view == *v && nonce == *n && same_states(state, s) && same_known(known, k),
+        MsgOf::RecoveryResponse(other) => {
+            response.view == other.view
+                && response.nonce == other.nonce
+                && same_states(&response.state, &other.state)
+                && same_known(&response.known, &other.known)
+        }
         _ => false,
     }
 }

@@ -31,35 +31,35 @@ state_text setup state = done_text state.done ++ rows_text setup state.rows
 
 abbrev pub kind_name : MsgOf Cmd Answer PaymentOrder → List ℕ
 kind_name (Request number cmd) = codes "REQUEST"
-kind_name (Prepare view place done row) = codes "PREPARE"
+kind_name (Prepare msg) = codes "PREPARE"
 kind_name (PrepareOk view place) = codes "PREPAREOK"
 kind_name (Commit view done) = codes "COMMIT"
 kind_name (StartViewChange view known) = codes "STARTVIEWCHANGE"
-kind_name (DoViewChange view last_normal done rows known) = codes "DOVIEWCHANGE"
-kind_name (StartView view done rows) = codes "STARTVIEW"
+kind_name (DoViewChange msg) = codes "DOVIEWCHANGE"
+kind_name (StartView msg) = codes "STARTVIEW"
 kind_name (GetState view base) = codes "GETSTATE"
-kind_name (NewState view base done rows) = codes "NEWSTATE"
+kind_name (NewState msg) = codes "NEWSTATE"
 kind_name (Recovery nonce) = codes "RECOVERY"
-kind_name (RecoveryResponse view nonce state known) = codes "RECOVERYRESPONSE"
+kind_name (RecoveryResponse msg) = codes "RECOVERYRESPONSE"
 kind_name (Reply view number answer) = codes "REPLY"
 kind_name (PayOrder order) = codes "PAYORDER"
 
 abbrev pub fields_text : Setup → MsgOf Cmd Answer PaymentOrder → List ℕ
 fields_text setup (Request number cmd) = codes " " ++ decimal number ++ codes " " ++ command_text setup cmd
-fields_text setup (Prepare view place done row) =
-    view_text view ++ field_text (codes "place") place ++ done_text done ++ codes " row " ++ row_text setup row
+fields_text setup (Prepare msg) =
+    view_text msg.view ++ field_text (codes "place") msg.place ++ done_text msg.done ++ codes " row " ++ row_text setup msg.row
 fields_text setup (PrepareOk view place) = view_text view ++ field_text (codes "place") place
 fields_text setup (Commit view done) = view_text view ++ done_text done
 fields_text setup (StartViewChange view known) = view_text view ++ boots_text known
-fields_text setup (DoViewChange view last_normal done rows known) =
-    view_text view ++ field_text (codes "normal") last_normal ++ done_text done ++ rows_text setup rows ++ boots_text known
-fields_text setup (StartView view done rows) = view_text view ++ done_text done ++ rows_text setup rows
+fields_text setup (DoViewChange msg) =
+    view_text msg.view ++ field_text (codes "normal") msg.last_normal ++ done_text msg.done ++ rows_text setup msg.rows ++ boots_text msg.known
+fields_text setup (StartView msg) = view_text msg.view ++ done_text msg.done ++ rows_text setup msg.rows
 fields_text setup (GetState view base) = view_text view ++ field_text (codes "base") base
-fields_text setup (NewState view base done rows) =
-    view_text view ++ field_text (codes "base") base ++ done_text done ++ rows_text setup rows
+fields_text setup (NewState msg) =
+    view_text msg.view ++ field_text (codes "base") msg.base ++ done_text msg.done ++ rows_text setup msg.rows
 fields_text setup (Recovery nonce) = field_text (codes "nonce") nonce
-fields_text setup (RecoveryResponse view nonce state known) =
-    view_text view ++ field_text (codes "nonce") nonce ++ option_map_or (state_text setup) state [] ++ boots_text known
+fields_text setup (RecoveryResponse msg) =
+    view_text msg.view ++ field_text (codes "nonce") msg.nonce ++ option_map_or (state_text setup) msg.state [] ++ boots_text msg.known
 fields_text setup (Reply view number answer) =
     view_text view ++ field_text (codes "to") number ++ codes " " ++ reply_text answer
 fields_text setup (PayOrder order) = codes " " ++ order_text setup order

@@ -9,7 +9,10 @@ use crate::words::{push_boots, push_command, push_order, push_row, push_rows};
 use pvp_book::Book;
 use pvp_types::{Cmd, Setup};
 use std::alloc::AllocError;
-use vr_types::{Envelope, Msg, MsgOf, StateOf};
+use vr_types::{
+    DoViewChangeOf, Envelope, Msg, MsgOf, NewStateOf, PrepareOf, RecoveryResponseOf, StartViewOf,
+    StateOf,
+};
 
 /// Appends who says what to whom.
 pub fn push_envelope(
@@ -40,16 +43,16 @@ pub fn kind_name(msg: &Msg<Book>) -> &'static str
 {
     match msg {
         MsgOf::Request { .. } => "REQUEST",
-        MsgOf::Prepare { .. } => "PREPARE",
+        MsgOf::Prepare(_) => "PREPARE",
         MsgOf::PrepareOk { .. } => "PREPAREOK",
         MsgOf::Commit { .. } => "COMMIT",
         MsgOf::StartViewChange { .. } => "STARTVIEWCHANGE",
-        MsgOf::DoViewChange { .. } => "DOVIEWCHANGE",
-        MsgOf::StartView { .. } => "STARTVIEW",
+        MsgOf::DoViewChange(_) => "DOVIEWCHANGE",
+        MsgOf::StartView(_) => "STARTVIEW",
         MsgOf::GetState { .. } => "GETSTATE",
-        MsgOf::NewState { .. } => "NEWSTATE",
+        MsgOf::NewState(_) => "NEWSTATE",
         MsgOf::Recovery { .. } => "RECOVERY",
-        MsgOf::RecoveryResponse { .. } => "RECOVERYRESPONSE",
+        MsgOf::RecoveryResponse(_) => "RECOVERYRESPONSE",
         MsgOf::Reply { .. } => "REPLY",
         MsgOf::PayOrder(_) => "PAYORDER",
     }
@@ -65,18 +68,7 @@ fn push_fields(text: &mut String, setup: &Setup, msg: &Msg<Book>) -> Result<(), 
             write!(text, " {number} ")?;
             push_command(text, setup, *cmd)
         }
-        MsgOf::Prepare {
-            view,
-            place,
-            done,
-            row,
-        } => {
-            push_field(text, "view", *view)?;
-            push_field(text, "place", u32::from(*place))?;
-            push_field(text, "done", u32::from(*done))?;
-            text.push_str(" row ")?;
-            push_row(text, setup, *row)
-        }
+        MsgOf::Prepare(msg) => push_prepare(text, setup, msg),
         MsgOf::PrepareOk { view, place } => {
             push_field(text, "view", *view)?;
             push_field(text, "place", u32::from(*place))
@@ -89,51 +81,15 @@ fn push_fields(text: &mut String, setup: &Setup, msg: &Msg<Book>) -> Result<(), 
             push_field(text, "view", *view)?;
             push_boots(text, known)
         }
-        MsgOf::DoViewChange {
-            view,
-            last_normal,
-            done,
-            rows,
-            known,
-        } => {
-            push_field(text, "view", *view)?;
-            push_field(text, "normal", *last_normal)?;
-            push_field(text, "done", u32::from(*done))?;
-            push_rows(text, setup, rows)?;
-            push_boots(text, known)
-        }
-        MsgOf::StartView { view, done, rows } => {
-            push_field(text, "view", *view)?;
-            push_field(text, "done", u32::from(*done))?;
-            push_rows(text, setup, rows)
-        }
+        MsgOf::DoViewChange(msg) => push_do_view_change(text, setup, msg),
+        MsgOf::StartView(msg) => push_start_view(text, setup, msg),
         MsgOf::GetState { view, base } => {
             push_field(text, "view", *view)?;
             push_field(text, "base", u32::from(*base))
         }
-        MsgOf::NewState {
-            view,
-            base,
-            done,
-            rows,
-        } => {
-            push_field(text, "view", *view)?;
-            push_field(text, "base", u32::from(*base))?;
-            push_field(text, "done", u32::from(*done))?;
-            push_rows(text, setup, rows)
-        }
+        MsgOf::NewState(msg) => push_new_state(text, setup, msg),
         MsgOf::Recovery { nonce } => push_field(text, "nonce", *nonce),
-        MsgOf::RecoveryResponse {
-            view,
-            nonce,
-            state,
-            known,
-        } => {
-            push_field(text, "view", *view)?;
-            push_field(text, "nonce", *nonce)?;
-            push_state(text, setup, state)?;
-            push_boots(text, known)
-        }
+        MsgOf::RecoveryResponse(msg) => push_recovery_response(text, setup, msg),
         MsgOf::Reply {
             view,
             number,
@@ -148,6 +104,69 @@ fn push_fields(text: &mut String, setup: &Setup, msg: &Msg<Book>) -> Result<(), 
             push_order(text, setup, *order)
         }
     }
+}
+
+/// Appends the fields of a PREPARE.
+fn push_prepare(text: &mut String, setup: &Setup, msg: &PrepareOf<Cmd>) -> Result<(), AllocError>
+    ensures { OnOk result (string_bytes text.new ≡ string_bytes text.old ++ fields_text setup.now (MsgOf.Prepare msg.now)) }
+{
+    push_field(text, "view", msg.view)?;
+    push_field(text, "place", u32::from(msg.place))?;
+    push_field(text, "done", u32::from(msg.done))?;
+    text.push_str(" row ")?;
+    push_row(text, setup, msg.row)
+}
+
+/// Appends the fields of a DOVIEWCHANGE.
+fn push_do_view_change(
+    text: &mut String,
+    setup: &Setup,
+    msg: &DoViewChangeOf<Cmd>,
+) -> Result<(), AllocError>
+    ensures { OnOk result (string_bytes text.new ≡ string_bytes text.old ++ fields_text setup.now (MsgOf.DoViewChange msg.now)) }
+{
+    push_field(text, "view", msg.view)?;
+    push_field(text, "normal", msg.last_normal)?;
+    push_field(text, "done", u32::from(msg.done))?;
+    push_rows(text, setup, &msg.rows)?;
+    push_boots(text, &msg.known)
+}
+
+/// Appends the fields of a STARTVIEW.
+fn push_start_view(
+    text: &mut String,
+    setup: &Setup,
+    msg: &StartViewOf<Cmd>,
+) -> Result<(), AllocError>
+    ensures { OnOk result (string_bytes text.new ≡ string_bytes text.old ++ fields_text setup.now (MsgOf.StartView msg.now)) }
+{
+    push_field(text, "view", msg.view)?;
+    push_field(text, "done", u32::from(msg.done))?;
+    push_rows(text, setup, &msg.rows)
+}
+
+/// Appends the fields of a NEWSTATE.
+fn push_new_state(text: &mut String, setup: &Setup, msg: &NewStateOf<Cmd>) -> Result<(), AllocError>
+    ensures { OnOk result (string_bytes text.new ≡ string_bytes text.old ++ fields_text setup.now (MsgOf.NewState msg.now)) }
+{
+    push_field(text, "view", msg.view)?;
+    push_field(text, "base", u32::from(msg.base))?;
+    push_field(text, "done", u32::from(msg.done))?;
+    push_rows(text, setup, &msg.rows)
+}
+
+/// Appends the fields of a RECOVERYRESPONSE.
+fn push_recovery_response(
+    text: &mut String,
+    setup: &Setup,
+    msg: &RecoveryResponseOf<Cmd>,
+) -> Result<(), AllocError>
+    ensures { OnOk result (string_bytes text.new ≡ string_bytes text.old ++ fields_text setup.now (MsgOf.RecoveryResponse msg.now)) }
+{
+    push_field(text, "view", msg.view)?;
+    push_field(text, "nonce", msg.nonce)?;
+    push_state(text, setup, &msg.state)?;
+    push_boots(text, &msg.known)
 }
 
 /// Appends a primary's state, where the answer has one.

@@ -81,22 +81,22 @@ boots-short known h =
 -- a message that fits takes less than a frame may
 pub body-short : (m : BankMsg) → MessageFits m → has_site_count (known_in m) ≡ true → length (body m) ≤ most_body
 body-short (Request a b) h k = omega (arith, two _ _ _ _ (num 4 a) (command-short b))
-body-short (Prepare a b c d) h k = omega (arith, two _ _ _ _ (two _ _ _ _ (two _ _ _ _ (num 4 a) (num 2 b)) (num 2 c)) (row-short d))
+body-short (Prepare msg) h k = omega (arith, two _ _ _ _ (two _ _ _ _ (two _ _ _ _ (num 4 msg.view) (num 2 msg.place)) (num 2 msg.done)) (row-short msg.row))
 body-short (PrepareOk a b) h k = omega (arith, two _ _ _ _ (num 4 a) (num 2 b))
 body-short (Commit a b) h k = omega (arith, two _ _ _ _ (num 4 a) (num 2 b))
 body-short (StartViewChange a b) h k = omega (arith, two _ _ _ _ (num 4 a) (boots-short b k))
-body-short (DoViewChange a b c d e) h k =
-    let few : length d < 65536 = h.4.0 in
-    omega (arith, two _ _ _ _ (two _ _ _ _ (two _ _ _ _ (two _ _ _ _ (num 4 a) (num 4 b)) (num 2 c)) (boots-short e k)) (rows-short d few))
-body-short (StartView a b c) h k =
-    let few : length c < 65536 = h.2.0 in
-    omega (arith, two _ _ _ _ (two _ _ _ _ (num 4 a) (num 2 b)) (rows-short c few))
+body-short (DoViewChange msg) h k =
+    let few : length msg.rows < 65536 = h.4.0 in
+    omega (arith, two _ _ _ _ (two _ _ _ _ (two _ _ _ _ (two _ _ _ _ (num 4 msg.view) (num 4 msg.last_normal)) (num 2 msg.done)) (boots-short msg.known k)) (rows-short msg.rows few))
+body-short (StartView msg) h k =
+    let few : length msg.rows < 65536 = h.2.0 in
+    omega (arith, two _ _ _ _ (two _ _ _ _ (num 4 msg.view) (num 2 msg.done)) (rows-short msg.rows few))
 body-short (GetState a b) h k = omega (arith, two _ _ _ _ (num 4 a) (num 2 b))
-body-short (NewState a b c d) h k =
-    let few : length d < 65536 = h.3.0 in
-    omega (arith, two _ _ _ _ (two _ _ _ _ (two _ _ _ _ (num 4 a) (num 2 b)) (num 2 c)) (rows-short d few))
+body-short (NewState msg) h k =
+    let few : length msg.rows < 65536 = h.3.0 in
+    omega (arith, two _ _ _ _ (two _ _ _ _ (two _ _ _ _ (num 4 msg.view) (num 2 msg.base)) (num 2 msg.done)) (rows-short msg.rows few))
 body-short (Recovery a) h k = omega (arith, num 4 a)
-body-short (RecoveryResponse a b c d) h k = omega (arith, two _ _ _ _ (two _ _ _ _ (two _ _ _ _ (num 4 a) (num 4 b)) (boots-short d k)) (state-short c h.3))
+body-short (RecoveryResponse msg) h k = omega (arith, two _ _ _ _ (two _ _ _ _ (two _ _ _ _ (num 4 msg.view) (num 4 msg.nonce)) (boots-short msg.known k)) (state-short msg.state h.3))
 body-short (Reply a b c) h k = omega (arith, two _ _ _ _ (two _ _ _ _ (num 4 a) (num 4 b)) (reply-short c))
 body-short (PayOrder a) h k = omega (arith, two _ _ _ _ (two _ _ _ _ (two _ _ _ _ (num 1 a.ccy) (num 4 a.out)) (num 2 a.member)) (num 8 a.amt))
 

@@ -84,20 +84,29 @@ IsMessage m = MessageFits m × ((list_all has_client (rows_in m) ≡ true) × (h
 abbrev pub IsOfKind : ℕ → BankMsg → Type 0
 IsOfKind k m = IsMessage m × (kind m ≡ k)
 
-prepare-takes : TakesBy body (IsOfKind 2) prepare_at
-unfolding prepare_at
-prepare-takes = takes4 n4 n2 n2 row_format Prepare body (IsOfKind 2) (λ a b c d. refl) (λ a b c d ha hb hc hd. (((ha, hb, hc, hd.0), (both (has_client d) true hd.1 refl, refl)), refl))
-
 request-takes : TakesBy body (IsOfKind 1) request_at
 unfolding request_at
 request-takes = takes2 n4 command_format Request body (IsOfKind 1) (λ a b. refl) (λ a b ha hb. (((ha, hb), (refl, refl)), refl))
 
--- as the fields of these stand in a frame
+-- messages of their fields, as these stand in a frame
+abbrev pub make_prepare : ℕ → ℕ → ℕ → BankRow → BankMsg
+make_prepare view place k r = Prepare (record { view = view; place = place; done = k; row = r })
+
+abbrev pub make_start_view : ℕ → ℕ → List BankRow → BankMsg
+make_start_view view k log = StartView (record { view = view; done = k; rows = log })
+
+abbrev pub make_new_state : ℕ → ℕ → ℕ → List BankRow → BankMsg
+make_new_state view base k log = NewState (record { view = view; base = base; done = k; rows = log })
+
 abbrev pub make_vote : ℕ → ℕ → ℕ → List ℕ → List BankRow → BankMsg
-make_vote view last_normal k known log = DoViewChange view last_normal k log known
+make_vote view last_normal k known log = DoViewChange (record { view = view; last_normal = last_normal; done = k; rows = log; known = known })
 
 abbrev pub make_response : ℕ → ℕ → List ℕ → Option (StateOf Cmd) → BankMsg
-make_response view nonce known s = RecoveryResponse view nonce s known
+make_response view nonce known s = RecoveryResponse (record { view = view; nonce = nonce; state = s; known = known })
+
+prepare-takes : TakesBy body (IsOfKind 2) prepare_at
+unfolding prepare_at
+prepare-takes = takes4 n4 n2 n2 row_format make_prepare body (IsOfKind 2) (λ a b c d. refl) (λ a b c d ha hb hc hd. (((ha, hb, hc, hd.0), (both (has_client d) true hd.1 refl, refl)), refl))
 
 start_view_change-takes : TakesBy body (IsOfKind 5) (start_view_change_at false)
 unfolding start_view_change_at
@@ -109,11 +118,11 @@ do_view_change-takes = takes5 n4 n4 n2 boots_format rows_format make_vote body (
 
 start_view-takes : TakesBy body (IsOfKind 7) (start_view_at false)
 unfolding start_view_at
-start_view-takes = takes3 n4 n2 rows_format StartView body (IsOfKind 7) (λ a b c. refl) (λ a b c ha hb hc. (((ha, hb, hc.0), (hc.1, refl)), refl))
+start_view-takes = takes3 n4 n2 rows_format make_start_view body (IsOfKind 7) (λ a b c. refl) (λ a b c ha hb hc. (((ha, hb, hc.0), (hc.1, refl)), refl))
 
 new_state-takes : TakesBy body (IsOfKind 9) (new_state_at false)
 unfolding new_state_at
-new_state-takes = takes4 n4 n2 n2 rows_format NewState body (IsOfKind 9) (λ a b c d. refl) (λ a b c d ha hb hc hd. (((ha, hb, hc, hd.0), (hd.1, refl)), refl))
+new_state-takes = takes4 n4 n2 n2 rows_format make_new_state body (IsOfKind 9) (λ a b c d. refl) (λ a b c d ha hb hc hd. (((ha, hb, hc, hd.0), (hd.1, refl)), refl))
 
 recovery_response-takes : TakesBy body (IsOfKind 11) (recovery_response_at false)
 unfolding recovery_response_at
@@ -159,16 +168,16 @@ message-takes (suc (suc (suc (suc (suc (suc (suc (suc (suc (suc (suc (suc (suc (
 message-again : (m : BankMsg) (rest : List ℕ) → IsMessage m → message_at false (kind m) (body m ++ rest) ≡ Ok (m, rest)
 unfolding message_at request_at prepare_at start_view_change_at do_view_change_at start_view_at new_state_at recovery_response_at answer_at
 message-again (Request a b) rest h = again2 n4 command_format Request a b rest h.0.0 h.0.1
-message-again (Prepare a b c d) rest h = again4 n4 n2 n2 row_format Prepare a b c d rest h.0.0 h.0.1 h.0.2 (h.0.3, (parted (has_client d) true h.1.0).0)
+message-again (Prepare msg) rest h = again4 n4 n2 n2 row_format make_prepare msg.view msg.place msg.done msg.row rest h.0.0 h.0.1 h.0.2 (h.0.3, (parted (has_client msg.row) true h.1.0).0)
 message-again (PrepareOk a b) rest h = again1 pair_format (λ p. PrepareOk p.0 p.1) (a, b) rest h.0
 message-again (Commit a b) rest h = again1 pair_format (λ p. Commit p.0 p.1) (a, b) rest h.0
 message-again (StartViewChange a b) rest h = again2 n4 boots_format StartViewChange a b rest h.0.0 (h.0.1, h.1.1)
-message-again (DoViewChange a b c d e) rest h = again5 n4 n4 n2 boots_format rows_format make_vote a b c e d rest h.0.0 h.0.1 h.0.2 (h.0.3, h.1.1) (h.0.4, h.1.0)
-message-again (StartView a b c) rest h = again3 n4 n2 rows_format StartView a b c rest h.0.0 h.0.1 (h.0.2, h.1.0)
+message-again (DoViewChange msg) rest h = again5 n4 n4 n2 boots_format rows_format make_vote msg.view msg.last_normal msg.done msg.known msg.rows rest h.0.0 h.0.1 h.0.2 (h.0.3, h.1.1) (h.0.4, h.1.0)
+message-again (StartView msg) rest h = again3 n4 n2 rows_format make_start_view msg.view msg.done msg.rows rest h.0.0 h.0.1 (h.0.2, h.1.0)
 message-again (GetState a b) rest h = again1 pair_format (λ p. GetState p.0 p.1) (a, b) rest h.0
-message-again (NewState a b c d) rest h = again4 n4 n2 n2 rows_format NewState a b c d rest h.0.0 h.0.1 h.0.2 (h.0.3, h.1.0)
+message-again (NewState msg) rest h = again4 n4 n2 n2 rows_format make_new_state msg.view msg.base msg.done msg.rows rest h.0.0 h.0.1 h.0.2 (h.0.3, h.1.0)
 message-again (Recovery a) rest h = again1 n4 Recovery a rest h.0
-message-again (RecoveryResponse a b c d) rest h = again4 n4 n4 boots_format option_format make_response a b d c rest h.0.0 h.0.1 (h.0.2, h.1.1) (h.0.3, h.1.0)
+message-again (RecoveryResponse msg) rest h = again4 n4 n4 boots_format option_format make_response msg.view msg.nonce msg.known msg.state rest h.0.0 h.0.1 (h.0.2, h.1.1) (h.0.3, h.1.0)
 message-again (Reply a b c) rest h = again3 n4 n4 reply_format Reply a b c rest h.0.0 h.0.1 h.0.2
 message-again (PayOrder a) rest h = again1 order_format PayOrder a rest h.0
 

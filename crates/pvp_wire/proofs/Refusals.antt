@@ -6,7 +6,7 @@ use Rattle.byteorder.specs.Endian.{big_number}
 use Rattle.pvp_types.specs.declared.command.Cmd.TheVariants.{Instruct, Rescind, Fund, Settle, PayOut, Paid, Returned}
 use Rattle.pvp_types.specs.declared.command.Reason.{Reason}
 use Rattle.pvp_types.specs.declared.command.Reply.TheVariants.{Settled, Order, No}
-use Rattle.vr_types.specs.declared.message.MsgOf.TheVariants.{Request, Prepare, PrepareOk, Commit, StartViewChange, StartView, GetState, NewState, Recovery, Reply, PayOrder}
+use Rattle.vr_types.specs.declared.message.MsgOf.TheVariants.{Request, PrepareOk, Commit, StartViewChange, GetState, Recovery, Reply, PayOrder}
 use Rattle.vr_types.specs.Actors.{is_actor, is_client}
 use Rattle.vr_types.specs.Messages.{known_in}
 use Rattle.pvp_wire.specs.declared.fault.WireFault.{WireFault}
@@ -16,7 +16,7 @@ use Rattle.pvp_wire.specs.Spelling.{BankMsg, BankRow, version, is_site_count}
 use Rattle.pvp_wire.specs.Reading.{◌>>=◌, Reads, number_at, listed_at, instruct_at, command_at, reason_at, reply_at, order_at, row_at, items_from, rows_at, boots_at, state_at, option_at, view_and_place_at, request_at, prepare_at, start_view_change_at, do_view_change_at, start_view_at, new_state_at, recovery_response_at, answer_at, message_at, stamp_at, envelope_at, all_read, counted_at, frame_where, most_length, carries_a_list, HasAnItem, IsOfField, frame_at}
 use Rattle.pvp_wire.proofs.Formats.{failed, done, bind_ok, wanted_ok, ok_is, fault_is, reads1, reads2, reads3, reads4, reads5}
 use Rattle.pvp_wire.proofs.Parts.{make_order, make_row, parted}
-use Rattle.pvp_wire.proofs.MessageFormats.{make_state, make_pair, make_vote, make_response}
+use Rattle.pvp_wire.proofs.MessageFormats.{make_state, make_pair, make_prepare, make_start_view, make_new_state, make_vote, make_response}
 use Rattle.pvp_wire.proofs.Frames.{make_stamp, make_stamped, all_read-ok}
 
 -- the same fault of another reading
@@ -265,7 +265,7 @@ request_only = only2 (number_only 4) command_only Request
 
 prepare_only : OnlyFields prepare_at
 unfolding prepare_at
-prepare_only = only4 (number_only 4) (number_only 2) (number_only 2) row_only Prepare
+prepare_only = only4 (number_only 4) (number_only 2) (number_only 2) row_only make_prepare
 
 answer_only : OnlyFields answer_at
 unfolding answer_at
@@ -292,11 +292,11 @@ do_view_change_asked bytes =
 
 start_view_asked : AskedFor (Unit {0}) HasAnItem (start_view_at true) (start_view_at false)
 unfolding start_view_at
-start_view_asked = asked3 HasAnItem (number_only 4) (number_only 2) rows_asked StartView (λ a b c some. inl some)
+start_view_asked = asked3 HasAnItem (number_only 4) (number_only 2) rows_asked make_start_view (λ a b c some. inl some)
 
 new_state_asked : AskedFor (Unit {0}) HasAnItem (new_state_at true) (new_state_at false)
 unfolding new_state_at
-new_state_asked = asked4 HasAnItem (number_only 4) (number_only 2) (number_only 2) rows_asked NewState (λ a b c d some. inl some)
+new_state_asked = asked4 HasAnItem (number_only 4) (number_only 2) (number_only 2) rows_asked make_new_state (λ a b c d some. inl some)
 
 recovery_response_asked : AskedFor (Unit {0}) HasAnItem (recovery_response_at true) (recovery_response_at false)
 unfolding recovery_response_at
@@ -422,8 +422,8 @@ unfolding message_at start_view_change_at do_view_change_at start_view_at new_st
 message_never k bytes =
     never_if (k == 1) (λ is. quiet (request_only bytes)) (never_if (k == 2) (λ is. quiet (prepare_only bytes)) (never_if (k == 3) (λ is. quiet (only1 pair_only (λ p. PrepareOk p.0 p.1) bytes))
     (never_if (k == 4) (λ is. quiet (only1 pair_only (λ p. Commit p.0 p.1) bytes)) (never_if (k == 5) (λ is. quiet (only2 (number_only 4) boots_only StartViewChange bytes))
-    (never_if (k == 6) (λ is. quiet (only5 (number_only 4) (number_only 4) (number_only 2) boots_only rows_only make_vote bytes)) (never_if (k == 7) (λ is. quiet (only3 (number_only 4) (number_only 2) rows_only StartView bytes))
-    (never_if (k == 8) (λ is. quiet (only1 pair_only (λ p. GetState p.0 p.1) bytes)) (never_if (k == 9) (λ is. quiet (only4 (number_only 4) (number_only 2) (number_only 2) rows_only NewState bytes))
+    (never_if (k == 6) (λ is. quiet (only5 (number_only 4) (number_only 4) (number_only 2) boots_only rows_only make_vote bytes)) (never_if (k == 7) (λ is. quiet (only3 (number_only 4) (number_only 2) rows_only make_start_view bytes))
+    (never_if (k == 8) (λ is. quiet (only1 pair_only (λ p. GetState p.0 p.1) bytes)) (never_if (k == 9) (λ is. quiet (only4 (number_only 4) (number_only 2) (number_only 2) rows_only make_new_state bytes))
     (never_if (k == 10) (λ is. quiet (only1 (number_only 4) Recovery bytes)) (never_if (k == 11) (λ is. quiet (only4 (number_only 4) (number_only 4) boots_only option_only make_response bytes))
     (never_if (k == 12) (λ is. quiet (answer_only bytes)) (never_if (k == 13) (λ is. quiet (only1 order_only PayOrder bytes)) (λ e. absurd cc)))))))))))))
 

@@ -75,7 +75,7 @@ answer_is_read = refl
 
 -- STARTVIEW of view 0 with one row, a Settle of the operator
 abbrev start_view : Stamped
-start_view = sent 200 9 0 201 (StartView 0 0 (record { client = 0; number = 1; cmd = Settle 8 } ∷ []))
+start_view = sent 200 9 0 201 (StartView (record { view = 0; done = 0; rows = record { client = 0; number = 1; cmd = Settle 8 } ∷ [] }))
 
 abbrev start_view_bytes : List ℕ
 start_view_bytes = 0 ∷ 0 ∷ 0 ∷ 37 ∷ 2 ∷ 7 ∷ 0 ∷ 200 ∷ 0 ∷ 0 ∷ 0 ∷ 0 ∷ 0 ∷ 0 ∷ 0 ∷ 9 ∷ 0 ∷ 0 ∷ 0 ∷ 0 ∷ 0 ∷ 201 ∷ 0 ∷ 0 ∷ 0 ∷ 0 ∷ 0 ∷ 0 ∷ 0 ∷ 1

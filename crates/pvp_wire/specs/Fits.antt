@@ -55,17 +55,17 @@ StateFits (Some s) = Fits 2 s.done × RowsFit s.rows
 
 abbrev pub MessageFits : BankMsg → Type 0
 MessageFits (Request n cmd) = Fits 4 n × CommandFits cmd
-MessageFits (Prepare view place k r) = Fits 4 view × Fits 2 place × Fits 2 k × RowFits r
+MessageFits (Prepare msg) = Fits 4 msg.view × Fits 2 msg.place × Fits 2 msg.done × RowFits msg.row
 MessageFits (PrepareOk view place) = Fits 4 view × Fits 2 place
 MessageFits (Commit view k) = Fits 4 view × Fits 2 k
 MessageFits (StartViewChange view known) = Fits 4 view × BootsFit known
-MessageFits (DoViewChange view last_normal k log known) =
-    Fits 4 view × Fits 4 last_normal × Fits 2 k × BootsFit known × RowsFit log
-MessageFits (StartView view k log) = Fits 4 view × Fits 2 k × RowsFit log
+MessageFits (DoViewChange msg) =
+    Fits 4 msg.view × Fits 4 msg.last_normal × Fits 2 msg.done × BootsFit msg.known × RowsFit msg.rows
+MessageFits (StartView msg) = Fits 4 msg.view × Fits 2 msg.done × RowsFit msg.rows
 MessageFits (GetState view base) = Fits 4 view × Fits 2 base
-MessageFits (NewState view base k log) = Fits 4 view × Fits 2 base × Fits 2 k × RowsFit log
+MessageFits (NewState msg) = Fits 4 msg.view × Fits 2 msg.base × Fits 2 msg.done × RowsFit msg.rows
 MessageFits (Recovery nonce) = Fits 4 nonce
-MessageFits (RecoveryResponse view nonce s known) = Fits 4 view × Fits 4 nonce × BootsFit known × StateFits s
+MessageFits (RecoveryResponse msg) = Fits 4 msg.view × Fits 4 msg.nonce × BootsFit msg.known × StateFits msg.state
 MessageFits (Reply view n answer) = Fits 4 view × Fits 4 n × ReplyFits answer
 MessageFits (PayOrder due) = OrderFits due
 

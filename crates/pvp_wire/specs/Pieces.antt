@@ -15,10 +15,10 @@ rows_of (Some state) = Some state.rows
 
 -- the rows with which a message ends
 abbrev pub last_rows : BankMsg → Option (List BankRow)
-last_rows (DoViewChange view last_normal k log known) = Some log
-last_rows (StartView view k log) = Some log
-last_rows (NewState view base k log) = Some log
-last_rows (RecoveryResponse view nonce s known) = rows_of s
+last_rows (DoViewChange msg) = Some msg.rows
+last_rows (StartView msg) = Some msg.rows
+last_rows (NewState msg) = Some msg.rows
+last_rows (RecoveryResponse msg) = rows_of msg.state
 last_rows _ = None
 
 -- their bytes

@@ -185,7 +185,7 @@ prepare_at bytes = do
   place ← number_at 2 view.1
   k ← number_at 2 place.1
   r ← row_at k.1
-  Ok (Prepare view.0 place.0 k.0 r.0, r.1)
+  Ok (Prepare (record { view = view.0; place = place.0; done = k.0; row = r.0 }), r.1)
 
 -- a view and a number of two bytes
 abbrev pub view_and_place_at : List ℕ → Reads (ℕ × ℕ)
@@ -207,14 +207,14 @@ do_view_change_at refused bytes = do
   k ← number_at 2 last_normal.1
   known ← boots_at refused k.1
   log ← rows_at refused known.1
-  Ok (DoViewChange view.0 last_normal.0 k.0 log.0 known.0, log.1)
+  Ok (DoViewChange (record { view = view.0; last_normal = last_normal.0; done = k.0; rows = log.0; known = known.0 }), log.1)
 
 unfoldable pub start_view_at : Bool → List ℕ → Reads BankMsg
 start_view_at refused bytes = do
   view ← number_at 4 bytes
   k ← number_at 2 view.1
   log ← rows_at refused k.1
-  Ok (StartView view.0 k.0 log.0, log.1)
+  Ok (StartView (record { view = view.0; done = k.0; rows = log.0 }), log.1)
 
 unfoldable pub new_state_at : Bool → List ℕ → Reads BankMsg
 new_state_at refused bytes = do
@@ -222,7 +222,7 @@ new_state_at refused bytes = do
   base ← number_at 2 view.1
   k ← number_at 2 base.1
   log ← rows_at refused k.1
-  Ok (NewState view.0 base.0 k.0 log.0, log.1)
+  Ok (NewState (record { view = view.0; base = base.0; done = k.0; rows = log.0 }), log.1)
 
 unfoldable pub recovery_response_at : Bool → List ℕ → Reads BankMsg
 recovery_response_at refused bytes = do
@@ -230,7 +230,7 @@ recovery_response_at refused bytes = do
   nonce ← number_at 4 view.1
   known ← boots_at refused nonce.1
   s ← option_at refused known.1
-  Ok (RecoveryResponse view.0 nonce.0 s.0 known.0, s.1)
+  Ok (RecoveryResponse (record { view = view.0; nonce = nonce.0; state = s.0; known = known.0 }), s.1)
 
 unfoldable pub answer_at : List ℕ → Reads BankMsg
 answer_at bytes = do

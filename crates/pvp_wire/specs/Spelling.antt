@@ -84,32 +84,32 @@ state (Some s) = 1 ∷ number 2 s.done ++ rows s.rows
 -- the kind of a message
 abbrev pub kind : BankMsg → ℕ
 kind (Request n cmd) = 1
-kind (Prepare view place k r) = 2
+kind (Prepare msg) = 2
 kind (PrepareOk view place) = 3
 kind (Commit view k) = 4
 kind (StartViewChange view known) = 5
-kind (DoViewChange view last_normal k log known) = 6
-kind (StartView view k log) = 7
+kind (DoViewChange msg) = 6
+kind (StartView msg) = 7
 kind (GetState view base) = 8
-kind (NewState view base k log) = 9
+kind (NewState msg) = 9
 kind (Recovery nonce) = 10
-kind (RecoveryResponse view nonce s known) = 11
+kind (RecoveryResponse msg) = 11
 kind (Reply view n answer) = 12
 kind (PayOrder due) = 13
 
 -- the fields of a message
 abbrev pub body : BankMsg → List ℕ
 body (Request n cmd) = number 4 n ++ command cmd
-body (Prepare view place k r) = number 4 view ++ number 2 place ++ number 2 k ++ row r
+body (Prepare msg) = number 4 msg.view ++ number 2 msg.place ++ number 2 msg.done ++ row msg.row
 body (PrepareOk view place) = number 4 view ++ number 2 place
 body (Commit view k) = number 4 view ++ number 2 k
 body (StartViewChange view known) = number 4 view ++ boots known
-body (DoViewChange view last_normal k log known) = number 4 view ++ number 4 last_normal ++ number 2 k ++ boots known ++ rows log
-body (StartView view k log) = number 4 view ++ number 2 k ++ rows log
+body (DoViewChange msg) = number 4 msg.view ++ number 4 msg.last_normal ++ number 2 msg.done ++ boots msg.known ++ rows msg.rows
+body (StartView msg) = number 4 msg.view ++ number 2 msg.done ++ rows msg.rows
 body (GetState view base) = number 4 view ++ number 2 base
-body (NewState view base k log) = number 4 view ++ number 2 base ++ number 2 k ++ rows log
+body (NewState msg) = number 4 msg.view ++ number 2 msg.base ++ number 2 msg.done ++ rows msg.rows
 body (Recovery nonce) = number 4 nonce
-body (RecoveryResponse view nonce s known) = number 4 view ++ number 4 nonce ++ boots known ++ state s
+body (RecoveryResponse msg) = number 4 msg.view ++ number 4 msg.nonce ++ boots msg.known ++ state msg.state
 body (Reply view n answer) = number 4 view ++ number 4 n ++ reply answer
 body (PayOrder due) = order due
 

@@ -26,11 +26,11 @@ fn has_clients(msg: &Message) -> bool
     ensures { result ≡ list_all has_client (rows_in msg.now) }
 {
     match msg {
-        MsgOf::Prepare { row, .. } => is_client(row.client),
-        MsgOf::DoViewChange { rows, .. } => are_of_clients(rows),
-        MsgOf::StartView { rows, .. } => are_of_clients(rows),
-        MsgOf::NewState { rows, .. } => are_of_clients(rows),
-        MsgOf::RecoveryResponse { state, .. } => state_has_clients(state),
+        MsgOf::Prepare(msg) => is_client(msg.row.client),
+        MsgOf::DoViewChange(msg) => are_of_clients(&msg.rows),
+        MsgOf::StartView(msg) => are_of_clients(&msg.rows),
+        MsgOf::NewState(msg) => are_of_clients(&msg.rows),
+        MsgOf::RecoveryResponse(msg) => state_has_clients(&msg.state),
         MsgOf::Request { .. }
         | MsgOf::PrepareOk { .. }
         | MsgOf::Commit { .. }
@@ -48,8 +48,8 @@ fn has_site_count(msg: &Message) -> bool
 {
     match msg {
         MsgOf::StartViewChange { known, .. } => is_site_count(known.len()),
-        MsgOf::DoViewChange { known, .. } => is_site_count(known.len()),
-        MsgOf::RecoveryResponse { known, .. } => is_site_count(known.len()),
+        MsgOf::DoViewChange(msg) => is_site_count(msg.known.len()),
+        MsgOf::RecoveryResponse(msg) => is_site_count(msg.known.len()),
         _ => true,
     }
 }

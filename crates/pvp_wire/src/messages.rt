@@ -7,7 +7,7 @@ use crate::fields::{command_at, order_at, reply_at, row_at, u16_at, u32_at, view
 use crate::rows::{option_at, rows_at};
 use crate::stamped::Message;
 use std::alloc::Global;
-use vr_types::MsgOf;
+use vr_types::{DoViewChangeOf, MsgOf, NewStateOf, PrepareOf, RecoveryResponseOf, StartViewOf};
 
 /// The fields of a message of a kind.
 #[tactic(auto, unfolding(crate::specs::Reading::message_at))]
@@ -64,13 +64,13 @@ fn prepare_at(bytes: &[u8]) -> Result<(Message, &[u8]), WireFault>
     let (place, rest) = u16_at(rest)?;
     let (done, rest) = u16_at(rest)?;
     let (row, rest) = row_at(rest)?;
-    let msg = MsgOf::Prepare {
+    let msg = PrepareOf {
         view,
         place,
         done,
         row,
     };
-    Ok((msg, rest))
+    Ok((MsgOf::Prepare(msg), rest))
 }
 
 #[tactic(auto, unfolding(crate::specs::Reading::start_view_change_at))]
@@ -91,14 +91,14 @@ fn do_view_change_at(alloc: Global, bytes: &[u8]) -> Result<(Message, &[u8]), Wi
     let (done, rest) = u16_at(rest)?;
     let (known, rest) = boots_at(alloc, rest)?;
     let (rows, rest) = rows_at(alloc, rest)?;
-    let msg = MsgOf::DoViewChange {
+    let msg = DoViewChangeOf {
         view,
         last_normal,
         done,
         rows,
         known,
     };
-    Ok((msg, rest))
+    Ok((MsgOf::DoViewChange(msg), rest))
 }
 
 #[tactic(auto, unfolding(crate::specs::Reading::start_view_at))]
@@ -108,7 +108,8 @@ fn start_view_at(alloc: Global, bytes: &[u8]) -> Result<(Message, &[u8]), WireFa
     let (view, rest) = u32_at(bytes)?;
     let (done, rest) = u16_at(rest)?;
     let (rows, rest) = rows_at(alloc, rest)?;
-    Ok((MsgOf::StartView { view, done, rows }, rest))
+    let msg = StartViewOf { view, done, rows };
+    Ok((MsgOf::StartView(msg), rest))
 }
 
 #[tactic(auto, unfolding(crate::specs::Reading::new_state_at))]
@@ -119,13 +120,13 @@ fn new_state_at(alloc: Global, bytes: &[u8]) -> Result<(Message, &[u8]), WireFau
     let (base, rest) = u16_at(rest)?;
     let (done, rest) = u16_at(rest)?;
     let (rows, rest) = rows_at(alloc, rest)?;
-    let msg = MsgOf::NewState {
+    let msg = NewStateOf {
         view,
         base,
         done,
         rows,
     };
-    Ok((msg, rest))
+    Ok((MsgOf::NewState(msg), rest))
 }
 
 #[tactic(auto, unfolding(crate::specs::Reading::recovery_response_at))]
@@ -136,13 +137,13 @@ fn recovery_response_at(alloc: Global, bytes: &[u8]) -> Result<(Message, &[u8]),
     let (nonce, rest) = u32_at(rest)?;
     let (known, rest) = boots_at(alloc, rest)?;
     let (state, rest) = option_at(alloc, rest)?;
-    let msg = MsgOf::RecoveryResponse {
+    let msg = RecoveryResponseOf {
         view,
         nonce,
         state,
         known,
     };
-    Ok((msg, rest))
+    Ok((MsgOf::RecoveryResponse(msg), rest))
 }
 
 #[tactic(auto, unfolding(crate::specs::Reading::answer_at))]

@@ -18,7 +18,10 @@ use arrayvec::ArrayVec;
 use byteorder::{BigEndian, ByteOrder};
 use pvp_types::{Cmd, PayOrder, Reason, Reply};
 use std::io::{self, Write};
-use vr_types::{Known, MAX_ROWS, MsgOf, PAGE_ROWS, RowOf, RowsOf, StateOf};
+use vr_types::{
+    DoViewChangeOf, Known, MAX_ROWS, MsgOf, NewStateOf, PAGE_ROWS, PrepareOf, RecoveryResponseOf,
+    RowOf, RowsOf, StartViewOf, StateOf,
+};
 
 /// Bytes on the stack. What of a message stands in front of its rows fits.
 type Piece = ArrayVec<u8, 64>;
@@ -51,10 +54,10 @@ fn last_rows(msg: &Message) -> Option<&RowsOf<Cmd>>
     ensures { option_map (λ lent. lent.now) result ≡ piece.last_rows msg.now }
 {
     match msg {
-        MsgOf::DoViewChange { rows, .. } => Some(rows),
-        MsgOf::StartView { rows, .. } => Some(rows),
-        MsgOf::NewState { rows, .. } => Some(rows),
-        MsgOf::RecoveryResponse { state, .. } => rows_of(state),
+        MsgOf::DoViewChange(msg) => Some(&msg.rows),
+        MsgOf::StartView(msg) => Some(&msg.rows),
+        MsgOf::NewState(msg) => Some(&msg.rows),
+        MsgOf::RecoveryResponse(msg) => rows_of(&msg.state),
         _ => None,
     }
 }
@@ -491,16 +494,16 @@ fn kind_of(msg: &Message) -> u8
 {
     match msg {
         MsgOf::Request { .. } => 1,
-        MsgOf::Prepare { .. } => 2,
+        MsgOf::Prepare(_) => 2,
         MsgOf::PrepareOk { .. } => 3,
         MsgOf::Commit { .. } => 4,
         MsgOf::StartViewChange { .. } => 5,
-        MsgOf::DoViewChange { .. } => 6,
-        MsgOf::StartView { .. } => 7,
+        MsgOf::DoViewChange(_) => 6,
+        MsgOf::StartView(_) => 7,
         MsgOf::GetState { .. } => 8,
-        MsgOf::NewState { .. } => 9,
+        MsgOf::NewState(_) => 9,
         MsgOf::Recovery { .. } => 10,
-        MsgOf::RecoveryResponse { .. } => 11,
+        MsgOf::RecoveryResponse(_) => 11,
         MsgOf::Reply { .. } => 12,
         MsgOf::PayOrder(_) => 13,
     }
@@ -525,37 +528,16 @@ fn push_front(out: &mut Piece, msg: &Message)
 {
     match msg {
         MsgOf::Request { number, cmd } => push_request(out, *number, *cmd),
-        MsgOf::Prepare {
-            view,
-            place,
-            done,
-            row,
-        } => push_prepare(out, *view, *place, *done, *row),
+        MsgOf::Prepare(msg) => push_prepare(out, msg),
         MsgOf::PrepareOk { view, place } => push_view_and_place(out, *view, *place),
         MsgOf::Commit { view, done } => push_view_and_place(out, *view, *done),
         MsgOf::StartViewChange { view, known } => push_start_view_change(out, *view, known),
-        MsgOf::DoViewChange {
-            view,
-            last_normal,
-            done,
-            rows,
-            known,
-        } => push_do_view_change(out, *view, *last_normal, *done, rows, known),
-        MsgOf::StartView { view, done, rows } => push_start_view(out, *view, *done, rows),
+        MsgOf::DoViewChange(msg) => push_do_view_change(out, msg),
+        MsgOf::StartView(msg) => push_start_view(out, msg),
         MsgOf::GetState { view, base } => push_view_and_place(out, *view, *base),
-        MsgOf::NewState {
-            view,
-            base,
-            done,
-            rows,
-        } => push_new_state(out, *view, *base, *done, rows),
+        MsgOf::NewState(msg) => push_new_state(out, msg),
         MsgOf::Recovery { nonce } => push_u32(out, *nonce),
-        MsgOf::RecoveryResponse {
-            view,
-            nonce,
-            state,
-            known,
-        } => push_regained(out, *view, *nonce, state, known),
+        MsgOf::RecoveryResponse(msg) => push_regained(out, msg),
         MsgOf::Reply {
             view,
             number,
@@ -574,14 +556,14 @@ fn push_request(out: &mut Piece, number: u32, cmd: Cmd)
     push_command(out, cmd);
 }
 
-fn push_prepare(out: &mut Piece, view: u32, place: u16, done: u16, row: RowOf<Cmd>)
+fn push_prepare(out: &mut Piece, msg: &PrepareOf<Cmd>)
     requires { array_vec_len out.old + 39 ≤ piece.room }
-    ensures bytes { out.new.items ≡ out.old.items ++ spell.body (message.Prepare view place done row) }
-    ensures fits { RowFits row }
+    ensures bytes { out.new.items ≡ out.old.items ++ spell.body (message.Prepare msg.now) }
+    ensures fits { MessageFits (message.Prepare msg.now) }
 {
-    push_view_and_place(out, view, place);
-    push_u16(out, done);
-    push_row(out, row);
+    push_view_and_place(out, msg.view, msg.place);
+    push_u16(out, msg.done);
+    push_row(out, msg.row);
 }
 
 fn push_start_view_change(out: &mut Piece, view: u32, known: &Known)
@@ -594,61 +576,49 @@ fn push_start_view_change(out: &mut Piece, view: u32, known: &Known)
     push_boots(out, known);
 }
 
-fn push_do_view_change(
-    out: &mut Piece,
-    view: u32,
-    last_normal: u32,
-    done: u16,
-    rows: &RowsOf<Cmd>,
-    known: &Known,
-)
-    requires count { spell.is_site_count (length known.now) ≡ true }
+fn push_do_view_change(out: &mut Piece, msg: &DoViewChangeOf<Cmd>)
+    requires count { spell.is_site_count (length msg.now.known) ≡ true }
     requires room { array_vec_len out.old + 41 ≤ piece.room }
-    ensures bytes { out.new.items ++ flat_map spell.row rows.now ≡ out.old.items
-        ++ spell.body (message.DoViewChange view last_normal done rows.now known.now) }
-    ensures fits { BootsFit known.now }
+    ensures bytes { out.new.items ++ flat_map spell.row msg.now.rows ≡ out.old.items ++ spell.body (message.DoViewChange msg.now) }
+    ensures fits { RowsFit msg.now.rows → MessageFits (message.DoViewChange msg.now) }
 {
-    push_u32(out, view);
-    push_view_and_place(out, last_normal, done);
-    push_boots(out, known);
-    push_count(out, rows);
+    push_u32(out, msg.view);
+    push_view_and_place(out, msg.last_normal, msg.done);
+    push_boots(out, &msg.known);
+    push_count(out, &msg.rows);
 }
 
-fn push_start_view(out: &mut Piece, view: u32, done: u16, rows: &RowsOf<Cmd>)
+fn push_start_view(out: &mut Piece, msg: &StartViewOf<Cmd>)
     requires { array_vec_len out.old + 8 ≤ piece.room }
-    ensures bytes { out.new.items ++ flat_map spell.row rows.now ≡ out.old.items ++ spell.body (message.StartView view done rows.now) }
+    ensures bytes { out.new.items ++ flat_map spell.row msg.now.rows ≡ out.old.items ++ spell.body (message.StartView msg.now) }
+    ensures fits { RowsFit msg.now.rows → MessageFits (message.StartView msg.now) }
 {
-    push_view_and_place(out, view, done);
-    push_count(out, rows);
+    push_view_and_place(out, msg.view, msg.done);
+    push_count(out, &msg.rows);
 }
 
-fn push_new_state(out: &mut Piece, view: u32, base: u16, done: u16, rows: &RowsOf<Cmd>)
+fn push_new_state(out: &mut Piece, msg: &NewStateOf<Cmd>)
     requires { array_vec_len out.old + 10 ≤ piece.room }
-    ensures bytes { out.new.items ++ flat_map spell.row rows.now ≡ out.old.items ++ spell.body (message.NewState view base done rows.now) }
+    ensures bytes { out.new.items ++ flat_map spell.row msg.now.rows ≡ out.old.items ++ spell.body (message.NewState msg.now) }
+    ensures fits { RowsFit msg.now.rows → MessageFits (message.NewState msg.now) }
 {
-    push_view_and_place(out, view, base);
-    push_u16(out, done);
-    push_count(out, rows);
+    push_view_and_place(out, msg.view, msg.base);
+    push_u16(out, msg.done);
+    push_count(out, &msg.rows);
 }
 
 /// What a site answers to a recovering one.
-fn push_regained(
-    out: &mut Piece,
-    view: u32,
-    nonce: u32,
-    state: &Option<StateOf<Cmd>>,
-    known: &Known,
-)
-    requires count { spell.is_site_count (length known.now) ≡ true }
+fn push_regained(out: &mut Piece, msg: &RecoveryResponseOf<Cmd>)
+    requires count { spell.is_site_count (length msg.now.known) ≡ true }
     requires room { array_vec_len out.old + 42 ≤ piece.room }
-    ensures bytes { out.new.items ++ piece.spelled (piece.rows_of state.now) ≡ out.old.items
-        ++ spell.body (message.RecoveryResponse view nonce state.now known.now) }
-    ensures fits { piece.LastFits (piece.rows_of state.now) → BootsFit known.now × StateFits state.now }
+    ensures bytes { out.new.items ++ piece.spelled (piece.rows_of msg.now.state) ≡ out.old.items
+        ++ spell.body (message.RecoveryResponse msg.now) }
+    ensures fits { piece.LastFits (piece.rows_of msg.now.state) → MessageFits (message.RecoveryResponse msg.now) }
 {
-    push_u32(out, view);
-    push_u32(out, nonce);
-    push_boots(out, known);
-    push_state(out, state);
+    push_u32(out, msg.view);
+    push_u32(out, msg.nonce);
+    push_boots(out, &msg.known);
+    push_state(out, &msg.state);
 }
 
 /// What a client is answered.

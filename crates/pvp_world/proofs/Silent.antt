@@ -11,6 +11,9 @@ use Rattle.vr_types.specs.declared.limits.TheConstants.{MAX_ROWS}
 use Rattle.vr_types.specs.declared.machine.Machine.{Ghosts}
 use Rattle.vr_types.specs.declared.message.MsgOf.{MsgOf}
 use Rattle.vr_types.specs.declared.message.MsgOf.TheVariants.{Request, Prepare, PrepareOk, Commit, StartViewChange, DoViewChange, StartView, GetState, NewState, Recovery, RecoveryResponse, Reply, PayOrder}
+use Rattle.vr_types.specs.declared.message.PrepareOf.{PrepareOf}
+use Rattle.vr_types.specs.declared.message.StartViewOf.{StartViewOf}
+use Rattle.vr_types.specs.declared.message.NewStateOf.{NewStateOf}
 use Rattle.vr_types.specs.declared.row.RowOf.{RowOf}
 use Rattle.vr_types.specs.Cell.{nonce_of}
 use Rattle.vr_types.specs.Group.{primary}
@@ -59,12 +62,12 @@ module _ (R O : Type 0) {C : Type 0} (choose : Choice C) (f me : ℕ) (x : Site 
       again None = silent
       again (Some last) = quiet_if ((row.number == newest x.log row.client) && (last.1.number == row.number)) _ _ tt silent
 
-  prepare_quiet : (from w place k : ℕ) (row : RowOf C) → IsQuiet (on_prepare {R = R} {O = O} f me x from w place k row)
+  prepare_quiet : (from : ℕ) (msg : PrepareOf C) → IsQuiet (on_prepare {R = R} {O = O} f me x from msg)
   unfolding on_prepare
-  prepare_quiet from w place k row =
-      quiet_if (not (primary f w == from)) _ _ silent
+  prepare_quiet from msg =
+      quiet_if (not (primary f msg.view == from)) _ _ silent
       (quiet_if (is_recovering x.status) _ _ silent
-      (quiet_if (nat_lt w x.view) _ _ silent (quiet_if (nat_lt x.view w || is_change x.status) _ _ tt tt)))
+      (quiet_if (nat_lt msg.view x.view) _ _ silent (quiet_if (nat_lt x.view msg.view || is_change x.status) _ _ tt tt)))
 
   commit_quiet : (from w k : ℕ) → IsQuiet (on_commit {R = R} {O = O} f me x from w k)
   unfolding on_commit
@@ -108,13 +111,13 @@ module _ (R O : Type 0) {C : Type 0} (choose : Choice C) (f me : ℕ) (x : Site 
   taking_quiet : (w k : ℕ) (log : List (RowOf C)) → IsQuiet (takes_log {R = R} {O = O} choose f me x w k log)
   taking_quiet w k log = quiet_if (begins_with_executed choose.same x log) _ _ tt silent
 
-  start_view_quiet : (from w k : ℕ) (log : List (RowOf C)) → IsQuiet (on_start_view {R = R} {O = O} choose f me x from w k log)
+  start_view_quiet : (from : ℕ) (msg : StartViewOf C) → IsQuiet (on_start_view {R = R} {O = O} choose f me x from msg)
   unfolding on_start_view
-  start_view_quiet from w k log =
-      quiet_if (not (primary f w == from)) _ _ silent
+  start_view_quiet from msg =
+      quiet_if (not (primary f msg.view == from)) _ _ silent
       (quiet_if (is_recovering x.status) _ _ silent
-      (quiet_if (nat_lt w x.view) _ _ silent
-      (quiet_if (is_normal x.status && (w == x.view)) _ _ silent (taking_quiet w k log))))
+      (quiet_if (nat_lt msg.view x.view) _ _ silent
+      (quiet_if (is_normal x.status && (msg.view == x.view)) _ _ silent (taking_quiet msg.view msg.done msg.rows))))
 
   timer_quiet : IsQuiet (on_timer {R = R} {O = O} f me x)
   unfolding on_timer
@@ -131,16 +134,16 @@ module _ (R O : Type 0) {C : Type 0} (choose : Choice C) (f me : ℕ) (x : Site 
       (quiet_if (not (w == x.view)) _ _ silent
       (quiet_if (not (primary f x.view == me)) _ _ silent (quiet_if (nat_lt (length x.log) base) _ _ silent tt)))
 
-  new_state_quiet : (from w base k : ℕ) (rows : List (RowOf C)) → IsQuiet (on_new_state {R = R} {O = O} choose f me x from w base k rows)
+  new_state_quiet : (from : ℕ) (msg : NewStateOf C) → IsQuiet (on_new_state {R = R} {O = O} choose f me x from msg)
   unfolding on_new_state
-  new_state_quiet from w base k rows =
-      quiet_if (not (primary f w == from)) _ _ silent
+  new_state_quiet from msg =
+      quiet_if (not (primary f msg.view == from)) _ _ silent
       (quiet_if (is_recovering x.status) _ _ silent
-      (quiet_if (nat_lt w x.view) _ _ silent
-      (quiet_if (nat_lt MAX_ROWS (base + length rows)) _ _ silent
-      (quiet_if (is_normal x.status && (w == x.view)) _ _
-      (quiet_if (nat_le base (length x.log) && nat_lt (length x.log) (base + length rows)) _ _ (taking_quiet w k (take base x.log ++ rows)) silent)
-      (quiet_if (nat_le base x.done && nat_le x.done (base + length rows)) _ _ (taking_quiet w k (take base x.log ++ rows)) silent)))))
+      (quiet_if (nat_lt msg.view x.view) _ _ silent
+      (quiet_if (nat_lt MAX_ROWS (msg.base + length msg.rows)) _ _ silent
+      (quiet_if (is_normal x.status && (msg.view == x.view)) _ _
+      (quiet_if (nat_le msg.base (length x.log) && nat_lt (length x.log) (msg.base + length msg.rows)) _ _ (taking_quiet msg.view msg.done (take msg.base x.log ++ msg.rows)) silent)
+      (quiet_if (nat_le msg.base x.done && nat_le x.done (msg.base + length msg.rows)) _ _ (taking_quiet msg.view msg.done (take msg.base x.log ++ msg.rows)) silent)))))
 
   recovery_quiet : (from nonce : ℕ) → IsQuiet (on_recovery {R = R} {O = O} f me x from nonce)
   unfolding on_recovery
@@ -169,16 +172,16 @@ module _ (R O : Type 0) {C : Type 0} (choose : Choice C) (f me : ℕ) (x : Site 
 
   message_quiet : (actor : ℕ) (msg : MsgOf C R O) → IsQuiet (on_message choose f me x actor msg)
   message_quiet actor (Request number cmd) = request_quiet _
-  message_quiet actor (Prepare w place k row) = prepare_quiet _ w place k row
+  message_quiet actor (Prepare msg) = prepare_quiet _ msg
   message_quiet actor (PrepareOk w place) = prepare_ok_quiet _ w place
   message_quiet actor (Commit w k) = commit_quiet _ w k
   message_quiet actor (StartViewChange w known) = start_view_change_quiet w _
-  message_quiet actor (DoViewChange w last_normal k log known) = do_view_change_quiet w _
-  message_quiet actor (StartView w k log) = start_view_quiet _ w k log
+  message_quiet actor (DoViewChange msg) = do_view_change_quiet msg.view _
+  message_quiet actor (StartView msg) = start_view_quiet _ msg
   message_quiet actor (GetState w base) = get_state_quiet _ w base
-  message_quiet actor (NewState w base k rows) = new_state_quiet _ w base k rows
+  message_quiet actor (NewState msg) = new_state_quiet _ msg
   message_quiet actor (Recovery nonce) = recovery_quiet _ nonce
-  message_quiet actor (RecoveryResponse w nonce state known) = recovery_response_quiet nonce _
+  message_quiet actor (RecoveryResponse msg) = recovery_response_quiet msg.nonce _
   message_quiet actor (Reply view number reply) = tt
   message_quiet actor (PayOrder order) = tt
 

@@ -6,6 +6,8 @@ use Rattle.vr_types.specs.declared.event.Why.TheVariants.{Status, View, NotPrima
 use Rattle.vr_types.specs.declared.limits.TheConstants.{MAX_ROWS}
 use Rattle.vr_types.specs.declared.message.EnvelopeOf.{EnvelopeOf}
 use Rattle.vr_types.specs.declared.message.MsgOf.TheVariants.{PrepareOk, StartViewChange, NewState}
+use Rattle.vr_types.specs.declared.message.StartViewOf.{StartViewOf}
+use Rattle.vr_types.specs.declared.message.NewStateOf.{NewStateOf}
 use Rattle.vr_types.specs.declared.row.RowOf.{RowOf}
 use Rattle.vr_types.specs.Choice.{Choice}
 use Rattle.vr_types.specs.Group.{primary, mail, to_all}
@@ -49,55 +51,55 @@ module _ {C R O : Type 0} (f me : ℕ) (x : Site C) where
   on_get_state-stale from w base e same p short = rw (e, eq-eqb _ _ same, p, lt-ltb _ _ short)
 
   pub on_get_state-mine : (from w base : ℕ) → is_normal x.status ≡ true → w ≡ x.view → (primary f x.view == me) ≡ true → base ≤ length x.log
-      → ◌≡◌ {A = Step C R O} (on_get_state f me x from w base) (does x (mail me from (NewState x.view base x.done (drop base x.log)) ∷ []))
+      → ◌≡◌ {A = Step C R O} (on_get_state f me x from w base) (does x (mail me from (NewState (record { view = x.view; base = base; done = x.done; rows = drop base x.log })) ∷ []))
   unfolding on_get_state
   on_get_state-mine from w base e same p long = rw (e, eq-eqb _ _ same, p, le-ltb _ _ long)
 
 module _ {C R O : Type 0} (choose : Choice C) (f me : ℕ) (x : Site C) where
-  pub on_start_view-leader : (from w k : ℕ) (log : List (RowOf C)) → (primary f w == from) ≡ false → ◌≡◌ {A = Step C R O} (on_start_view choose f me x from w k log) (drops x NotPrimary)
+  pub on_start_view-leader : (from : ℕ) (msg : StartViewOf C) → (primary f msg.view == from) ≡ false → ◌≡◌ {A = Step C R O} (on_start_view choose f me x from msg) (drops x NotPrimary)
   unfolding on_start_view
-  on_start_view-leader from w k log p = rw p
+  on_start_view-leader from msg p = rw p
 
-  pub on_start_view-view : (from w k : ℕ) (log : List (RowOf C)) → (primary f w == from) ≡ true → is_recovering x.status ≡ false → w < x.view → ◌≡◌ {A = Step C R O} (on_start_view choose f me x from w k log) (drops x View)
+  pub on_start_view-view : (from : ℕ) (msg : StartViewOf C) → (primary f msg.view == from) ≡ true → is_recovering x.status ≡ false → msg.view < x.view → ◌≡◌ {A = Step C R O} (on_start_view choose f me x from msg) (drops x View)
   unfolding on_start_view
-  on_start_view-view from w k log p e old = rw (p, e, lt-ltb _ _ old)
+  on_start_view-view from msg p e old = rw (p, e, lt-ltb _ _ old)
 
-  pub on_start_view-known : (from w k : ℕ) (log : List (RowOf C)) → (primary f w == from) ≡ true → is_recovering x.status ≡ false → x.view ≤ w → (is_normal x.status && (w == x.view)) ≡ true
-      → ◌≡◌ {A = Step C R O} (on_start_view choose f me x from w k log) (drops x Known)
+  pub on_start_view-known : (from : ℕ) (msg : StartViewOf C) → (primary f msg.view == from) ≡ true → is_recovering x.status ≡ false → x.view ≤ msg.view → (is_normal x.status && (msg.view == x.view)) ≡ true
+      → ◌≡◌ {A = Step C R O} (on_start_view choose f me x from msg) (drops x Known)
   unfolding on_start_view
-  on_start_view-known from w k log p e new here = rw (p, e, le-ltb _ _ new, here)
+  on_start_view-known from msg p e new here = rw (p, e, le-ltb _ _ new, here)
 
-  pub on_start_view-takes : (from w k : ℕ) (log : List (RowOf C)) → (primary f w == from) ≡ true → is_recovering x.status ≡ false → x.view ≤ w → (is_normal x.status && (w == x.view)) ≡ false
-      → ◌≡◌ {A = Step C R O} (on_start_view choose f me x from w k log) (takes_log choose f me x w k log)
+  pub on_start_view-takes : (from : ℕ) (msg : StartViewOf C) → (primary f msg.view == from) ≡ true → is_recovering x.status ≡ false → x.view ≤ msg.view → (is_normal x.status && (msg.view == x.view)) ≡ false
+      → ◌≡◌ {A = Step C R O} (on_start_view choose f me x from msg) (takes_log choose f me x msg.view msg.done msg.rows)
   unfolding on_start_view
-  on_start_view-takes from w k log p e new here = rw (p, e, le-ltb _ _ new, here)
+  on_start_view-takes from msg p e new here = rw (p, e, le-ltb _ _ new, here)
 
-  pub on_new_state-leader : (from w base k : ℕ) (rows : List (RowOf C)) → (primary f w == from) ≡ false → ◌≡◌ {A = Step C R O} (on_new_state choose f me x from w base k rows) (drops x NotPrimary)
+  pub on_new_state-leader : (from : ℕ) (msg : NewStateOf C) → (primary f msg.view == from) ≡ false → ◌≡◌ {A = Step C R O} (on_new_state choose f me x from msg) (drops x NotPrimary)
   unfolding on_new_state
-  on_new_state-leader from w base k rows p = rw p
+  on_new_state-leader from msg p = rw p
 
-  pub on_new_state-view : (from w base k : ℕ) (rows : List (RowOf C)) → (primary f w == from) ≡ true → is_recovering x.status ≡ false → w < x.view → ◌≡◌ {A = Step C R O} (on_new_state choose f me x from w base k rows) (drops x View)
+  pub on_new_state-view : (from : ℕ) (msg : NewStateOf C) → (primary f msg.view == from) ≡ true → is_recovering x.status ≡ false → msg.view < x.view → ◌≡◌ {A = Step C R O} (on_new_state choose f me x from msg) (drops x View)
   unfolding on_new_state
-  on_new_state-view from w base k rows p e old = rw (p, e, lt-ltb _ _ old)
+  on_new_state-view from msg p e old = rw (p, e, lt-ltb _ _ old)
 
-  on_new_state-is : (from w base k : ℕ) (rows : List (RowOf C)) → (primary f w == from) ≡ true → is_recovering x.status ≡ false → x.view ≤ w
-      → ◌≡◌ {A = Step C R O} (on_new_state choose f me x from w base k rows) (if rows_fit x w base (length rows) then takes_log choose f me x w k (take base x.log ++ rows) else drops x Stale)
+  on_new_state-is : (from : ℕ) (msg : NewStateOf C) → (primary f msg.view == from) ≡ true → is_recovering x.status ≡ false → x.view ≤ msg.view
+      → ◌≡◌ {A = Step C R O} (on_new_state choose f me x from msg) (if rows_fit x msg.view msg.base (length msg.rows) then takes_log choose f me x msg.view msg.done (take msg.base x.log ++ msg.rows) else drops x Stale)
   unfolding on_new_state
-  on_new_state-is from w base k rows p e new = rw (p, e, le-ltb _ _ new)
-      (by_tests (nat_lt MAX_ROWS (base + length rows)) (is_normal x.status && (w == x.view)) (nat_le base (length x.log) && nat_lt (length x.log) (base + length rows)) (nat_le base x.done && nat_le x.done (base + length rows)) (takes_log choose f me x w k (take base x.log ++ rows)) (drops x Stale))
+  on_new_state-is from msg p e new = rw (p, e, le-ltb _ _ new)
+      (by_tests (nat_lt MAX_ROWS (msg.base + length msg.rows)) (is_normal x.status && (msg.view == x.view)) (nat_le msg.base (length x.log) && nat_lt (length x.log) (msg.base + length msg.rows)) (nat_le msg.base x.done && nat_le x.done (msg.base + length msg.rows)) (takes_log choose f me x msg.view msg.done (take msg.base x.log ++ msg.rows)) (drops x Stale))
     where
       by_tests : (a b c d : Bool) (s t : Step C R O) → (if a then t else if b then (if c then s else t) else (if d then s else t)) ≡ (if not a && (if b then c else d) then s else t)
       by_tests true b c d s t = refl
       by_tests false true c d s t = refl
       by_tests false false c d s t = refl
 
-  pub on_new_state-stale : (from w base k : ℕ) (rows : List (RowOf C)) → (primary f w == from) ≡ true → is_recovering x.status ≡ false → x.view ≤ w → rows_fit x w base (length rows) ≡ false
-      → ◌≡◌ {A = Step C R O} (on_new_state choose f me x from w base k rows) (drops x Stale)
-  on_new_state-stale from w base k rows p e new fit = on_new_state-is from w base k rows p e new ∙ ap (λ b. let s : Step C R O = if b then takes_log choose f me x w k (take base x.log ++ rows) else drops x Stale in s) fit
+  pub on_new_state-stale : (from : ℕ) (msg : NewStateOf C) → (primary f msg.view == from) ≡ true → is_recovering x.status ≡ false → x.view ≤ msg.view → rows_fit x msg.view msg.base (length msg.rows) ≡ false
+      → ◌≡◌ {A = Step C R O} (on_new_state choose f me x from msg) (drops x Stale)
+  on_new_state-stale from msg p e new fit = on_new_state-is from msg p e new ∙ ap (λ b. let s : Step C R O = if b then takes_log choose f me x msg.view msg.done (take msg.base x.log ++ msg.rows) else drops x Stale in s) fit
 
-  pub on_new_state-takes : (from w base k : ℕ) (rows : List (RowOf C)) → (primary f w == from) ≡ true → is_recovering x.status ≡ false → x.view ≤ w → rows_fit x w base (length rows) ≡ true
-      → ◌≡◌ {A = Step C R O} (on_new_state choose f me x from w base k rows) (takes_log choose f me x w k (take base x.log ++ rows))
-  on_new_state-takes from w base k rows p e new fit = on_new_state-is from w base k rows p e new ∙ ap (λ b. let s : Step C R O = if b then takes_log choose f me x w k (take base x.log ++ rows) else drops x Stale in s) fit
+  pub on_new_state-takes : (from : ℕ) (msg : NewStateOf C) → (primary f msg.view == from) ≡ true → is_recovering x.status ≡ false → x.view ≤ msg.view → rows_fit x msg.view msg.base (length msg.rows) ≡ true
+      → ◌≡◌ {A = Step C R O} (on_new_state choose f me x from msg) (takes_log choose f me x msg.view msg.done (take msg.base x.log ++ msg.rows))
+  on_new_state-takes from msg p e new fit = on_new_state-is from msg p e new ∙ ap (λ b. let s : Step C R O = if b then takes_log choose f me x msg.view msg.done (take msg.base x.log ++ msg.rows) else drops x Stale in s) fit
 
   pub on_start_view_change-view : (w : ℕ) (start : Start) → is_recovering x.status ≡ false → w < x.view → ◌≡◌ {A = Step C R O} (on_start_view_change choose f me x w start) (drops x View)
   unfolding on_start_view_change

@@ -31,11 +31,11 @@ done_in_all x k log = max x.done (min k (length log))
 
 -- the view was opened
 pub opened_meets : {H C R O S : Type 0} (m : Ghosts H C R O S) (start : H) (f me : ℕ) (n : Running H C R O S) (out : OutcomeOf C R O) (x : Site C) (log : List (RowOf C)) (k : ℕ) (sent : List (EnvelopeOf C R O)) → out.dropped ≡ None
-    → out.sent.items ≡ (sent ++ to_all f me (StartView x.view (done_in_all x k log) log)) ++ map (reply_mail me x.view) (filter_map (answer_to m start log) (places_between x.done (done_in_all x k log)))
+    → out.sent.items ≡ (sent ++ to_all f me (StartView (record { view = x.view; done = done_in_all x k log; rows = log }))) ++ map (reply_mail me x.view) (filter_map (answer_to m start log) (places_between x.done (done_in_all x k log)))
     → IsRunning m start f n [] → normal_with x.view (done_in_all x k log) log x.known x.cell ≡ site_of n [] x.cell
     → Meets m start f me n out (opened_with f me log k (record { site = x; sent = sent }))
 opened_meets m start f me n out x log k sent dropped mails runs site =
-    let told = sent ++ to_all f me (StartView x.view (done_in_all x k log) log) in
+    let told = sent ++ to_all f me (StartView (record { view = x.view; done = done_in_all x k log; rows = log })) in
     let y = executed_to k (normal_in x.view log x) in
     record {
       running = runs;

@@ -9,7 +9,7 @@ ghost use Rattle.vr_log.specs.Running.{IsSound, IsRunning, Follows, SumUp, site_
 use std::alloc::{AllocError, Global};
 use vr_log::Running;
 use vr_log::send::{mail_to, primary_of};
-use vr_types::{Config, Envelope, Machine, MsgOf, Outcome, OutcomeOf, Status};
+use vr_types::{Config, DoViewChangeOf, Envelope, Machine, MsgOf, Outcome, OutcomeOf, Status};
 
 /// Timer: the change to the next view begins, and all are told.
 pub fn timer<M: Machine>(
@@ -59,13 +59,13 @@ pub fn own_vote<M: Machine>(
 ) -> Result<Envelope<M>, AllocError>
     ensures { IfOk result (λ mail. (acks : List Ack) (cell : Boot) → mail ∷ [] ≡ sends_vote config.f config.me (site_of running.now acks cell)) }
 {
-    let msg = MsgOf::DoViewChange {
+    let msg = MsgOf::DoViewChange(DoViewChangeOf {
         view: running.view,
         last_normal: running.last_normal,
         done: running.kept.done,
         rows: running.kept.log.copy_from(alloc, 0)?,
         known: running.known.copy(alloc)?,
-    };
+    });
     Ok(mail_to(config, primary_of(config, running.view), msg))
 }
 

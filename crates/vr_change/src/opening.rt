@@ -18,7 +18,9 @@ use std::alloc::{AllocError, Global};
 use std::mem;
 use vr_log::send::{dropped, mail_to, send_replies};
 use vr_log::{Running, VoteOf};
-use vr_types::{Config, Envelope, Known, Machine, MsgOf, Outcome, OutcomeOf, RowsOf, Why};
+use vr_types::{
+    Config, Envelope, Known, Machine, MsgOf, Outcome, OutcomeOf, RowsOf, StartViewOf, Why,
+};
 
 /// Opens the view with the votes that are kept.
 pub fn open_with_kept<M: Machine>(
@@ -206,7 +208,7 @@ fn tell_view<M: Machine>(
     running: &Running<M>,
     sent: &mut Vec<Envelope<M>>,
 ) -> Result<(), AllocError>
-    ensures { OnOk result (sent.new.items ≡ sent.old.items ++ to_all config.f config.me (MsgOf.StartView running.now.view running.now.kept.done running.now.kept.log)) }
+    ensures { OnOk result (sent.new.items ≡ sent.old.items ++ to_all config.f config.me (MsgOf.StartView (record { view = running.now.view; done = running.now.kept.done; rows = running.now.kept.log }))) }
 {
     for site in 0..2 * config.f + 1 {
         if site != config.me {
@@ -224,12 +226,12 @@ fn view_mail<M: Machine>(
     site: u16,
 ) -> Result<Envelope<M>, AllocError>
     requires { site ≤ 2 * config.f }
-    ensures { IfOk result (λ sent. sent ≡ mail config.me site (MsgOf.StartView running.now.view running.now.kept.done running.now.kept.log)) }
+    ensures { IfOk result (λ sent. sent ≡ mail config.me site (MsgOf.StartView (record { view = running.now.view; done = running.now.kept.done; rows = running.now.kept.log }))) }
 {
-    let msg = MsgOf::StartView {
+    let msg = MsgOf::StartView(StartViewOf {
         view: running.view,
         done: running.kept.done,
         rows: running.kept.log.copy_from(alloc, 0)?,
-    };
+    });
     Ok(mail_to(config, site, msg))
 }

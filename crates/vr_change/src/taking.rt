@@ -11,7 +11,7 @@ use crate::change::give_up_collected;
 use std::alloc::{AllocError, Global};
 use vr_log::Running;
 use vr_log::send::{acknowledge_log, dropped, primary_of, runs_normally, silent};
-use vr_types::{Config, MAX_ROWS, Machine, Outcome, RowsOf, Status, Why};
+use vr_types::{Config, MAX_ROWS, Machine, Outcome, RowsOf, StartViewOf, Status, Why};
 
 /// STARTVIEW: the site takes the log with which the primary opened its view, and is normal in that view.
 pub fn start_view<M: Machine>(
@@ -19,27 +19,25 @@ pub fn start_view<M: Machine>(
     config: Config,
     running: &mut Running<M>,
     from: u16,
-    view: u32,
-    done: u16,
-    rows: RowsOf<M::Cmd>,
+    msg: StartViewOf<M::Cmd>,
 ) -> Result<Outcome<M>, AllocError>
     requires { IsReady M.Machine running.old.kept }
     ensures sound { OnOk result ((start : M) → IsSound M.Machine start config.f running.old → IsSound M.Machine start config.f running.new) }
     ensures later { running.old.view ≤ running.new.view }
     ensures step { (choose : Choice M.Cmd) (start : M) (acks : List Ack) (cell : Boot) → IsRight config.f choose → IsRunning M.Machine start config.f running.old acks →
-        Follows M.Machine start config.f config.me running.new result (on_start_view choose config.f config.me (site_of running.old acks cell) from view done rows) }
+        Follows M.Machine start config.f config.me running.new result (on_start_view choose config.f config.me (site_of running.old acks cell) from msg) }
 {
-    if primary_of(config, view) != from {
+    if primary_of(config, msg.view) != from {
         return Ok(dropped(alloc, Why::NotPrimary));
     }
-    if view < running.view {
+    if msg.view < running.view {
         return Ok(dropped(alloc, Why::View));
     }
-    if is_normal_in(running, view) {
+    if is_normal_in(running, msg.view) {
         return Ok(dropped(alloc, Why::Known));
     }
-    let _len = rows.len();
-    take_log(alloc, config, running, view, 0, done, rows)
+    let _len = msg.rows.len();
+    take_log(alloc, config, running, msg.view, 0, msg.done, msg.rows)
 }
 
 /// Whether the site is normal in a view.

@@ -11,7 +11,7 @@ use crate::taking::{is_normal_in, take_log};
 use std::alloc::{AllocError, Global};
 use vr_log::Running;
 use vr_log::send::{dropped, mail_to, primary_of, runs_normally, sends_one};
-use vr_types::{Config, MAX_ROWS, Machine, MsgOf, Outcome, RowsOf, Why};
+use vr_types::{Config, MAX_ROWS, Machine, MsgOf, NewStateOf, Outcome, Why};
 
 /// GETSTATE: the primary of the view sends the rows after the first `base`.
 pub fn get_state<M: Machine>(
@@ -38,12 +38,12 @@ pub fn get_state<M: Machine>(
     if running.kept.log.len() < base as usize {
         return Ok(dropped(alloc, Why::Stale));
     }
-    let msg = MsgOf::NewState {
+    let msg = MsgOf::NewState(NewStateOf {
         view: running.view,
         base,
         done: running.kept.done,
         rows: running.kept.log.copy_from(alloc, base as usize)?,
-    };
+    });
     sends_one(alloc, mail_to(config, from, msg))
 }
 
@@ -53,28 +53,25 @@ pub fn new_state<M: Machine>(
     config: Config,
     running: &mut Running<M>,
     from: u16,
-    view: u32,
-    base: u16,
-    done: u16,
-    rows: RowsOf<M::Cmd>,
+    msg: NewStateOf<M::Cmd>,
 ) -> Result<Outcome<M>, AllocError>
     requires { IsReady M.Machine running.old.kept }
     ensures sound { OnOk result ((start : M) → IsSound M.Machine start config.f running.old → IsSound M.Machine start config.f running.new) }
     ensures later { running.old.view ≤ running.new.view }
     ensures step { (choose : Choice M.Cmd) (start : M) (acks : List Ack) (cell : Boot) → IsRight config.f choose → IsRunning M.Machine start config.f running.old acks →
-        Follows M.Machine start config.f config.me running.new result (on_new_state choose config.f config.me (site_of running.old acks cell) from view base done rows) }
+        Follows M.Machine start config.f config.me running.new result (on_new_state choose config.f config.me (site_of running.old acks cell) from msg) }
 {
-    if primary_of(config, view) != from {
+    if primary_of(config, msg.view) != from {
         return Ok(dropped(alloc, Why::NotPrimary));
     }
-    if view < running.view {
+    if msg.view < running.view {
         return Ok(dropped(alloc, Why::View));
     }
-    let base = base as usize;
-    if !fits(running, view, base, rows.len()) {
+    let base = msg.base as usize;
+    if !fits(running, msg.view, base, msg.rows.len()) {
         return Ok(dropped(alloc, Why::Stale));
     }
-    take_log(alloc, config, running, view, base, done, rows)
+    take_log(alloc, config, running, msg.view, base, msg.done, msg.rows)
 }
 
 /// Whether so many rows after the first `base` fit the log.

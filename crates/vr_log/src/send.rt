@@ -7,24 +7,14 @@ ghost use Rattle.vr_log.specs.News.{news_msg};
 
 use crate::kept::AnswerOf;
 use std::alloc::{AllocError, Global};
-use vr_types::{Config, EnvelopeOf, FIRST_SITE, MsgOf, OutcomeOf, RowOf, Status, Why};
+use vr_types::{Config, EnvelopeOf, FIRST_SITE, MsgOf, OutcomeOf, PrepareOf, Status, Why};
 
 /// What a site tells all the others.
 #[derive(Clone, Copy)]
 pub enum News<C> {
-    Prepare {
-        view: u32,
-        place: u16,
-        done: u16,
-        row: RowOf<C>,
-    },
-    Commit {
-        view: u32,
-        done: u16,
-    },
-    Recovery {
-        nonce: u32,
-    },
+    Prepare(PrepareOf<C>),
+    Commit { view: u32, done: u16 },
+    Recovery { nonce: u32 },
 }
 
 impl<C: Copy> News<C> {
@@ -33,17 +23,7 @@ impl<C: Copy> News<C> {
         ensures { result ≡ news_msg self }
     {
         match self {
-            News::Prepare {
-                view,
-                place,
-                done,
-                row,
-            } => MsgOf::Prepare {
-                view,
-                place,
-                done,
-                row,
-            },
+            News::Prepare(prepare) => MsgOf::Prepare(prepare),
             News::Commit { view, done } => MsgOf::Commit { view, done },
             News::Recovery { nonce } => MsgOf::Recovery { nonce },
         }

@@ -4,6 +4,7 @@ use Rattle.std.proofs.lemmas.Bool.{lt-ltb, le-ltb, ne_eqb}
 use Rattle.vr_types.specs.declared.event.Why.TheVariants.{Full, Status, View, NotPrimary}
 use Rattle.vr_types.specs.declared.limits.TheConstants.{MAX_ROWS}
 use Rattle.vr_types.specs.declared.message.MsgOf.TheVariants.{Prepare}
+use Rattle.vr_types.specs.declared.message.PrepareOf.{PrepareOf}
 use Rattle.vr_types.specs.declared.row.RowOf.{RowOf}
 use Rattle.vr_types.specs.Choice.{Choice}
 use Rattle.vr_types.specs.Group.{primary, to_all}
@@ -33,26 +34,26 @@ module _ {C R O : Type 0} (f me : ℕ) (x : Site C) where
   pub appends-full : (row : RowOf C) → length x.log ≡ MAX_ROWS → ◌≡◌ {A = Step C R O} (appends f me x row) (drops x Full)
   appends-full row full = rw (eq-eqb _ _ full)
 
-  pub appends-room : (row : RowOf C) → length x.log ≢ MAX_ROWS → ◌≡◌ {A = Step C R O} (appends f me x row) (does (with_row row x) (to_all f me (Prepare x.view (length x.log + 1) x.done row)))
+  pub appends-room : (row : RowOf C) → length x.log ≢ MAX_ROWS → ◌≡◌ {A = Step C R O} (appends f me x row) (does (with_row row x) (to_all f me (Prepare (record { view = x.view; place = length x.log + 1; done = x.done; row = row }))))
   appends-room row room = rw (ne_eqb _ _ room)
 
-  pub on_prepare-leader : (from w n k : ℕ) (row : RowOf C) → (primary f w == from) ≡ false → ◌≡◌ {A = Step C R O} (on_prepare f me x from w n k row) (drops x NotPrimary)
+  pub on_prepare-leader : (from : ℕ) (msg : PrepareOf C) → (primary f msg.view == from) ≡ false → ◌≡◌ {A = Step C R O} (on_prepare f me x from msg) (drops x NotPrimary)
   unfolding on_prepare
-  on_prepare-leader from w n k row p = rw p
+  on_prepare-leader from msg p = rw p
 
-  pub on_prepare-view : (from w n k : ℕ) (row : RowOf C) → (primary f w == from) ≡ true → is_recovering x.status ≡ false → w < x.view → ◌≡◌ {A = Step C R O} (on_prepare f me x from w n k row) (drops x View)
+  pub on_prepare-view : (from : ℕ) (msg : PrepareOf C) → (primary f msg.view == from) ≡ true → is_recovering x.status ≡ false → msg.view < x.view → ◌≡◌ {A = Step C R O} (on_prepare f me x from msg) (drops x View)
   unfolding on_prepare
-  on_prepare-view from w n k row p e old = rw (p, e, lt-ltb _ _ old)
+  on_prepare-view from msg p e old = rw (p, e, lt-ltb _ _ old)
 
-  pub on_prepare-later : (from w n k : ℕ) (row : RowOf C) → (primary f w == from) ≡ true → is_recovering x.status ≡ false → x.view ≤ w → (nat_lt x.view w || is_change x.status) ≡ true
-      → ◌≡◌ {A = Step C R O} (on_prepare f me x from w n k row) (does x (asks_state f me w x.done))
+  pub on_prepare-later : (from : ℕ) (msg : PrepareOf C) → (primary f msg.view == from) ≡ true → is_recovering x.status ≡ false → x.view ≤ msg.view → (nat_lt x.view msg.view || is_change x.status) ≡ true
+      → ◌≡◌ {A = Step C R O} (on_prepare f me x from msg) (does x (asks_state f me msg.view x.done))
   unfolding on_prepare
-  on_prepare-later from w n k row p e new later = rw (p, e, le-ltb _ _ new, later)
+  on_prepare-later from msg p e new later = rw (p, e, le-ltb _ _ new, later)
 
-  pub on_prepare-here : (from w n k : ℕ) (row : RowOf C) → (primary f w == from) ≡ true → is_recovering x.status ≡ false → x.view ≤ w → (nat_lt x.view w || is_change x.status) ≡ false
-      → ◌≡◌ {A = Step C R O} (on_prepare f me x from w n k row) (prepares f me x n k row)
+  pub on_prepare-here : (from : ℕ) (msg : PrepareOf C) → (primary f msg.view == from) ≡ true → is_recovering x.status ≡ false → x.view ≤ msg.view → (nat_lt x.view msg.view || is_change x.status) ≡ false
+      → ◌≡◌ {A = Step C R O} (on_prepare f me x from msg) (prepares f me x msg)
   unfolding on_prepare
-  on_prepare-here from w n k row p e new later = rw (p, e, le-ltb _ _ new, later)
+  on_prepare-here from msg p e new later = rw (p, e, le-ltb _ _ new, later)
 
   pub on_commit-leader : (from w k : ℕ) → (primary f w == from) ≡ false → ◌≡◌ {A = Step C R O} (on_commit f me x from w k) (drops x NotPrimary)
   unfolding on_commit
@@ -105,16 +106,16 @@ pub enough_rows : {A : Type 0} (a b : ℕ) (p q : A) → b ≤ a → (if nat_lt 
 enough_rows a b p q h = ap (λ t. if t then p else q) (le-ltb a b h)
 
 -- the site after a PREPARE in its own view
-abbrev pub prepared : {C : Type 0} → ℕ → ℕ → RowOf C → Site C → Site C
-prepared place k row x = executed_to k (record x { log = if place == length x.log + 1 then x.log ++ row ∷ [] else x.log })
+abbrev pub prepared : {C : Type 0} → PrepareOf C → Site C → Site C
+prepared msg x = executed_to msg.done (record x { log = if msg.place == length x.log + 1 then x.log ++ msg.row ∷ [] else x.log })
 
-module _ {C R O : Type 0} (f me : ℕ) (x : Site C) (place k : ℕ) (row : RowOf C) where
-  prepares-is : ◌≡◌ {A = Step C R O} (prepares f me x place k row)
-      (does (prepared place k row x) (if nat_lt (length x.log + 1) place then asks_state f me x.view (length x.log) else acknowledges_all f me (prepared place k row x)))
-  prepares-is = ap (λ (y : Site C). let s : Step C R O = does (executed_to k y) (if nat_lt (length x.log + 1) place then asks_state f me x.view (length x.log) else acknowledges_all f me (executed_to k y)) in s) (with_next-is place row x)
+module _ {C R O : Type 0} (f me : ℕ) (x : Site C) (msg : PrepareOf C) where
+  prepares-is : ◌≡◌ {A = Step C R O} (prepares f me x msg)
+      (does (prepared msg x) (if nat_lt (length x.log + 1) msg.place then asks_state f me x.view (length x.log) else acknowledges_all f me (prepared msg x)))
+  prepares-is = ap (λ (y : Site C). let s : Step C R O = does (executed_to msg.done y) (if nat_lt (length x.log + 1) msg.place then asks_state f me x.view (length x.log) else acknowledges_all f me (executed_to msg.done y)) in s) (with_next-is msg.place msg.row x)
 
-  pub prepares-missing : length x.log + 1 < place → ◌≡◌ {A = Step C R O} (prepares f me x place k row) (does (prepared place k row x) (asks_state f me x.view (length x.log)))
-  prepares-missing h = prepares-is ∙ ap (does (prepared place k row x)) (missing_rows (length x.log + 1) place (asks_state f me x.view (length x.log)) (acknowledges_all f me (prepared place k row x)) h)
+  pub prepares-missing : length x.log + 1 < msg.place → ◌≡◌ {A = Step C R O} (prepares f me x msg) (does (prepared msg x) (asks_state f me x.view (length x.log)))
+  prepares-missing h = prepares-is ∙ ap (does (prepared msg x)) (missing_rows (length x.log + 1) msg.place (asks_state f me x.view (length x.log)) (acknowledges_all f me (prepared msg x)) h)
 
-  pub prepares-enough : place ≤ length x.log + 1 → ◌≡◌ {A = Step C R O} (prepares f me x place k row) (does (prepared place k row x) (acknowledges_all f me (prepared place k row x)))
-  prepares-enough h = prepares-is ∙ ap (does (prepared place k row x)) (enough_rows (length x.log + 1) place (asks_state f me x.view (length x.log)) (acknowledges_all f me (prepared place k row x)) h)
+  pub prepares-enough : msg.place ≤ length x.log + 1 → ◌≡◌ {A = Step C R O} (prepares f me x msg) (does (prepared msg x) (acknowledges_all f me (prepared msg x)))
+  prepares-enough h = prepares-is ∙ ap (does (prepared msg x)) (enough_rows (length x.log + 1) msg.place (asks_state f me x.view (length x.log)) (acknowledges_all f me (prepared msg x)) h)

@@ -13,7 +13,7 @@ use vr_log::send::{
     acknowledge_log, changes_view, dropped, mail_to, primary_of, sends_one, silent,
 };
 use vr_log::{Kept, Running};
-use vr_types::{Config, Machine, MsgOf, Outcome, OutcomeOf, Row, Status, Why};
+use vr_types::{Config, Machine, MsgOf, Outcome, OutcomeOf, PrepareOf, Row, Status, Why};
 
 /// PREPARE: the next row goes into the log, rows that are committed are executed, and the primary is told.
 pub fn prepare<M: Machine>(
@@ -21,28 +21,25 @@ pub fn prepare<M: Machine>(
     config: Config,
     running: &mut Running<M>,
     from: u16,
-    view: u32,
-    place: u16,
-    done: u16,
-    row: Row<M>,
+    msg: PrepareOf<M::Cmd>,
 ) -> Result<Outcome<M>, AllocError>
     requires { IsReady M.Machine running.old.kept }
     ensures sound { OnOk result ((start : M) → IsSound M.Machine start config.f running.old → IsSound M.Machine start config.f running.new) }
     ensures status { running.new.status ≡ running.old.status }
     ensures view { running.new.view ≡ running.old.view }
     ensures step { (start : M) (acks : List Ack) (cell : Boot) → IsRunning M.Machine start config.f running.old acks →
-        Follows M.Machine start config.f config.me running.new result (on_prepare config.f config.me (site_of running.old acks cell) from view place done row) }
+        Follows M.Machine start config.f config.me running.new result (on_prepare config.f config.me (site_of running.old acks cell) from msg) }
 {
-    if primary_of(config, view) != from {
+    if primary_of(config, msg.view) != from {
         return Ok(dropped(alloc, Why::NotPrimary));
     }
-    if view < running.view {
+    if msg.view < running.view {
         return Ok(dropped(alloc, Why::View));
     }
-    if lags(running.status, running.view, view) {
-        return ask_state(alloc, config, view, running.kept.done);
+    if lags(running.status, running.view, msg.view) {
+        return ask_state(alloc, config, msg.view, running.kept.done);
     }
-    take_row(alloc, config, running, place, done, row)
+    take_row(alloc, config, running, msg)
 }
 
 /// COMMIT: rows that are committed are executed.
@@ -85,21 +82,19 @@ fn take_row<M: Machine>(
     alloc: Global,
     config: Config,
     running: &mut Running<M>,
-    place: u16,
-    done: u16,
-    row: Row<M>,
+    msg: PrepareOf<M::Cmd>,
 ) -> Result<Outcome<M>, AllocError>
     requires { IsReady M.Machine running.old.kept }
     ensures sound { OnOk result ((start : M) → IsSound M.Machine start config.f running.old → IsSound M.Machine start config.f running.new) }
     ensures status { running.new.status ≡ running.old.status }
     ensures view { running.new.view ≡ running.old.view }
     ensures step { (start : M) (acks : List Ack) (cell : Boot) → IsRunning M.Machine start config.f running.old acks →
-        Follows M.Machine start config.f config.me running.new result (prepares config.f config.me (site_of running.old acks cell) place done row) }
+        Follows M.Machine start config.f config.me running.new result (prepares config.f config.me (site_of running.old acks cell) msg) }
 {
     let len = running.kept.log.len();
-    append_next(&mut running.kept, place, row)?;
-    let _ = running.kept.execute(alloc, done)?;
-    if len + 1 < place as usize {
+    append_next(&mut running.kept, msg.place, msg.row)?;
+    let _ = running.kept.execute(alloc, msg.done)?;
+    if len + 1 < msg.place as usize {
         ask_state(alloc, config, running.view, len as u16)
     } else {
         acknowledge_log(alloc, config, running.view, running.kept.log.len() as u16)

@@ -11,7 +11,7 @@ ghost use Rattle.vr_log.specs.Running.{IsRunning, Follows, site_of};
 use std::alloc::{AllocError, Global};
 use vr_log::Running;
 use vr_log::send::{News, mail_to_client, primary_of, silent, tell_all};
-use vr_types::{Config, Envelope, Machine, MsgOf, Outcome, OutcomeOf};
+use vr_types::{Config, Envelope, Machine, MsgOf, Outcome, OutcomeOf, PrepareOf};
 
 /// Beat of a normal site: the primary tells its backups again what they may have missed, and each client that has an
 /// open order.
@@ -44,12 +44,12 @@ fn news<M: Machine>(running: &Running<M>) -> News<M::Cmd>
     let done = running.kept.done;
     let _len = running.kept.log.len();
     match running.kept.log.get(done as usize) {
-        Some(row) => News::Prepare {
+        Some(row) => News::Prepare(PrepareOf {
             view: running.view,
             place: done + 1,
             done,
             row,
-        },
+        }),
         None => News::Commit {
             view: running.view,
             done,

@@ -9,7 +9,7 @@ ghost use Rattle.vr_log.specs.Running.{IsSound, IsRunning, Follows, site_of};
 use std::alloc::{AllocError, Global};
 use vr_log::Running;
 use vr_log::send::{News, dropped, mail_to_client, primary_of, runs_normally, sends_one, tell_all};
-use vr_types::{Config, MAX_ROWS, Machine, MsgOf, Outcome, OutcomeOf, Row, Why};
+use vr_types::{Config, MAX_ROWS, Machine, MsgOf, Outcome, OutcomeOf, PrepareOf, Row, Why};
 
 /// REQUEST: a client's new request goes into the log and to all backups, and its newest is answered again.
 pub fn request<M: Machine>(
@@ -56,12 +56,12 @@ fn append<M: Machine>(
     if place == MAX_ROWS {
         return Ok(dropped(alloc, Why::Full));
     }
-    let news = News::Prepare {
+    let news = News::Prepare(PrepareOf {
         view: running.view,
         place: (place + 1) as u16,
         done: running.kept.done,
         row,
-    };
+    });
     running.kept.append(row)?;
     let sent = tell_all(alloc, config, news)?;
     Ok(OutcomeOf {

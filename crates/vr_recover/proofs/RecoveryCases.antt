@@ -17,6 +17,6 @@ module _ {C R O : Type 0} (f me : ℕ) (x : Site C) (from nonce : ℕ) where
   on_recovery-stale e low = rw (e, low)
 
   pub on_recovery-normal : is_normal x.status ≡ true → nat_lt nonce (boot_of x.known from) ≡ false
-      → ◌≡◌ {A = Step C R O} (on_recovery f me x from nonce) (let y = notes from nonce x in does y (mail me from (RecoveryResponse y.view nonce (state_of_view f me y) y.known) ∷ []))
+      → ◌≡◌ {A = Step C R O} (on_recovery f me x from nonce) (let y = notes from nonce x in does y (mail me from (RecoveryResponse (record { view = y.view; nonce = nonce; state = state_of_view f me y; known = y.known })) ∷ []))
   unfolding on_recovery
   on_recovery-normal e high = rw (e, high)

@@ -9,7 +9,9 @@ ghost use Rattle.vr_log.specs.Running.{IsSound, IsRunning, Follows, site_of};
 use std::alloc::{AllocError, Global};
 use vr_log::Running;
 use vr_log::send::{News, dropped, mail_to, primary_of, runs_normally, sends_one, tell_all};
-use vr_types::{Config, Machine, MsgOf, Outcome, OutcomeOf, State, StateOf, Why};
+use vr_types::{
+    Config, Machine, MsgOf, Outcome, OutcomeOf, RecoveryResponseOf, State, StateOf, Why,
+};
 
 /// RECOVERY at a running site: a normal one notes the boot of its sender and answers with its view and with what it
 /// knows, and the primary of the view with its log and its commit-number as well. One of an earlier boot than is known
@@ -36,12 +38,12 @@ pub fn recovery<M: Machine>(
         return Ok(dropped(alloc, Why::Stale));
     }
     running.known.note(from, nonce);
-    let msg = MsgOf::RecoveryResponse {
+    let msg = MsgOf::RecoveryResponse(RecoveryResponseOf {
         view: running.view,
         nonce,
         state: state_of_its_view(alloc, config, running)?,
         known: running.known.copy(alloc)?,
-    };
+    });
     sends_one(alloc, mail_to(config, from, msg))
 }
 

@@ -5,7 +5,7 @@ use crate::trial::{Given, Trial, in_change, normal};
 use fixtures::Said;
 use std::alloc::{AllocError, Global};
 use std::test::Fail;
-use vr_types::{EventOf, Known, MsgOf, SiteFault, Why};
+use vr_types::{EventOf, Known, MsgOf, RecoveryResponseOf, SiteFault, Why};
 
 const NONE: [u32; 3] = [0, 0, 0];
 
@@ -124,13 +124,13 @@ fn long_vector(alloc: Global) -> Given {
 
 /// RECOVERYRESPONSE with none.
 fn empty_vector(alloc: Global) -> Given {
-    let response = MsgOf::RecoveryResponse {
+    let response = RecoveryResponseOf {
         view: 0,
         nonce: 0,
         state: None,
         known: Known::new(alloc),
     };
-    to(200, 201, response)
+    to(200, 201, MsgOf::RecoveryResponse(response))
 }
 
 #[test]

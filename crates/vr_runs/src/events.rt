@@ -3,7 +3,10 @@
 use crate::trial::Given;
 use fixtures::{Ask, Tally};
 use std::alloc::{AllocError, Global};
-use vr_types::{EnvelopeOf, EventOf, Known, Msg, MsgOf, RowOf, RowsOf, StateOf};
+use vr_types::{
+    DoViewChangeOf, EnvelopeOf, EventOf, Known, Msg, MsgOf, NewStateOf, PrepareOf,
+    RecoveryResponseOf, RowOf, RowsOf, StartViewOf, StateOf,
+};
 
 /// A message comes.
 pub fn to(site: u16, from: u16, msg: Msg<Tally>) -> Given {
@@ -52,16 +55,13 @@ pub fn request(site: u16, number: u32) -> Given {
 /// PREPARE of the request that has the place's number.
 pub fn prepare(site: u16, from: u16, view: u32, place: u16, done: u16) -> Given {
     let row = row(u32::from(place));
-    to(
-        site,
-        from,
-        MsgOf::Prepare {
-            view,
-            place,
-            done,
-            row,
-        },
-    )
+    let prepare = PrepareOf {
+        view,
+        place,
+        done,
+        row,
+    };
+    to(site, from, MsgOf::Prepare(prepare))
 }
 
 pub fn prepare_ok(site: u16, from: u16, view: u32, place: u16) -> Given {
@@ -97,19 +97,14 @@ pub fn do_view_change(
         done,
         numbers,
     } = vote;
-    let rows = rows(alloc, numbers)?;
-    let known = known(alloc, boots)?;
-    to(
-        site,
-        from,
-        MsgOf::DoViewChange {
-            view,
-            last_normal,
-            done,
-            rows,
-            known,
-        },
-    )
+    let change = DoViewChangeOf {
+        view,
+        last_normal,
+        done,
+        rows: rows(alloc, numbers)?,
+        known: known(alloc, boots)?,
+    };
+    to(site, from, MsgOf::DoViewChange(change))
 }
 
 pub fn start_view(
@@ -121,7 +116,8 @@ pub fn start_view(
     numbers: &[u32],
 ) -> Given {
     let rows = rows(alloc, numbers)?;
-    to(site, from, MsgOf::StartView { view, done, rows })
+    let opening = StartViewOf { view, done, rows };
+    to(site, from, MsgOf::StartView(opening))
 }
 
 pub fn get_state(site: u16, from: u16, view: u32, base: u16) -> Given {
@@ -137,17 +133,13 @@ pub fn new_state(
     done: u16,
     numbers: &[u32],
 ) -> Given {
-    let rows = rows(alloc, numbers)?;
-    to(
-        site,
-        201,
-        MsgOf::NewState {
-            view,
-            base,
-            done,
-            rows,
-        },
-    )
+    let state = NewStateOf {
+        view,
+        base,
+        done,
+        rows: rows(alloc, numbers)?,
+    };
+    to(site, 201, MsgOf::NewState(state))
 }
 
 pub fn recovery(site: u16, from: u16, nonce: u32) -> Given {
@@ -163,17 +155,13 @@ pub fn response(
     nonce: u32,
     boots: [u32; 3],
 ) -> Given {
-    let known = known(alloc, boots)?;
-    to(
-        site,
-        from,
-        MsgOf::RecoveryResponse {
-            view,
-            nonce,
-            state: None,
-            known,
-        },
-    )
+    let response = RecoveryResponseOf {
+        view,
+        nonce,
+        state: None,
+        known: known(alloc, boots)?,
+    };
+    to(site, from, MsgOf::RecoveryResponse(response))
 }
 
 /// RECOVERYRESPONSE with a state of one row, which is executed.
@@ -189,15 +177,11 @@ pub fn state_response(
         done: 1,
         rows: rows(alloc, &[1])?,
     });
-    let known = known(alloc, boots)?;
-    to(
-        site,
-        from,
-        MsgOf::RecoveryResponse {
-            view,
-            nonce,
-            state,
-            known,
-        },
-    )
+    let response = RecoveryResponseOf {
+        view,
+        nonce,
+        state,
+        known: known(alloc, boots)?,
+    };
+    to(site, from, MsgOf::RecoveryResponse(response))
 }

@@ -6,6 +6,9 @@ use Rattle.vr_types.specs.declared.event.Why.TheVariants as why
 use Rattle.vr_types.specs.declared.limits.TheConstants.{MAX_ROWS}
 use Rattle.vr_types.specs.declared.message.MsgOf.{MsgOf}
 use Rattle.vr_types.specs.declared.message.MsgOf.TheVariants.{Request, Prepare, PrepareOk, Commit, StartViewChange, DoViewChange, StartView, GetState, NewState, Recovery, RecoveryResponse, Reply, PayOrder}
+use Rattle.vr_types.specs.declared.message.PrepareOf.{PrepareOf}
+use Rattle.vr_types.specs.declared.message.StartViewOf.{StartViewOf}
+use Rattle.vr_types.specs.declared.message.NewStateOf.{NewStateOf}
 use Rattle.vr_types.specs.declared.row.RowOf.{RowOf}
 use Rattle.vr_types.specs.Change.{Part, starts_view, starts_later_view, with_start, with_vote, with_voted, own_vote, sends_vote, votes_where_due, is_to_vote, is_to_open, opens_where_due, on_timer, on_start_view_change, on_do_view_change, on_start_view, beats_in_change}
 use Rattle.vr_types.specs.Choice.{Choice}
@@ -62,15 +65,15 @@ module _ {C R O : Type 0} (f me : ℕ) (x : Site C) where
       again None = (record { same = refl })
       again (Some last) = keeps_if x ((row.number == newest x.log row.client) && (last.1.number == row.number)) _ _ (record { same = refl }) (record { same = refl })
 
-  prepare_keeps : (from w place k : ℕ) (row : RowOf C) → KeepsCell {R = R} {O = O} x (on_prepare f me x from w place k row)
+  prepare_keeps : (from : ℕ) (msg : PrepareOf C) → KeepsCell {R = R} {O = O} x (on_prepare f me x from msg)
   unfolding on_prepare
-  prepare_keeps from w place k row =
-      keeps_if x (not (primary f w == from)) _ _ (record { same = refl })
+  prepare_keeps from msg =
+      keeps_if x (not (primary f msg.view == from)) _ _ (record { same = refl })
       (keeps_if x (is_recovering x.status) _ _ (record { same = refl })
-      (keeps_if x (nat_lt w x.view) _ _ (record { same = refl })
-      (keeps_if x (nat_lt x.view w || is_change x.status) _ _ (record { same = refl }) (record { same = by_place (place == length x.log + 1) }))))
+      (keeps_if x (nat_lt msg.view x.view) _ _ (record { same = refl })
+      (keeps_if x (nat_lt x.view msg.view || is_change x.status) _ _ (record { same = refl }) (record { same = by_place (msg.place == length x.log + 1) }))))
     where
-      by_place : (b : Bool) → (if b then with_row row x else x).cell ≡ x.cell
+      by_place : (b : Bool) → (if b then with_row msg.row x else x).cell ≡ x.cell
       by_place true = refl
       by_place false = refl
 
@@ -129,13 +132,13 @@ module _ {C R O : Type 0} (f me : ℕ) (x : Site C) where
   taking_keeps : (choose : Choice C) (w k : ℕ) (log : List (RowOf C)) → KeepsCell {R = R} {O = O} x (takes_log choose f me x w k log)
   taking_keeps choose w k log = keeps_if x (begins_with_executed choose.same x log) _ _ (record { same = refl }) (record { same = refl })
 
-  start_view_keeps : (choose : Choice C) (from w k : ℕ) (log : List (RowOf C)) → KeepsCell {R = R} {O = O} x (on_start_view choose f me x from w k log)
+  start_view_keeps : (choose : Choice C) (from : ℕ) (msg : StartViewOf C) → KeepsCell {R = R} {O = O} x (on_start_view choose f me x from msg)
   unfolding on_start_view
-  start_view_keeps choose from w k log =
-      keeps_if x (not (primary f w == from)) _ _ (record { same = refl })
+  start_view_keeps choose from msg =
+      keeps_if x (not (primary f msg.view == from)) _ _ (record { same = refl })
       (keeps_if x (is_recovering x.status) _ _ (record { same = refl })
-      (keeps_if x (nat_lt w x.view) _ _ (record { same = refl })
-      (keeps_if x (is_normal x.status && (w == x.view)) _ _ (record { same = refl }) (taking_keeps choose w k log))))
+      (keeps_if x (nat_lt msg.view x.view) _ _ (record { same = refl })
+      (keeps_if x (is_normal x.status && (msg.view == x.view)) _ _ (record { same = refl }) (taking_keeps choose msg.view msg.done msg.rows))))
 
   get_state_keeps : (from w base : ℕ) → KeepsCell {R = R} {O = O} x (on_get_state f me x from w base)
   unfolding on_get_state
@@ -145,16 +148,16 @@ module _ {C R O : Type 0} (f me : ℕ) (x : Site C) where
       (keeps_if x (not (primary f x.view == me)) _ _ (record { same = refl })
       (keeps_if x (nat_lt (length x.log) base) _ _ (record { same = refl }) (record { same = refl }))))
 
-  new_state_keeps : (choose : Choice C) (from w base k : ℕ) (rows : List (RowOf C)) → KeepsCell {R = R} {O = O} x (on_new_state choose f me x from w base k rows)
+  new_state_keeps : (choose : Choice C) (from : ℕ) (msg : NewStateOf C) → KeepsCell {R = R} {O = O} x (on_new_state choose f me x from msg)
   unfolding on_new_state
-  new_state_keeps choose from w base k rows =
-      keeps_if x (not (primary f w == from)) _ _ (record { same = refl })
+  new_state_keeps choose from msg =
+      keeps_if x (not (primary f msg.view == from)) _ _ (record { same = refl })
       (keeps_if x (is_recovering x.status) _ _ (record { same = refl })
-      (keeps_if x (nat_lt w x.view) _ _ (record { same = refl })
-      (keeps_if x (nat_lt MAX_ROWS (base + length rows)) _ _ (record { same = refl })
-      (keeps_if x (is_normal x.status && (w == x.view)) _ _
-      (keeps_if x (nat_le base (length x.log) && nat_lt (length x.log) (base + length rows)) _ _ (taking_keeps choose w k _) (record { same = refl }))
-      (keeps_if x (nat_le base x.done && nat_le x.done (base + length rows)) _ _ (taking_keeps choose w k _) (record { same = refl }))))))
+      (keeps_if x (nat_lt msg.view x.view) _ _ (record { same = refl })
+      (keeps_if x (nat_lt MAX_ROWS (msg.base + length msg.rows)) _ _ (record { same = refl })
+      (keeps_if x (is_normal x.status && (msg.view == x.view)) _ _
+      (keeps_if x (nat_le msg.base (length x.log) && nat_lt (length x.log) (msg.base + length msg.rows)) _ _ (taking_keeps choose msg.view msg.done _) (record { same = refl }))
+      (keeps_if x (nat_le msg.base x.done && nat_le x.done (msg.base + length msg.rows)) _ _ (taking_keeps choose msg.view msg.done _) (record { same = refl }))))))
 
   recovery_keeps : (from nonce : ℕ) → KeepsCell {R = R} {O = O} x (on_recovery f me x from nonce)
   unfolding on_recovery
@@ -167,16 +170,16 @@ module _ {C R O : Type 0} (f me : ℕ) (x : Site C) where
 
   pub message_keeps : (choose : Choice C) → is_running x.status ≡ true → (actor : ℕ) (msg : MsgOf C R O) → KeepsCell x (on_message choose f me x actor msg)
   message_keeps choose up actor (Request number cmd) = request_keeps _
-  message_keeps choose up actor (Prepare w place k row) = prepare_keeps _ w place k row
+  message_keeps choose up actor (Prepare msg) = prepare_keeps _ msg
   message_keeps choose up actor (PrepareOk w place) = prepare_ok_keeps choose _ w place
   message_keeps choose up actor (Commit w k) = commit_keeps _ w k
   message_keeps choose up actor (StartViewChange w known) = start_view_change_keeps choose w _
-  message_keeps choose up actor (DoViewChange w last_normal k log known) = do_view_change_keeps choose w _
-  message_keeps choose up actor (StartView w k log) = start_view_keeps choose _ w k log
+  message_keeps choose up actor (DoViewChange msg) = do_view_change_keeps choose msg.view _
+  message_keeps choose up actor (StartView msg) = start_view_keeps choose _ msg
   message_keeps choose up actor (GetState w base) = get_state_keeps _ w base
-  message_keeps choose up actor (NewState w base k rows) = new_state_keeps choose _ w base k rows
+  message_keeps choose up actor (NewState msg) = new_state_keeps choose _ msg
   message_keeps choose up actor (Recovery nonce) = recovery_keeps _ nonce
-  message_keeps choose up actor (RecoveryResponse w nonce state known) = record { same = ap (λ (s : Step C R O). s.site.cell) (response_drops choose nonce _ up) }
+  message_keeps choose up actor (RecoveryResponse msg) = record { same = ap (λ (s : Step C R O). s.site.cell) (response_drops choose msg.nonce _ up) }
   message_keeps choose up actor (Reply view number reply) = record { same = refl }
   message_keeps choose up actor (PayOrder order) = record { same = refl }
 

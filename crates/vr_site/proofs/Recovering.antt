@@ -1,10 +1,13 @@
 -- What a recovering site drops, and what it says at a beat.
-use Rattle.std.proofs.Common.{◌≡◌, ℕ, ◌==◌, Bool, true, false, true≢false, not, List, Option, if◌then◌else◌, refl, sym}
+use Rattle.std.proofs.Common.{◌≡◌, ℕ, ◌==◌, Bool, true, false, true≢false, not, List, if◌then◌else◌, refl, sym}
 use Rattle.vr_types.specs.declared.cell.Boot.{Boot}
 use Rattle.vr_types.specs.declared.event.Why.TheVariants.{Status, NotPrimary}
 use Rattle.vr_types.specs.declared.message.MsgOf.{MsgOf}
 use Rattle.vr_types.specs.declared.message.MsgOf.TheVariants.{Request, Prepare, PrepareOk, Commit, StartViewChange, DoViewChange, StartView, GetState, NewState, Recovery, RecoveryResponse, Reply, PayOrder}
-use Rattle.vr_types.specs.declared.message.StateOf.{StateOf}
+use Rattle.vr_types.specs.declared.message.PrepareOf.{PrepareOf}
+use Rattle.vr_types.specs.declared.message.RecoveryResponseOf.{RecoveryResponseOf}
+use Rattle.vr_types.specs.declared.message.StartViewOf.{StartViewOf}
+use Rattle.vr_types.specs.declared.message.NewStateOf.{NewStateOf}
 use Rattle.vr_types.specs.declared.row.RowOf.{RowOf}
 use Rattle.vr_types.specs.Change.{on_timer, on_start_view_change, on_do_view_change, on_start_view}
 use Rattle.vr_types.specs.Cell.{nonce_of}
@@ -26,21 +29,21 @@ module _ {C R O : Type 0} (f me : ℕ) (kept : RecoveringOf C) (acks : List Ack)
   not_primary_first true = refl
   not_primary_first false = refl
 
-  pub prepare_drops : (from w place k : ℕ) (row : RowOf C) → ◌≡◌ {A = Step C R O} (on_prepare f me (recovering_site kept acks cell) from w place k row) (drops (recovering_site kept acks cell) (if primary f w == from then Status else NotPrimary))
+  pub prepare_drops : (from : ℕ) (msg : PrepareOf C) → ◌≡◌ {A = Step C R O} (on_prepare f me (recovering_site kept acks cell) from msg) (drops (recovering_site kept acks cell) (if primary f msg.view == from then Status else NotPrimary))
   unfolding on_prepare
-  prepare_drops from w place k row = not_primary_first (primary f w == from)
+  prepare_drops from msg = not_primary_first (primary f msg.view == from)
 
   pub commit_drops : (from w k : ℕ) → ◌≡◌ {A = Step C R O} (on_commit f me (recovering_site kept acks cell) from w k) (drops (recovering_site kept acks cell) (if primary f w == from then Status else NotPrimary))
   unfolding on_commit
   commit_drops from w k = not_primary_first (primary f w == from)
 
-  pub start_view_drops : (choose : Choice C) (from w k : ℕ) (log : List (RowOf C)) → ◌≡◌ {A = Step C R O} (on_start_view choose f me (recovering_site kept acks cell) from w k log) (drops (recovering_site kept acks cell) (if primary f w == from then Status else NotPrimary))
+  pub start_view_drops : (choose : Choice C) (from : ℕ) (msg : StartViewOf C) → ◌≡◌ {A = Step C R O} (on_start_view choose f me (recovering_site kept acks cell) from msg) (drops (recovering_site kept acks cell) (if primary f msg.view == from then Status else NotPrimary))
   unfolding on_start_view
-  start_view_drops choose from w k log = not_primary_first (primary f w == from)
+  start_view_drops choose from msg = not_primary_first (primary f msg.view == from)
 
-  pub new_state_drops : (choose : Choice C) (from w base k : ℕ) (rows : List (RowOf C)) → ◌≡◌ {A = Step C R O} (on_new_state choose f me (recovering_site kept acks cell) from w base k rows) (drops (recovering_site kept acks cell) (if primary f w == from then Status else NotPrimary))
+  pub new_state_drops : (choose : Choice C) (from : ℕ) (msg : NewStateOf C) → ◌≡◌ {A = Step C R O} (on_new_state choose f me (recovering_site kept acks cell) from msg) (drops (recovering_site kept acks cell) (if primary f msg.view == from then Status else NotPrimary))
   unfolding on_new_state
-  new_state_drops choose from w base k rows = not_primary_first (primary f w == from)
+  new_state_drops choose from msg = not_primary_first (primary f msg.view == from)
 
   request_drops : (row : RowOf C) → ◌≡◌ {A = Step C R O} (on_request f me (recovering_site kept acks cell) row) (drops (recovering_site kept acks cell) Status)
   unfolding on_request
@@ -68,20 +71,20 @@ module _ {C R O : Type 0} (f me : ℕ) (kept : RecoveringOf C) (acks : List Ack)
 
   -- all else that may come
   pub others_drop : (choose : Choice C) (actor : ℕ) (msg : MsgOf C R O) → may_send f me actor msg ≡ true
-      → ((w nonce : ℕ) (state : Option (StateOf C)) (known : List ℕ) → msg ≡ RecoveryResponse w nonce state known → ⊥) → ((w n k : ℕ) (row : RowOf C) → msg ≡ Prepare w n k row → ⊥)
-      → ((w k : ℕ) → msg ≡ Commit w k → ⊥) → ((w k : ℕ) (log : List (RowOf C)) → msg ≡ StartView w k log → ⊥) → ((w base k : ℕ) (rows : List (RowOf C)) → msg ≡ NewState w base k rows → ⊥)
+      → ((r : RecoveryResponseOf C) → msg ≡ RecoveryResponse r → ⊥) → ((p : PrepareOf C) → msg ≡ Prepare p → ⊥)
+      → ((w k : ℕ) → msg ≡ Commit w k → ⊥) → ((v : StartViewOf C) → msg ≡ StartView v → ⊥) → ((n : NewStateOf C) → msg ≡ NewState n → ⊥)
       → on_message choose f me (recovering_site kept acks cell) actor msg ≡ drops (recovering_site kept acks cell) Status
   others_drop choose actor (Request number cmd) may a b c d e = request_drops _
-  others_drop choose actor (Prepare w place k row) may a b c d e = absurd (b w place k row refl)
+  others_drop choose actor (Prepare msg) may a b c d e = absurd (b msg refl)
   others_drop choose actor (PrepareOk w place) may a b c d e = prepare_ok_drops choose _ w place
   others_drop choose actor (Commit w k) may a b c d e = absurd (c w k refl)
   others_drop choose actor (StartViewChange w known) may a b c d e = start_view_change_drops choose w _
-  others_drop choose actor (DoViewChange w last_normal k log known) may a b c d e = do_view_change_drops choose w _
-  others_drop choose actor (StartView w k log) may a b c d e = absurd (d w k log refl)
+  others_drop choose actor (DoViewChange msg) may a b c d e = do_view_change_drops choose msg.view _
+  others_drop choose actor (StartView msg) may a b c d e = absurd (d msg refl)
   others_drop choose actor (GetState w base) may a b c d e = get_state_drops _ w base
-  others_drop choose actor (NewState w base k rows) may a b c d e = absurd (e w base k rows refl)
+  others_drop choose actor (NewState msg) may a b c d e = absurd (e msg refl)
   others_drop choose actor (Recovery nonce) may a b c d e = recovery_drops _ nonce
-  others_drop choose actor (RecoveryResponse w nonce state known) may a b c d e = absurd (a w nonce state known refl)
+  others_drop choose actor (RecoveryResponse msg) may a b c d e = absurd (a msg refl)
   others_drop choose actor (Reply view number reply) may a b c d e = absurd (true≢false (sym may))
   others_drop choose actor (PayOrder order) may a b c d e = absurd (true≢false (sym may))
 

@@ -16,21 +16,21 @@ fn may_send<C, R, O>(config: Config, actor: u16, msg: &MsgOf<C, R, O>) -> bool
 {
     match msg {
         MsgOf::Request { .. } => is_client(actor),
-        MsgOf::Prepare { .. } => is_other_site(config, actor),
+        MsgOf::Prepare(_) => is_other_site(config, actor),
         MsgOf::PrepareOk { .. } => is_other_site(config, actor),
         MsgOf::Commit { .. } => is_other_site(config, actor),
         MsgOf::StartViewChange { known, .. } => {
             is_other_site(config, actor) && is_of_all(config, known)
         }
-        MsgOf::DoViewChange { known, .. } => {
-            is_other_site(config, actor) && is_of_all(config, known)
+        MsgOf::DoViewChange(msg) => {
+            is_other_site(config, actor) && is_of_all(config, &msg.known)
         }
-        MsgOf::StartView { .. } => is_other_site(config, actor),
+        MsgOf::StartView(_) => is_other_site(config, actor),
         MsgOf::GetState { .. } => is_other_site(config, actor),
-        MsgOf::NewState { .. } => is_other_site(config, actor),
+        MsgOf::NewState(_) => is_other_site(config, actor),
         MsgOf::Recovery { .. } => is_other_site(config, actor),
-        MsgOf::RecoveryResponse { known, .. } => {
-            is_other_site(config, actor) && is_of_all(config, known)
+        MsgOf::RecoveryResponse(msg) => {
+            is_other_site(config, actor) && is_of_all(config, &msg.known)
         }
         MsgOf::Reply { .. } => false,
         MsgOf::PayOrder(_) => false,

@@ -39,12 +39,7 @@ pub(crate) fn serve<M: Machine>(
             };
             vr_normal::request(alloc, config, running, row)
         }
-        MsgOf::Prepare {
-            view,
-            place,
-            done,
-            row,
-        } => vr_normal::prepare(alloc, config, running, site, view, place, done, row),
+        MsgOf::Prepare(prepare) => vr_normal::prepare(alloc, config, running, site, prepare),
         MsgOf::PrepareOk { view, place } => {
             vr_normal::prepare_ok(alloc, config, running, site, view, place)
         }
@@ -53,36 +48,23 @@ pub(crate) fn serve<M: Machine>(
             let start = StartOf { from: site, known };
             vr_change::start_view_change(alloc, config, running, view, start)
         }
-        MsgOf::DoViewChange {
-            view,
-            last_normal,
-            done,
-            rows,
-            known,
-        } => {
+        MsgOf::DoViewChange(change) => {
             let vote = VoteOf {
                 from: site,
-                last_normal,
-                done,
-                log: rows,
-                known,
+                last_normal: change.last_normal,
+                done: change.done,
+                log: change.rows,
+                known: change.known,
             };
-            vr_change::do_view_change(alloc, config, running, view, vote)
+            vr_change::do_view_change(alloc, config, running, change.view, vote)
         }
-        MsgOf::StartView { view, done, rows } => {
-            vr_change::start_view(alloc, config, running, site, view, done, rows)
-        }
+        MsgOf::StartView(opening) => vr_change::start_view(alloc, config, running, site, opening),
         MsgOf::GetState { view, base } => {
             vr_change::get_state(alloc, config, running, site, view, base)
         }
-        MsgOf::NewState {
-            view,
-            base,
-            done,
-            rows,
-        } => vr_change::new_state(alloc, config, running, site, view, base, done, rows),
+        MsgOf::NewState(state) => vr_change::new_state(alloc, config, running, site, state),
         MsgOf::Recovery { nonce } => vr_recover::recovery(alloc, config, running, site, nonce),
-        MsgOf::RecoveryResponse { .. } => Ok(dropped(alloc, Why::Status)),
+        MsgOf::RecoveryResponse(_) => Ok(dropped(alloc, Why::Status)),
         // These two are for clients alone: no actor may send a site one.
         MsgOf::Reply { .. } => Ok(silent(alloc)),
         MsgOf::PayOrder(_) => Ok(silent(alloc)),

@@ -33,24 +33,19 @@ pub(crate) fn await_state<M: Machine>(
 {
     let site = site_number(from);
     match msg {
-        MsgOf::RecoveryResponse {
-            view,
-            nonce,
-            state,
-            known,
-        } => {
+        MsgOf::RecoveryResponse(msg) => {
             let response = ResponseOf {
                 from: site,
-                view,
-                state,
-                known,
+                view: msg.view,
+                state: msg.state,
+                known: msg.known,
             };
-            take_response(alloc, config, setup, boot, recovering, nonce, response)
+            take_response(alloc, config, setup, boot, recovering, msg.nonce, response)
         }
-        MsgOf::Prepare { view, .. } => Ok(Progress::Dropped(why_of(config, site, view))),
+        MsgOf::Prepare(msg) => Ok(Progress::Dropped(why_of(config, site, msg.view))),
         MsgOf::Commit { view, .. } => Ok(Progress::Dropped(why_of(config, site, view))),
-        MsgOf::StartView { view, .. } => Ok(Progress::Dropped(why_of(config, site, view))),
-        MsgOf::NewState { view, .. } => Ok(Progress::Dropped(why_of(config, site, view))),
+        MsgOf::StartView(msg) => Ok(Progress::Dropped(why_of(config, site, msg.view))),
+        MsgOf::NewState(msg) => Ok(Progress::Dropped(why_of(config, site, msg.view))),
         _ => Ok(Progress::Dropped(Why::Status)),
     }
 }

@@ -112,16 +112,16 @@ asks f number (Some ask) = map (λ i. record { from = asker_number; to = actor_o
 -- the kinds of messages, by their numbers on the wire
 abbrev pub kind_of : Message → ℕ
 kind_of (Request number cmd) = 1
-kind_of (Prepare view place done row) = 2
+kind_of (Prepare msg) = 2
 kind_of (PrepareOk view place) = 3
 kind_of (Commit view done) = 4
 kind_of (StartViewChange view known) = 5
-kind_of (DoViewChange view last_normal done rows known) = 6
-kind_of (StartView view done rows) = 7
+kind_of (DoViewChange msg) = 6
+kind_of (StartView msg) = 7
 kind_of (GetState view base) = 8
-kind_of (NewState view base done rows) = 9
+kind_of (NewState msg) = 9
 kind_of (Recovery nonce) = 10
-kind_of (RecoveryResponse view nonce state known) = 11
+kind_of (RecoveryResponse msg) = 11
 kind_of (Reply view number reply) = 12
 kind_of (PayOrder order) = 13
 

@@ -14,6 +14,9 @@ use Rattle.vr_types.specs.declared.machine.Machine.{Ghosts}
 use Rattle.vr_types.specs.declared.message.EnvelopeOf.{EnvelopeOf}
 use Rattle.vr_types.specs.declared.message.MsgOf.{MsgOf}
 use Rattle.vr_types.specs.declared.message.MsgOf.TheVariants.{Request, Prepare, PrepareOk, Commit, StartViewChange, DoViewChange, StartView, GetState, NewState, Recovery, RecoveryResponse, Reply, PayOrder}
+use Rattle.vr_types.specs.declared.message.PrepareOf.{PrepareOf}
+use Rattle.vr_types.specs.declared.message.StartViewOf.{StartViewOf}
+use Rattle.vr_types.specs.declared.message.NewStateOf.{NewStateOf}
 use Rattle.vr_types.specs.declared.row.RowOf.{RowOf}
 use Rattle.vr_types.specs.Cell.{nonce_of, raised}
 use Rattle.vr_types.specs.Execution.{answer_at}
@@ -69,7 +72,7 @@ request_saved {C} {R} {O} f me x row =
     saved_if (not (is_normal x.status)) _ _ (no_mail x.cell)
     (saved_if (not (primary f x.view == me)) _ _ (no_mail x.cell)
     (saved_if (nat_lt (newest x.log row.client) row.number) _ _
-    (saved_if (length x.log == MAX_ROWS) _ _ (no_mail x.cell) (mail_to_all x.cell f me (Prepare x.view (length x.log + 1) x.done row) tt))
+    (saved_if (length x.log == MAX_ROWS) _ _ (no_mail x.cell) (mail_to_all x.cell f me (Prepare (record { view = x.view; place = length x.log + 1; done = x.done; row = row })) tt))
     (again (last_of (take x.done x.log) row.client))))
   where
     again : (last : Option (ℕ × RowOf C)) → IsSavedStep (answers_again {R = R} {O = O} x row.number (newest x.log row.client) last)
@@ -82,25 +85,25 @@ asking_saved cell f me w base = one_mail cell _ tt
 acknowledging_saved : {C R O : Type 0} (f me : ℕ) (x : Site C) → AllSaved {C = C} {R = R} {O = O} x.cell (acknowledges_all f me x)
 acknowledging_saved f me x = one_mail x.cell _ tt
 
-prepares_saved : {C R O : Type 0} (f me : ℕ) (x : Site C) (place k : ℕ) (row : RowOf C) → IsSavedStep (prepares {R = R} {O = O} f me x place k row)
-prepares_saved {C} {R} {O} f me x place k row = by_place (place == length x.log + 1)
+prepares_saved : {C R O : Type 0} (f me : ℕ) (x : Site C) (msg : PrepareOf C) → IsSavedStep (prepares {R = R} {O = O} f me x msg)
+prepares_saved {C} {R} {O} f me x msg = by_place (msg.place == length x.log + 1)
   where
-    saved_from : (y : Site C) → IsSavedStep (does {C = C} {R = R} {O = O} y (if nat_lt (length x.log + 1) place then asks_state f me x.view (length x.log) else acknowledges_all f me y))
-    saved_from y = mail_if y.cell (nat_lt (length x.log + 1) place) _ _ (asking_saved y.cell f me x.view (length x.log)) (acknowledging_saved f me y)
+    saved_from : (y : Site C) → IsSavedStep (does {C = C} {R = R} {O = O} y (if nat_lt (length x.log + 1) msg.place then asks_state f me x.view (length x.log) else acknowledges_all f me y))
+    saved_from y = mail_if y.cell (nat_lt (length x.log + 1) msg.place) _ _ (asking_saved y.cell f me x.view (length x.log)) (acknowledging_saved f me y)
 
     by_place : (b : Bool) → IsSavedStep (
-        let y = executed_to k (if b then with_row row x else x) in
-        does {C = C} {R = R} {O = O} y (if nat_lt (length x.log + 1) place then asks_state f me x.view (length x.log) else acknowledges_all f me y))
-    by_place true = saved_from (executed_to k (with_row row x))
-    by_place false = saved_from (executed_to k x)
+        let y = executed_to msg.done (if b then with_row msg.row x else x) in
+        does {C = C} {R = R} {O = O} y (if nat_lt (length x.log + 1) msg.place then asks_state f me x.view (length x.log) else acknowledges_all f me y))
+    by_place true = saved_from (executed_to msg.done (with_row msg.row x))
+    by_place false = saved_from (executed_to msg.done x)
 
-prepare_saved : {C R O : Type 0} (f me : ℕ) (x : Site C) (from w place k : ℕ) (row : RowOf C) → IsSavedStep (on_prepare {R = R} {O = O} f me x from w place k row)
+prepare_saved : {C R O : Type 0} (f me : ℕ) (x : Site C) (from : ℕ) (msg : PrepareOf C) → IsSavedStep (on_prepare {R = R} {O = O} f me x from msg)
 unfolding on_prepare
-prepare_saved f me x from w place k row =
-    saved_if (not (primary f w == from)) _ _ (no_mail x.cell)
+prepare_saved f me x from msg =
+    saved_if (not (primary f msg.view == from)) _ _ (no_mail x.cell)
     (saved_if (is_recovering x.status) _ _ (no_mail x.cell)
-    (saved_if (nat_lt w x.view) _ _ (no_mail x.cell)
-    (saved_if (nat_lt x.view w || is_change x.status) _ _ (asking_saved x.cell f me w x.done) (prepares_saved f me x place k row))))
+    (saved_if (nat_lt msg.view x.view) _ _ (no_mail x.cell)
+    (saved_if (nat_lt x.view msg.view || is_change x.status) _ _ (asking_saved x.cell f me msg.view x.done) (prepares_saved f me x msg))))
 
 commit_saved : {C R O : Type 0} (f me : ℕ) (x : Site C) (from w k : ℕ) → IsSavedStep (on_commit {R = R} {O = O} f me x from w k)
 unfolding on_commit
@@ -168,7 +171,7 @@ opening_saved choose f me x p part =
     let opened = executed_to (choose.most_done votes) (normal_in p.site.view log p.site) in
     saved_if (not (is_to_open f me p.site)) _ _ part
     (saved_if (not (begins_with_executed choose.same p.site log)) _ _ (no_mail x.cell)
-    (both_mails p.site.cell p.sent _ part (mail_to_all p.site.cell f me (StartView opened.view opened.done opened.log) tt)))
+    (both_mails p.site.cell p.sent _ part (mail_to_all p.site.cell f me (StartView (record { view = opened.view; done = opened.done; rows = opened.log })) tt)))
 
 start_view_change_saved : {C R O : Type 0} (choose : Choice C) (f me : ℕ) (x : Site C) (w : ℕ) (start : Start) → IsSavedStep (on_start_view_change {R = R} {O = O} choose f me x w start)
 unfolding on_start_view_change
@@ -198,13 +201,13 @@ taking_saved choose f me x w k log =
     saved_if (begins_with_executed choose.same x log) _ _
     (mail_if x.cell (nat_lt y.done (length y.log)) _ _ (acknowledging_saved f me y) (no_mail x.cell)) (no_mail x.cell)
 
-start_view_saved : {C R O : Type 0} (choose : Choice C) (f me : ℕ) (x : Site C) (from w k : ℕ) (log : List (RowOf C)) → IsSavedStep (on_start_view {R = R} {O = O} choose f me x from w k log)
+start_view_saved : {C R O : Type 0} (choose : Choice C) (f me : ℕ) (x : Site C) (from : ℕ) (msg : StartViewOf C) → IsSavedStep (on_start_view {R = R} {O = O} choose f me x from msg)
 unfolding on_start_view
-start_view_saved choose f me x from w k log =
-    saved_if (not (primary f w == from)) _ _ (no_mail x.cell)
+start_view_saved choose f me x from msg =
+    saved_if (not (primary f msg.view == from)) _ _ (no_mail x.cell)
     (saved_if (is_recovering x.status) _ _ (no_mail x.cell)
-    (saved_if (nat_lt w x.view) _ _ (no_mail x.cell)
-    (saved_if (is_normal x.status && (w == x.view)) _ _ (no_mail x.cell) (taking_saved choose f me x w k log))))
+    (saved_if (nat_lt msg.view x.view) _ _ (no_mail x.cell)
+    (saved_if (is_normal x.status && (msg.view == x.view)) _ _ (no_mail x.cell) (taking_saved choose f me x msg.view msg.done msg.rows))))
 
 timer_saved : {C R O : Type 0} (f me : ℕ) (x : Site C) → IsSavedStep (on_timer {R = R} {O = O} f me x)
 unfolding on_timer
@@ -226,18 +229,18 @@ get_state_saved f me x from w base =
     (saved_if (not (w == x.view)) _ _ (no_mail x.cell)
     (saved_if (not (primary f x.view == me)) _ _ (no_mail x.cell)
     (saved_if (nat_lt (length x.log) base) _ _ (no_mail x.cell)
-    (one_mail x.cell (mail me from (NewState x.view base x.done (drop base x.log))) tt))))
+    (one_mail x.cell (mail me from (NewState (record { view = x.view; base = base; done = x.done; rows = drop base x.log }))) tt))))
 
-new_state_saved : {C R O : Type 0} (choose : Choice C) (f me : ℕ) (x : Site C) (from w base k : ℕ) (rows : List (RowOf C)) → IsSavedStep (on_new_state {R = R} {O = O} choose f me x from w base k rows)
+new_state_saved : {C R O : Type 0} (choose : Choice C) (f me : ℕ) (x : Site C) (from : ℕ) (msg : NewStateOf C) → IsSavedStep (on_new_state {R = R} {O = O} choose f me x from msg)
 unfolding on_new_state
-new_state_saved choose f me x from w base k rows =
-    saved_if (not (primary f w == from)) _ _ (no_mail x.cell)
+new_state_saved choose f me x from msg =
+    saved_if (not (primary f msg.view == from)) _ _ (no_mail x.cell)
     (saved_if (is_recovering x.status) _ _ (no_mail x.cell)
-    (saved_if (nat_lt w x.view) _ _ (no_mail x.cell)
-    (saved_if (nat_lt MAX_ROWS (base + length rows)) _ _ (no_mail x.cell)
-    (saved_if (is_normal x.status && (w == x.view)) _ _
-    (saved_if (nat_le base (length x.log) && nat_lt (length x.log) (base + length rows)) _ _ (taking_saved choose f me x w k _) (no_mail x.cell))
-    (saved_if (nat_le base x.done && nat_le x.done (base + length rows)) _ _ (taking_saved choose f me x w k _) (no_mail x.cell))))))
+    (saved_if (nat_lt msg.view x.view) _ _ (no_mail x.cell)
+    (saved_if (nat_lt MAX_ROWS (msg.base + length msg.rows)) _ _ (no_mail x.cell)
+    (saved_if (is_normal x.status && (msg.view == x.view)) _ _
+    (saved_if (nat_le msg.base (length x.log) && nat_lt (length x.log) (msg.base + length msg.rows)) _ _ (taking_saved choose f me x msg.view msg.done _) (no_mail x.cell))
+    (saved_if (nat_le msg.base x.done && nat_le x.done (msg.base + length msg.rows)) _ _ (taking_saved choose f me x msg.view msg.done _) (no_mail x.cell))))))
 
 -- recovery
 
@@ -247,7 +250,7 @@ recovery_saved f me x from nonce =
     let y = notes from nonce x in
     saved_if (not (is_normal x.status)) _ _ (no_mail x.cell)
     (saved_if (nat_lt nonce (boot_of x.known from)) _ _ (no_mail x.cell)
-    (one_mail x.cell (mail me from (RecoveryResponse y.view nonce (state_of_view f me y) y.known)) tt))
+    (one_mail x.cell (mail me from (RecoveryResponse (record { view = y.view; nonce = nonce; state = state_of_view f me y; known = y.known }))) tt))
 
 regaining_saved : {C R O : Type 0} (x : Site C) (regained : Option (Regained C)) → IsSavedStep (regains {R = R} {O = O} x regained)
 regaining_saved x None = no_mail x.cell
@@ -277,16 +280,16 @@ restart_saved f me x = mail_to_all (raised x.cell) f me (Recovery (nonce_of (rai
 module _ {C R O : Type 0} (choose : Choice C) (f me : ℕ) (x : Site C) where
   message_saved : (actor : ℕ) (msg : MsgOf C R O) → IsSavedStep (on_message choose f me x actor msg)
   message_saved actor (Request number cmd) = request_saved f me x _
-  message_saved actor (Prepare w place k row) = prepare_saved f me x _ w place k row
+  message_saved actor (Prepare msg) = prepare_saved f me x _ msg
   message_saved actor (PrepareOk w place) = prepare_ok_saved choose f me x _ w place
   message_saved actor (Commit w k) = commit_saved f me x _ w k
   message_saved actor (StartViewChange w known) = start_view_change_saved choose f me x w _
-  message_saved actor (DoViewChange w last_normal k log known) = do_view_change_saved choose f me x w _
-  message_saved actor (StartView w k log) = start_view_saved choose f me x _ w k log
+  message_saved actor (DoViewChange msg) = do_view_change_saved choose f me x msg.view _
+  message_saved actor (StartView msg) = start_view_saved choose f me x _ msg
   message_saved actor (GetState w base) = get_state_saved f me x _ w base
-  message_saved actor (NewState w base k rows) = new_state_saved choose f me x _ w base k rows
+  message_saved actor (NewState msg) = new_state_saved choose f me x _ msg
   message_saved actor (Recovery nonce) = recovery_saved f me x _ nonce
-  message_saved actor (RecoveryResponse w nonce state known) = recovery_response_saved choose x nonce _
+  message_saved actor (RecoveryResponse msg) = recovery_response_saved choose x msg.nonce _
   message_saved actor (Reply view number reply) = no_mail x.cell
   message_saved actor (PayOrder order) = no_mail x.cell
 

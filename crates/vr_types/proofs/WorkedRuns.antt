@@ -60,7 +60,7 @@ cut_off_shows : slice_get (shows cut_off) 2 ≡ Some (record { status = Normal; 
 unfolding on_request on_prepare on_prepare_ok on_commit beats_normal on_start_view_change on_do_view_change on_start_view on_timer beats_in_change on_get_state on_new_state on_recovery on_recovery_response beats_recovering on_restart
 cut_off_shows = refl
 
-cut_off_prepare : slice_get cut_off.post 33 ≡ Some (record { from = 201; to = 202; msg = Prepare 1 4 3 (record { client = 102; number = 4; cmd = Add 400 }) })
+cut_off_prepare : slice_get cut_off.post 33 ≡ Some (record { from = 201; to = 202; msg = Prepare (record { view = 1; place = 4; done = 3; row = (record { client = 102; number = 4; cmd = Add 400 }) }) })
 unfolding on_request on_prepare on_prepare_ok on_commit beats_normal on_start_view_change on_do_view_change on_start_view on_timer beats_in_change on_get_state on_new_state on_recovery on_recovery_response beats_recovering on_restart
 cut_off_prepare = refl
 
@@ -68,7 +68,7 @@ cut_off_asks : slice_get cut_off.post 35 ≡ Some (record { from = 202; to = 201
 unfolding on_request on_prepare on_prepare_ok on_commit beats_normal on_start_view_change on_do_view_change on_start_view on_timer beats_in_change on_get_state on_new_state on_recovery on_recovery_response beats_recovering on_restart
 cut_off_asks = refl
 
-cut_off_is_sent : slice_get cut_off.post 37 ≡ Some (record { from = 201; to = 202; msg = NewState 1 0 4 (record { client = 102; number = 1; cmd = Add 100 } ∷ record { client = 102; number = 2; cmd = Add 200 } ∷ record { client = 102; number = 3; cmd = Add 300 } ∷ record { client = 102; number = 4; cmd = Add 400 } ∷ []) })
+cut_off_is_sent : slice_get cut_off.post 37 ≡ Some (record { from = 201; to = 202; msg = NewState (record { view = 1; base = 0; done = 4; rows = (record { client = 102; number = 1; cmd = Add 100 } ∷ record { client = 102; number = 2; cmd = Add 200 } ∷ record { client = 102; number = 3; cmd = Add 300 } ∷ record { client = 102; number = 4; cmd = Add 400 } ∷ []) }) })
 unfolding on_request on_prepare on_prepare_ok on_commit beats_normal on_start_view_change on_do_view_change on_start_view on_timer beats_in_change on_get_state on_new_state on_recovery on_recovery_response beats_recovering on_restart
 cut_off_is_sent = refl
 

@@ -25,11 +25,11 @@ paid_in = record { client = 102; number = 1; cmd = Add 1200 }
 abbrev requested : Step Ask ℕ ℕ
 requested = takes 1 0 (fresh 1) 102 (Request 1 (Add 1200))
 
-requested_sends : sent 0 requested ≡ record { from = 200; to = 201; msg = Prepare 0 1 0 paid_in } ∷ record { from = 200; to = 202; msg = Prepare 0 1 0 paid_in } ∷ []
+requested_sends : sent 0 requested ≡ record { from = 200; to = 201; msg = Prepare (record { view = 0; place = 1; done = 0; row = paid_in }) } ∷ record { from = 200; to = 202; msg = Prepare (record { view = 0; place = 1; done = 0; row = paid_in }) } ∷ []
 unfolding on_request on_prepare on_prepare_ok on_commit beats_normal on_start_view_change on_do_view_change on_start_view on_timer beats_in_change on_get_state on_new_state on_recovery on_recovery_response beats_recovering on_restart
 requested_sends = refl
 
-prepared_sends : sent 1 (takes 1 1 (fresh 1) 200 (Prepare 0 1 0 paid_in)) ≡ record { from = 201; to = 200; msg = PrepareOk 0 1 } ∷ []
+prepared_sends : sent 1 (takes 1 1 (fresh 1) 200 (Prepare (record { view = 0; place = 1; done = 0; row = paid_in }))) ≡ record { from = 201; to = 200; msg = PrepareOk 0 1 } ∷ []
 unfolding on_request on_prepare on_prepare_ok on_commit beats_normal on_start_view_change on_do_view_change on_start_view on_timer beats_in_change on_get_state on_new_state on_recovery on_recovery_response beats_recovering on_restart
 prepared_sends = refl
 
@@ -55,7 +55,7 @@ beat_sends : sent 0 (step 1 0 acknowledged_again.site Beat) ≡ record { from = 
 unfolding on_request on_prepare on_prepare_ok on_commit beats_normal on_start_view_change on_do_view_change on_start_view on_timer beats_in_change on_get_state on_new_state on_recovery on_recovery_response beats_recovering on_restart
 beat_sends = refl
 
-beat_before_sends : sent 0 (step 1 0 requested.site Beat) ≡ record { from = 200; to = 201; msg = Prepare 0 1 0 paid_in } ∷ record { from = 200; to = 202; msg = Prepare 0 1 0 paid_in } ∷ []
+beat_before_sends : sent 0 (step 1 0 requested.site Beat) ≡ record { from = 200; to = 201; msg = Prepare (record { view = 0; place = 1; done = 0; row = paid_in }) } ∷ record { from = 200; to = 202; msg = Prepare (record { view = 0; place = 1; done = 0; row = paid_in }) } ∷ []
 unfolding on_request on_prepare on_prepare_ok on_commit beats_normal on_start_view_change on_do_view_change on_start_view on_timer beats_in_change on_get_state on_new_state on_recovery on_recovery_response beats_recovering on_restart
 beat_before_sends = refl
 
@@ -68,11 +68,11 @@ unfolding on_request on_prepare on_prepare_ok on_commit beats_normal on_start_vi
 request_at_backup = refl
 
 -- a row is missing; a request has number 0, or is not the client's newest, or is not executed yet, or comes from a site
-missing_row_sends : sent 1 (takes 1 1 (fresh 1) 200 (Prepare 0 3 0 paid_in)) ≡ record { from = 201; to = 200; msg = GetState 0 0 } ∷ []
+missing_row_sends : sent 1 (takes 1 1 (fresh 1) 200 (Prepare (record { view = 0; place = 3; done = 0; row = paid_in }))) ≡ record { from = 201; to = 200; msg = GetState 0 0 } ∷ []
 unfolding on_request on_prepare on_prepare_ok on_commit beats_normal on_start_view_change on_do_view_change on_start_view on_timer beats_in_change on_get_state on_new_state on_recovery on_recovery_response beats_recovering on_restart
 missing_row_sends = refl
 
-missing_row_changes_nothing : (takes 1 1 (fresh 1) 200 (Prepare 0 3 0 paid_in)).site ≡ fresh 1
+missing_row_changes_nothing : (takes 1 1 (fresh 1) 200 (Prepare (record { view = 0; place = 3; done = 0; row = paid_in }))).site ≡ fresh 1
 unfolding on_request on_prepare on_prepare_ok on_commit beats_normal on_start_view_change on_do_view_change on_start_view on_timer beats_in_change on_get_state on_new_state on_recovery on_recovery_response beats_recovering on_restart
 missing_row_changes_nothing = refl
 
@@ -145,7 +145,7 @@ timed_sends = refl
 abbrev started : Step Ask ℕ ℕ
 started = takes 1 0 (fresh 1) 201 (StartViewChange 1 (0 ∷ 0 ∷ 0 ∷ []))
 
-started_sends : sent 0 started ≡ record { from = 200; to = 201; msg = StartViewChange 1 (0 ∷ 0 ∷ 0 ∷ []) } ∷ record { from = 200; to = 202; msg = StartViewChange 1 (0 ∷ 0 ∷ 0 ∷ []) } ∷ record { from = 200; to = 201; msg = DoViewChange 1 0 0 [] (0 ∷ 0 ∷ 0 ∷ []) } ∷ []
+started_sends : sent 0 started ≡ record { from = 200; to = 201; msg = StartViewChange 1 (0 ∷ 0 ∷ 0 ∷ []) } ∷ record { from = 200; to = 202; msg = StartViewChange 1 (0 ∷ 0 ∷ 0 ∷ []) } ∷ record { from = 200; to = 201; msg = DoViewChange (record { view = 1; last_normal = 0; done = 0; rows = []; known = 0 ∷ 0 ∷ 0 ∷ [] }) } ∷ []
 unfolding on_request on_prepare on_prepare_ok on_commit beats_normal on_start_view_change on_do_view_change on_start_view on_timer beats_in_change on_get_state on_new_state on_recovery on_recovery_response beats_recovering on_restart
 started_sends = refl
 
@@ -156,18 +156,18 @@ start_first_sends : sent 1 start_first ≡ []
 unfolding on_request on_prepare on_prepare_ok on_commit beats_normal on_start_view_change on_do_view_change on_start_view on_timer beats_in_change on_get_state on_new_state on_recovery on_recovery_response beats_recovering on_restart
 start_first_sends = refl
 
-start_first_opens : sent 1 (takes 1 1 start_first.site 200 (DoViewChange 1 0 0 [] (0 ∷ 0 ∷ 0 ∷ []))) ≡ record { from = 201; to = 200; msg = StartView 1 0 [] } ∷ record { from = 201; to = 202; msg = StartView 1 0 [] } ∷ []
+start_first_opens : sent 1 (takes 1 1 start_first.site 200 (DoViewChange (record { view = 1; last_normal = 0; done = 0; rows = []; known = 0 ∷ 0 ∷ 0 ∷ [] }))) ≡ record { from = 201; to = 200; msg = StartView (record { view = 1; done = 0; rows = [] }) } ∷ record { from = 201; to = 202; msg = StartView (record { view = 1; done = 0; rows = [] }) } ∷ []
 unfolding on_request on_prepare on_prepare_ok on_commit beats_normal on_start_view_change on_do_view_change on_start_view on_timer beats_in_change on_get_state on_new_state on_recovery on_recovery_response beats_recovering on_restart
 start_first_opens = refl
 
 abbrev vote_first : Step Ask ℕ ℕ
-vote_first = takes 1 1 timed.site 200 (DoViewChange 1 0 0 [] (0 ∷ 0 ∷ 0 ∷ []))
+vote_first = takes 1 1 timed.site 200 (DoViewChange (record { view = 1; last_normal = 0; done = 0; rows = []; known = 0 ∷ 0 ∷ 0 ∷ [] }))
 
 vote_first_sends : sent 1 vote_first ≡ []
 unfolding on_request on_prepare on_prepare_ok on_commit beats_normal on_start_view_change on_do_view_change on_start_view on_timer beats_in_change on_get_state on_new_state on_recovery on_recovery_response beats_recovering on_restart
 vote_first_sends = refl
 
-vote_first_opens : sent 1 (takes 1 1 vote_first.site 200 (StartViewChange 1 (0 ∷ 0 ∷ 0 ∷ []))) ≡ record { from = 201; to = 200; msg = StartView 1 0 [] } ∷ record { from = 201; to = 202; msg = StartView 1 0 [] } ∷ []
+vote_first_opens : sent 1 (takes 1 1 vote_first.site 200 (StartViewChange 1 (0 ∷ 0 ∷ 0 ∷ []))) ≡ record { from = 201; to = 200; msg = StartView (record { view = 1; done = 0; rows = [] }) } ∷ record { from = 201; to = 202; msg = StartView (record { view = 1; done = 0; rows = [] }) } ∷ []
 unfolding on_request on_prepare on_prepare_ok on_commit beats_normal on_start_view_change on_do_view_change on_start_view on_timer beats_in_change on_get_state on_new_state on_recovery on_recovery_response beats_recovering on_restart
 vote_first_opens = refl
 
@@ -175,11 +175,11 @@ start_again_changes_nothing : (takes 1 1 start_first.site 200 (StartViewChange 1
 unfolding on_request on_prepare on_prepare_ok on_commit beats_normal on_start_view_change on_do_view_change on_start_view on_timer beats_in_change on_get_state on_new_state on_recovery on_recovery_response beats_recovering on_restart
 start_again_changes_nothing = refl
 
-vote_again_changes_nothing : (takes 1 1 vote_first.site 200 (DoViewChange 1 7 7 (paid_in ∷ []) (0 ∷ 0 ∷ 0 ∷ []))).site ≡ vote_first.site
+vote_again_changes_nothing : (takes 1 1 vote_first.site 200 (DoViewChange (record { view = 1; last_normal = 7; done = 7; rows = paid_in ∷ []; known = 0 ∷ 0 ∷ 0 ∷ [] }))).site ≡ vote_first.site
 unfolding on_request on_prepare on_prepare_ok on_commit beats_normal on_start_view_change on_do_view_change on_start_view on_timer beats_in_change on_get_state on_new_state on_recovery on_recovery_response beats_recovering on_restart
 vote_again_changes_nothing = refl
 
-beat_in_change_sends : sent 0 (step 1 0 started.site Beat) ≡ record { from = 200; to = 201; msg = StartViewChange 1 (0 ∷ 0 ∷ 0 ∷ []) } ∷ record { from = 200; to = 202; msg = StartViewChange 1 (0 ∷ 0 ∷ 0 ∷ []) } ∷ record { from = 200; to = 201; msg = DoViewChange 1 0 0 [] (0 ∷ 0 ∷ 0 ∷ []) } ∷ []
+beat_in_change_sends : sent 0 (step 1 0 started.site Beat) ≡ record { from = 200; to = 201; msg = StartViewChange 1 (0 ∷ 0 ∷ 0 ∷ []) } ∷ record { from = 200; to = 202; msg = StartViewChange 1 (0 ∷ 0 ∷ 0 ∷ []) } ∷ record { from = 200; to = 201; msg = DoViewChange (record { view = 1; last_normal = 0; done = 0; rows = []; known = 0 ∷ 0 ∷ 0 ∷ [] }) } ∷ []
 unfolding on_request on_prepare on_prepare_ok on_commit beats_normal on_start_view_change on_do_view_change on_start_view on_timer beats_in_change on_get_state on_new_state on_recovery on_recovery_response beats_recovering on_restart
 beat_in_change_sends = refl
 
@@ -188,7 +188,7 @@ abbrev second : RowOf Ask
 second = record { client = 102; number = 2; cmd = Add 7 }
 
 abbrev two_rows : Site Ask
-two_rows = (takes 1 1 (takes 1 1 (fresh 1) 200 (Prepare 0 1 0 paid_in)).site 200 (Prepare 0 2 0 second)).site
+two_rows = (takes 1 1 (takes 1 1 (fresh 1) 200 (Prepare (record { view = 0; place = 1; done = 0; row = paid_in }))).site 200 (Prepare (record { view = 0; place = 2; done = 0; row = second }))).site
 
 two_rows_are_there : two_rows.log ≡ paid_in ∷ second ∷ []
 unfolding on_request on_prepare on_prepare_ok on_commit beats_normal on_start_view_change on_do_view_change on_start_view on_timer beats_in_change on_get_state on_new_state on_recovery on_recovery_response beats_recovering on_restart
@@ -198,9 +198,9 @@ abbrev first_of_4 : RowOf Ask
 first_of_4 = record { client = 102; number = 1; cmd = Add 9 }
 
 abbrev opened : Step Ask ℕ ℕ
-opened = takes 1 1 (takes 1 1 two_rows 200 (StartViewChange 4 (0 ∷ 0 ∷ 0 ∷ []))).site 200 (DoViewChange 4 3 1 (first_of_4 ∷ []) (0 ∷ 0 ∷ 0 ∷ []))
+opened = takes 1 1 (takes 1 1 two_rows 200 (StartViewChange 4 (0 ∷ 0 ∷ 0 ∷ []))).site 200 (DoViewChange (record { view = 4; last_normal = 3; done = 1; rows = first_of_4 ∷ []; known = 0 ∷ 0 ∷ 0 ∷ [] }))
 
-opened_sends : sent 1 opened ≡ record { from = 201; to = 200; msg = StartView 4 1 (first_of_4 ∷ []) } ∷ record { from = 201; to = 202; msg = StartView 4 1 (first_of_4 ∷ []) } ∷ record { from = 201; to = 102; msg = Reply 4 1 9 } ∷ []
+opened_sends : sent 1 opened ≡ record { from = 201; to = 200; msg = StartView (record { view = 4; done = 1; rows = first_of_4 ∷ [] }) } ∷ record { from = 201; to = 202; msg = StartView (record { view = 4; done = 1; rows = first_of_4 ∷ [] }) } ∷ record { from = 201; to = 102; msg = Reply 4 1 9 } ∷ []
 unfolding on_request on_prepare on_prepare_ok on_commit beats_normal on_start_view_change on_do_view_change on_start_view on_timer beats_in_change on_get_state on_new_state on_recovery on_recovery_response beats_recovering on_restart
 opened_sends = refl
 
@@ -209,15 +209,15 @@ unfolding on_request on_prepare on_prepare_ok on_commit beats_normal on_start_vi
 opened_log = refl
 
 -- of equal last normal views the longer log is taken, and of equal logs the lowest site's, whoever came first
-longer_is_taken : (takes 1 1 (takes 1 1 two_rows 200 (StartViewChange 4 (0 ∷ 0 ∷ 0 ∷ []))).site 200 (DoViewChange 4 0 0 (first_of_4 ∷ []) (0 ∷ 0 ∷ 0 ∷ []))).site.log ≡ paid_in ∷ second ∷ []
+longer_is_taken : (takes 1 1 (takes 1 1 two_rows 200 (StartViewChange 4 (0 ∷ 0 ∷ 0 ∷ []))).site 200 (DoViewChange (record { view = 4; last_normal = 0; done = 0; rows = first_of_4 ∷ []; known = 0 ∷ 0 ∷ 0 ∷ [] }))).site.log ≡ paid_in ∷ second ∷ []
 unfolding on_request on_prepare on_prepare_ok on_commit beats_normal on_start_view_change on_do_view_change on_start_view on_timer beats_in_change on_get_state on_new_state on_recovery on_recovery_response beats_recovering on_restart
 longer_is_taken = refl
 
-lowest_is_taken : (takes 1 1 (takes 1 1 two_rows 200 (StartViewChange 4 (0 ∷ 0 ∷ 0 ∷ []))).site 200 (DoViewChange 4 0 0 (first_of_4 ∷ second ∷ []) (0 ∷ 0 ∷ 0 ∷ []))).site.log ≡ first_of_4 ∷ second ∷ []
+lowest_is_taken : (takes 1 1 (takes 1 1 two_rows 200 (StartViewChange 4 (0 ∷ 0 ∷ 0 ∷ []))).site 200 (DoViewChange (record { view = 4; last_normal = 0; done = 0; rows = first_of_4 ∷ second ∷ []; known = 0 ∷ 0 ∷ 0 ∷ [] }))).site.log ≡ first_of_4 ∷ second ∷ []
 unfolding on_request on_prepare on_prepare_ok on_commit beats_normal on_start_view_change on_do_view_change on_start_view on_timer beats_in_change on_get_state on_new_state on_recovery on_recovery_response beats_recovering on_restart
 lowest_is_taken = refl
 
-own_is_lowest : (takes 1 1 (takes 1 1 two_rows 202 (StartViewChange 4 (0 ∷ 0 ∷ 0 ∷ []))).site 202 (DoViewChange 4 0 0 (first_of_4 ∷ second ∷ []) (0 ∷ 0 ∷ 0 ∷ []))).site.log ≡ paid_in ∷ second ∷ []
+own_is_lowest : (takes 1 1 (takes 1 1 two_rows 202 (StartViewChange 4 (0 ∷ 0 ∷ 0 ∷ []))).site 202 (DoViewChange (record { view = 4; last_normal = 0; done = 0; rows = first_of_4 ∷ second ∷ []; known = 0 ∷ 0 ∷ 0 ∷ [] }))).site.log ≡ paid_in ∷ second ∷ []
 unfolding on_request on_prepare on_prepare_ok on_commit beats_normal on_start_view_change on_do_view_change on_start_view on_timer beats_in_change on_get_state on_new_state on_recovery on_recovery_response beats_recovering on_restart
 own_is_lowest = refl
 
@@ -228,25 +228,25 @@ executed_one = (takes 1 1 two_rows 200 (Commit 0 1)).site
 abbrev before_opening : Site Ask
 before_opening = (takes 1 1 executed_one 200 (StartViewChange 4 (0 ∷ 0 ∷ 0 ∷ []))).site
 
-stale_opening : takes 1 1 before_opening 200 (DoViewChange 4 3 1 (first_of_4 ∷ []) (0 ∷ 0 ∷ 0 ∷ [])) ≡ drops before_opening Stale
+stale_opening : takes 1 1 before_opening 200 (DoViewChange (record { view = 4; last_normal = 3; done = 1; rows = first_of_4 ∷ []; known = 0 ∷ 0 ∷ 0 ∷ [] })) ≡ drops before_opening Stale
 unfolding on_request on_prepare on_prepare_ok on_commit beats_normal on_start_view_change on_do_view_change on_start_view on_timer beats_in_change on_get_state on_new_state on_recovery on_recovery_response beats_recovering on_restart
 stale_opening = refl
 
 -- nor is a log that is shorter than what was executed, or another, taken from a new primary
-shorter_view : takes 1 1 executed_one 200 (StartView 3 0 []) ≡ drops executed_one Stale
+shorter_view : takes 1 1 executed_one 200 (StartView (record { view = 3; done = 0; rows = [] })) ≡ drops executed_one Stale
 unfolding on_request on_prepare on_prepare_ok on_commit beats_normal on_start_view_change on_do_view_change on_start_view on_timer beats_in_change on_get_state on_new_state on_recovery on_recovery_response beats_recovering on_restart
 shorter_view = refl
 
-another_view : takes 1 1 executed_one 200 (StartView 3 1 (first_of_4 ∷ second ∷ [])) ≡ drops executed_one Stale
+another_view : takes 1 1 executed_one 200 (StartView (record { view = 3; done = 1; rows = first_of_4 ∷ second ∷ [] })) ≡ drops executed_one Stale
 unfolding on_request on_prepare on_prepare_ok on_commit beats_normal on_start_view_change on_do_view_change on_start_view on_timer beats_in_change on_get_state on_new_state on_recovery on_recovery_response beats_recovering on_restart
 another_view = refl
 
-same_view : sent 1 (takes 1 1 executed_one 200 (StartView 3 1 (paid_in ∷ second ∷ []))) ≡ record { from = 201; to = 200; msg = PrepareOk 3 2 } ∷ []
+same_view : sent 1 (takes 1 1 executed_one 200 (StartView (record { view = 3; done = 1; rows = paid_in ∷ second ∷ [] }))) ≡ record { from = 201; to = 200; msg = PrepareOk 3 2 } ∷ []
 unfolding on_request on_prepare on_prepare_ok on_commit beats_normal on_start_view_change on_do_view_change on_start_view on_timer beats_in_change on_get_state on_new_state on_recovery on_recovery_response beats_recovering on_restart
 same_view = refl
 
 -- all of it is executed, so nothing is left to acknowledge
-whole_view : sent 1 (takes 1 1 executed_one 200 (StartView 3 2 (paid_in ∷ second ∷ []))) ≡ []
+whole_view : sent 1 (takes 1 1 executed_one 200 (StartView (record { view = 3; done = 2; rows = paid_in ∷ second ∷ [] }))) ≡ []
 unfolding on_request on_prepare on_prepare_ok on_commit beats_normal on_start_view_change on_do_view_change on_start_view on_timer beats_in_change on_get_state on_new_state on_recovery on_recovery_response beats_recovering on_restart
 whole_view = refl
 
@@ -257,20 +257,20 @@ third = record { client = 102; number = 3; cmd = Add 8 }
 abbrev fourth : RowOf Ask
 fourth = record { client = 102; number = 4; cmd = Total }
 
-lagging_sends : sent 2 (takes 1 2 (fresh 1) 201 (Prepare 1 4 3 fourth)) ≡ record { from = 202; to = 201; msg = GetState 1 0 } ∷ []
+lagging_sends : sent 2 (takes 1 2 (fresh 1) 201 (Prepare (record { view = 1; place = 4; done = 3; row = fourth }))) ≡ record { from = 202; to = 201; msg = GetState 1 0 } ∷ []
 unfolding on_request on_prepare on_prepare_ok on_commit beats_normal on_start_view_change on_do_view_change on_start_view on_timer beats_in_change on_get_state on_new_state on_recovery on_recovery_response beats_recovering on_restart
 lagging_sends = refl
 
-lagging_stays : (takes 1 2 (fresh 1) 201 (Prepare 1 4 3 fourth)).site ≡ fresh 1
+lagging_stays : (takes 1 2 (fresh 1) 201 (Prepare (record { view = 1; place = 4; done = 3; row = fourth }))).site ≡ fresh 1
 unfolding on_request on_prepare on_prepare_ok on_commit beats_normal on_start_view_change on_do_view_change on_start_view on_timer beats_in_change on_get_state on_new_state on_recovery on_recovery_response beats_recovering on_restart
 lagging_stays = refl
 
-gap_is_dropped : takes 1 2 (fresh 1) 201 (NewState 1 1 3 (second ∷ third ∷ fourth ∷ [])) ≡ drops (fresh 1) Stale
+gap_is_dropped : takes 1 2 (fresh 1) 201 (NewState (record { view = 1; base = 1; done = 3; rows = second ∷ third ∷ fourth ∷ [] })) ≡ drops (fresh 1) Stale
 unfolding on_request on_prepare on_prepare_ok on_commit beats_normal on_start_view_change on_do_view_change on_start_view on_timer beats_in_change on_get_state on_new_state on_recovery on_recovery_response beats_recovering on_restart
 gap_is_dropped = refl
 
 abbrev caught_up : Step Ask ℕ ℕ
-caught_up = takes 1 2 (fresh 1) 201 (NewState 1 0 3 (paid_in ∷ second ∷ third ∷ fourth ∷ []))
+caught_up = takes 1 2 (fresh 1) 201 (NewState (record { view = 1; base = 0; done = 3; rows = paid_in ∷ second ∷ third ∷ fourth ∷ [] }))
 
 caught_up_shows : shown caught_up.site ≡ record { status = Normal; view = 1; rows = 4; done = 3; boots = 0; known = 0 ∷ 0 ∷ 0 ∷ []; total = 1215 }
 unfolding on_request on_prepare on_prepare_ok on_commit beats_normal on_start_view_change on_do_view_change on_start_view on_timer beats_in_change on_get_state on_new_state on_recovery on_recovery_response beats_recovering on_restart
@@ -280,7 +280,7 @@ caught_up_sends : sent 2 caught_up ≡ record { from = 202; to = 201; msg = Prep
 unfolding on_request on_prepare on_prepare_ok on_commit beats_normal on_start_view_change on_do_view_change on_start_view on_timer beats_in_change on_get_state on_new_state on_recovery on_recovery_response beats_recovering on_restart
 caught_up_sends = refl
 
-state_is_sent : sent 0 (takes 1 0 acknowledged.site 202 (GetState 0 0)) ≡ record { from = 200; to = 202; msg = NewState 0 0 1 (paid_in ∷ []) } ∷ []
+state_is_sent : sent 0 (takes 1 0 acknowledged.site 202 (GetState 0 0)) ≡ record { from = 200; to = 202; msg = NewState (record { view = 0; base = 0; done = 1; rows = paid_in ∷ [] }) } ∷ []
 unfolding on_request on_prepare on_prepare_ok on_commit beats_normal on_start_view_change on_do_view_change on_start_view on_timer beats_in_change on_get_state on_new_state on_recovery on_recovery_response beats_recovering on_restart
 state_is_sent = refl
 
@@ -292,7 +292,7 @@ no_such_rows = refl
 abbrev at_greatest : Step Ask ℕ ℕ
 at_greatest = takes 1 1 (fresh 1) 202 (StartViewChange 4294967295 (0 ∷ 0 ∷ 0 ∷ []))
 
-at_greatest_sends : sent 1 at_greatest ≡ record { from = 201; to = 200; msg = StartViewChange 4294967295 (0 ∷ 0 ∷ 0 ∷ []) } ∷ record { from = 201; to = 202; msg = StartViewChange 4294967295 (0 ∷ 0 ∷ 0 ∷ []) } ∷ record { from = 201; to = 200; msg = DoViewChange 4294967295 0 0 [] (0 ∷ 0 ∷ 0 ∷ []) } ∷ []
+at_greatest_sends : sent 1 at_greatest ≡ record { from = 201; to = 200; msg = StartViewChange 4294967295 (0 ∷ 0 ∷ 0 ∷ []) } ∷ record { from = 201; to = 202; msg = StartViewChange 4294967295 (0 ∷ 0 ∷ 0 ∷ []) } ∷ record { from = 201; to = 200; msg = DoViewChange (record { view = 4294967295; last_normal = 0; done = 0; rows = []; known = 0 ∷ 0 ∷ 0 ∷ [] }) } ∷ []
 unfolding on_request on_prepare on_prepare_ok on_commit beats_normal on_start_view_change on_do_view_change on_start_view on_timer beats_in_change on_get_state on_new_state on_recovery on_recovery_response beats_recovering on_restart
 at_greatest_sends = refl
 
@@ -341,11 +341,11 @@ unfolding on_request on_prepare on_prepare_ok on_commit beats_normal on_start_vi
 recovering_timer = refl
 
 -- the primary of a view answers a recovery with its state, and other sites without; a recovering site answers nobody
-primary_answers : sent 0 (takes 1 0 acknowledged.site 202 (Recovery 1)) ≡ record { from = 200; to = 202; msg = RecoveryResponse 0 1 (Some (record { done = 1; rows = paid_in ∷ [] })) (0 ∷ 0 ∷ 1 ∷ []) } ∷ []
+primary_answers : sent 0 (takes 1 0 acknowledged.site 202 (Recovery 1)) ≡ record { from = 200; to = 202; msg = RecoveryResponse (record { view = 0; nonce = 1; state = Some (record { done = 1; rows = paid_in ∷ [] }); known = 0 ∷ 0 ∷ 1 ∷ [] }) } ∷ []
 unfolding on_request on_prepare on_prepare_ok on_commit beats_normal on_start_view_change on_do_view_change on_start_view on_timer beats_in_change on_get_state on_new_state on_recovery on_recovery_response beats_recovering on_restart
 primary_answers = refl
 
-backup_answers : sent 1 (takes 1 1 (fresh 1) 202 (Recovery 1)) ≡ record { from = 201; to = 202; msg = RecoveryResponse 0 1 None (0 ∷ 0 ∷ 1 ∷ []) } ∷ []
+backup_answers : sent 1 (takes 1 1 (fresh 1) 202 (Recovery 1)) ≡ record { from = 201; to = 202; msg = RecoveryResponse (record { view = 0; nonce = 1; state = None; known = 0 ∷ 0 ∷ 1 ∷ [] }) } ∷ []
 unfolding on_request on_prepare on_prepare_ok on_commit beats_normal on_start_view_change on_do_view_change on_start_view on_timer beats_in_change on_get_state on_new_state on_recovery on_recovery_response beats_recovering on_restart
 backup_answers = refl
 

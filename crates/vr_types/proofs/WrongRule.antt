@@ -6,11 +6,10 @@ use Rattle.vr_types.specs.declared.event.Why.TheVariants.{Status, View, NotPrima
 use Rattle.vr_types.specs.declared.message.MsgOf.{MsgOf}
 use Rattle.vr_types.specs.declared.message.MsgOf.TheVariants.{StartViewChange, DoViewChange, Recovery, RecoveryResponse}
 use Rattle.vr_types.specs.Group.{primary, mail, site_of}
-use Rattle.vr_types.specs.Site.{Site, Start, Vote, boot_of, is_normal, is_recovering, executed_rows}
-use Rattle.vr_types.specs.Choice.{Choice}
+use Rattle.vr_types.specs.Site.{Site, Start, Vote, is_normal, is_recovering, executed_rows}
 use Rattle.vr_types.specs.Step.{Step, does, drops, greater, is_outdated}
 use Rattle.vr_types.specs.Normal.{on_request, on_prepare, on_prepare_ok, on_commit, beats_normal}
-use Rattle.vr_types.specs.Change.{starts_later_view, with_start, with_vote, votes_where_due, opens_where_due, on_start_view_change, on_do_view_change, on_start_view, on_timer, beats_in_change}
+use Rattle.vr_types.specs.Change.{vote_of, starts_later_view, with_start, with_vote, votes_where_due, opens_where_due, on_start_view_change, on_do_view_change, on_start_view, on_timer, beats_in_change}
 use Rattle.vr_types.specs.Transfer.{on_get_state, on_new_state}
 use Rattle.vr_types.specs.Recovery.{state_of_view, on_recovery, on_recovery_response, beats_recovering, on_restart}
 use Rattle.vr_types.specs.Handling.{refusal, refused_or, on_message}
@@ -27,7 +26,7 @@ step_but takes f me x e = step f me x e
 abbrev answers_unnoted : ℕ → ℕ → Site Ask → ℕ → ℕ → Step Ask ℕ ℕ
 answers_unnoted f me x from nonce =
     if not (is_normal x.status) then drops x Status
-    else does x (mail me from (RecoveryResponse x.view nonce (state_of_view f me x) x.known) ∷ [])
+    else does x (mail me from (RecoveryResponse (record { view = x.view; nonce = nonce; state = state_of_view f me x; known = x.known })) ∷ [])
 
 abbrev takes_unnoted : ℕ → ℕ → Site Ask → ℕ → MsgOf Ask ℕ ℕ → Step Ask ℕ ℕ
 takes_unnoted f me x actor (Recovery nonce) = answers_unnoted f me x (site_of actor) nonce
@@ -68,8 +67,7 @@ votes_keeping f me x w vote =
 
 abbrev takes_keeping : ℕ → ℕ → Site Ask → ℕ → MsgOf Ask ℕ ℕ → Step Ask ℕ ℕ
 takes_keeping f me x actor (StartViewChange w known) = starts_keeping f me x w (record { from = site_of actor; known = known })
-takes_keeping f me x actor (DoViewChange w last_normal k log known) =
-    votes_keeping f me x w (record { from = site_of actor; last_normal = last_normal; done = k; log = log; known = known })
+takes_keeping f me x actor (DoViewChange msg) = votes_keeping f me x msg.view (vote_of (site_of actor) msg)
 takes_keeping f me x actor msg = on_message (choice_of same_ask f) f me x actor msg
 
 abbrev keeping : World

@@ -3,7 +3,9 @@ use Rattle.std.specs.Prelude.{ℕ, ◌+◌, ◌==◌, ◌&&◌, Bool, true, not,
 use Rattle.vr_types.specs.declared.event.Status.TheVariants.{Change}
 use Rattle.vr_types.specs.declared.event.Why.TheVariants.{Status, View, NotPrimary, Known, Stale}
 use Rattle.vr_types.specs.declared.message.EnvelopeOf.{EnvelopeOf}
+use Rattle.vr_types.specs.declared.message.DoViewChangeOf.{DoViewChangeOf}
 use Rattle.vr_types.specs.declared.message.MsgOf.TheVariants.{StartViewChange, DoViewChange, StartView}
+use Rattle.vr_types.specs.declared.message.StartViewOf.{StartViewOf}
 use Rattle.vr_types.specs.declared.row.RowOf.{RowOf}
 use Rattle.vr_types.specs.Group.{sites, others, primary, mail, to_all}
 use Rattle.vr_types.specs.Site.{Site, Start, Vote, nothing, is_normal, is_change, is_recovering, has_start, has_vote}
@@ -38,6 +40,14 @@ with_vote vote x =
     if has_vote x.collected.votes vote.from then x
     else record x { collected = record (x.collected) { votes = x.collected.votes ++ vote ∷ [] } }
 
+-- the vote that a site gives by its DOVIEWCHANGE
+abbrev pub vote_of : {C : Type 0} → ℕ → DoViewChangeOf C → Vote C
+vote_of from msg = record { from = from; last_normal = msg.last_normal; done = msg.done; log = msg.rows; known = msg.known }
+
+-- the DOVIEWCHANGE of a view that gives a vote
+abbrev pub ballot : {C : Type 0} → ℕ → Vote C → DoViewChangeOf C
+ballot w vote = record { view = w; last_normal = vote.last_normal; done = vote.done; rows = vote.log; known = vote.known }
+
 -- its own DOVIEWCHANGE is made
 abbrev pub with_voted : {C : Type 0} → Site C → Site C
 with_voted x = record x { collected = record (x.collected) { voted = true } }
@@ -48,7 +58,7 @@ own_vote me x = record { from = me; last_normal = x.last_normal; done = x.done; 
 
 -- the site's own DOVIEWCHANGE, to the primary of its view
 abbrev pub sends_vote : {C R O : Type 0} → ℕ → ℕ → Site C → List (EnvelopeOf C R O)
-sends_vote f me x = mail me (primary f x.view) (DoViewChange x.view x.last_normal x.done x.log x.known) ∷ []
+sends_vote f me x = mail me (primary f x.view) (DoViewChange (ballot x.view (own_vote me x))) ∷ []
 
 -- f different others have sent STARTVIEWCHANGE, and its own DOVIEWCHANGE isn't made yet
 abbrev pub is_to_vote : {C : Type 0} → ℕ → ℕ → Site C → Bool
@@ -72,7 +82,7 @@ is_to_open f me x =
 abbrev pub opened_with : {C R O : Type 0} → ℕ → ℕ → List (RowOf C) → ℕ → Part C R O → Step C R O
 opened_with {C} {R} {O} f me log k part =
     let opened = executes_and_answers {R = R} {O = O} k (normal_in part.site.view log part.site) in
-    record opened { sent = part.sent ++ to_all f me (StartView opened.site.view opened.site.done opened.site.log) }
+    record opened { sent = part.sent ++ to_all f me (StartView (record { view = opened.site.view; done = opened.site.done; rows = opened.site.log })) }
 
 -- Where the view can be opened, it is. This project's own: a picked log that does not begin with what the site executed is dropped with its message; x is the site as the message found it.
 abbrev pub opens_where_due : {C R O : Type 0} → Choice C → ℕ → ℕ → Site C → Part C R O → Step C R O
@@ -115,13 +125,13 @@ on_do_view_change choose f me x w vote =
     else opens_where_due choose f me x (after_vote f me w vote x)
 
 -- STARTVIEW (step 5)
-unfoldable pub on_start_view : {C R O : Type 0} → Choice C → ℕ → ℕ → Site C → ℕ → ℕ → ℕ → List (RowOf C) → Step C R O
-on_start_view choose f me x from w k log =
-    if not (primary f w == from) then drops x NotPrimary
+unfoldable pub on_start_view : {C R O : Type 0} → Choice C → ℕ → ℕ → Site C → ℕ → StartViewOf C → Step C R O
+on_start_view choose f me x from msg =
+    if not (primary f msg.view == from) then drops x NotPrimary
     else if is_recovering x.status then drops x Status
-    else if nat_lt w x.view then drops x View
-    else if is_normal x.status && (w == x.view) then drops x Known
-    else takes_log choose f me x w k log
+    else if nat_lt msg.view x.view then drops x View
+    else if is_normal x.status && (msg.view == x.view) then drops x Known
+    else takes_log choose f me x msg.view msg.done msg.rows
 
 -- Timer (step 1): the next view is started. A view at its greatest is refused before.
 unfoldable pub on_timer : {C R O : Type 0} → ℕ → ℕ → Site C → Step C R O

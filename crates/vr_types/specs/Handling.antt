@@ -18,9 +18,9 @@ use Rattle.vr_types.specs.Site.{Site, Vote, Response, is_recovering, is_down, ov
 use Rattle.vr_types.specs.Choice.{Choice}
 use Rattle.vr_types.specs.Step.{Step, Ending, Handled, Dropped, Refused, refuses}
 use Rattle.vr_types.specs.Normal.{on_request, on_prepare, on_prepare_ok, on_commit, beats_normal}
-use Rattle.vr_types.specs.Change.{Part, after_start, after_vote, on_start_view_change, on_do_view_change, on_start_view, on_timer, beats_in_change}
+use Rattle.vr_types.specs.Change.{Part, vote_of, after_start, after_vote, on_start_view_change, on_do_view_change, on_start_view, on_timer, beats_in_change}
 use Rattle.vr_types.specs.Transfer.{on_get_state, on_new_state}
-use Rattle.vr_types.specs.Recovery.{after_response, on_recovery, on_recovery_response, beats_recovering, on_crash, on_restart}
+use Rattle.vr_types.specs.Recovery.{response_of, after_response, on_recovery, on_recovery_response, beats_recovering, on_crash, on_restart}
 
 -- why an event is refused, which comes before all else
 abbrev pub refusal : {C R O : Type 0} → ℕ → ℕ → Site C → EventOf C R O → Option SiteFault
@@ -42,18 +42,16 @@ refusal f me x Restart =
 -- a message of an actor that may send it; to the rules a client is its actor's number, and a site its own
 abbrev pub on_message : {C R O : Type 0} → Choice C → ℕ → ℕ → Site C → ℕ → MsgOf C R O → Step C R O
 on_message choose f me x actor (Request number cmd) = on_request f me x (record { client = actor; number = number; cmd = cmd })
-on_message choose f me x actor (Prepare w place k row) = on_prepare f me x (site_of actor) w place k row
+on_message choose f me x actor (Prepare msg) = on_prepare f me x (site_of actor) msg
 on_message choose f me x actor (PrepareOk w place) = on_prepare_ok choose f me x (site_of actor) w place
 on_message choose f me x actor (Commit w k) = on_commit f me x (site_of actor) w k
 on_message choose f me x actor (StartViewChange w known) = on_start_view_change choose f me x w (record { from = site_of actor; known = known })
-on_message choose f me x actor (DoViewChange w last_normal k log known) =
-    on_do_view_change choose f me x w (record { from = site_of actor; last_normal = last_normal; done = k; log = log; known = known })
-on_message choose f me x actor (StartView w k log) = on_start_view choose f me x (site_of actor) w k log
+on_message choose f me x actor (DoViewChange msg) = on_do_view_change choose f me x msg.view (vote_of (site_of actor) msg)
+on_message choose f me x actor (StartView msg) = on_start_view choose f me x (site_of actor) msg
 on_message choose f me x actor (GetState w base) = on_get_state f me x (site_of actor) w base
-on_message choose f me x actor (NewState w base k rows) = on_new_state choose f me x (site_of actor) w base k rows
+on_message choose f me x actor (NewState msg) = on_new_state choose f me x (site_of actor) msg
 on_message choose f me x actor (Recovery nonce) = on_recovery f me x (site_of actor) nonce
-on_message choose f me x actor (RecoveryResponse w nonce state known) =
-    on_recovery_response choose x nonce (record { from = site_of actor; view = w; state = state; known = known })
+on_message choose f me x actor (RecoveryResponse msg) = on_recovery_response choose x msg.nonce (response_of (site_of actor) msg)
 on_message choose f me x actor (Reply view number reply) = refuses x NotMine
 on_message choose f me x actor (PayOrder order) = refuses x NotMine
 
@@ -61,15 +59,13 @@ on_message choose f me x actor (PayOrder order) = refuses x NotMine
 abbrev pub votes_used : {C R O : Type 0} → ℕ → ℕ → Site C → ℕ → MsgOf C R O → List (Vote C)
 votes_used {C} {R} {O} f me x actor (StartViewChange w known) =
     let part : Part C R O = after_start f me w (record { from = site_of actor; known = known }) x in part.site.collected.votes
-votes_used {C} {R} {O} f me x actor (DoViewChange w last_normal k log known) =
-    let vote : Vote C = record { from = site_of actor; last_normal = last_normal; done = k; log = log; known = known } in
-    let part : Part C R O = after_vote f me w vote x in part.site.collected.votes
+votes_used {C} {R} {O} f me x actor (DoViewChange msg) =
+    let part : Part C R O = after_vote f me msg.view (vote_of (site_of actor) msg) x in part.site.collected.votes
 votes_used f me x actor _ = []
 
 -- the responses by which a message decides whether a state is regained: none where it regains none
 abbrev pub responses_used : {C R O : Type 0} → Site C → ℕ → MsgOf C R O → List (Response C)
-responses_used x actor (RecoveryResponse w nonce state known) =
-    (after_response (record { from = site_of actor; view = w; state = state; known = known }) x).collected.responses
+responses_used x actor (RecoveryResponse msg) = (after_response (response_of (site_of actor) msg) x).collected.responses
 responses_used x actor _ = []
 
 -- a beat, by the site's status

@@ -16,18 +16,18 @@ rows_of_state (Some state) = state.rows
 
 -- the rows that a message carries
 abbrev pub rows_in : {C R O : Type 0} → MsgOf C R O → List (RowOf C)
-rows_in (Prepare view place done row) = row ∷ []
-rows_in (DoViewChange view last_normal done rows known) = rows
-rows_in (StartView view done rows) = rows
-rows_in (NewState view base done rows) = rows
-rows_in (RecoveryResponse view nonce state known) = rows_of_state state
+rows_in (Prepare msg) = msg.row ∷ []
+rows_in (DoViewChange msg) = msg.rows
+rows_in (StartView msg) = msg.rows
+rows_in (NewState msg) = msg.rows
+rows_in (RecoveryResponse msg) = rows_of_state msg.state
 rows_in _ = []
 
 -- what its sender knew of boots, where a message tells it
 abbrev pub known_in : {C R O : Type 0} → MsgOf C R O → Option (List ℕ)
 known_in (StartViewChange view known) = Some known
-known_in (DoViewChange view last_normal done rows known) = Some known
-known_in (RecoveryResponse view nonce state known) = Some known
+known_in (DoViewChange msg) = Some msg.known
+known_in (RecoveryResponse msg) = Some msg.known
 known_in _ = None
 
 -- the nonce with which a site asks for the state, where a message asks for it
@@ -38,8 +38,8 @@ asked_nonce _ = None
 -- a message that carries no list: neither rows nor what is known of boots
 abbrev pub has_fixed_size : {C R O : Type 0} → MsgOf C R O → Bool
 has_fixed_size (StartViewChange view known) = false
-has_fixed_size (DoViewChange view last_normal done rows known) = false
-has_fixed_size (StartView view done rows) = false
-has_fixed_size (NewState view base done rows) = false
-has_fixed_size (RecoveryResponse view nonce state known) = false
+has_fixed_size (DoViewChange msg) = false
+has_fixed_size (StartView msg) = false
+has_fixed_size (NewState msg) = false
+has_fixed_size (RecoveryResponse msg) = false
 has_fixed_size _ = true

@@ -4,6 +4,7 @@ use Rattle.std.specs.List.{list_any}
 use Rattle.vr_types.specs.declared.event.Status.TheVariants.{Down}
 use Rattle.vr_types.specs.declared.event.Why.TheVariants.{Status, Known, Stale}
 use Rattle.vr_types.specs.declared.message.MsgOf.TheVariants.{Recovery, RecoveryResponse}
+use Rattle.vr_types.specs.declared.message.RecoveryResponseOf.{RecoveryResponseOf}
 use Rattle.vr_types.specs.declared.message.StateOf.{StateOf}
 use Rattle.vr_types.specs.Cell.{nonce_of, raised}
 use Rattle.vr_types.specs.Group.{primary, mail, to_all}
@@ -24,7 +25,11 @@ unfoldable pub on_recovery : {C R O : Type 0} → ℕ → ℕ → Site C → ℕ
 on_recovery f me x from nonce =
     if not (is_normal x.status) then drops x Status
     else if nat_lt nonce (boot_of x.known from) then drops x Stale
-    else (let y = notes from nonce x in does y (mail me from (RecoveryResponse y.view nonce (state_of_view f me y) y.known) ∷ []))
+    else (let y = notes from nonce x in does y (mail me from (RecoveryResponse (record { view = y.view; nonce = nonce; state = state_of_view f me y; known = y.known })) ∷ []))
+
+-- what a site answers by its RECOVERYRESPONSE
+abbrev pub response_of : {C : Type 0} → ℕ → RecoveryResponseOf C → Response C
+response_of from msg = record { from = from; view = msg.view; state = msg.state; known = msg.known }
 
 -- a response of this site, of this view or a later one, is kept
 abbrev pub has_as_late : {C : Type 0} → List (Response C) → Response C → Bool

@@ -11,7 +11,7 @@ use std::process::ExitCode;
 use std::rt::Clock;
 use std::time::Instant;
 use std::{env, fmt, io};
-use vr_types::{EnvelopeOf, MsgOf, RowOf, RowsOf};
+use vr_types::{EnvelopeOf, MsgOf, RowOf, RowsOf, StartViewOf};
 
 /// How many rows a frame of the stream has.
 const ROWS: u16 = 1_000;
@@ -84,11 +84,11 @@ fn sent(alloc: Global, rows: u16) -> Result<Stamped, AllocError> {
         envelope: EnvelopeOf {
             from: 200,
             to: 201,
-            msg: MsgOf::StartView {
+            msg: MsgOf::StartView(StartViewOf {
                 view: 0,
                 done: 0,
                 rows: log(alloc, rows)?,
-            },
+            }),
         },
     })
 }

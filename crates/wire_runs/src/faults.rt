@@ -6,7 +6,7 @@ use pvp_wire::{Message, WireFault, decode, encode, wireable};
 use std::alloc::{AllocError, Global};
 use std::io::{self, Write};
 use std::test::Fail;
-use vr_types::MsgOf;
+use vr_types::{MsgOf, PrepareOf};
 
 /// What `decode` makes of bytes: the size of the frame, or the fault.
 fn read(alloc: Global, bytes: &[u8]) -> Result<usize, WireFault> {
@@ -108,12 +108,12 @@ fn an_altered_frame_is_another_or_a_fault(rt: HostRuntime) -> Result<(), Fail> {
 fn a_stranger_is_not_wireable(rt: HostRuntime) -> Result<(), Fail> {
     let mut other = row();
     other.client = 109;
-    let prepare = MsgOf::Prepare {
+    let prepare = MsgOf::Prepare(PrepareOf {
         view: 0,
         place: 1,
         done: 0,
         row: other,
-    };
+    });
     assert!(rt; !wireable(&stamped(200, 1, 0, 201, prepare)));
     let commit = MsgOf::Commit { view: 0, done: 0 };
     assert!(rt; !wireable(&stamped(200, 1, 0, 207, commit)));

@@ -5,7 +5,7 @@ use pvp_wire::{Message, decode};
 use std::alloc::Global;
 use std::process::Abort;
 use std::test::Fail;
-use vr_types::{MsgOf, StateOf};
+use vr_types::{DoViewChangeOf, MsgOf, RecoveryResponseOf, StartViewOf, StateOf};
 
 /// As many rows as a log has.
 const MOST_ROWS: usize = 65_535;
@@ -27,11 +27,11 @@ fn comes_back<R: Abort + AllocGlobal>(rt: &R, msg: Message, length: usize) -> Re
 
 #[test]
 fn a_view_starts_with_a_whole_log(rt: HostRuntime) -> Result<(), Fail> {
-    let start = MsgOf::StartView {
+    let start = MsgOf::StartView(StartViewOf {
         view: 1,
         done: 0,
         rows: rows(rt.alloc(), row(), MOST_ROWS)?,
-    };
+    });
     comes_back(&rt, start, 22 + 6 + MOST_BYTES)
 }
 
@@ -39,7 +39,7 @@ fn a_view_starts_with_a_whole_log(rt: HostRuntime) -> Result<(), Fail> {
 #[test]
 fn a_state_has_a_whole_log_and_seven_sites(rt: HostRuntime) -> Result<(), Fail> {
     let alloc = rt.alloc();
-    let regained = MsgOf::RecoveryResponse {
+    let regained = MsgOf::RecoveryResponse(RecoveryResponseOf {
         view: 1,
         nonce: 1,
         state: Some(StateOf {
@@ -47,7 +47,7 @@ fn a_state_has_a_whole_log_and_seven_sites(rt: HostRuntime) -> Result<(), Fail> 
             rows: rows(alloc, row(), MOST_ROWS)?,
         }),
         known: known(alloc, [1, 2, 3, 4, 5, 6, 7].as_slice())?,
-    };
+    });
     comes_back(&rt, regained, 2_031_649)
 }
 
@@ -66,13 +66,13 @@ const VOTES: [(usize, usize); 7] = [
 fn votes_of_whole_pages_and_of_more(rt: HostRuntime) -> Result<(), Fail> {
     let alloc = rt.alloc();
     for (count, length) in VOTES {
-        let vote = MsgOf::DoViewChange {
+        let vote = MsgOf::DoViewChange(DoViewChangeOf {
             view: 2,
             last_normal: 1,
             done: 0,
             rows: rows(alloc, row(), count)?,
             known: known(alloc, [1, 2, 3].as_slice())?,
-        };
+        });
         comes_back(&rt, vote, length)?;
     }
     Ok(())

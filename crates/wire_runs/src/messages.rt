@@ -5,7 +5,9 @@ use pvp_types::{Cmd, PayOrder, Reason, Reply};
 use pvp_wire::{Message, decode};
 use std::alloc::Global;
 use std::test::Fail;
-use vr_types::{MsgOf, RowsOf, StateOf};
+use vr_types::{
+    DoViewChangeOf, MsgOf, NewStateOf, PrepareOf, RecoveryResponseOf, RowsOf, StartViewOf, StateOf,
+};
 
 /// Whether a message is read as it is written: its frame is read whole, and written again the same.
 fn comes_back(alloc: Global, msg: Message) -> Result<bool, Fail> {
@@ -25,12 +27,12 @@ fn normal_operation(rt: HostRuntime) -> Result<(), Fail> {
         cmd: Cmd::Rescind { reference: 0 },
     };
     assert!(rt; comes_back(alloc, request)?);
-    let prepare = MsgOf::Prepare {
+    let prepare = MsgOf::Prepare(PrepareOf {
         view,
         place: 0,
         done,
         row: row(),
-    };
+    });
     assert!(rt; comes_back(alloc, prepare)?);
     assert!(rt; comes_back(alloc, MsgOf::PrepareOk { view, place: done })?);
     assert!(rt; comes_back(alloc, MsgOf::Commit { view, done })?);
@@ -74,20 +76,20 @@ fn a_view_change(rt: HostRuntime) -> Result<(), Fail> {
             known: known(alloc, &boots[..sites])?,
         };
         assert!(rt; comes_back(alloc, change)?);
-        let vote = MsgOf::DoViewChange {
+        let vote = MsgOf::DoViewChange(DoViewChangeOf {
             view,
             last_normal: 0,
             done,
             rows: rows(alloc, row(), sites)?,
             known: known(alloc, &boots[..sites])?,
-        };
+        });
         assert!(rt; comes_back(alloc, vote)?);
     }
-    let start = MsgOf::StartView {
+    let start = MsgOf::StartView(StartViewOf {
         view,
         done,
         rows: rows(alloc, row(), 2)?,
-    };
+    });
     assert!(rt; comes_back(alloc, start)?);
     Ok(())
 }
@@ -97,12 +99,12 @@ fn a_state_transfer(rt: HostRuntime) -> Result<(), Fail> {
     let alloc = rt.alloc();
     let view = u32::MAX;
     assert!(rt; comes_back(alloc, MsgOf::GetState { view, base: 0 })?);
-    let state = MsgOf::NewState {
+    let state = MsgOf::NewState(NewStateOf {
         view,
         base: u16::MAX,
         done: 0,
         rows: RowsOf::new(alloc),
-    };
+    });
     assert!(rt; comes_back(alloc, state)?);
     Ok(())
 }
@@ -112,23 +114,23 @@ fn a_recovery(rt: HostRuntime) -> Result<(), Fail> {
     let alloc = rt.alloc();
     let nonce = u32::MAX;
     assert!(rt; comes_back(alloc, MsgOf::Recovery { nonce })?);
-    let bare = MsgOf::RecoveryResponse {
+    let bare = MsgOf::RecoveryResponse(RecoveryResponseOf {
         view: 0,
         nonce,
         state: None,
         known: known(alloc, [7].as_slice())?,
-    };
+    });
     assert!(rt; comes_back(alloc, bare)?);
     let state = StateOf {
         done: u16::MAX,
         rows: rows(alloc, row(), 2)?,
     };
-    let full = MsgOf::RecoveryResponse {
+    let full = MsgOf::RecoveryResponse(RecoveryResponseOf {
         view: u32::MAX,
         nonce,
         state: Some(state),
         known: known(alloc, [0, 1, 2, 3, 4, 5, u32::MAX].as_slice())?,
-    };
+    });
     assert!(rt; comes_back(alloc, full)?);
     Ok(())
 }

@@ -6,7 +6,7 @@ use pvp_wire::{Message, decode};
 use std::alloc::{AllocError, Global};
 use std::process::Abort;
 use std::test::Fail;
-use vr_types::{MsgOf, RowsOf, StateOf};
+use vr_types::{DoViewChangeOf, MsgOf, RecoveryResponseOf, RowsOf, StateOf};
 
 /// COMMIT of view 0, 1 row executed, from site 0 to site 1, clock 5, index 0.
 pub const COMMIT: [u8; 28] = [
@@ -115,13 +115,13 @@ fn what_clients_and_nodes_are_told(rt: HostRuntime) -> Result<(), Fail> {
 }
 
 fn vote(alloc: Global) -> Result<Message, AllocError> {
-    Ok(MsgOf::DoViewChange {
+    Ok(MsgOf::DoViewChange(DoViewChangeOf {
         view: 2,
         last_normal: 1,
         done: 0,
         rows: rows(alloc, settle(), 1)?,
         known: known(alloc, [1, 0, 0].as_slice())?,
-    })
+    }))
 }
 
 #[test]
@@ -133,7 +133,7 @@ fn what_tells_of_boots(rt: HostRuntime) -> Result<(), Fail> {
     };
     is_spelled(&rt, (202, 201), (2, 1), change, CHANGE.as_slice())?;
     is_spelled(&rt, (202, 201), (3, 0), vote(alloc)?, VOTE.as_slice())?;
-    let regained = MsgOf::RecoveryResponse {
+    let regained = MsgOf::RecoveryResponse(RecoveryResponseOf {
         view: 2,
         nonce: 1,
         state: Some(StateOf {
@@ -141,6 +141,6 @@ fn what_tells_of_boots(rt: HostRuntime) -> Result<(), Fail> {
             rows: RowsOf::new(alloc),
         }),
         known: known(alloc, [0, 0, 1].as_slice())?,
-    };
+    });
     is_spelled(&rt, (200, 202), (4, 1), regained, REGAINED.as_slice())
 }

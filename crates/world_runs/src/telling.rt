@@ -10,7 +10,10 @@ use pvp_world::{Step, World};
 use std::alloc::Global;
 use std::process::Abort;
 use std::test::Fail;
-use vr_types::{Known, MemCell, Msg, MsgOf, RowOf, RowsOf, StateOf};
+use vr_types::{
+    DoViewChangeOf, Known, MemCell, Msg, MsgOf, NewStateOf, PrepareOf, RecoveryResponseOf, RowOf,
+    RowsOf, StartViewOf, StateOf,
+};
 
 /// Tries steps, and tells each.
 fn told(alloc: Global, world: &mut World<MemCell>, steps: &[Step]) -> Result<String, Fail> {
@@ -155,52 +158,52 @@ fn changes_are_told(rt: &impl Abort, alloc: Global, setup: &Setup) -> Result<(),
     };
     let want = "STARTVIEWCHANGE view 1 boots 0 2 0";
     is_told(rt, alloc, setup, starts, want)?;
-    let vote = MsgOf::DoViewChange {
+    let vote = MsgOf::DoViewChange(DoViewChangeOf {
         view: 1,
         last_normal: 0,
         done: 1,
         rows: rows(alloc)?,
         known: known(alloc)?,
-    };
+    });
     let want = "DOVIEWCHANGE view 1 normal 0 done 1 rows 2 last ALFA 2 payout USD 300 boots 0 2 0";
     is_told(rt, alloc, setup, vote, want)?;
-    let start = MsgOf::StartView {
+    let start = MsgOf::StartView(StartViewOf {
         view: 1,
         done: 1,
         rows: rows(alloc)?,
-    };
+    });
     let want = "STARTVIEW view 1 done 1 rows 2 last ALFA 2 payout USD 300";
     is_told(rt, alloc, setup, start, want)
 }
 
 /// Messages that bring a state, or none.
 fn states_are_told(rt: &impl Abort, alloc: Global, setup: &Setup) -> Result<(), Fail> {
-    let state = MsgOf::NewState {
+    let state = MsgOf::NewState(NewStateOf {
         view: 1,
         base: 3,
         done: 4,
         rows: RowsOf::new(alloc),
-    };
+    });
     let want = "NEWSTATE view 1 base 3 done 4 rows 0";
     is_told(rt, alloc, setup, state, want)?;
-    let without = MsgOf::RecoveryResponse {
+    let without = MsgOf::RecoveryResponse(RecoveryResponseOf {
         view: 4,
         nonce: 2,
         state: None,
         known: known(alloc)?,
-    };
+    });
     let want = "RECOVERYRESPONSE view 4 nonce 2 boots 0 2 0";
     is_told(rt, alloc, setup, without, want)?;
     let state = Some(StateOf {
         done: 1,
         rows: rows(alloc)?,
     });
-    let with = MsgOf::RecoveryResponse {
+    let with = MsgOf::RecoveryResponse(RecoveryResponseOf {
         view: 4,
         nonce: 2,
         state,
         known: known(alloc)?,
-    };
+    });
     let want =
         "RECOVERYRESPONSE view 4 nonce 2 done 1 rows 2 last ALFA 2 payout USD 300 boots 0 2 0";
     is_told(rt, alloc, setup, with, want)
@@ -241,12 +244,12 @@ fn requests_are_told(rt: &impl Abort, alloc: Global, setup: &Setup) -> Result<()
 
 /// What sites say to one another without a list.
 fn short_messages_are_told(rt: &impl Abort, alloc: Global, setup: &Setup) -> Result<(), Fail> {
-    let prepare = MsgOf::Prepare {
+    let prepare = MsgOf::Prepare(PrepareOf {
         view: 2,
         place: 4,
         done: 3,
         row: row(9, Cmd::Rescind { reference: 7 }),
-    };
+    });
     let want = "PREPARE view 2 place 4 done 3 row ALFA 9 rescind 7";
     is_told(rt, alloc, setup, prepare, want)?;
     let prepare_ok = MsgOf::PrepareOk { view: 2, place: 4 };

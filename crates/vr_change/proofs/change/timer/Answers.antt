@@ -17,6 +17,16 @@ returns-in_err-sent-clause-step g c = λ start acks cell h.
     let x = site_of r acks cell in
     err_follows g.M.Machine start f me _ c.from_residual.result _ c.from_residual.ensures.0 (ap (λ s. s.ending) (on_timer-is f me x (running_is_here r.status h.sound.up)))
 
+pub returns-clause-sound : goal.returns-clause-sound
+returns-clause-sound g c = λ start s.
+    let m = g.M.Machine in
+    let r = c.args.running.now in
+    let n = c.start_change.new.running in
+    let now = c.start_change.ensures in
+    let gave : GaveUp n = record { acked = now.acked; starts = now.starts; voted = now.voted; votes = now.votes } in
+    let kept : IsKept m start n.kept = subst (IsKept m start) (sym now.kept) s.kept in
+    (gave_up_sound m start c.args.config.f r n gave (ap is_running now.status) now.sites (ap length now.known) kept s).sound
+
 pub returns-clause-step : goal.returns-clause-step
 returns-clause-step g c = λ start acks cell h.
     let m = g.M.Machine in

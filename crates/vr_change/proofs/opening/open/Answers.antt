@@ -30,7 +30,7 @@ returns-clause-step g c = λ start acks cell h.
     let done : n.kept.done ≡ d = ap (λ k. k.done) now.kept ∙ ran.done in
     let kept : IsKept m start n.kept = subst (IsKept m start) (sym now.kept) (ran.kept start h.sound.kept) in
     let runs : IsRunning m start f n [] = gave_up_sound m start f r n gave (ap is_running now.status) now.sites long kept h.sound in
-    let said = c.args.sent.items ++ to_all f me (StartView r.view d log) in
+    let said = c.args.sent.items ++ to_all f me (StartView (record { view = r.view; done = d; rows = log })) in
     let tells : c.tell_view.new.sent.items ≡ said = rw (now.view, done, rows) at c.in_ok-tell_view.ensures in
     let answers = ran.answers start h.sound.kept ∙ ap (λ e. filter_map (answer_to m start log) (places_between r.kept.done e)) ran.done in
     opened_meets m start f me n _ x log c.args.done c.args.sent.items refl

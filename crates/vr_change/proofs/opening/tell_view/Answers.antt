@@ -10,7 +10,7 @@ loop-site-preserved g c =
     let me = c.args.config.me in
     let site = c.loop-site.site in
     let before = c.args.sent.now.items in
-    let msg = StartView r.view r.kept.done r.kept.log in
+    let msg = StartView (record { view = r.view; done = r.kept.done; rows = r.kept.log }) in
     elim c.if-site-config.branch [
       | then-site-config+in_ok-view_mail+in_ok-push w ↦
           ap (λ v. v.items) w.sent-is ∙ w.in_ok-push.ensures.items

@@ -14,21 +14,21 @@ returns-then-primary_of-from-clause-step g c = λ choose start acks cell right h
     let r = c.args.running.now in
     let x = site_of r acks cell in
     let d = c.dropped in
-    let p : (primary f c.args.view == c.args.from) ≡ false = ne_eqb _ _ (λ same. c.if-primary_of-from.true (c.primary_of.ensures.site ∙ same)) in
-    meets_as m start f me r d.result _ _ (on_start_view-leader choose f me x c.args.from c.args.view c.args.done c.args.rows p)
+    let p : (primary f c.args.msg.view == c.args.from) ≡ false = ne_eqb _ _ (λ same. c.if-primary_of-from.true (c.primary_of.ensures.site ∙ same)) in
+    meets_as m start f me r d.result _ _ (on_start_view-leader choose f me x c.args.from c.args.msg p)
     (drops_meets m start f me r d.result acks cell _ d.ensures h)
 
-pub returns-then-view-running-clause-step : goal.returns-then-view-running-clause-step
-returns-then-view-running-clause-step g c = λ choose start acks cell right h.
+pub returns-then-msg-running-clause-step : goal.returns-then-msg-running-clause-step
+returns-then-msg-running-clause-step g c = λ choose start acks cell right h.
     let m = g.M.Machine in
     let f = c.args.config.f in
     let me = c.args.config.me in
     let r = c.args.running.now in
     let x = site_of r acks cell in
-    let d = c.dropped-then-view-running in
-    let p : (primary f c.args.view == c.args.from) ≡ true = eq-eqb _ _ (sym c.primary_of.ensures.site ∙ c.if-primary_of-from.false) in
+    let d = c.dropped-then-msg-running in
+    let p : (primary f c.args.msg.view == c.args.from) ≡ true = eq-eqb _ _ (sym c.primary_of.ensures.site ∙ c.if-primary_of-from.false) in
     let here = running_is_here r.status h.sound.up in
-    meets_as m start f me r d.result _ _ (on_start_view-view choose f me x c.args.from c.args.view c.args.done c.args.rows p here c.if-view-running.true)
+    meets_as m start f me r d.result _ _ (on_start_view-view choose f me x c.args.from c.args.msg p here c.if-msg-running.true)
     (drops_meets m start f me r d.result acks cell _ d.ensures h)
 
 pub returns-then-is_normal_in-clause-step : goal.returns-then-is_normal_in-clause-step
@@ -39,10 +39,10 @@ returns-then-is_normal_in-clause-step g c = λ choose start acks cell right h.
     let r = c.args.running.now in
     let x = site_of r acks cell in
     let d = c.dropped-then-is_normal_in in
-    let p : (primary f c.args.view == c.args.from) ≡ true = eq-eqb _ _ (sym c.primary_of.ensures.site ∙ c.if-primary_of-from.false) in
+    let p : (primary f c.args.msg.view == c.args.from) ≡ true = eq-eqb _ _ (sym c.primary_of.ensures.site ∙ c.if-primary_of-from.false) in
     let here = running_is_here r.status h.sound.up in
-    let new : r.view ≤ c.args.view = omega arith in
-    meets_as m start f me r d.result _ _ (on_start_view-known choose f me x c.args.from c.args.view c.args.done c.args.rows p here new (sym c.is_normal_in.ensures ∙ c.if-is_normal_in.true))
+    let new : r.view ≤ c.args.msg.view = omega arith in
+    meets_as m start f me r d.result _ _ (on_start_view-known choose f me x c.args.from c.args.msg p here new (sym c.is_normal_in.ensures ∙ c.if-is_normal_in.true))
     (drops_meets m start f me r d.result acks cell _ d.ensures h)
 
 pub returns-clause-step : goal.returns-clause-step
@@ -52,8 +52,8 @@ returns-clause-step g c = λ choose start acks cell right h.
     let me = c.args.config.me in
     let r = c.args.running.now in
     let x = site_of r acks cell in
-    let p : (primary f c.args.view == c.args.from) ≡ true = eq-eqb _ _ (sym c.primary_of.ensures.site ∙ c.if-primary_of-from.false) in
+    let p : (primary f c.args.msg.view == c.args.from) ≡ true = eq-eqb _ _ (sym c.primary_of.ensures.site ∙ c.if-primary_of-from.false) in
     let here = running_is_here r.status h.sound.up in
-    let new : r.view ≤ c.args.view = omega arith in
-    follows_as m start f me _ _ _ _ (on_start_view-takes choose f me x c.args.from c.args.view c.args.done c.args.rows p here new (sym c.is_normal_in.ensures ∙ c.if-is_normal_in.false))
+    let new : r.view ≤ c.args.msg.view = omega arith in
+    follows_as m start f me _ _ _ _ (on_start_view-takes choose f me x c.args.from c.args.msg p here new (sym c.is_normal_in.ensures ∙ c.if-is_normal_in.false))
     (c.take_log.ensures.step choose start acks cell right h)

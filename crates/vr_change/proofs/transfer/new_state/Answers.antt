@@ -15,21 +15,21 @@ returns-then-primary_of-from-clause-step g c = λ choose start acks cell right h
     let r = c.args.running.now in
     let x = site_of r acks cell in
     let d = c.dropped in
-    let p : (primary f c.args.view == c.args.from) ≡ false = ne_eqb _ _ (λ same. c.if-primary_of-from.true (c.primary_of.ensures.site ∙ same)) in
-    meets_as m start f me r d.result _ _ (on_new_state-leader choose f me x c.args.from c.args.view c.args.base c.args.done c.args.rows p)
+    let p : (primary f c.args.msg.view == c.args.from) ≡ false = ne_eqb _ _ (λ same. c.if-primary_of-from.true (c.primary_of.ensures.site ∙ same)) in
+    meets_as m start f me r d.result _ _ (on_new_state-leader choose f me x c.args.from c.args.msg p)
     (drops_meets m start f me r d.result acks cell _ d.ensures h)
 
-pub returns-then-view-running-clause-step : goal.returns-then-view-running-clause-step
-returns-then-view-running-clause-step g c = λ choose start acks cell right h.
+pub returns-then-msg-running-clause-step : goal.returns-then-msg-running-clause-step
+returns-then-msg-running-clause-step g c = λ choose start acks cell right h.
     let m = g.M.Machine in
     let f = c.args.config.f in
     let me = c.args.config.me in
     let r = c.args.running.now in
     let x = site_of r acks cell in
-    let d = c.dropped-then-view-running in
-    let p : (primary f c.args.view == c.args.from) ≡ true = eq-eqb _ _ (sym c.primary_of.ensures.site ∙ c.if-primary_of-from.false) in
+    let d = c.dropped-then-msg-running in
+    let p : (primary f c.args.msg.view == c.args.from) ≡ true = eq-eqb _ _ (sym c.primary_of.ensures.site ∙ c.if-primary_of-from.false) in
     let here = running_is_here r.status h.sound.up in
-    meets_as m start f me r d.result _ _ (on_new_state-view choose f me x c.args.from c.args.view c.args.base c.args.done c.args.rows p here c.if-view-running.true)
+    meets_as m start f me r d.result _ _ (on_new_state-view choose f me x c.args.from c.args.msg p here c.if-msg-running.true)
     (drops_meets m start f me r d.result acks cell _ d.ensures h)
 
 pub returns-then-not-fits-clause-step : goal.returns-then-not-fits-clause-step
@@ -40,11 +40,11 @@ returns-then-not-fits-clause-step g c = λ choose start acks cell right h.
     let r = c.args.running.now in
     let x = site_of r acks cell in
     let d = c.dropped-then-not-fits in
-    let p : (primary f c.args.view == c.args.from) ≡ true = eq-eqb _ _ (sym c.primary_of.ensures.site ∙ c.if-primary_of-from.false) in
+    let p : (primary f c.args.msg.view == c.args.from) ≡ true = eq-eqb _ _ (sym c.primary_of.ensures.site ∙ c.if-primary_of-from.false) in
     let here = running_is_here r.status h.sound.up in
-    let new : r.view ≤ c.args.view = omega arith in
-    let fit : rows_fit x c.args.view c.args.base (length c.args.rows) ≡ false = ap (λ n. rows_fit x c.args.view c.args.base n) (sym c.len.ensures.length) ∙ sym (c.fits.ensures.fit acks cell) ∙ c.if-not-fits.true in
-    meets_as m start f me r d.result _ _ (on_new_state-stale choose f me x c.args.from c.args.view c.args.base c.args.done c.args.rows p here new fit)
+    let new : r.view ≤ c.args.msg.view = omega arith in
+    let fit : rows_fit x c.args.msg.view c.args.msg.base (length c.args.msg.rows) ≡ false = ap (λ n. rows_fit x c.args.msg.view c.args.msg.base n) (sym c.len.ensures.length) ∙ sym (c.fits.ensures.fit acks cell) ∙ c.if-not-fits.true in
+    meets_as m start f me r d.result _ _ (on_new_state-stale choose f me x c.args.from c.args.msg p here new fit)
     (drops_meets m start f me r d.result acks cell _ d.ensures h)
 
 pub returns-clause-step : goal.returns-clause-step
@@ -54,9 +54,9 @@ returns-clause-step g c = λ choose start acks cell right h.
     let me = c.args.config.me in
     let r = c.args.running.now in
     let x = site_of r acks cell in
-    let p : (primary f c.args.view == c.args.from) ≡ true = eq-eqb _ _ (sym c.primary_of.ensures.site ∙ c.if-primary_of-from.false) in
+    let p : (primary f c.args.msg.view == c.args.from) ≡ true = eq-eqb _ _ (sym c.primary_of.ensures.site ∙ c.if-primary_of-from.false) in
     let here = running_is_here r.status h.sound.up in
-    let new : r.view ≤ c.args.view = omega arith in
-    let fit : rows_fit x c.args.view c.args.base (length c.args.rows) ≡ true = ap (λ n. rows_fit x c.args.view c.args.base n) (sym c.len.ensures.length) ∙ sym (c.fits.ensures.fit acks cell) ∙ c.if-not-fits.false in
-    follows_as m start f me _ _ _ _ (on_new_state-takes choose f me x c.args.from c.args.view c.args.base c.args.done c.args.rows p here new fit)
+    let new : r.view ≤ c.args.msg.view = omega arith in
+    let fit : rows_fit x c.args.msg.view c.args.msg.base (length c.args.msg.rows) ≡ true = ap (λ n. rows_fit x c.args.msg.view c.args.msg.base n) (sym c.len.ensures.length) ∙ sym (c.fits.ensures.fit acks cell) ∙ c.if-not-fits.false in
+    follows_as m start f me _ _ _ _ (on_new_state-takes choose f me x c.args.from c.args.msg p here new fit)
     (c.take_log.ensures.step choose start acks cell right h)

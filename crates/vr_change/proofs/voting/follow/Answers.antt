@@ -98,7 +98,7 @@ returns-clause-step g c = λ choose start acks cell h.
     let k = c.keep_start.new.running in
     let n = record k { voted = true } in
     let same : sends_vote f me (site_of n acks cell) ≡ sends_vote f me z =
-    λ i. mail me (primary f (first.view i)) (DoViewChange (first.view i) (first.last_normal i) (first.kept i).done (first.kept i).log (first.known i)) ∷ [] in
+    λ i. mail me (primary f (first.view i)) (DoViewChange (record { view = first.view i; last_normal = first.last_normal i; done = (first.kept i).done; rows = (first.kept i).log; known = first.known i })) ∷ [] in
     let mails = c.in_ok-push.ensures.items ∙ ap (λ l. sent ++ l) (c.in_ok-own_vote.ensures acks cell ∙ same) in
     meets_as m start f me n _ _ _
     (follow-votes choose f me x y st sent (sym (c.is_due-votes.ensures st acks cell refl) ∙ c.if-not-votes.false) p ∙ ap (λ z. does (with_voted (started st z)) (sent ++ sends_vote f me z)) learnt)

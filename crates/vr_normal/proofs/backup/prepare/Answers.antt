@@ -13,20 +13,20 @@ returns-then-primary_of-from-clause-step g c = λ start acks cell h.
     let f = c.args.config.f in
     let me = c.args.config.me in
     let r = c.args.running.now in
-    let p : (primary f c.args.view == c.args.from) ≡ false = ne_eqb _ _ (λ same. c.if-primary_of-from.true (c.primary_of.ensures.site ∙ same)) in
-    meets_as m start f me r c.dropped.result _ _ (on_prepare-leader f me (site_of r acks cell) c.args.from c.args.view c.args.place c.args.done c.args.row p)
+    let p : (primary f c.args.msg.view == c.args.from) ≡ false = ne_eqb _ _ (λ same. c.if-primary_of-from.true (c.primary_of.ensures.site ∙ same)) in
+    meets_as m start f me r c.dropped.result _ _ (on_prepare-leader f me (site_of r acks cell) c.args.from c.args.msg p)
     (drops_meets m start f me r c.dropped.result acks cell _ c.dropped.ensures h)
 
-pub returns-then-view-running-clause-step : goal.returns-then-view-running-clause-step
-returns-then-view-running-clause-step g c = λ start acks cell h.
+pub returns-then-msg-running-clause-step : goal.returns-then-msg-running-clause-step
+returns-then-msg-running-clause-step g c = λ start acks cell h.
     let m = g.M.Machine in
     let f = c.args.config.f in
     let me = c.args.config.me in
     let r = c.args.running.now in
-    let d = c.dropped-then-view-running in
-    let p : (primary f c.args.view == c.args.from) ≡ true = eq-eqb _ _ (sym c.primary_of.ensures.site ∙ c.if-primary_of-from.false) in
+    let d = c.dropped-then-msg-running in
+    let p : (primary f c.args.msg.view == c.args.from) ≡ true = eq-eqb _ _ (sym c.primary_of.ensures.site ∙ c.if-primary_of-from.false) in
     let here = running_is_here r.status h.sound.up in
-    meets_as m start f me r d.result _ _ (on_prepare-view f me (site_of r acks cell) c.args.from c.args.view c.args.place c.args.done c.args.row p here c.if-view-running.true)
+    meets_as m start f me r d.result _ _ (on_prepare-view f me (site_of r acks cell) c.args.from c.args.msg p here c.if-msg-running.true)
     (drops_meets m start f me r d.result acks cell _ d.ensures h)
 
 pub returns-then-lags-clause-sound : goal.returns-then-lags-clause-sound
@@ -39,11 +39,11 @@ returns-then-lags-clause-step g c = λ start acks cell h.
     let me = c.args.config.me in
     let r = c.args.running.now in
     let x = site_of r acks cell in
-    let p : (primary f c.args.view == c.args.from) ≡ true = eq-eqb _ _ (sym c.primary_of.ensures.site ∙ c.if-primary_of-from.false) in
+    let p : (primary f c.args.msg.view == c.args.from) ≡ true = eq-eqb _ _ (sym c.primary_of.ensures.site ∙ c.if-primary_of-from.false) in
     let here = running_is_here r.status h.sound.up in
-    let new : r.view ≤ c.args.view = omega arith in
-    let later : (nat_lt r.view c.args.view || is_change r.status) ≡ true = sym c.lags.ensures ∙ c.if-lags.true in
-    follows_as m start f me r c.ask_state.result _ _ (on_prepare-later f me x c.args.from c.args.view c.args.place c.args.done c.args.row p here new later)
+    let new : r.view ≤ c.args.msg.view = omega arith in
+    let later : (nat_lt r.view c.args.msg.view || is_change r.status) ≡ true = sym c.lags.ensures ∙ c.if-lags.true in
+    follows_as m start f me r c.ask_state.result _ _ (on_prepare-later f me x c.args.from c.args.msg p here new later)
     (does_follows m start f me r c.ask_state.result x _ c.ask_state.ensures h refl)
 
 pub returns-clause-step : goal.returns-clause-step
@@ -53,9 +53,9 @@ returns-clause-step g c = λ start acks cell h.
     let me = c.args.config.me in
     let r = c.args.running.now in
     let x = site_of r acks cell in
-    let p : (primary f c.args.view == c.args.from) ≡ true = eq-eqb _ _ (sym c.primary_of.ensures.site ∙ c.if-primary_of-from.false) in
+    let p : (primary f c.args.msg.view == c.args.from) ≡ true = eq-eqb _ _ (sym c.primary_of.ensures.site ∙ c.if-primary_of-from.false) in
     let here = running_is_here r.status h.sound.up in
-    let new : r.view ≤ c.args.view = omega arith in
-    let later : (nat_lt r.view c.args.view || is_change r.status) ≡ false = sym c.lags.ensures ∙ c.if-lags.false in
-    follows_as m start f me c.take_row.new.running c.take_row.result _ _ (on_prepare-here f me x c.args.from c.args.view c.args.place c.args.done c.args.row p here new later)
+    let new : r.view ≤ c.args.msg.view = omega arith in
+    let later : (nat_lt r.view c.args.msg.view || is_change r.status) ≡ false = sym c.lags.ensures ∙ c.if-lags.false in
+    follows_as m start f me c.take_row.new.running c.take_row.result _ _ (on_prepare-here f me x c.args.from c.args.msg p here new later)
     (c.take_row.ensures.step start acks cell h)

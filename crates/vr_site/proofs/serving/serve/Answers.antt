@@ -1,5 +1,5 @@
 use Rattle.std.proofs.Common.{sym, ap, ◌∙◌}
-use Rattle.vr_types.specs.Change.{on_start_view_change, on_do_view_change, on_start_view}
+use Rattle.vr_types.specs.Change.{vote_of, on_start_view_change, on_do_view_change, on_start_view}
 use Rattle.vr_types.specs.Handling.{on_message}
 use Rattle.vr_types.specs.Normal.{on_prepare, on_prepare_ok, on_commit}
 use Rattle.vr_types.specs.Recovery.{on_recovery}
@@ -26,7 +26,7 @@ returns-in-Prepare-clause-step g c = λ choose start acks cell right h.
     let r = c.args.running.now in
     let x = site_of r acks cell in
     follows_as g.M.Machine start f me c.prepare.new.running c.prepare.result _ _
-    (ap (λ msg. on_message choose f me x c.args.from msg) c.in-Prepare.is ∙ ap (λ s. on_prepare f me x s c.in-Prepare.view c.in-Prepare.place c.in-Prepare.done c.in-Prepare.row) (sym c.site_number-site.ensures))
+    (ap (λ msg. on_message choose f me x c.args.from msg) c.in-Prepare.is ∙ ap (λ s. on_prepare f me x s c.in-Prepare.prepare) (sym c.site_number-site.ensures))
     (c.prepare.ensures.step start acks cell h)
 
 pub returns-in-PrepareOk-clause-step : goal.returns-in-PrepareOk-clause-step
@@ -66,7 +66,7 @@ returns-in-DoViewChange-clause-step g c = λ choose start acks cell right h.
     let r = c.args.running.now in
     let x = site_of r acks cell in
     follows_as g.M.Machine start f me c.do_view_change.new.running c.do_view_change.result _ _
-    (ap (λ msg. on_message choose f me x c.args.from msg) c.in-DoViewChange.is ∙ ap (λ s. on_do_view_change choose f me x c.in-DoViewChange.view (record { from = s; last_normal = c.in-DoViewChange.last_normal; done = c.in-DoViewChange.done; log = c.in-DoViewChange.rows; known = c.in-DoViewChange.known })) (sym c.site_number-site.ensures))
+    (ap (λ msg. on_message choose f me x c.args.from msg) c.in-DoViewChange.is ∙ ap (λ s. on_do_view_change choose f me x c.in-DoViewChange.change.view (vote_of s c.in-DoViewChange.change)) (sym c.site_number-site.ensures))
     (c.do_view_change.ensures.step choose start acks cell right h)
 
 pub returns-in-StartView-clause-step : goal.returns-in-StartView-clause-step
@@ -76,7 +76,7 @@ returns-in-StartView-clause-step g c = λ choose start acks cell right h.
     let r = c.args.running.now in
     let x = site_of r acks cell in
     follows_as g.M.Machine start f me c.start_view.new.running c.start_view.result _ _
-    (ap (λ msg. on_message choose f me x c.args.from msg) c.in-StartView.is ∙ ap (λ s. on_start_view choose f me x s c.in-StartView.view c.in-StartView.done c.in-StartView.rows) (sym c.site_number-site.ensures))
+    (ap (λ msg. on_message choose f me x c.args.from msg) c.in-StartView.is ∙ ap (λ s. on_start_view choose f me x s c.in-StartView.opening) (sym c.site_number-site.ensures))
     (c.start_view.ensures.step choose start acks cell right h)
 
 pub returns-in-GetState-clause-step : goal.returns-in-GetState-clause-step
@@ -96,7 +96,7 @@ returns-in-NewState-clause-step g c = λ choose start acks cell right h.
     let r = c.args.running.now in
     let x = site_of r acks cell in
     follows_as g.M.Machine start f me c.new_state.new.running c.new_state.result _ _
-    (ap (λ msg. on_message choose f me x c.args.from msg) c.in-NewState.is ∙ ap (λ s. on_new_state choose f me x s c.in-NewState.view c.in-NewState.base c.in-NewState.done c.in-NewState.rows) (sym c.site_number-site.ensures))
+    (ap (λ msg. on_message choose f me x c.args.from msg) c.in-NewState.is ∙ ap (λ s. on_new_state choose f me x s c.in-NewState.state) (sym c.site_number-site.ensures))
     (c.new_state.ensures.step choose start acks cell right h)
 
 pub returns-in-Recovery-clause-step : goal.returns-in-Recovery-clause-step

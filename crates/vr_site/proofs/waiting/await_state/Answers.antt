@@ -2,7 +2,7 @@ use Rattle.std.proofs.Common.{◌==◌, ap, sym, ◌∙◌, if◌then◌else◌}
 use Rattle.vr_types.specs.declared.event.Why.TheVariants.{Status, NotPrimary}
 use Rattle.vr_types.specs.Group.{primary}
 use Rattle.vr_types.specs.Handling.{on_message}
-use Rattle.vr_types.specs.Recovery.{on_recovery_response}
+use Rattle.vr_types.specs.Recovery.{response_of, on_recovery_response}
 use Rattle.vr_types.specs.Step.{drops}
 use Rattle.vr_recover.specs.Recovering.{recovering_site}
 use Rattle.vr_recover.proofs.ProgressLemmas.{progress_as}
@@ -16,7 +16,7 @@ returns-in-RecoveryResponse-clause-step g c = λ choose acks right.
     let x = recovering_site c.args.recovering.now acks c.args.boot in
     let r = c.in-RecoveryResponse in
     progress_as c.take_response.new.recovering acks c.args.boot c.take_response.result _ _
-    (ap (λ msg. on_message choose f me x c.args.from msg) r.is ∙ ap (λ s. on_recovery_response choose x r.nonce (record { from = s; view = r.view; state = r.state; known = r.known })) (sym c.site_number-site.ensures))
+    (ap (λ msg. on_message choose f me x c.args.from msg) r.is ∙ ap (λ s. on_recovery_response choose x r.msg.nonce (response_of s r.msg)) (sym c.site_number-site.ensures))
     (c.take_response.ensures.step choose acks right)
 
 pub returns-in-Prepare-clause-sound : goal.returns-in-Prepare-clause-sound
@@ -28,8 +28,8 @@ returns-in-Prepare-clause-step g c = λ choose acks right.
     let me = c.args.config.me in
     let kept = c.args.recovering.now in
     let x = recovering_site kept acks c.args.boot in
-    ap (λ msg. on_message choose f me x c.args.from msg) c.in-Prepare.is ∙ prepare_drops f me kept acks c.args.boot _ c.in-Prepare.view _ _ _
-    ∙ ap (drops x) (ap (λ s. if primary f c.in-Prepare.view == s then Status else NotPrimary) (sym c.site_number-site.ensures) ∙ sym c.why_of.ensures)
+    ap (λ msg. on_message choose f me x c.args.from msg) c.in-Prepare.is ∙ prepare_drops f me kept acks c.args.boot _ c.in-Prepare.msg
+    ∙ ap (drops x) (ap (λ s. if primary f c.in-Prepare.msg.view == s then Status else NotPrimary) (sym c.site_number-site.ensures) ∙ sym c.why_of.ensures)
 
 pub returns-in-Commit-clause-sound : goal.returns-in-Commit-clause-sound
 returns-in-Commit-clause-sound g c = c.requires.sound
@@ -52,8 +52,8 @@ returns-in-StartView-clause-step g c = λ choose acks right.
     let me = c.args.config.me in
     let kept = c.args.recovering.now in
     let x = recovering_site kept acks c.args.boot in
-    ap (λ msg. on_message choose f me x c.args.from msg) c.in-StartView.is ∙ start_view_drops f me kept acks c.args.boot choose _ c.in-StartView.view _ _
-    ∙ ap (drops x) (ap (λ s. if primary f c.in-StartView.view == s then Status else NotPrimary) (sym c.site_number-site.ensures) ∙ sym c.why_of-in-StartView.ensures)
+    ap (λ msg. on_message choose f me x c.args.from msg) c.in-StartView.is ∙ start_view_drops f me kept acks c.args.boot choose _ c.in-StartView.msg
+    ∙ ap (drops x) (ap (λ s. if primary f c.in-StartView.msg.view == s then Status else NotPrimary) (sym c.site_number-site.ensures) ∙ sym c.why_of-in-StartView.ensures)
 
 pub returns-in-NewState-clause-sound : goal.returns-in-NewState-clause-sound
 returns-in-NewState-clause-sound g c = c.requires.sound
@@ -64,8 +64,8 @@ returns-in-NewState-clause-step g c = λ choose acks right.
     let me = c.args.config.me in
     let kept = c.args.recovering.now in
     let x = recovering_site kept acks c.args.boot in
-    ap (λ msg. on_message choose f me x c.args.from msg) c.in-NewState.is ∙ new_state_drops f me kept acks c.args.boot choose _ c.in-NewState.view _ _ _
-    ∙ ap (drops x) (ap (λ s. if primary f c.in-NewState.view == s then Status else NotPrimary) (sym c.site_number-site.ensures) ∙ sym c.why_of-in-NewState.ensures)
+    ap (λ msg. on_message choose f me x c.args.from msg) c.in-NewState.is ∙ new_state_drops f me kept acks c.args.boot choose _ c.in-NewState.msg
+    ∙ ap (drops x) (ap (λ s. if primary f c.in-NewState.msg.view == s then Status else NotPrimary) (sym c.site_number-site.ensures) ∙ sym c.why_of-in-NewState.ensures)
 
 pub returns : goal.returns
 returns g c = record {
