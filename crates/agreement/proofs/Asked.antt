@@ -29,24 +29,24 @@ pub record RowsHold {C R O : Type 0} (P : RowOf C → Type 0) (world : World C R
 
 -- a request that a site takes is for such a row
 abbrev Asks : {C R O : Type 0} → (RowOf C → Type 0) → Happening C R O → Type 0
-Asks {C} {R} {O} P h = (site to client number : ℕ) (cmd : C) → h ≡ record { site = site; event = Deliver (record { from = client; to = to; msg = Request number cmd }); course = Ends }
+Asks {C} {R} {O} P h = (site to client number : ℕ) (cmd : C) → h ≡ record { site = site; event = Deliver (record { from = client; to = to; msg = Request (record { number = number; cmd = cmd }) }); course = Ends }
     → P (record { client = client; number = number; cmd = cmd })
 
 module _ {C R O : Type 0} (P : RowOf C → Type 0) where
   -- a request has no rows of a log
   request_rows : (msg : MsgOf C R O) → is_request msg ≡ true → RowsAre P msg
-  request_rows (Request number cmd) e = tt
+  request_rows (Request msg) e = tt
   request_rows (Prepare msg) e = absurd (true≢false (sym e))
-  request_rows (PrepareOk view place) e = tt
-  request_rows (Commit view k) e = tt
-  request_rows (StartViewChange view known) e = tt
+  request_rows (PrepareOk msg) e = tt
+  request_rows (Commit msg) e = tt
+  request_rows (StartViewChange msg) e = tt
   request_rows (DoViewChange msg) e = absurd (true≢false (sym e))
   request_rows (StartView msg) e = absurd (true≢false (sym e))
-  request_rows (GetState view base) e = tt
+  request_rows (GetState msg) e = tt
   request_rows (NewState msg) e = absurd (true≢false (sym e))
-  request_rows (Recovery nonce) e = tt
+  request_rows (Recovery msg) e = tt
   request_rows (RecoveryResponse msg) e = absurd (true≢false (sym e))
-  request_rows (Reply view number reply) e = tt
+  request_rows (Reply msg) e = tt
   request_rows (PayOrder order) e = tt
 
   site_rows : (world : World C R O) → RowsHold P world → (i : ℕ) (y : Site C) → Keeps P y → (x : Site C) → Contains (slice_set world.sites i y) x → Keeps P x

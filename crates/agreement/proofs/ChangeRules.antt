@@ -372,18 +372,18 @@ module _ {C R O : Type 0} (f me : ℕ) where
           (let e = greater_is (s me).known vote.known vote.from in let l = ge_of (boot_of vote.known vote.from) (boot_of (s me).known vote.from) current in omega arith);
     }
 
-    current_start : (start : Start) (w to : ℕ) (h : History C R O) (x : Site C) → Contains h.said (mail start.from to (StartViewChange w start.known)) → x.view ≡ w → x.known ≡ greater (s me).known start.known
+    current_start : (start : Start) (w to : ℕ) (h : History C R O) (x : Site C) → Contains h.said (mail start.from to (StartViewChange (record { view = w; known = start.known }))) → x.view ≡ w → x.known ≡ greater (s me).known start.known
         → is_outdated (s me).known start.from start.known ≡ false → IsKeptStart h x.view x.known start
     current_start start w to h x in' view known current = record {
       to = to;
-      said = subst (λ (v : ℕ). Contains h.said (mail start.from to (StartViewChange v start.known))) (sym view) in';
+      said = subst (λ (v : ℕ). Contains h.said (mail start.from to (StartViewChange (record { view = v; known = start.known })))) (sym view) in';
       within = subst (λ (a : List ℕ). Within start.known a) (sym known) (greater_right (s me).known start.known);
       current = subst (λ (a : List ℕ). boot_of a start.from ≤ boot_of start.known start.from) (sym known)
           (let e = greater_is (s me).known start.known start.from in let l = ge_of (boot_of start.known start.from) (boot_of (s me).known start.from) current in omega arith);
     }
 
     pub kept_start_view_change : (choose : Choice C) → IsRight f choose → (to w : ℕ) (start : Start) → is_down (s me).status ≡ false → me < 2 * f + 1
-        → Contains g.said (mail start.from to (StartViewChange w start.known)) → Kept f g s me (on_start_view_change choose f me (s me) w start)
+        → Contains g.said (mail start.from to (StartViewChange (record { view = w; known = start.known }))) → Kept f g s me (on_start_view_change choose f me (s me) w start)
     unfolding on_start_view_change
     kept_start_view_change choose right to w start up small in' =
         kept_if f g s me (is_recovering (s me).status) (λ _. kept_same f g s me holds _ refl refl) (λ e₁.
@@ -400,7 +400,7 @@ module _ {C R O : Type 0} (f me : ℕ) where
         (current_start start w to h (t me) (grown.said _ in') (ap (λ (x : Site C). x.view) e ∙ is.1) (ap (λ (x : Site C). x.known) e ∙ is.2) e₄)))))))))
       where
         told : IsTold g start.from w start.known
-        told = holds.said start.from to (StartViewChange w start.known) in'
+        told = holds.said start.from to (StartViewChange (record { view = w; known = start.known })) in'
 
         with_start_in : (x : Site C) → x.status ≡ Change → (with_start start x).status ≡ Change
         with_start_in x change = by_test (has_start x.collected.starts start.from)
@@ -439,7 +439,7 @@ module _ {C R O : Type 0} (f me : ℕ) where
     pub kept_beat_in_change : (s me).status ≡ Change → Kept f g s me (beats_in_change f me (s me))
     unfolding beats_in_change
     kept_beat_in_change change =
-        kept_then f g s me (s me) (s me) (to_all f me (StartViewChange (s me).view (s me).known)) (again (s me) ((s me).collected.voted && not (primary f (s me).view == me)))
+        kept_then f g s me (s me) (s me) (to_all f me (StartViewChange (record { view = (s me).view; known = (s me).known }))) (again (s me) ((s me).collected.voted && not (primary f (s me).view == me)))
         starts_again
         (λ h grown later. subst (λ (t : ℕ → Site C). Kept f h t me (does (s me) (again (s me) ((s me).collected.voted && not (primary f (s me).view == me))))) (sym (put_self s me))
         (votes_again h s (subst (λ (t : ℕ → Site C). Holds f h t) (put_self s me) later) change ((s me).collected.voted && not (primary f (s me).view == me)) (λ e. and_left _ _ e)))
@@ -447,9 +447,9 @@ module _ {C R O : Type 0} (f me : ℕ) where
         again : Site C → Bool → List (EnvelopeOf C R O)
         again x b = if b then sends_vote f me x else []
 
-        starts_again : Kept f g s me (does (s me) (to_all f me (StartViewChange (s me).view (s me).known)))
+        starts_again : Kept f g s me (does (s me) (to_all f me (StartViewChange (record { view = (s me).view; known = (s me).known }))))
         starts_again =
-            let m : MsgOf C R O = StartViewChange (s me).view (s me).known in
+            let m : MsgOf C R O = StartViewChange (record { view = (s me).view; known = (s me).known }) in
             let es = to_all f me m in
             let says : Says me m es = says_to_all f me m in
             let at = ((holds.sites me).running (change_runs _ change)).at_view in

@@ -54,18 +54,18 @@ module _ {C R O : Type 0} (choose : Choice C) (f : ℕ) (right : IsRight f choos
 
   message_kept : (actor : ℕ) (msg : MsgOf C R O) → is_down (s me).status ≡ false → may_send f me actor msg ≡ true
       → (is_request msg ≡ true) ⊎ Contains g.said (record { from = actor; to = actor_of me; msg = msg }) → Kept f g s me (on_message choose f me (s me) actor msg)
-  message_kept actor (Request number cmd) up may come = kept_request f me g s holds _
+  message_kept actor (Request msg) up may come = kept_request f me g s holds _
   message_kept actor (Prepare msg) up may come = let p = peer f me actor may in kept_prepare f me g s holds _ msg up p.other (holds.said _ _ _ (said_by actor _ p refl come))
-  message_kept actor (PrepareOk w place) up may come = let p = peer f me actor may in kept_prepare_ok f me g s holds choose right _ me w place small (said_by actor _ p refl come)
-  message_kept actor (Commit w k) up may come = let p = peer f me actor may in kept_commit f me g s holds _ w k up (holds.said _ _ _ (said_by actor _ p refl come)).1
-  message_kept actor (StartViewChange w known) up may come = let p = peer f me actor (and_left _ _ may) in kept_start_view_change f me g s holds choose right me w (record { from = site_of actor; known = known }) up small (said_by actor _ p refl come)
+  message_kept actor (PrepareOk msg) up may come = let p = peer f me actor may in kept_prepare_ok f me g s holds choose right _ me msg small (said_by actor _ p refl come)
+  message_kept actor (Commit msg) up may come = let p = peer f me actor may in kept_commit f me g s holds _ msg up (holds.said _ _ _ (said_by actor _ p refl come)).1
+  message_kept actor (StartViewChange msg) up may come = let p = peer f me actor (and_left _ _ may) in kept_start_view_change f me g s holds choose right me msg.view (record { from = site_of actor; known = msg.known }) up small (said_by actor _ p refl come)
   message_kept actor (DoViewChange msg) up may come = let p = peer f me actor (and_left _ _ may) in kept_do_view_change f me g s holds choose right me msg.view _ up (said_by actor _ p refl come)
   message_kept actor (StartView msg) up may come = let p = peer f me actor may in kept_start_view f me g s holds choose _ msg up p.other (holds.said _ _ _ (said_by actor _ p refl come))
-  message_kept actor (GetState w base) up may come = kept_get_state f me g s holds _ w base
+  message_kept actor (GetState msg) up may come = kept_get_state f me g s holds _ msg
   message_kept actor (NewState msg) up may come = let p = peer f me actor may in kept_new_state f me g s holds choose _ msg up p.other (holds.said _ _ _ (said_by actor _ p refl come))
-  message_kept actor (Recovery nonce) up may come = let p = peer f me actor may in kept_recovery f me g s holds _ me nonce p.small (said_by actor _ p refl come)
+  message_kept actor (Recovery msg) up may come = let p = peer f me actor may in kept_recovery f me g s holds _ me msg p.small (said_by actor _ p refl come)
   message_kept actor (RecoveryResponse msg) up may come = let p = peer f me actor (and_left _ _ may) in kept_recovery_response f me g s holds choose right msg.nonce _ p.other (said_by actor _ p refl come)
-  message_kept actor (Reply view number reply) up may come = kept_same f g s me holds _ refl refl
+  message_kept actor (Reply msg) up may come = kept_same f g s me holds _ refl refl
   message_kept actor (PayOrder order) up may come = kept_same f g s me holds _ refl refl
 
   beat_kept : (status : Status) → (s me).status ≡ status → Kept f g s me (on_beat {R = R} {O = O} f me (s me) status)

@@ -125,7 +125,7 @@ module _ {C R O : Type 0} (f : ℕ) (g : History C R O) (s : ℕ → Site C) (me
         y = learns told (s me)
 
   -- a normal site notes the nonce of another
-  pub kept_notes : (from to nonce : ℕ) → (s me).status ≡ Normal → from < length (s me).known → boot_of (s me).known from ≤ nonce → Contains g.said (mail from to (Recovery nonce)) → Kept f g s me (does (notes from nonce (s me)) [])
+  pub kept_notes : (from to nonce : ℕ) → (s me).status ≡ Normal → from < length (s me).known → boot_of (s me).known from ≤ nonce → Contains g.said (mail from to (Recovery (record { nonce = nonce }))) → Kept f g s me (does (notes from nonce (s me)) [])
   kept_notes from to nonce normal small low said =
       knows_more (runs_up _ run) noted (set_within (s me).known from nonce small low) (let e = length-set (s me).known from nonce in omega arith) (λ k. were k (cases_eq k from)) (notes from nonce (s me)) refl run refl refl
       (λ e. absurd (let e' : Normal ≡ Change = sym normal ∙ e in cc)) (λ e. absurd (let e' : Normal ≡ Change = sym normal ∙ e in cc))

@@ -8,6 +8,7 @@ use Rattle.vr_types.specs.declared.message.EnvelopeOf.{EnvelopeOf}
 use Rattle.vr_types.specs.declared.message.MsgOf.{MsgOf}
 use Rattle.vr_types.specs.declared.message.MsgOf.TheVariants.{Recovery, RecoveryResponse}
 use Rattle.vr_types.specs.declared.message.StateOf.{StateOf}
+use Rattle.vr_types.specs.declared.message.Recovery.{Recovery as RecoveryMsg}
 use Rattle.vr_types.specs.declared.row.RowOf.{RowOf}
 use Rattle.vr_types.specs.Group.{primary, mail, to_all}
 use Rattle.vr_types.specs.Site.{Response, Site, boot_of, is_normal, is_recovering, over}
@@ -96,7 +97,7 @@ module _ {C R O : Type 0} (f me : ℕ) (g : History C R O) (s : ℕ → Site C) 
   pub kept_beat_recovering : Kept f g s me (beats_recovering f me (s me))
   unfolding beats_recovering
   kept_beat_recovering =
-      let msg : MsgOf C R O = Recovery (nonce_of (s me)) in
+      let msg : MsgOf C R O = Recovery (record { nonce = nonce_of (s me) }) in
       kept_tell f g s me holds msg (to_all f me msg) tt (says_to_all f me msg) (λ to in'. asks_now (s me))
 
   pub kept_crash : Kept f g s me (on_crash (s me))
@@ -142,24 +143,24 @@ module _ {C R O : Type 0} (f me : ℕ) (g : History C R O) (s : ℕ → Site C) 
           this (inr none) = absurd (Contains-none a none)
 
 module _ {C R O : Type 0} (f me : ℕ) (g : History C R O) (s : ℕ → Site C) (holds : Holds f g s) where
-  pub kept_recovery : (from to nonce : ℕ) → from < 2 * f + 1 → Contains g.said (mail from to (Recovery nonce)) → Kept f g s me (on_recovery f me (s me) from nonce)
+  pub kept_recovery : (from to : ℕ) (msg : RecoveryMsg) → from < 2 * f + 1 → Contains g.said (mail from to (Recovery (record { nonce = msg.nonce }))) → Kept f g s me (on_recovery f me (s me) from msg)
   unfolding on_recovery
-  kept_recovery from to nonce small in' =
+  kept_recovery from to msg small in' =
       kept_if f g s me (not (is_normal (s me).status)) (λ _. kept_same f g s me holds _ refl refl) (λ e₁.
-      kept_if f g s me (nat_lt nonce (boot_of (s me).known from)) (λ _. kept_same f g s me holds _ refl refl) (λ e₂.
+      kept_if f g s me (nat_lt msg.nonce (boot_of (s me).known from)) (λ _. kept_same f g s me holds _ refl refl) (λ e₂.
       answers (normal_of _ (not_false _ e₁)) (ge_of _ _ e₂)))
     where
       y : Site C
-      y = notes from nonce (s me)
+      y = notes from msg.nonce (s me)
 
-      answers : (s me).status ≡ Normal → boot_of (s me).known from ≤ nonce → Kept f g s me (does y (mail me from (RecoveryResponse (record { view = y.view; nonce = nonce; state = state_of_view f me y; known = y.known })) ∷ []))
+      answers : (s me).status ≡ Normal → boot_of (s me).known from ≤ msg.nonce → Kept f g s me (does y (mail me from (RecoveryResponse (record { view = y.view; nonce = msg.nonce; state = state_of_view f me y; known = y.known })) ∷ []))
       answers normal low =
           let long = (holds.sites me).hears.long (runs_up _ (normal_runs _ normal)) in
           let fits : from < length (s me).known = omega arith in
-          kept_go f g s me y [] (λ x. x) (λ x. mail me from (RecoveryResponse (record { view = x.view; nonce = nonce; state = state_of_view f me x; known = x.known })) ∷ [])
-          (kept_notes f g s me holds from to nonce normal fits low in')
-          (λ h t grown e later. answers_kept f me h t later from nonce (later.said from to (Recovery nonce) (grown.said _ in'))
-          (let is = set_here (s me).known from nonce fits in let d = ap (λ (x : Site C). boot_of x.known from) e in omega arith)
+          kept_go f g s me y [] (λ x. x) (λ x. mail me from (RecoveryResponse (record { view = x.view; nonce = msg.nonce; state = state_of_view f me x; known = x.known })) ∷ [])
+          (kept_notes f g s me holds from to msg.nonce normal fits low in')
+          (λ h t grown e later. answers_kept f me h t later from msg.nonce (later.said from to (Recovery (record { nonce = msg.nonce })) (grown.said _ in'))
+          (let is = set_here (s me).known from msg.nonce fits in let d = ap (λ (x : Site C). boot_of x.known from) e in omega arith)
           (ap (λ (x : Site C). x.status) e ∙ normal))
 
   pub kept_recovery_response : (choose : Choice C) → IsRight f choose → (nonce : ℕ) (response : Response C) → response.from ≢ me

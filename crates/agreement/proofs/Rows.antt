@@ -16,6 +16,10 @@ use Rattle.vr_types.specs.declared.message.MsgOf.TheVariants.{Request, Prepare, 
 use Rattle.vr_types.specs.declared.message.PrepareOf.{PrepareOf}
 use Rattle.vr_types.specs.declared.message.StartViewOf.{StartViewOf}
 use Rattle.vr_types.specs.declared.message.NewStateOf.{NewStateOf}
+use Rattle.vr_types.specs.declared.message.Commit.{Commit as CommitMsg}
+use Rattle.vr_types.specs.declared.message.GetState.{GetState as GetStateMsg}
+use Rattle.vr_types.specs.declared.message.PrepareOk.{PrepareOk as PrepareOkMsg}
+use Rattle.vr_types.specs.declared.message.Recovery.{Recovery as RecoveryMsg}
 use Rattle.vr_types.specs.declared.row.RowOf.{RowOf}
 use Rattle.vr_types.specs.Group.{others, primary, mail, to_all}
 use Rattle.vr_types.specs.Rows.{newest, last_of}
@@ -117,20 +121,20 @@ module _ {C R O : Type 0} (P : RowOf C → Type 0) where
         rows_if (nat_lt msg.view x.view) (λ _. same x h _ refl refl) (λ _.
         rows_if (nat_lt x.view msg.view || is_change x.status) (λ _. told x h _ (asks_rows msg.view x.done)) (λ _. prepares_rows msg p))))
 
-    commit_rows : (from w k : ℕ) → HasRows P (on_commit {R = R} {O = O} f me x from w k)
+    commit_rows : (from : ℕ) (msg : CommitMsg) → HasRows P (on_commit {R = R} {O = O} f me x from msg)
     unfolding on_commit
-    commit_rows from w k =
-        rows_if (not (primary f w == from)) (λ _. same x h _ refl refl) (λ _.
+    commit_rows from msg =
+        rows_if (not (primary f msg.view == from)) (λ _. same x h _ refl refl) (λ _.
         rows_if (is_recovering x.status) (λ _. same x h _ refl refl) (λ _.
-        rows_if (nat_lt w x.view) (λ _. same x h _ refl refl) (λ _.
-        rows_if (nat_lt x.view w || is_change x.status) (λ _. told x h _ (asks_rows w x.done))
-        (λ _. told (executed_to k x) (executed_rows_kept P x h k) _ (sends_if (nat_lt (length x.log) k) _ _ (asks_rows x.view (length x.log)) sends_none)))))
+        rows_if (nat_lt msg.view x.view) (λ _. same x h _ refl refl) (λ _.
+        rows_if (nat_lt x.view msg.view || is_change x.status) (λ _. told x h _ (asks_rows msg.view x.done))
+        (λ _. told (executed_to msg.done x) (executed_rows_kept P x h msg.done) _ (sends_if (nat_lt (length x.log) msg.done) _ _ (asks_rows x.view (length x.log)) sends_none)))))
 
-    prepare_ok_rows : (choose : Choice C) (from w place : ℕ) → HasRows P (on_prepare_ok {R = R} {O = O} choose f me x from w place)
+    prepare_ok_rows : (choose : Choice C) (from : ℕ) (msg : PrepareOkMsg) → HasRows P (on_prepare_ok {R = R} {O = O} choose f me x from msg)
     unfolding on_prepare_ok
-    prepare_ok_rows choose from w place =
+    prepare_ok_rows choose from msg =
         rows_if (not (is_normal x.status)) (λ _. same x h _ refl refl) (λ _.
-        rows_if (not (w == x.view)) (λ _. same x h _ refl refl) (λ _.
+        rows_if (not (msg.view == x.view)) (λ _. same x h _ refl refl) (λ _.
         rows_if (not (primary f x.view == me)) (λ _. same x h _ refl refl) (λ _.
         record { site = record { log = h.log; votes = h.votes; responses = h.responses }; sent = sends_none })))
 
@@ -154,7 +158,7 @@ module _ {C R O : Type 0} (P : RowOf C → Type 0) where
     starts_rows : (w : ℕ) → HasPart P (starts_view {R = R} {O = O} f me w x)
     starts_rows w = record {
       site = record { log = h.log; votes = λ v in'. absurd (Contains-none v in'); responses = λ r in'. absurd (Contains-none r in') };
-      sent = sends_to_all f me (StartViewChange w x.known) tt;
+      sent = sends_to_all f me (StartViewChange (record { view = w; known = x.known })) tt;
     }
 
     starts_later_rows : (w : ℕ) → HasPart P (starts_later_view {R = R} {O = O} f me w x)
@@ -241,19 +245,19 @@ module _ {C R O : Type 0} (P : RowOf C → Type 0) where
       beat_in_change_rows : HasRows P (beats_in_change {R = R} {O = O} f me x)
       unfolding beats_in_change
       beat_in_change_rows =
-          told x h _ (sends_both _ _ (sends_to_all f me (StartViewChange x.view x.known) tt)
+          told x h _ (sends_both _ _ (sends_to_all f me (StartViewChange (record { view = x.view; known = x.known })) tt)
           (sends_if (x.collected.voted && not (primary f x.view == me)) _ _ (vote_rows f me x h x h) sends_none))
 
       -- state transfer
 
-      get_state_rows : (from w base : ℕ) → HasRows P (on_get_state {R = R} {O = O} f me x from w base)
+      get_state_rows : (from : ℕ) (msg : GetStateMsg) → HasRows P (on_get_state {R = R} {O = O} f me x from msg)
       unfolding on_get_state
-      get_state_rows from w base =
+      get_state_rows from msg =
           rows_if (not (is_normal x.status)) (λ _. same x h _ refl refl) (λ _.
-          rows_if (not (w == x.view)) (λ _. same x h _ refl refl) (λ _.
+          rows_if (not (msg.view == x.view)) (λ _. same x h _ refl refl) (λ _.
           rows_if (not (primary f x.view == me)) (λ _. same x h _ refl refl) (λ _.
-          rows_if (nat_lt (length x.log) base) (λ _. same x h _ refl refl) (λ _.
-          told x h _ (sends_one _ (All-drop P base x.log h.log))))))
+          rows_if (nat_lt (length x.log) msg.base) (λ _. same x h _ refl refl) (λ _.
+          told x h _ (sends_one _ (All-drop P msg.base x.log h.log))))))
 
       new_state_rows : (from : ℕ) (msg : NewStateOf C) → All P msg.rows → HasRows P (on_new_state {R = R} {O = O} choose f me x from msg)
       unfolding on_new_state
@@ -269,14 +273,14 @@ module _ {C R O : Type 0} (P : RowOf C → Type 0) where
 
       -- recovery
 
-      recovery_rows : (from nonce : ℕ) → HasRows P (on_recovery {R = R} {O = O} f me x from nonce)
+      recovery_rows : (from : ℕ) (msg : RecoveryMsg) → HasRows P (on_recovery {R = R} {O = O} f me x from msg)
       unfolding on_recovery
-      recovery_rows from nonce =
+      recovery_rows from msg =
           rows_if (not (is_normal x.status)) (λ _. same x h _ refl refl) (λ _.
-          rows_if (nat_lt nonce (boot_of x.known from)) (λ _. same x h _ refl refl) (λ _.
-          let y = notes from nonce x in
+          rows_if (nat_lt msg.nonce (boot_of x.known from)) (λ _. same x h _ refl refl) (λ _.
+          let y = notes from msg.nonce x in
           told y (record { log = h.log; votes = h.votes; responses = h.responses }) _
-          (sends_one (mail me from (RecoveryResponse (record { view = y.view; nonce = nonce; state = state_of_view f me y; known = y.known }))) (state_rows P x h (primary f x.view == me)))))
+          (sends_one (mail me from (RecoveryResponse (record { view = y.view; nonce = msg.nonce; state = state_of_view f me y; known = y.known }))) (state_rows P x h (primary f x.view == me)))))
 
       regains_rows : (y : Site C) → Keeps P y → (regained : Option (Regained C))
           → MatchOption regained ((r : Regained C) → ¬ IsRegained f y.collected.responses r) (IsRegained f y.collected.responses) → HasRows P (regains {R = R} {O = O} y regained)
@@ -296,29 +300,29 @@ module _ {C R O : Type 0} (P : RowOf C → Type 0) where
 
       beat_recovering_rows : HasRows P (beats_recovering {R = R} {O = O} f me x)
       unfolding beats_recovering
-      beat_recovering_rows = told x h _ (sends_to_all f me (Recovery x.cell.boots) tt)
+      beat_recovering_rows = told x h _ (sends_to_all f me (Recovery (record { nonce = x.cell.boots })) tt)
 
       restart_rows : HasRows P (on_restart {R = R} {O = O} f me x)
       unfolding on_restart
       restart_rows =
           let k = over_rows P (record { boots = x.cell.boots + 1 }) Recovering in
-          told _ (record { log = k.log; votes = k.votes; responses = k.responses }) _ (sends_to_all f me (Recovery (x.cell.boots + 1)) tt)
+          told _ (record { log = k.log; votes = k.votes; responses = k.responses }) _ (sends_to_all f me (Recovery (record { nonce = x.cell.boots + 1 })) tt)
 
       -- every event
 
-      message_rows : (actor : ℕ) (msg : MsgOf C R O) → RowsAre P msg → ((number : ℕ) (cmd : C) → msg ≡ Request number cmd → P (record { client = actor; number = number; cmd = cmd })) → HasRows P (on_message choose f me x actor msg)
-      message_rows actor (Request number cmd) rows asked = request_rows f me x h _ (asked number cmd refl)
+      message_rows : (actor : ℕ) (msg : MsgOf C R O) → RowsAre P msg → ((number : ℕ) (cmd : C) → msg ≡ Request (record { number = number; cmd = cmd }) → P (record { client = actor; number = number; cmd = cmd })) → HasRows P (on_message choose f me x actor msg)
+      message_rows actor (Request msg) rows asked = request_rows f me x h _ (asked msg.number msg.cmd refl)
       message_rows actor (Prepare msg) rows asked = prepare_rows f me x h _ msg rows
-      message_rows actor (PrepareOk w place) rows asked = prepare_ok_rows f me x h choose _ w place
-      message_rows actor (Commit w k) rows asked = commit_rows f me x h _ w k
-      message_rows actor (StartViewChange w known) rows asked = start_view_change_rows w _
+      message_rows actor (PrepareOk msg) rows asked = prepare_ok_rows f me x h choose _ msg
+      message_rows actor (Commit msg) rows asked = commit_rows f me x h _ msg
+      message_rows actor (StartViewChange msg) rows asked = start_view_change_rows msg.view _
       message_rows actor (DoViewChange msg) rows asked = do_view_change_rows msg.view _ rows
       message_rows actor (StartView msg) rows asked = start_view_rows _ msg rows
-      message_rows actor (GetState w base) rows asked = get_state_rows _ w base
+      message_rows actor (GetState msg) rows asked = get_state_rows _ msg
       message_rows actor (NewState msg) rows asked = new_state_rows _ msg rows
-      message_rows actor (Recovery nonce) rows asked = recovery_rows _ nonce
+      message_rows actor (Recovery msg) rows asked = recovery_rows _ msg
       message_rows actor (RecoveryResponse msg) rows asked = recovery_response_rows msg.nonce _ rows
-      message_rows actor (Reply view number reply) rows asked = same x h _ refl refl
+      message_rows actor (Reply msg) rows asked = same x h _ refl refl
       message_rows actor (PayOrder order) rows asked = same x h _ refl refl
 
       beat_rows : (status : Status) → HasRows P (on_beat {R = R} {O = O} f me x status)
@@ -334,7 +338,7 @@ module _ {C R O : Type 0} (P : RowOf C → Type 0) where
       -- the rows that an event brings
       pub record Brings (event : EventOf C R O) : Type 0 where
         pub rows : (e : EnvelopeOf C R O) → event ≡ Deliver e → RowsAre P e.msg
-        pub asked : (e : EnvelopeOf C R O) (number : ℕ) (cmd : C) → event ≡ Deliver e → e.msg ≡ Request number cmd → P (record { client = e.from; number = number; cmd = cmd })
+        pub asked : (e : EnvelopeOf C R O) (number : ℕ) (cmd : C) → event ≡ Deliver e → e.msg ≡ Request (record { number = number; cmd = cmd }) → P (record { client = e.from; number = number; cmd = cmd })
 
       pub step_rows : (event : EventOf C R O) → Brings event → HasRows P (site_step choose f me x event)
       step_rows (Deliver e) b = refused_rows _ _ (message_rows e.from e.msg (b.rows e refl) (λ number cmd is. b.asked e number cmd refl is))

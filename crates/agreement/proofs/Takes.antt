@@ -207,7 +207,7 @@ module _ {C R O : Type 0} (f : ℕ) (g : History C R O) (s : ℕ → Site C) (me
       y = record (over (record { boots = boots }) Recovering) { known = set (no_boots f) me boots }
 
       msg : MsgOf C R O
-      msg = Recovery boots
+      msg = Recovery (record { nonce = boots })
 
       es : List (EnvelopeOf C R O)
       es = mail me me msg ∷ to_all f me msg

@@ -176,9 +176,9 @@ module _ {C : Type 0} (R O : Type 0) (choose : Choice C) (f me : ℕ) (x : Site 
   -- whatever message it is
   pub used_fresh : (x.status ≡ Recovering → ResponsesKept x.known x.collected.responses) → (actor : ℕ) (msg : MsgOf C R O) → is_down x.status ≡ false → (on_message choose f me x actor msg).ending ≡ Handled
       → AreFresh (λ vote. vote.from) (λ vote. vote.known) (votes_used f me x actor msg) × AreFresh (λ response. response.from) (λ response. response.known) (responses_used x actor msg)
-  used_fresh responses actor (StartViewChange w known) up e =
-      let h = start_keeps w (record { from = site_of actor; known = known }) up e in
-      (fresh_by (λ vote. vote.from) (λ vote. vote.known) (greater x.known known) _ (λ v in'. (h v in').within) (λ v in'. (h v in').current), none_fresh (λ response. response.from) (λ response. response.known))
+  used_fresh responses actor (StartViewChange msg) up e =
+      let h = start_keeps msg.view (record { from = site_of actor; known = msg.known }) up e in
+      (fresh_by (λ vote. vote.from) (λ vote. vote.known) (greater x.known msg.known) _ (λ v in'. (h v in').within) (λ v in'. (h v in').current), none_fresh (λ response. response.from) (λ response. response.known))
   used_fresh responses actor (DoViewChange msg) up e =
       let h = vote_keeps msg.view (record { from = site_of actor; last_normal = msg.last_normal; done = msg.done; log = msg.rows; known = msg.known }) up e in
       (fresh_by (λ vote. vote.from) (λ vote. vote.known) (greater x.known msg.known) _ (λ v in'. (h v in').within) (λ v in'. (h v in').current), none_fresh (λ response. response.from) (λ response. response.known))

@@ -22,7 +22,7 @@ answer_by nonce response = record { view = response.view; nonce = nonce; state =
 
 -- site j spoke for view w, knowing this
 pub data Voted {C R O : Type 0} (g : History C R O) (j w : ℕ) (known : List ℕ) : Type 0 where
-  started : (to : ℕ) → Contains g.said (mail j to (StartViewChange w known)) → Voted g j w known
+  started : (to : ℕ) → Contains g.said (mail j to (StartViewChange (record { view = w; known = known }))) → Voted g j w known
   voted : (to u k : ℕ) (log : List (RowOf C)) → Contains g.said (mail j to (DoViewChange (record { view = w; last_normal = u; done = k; rows = log; known = known }))) → Voted g j w known
 
 -- site j answered a restart of another site, in view w, knowing this
@@ -33,7 +33,7 @@ pub record Answered {C R O : Type 0} (g : History C R O) (j to w nonce : ℕ) (k
 -- it is no boot number of site k, or one with which it has asked
 pub data WasBoot {C R O : Type 0} (g : History C R O) (k boot : ℕ) : Type 0 where
   never : boot ≡ 0 → WasBoot g k boot
-  asked : (to : ℕ) → Contains g.said (mail k to (Recovery boot)) → WasBoot g k boot
+  asked : (to : ℕ) → Contains g.said (mail k to (Recovery (record { nonce = boot }))) → WasBoot g k boot
 
 -- in the boot in which it knows this, site j has never restarted, or has completed a recovery before, in no view above w, knowing no more
 pub data HasLived {C R O : Type 0} (g : History C R O) (j w : ℕ) (known : List ℕ) (before : ℕ) : Type 0 where
@@ -95,7 +95,7 @@ Hears f g j x = IsHeard f g j x.status x.cell.boots x.known
 -- a STARTVIEWCHANGE that is kept is of its sender's boot that is known
 pub record IsKeptStart {C R O : Type 0} (g : History C R O) (view : ℕ) (known : List ℕ) (a : Start) : Type 0 where
   pub to : ℕ
-  pub said : Contains g.said (mail a.from to (StartViewChange view a.known))
+  pub said : Contains g.said (mail a.from to (StartViewChange (record { view = view; known = a.known })))
   pub within : Within a.known known
   pub current : boot_of known a.from ≤ boot_of a.known a.from
 

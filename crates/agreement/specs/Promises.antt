@@ -97,7 +97,7 @@ pub record Tells {H C R O S : Type 0} (m : Ghosts H C R O S) (start : H)
   pub is : reply_to m start reply.from reply.sender reply.place ≡ Some envelope
   pub to : envelope.to ≡ client
   pub view : ℕ
-  pub msg : envelope.msg ≡ Reply view number answer
+  pub msg : envelope.msg ≡ Reply (record { view = view; number = number; reply = answer })
 
 -- all replies to one request are for one place, after the same rows
 abbrev pub RepliesAgree : {C R O : Type 0} → World C R O → Type 0
@@ -136,7 +136,7 @@ AnsweredRowsStay {C} early late =
 
 -- a client's REQUEST for a row
 abbrev pub request_of : {C R O : Type 0} → ℕ → RowOf C → EnvelopeOf C R O
-request_of to row = record { from = row.client; to = to; msg = Request row.number row.cmd }
+request_of to row = record { from = row.client; to = to; msg = Request (record { number = row.number; cmd = row.cmd }) }
 
 -- a row came by a REQUEST of its client, with its number and its command, that was delivered
 pub record WasAsked {C R O : Type 0} (events : List (Happening C R O))
@@ -147,18 +147,18 @@ pub record WasAsked {C R O : Type 0} (events : List (Happening C R O))
 
 -- the rows that a message between sites has
 abbrev pub RowsAre : {C R O : Type 0} → (RowOf C → Type 0) → MsgOf C R O → Type 0
-RowsAre P (Request number cmd) = ⊤
+RowsAre P (Request msg) = ⊤
 RowsAre P (Prepare msg) = P msg.row
-RowsAre P (PrepareOk view place) = ⊤
-RowsAre P (Commit view done) = ⊤
-RowsAre P (StartViewChange view known) = ⊤
+RowsAre P (PrepareOk msg) = ⊤
+RowsAre P (Commit msg) = ⊤
+RowsAre P (StartViewChange msg) = ⊤
 RowsAre P (DoViewChange msg) = All P msg.rows
 RowsAre P (StartView msg) = All P msg.rows
-RowsAre P (GetState view base) = ⊤
+RowsAre P (GetState msg) = ⊤
 RowsAre P (NewState msg) = All P msg.rows
-RowsAre P (Recovery nonce) = ⊤
+RowsAre P (Recovery msg) = ⊤
 RowsAre P (RecoveryResponse msg) = All P (rows_of_state msg.state)
-RowsAre P (Reply view number reply) = ⊤
+RowsAre P (Reply msg) = ⊤
 RowsAre P (PayOrder order) = ⊤
 
 -- each row of every log was asked for
@@ -267,7 +267,7 @@ pub record IsRightReply {H C R O S : Type 0} (m : Ghosts H C R O S) (start : H)
   pub from : envelope.from ≡ actor_of site
   pub to : envelope.to ≡ row.client
   pub msg : envelope.msg
-      ≡ Reply step.site.view row.number (answer_at m start (executed_rows step.site) place row)
+      ≡ Reply (record { view = step.site.view; number = row.number; reply = answer_at m start (executed_rows step.site) place row })
 
 -- The envelope is an order that a step of the list sent, open for this client after the rows that the site had executed
 -- by then.

@@ -7,8 +7,8 @@ use std::process::Abort;
 use std::test::Fail;
 use vr_site::Replica;
 use vr_types::{
-    Boot, BootCell, Config, Envelope, EnvelopeOf, Event, EventOf, MemCell, MsgOf, SiteFault,
-    Status, Why,
+    Boot, BootCell, Config, Envelope, EnvelopeOf, Event, EventOf, MemCell, MsgOf, RequestOf,
+    SiteFault, Status, Why,
 };
 
 /// A site of the bank.
@@ -281,8 +281,8 @@ impl Group {
         if envelope.to >= 200 {
             return self.happen(usize::from(envelope.to - 200), EventOf::Deliver(envelope));
         }
-        if let MsgOf::Reply { number, .. } = &envelope.msg {
-            if *number == self.noticed {
+        if let MsgOf::Reply(msg) = &envelope.msg {
+            if msg.number == self.noticed {
                 self.answered = self.noticed;
                 return self.notice();
             }
@@ -336,10 +336,10 @@ impl Group {
             amt: 100 * u64::from(self.noticed),
         };
         for to in 200..203 {
-            let msg = MsgOf::Request {
+            let msg = MsgOf::Request(RequestOf {
                 number: self.noticed,
                 cmd,
-            };
+            });
             self.send(EnvelopeOf {
                 from: NODE,
                 to,

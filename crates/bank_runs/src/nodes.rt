@@ -6,7 +6,7 @@ use rtgs_node::{Node, NodeFault, PayIn};
 use std::alloc::Global;
 use std::process::Abort;
 use std::test::Fail;
-use vr_types::{Envelope, EnvelopeOf, Msg, MsgOf};
+use vr_types::{Commit, Envelope, EnvelopeOf, Msg, MsgOf, ReplyOf};
 
 const USD: u8 = 1;
 
@@ -53,11 +53,11 @@ fn to_node(node: u16, msg: Msg<Book>) -> Envelope<Book> {
 }
 
 fn reply(number: u32) -> Msg<Book> {
-    MsgOf::Reply {
+    MsgOf::Reply(ReplyOf {
         view: 0,
         number,
         reply: Reply::Done,
-    }
+    })
 }
 
 fn order_of(ccy: u8, out: u32, member: u16, amt: u64) -> Msg<Book> {
@@ -171,7 +171,7 @@ fn refuses_a_pay_in_in_order(rt: HostRuntime) -> Result<(), Fail> {
 }
 
 fn refuse_in_order(rt: &impl Abort, usd: &mut Node) {
-    let commit = to_node(USD_NODE, MsgOf::Commit { view: 0, done: 0 });
+    let commit = to_node(USD_NODE, MsgOf::Commit(Commit { view: 0, done: 0 }));
     assert_eq!(rt; usd.take(commit).err(), Some(NodeFault::NotMine));
     let refused = [
         (JPY_NODE, JPY, ALFA, 5, NodeFault::NotMine),
@@ -199,7 +199,7 @@ fn asks(sent: &[Envelope<Book>], wanted: u32, notice: Cmd) -> bool {
             envelope.from == USD_NODE
                 && envelope.to == *site
                 && match &envelope.msg {
-                    MsgOf::Request { number, cmd } => *number == wanted && *cmd == notice,
+                    MsgOf::Request(msg) => msg.number == wanted && msg.cmd == notice,
                     _ => false,
                 }
         })

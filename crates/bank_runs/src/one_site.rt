@@ -2,7 +2,7 @@ use crate::group::{Site, site};
 use pvp_types::Cmd;
 use std::alloc::Global;
 use std::test::Fail;
-use vr_types::{EnvelopeOf, EventOf, MemCell, MsgOf, Why};
+use vr_types::{EnvelopeOf, EventOf, MemCell, MsgOf, RequestOf, Why};
 
 /// Why site 0 drops a request of USD's node for a pay-in of 1200, where it does.
 fn drops_request(site: &mut Site, alloc: Global, number: u32) -> Option<Why> {
@@ -15,7 +15,7 @@ fn drops_request(site: &mut Site, alloc: Global, number: u32) -> Option<Why> {
     let envelope = EnvelopeOf {
         from: 102,
         to: 200,
-        msg: MsgOf::Request { number, cmd },
+        msg: MsgOf::Request(RequestOf { number, cmd }),
     };
     site.handle(alloc, EventOf::Deliver(envelope)).ok()?.dropped
 }

@@ -14,6 +14,10 @@ use Rattle.vr_types.specs.declared.message.MsgOf.TheVariants.{Request, Prepare, 
 use Rattle.vr_types.specs.declared.message.PrepareOf.{PrepareOf}
 use Rattle.vr_types.specs.declared.message.StartViewOf.{StartViewOf}
 use Rattle.vr_types.specs.declared.message.NewStateOf.{NewStateOf}
+use Rattle.vr_types.specs.declared.message.Commit.{Commit as CommitMsg}
+use Rattle.vr_types.specs.declared.message.GetState.{GetState as GetStateMsg}
+use Rattle.vr_types.specs.declared.message.PrepareOk.{PrepareOk as PrepareOkMsg}
+use Rattle.vr_types.specs.declared.message.Recovery.{Recovery as RecoveryMsg}
 use Rattle.vr_types.specs.declared.row.RowOf.{RowOf}
 use Rattle.vr_types.specs.Group.{others, primary, mail, to_all}
 use Rattle.vr_types.specs.Rows.{newest, last_of}
@@ -28,8 +32,8 @@ use Rattle.vr_types.specs.Handling.{refusal, refused_or, on_message, on_beat, si
 
 -- a kind that goes between sites
 abbrev pub is_between : {C R O : Type 0} → MsgOf C R O → Bool
-is_between (Request number cmd) = false
-is_between (Reply view number reply) = false
+is_between (Request msg) = false
+is_between (Reply msg) = false
 is_between (PayOrder order) = false
 is_between _ = true
 
@@ -102,20 +106,20 @@ module _ {C R O : Type 0} where
         by_if (nat_lt msg.view x.view) (silent _ refl) (
         by_if (nat_lt x.view msg.view || is_change x.status) (told x _ (asks msg.view x.done)) (prepares_between msg))))
 
-    commit : (from w k : ℕ) → SendsBetween (on_commit {R = R} {O = O} f me x from w k)
+    commit : (from : ℕ) (msg : CommitMsg) → SendsBetween (on_commit {R = R} {O = O} f me x from msg)
     unfolding on_commit
-    commit from w k =
-        by_if (not (primary f w == from)) (silent _ refl) (
+    commit from msg =
+        by_if (not (primary f msg.view == from)) (silent _ refl) (
         by_if (is_recovering x.status) (silent _ refl) (
-        by_if (nat_lt w x.view) (silent _ refl) (
-        by_if (nat_lt x.view w || is_change x.status) (told x _ (asks w x.done))
-        (told (executed_to k x) _ (either (nat_lt (length x.log) k) _ _ (asks x.view (length x.log)) none)))))
+        by_if (nat_lt msg.view x.view) (silent _ refl) (
+        by_if (nat_lt x.view msg.view || is_change x.status) (told x _ (asks msg.view x.done))
+        (told (executed_to msg.done x) _ (either (nat_lt (length x.log) msg.done) _ _ (asks x.view (length x.log)) none)))))
 
-    prepare_ok : (choose : Choice C) (from w place : ℕ) → SendsBetween (on_prepare_ok {R = R} {O = O} choose f me x from w place)
+    prepare_ok : (choose : Choice C) (from : ℕ) (msg : PrepareOkMsg) → SendsBetween (on_prepare_ok {R = R} {O = O} choose f me x from msg)
     unfolding on_prepare_ok
-    prepare_ok choose from w place =
+    prepare_ok choose from msg =
         by_if (not (is_normal x.status)) (silent _ refl) (
-        by_if (not (w == x.view)) (silent _ refl) (
+        by_if (not (msg.view == x.view)) (silent _ refl) (
         by_if (not (primary f x.view == me)) (silent _ refl) (silent _ refl)))
 
     beat_normal : SendsBetween (beats_normal {R = R} {O = O} f me x)
@@ -134,7 +138,7 @@ module _ {C R O : Type 0} where
     vote_between y = one _ refl
 
     starts_between : (w : ℕ) → PartBetween (starts_view {R = R} {O = O} f me w x)
-    starts_between w = record { sent = all f me (StartViewChange w x.known) refl }
+    starts_between w = record { sent = all f me (StartViewChange (record { view = w; known = x.known })) refl }
 
     starts_later : (w : ℕ) → PartBetween (starts_later_view {R = R} {O = O} f me w x)
     starts_later w = by_test (nat_lt x.view w)
@@ -207,18 +211,18 @@ module _ {C R O : Type 0} where
       beat_in_change : SendsBetween (beats_in_change {R = R} {O = O} f me x)
       unfolding beats_in_change
       beat_in_change =
-          told x _ (both _ _ (all f me (StartViewChange x.view x.known) refl)
+          told x _ (both _ _ (all f me (StartViewChange (record { view = x.view; known = x.known })) refl)
           (either (x.collected.voted && not (primary f x.view == me)) _ _ (vote_between f me x x) none))
 
       -- state transfer
 
-      get_state : (from w base : ℕ) → SendsBetween (on_get_state {R = R} {O = O} f me x from w base)
+      get_state : (from : ℕ) (msg : GetStateMsg) → SendsBetween (on_get_state {R = R} {O = O} f me x from msg)
       unfolding on_get_state
-      get_state from w base =
+      get_state from msg =
           by_if (not (is_normal x.status)) (silent _ refl) (
-          by_if (not (w == x.view)) (silent _ refl) (
+          by_if (not (msg.view == x.view)) (silent _ refl) (
           by_if (not (primary f x.view == me)) (silent _ refl) (
-          by_if (nat_lt (length x.log) base) (silent _ refl) (told x _ (one _ refl)))))
+          by_if (nat_lt (length x.log) msg.base) (silent _ refl) (told x _ (one _ refl)))))
 
       new_state : (from : ℕ) (msg : NewStateOf C) → SendsBetween (on_new_state {R = R} {O = O} choose f me x from msg)
       unfolding on_new_state
@@ -233,13 +237,13 @@ module _ {C R O : Type 0} where
 
       -- recovery
 
-      recovery : (from nonce : ℕ) → SendsBetween (on_recovery {R = R} {O = O} f me x from nonce)
+      recovery : (from : ℕ) (msg : RecoveryMsg) → SendsBetween (on_recovery {R = R} {O = O} f me x from msg)
       unfolding on_recovery
-      recovery from nonce =
+      recovery from msg =
           by_if (not (is_normal x.status)) (silent _ refl) (
-          by_if (nat_lt nonce (boot_of x.known from)) (silent _ refl) (
-          let y = notes from nonce x in
-          told y _ (one (mail me from (RecoveryResponse (record { view = y.view; nonce = nonce; state = state_of_view f me y; known = y.known }))) refl)))
+          by_if (nat_lt msg.nonce (boot_of x.known from)) (silent _ refl) (
+          let y = notes from msg.nonce x in
+          told y _ (one (mail me from (RecoveryResponse (record { view = y.view; nonce = msg.nonce; state = state_of_view f me y; known = y.known }))) refl)))
 
       regains_between : (y : Site C) (regained : Option (Regained C)) → SendsBetween (regains {R = R} {O = O} y regained)
       regains_between y None = silent _ refl
@@ -257,27 +261,27 @@ module _ {C R O : Type 0} where
 
       beat_recovering : SendsBetween (beats_recovering {R = R} {O = O} f me x)
       unfolding beats_recovering
-      beat_recovering = told x _ (all f me (Recovery x.cell.boots) refl)
+      beat_recovering = told x _ (all f me (Recovery (record { nonce = x.cell.boots })) refl)
 
       restart : SendsBetween (on_restart {R = R} {O = O} f me x)
       unfolding on_restart
-      restart = told _ _ (all f me (Recovery (x.cell.boots + 1)) refl)
+      restart = told _ _ (all f me (Recovery (record { nonce = x.cell.boots + 1 })) refl)
 
       -- every event
 
       message : (actor : ℕ) (msg : MsgOf C R O) → SendsBetween (on_message choose f me x actor msg)
-      message actor (Request number cmd) = request f me x _
+      message actor (Request msg) = request f me x _
       message actor (Prepare msg) = prepare f me x _ msg
-      message actor (PrepareOk w place) = prepare_ok f me x choose _ w place
-      message actor (Commit w k) = commit f me x _ w k
-      message actor (StartViewChange w known) = start_view_change w _
+      message actor (PrepareOk msg) = prepare_ok f me x choose _ msg
+      message actor (Commit msg) = commit f me x _ msg
+      message actor (StartViewChange msg) = start_view_change msg.view _
       message actor (DoViewChange msg) = do_view_change msg.view _
       message actor (StartView msg) = start_view _ msg
-      message actor (GetState w base) = get_state _ w base
+      message actor (GetState msg) = get_state _ msg
       message actor (NewState msg) = new_state _ msg
-      message actor (Recovery nonce) = recovery _ nonce
+      message actor (Recovery msg) = recovery _ msg
       message actor (RecoveryResponse msg) = recovery_response msg.nonce _
-      message actor (Reply view number reply) = silent _ refl
+      message actor (Reply msg) = silent _ refl
       message actor (PayOrder order) = silent _ refl
 
       beat : (status : Status) → SendsBetween (on_beat {R = R} {O = O} f me x status)

@@ -10,6 +10,8 @@ use Rattle.pvp_types.specs.declared.command.PayOrder.{PayOrder as PaymentOrder}
 use Rattle.vr_types.specs.declared.cell.Boot.{Boot}
 use Rattle.vr_types.specs.declared.message.MsgOf.{MsgOf}
 use Rattle.vr_types.specs.declared.message.MsgOf.TheVariants.{Request, Reply, PayOrder}
+use Rattle.vr_types.specs.declared.message.ReplyOf.{ReplyOf}
+use Rattle.vr_types.specs.declared.message.RequestOf.{RequestOf}
 use Rattle.vr_types.specs.Group.{sites, actor_of}
 use Rattle.vr_types.specs.Choice.{Choice}
 use Rattle.vr_types.specs.Cell.{max_number}
@@ -31,10 +33,9 @@ use Rattle.headline.proofs.SiteTurn.{order-more, reply-more}
 
 -- an envelope is a REQUEST of this client
 record IsRequestOf (me : ℕ) (e : Envelope) : Type 0 where
-  number : ℕ
-  cmd : Cmd
+  asked : RequestOf Cmd
   from : e.from ≡ me
-  msg : e.msg ≡ Request number cmd
+  msg : e.msg ≡ Request asked
 
 Asks : ℕ → ClientStep → Type 0
 Asks me step = (e : Envelope) → Contains step.sent e → IsRequestOf me e
@@ -45,8 +46,8 @@ module _ (f me : ℕ) (x : Client) where
 
   asks : (number : ℕ) (cmd : Cmd) (e : Envelope) → Contains (to_sites f me number cmd) e → IsRequestOf me e
   asks number cmd e in' =
-      let t = map-has (λ (j : ℕ). record { from = me; to = actor_of j; msg = Request number cmd }) (sites f) e in' in
-      record { number = number; cmd = cmd; from = sym (ap (λ (d : Envelope). d.from) t.2); msg = sym (ap (λ (d : Envelope). d.msg) t.2) }
+      let t = map-has (λ (j : ℕ). record { from = me; to = actor_of j; msg = Request (record { number = number; cmd = cmd }) }) (sites f) e in' in
+      record { asked = record { number = number; cmd = cmd }; from = sym (ap (λ (d : Envelope). d.from) t.2); msg = sym (ap (λ (d : Envelope). d.msg) t.2) }
 
   submit-asks : (cmd : Cmd) (waiting : Option Cmd) → Asks me (on_submit f me x cmd waiting)
   unfolding Asks
@@ -68,7 +69,7 @@ module _ (f me : ℕ) (x : Client) where
 
   message-asks : (msg : MsgOf Cmd Answer PaymentOrder) → Asks me (on_message f me x msg)
   unfolding Asks
-  message-asks (Reply view number answer) = reply-asks number answer x.waiting
+  message-asks (Reply msg) = reply-asks msg.number msg.reply x.waiting
   message-asks _ = silent
 
   beat-asks : (waiting : Option Cmd) → Asks me (on_beat f me x waiting)
@@ -115,7 +116,7 @@ module _ (setup : Setup) (choose : Choice Cmd) (f : ℕ) (cells : List Boot) (mo
       where
         by : Contains bank.post e ⊎ Contains step.sent e → IsAsked bank.nodes e
         by (inl old) = h.requests e old
-        by (inr new) = λ number cmd is c within from. absurd (no_node k c low (sym (sent e new).from ∙ from))
+        by (inr new) = λ asked is c within from. absurd (no_node k c low (sym (sent e new).from ∙ from))
 
     orders_too : (e : Envelope) (o : PaymentOrder) → Contains after.post e → e.msg ≡ PayOrder o → IsOrder setup choose f cells (moves ++ move ∷ []) after h.history o.ccy o
     orders_too e o in' is = by (Contains-append_cases bank.post step.sent e in')
@@ -124,11 +125,11 @@ module _ (setup : Setup) (choose : Choice Cmd) (f : ℕ) (cells : List Boot) (mo
         by (inl old) = order-stays o.ccy o (h.orders e o old is)
         by (inr new) = let same = sym (sent e new).msg ∙ is in absurd (cc)
 
-    replies_too : (e : Envelope) (view number : ℕ) (answer : Answer) → Contains after.post e → e.msg ≡ Reply view number answer → IsReply setup choose f cells (moves ++ move ∷ []) after h.world e
-    replies_too e view number answer in' is = by (Contains-append_cases bank.post step.sent e in')
+    replies_too : (e : Envelope) (said : ReplyOf Answer) → Contains after.post e → e.msg ≡ Reply said → IsReply setup choose f cells (moves ++ move ∷ []) after h.world e
+    replies_too e said in' is = by (Contains-append_cases bank.post step.sent e in')
       where
         by : Contains bank.post e ⊎ Contains step.sent e → IsReply setup choose f cells (moves ++ move ∷ []) after h.world e
-        by (inl old) = reply-more setup choose f cells moves bank move after h.world h.world e leads (λ r in'. in') (h.replies e view number answer old is)
+        by (inl old) = reply-more setup choose f cells moves bank move after h.world h.world e leads (λ r in'. in') (h.replies e said old is)
         by (inr new) = let same = sym (sent e new).msg ∙ is in absurd (cc)
 
     pub client_steps : HoldsOn setup choose f cells h.history h.world (moves ++ move ∷ []) after

@@ -9,6 +9,8 @@ use Rattle.pvp_types.specs.declared.command.PayOrder.{PayOrder as PaymentOrder}
 use Rattle.vr_types.specs.declared.cell.Boot.{Boot}
 use Rattle.vr_types.specs.declared.event.EventOf.TheVariants.{Deliver}
 use Rattle.vr_types.specs.declared.message.MsgOf.TheVariants.{Request, Reply, PayOrder}
+use Rattle.vr_types.specs.declared.message.ReplyOf.{ReplyOf}
+use Rattle.vr_types.specs.declared.message.RequestOf.{RequestOf}
 use Rattle.vr_types.specs.Site.{Site, executed_rows}
 use Rattle.vr_types.specs.Choice.{Choice}
 use Rattle.agreement.specs.Worlds as worlds
@@ -45,7 +47,7 @@ abbrev pub AsksAs : List Node → ℕ → ℕ → Cmd → Type 0
 AsksAs nodes client number cmd = (c : ℕ) → c < length nodes → client ≡ node_of c → IsNotice nodes c number cmd
 
 abbrev pub IsAsked : List Node → Envelope → Type 0
-IsAsked nodes e = (number : ℕ) (cmd : Cmd) → e.msg ≡ Request number cmd → AsksAs nodes e.from number cmd
+IsAsked nodes e = (asked : RequestOf Cmd) → e.msg ≡ Request asked → AsksAs nodes e.from asked.number asked.cmd
 
 -- what a notice says is so at the node
 abbrev pub IsSo : ℕ → Node → Cmd → Type 0
@@ -100,7 +102,7 @@ module _ (setup : Setup) (choose : Choice Cmd) (f : ℕ) (cells : List Boot) whe
     pub between : (e : Envelope) → Contains bank.post e → is_between e.msg ≡ true → Contains world.sent e
     pub requests : (e : Envelope) → Contains bank.post e → IsAsked bank.nodes e
     pub orders : (e : Envelope) (order : PaymentOrder) → Contains bank.post e → e.msg ≡ PayOrder order → IsOrder moves bank history order.ccy order
-    pub replies : (e : Envelope) (view number : ℕ) (answer : Answer) → Contains bank.post e → e.msg ≡ Reply view number answer → IsReply moves bank world e
+    pub replies : (e : Envelope) (said : ReplyOf Answer) → Contains bank.post e → e.msg ≡ Reply said → IsReply moves bank world e
     -- nodes and clients
     pub count : length bank.nodes ≡ length setup.currencies
     pub people : length bank.clients ≡ suc (length setup.members)

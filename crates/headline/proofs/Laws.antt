@@ -320,7 +320,7 @@ module _ {setup : Setup} {choose : Choice Cmd} {f : ℕ} {cells : List Boot} {mo
       by false is = none-some _ is
 
   message-not_short : (msg : MsgOf Cmd Answer PaymentOrder) → e.msg ≡ msg → (on_message setup f c x msg).fault ≡ Some fault.Short → ⊥
-  message-not_short (Reply view number answer) msg is = reply-not_short number is
+  message-not_short (Reply told) msg is = reply-not_short told.number is
   message-not_short (PayOrder order) msg is = order-not_short order msg is
   message-not_short _ msg is = cc
 

@@ -12,6 +12,7 @@ use Rattle.pvp_types.specs.declared.command.Reply.{Reply as Answer}
 use Rattle.pvp_types.specs.declared.command.PayOrder.{PayOrder as PaymentOrder}
 use Rattle.vr_types.specs.declared.message.MsgOf.{MsgOf}
 use Rattle.vr_types.specs.declared.message.MsgOf.TheVariants.{Request, Reply, PayOrder}
+use Rattle.vr_types.specs.declared.message.RequestOf.{RequestOf}
 use Rattle.vr_types.specs.Group.{sites, actor_of}
 use Rattle.pvp_book.specs.Ledger.{node_of}
 use Rattle.pvp_book.specs.Answer.{has_member, is_amount}
@@ -27,12 +28,11 @@ use Rattle.headline.proofs.Invariant.{IsSo, IsSound}
 
 -- an envelope is the REQUEST for a notice
 pub record IsNoticeOf (c : ℕ) (x : Node) (e : Envelope) : Type 0 where
-  pub number : ℕ
-  pub cmd : Cmd
-  pub counted : 1 ≤ number
-  pub is : slice_get x.notices (number - 1) ≡ Some cmd
+  pub asked : RequestOf Cmd
+  pub counted : 1 ≤ asked.number
+  pub is : slice_get x.notices (asked.number - 1) ≡ Some asked.cmd
   pub from : e.from ≡ node_of c
-  pub msg : e.msg ≡ Request number cmd
+  pub msg : e.msg ≡ Request asked
 
 -- a new pay-out was ordered by an envelope that came
 pub record IsOrdered (c : ℕ) (event : NodeEvent) (order : PaymentOrder) : Type 0 where
@@ -56,11 +56,10 @@ notice_out-is f c x e in' = by (slice_get x.notices x.answered) refl in'
     by : (found : Option Cmd) → slice_get x.notices x.answered ≡ found → Contains (option_map_or (λ cmd. to_sites f (node_of c) (x.answered + 1) cmd) found []) e → IsNoticeOf c x e
     by None same h = absurd (nothing e h)
     by (Some cmd) same h =
-        let t = map-has (λ (j : ℕ). record { from = node_of c; to = actor_of j; msg = Request (x.answered + 1) cmd }) (sites f) e h in
+        let t = map-has (λ (j : ℕ). record { from = node_of c; to = actor_of j; msg = Request (record { number = x.answered + 1; cmd = cmd }) }) (sites f) e h in
         let back : x.answered + 1 - 1 ≡ x.answered = omega arith in
         record {
-          number = x.answered + 1;
-          cmd = cmd;
+          asked = record { number = x.answered + 1; cmd = cmd };
           counted = omega arith;
           is = ap (λ n. slice_get x.notices n) back ∙ same;
           from = sym (ap (λ (d : Envelope). d.from) t.2);
@@ -243,7 +242,7 @@ module _ (setup : Setup) (f c : ℕ) (x : Node) where
       }) (λ _. idle c event x)
 
   message-keeps : (event : NodeEvent) (e : Envelope) (msg : MsgOf Cmd Answer PaymentOrder) → event ≡ Takes e → e.msg ≡ msg → Keeps c event x (on_message setup f c x msg)
-  message-keeps event e (Reply view number answer) came is = reply-keeps event number
+  message-keeps event e (Reply msg) came is = reply-keeps event msg.number
   message-keeps event e (PayOrder order) came is = order-keeps event e order came is
   message-keeps event e _ came is = refused c event x NotMine
 

@@ -8,6 +8,8 @@ use Rattle.pvp_types.specs.declared.command.Reply.{Reply as Answer}
 use Rattle.pvp_types.specs.declared.command.PayOrder.{PayOrder as PaymentOrder}
 use Rattle.vr_types.specs.declared.cell.Boot.{Boot}
 use Rattle.vr_types.specs.declared.message.MsgOf.TheVariants.{Reply, PayOrder}
+use Rattle.vr_types.specs.declared.message.ReplyOf.{ReplyOf}
+use Rattle.vr_types.specs.declared.message.RequestOf.{RequestOf}
 use Rattle.vr_types.specs.Choice.{Choice}
 use Rattle.pvp_book.specs.Ledger.{node_of}
 use Rattle.rtgs_node.specs.declared.event.NodeEvent.TheVariants.{Takes}
@@ -59,16 +61,13 @@ module _ (setup : Setup) (choose : Choice Cmd) (f : ℕ) (cells : List Boot) (mo
 
     -- the node's new notices
     new-asked : (e : Envelope) → IsNoticeOf c step.node e → IsAsked after.nodes e
-    new-asked e n number cmd is d low from =
+    new-asked e n asked is d low from =
         let same = sym n.msg ∙ is in
         let place : c ≡ d = node_of-one c d (sym n.from ∙ from) in
-        let numbers : n.number ≡ number = cc in
-        let cmds : n.cmd ≡ cmd = cc in
-        let at : notice_at after.nodes c (n.number - 1) ≡ Some n.cmd = ap (λ (o : Option Node). slice_get (notices_of o) (n.number - 1)) (set-here bank.nodes c x step.node is_there) ∙ n.is in
-        let one : IsNotice after.nodes c n.number n.cmd = record { counted = n.counted; is = at } in
-        subst (λ k. IsNotice after.nodes k number cmd) place
-        (subst (λ k. IsNotice after.nodes c k cmd) numbers
-        (subst (λ (k : Cmd). IsNotice after.nodes c n.number k) cmds one))
+        let one : n.asked ≡ asked = cc in
+        let at : notice_at after.nodes c (n.asked.number - 1) ≡ Some n.asked.cmd = ap (λ (o : Option Node). slice_get (notices_of o) (n.asked.number - 1)) (set-here bank.nodes c x step.node is_there) ∙ n.is in
+        subst (λ k. IsNotice after.nodes k asked.number asked.cmd) place
+        (subst (λ (k : RequestOf Cmd). IsNotice after.nodes c k.number k.cmd) one (record { counted = n.counted; is = at }))
 
     between_too : (e : Envelope) → Contains after.post e → is_between e.msg ≡ true → Contains h.world.sent e
     between_too e in' kind = by (Contains-append_cases bank.post step.sent e in')
@@ -81,7 +80,7 @@ module _ (setup : Setup) (choose : Choice Cmd) (f : ℕ) (cells : List Boot) (mo
     requests_too e in' = by (Contains-append_cases bank.post step.sent e in')
       where
         by : Contains bank.post e ⊎ Contains step.sent e → IsAsked after.nodes e
-        by (inl old) = λ number cmd is. asks-stays e.from number cmd (h.requests e old number cmd is)
+        by (inl old) = λ asked is. asks-stays e.from asked.number asked.cmd (h.requests e old asked is)
         by (inr new) = new-asked e (keeps.sent e new)
 
     orders_too : (e : Envelope) (o : PaymentOrder) → Contains after.post e → e.msg ≡ PayOrder o → IsOrder setup choose f cells (moves ++ move ∷ []) after h.history o.ccy o
@@ -110,11 +109,11 @@ module _ (setup : Setup) (choose : Choice Cmd) (f : ℕ) (cells : List Boot) (mo
             (by_done (keeps.done o (subst (λ (z : Node). Contains z.pay_outs o) (sym here.1) in')))
         by (inr old) = order-stays d o (h.done d y o old in')
 
-    replies_too : (e : Envelope) (view number : ℕ) (answer : Answer) → Contains after.post e → e.msg ≡ Reply view number answer → IsReply setup choose f cells (moves ++ move ∷ []) after h.world e
-    replies_too e view number answer in' is = by (Contains-append_cases bank.post step.sent e in')
+    replies_too : (e : Envelope) (said : ReplyOf Answer) → Contains after.post e → e.msg ≡ Reply said → IsReply setup choose f cells (moves ++ move ∷ []) after h.world e
+    replies_too e said in' is = by (Contains-append_cases bank.post step.sent e in')
       where
         by : Contains bank.post e ⊎ Contains step.sent e → IsReply setup choose f cells (moves ++ move ∷ []) after h.world e
-        by (inl old) = reply-more setup choose f cells moves bank move after h.world h.world e leads (λ r in'. in') (h.replies e view number answer old is)
+        by (inl old) = reply-more setup choose f cells moves bank move after h.world h.world e leads (λ r in'. in') (h.replies e said old is)
         by (inr new) = let same = sym (keeps.sent e new).msg ∙ is in absurd (cc)
 
     pub node_steps : HoldsOn setup choose f cells h.history h.world (moves ++ move ∷ []) after
@@ -132,7 +131,7 @@ module _ (setup : Setup) (choose : Choice Cmd) (f : ℕ) (cells : List Boot) (mo
         begins = h.begins;
         one = h.one;
         rows = λ row in'. asks-stays row.client row.number row.cmd (h.rows row in');
-        asked = λ i e in' number cmd is. asks-stays e.from number cmd (h.asked i e in' number cmd is);
+        asked = λ i e in' asked is. asks-stays e.from asked.number asked.cmd (h.asked i e in' asked is);
         between = between_too;
         requests = requests_too;
         orders = orders_too;

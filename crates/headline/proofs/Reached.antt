@@ -72,7 +72,7 @@ module _ (setup : Setup) (choose : Choice Cmd) (f : ℕ) (cells : List Boot) (al
     between = λ e in'. absurd (none e in');
     requests = λ e in'. absurd (none e in');
     orders = λ e o in'. absurd (none e in');
-    replies = λ e view number answer in'. absurd (none e in');
+    replies = λ e said in'. absurd (none e in');
     count = map-length (λ currency. opening_node) setup.currencies;
     people = ap (λ n. suc n) (map-length (λ member. opening_client) setup.members);
     nodes = λ c x at. subst (λ (y : Node). IsSound c y) (opening-node c x at) (opening-sound c);

@@ -16,6 +16,7 @@ use Rattle.vr_types.specs.declared.event.SiteFault.TheVariants.{NotUp, NotMine}
 use Rattle.vr_types.specs.declared.event.Status.TheVariants.{Down}
 use Rattle.vr_types.specs.declared.message.MsgOf.{MsgOf}
 use Rattle.vr_types.specs.declared.message.MsgOf.TheVariants.{Request, Reply, PayOrder}
+use Rattle.vr_types.specs.declared.message.ReplyOf.{ReplyOf}
 use Rattle.vr_types.specs.Execution.{held_after}
 use Rattle.vr_types.specs.Group.{actor_of, may_send, is_mine}
 use Rattle.vr_types.specs.Site.{Site, is_running, is_down, over, executed_rows}
@@ -47,8 +48,8 @@ use Rattle.headline.proofs.Invariant.{AsksAs, IsAsked, SitesWorld, SitesEvents, 
 
 -- what a site takes is a REQUEST, or of a kind that goes between sites
 taken-kind : (f me actor : ℕ) (msg : MsgOf Cmd Answer PaymentOrder) → may_send f me actor msg ≡ true → (is_request msg ≡ true) ⊎ (is_between msg ≡ true)
-taken-kind f me actor (Request number cmd) e = inl refl
-taken-kind f me actor (Reply view number reply) e = absurd (true≢false (sym e))
+taken-kind f me actor (Request msg) e = inl refl
+taken-kind f me actor (Reply msg) e = absurd (true≢false (sym e))
 taken-kind f me actor (PayOrder order) e = absurd (true≢false (sym e))
 taken-kind f me actor _ e = inr refl
 
@@ -108,7 +109,7 @@ either-begins xs ys agree = by (cases_lt (length ys) (length xs))
 abbrev New : Envelope → List Envelope → List (ℕ × PaymentOrder) → Type 0
 New e sent due =
     Contains sent e
-    ⊎ ((view : ℕ) × (number : ℕ) × (answer : Answer) × (e.msg ≡ Reply view number answer))
+    ⊎ ((said : ReplyOf Answer) × (e.msg ≡ Reply said))
     ⊎ ((d : ℕ × PaymentOrder) × Contains due d × (e.msg ≡ PayOrder d.1))
 
 module _ (setup : Setup) (choose : Choice Cmd) (f : ℕ) (cells : List Boot) (right : IsRight f choose) (moves : List Move) (bank : Bank) (h : Holds setup choose f cells moves bank) (move : Move) where
@@ -170,7 +171,7 @@ module _ (setup : Setup) (choose : Choice Cmd) (f : ℕ) (cells : List Boot) (ri
     rows_asked row in' =
         let kept = (legal_rows choose f right cells (h.events ++ happening ∷ []) next alone_too).sites step.site is_next in
         let was : WasAsked (h.events ++ happening ∷ []) row = All-contains (WasAsked (h.events ++ happening ∷ [])) step.site.log row kept.log (executed-has step.site row in') in
-        asked_too was.site (request_of was.to row) was.taken row.number row.cmd refl
+        asked_too was.site (request_of was.to row) was.taken (record { number = row.number; cmd = row.cmd }) refl
 
     -- THE HISTORY after the step
     record Longer : Type 0 where
@@ -216,13 +217,13 @@ module _ (setup : Setup) (choose : Choice Cmd) (f : ℕ) (cells : List Boot) (ri
     abbrev machine_before : ℕ → Ledger
     machine_before place = held_after book (opening setup) (take (place - 1) step.site.log)
 
-    is_reply : (e : Envelope) (place : ℕ) → reply_to book (opening setup) i step.site place ≡ Some e → (view : ℕ) × (number : ℕ) × (answer : Answer) × (e.msg ≡ Reply view number answer)
+    is_reply : (e : Envelope) (place : ℕ) → reply_to book (opening setup) i step.site place ≡ Some e → (said : ReplyOf Answer) × (e.msg ≡ Reply said)
     is_reply e place same = by (slice_get step.site.log (place - 1)) same
       where
-        by : (found : Option Row) → option_map (λ (row : Row). record { from = actor_of i; to = row.client; msg = Reply step.site.view row.number (book.answer (machine_before place) row.client row.cmd) }) found ≡ Some e
-            → (view : ℕ) × (number : ℕ) × (answer : Answer) × (e.msg ≡ Reply view number answer)
+        by : (found : Option Row) → option_map (λ (row : Row). record { from = actor_of i; to = row.client; msg = Reply (record { view = step.site.view; number = row.number; reply = book.answer (machine_before place) row.client row.cmd }) }) found ≡ Some e
+            → (said : ReplyOf Answer) × (e.msg ≡ Reply said)
         by None none = absurd (none-some e none)
-        by (Some row) some = (step.site.view, row.number, book.answer (machine_before place) row.client row.cmd, sym (ap (λ (d : Envelope). d.msg) (some-same _ e some)))
+        by (Some row) some = (record { view = step.site.view; number = row.number; reply = book.answer (machine_before place) row.client row.cmd }, sym (ap (λ (d : Envelope). d.msg) (some-same _ e some)))
 
     abbrev due : List (ℕ × PaymentOrder)
     due = book.orders (machine_of book (opening setup) step.site)
@@ -251,8 +252,8 @@ module _ (setup : Setup) (choose : Choice Cmd) (f : ℕ) (cells : List Boot) (ri
     sent-kind : (e : Envelope) → Contains step.sent e → is_between e.msg ≡ true
     sent-kind e in' = All-contains (λ (d : Envelope). is_between d.msg ≡ true) step.sent e (step_between {R = Answer} {O = PaymentOrder} f i x choose event).sent in'
 
-    reply-place : (e : Envelope) (view number : ℕ) (answer : Answer) → Contains new e → e.msg ≡ Reply view number answer → (place : ℕ) × Contains step.replies place × (reply_to book (opening setup) i step.site place ≡ Some e)
-    reply-place e view number answer in' is = by_part (Contains-append_cases (step.sent ++ replies) orders_out e in')
+    reply-place : (e : Envelope) (said : ReplyOf Answer) → Contains new e → e.msg ≡ Reply said → (place : ℕ) × Contains step.replies place × (reply_to book (opening setup) i step.site place ≡ Some e)
+    reply-place e said in' is = by_part (Contains-append_cases (step.sent ++ replies) orders_out e in')
       where
         by_due : (b : Bool) → Contains (if b then map (order_to i) due else []) e → (place : ℕ) × Contains step.replies place × (reply_to book (opening setup) i step.site place ≡ Some e)
         by_due true ordered = let t = map-has (order_to i) due e ordered in let same = ap (λ (d : Envelope). d.msg) t.2 ∙ is in absurd (cc)
@@ -282,16 +283,16 @@ module _ (setup : Setup) (choose : Choice Cmd) (f : ℕ) (cells : List Boot) (ri
           by : Contains bank.post e ⊎ New e step.sent due → Contains next.sent e
           by (inl old) = Contains-append_left h.world.sent step.sent e (h.between e old kind)
           by (inr (inl sent)) = Contains-append_right h.world.sent step.sent e sent
-          by (inr (inr (inl reply))) = absurd (true≢false (sym kind ∙ ap is_between reply.3))
+          by (inr (inr (inl reply))) = absurd (true≢false (sym kind ∙ ap is_between reply.1))
           by (inr (inr (inr ordered))) = absurd (true≢false (sym kind ∙ ap is_between ordered.2))
 
       requests_too : (e : Envelope) → Contains after.post e → IsAsked bank.nodes e
-      requests_too e in' number cmd is = by (post_cases e in')
+      requests_too e in' asked is = by (post_cases e in')
         where
-          by : Contains bank.post e ⊎ New e step.sent due → AsksAs bank.nodes e.from number cmd
-          by (inl old) = h.requests e old number cmd is
+          by : Contains bank.post e ⊎ New e step.sent due → AsksAs bank.nodes e.from asked.number asked.cmd
+          by (inl old) = h.requests e old asked is
           by (inr (inl sent)) = absurd (true≢false (sym (sent-kind e sent) ∙ ap is_between is))
-          by (inr (inr (inl reply))) = let same = sym is ∙ reply.3 in absurd (cc)
+          by (inr (inr (inl reply))) = let same = sym is ∙ reply.1 in absurd (cc)
           by (inr (inr (inr ordered))) = let same = sym is ∙ ordered.2 in absurd (cc)
 
       ordered_now : (c : ℕ) (o : PaymentOrder) → Contains (orders (book_of setup (executed_rows step.site)) c) o → IsOrder setup choose f cells (moves ++ move ∷ []) after longer.rows c o
@@ -311,18 +312,18 @@ module _ (setup : Setup) (choose : Choice Cmd) (f : ℕ) (cells : List Boot) (ri
           by : Contains bank.post e ⊎ New e step.sent due → IsOrder setup choose f cells (moves ++ move ∷ []) after longer.rows o.ccy o
           by (inl old) = order-more setup choose f cells moves bank move after h.history longer.rows o.ccy o leads longer.from (h.orders e o old is)
           by (inr (inl sent)) = absurd (true≢false (sym (sent-kind e sent) ∙ ap is_between is))
-          by (inr (inr (inl reply))) = let same = sym is ∙ reply.3 in absurd (cc)
+          by (inr (inr (inl reply))) = let same = sym is ∙ reply.1 in absurd (cc)
           by (inr (inr (inr ordered))) =
               let same : ordered.0.1 ≡ o = let e = sym ordered.2 ∙ is in cc in
               ordered_now o.ccy o (subst (λ (d : PaymentOrder). Contains (orders (book_of setup (executed_rows step.site)) d.ccy) d) same (due_orders ordered.0 ordered.1))
 
-      replies_too : (e : Envelope) (view number : ℕ) (answer : Answer) → Contains after.post e → e.msg ≡ Reply view number answer → IsReply setup choose f cells (moves ++ move ∷ []) after next e
-      replies_too e view number answer in' is = by (Contains-append_cases bank.post new e in')
+      replies_too : (e : Envelope) (said : ReplyOf Answer) → Contains after.post e → e.msg ≡ Reply said → IsReply setup choose f cells (moves ++ move ∷ []) after next e
+      replies_too e said in' is = by (Contains-append_cases bank.post new e in')
         where
           by : Contains bank.post e ⊎ Contains new e → IsReply setup choose f cells (moves ++ move ∷ []) after next e
-          by (inl old) = reply-more setup choose f cells moves bank move after h.world next e leads (λ r in'. Contains-append_left h.world.replies (replied i step) r in') (h.replies e view number answer old is)
+          by (inl old) = reply-more setup choose f cells moves bank move after h.world next e leads (λ r in'. Contains-append_left h.world.replies (replied i step) r in') (h.replies e said old is)
           by (inr fresh) =
-              let t = reply-place e view number answer fresh is in
+              let t = reply-place e said fresh is in
               record {
                 reply = record { from = i; sender = step.site; place = t.0 };
                 moment = moment-now setup choose f cells (moves ++ move ∷ []) after (legal-more setup choose f cells moves bank move after h.legal leads);
@@ -401,7 +402,7 @@ module _ (setup : Setup) (choose : Choice Cmd) (f : ℕ) (cells : List Boot) (ri
         asked = asked_too_at;
         between = λ e in' kind. h.between e in' kind;
         requests = λ e in'. h.requests e in';
-        replies = λ e view number answer in' is. reply-more setup choose f cells moves bank move fallen_bank h.world (fallen h.world i cell) e leads (λ r old. old) (h.replies e view number answer in' is);
+        replies = λ e said in' is. reply-more setup choose f cells moves bank move fallen_bank h.world (fallen h.world i cell) e leads (λ r old. old) (h.replies e said in' is);
         orders = λ e o in' is. order-more setup choose f cells moves bank move fallen_bank h.history h.history o.ccy o leads (begins_itself h.history) (h.orders e o in' is);
         count = h.count;
         people = h.people;

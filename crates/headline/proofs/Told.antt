@@ -10,6 +10,7 @@ use Rattle.vr_types.specs.declared.cell.Boot.{Boot}
 use Rattle.vr_types.specs.declared.event.Status.TheVariants.{Normal}
 use Rattle.vr_types.specs.declared.message.MsgOf.{MsgOf}
 use Rattle.vr_types.specs.declared.message.MsgOf.TheVariants.{Reply}
+use Rattle.vr_types.specs.declared.message.ReplyOf.{ReplyOf}
 use Rattle.vr_types.specs.Group.{actor_of}
 use Rattle.vr_types.specs.Site.{Site, executed_rows}
 use Rattle.vr_types.specs.Choice.{Choice, IsRight}
@@ -31,31 +32,31 @@ use Rattle.headline.specs.Replies.{IsSiteOf, WasTold, HasAnswered}
 use Rattle.headline.proofs.Basics.{some-same, at-append}
 use Rattle.headline.proofs.Invariant.{SitesWorld, SitesEvents, IsReply, Holds}
 
-abbrev the_reply : ℕ → ℕ → Answer → MsgOf Cmd Answer PaymentOrder
-the_reply v n a = Reply v n a
+abbrev the_reply : ReplyOf Answer → MsgOf Cmd Answer PaymentOrder
+the_reply said = Reply said
 
--- a REPLY of a view, a number and an answer says no other
-says : (v n w m : ℕ) (a b : Answer) → the_reply v n a ≡ the_reply w m b → (v ≡ w) × (n ≡ m) × (a ≡ b)
-says v n w m a b e = (cc, cc, cc)
+-- a REPLY says no other
+says : (a b : ReplyOf Answer) → the_reply a ≡ the_reply b → a ≡ b
+says a b e = cc
 
 module _ {setup : Setup} {choose : Choice Cmd} {f : ℕ} {cells : List Boot} (right : IsRight f choose) {moves : List Move} {bank : Bank} (h : Holds setup choose f cells moves bank) where
   pub rise : (x : Site Cmd) → Contains bank.sites x → IsRising x.log
   rise x in' = sites.rising choose f right cells h.events h.world h.alone x (subst (λ (l : List (Site Cmd)). Contains l x) (sym h.sites) in')
 
-  tells : (e : Envelope) (view number : ℕ) (answer : Answer) → WasTold bank e view number answer → (r : IsReply setup choose f cells moves bank h.world e) → Tells book (opening setup) r.reply e.to number answer
-  tells e view number answer told r = record { envelope = e; is = r.is; to = refl; view = view; msg = told.is }
+  tells : (e : Envelope) (said : ReplyOf Answer) → WasTold bank e said → (r : IsReply setup choose f cells moves bank h.world e) → Tells book (opening setup) r.reply e.to said.number said.reply
+  tells e said told r = record { envelope = e; is = r.is; to = refl; view = said.view; msg = told.is }
 
-  pub agree : (d e : Envelope) (v w number : ℕ) (a b : Answer) → WasTold bank d v number a → WasTold bank e w number b → d.to ≡ e.to → a ≡ b
-  agree d e v w number a b told too same =
-      let p = h.replies d v number a told.posted told.is in
-      let q = h.replies e w number b too.posted too.is in
-      sites.one_answer choose f right cells h.events h.world h.alone book (opening setup) p.reply q.reply d.to number a b p.among q.among (tells d v number a told p)
-      (subst (λ c. Tells book (opening setup) q.reply c number b) (sym same) (tells e w number b too q))
+  pub agree : (d e : Envelope) (a b : ReplyOf Answer) → WasTold bank d a → WasTold bank e b → d.to ≡ e.to → a.number ≡ b.number → a.reply ≡ b.reply
+  agree d e a b told too same number =
+      let p = h.replies d a told.posted told.is in
+      let q = h.replies e b too.posted too.is in
+      sites.one_answer choose f right cells h.events h.world h.alone book (opening setup) p.reply q.reply d.to a.number a.reply b.reply p.among q.among (tells d a told p)
+      (subst (λ c. Tells book (opening setup) q.reply c a.number b.reply) (sym same) (subst (λ n. Tells book (opening setup) q.reply e.to n b.reply) (sym number) (tells e b too q)))
 
   -- each REPLY is for a row that its sender had executed, at the moment at which it was sent
-  module _ (e : Envelope) (view number : ℕ) (answer : Answer) (told : WasTold bank e view number answer) where
+  module _ (e : Envelope) (said : ReplyOf Answer) (told : WasTold bank e said) where
     abbrev pub from : IsReply setup choose f cells moves bank h.world e
-    from = h.replies e view number answer told.posted told.is
+    from = h.replies e said told.posted told.is
 
     abbrev pub r : Replied Cmd
     r = from.reply
@@ -69,9 +70,9 @@ module _ {setup : Setup} {choose : Choice Cmd} {f : ℕ} {cells : List Boot} (ri
     within : r.place ≤ length (executed_rows r.sender)
     within = let low = slice_get_within (executed_rows r.sender) (r.place - 1) done.row done.is_there in let counted = done.counted in omega arith
 
-    pub spoken : record { from = actor_of r.from; to = done.row.client; msg = Reply r.sender.view done.row.number (answer_at book (opening setup) (executed_rows r.sender) r.place done.row) } ≡ e
+    pub spoken : record { from = actor_of r.from; to = done.row.client; msg = Reply (record { view = r.sender.view; number = done.row.number; reply = answer_at book (opening setup) (executed_rows r.sender) r.place done.row }) } ≡ e
     spoken =
-        ap (λ (a : Answer). record { from = actor_of r.from; to = done.row.client; msg = Reply r.sender.view done.row.number a }) (sym (answer-begins book (opening setup) (executed_rows r.sender) r.sender.log r.place done.row begins done.is_there))
+        ap (λ (a : Answer). record { from = actor_of r.from; to = done.row.client; msg = Reply (record { view = r.sender.view; number = done.row.number; reply = a }) }) (sym (answer-begins book (opening setup) (executed_rows r.sender) r.sender.log r.place done.row begins done.is_there))
         ∙ some-same _ e (sym (reply-at book (opening setup) r.from r.sender r.place done.row at) ∙ from.is)
       where
         at : slice_get r.sender.log (r.place - 1) ≡ Some done.row
@@ -80,23 +81,26 @@ module _ {setup : Setup} {choose : Choice Cmd} {f : ℕ} {cells : List Boot} (ri
     abbrev pub moment : Moment setup choose f cells moves bank
     moment = from.moment
 
-    pub said : (r.sender.view ≡ view) × (done.row.number ≡ number) × (answer_at book (opening setup) (executed_rows r.sender) r.place done.row ≡ answer)
-    said = says r.sender.view done.row.number view number (answer_at book (opening setup) (executed_rows r.sender) r.place done.row) answer (ap (λ (d : Envelope). d.msg) spoken ∙ told.is)
+    abbrev answer : Answer
+    answer = answer_at book (opening setup) (executed_rows r.sender) r.place done.row
 
-    abbrev pub answered : HasAnswered setup moment.then e view number answer
+    pub words : record { view = r.sender.view; number = done.row.number; reply = answer } ≡ said
+    words = says _ said (ap (λ (d : Envelope). d.msg) spoken ∙ told.is)
+
+    abbrev pub answered : HasAnswered setup moment.then e said
     answered = record {
       sender = r.from;
       site = r.sender;
       is_there = from.is_there;
       from = sym (ap (λ (d : Envelope). d.from) spoken);
-      in_view = said.0;
+      in_view = ap (λ (s : ReplyOf Answer). s.view) words;
       place = r.place;
       row = done.row;
       counted = done.counted;
       executed = done.is_there;
       client = ap (λ (d : Envelope). d.to) spoken;
-      named = said.1;
-      right = sym said.2;
+      named = ap (λ (s : ReplyOf Answer). s.number) words;
+      right = sym (ap (λ (s : ReplyOf Answer). s.reply) words);
     }
 
     pub rows-are : take r.place (executed_rows r.sender) ≡ answered_rows r
@@ -107,17 +111,17 @@ module _ {setup : Setup} {choose : Choice Cmd} {f : ℕ} {cells : List Boot} (ri
     either x (inl in') = inl (subst (λ (l : List (Site Cmd)). Contains l x) (sym same) in')
     either x (inr in') = inr (subst (λ (l : List (Site Cmd)). Contains l x) (sym h.sites) in')
 
-    pub right_answers : (e : Envelope) (view number : ℕ) (answer : Answer) (x : Site Cmd) (place : ℕ) (row : Row) → WasTold bank e view number answer → IsSiteOf early bank x → 1 ≤ place
-        → row_at (executed_rows x) place ≡ Some row → row.client ≡ e.to → row.number ≡ number → answer ≡ answer_at book (opening setup) (executed_rows x) place row
-    right_answers e view number answer x place row told in' low at client named =
-        let r = h.replies e view number answer told.posted told.is in
-        sites.right_answer choose f right cells before more first h.world legal run book (opening setup) r.reply answer x place row r.among (either x in') low at
-        (subst (λ c. Tells book (opening setup) r.reply c row.number answer) (sym client) (subst (λ n. Tells book (opening setup) r.reply e.to n answer) (sym named) (tells e view number answer told r)))
+    pub right_answers : (e : Envelope) (said : ReplyOf Answer) (x : Site Cmd) (place : ℕ) (row : Row) → WasTold bank e said → IsSiteOf early bank x → 1 ≤ place
+        → row_at (executed_rows x) place ≡ Some row → row.client ≡ e.to → row.number ≡ said.number → said.reply ≡ answer_at book (opening setup) (executed_rows x) place row
+    right_answers e said x place row told in' low at client named =
+        let r = h.replies e said told.posted told.is in
+        sites.right_answer choose f right cells before more first h.world legal run book (opening setup) r.reply said.reply x place row r.among (either x in') low at
+        (subst (λ c. Tells book (opening setup) r.reply c row.number said.reply) (sym client) (subst (λ n. Tells book (opening setup) r.reply e.to n said.reply) (sym named) (tells e said told r)))
 
-    pub begin : (e : Envelope) (view number : ℕ) (answer : Answer) (told : WasTold bank e view number answer) (x : Site Cmd) → IsSiteOf early bank x → x.status ≡ Normal → view < x.view
-        → let by = answered e view number answer told in Begins (take by.place (executed_rows by.site)) x.log
-    begin e view number answer told x in' normal low =
-        let r = h.replies e view number answer told.posted told.is in
-        let view_is = (said e view number answer told).0 in
-        begins_from (sym (rows-are e view number answer told))
+    pub begin : (e : Envelope) (said : ReplyOf Answer) (told : WasTold bank e said) (x : Site Cmd) → IsSiteOf early bank x → x.status ≡ Normal → said.view < x.view
+        → let by = answered e said told in Begins (take by.place (executed_rows by.site)) x.log
+    begin e said told x in' normal low =
+        let r = h.replies e said told.posted told.is in
+        let view_is = ap (λ (s : ReplyOf Answer). s.view) (words e said told) in
+        begins_from (sym (rows-are e said told))
         (sites.lasting choose f right cells before more first h.world legal run r.reply x r.among (either x in') normal (omega arith))

@@ -48,7 +48,7 @@ module _ (f me : ℕ) (x : Client) where
 
   -- all else does nothing
   abbrev pub on_message : MsgOf Cmd Answer PaymentOrder → ClientStep
-  on_message (Reply view number answer) = on_reply number answer x.waiting
+  on_message (Reply msg) = on_reply msg.number msg.reply x.waiting
   on_message _ = does x []
 
   -- the request that waits is sent again

@@ -5,6 +5,7 @@ use Rattle.pvp_types.specs.declared.command.Cmd.{Cmd}
 use Rattle.pvp_types.specs.declared.command.Reply.{Reply as Answer}
 use Rattle.vr_types.specs.declared.event.Status.TheVariants.{Normal}
 use Rattle.vr_types.specs.declared.message.MsgOf.TheVariants.{Reply}
+use Rattle.vr_types.specs.declared.message.ReplyOf.{ReplyOf}
 use Rattle.vr_types.specs.Group.{actor_of}
 use Rattle.vr_types.specs.Site.{Site, executed_rows}
 use Rattle.vr_types.specs.Execution.{answer_at}
@@ -24,55 +25,53 @@ LogsRise bank = (x : Site Cmd) → Contains bank.sites x → IsRising x.log
 abbrev pub IsSiteOf : Bank → Bank → Site Cmd → Type 0
 IsSiteOf early late x = Contains early.sites x ⊎ Contains late.sites x
 
--- an envelope of the post is a REPLY
-pub record WasTold (bank : Bank) (e : Envelope) (view number : ℕ) (answer : Answer) : Type 0 where
+-- an envelope of the post is this REPLY
+pub record WasTold (bank : Bank) (e : Envelope) (said : ReplyOf Answer) : Type 0 where
   pub posted : Contains bank.post e
-  pub is : e.msg ≡ Reply view number answer
+  pub is : e.msg ≡ Reply said
 
--- The site that an envelope is from has executed, in this view, a row of the client that it is for, with this number; and
--- this is the book's answer at that row's place.
-pub record HasAnswered (setup : Setup) (bank : Bank) (e : Envelope) (view number : ℕ) (answer : Answer) : Type 0 where
+-- The site that an envelope is from has executed, in the REPLY's view, a row of the client that it is for, with its number;
+-- and its answer is the book's at that row's place.
+pub record HasAnswered (setup : Setup) (bank : Bank) (e : Envelope) (said : ReplyOf Answer) : Type 0 where
   pub sender : ℕ
   pub site : Site Cmd
   pub is_there : slice_get bank.sites sender ≡ Some site
   pub from : e.from ≡ actor_of sender
-  pub in_view : site.view ≡ view
+  pub in_view : site.view ≡ said.view
   pub place : ℕ
   pub row : Row
   pub counted : 1 ≤ place
   pub executed : row_at (executed_rows site) place ≡ Some row
   pub client : row.client ≡ e.to
-  pub named : row.number ≡ number
-  pub right : answer ≡ answer_at book (opening setup) (executed_rows site) place row
+  pub named : row.number ≡ said.number
+  pub right : said.reply ≡ answer_at book (opening setup) (executed_rows site) place row
 
 -- each REPLY answers a row that its sender had executed by then
 abbrev pub AnsweredWereExecuted : {setup : Setup} {f : ℕ} → LegalList setup f → Type 0
 AnsweredWereExecuted {setup} list =
-    (e : Envelope) (view number : ℕ) (answer : Answer) → WasTold list.bank e view number answer
-    → (moment : MomentOf list) × HasAnswered setup moment.then e view number answer
+    (e : Envelope) (said : ReplyOf Answer) → WasTold list.bank e said → (moment : MomentOf list) × HasAnswered setup moment.then e said
 
 -- all REPLYs to one request of a client carry one answer
 abbrev pub AnswersAgree : Bank → Type 0
 AnswersAgree bank =
-    (d e : Envelope) (v w number : ℕ) (a b : Answer) → WasTold bank d v number a → WasTold bank e w number b → d.to ≡ e.to → a ≡ b
+    (d e : Envelope) (a b : ReplyOf Answer) → WasTold bank d a → WasTold bank e b → d.to ≡ e.to → a.number ≡ b.number → a.reply ≡ b.reply
 
 -- it is the book's answer, at the place of that request's row in the executed rows of any site at either moment
 abbrev pub AnswersAreRight : Setup → Bank → Bank → Type 0
 AnswersAreRight setup early late =
-    (e : Envelope) (view number : ℕ) (answer : Answer) (x : Site Cmd) (place : ℕ) (row : Row) → WasTold late e view number answer
-    → IsSiteOf early late x → 1 ≤ place → row_at (executed_rows x) place ≡ Some row → row.client ≡ e.to → row.number ≡ number
-    → answer ≡ answer_at book (opening setup) (executed_rows x) place row
+    (e : Envelope) (said : ReplyOf Answer) (x : Site Cmd) (place : ℕ) (row : Row) → WasTold late e said
+    → IsSiteOf early late x → 1 ≤ place → row_at (executed_rows x) place ≡ Some row → row.client ≡ e.to → row.number ≡ said.number
+    → said.reply ≡ answer_at book (opening setup) (executed_rows x) place row
 
 -- What a site had executed up to the row that it answered in a view begins the log of every site that is normal in a
 -- later view, at either moment.
 pub record Stays {setup : Setup} {f : ℕ} (early : LegalList setup f) (late : Continued early)
-    (e : Envelope) (view number : ℕ) (answer : Answer) : Type 0 where
+    (e : Envelope) (said : ReplyOf Answer) : Type 0 where
   pub moment : MomentUpTo early late
-  pub by : HasAnswered setup moment.then e view number answer
-  pub begin : (x : Site Cmd) → IsSiteOf early.bank late.bank x → x.status ≡ Normal → view < x.view
+  pub by : HasAnswered setup moment.then e said
+  pub begin : (x : Site Cmd) → IsSiteOf early.bank late.bank x → x.status ≡ Normal → said.view < x.view
       → Begins (take by.place (executed_rows by.site)) x.log
 
 abbrev pub AnsweredRowsStay : {setup : Setup} {f : ℕ} (early : LegalList setup f) → Continued early → Type 0
 AnsweredRowsStay early late =
-    (e : Envelope) (view number : ℕ) (answer : Answer) → WasTold late.bank e view number answer
-    → Stays early late e view number answer
+    (e : Envelope) (said : ReplyOf Answer) → WasTold late.bank e said → Stays early late e said

@@ -16,7 +16,7 @@ use std::net::{Net, SocketAddr, TcpListener, TcpStream};
 use std::sync::atomic::{AtomicU64, Ordering};
 use std::test::Fail;
 use std::time::Duration;
-use vr_types::{MemCell, MsgOf};
+use vr_types::{MemCell, MsgOf, ReplyOf};
 
 /// USD's node as seen from outside: it asks site 0 over one stream, which it then closes, and is answered over another.
 #[derive(Drop)]
@@ -59,11 +59,13 @@ impl Player for Asker {
 /// What the first answer among these says, where it answers request 1.
 fn first_reply(frames: &[Stamped]) -> Option<Reply> {
     frames.iter().find_map(|frame| match &frame.envelope.msg {
-        MsgOf::Reply {
-            number: 1,
-            reply,
-            ..
-        } => Some(*reply),
+        MsgOf::Reply(
+            ReplyOf {
+                number: 1,
+                reply,
+                ..
+            },
+        ) => Some(*reply),
         _ => None,
     })
 }

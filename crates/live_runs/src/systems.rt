@@ -106,7 +106,7 @@ fn reply_is_real(rt: HostRuntime) -> Result<(), Fail> {
     let Ok((request, _)) = decode(alloc, &REQUEST) else {
         return Err(Fail::new("a frame"));
     };
-    let MsgOf::Request { number, cmd } = request.envelope.msg else {
+    let MsgOf::Request(asked) = request.envelope.msg else {
         return Err(Fail::new("a request"));
     };
     let asks = Input {
@@ -124,7 +124,7 @@ fn reply_is_real(rt: HostRuntime) -> Result<(), Fail> {
     let mut found = 0u32;
     for envelope in Replica::<Book, MemCell>::sent(&outcome) {
         if let MsgOf::Prepare(PrepareOf { row, .. }) = &envelope.msg {
-            assert!(&rt; row.client == 102 && row.number == number && row.cmd == cmd);
+            assert!(&rt; row.client == 102 && row.number == asked.number && row.cmd == asked.cmd);
             found = found.saturating_add(1);
         }
     }

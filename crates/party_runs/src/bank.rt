@@ -65,7 +65,7 @@ fn a_run_is_audited(rt: HostRuntime) -> Result<(), Fail> {
     let letter = first_letter(rt.alloc(), &reply)?;
     assert_eq!(rt; letter.to, 0);
     match letter.msg {
-        MsgOf::Reply { reply, .. } => assert_eq!(rt; reply, Reply::Settled(0)),
+        MsgOf::Reply(msg) => assert_eq!(rt; msg.reply, Reply::Settled(0)),
         _ => assert!(rt; false, "a reply"),
     }
     let closed = three.close(rt.alloc())?;

@@ -20,18 +20,18 @@ use Rattle.pvp_live.specs.declared.standing.Standing.TheVariants.{Up, Down, Rest
 
 -- a normal site alone sends what names its view, but for the two messages of a change of view; a GETSTATE names the view that is asked, which may be a later one
 abbrev pub said_by : {C R O : Type 0} → MsgOf C R O → Saying
-said_by (Request number cmd) = Nothing
+said_by (Request msg) = Nothing
 said_by (Prepare msg) = Normal msg.view
-said_by (PrepareOk view place) = Normal view
-said_by (Commit view done) = Normal view
-said_by (StartViewChange view known) = Asks view
+said_by (PrepareOk msg) = Normal msg.view
+said_by (Commit msg) = Normal msg.view
+said_by (StartViewChange msg) = Asks msg.view
 said_by (DoViewChange msg) = Asks msg.view
 said_by (StartView msg) = Normal msg.view
-said_by (GetState view base) = Runs
+said_by (GetState msg) = Runs
 said_by (NewState msg) = Normal msg.view
-said_by (Recovery nonce) = Nothing
+said_by (Recovery msg) = Nothing
 said_by (RecoveryResponse msg) = Normal msg.view
-said_by (Reply view number reply) = Normal view
+said_by (Reply msg) = Normal msg.view
 said_by (PayOrder order) = Runs
 
 -- which site the actor of a number is
@@ -68,7 +68,7 @@ after_taken before (line.Beat actor) clock asks = after_beat before asks
 after_taken before _ clock asks = before
 
 abbrev pub is_recovery : {C R O : Type 0} → MsgOf C R O → Bool
-is_recovery (Recovery nonce) = true
+is_recovery (Recovery msg) = true
 is_recovery _ = false
 
 -- one of these asks for the state

@@ -91,7 +91,7 @@ fn asks_for_state(sent: &[Envelope<Book>]) -> bool
 fn is_recovery(msg: &Message) -> bool
     ensures { result ≡ is_recovery msg.now }
 {
-    matches!(msg, MsgOf::Recovery { .. })
+    matches!(msg, MsgOf::Recovery(_))
 }
 
 /// Appends where a site stands. One that came up again is up once it was heard to run since.

@@ -5,7 +5,10 @@ ghost use Rattle.pvp_live.specs.Voices.{said_by, heard_in, site_of};
 
 use pvp_wire::Message;
 use std::sync::atomic::{AtomicU64, Ordering};
-use vr_types::{FIRST_SITE, MsgOf, NewStateOf, PrepareOf, RecoveryResponseOf, StartViewOf};
+use vr_types::{
+    Commit, FIRST_SITE, MsgOf, NewStateOf, PrepareOf, PrepareOk, RecoveryResponseOf, ReplyOf,
+    StartViewOf,
+};
 
 /// What a site's message says of where its sender stands.
 #[derive(Clone, Copy, Debug, PartialEq, Eq)]
@@ -26,16 +29,16 @@ pub fn said_by(msg: &Message) -> Saying
 {
     match msg {
         MsgOf::Prepare(PrepareOf { view, .. })
-        | MsgOf::PrepareOk { view, .. }
-        | MsgOf::Commit { view, .. }
+        | MsgOf::PrepareOk(PrepareOk { view, .. })
+        | MsgOf::Commit(Commit { view, .. })
         | MsgOf::StartView(StartViewOf { view, .. })
         | MsgOf::NewState(NewStateOf { view, .. })
         | MsgOf::RecoveryResponse(RecoveryResponseOf { view, .. })
-        | MsgOf::Reply { view, .. } => Saying::Normal(*view),
-        MsgOf::StartViewChange { view, .. } => Saying::Asks(*view),
+        | MsgOf::Reply(ReplyOf { view, .. }) => Saying::Normal(*view),
+        MsgOf::StartViewChange(msg) => Saying::Asks(msg.view),
         MsgOf::DoViewChange(msg) => Saying::Asks(msg.view),
-        MsgOf::GetState { .. } | MsgOf::PayOrder(_) => Saying::Runs,
-        MsgOf::Recovery { .. } | MsgOf::Request { .. } => Saying::Nothing,
+        MsgOf::GetState(_) | MsgOf::PayOrder(_) => Saying::Runs,
+        MsgOf::Recovery(_) | MsgOf::Request(_) => Saying::Nothing,
     }
 }
 

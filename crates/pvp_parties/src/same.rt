@@ -4,8 +4,9 @@ ghost use Rattle.std.specs.Prelude.{◌≡◌, ◌↔◌, IsTrue};
 use pvp_book::Book;
 use pvp_types::{Cmd, PayOrder, Reply};
 use vr_types::{
-    Boot, DoViewChangeOf, Envelope, Known, Msg, MsgOf, NewStateOf, PrepareOf, RecoveryResponseOf,
-    Row, Rows, SiteFault, StartViewOf, State, Why, is_same,
+    Boot, Commit, DoViewChangeOf, Envelope, GetState, Known, Msg, MsgOf, NewStateOf, PrepareOf,
+    PrepareOk, Recovery, RecoveryResponseOf, ReplyOf, RequestOf, Row, Rows, SiteFault,
+    StartViewChange, StartViewOf, State, Why, is_same,
 };
 
 /// Whether two commands are the same.
@@ -102,32 +103,28 @@ pub fn same_msg(a: &Msg<Book>, b: &Msg<Book>) -> bool
     ensures { IsTrue result ↔ (a.now ≡ b.now) }
 {
     match a {
-        MsgOf::Request { number, cmd } => is_request(*number, *cmd, b),
+        MsgOf::Request(request) => is_request(request, b),
         MsgOf::Prepare(prepare) => is_prepare(prepare, b),
-        MsgOf::PrepareOk { view, place } => is_prepare_ok(*view, *place, b),
-        MsgOf::Commit { view, done } => is_commit(*view, *done, b),
-        MsgOf::StartViewChange { view, known } => is_start_view_change(*view, known, b),
+        MsgOf::PrepareOk(ok) => is_prepare_ok(ok, b),
+        MsgOf::Commit(commit) => is_commit(commit, b),
+        MsgOf::StartViewChange(change) => is_start_view_change(change, b),
         MsgOf::DoViewChange(vote) => is_do_view_change(vote, b),
         MsgOf::StartView(opening) => is_start_view(opening, b),
-        MsgOf::GetState { view, base } => is_get_state(*view, *base, b),
+        MsgOf::GetState(wanted) => is_get_state(wanted, b),
         MsgOf::NewState(state) => is_new_state(state, b),
-        MsgOf::Recovery { nonce } => is_recovery(*nonce, b),
+        MsgOf::Recovery(recovery) => is_recovery(recovery, b),
         MsgOf::RecoveryResponse(response) => is_recovery_response(response, b),
-        MsgOf::Reply {
-            view,
-            number,
-            reply,
-        } => is_reply(*view, *number, *reply, b),
+        MsgOf::Reply(answer) => is_reply(answer, b),
         MsgOf::PayOrder(order) => is_pay_order(*order, b),
     }
 }
 
 /// Whether a message is this REQUEST.
-fn is_request(number: u32, cmd: Cmd, msg: &Msg<Book>) -> bool
-    ensures { IsTrue result ↔ (MsgOf.Request number cmd ≡ msg.now) }
+fn is_request(request: &RequestOf<Cmd>, msg: &Msg<Book>) -> bool
+    ensures { IsTrue result ↔ (MsgOf.Request request.now ≡ msg.now) }
 {
     match msg {
-        MsgOf::Request { number: n, cmd: c } => number == *n && same_cmd(cmd, *c),
+        MsgOf::Request(other) => request.number == other.number && same_cmd(request.cmd, other.cmd),
         _ => false,
     }
 }
@@ -148,31 +145,32 @@ fn is_prepare(prepare: &PrepareOf<Cmd>, msg: &Msg<Book>) -> bool
 }
 
 /// Whether a message is this PREPAREOK.
-fn is_prepare_ok(view: u32, place: u16, msg: &Msg<Book>) -> bool
-    ensures { IsTrue result ↔ (MsgOf.PrepareOk view place ≡ msg.now) }
+fn is_prepare_ok(ok: &PrepareOk, msg: &Msg<Book>) -> bool
+    ensures { IsTrue result ↔ (MsgOf.PrepareOk ok.now ≡ msg.now) }
 {
     match msg {
-        MsgOf::PrepareOk { view: v, place: p } => view == *v && place == *p,
+        MsgOf::PrepareOk(other) => ok.view == other.view && ok.place == other.place,
         _ => false,
     }
 }
 
 /// Whether a message is this COMMIT.
-fn is_commit(view: u32, done: u16, msg: &Msg<Book>) -> bool
-    ensures { IsTrue result ↔ (MsgOf.Commit view done ≡ msg.now) }
+fn is_commit(commit: &Commit, msg: &Msg<Book>) -> bool
+    ensures { IsTrue result ↔ (MsgOf.Commit commit.now ≡ msg.now) }
 {
     match msg {
-        MsgOf::Commit { view: v, done: d } => view == *v && done == *d,
+        MsgOf::Commit(other) => commit.view == other.view && commit.done == other.done,
         _ => false,
     }
 }
 
 /// Whether a message is this STARTVIEWCHANGE.
-fn is_start_view_change(view: u32, known: &Known, msg: &Msg<Book>) -> bool
-    ensures { IsTrue result ↔ (MsgOf.StartViewChange view known.now ≡ msg.now) }
+fn is_start_view_change(change: &StartViewChange, msg: &Msg<Book>) -> bool
+    ensures { IsTrue result ↔ (MsgOf.StartViewChange change.now ≡ msg.now) }
 {
     match msg {
-        MsgOf::StartViewChange { view: v, known: k } => view == *v && same_known(known, k),
+        MsgOf::StartViewChange(other) => change.view == other.view
+            && same_known(&change.known, &other.known),
         _ => false,
     }
 }
@@ -208,11 +206,11 @@ fn is_start_view(opening: &StartViewOf<Cmd>, msg: &Msg<Book>) -> bool
 }
 
 /// Whether a message is this GETSTATE.
-fn is_get_state(view: u32, base: u16, msg: &Msg<Book>) -> bool
-    ensures { IsTrue result ↔ (MsgOf.GetState view base ≡ msg.now) }
+fn is_get_state(wanted: &GetState, msg: &Msg<Book>) -> bool
+    ensures { IsTrue result ↔ (MsgOf.GetState wanted.now ≡ msg.now) }
 {
     match msg {
-        MsgOf::GetState { view: v, base: b } => view == *v && base == *b,
+        MsgOf::GetState(other) => wanted.view == other.view && wanted.base == other.base,
         _ => false,
     }
 }
@@ -233,11 +231,11 @@ fn is_new_state(state: &NewStateOf<Cmd>, msg: &Msg<Book>) -> bool
 }
 
 /// Whether a message is this RECOVERY.
-fn is_recovery(nonce: u32, msg: &Msg<Book>) -> bool
-    ensures { IsTrue result ↔ (MsgOf.Recovery nonce ≡ msg.now) }
+fn is_recovery(recovery: &Recovery, msg: &Msg<Book>) -> bool
+    ensures { IsTrue result ↔ (MsgOf.Recovery recovery.now ≡ msg.now) }
 {
     match msg {
-        MsgOf::Recovery { nonce: n } => nonce == *n,
+        MsgOf::Recovery(other) => recovery.nonce == other.nonce,
         _ => false,
     }
 }
@@ -258,15 +256,13 @@ fn is_recovery_response(response: &RecoveryResponseOf<Cmd>, msg: &Msg<Book>) -> 
 }
 
 /// Whether a message is this REPLY.
-fn is_reply(view: u32, number: u32, reply: Reply, msg: &Msg<Book>) -> bool
-    ensures { IsTrue result ↔ (MsgOf.Reply view number reply ≡ msg.now) }
+fn is_reply(answer: &ReplyOf<Reply>, msg: &Msg<Book>) -> bool
+    ensures { IsTrue result ↔ (MsgOf.Reply answer.now ≡ msg.now) }
 {
     match msg {
-        MsgOf::Reply {
-            view: v,
-            number: n,
-            reply: r,
-        } => view == *v && number == *n && same_reply(reply, *r),
+        MsgOf::Reply(other) => answer.view == other.view
+            && answer.number == other.number
+            && same_reply(answer.reply, other.reply),
         _ => false,
     }
 }

@@ -30,38 +30,38 @@ state_text setup state = done_text state.done ++ rows_text setup state.rows
 -- A MESSAGE: its kind, and its fields
 
 abbrev pub kind_name : MsgOf Cmd Answer PaymentOrder → List ℕ
-kind_name (Request number cmd) = codes "REQUEST"
+kind_name (Request msg) = codes "REQUEST"
 kind_name (Prepare msg) = codes "PREPARE"
-kind_name (PrepareOk view place) = codes "PREPAREOK"
-kind_name (Commit view done) = codes "COMMIT"
-kind_name (StartViewChange view known) = codes "STARTVIEWCHANGE"
+kind_name (PrepareOk msg) = codes "PREPAREOK"
+kind_name (Commit msg) = codes "COMMIT"
+kind_name (StartViewChange msg) = codes "STARTVIEWCHANGE"
 kind_name (DoViewChange msg) = codes "DOVIEWCHANGE"
 kind_name (StartView msg) = codes "STARTVIEW"
-kind_name (GetState view base) = codes "GETSTATE"
+kind_name (GetState msg) = codes "GETSTATE"
 kind_name (NewState msg) = codes "NEWSTATE"
-kind_name (Recovery nonce) = codes "RECOVERY"
+kind_name (Recovery msg) = codes "RECOVERY"
 kind_name (RecoveryResponse msg) = codes "RECOVERYRESPONSE"
-kind_name (Reply view number answer) = codes "REPLY"
+kind_name (Reply msg) = codes "REPLY"
 kind_name (PayOrder order) = codes "PAYORDER"
 
 abbrev pub fields_text : Setup → MsgOf Cmd Answer PaymentOrder → List ℕ
-fields_text setup (Request number cmd) = codes " " ++ decimal number ++ codes " " ++ command_text setup cmd
+fields_text setup (Request msg) = codes " " ++ decimal msg.number ++ codes " " ++ command_text setup msg.cmd
 fields_text setup (Prepare msg) =
     view_text msg.view ++ field_text (codes "place") msg.place ++ done_text msg.done ++ codes " row " ++ row_text setup msg.row
-fields_text setup (PrepareOk view place) = view_text view ++ field_text (codes "place") place
-fields_text setup (Commit view done) = view_text view ++ done_text done
-fields_text setup (StartViewChange view known) = view_text view ++ boots_text known
+fields_text setup (PrepareOk msg) = view_text msg.view ++ field_text (codes "place") msg.place
+fields_text setup (Commit msg) = view_text msg.view ++ done_text msg.done
+fields_text setup (StartViewChange msg) = view_text msg.view ++ boots_text msg.known
 fields_text setup (DoViewChange msg) =
     view_text msg.view ++ field_text (codes "normal") msg.last_normal ++ done_text msg.done ++ rows_text setup msg.rows ++ boots_text msg.known
 fields_text setup (StartView msg) = view_text msg.view ++ done_text msg.done ++ rows_text setup msg.rows
-fields_text setup (GetState view base) = view_text view ++ field_text (codes "base") base
+fields_text setup (GetState msg) = view_text msg.view ++ field_text (codes "base") msg.base
 fields_text setup (NewState msg) =
     view_text msg.view ++ field_text (codes "base") msg.base ++ done_text msg.done ++ rows_text setup msg.rows
-fields_text setup (Recovery nonce) = field_text (codes "nonce") nonce
+fields_text setup (Recovery msg) = field_text (codes "nonce") msg.nonce
 fields_text setup (RecoveryResponse msg) =
     view_text msg.view ++ field_text (codes "nonce") msg.nonce ++ option_map_or (state_text setup) msg.state [] ++ boots_text msg.known
-fields_text setup (Reply view number answer) =
-    view_text view ++ field_text (codes "to") number ++ codes " " ++ reply_text answer
+fields_text setup (Reply msg) =
+    view_text msg.view ++ field_text (codes "to") msg.number ++ codes " " ++ reply_text msg.reply
 fields_text setup (PayOrder order) = codes " " ++ order_text setup order
 
 abbrev pub message_text : Setup → MsgOf Cmd Answer PaymentOrder → List ℕ

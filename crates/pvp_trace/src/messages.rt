@@ -42,18 +42,18 @@ pub fn kind_name(msg: &Msg<Book>) -> &'static str
     ensures { result.now ≡ name_of_kind msg.now }
 {
     match msg {
-        MsgOf::Request { .. } => "REQUEST",
+        MsgOf::Request(_) => "REQUEST",
         MsgOf::Prepare(_) => "PREPARE",
-        MsgOf::PrepareOk { .. } => "PREPAREOK",
-        MsgOf::Commit { .. } => "COMMIT",
-        MsgOf::StartViewChange { .. } => "STARTVIEWCHANGE",
+        MsgOf::PrepareOk(_) => "PREPAREOK",
+        MsgOf::Commit(_) => "COMMIT",
+        MsgOf::StartViewChange(_) => "STARTVIEWCHANGE",
         MsgOf::DoViewChange(_) => "DOVIEWCHANGE",
         MsgOf::StartView(_) => "STARTVIEW",
-        MsgOf::GetState { .. } => "GETSTATE",
+        MsgOf::GetState(_) => "GETSTATE",
         MsgOf::NewState(_) => "NEWSTATE",
-        MsgOf::Recovery { .. } => "RECOVERY",
+        MsgOf::Recovery(_) => "RECOVERY",
         MsgOf::RecoveryResponse(_) => "RECOVERYRESPONSE",
-        MsgOf::Reply { .. } => "REPLY",
+        MsgOf::Reply(_) => "REPLY",
         MsgOf::PayOrder(_) => "PAYORDER",
     }
 }
@@ -63,40 +63,37 @@ fn push_fields(text: &mut String, setup: &Setup, msg: &Msg<Book>) -> Result<(), 
     ensures { OnOk result (string_bytes text.new ≡ string_bytes text.old ++ fields_text setup.now msg.now) }
 {
     match msg {
-        MsgOf::Request { number, cmd } => {
-            let number = *number;
+        MsgOf::Request(msg) => {
+            let number = msg.number;
             write!(text, " {number} ")?;
-            push_command(text, setup, *cmd)
+            push_command(text, setup, msg.cmd)
         }
         MsgOf::Prepare(msg) => push_prepare(text, setup, msg),
-        MsgOf::PrepareOk { view, place } => {
-            push_field(text, "view", *view)?;
-            push_field(text, "place", u32::from(*place))
+        MsgOf::PrepareOk(msg) => {
+            push_field(text, "view", msg.view)?;
+            push_field(text, "place", u32::from(msg.place))
         }
-        MsgOf::Commit { view, done } => {
-            push_field(text, "view", *view)?;
-            push_field(text, "done", u32::from(*done))
+        MsgOf::Commit(msg) => {
+            push_field(text, "view", msg.view)?;
+            push_field(text, "done", u32::from(msg.done))
         }
-        MsgOf::StartViewChange { view, known } => {
-            push_field(text, "view", *view)?;
-            push_boots(text, known)
+        MsgOf::StartViewChange(msg) => {
+            push_field(text, "view", msg.view)?;
+            push_boots(text, &msg.known)
         }
         MsgOf::DoViewChange(msg) => push_do_view_change(text, setup, msg),
         MsgOf::StartView(msg) => push_start_view(text, setup, msg),
-        MsgOf::GetState { view, base } => {
-            push_field(text, "view", *view)?;
-            push_field(text, "base", u32::from(*base))
+        MsgOf::GetState(msg) => {
+            push_field(text, "view", msg.view)?;
+            push_field(text, "base", u32::from(msg.base))
         }
         MsgOf::NewState(msg) => push_new_state(text, setup, msg),
-        MsgOf::Recovery { nonce } => push_field(text, "nonce", *nonce),
+        MsgOf::Recovery(msg) => push_field(text, "nonce", msg.nonce),
         MsgOf::RecoveryResponse(msg) => push_recovery_response(text, setup, msg),
-        MsgOf::Reply {
-            view,
-            number,
-            reply,
-        } => {
-            push_field(text, "view", *view)?;
-            push_field(text, "to", *number)?;
+        MsgOf::Reply(msg) => {
+            push_field(text, "view", msg.view)?;
+            push_field(text, "to", msg.number)?;
+            let reply = msg.reply;
             write!(text, " {reply}")
         }
         MsgOf::PayOrder(order) => {

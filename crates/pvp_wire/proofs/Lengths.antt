@@ -80,24 +80,24 @@ boots-short known h =
 
 -- a message that fits takes less than a frame may
 pub body-short : (m : BankMsg) → MessageFits m → has_site_count (known_in m) ≡ true → length (body m) ≤ most_body
-body-short (Request a b) h k = omega (arith, two _ _ _ _ (num 4 a) (command-short b))
+body-short (Request msg) h k = omega (arith, two _ _ _ _ (num 4 msg.number) (command-short msg.cmd))
 body-short (Prepare msg) h k = omega (arith, two _ _ _ _ (two _ _ _ _ (two _ _ _ _ (num 4 msg.view) (num 2 msg.place)) (num 2 msg.done)) (row-short msg.row))
-body-short (PrepareOk a b) h k = omega (arith, two _ _ _ _ (num 4 a) (num 2 b))
-body-short (Commit a b) h k = omega (arith, two _ _ _ _ (num 4 a) (num 2 b))
-body-short (StartViewChange a b) h k = omega (arith, two _ _ _ _ (num 4 a) (boots-short b k))
+body-short (PrepareOk msg) h k = omega (arith, two _ _ _ _ (num 4 msg.view) (num 2 msg.place))
+body-short (Commit msg) h k = omega (arith, two _ _ _ _ (num 4 msg.view) (num 2 msg.done))
+body-short (StartViewChange msg) h k = omega (arith, two _ _ _ _ (num 4 msg.view) (boots-short msg.known k))
 body-short (DoViewChange msg) h k =
     let few : length msg.rows < 65536 = h.4.0 in
     omega (arith, two _ _ _ _ (two _ _ _ _ (two _ _ _ _ (two _ _ _ _ (num 4 msg.view) (num 4 msg.last_normal)) (num 2 msg.done)) (boots-short msg.known k)) (rows-short msg.rows few))
 body-short (StartView msg) h k =
     let few : length msg.rows < 65536 = h.2.0 in
     omega (arith, two _ _ _ _ (two _ _ _ _ (num 4 msg.view) (num 2 msg.done)) (rows-short msg.rows few))
-body-short (GetState a b) h k = omega (arith, two _ _ _ _ (num 4 a) (num 2 b))
+body-short (GetState msg) h k = omega (arith, two _ _ _ _ (num 4 msg.view) (num 2 msg.base))
 body-short (NewState msg) h k =
     let few : length msg.rows < 65536 = h.3.0 in
     omega (arith, two _ _ _ _ (two _ _ _ _ (two _ _ _ _ (num 4 msg.view) (num 2 msg.base)) (num 2 msg.done)) (rows-short msg.rows few))
-body-short (Recovery a) h k = omega (arith, num 4 a)
+body-short (Recovery msg) h k = omega (arith, num 4 msg.nonce)
 body-short (RecoveryResponse msg) h k = omega (arith, two _ _ _ _ (two _ _ _ _ (two _ _ _ _ (num 4 msg.view) (num 4 msg.nonce)) (boots-short msg.known k)) (state-short msg.state h.3))
-body-short (Reply a b c) h k = omega (arith, two _ _ _ _ (two _ _ _ _ (num 4 a) (num 4 b)) (reply-short c))
+body-short (Reply msg) h k = omega (arith, two _ _ _ _ (two _ _ _ _ (num 4 msg.view) (num 4 msg.number)) (reply-short msg.reply))
 body-short (PayOrder a) h k = omega (arith, two _ _ _ _ (two _ _ _ _ (two _ _ _ _ (num 1 a.ccy) (num 4 a.out)) (num 2 a.member)) (num 8 a.amt))
 
 -- two parts, exactly

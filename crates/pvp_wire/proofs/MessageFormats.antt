@@ -2,6 +2,7 @@
 use Rattle.std.proofs.Common.{◌≡◌, ℕ, zero, suc, ◌<◌, ◌≤◌, ◌==◌, true, false, List, [], ◌∷◌, ◌++◌, drop, Option, Some, None, Ok, refl, sym, subst, if◌then◌else◌, arith}
 use Rattle.std.specs.List.{list_all}
 use Rattle.pvp_types.specs.declared.command.Cmd.{Cmd}
+use Rattle.pvp_types.specs.declared.command.Reply.{Reply as Answer}
 use Rattle.vr_types.specs.declared.message.MsgOf.TheVariants.{Request, Prepare, PrepareOk, Commit, StartViewChange, DoViewChange, StartView, GetState, NewState, Recovery, RecoveryResponse, Reply, PayOrder}
 use Rattle.vr_types.specs.declared.message.StateOf.{StateOf}
 use Rattle.vr_types.specs.Messages.{rows_in, rows_of_state, known_in}
@@ -84,16 +85,27 @@ IsMessage m = MessageFits m × ((list_all has_client (rows_in m) ≡ true) × (h
 abbrev pub IsOfKind : ℕ → BankMsg → Type 0
 IsOfKind k m = IsMessage m × (kind m ≡ k)
 
-request-takes : TakesBy body (IsOfKind 1) request_at
-unfolding request_at
-request-takes = takes2 n4 command_format Request body (IsOfKind 1) (λ a b. refl) (λ a b ha hb. (((ha, hb), (refl, refl)), refl))
-
 -- messages of their fields, as these stand in a frame
+abbrev pub make_request : ℕ → Cmd → BankMsg
+make_request n cmd = Request (record { number = n; cmd = cmd })
+
 abbrev pub make_prepare : ℕ → ℕ → ℕ → BankRow → BankMsg
 make_prepare view place k r = Prepare (record { view = view; place = place; done = k; row = r })
 
+abbrev pub make_prepare_ok : ℕ × ℕ → BankMsg
+make_prepare_ok p = PrepareOk (record { view = p.0; place = p.1 })
+
+abbrev pub make_commit : ℕ × ℕ → BankMsg
+make_commit p = Commit (record { view = p.0; done = p.1 })
+
+abbrev pub make_start_view_change : ℕ → List ℕ → BankMsg
+make_start_view_change view known = StartViewChange (record { view = view; known = known })
+
 abbrev pub make_start_view : ℕ → ℕ → List BankRow → BankMsg
 make_start_view view k log = StartView (record { view = view; done = k; rows = log })
+
+abbrev pub make_get_state : ℕ × ℕ → BankMsg
+make_get_state p = GetState (record { view = p.0; base = p.1 })
 
 abbrev pub make_new_state : ℕ → ℕ → ℕ → List BankRow → BankMsg
 make_new_state view base k log = NewState (record { view = view; base = base; done = k; rows = log })
@@ -101,8 +113,18 @@ make_new_state view base k log = NewState (record { view = view; base = base; do
 abbrev pub make_vote : ℕ → ℕ → ℕ → List ℕ → List BankRow → BankMsg
 make_vote view last_normal k known log = DoViewChange (record { view = view; last_normal = last_normal; done = k; rows = log; known = known })
 
+abbrev pub make_recovery : ℕ → BankMsg
+make_recovery nonce = Recovery (record { nonce = nonce })
+
 abbrev pub make_response : ℕ → ℕ → List ℕ → Option (StateOf Cmd) → BankMsg
 make_response view nonce known s = RecoveryResponse (record { view = view; nonce = nonce; state = s; known = known })
+
+abbrev pub make_answer : ℕ → ℕ → Answer → BankMsg
+make_answer view n answer = Reply (record { view = view; number = n; reply = answer })
+
+request-takes : TakesBy body (IsOfKind 1) request_at
+unfolding request_at
+request-takes = takes2 n4 command_format make_request body (IsOfKind 1) (λ a b. refl) (λ a b ha hb. (((ha, hb), (refl, refl)), refl))
 
 prepare-takes : TakesBy body (IsOfKind 2) prepare_at
 unfolding prepare_at
@@ -110,7 +132,7 @@ prepare-takes = takes4 n4 n2 n2 row_format make_prepare body (IsOfKind 2) (λ a 
 
 start_view_change-takes : TakesBy body (IsOfKind 5) (start_view_change_at false)
 unfolding start_view_change_at
-start_view_change-takes = takes2 n4 boots_format StartViewChange body (IsOfKind 5) (λ a b. refl) (λ a b ha hb. (((ha, hb.0), (refl, hb.1)), refl))
+start_view_change-takes = takes2 n4 boots_format make_start_view_change body (IsOfKind 5) (λ a b. refl) (λ a b ha hb. (((ha, hb.0), (refl, hb.1)), refl))
 
 do_view_change-takes : TakesBy body (IsOfKind 6) (do_view_change_at false)
 unfolding do_view_change_at
@@ -130,19 +152,19 @@ recovery_response-takes = takes4 n4 n4 boots_format option_format make_response 
 
 answer-takes : TakesBy body (IsOfKind 12) answer_at
 unfolding answer_at
-answer-takes = takes3 n4 n4 reply_format Reply body (IsOfKind 12) (λ a b c. refl) (λ a b c ha hb hc. (((ha, hb, hc), (refl, refl)), refl))
+answer-takes = takes3 n4 n4 reply_format make_answer body (IsOfKind 12) (λ a b c. refl) (λ a b c ha hb hc. (((ha, hb, hc), (refl, refl)), refl))
 
-prepare_ok-takes : TakesBy body (IsOfKind 3) (λ bytes. view_and_place_at bytes >>= λ x. Ok (PrepareOk x.0.0 x.0.1, x.1))
-prepare_ok-takes = takes1 pair_format (λ p. PrepareOk p.0 p.1) body (IsOfKind 3) (λ p. refl) (λ p h. ((h, (refl, refl)), refl))
+prepare_ok-takes : TakesBy body (IsOfKind 3) (λ bytes. view_and_place_at bytes >>= λ x. Ok (PrepareOk (record { view = x.0.0; place = x.0.1 }), x.1))
+prepare_ok-takes = takes1 pair_format make_prepare_ok body (IsOfKind 3) (λ p. refl) (λ p h. ((h, (refl, refl)), refl))
 
-commit-takes : TakesBy body (IsOfKind 4) (λ bytes. view_and_place_at bytes >>= λ x. Ok (Commit x.0.0 x.0.1, x.1))
-commit-takes = takes1 pair_format (λ p. Commit p.0 p.1) body (IsOfKind 4) (λ p. refl) (λ p h. ((h, (refl, refl)), refl))
+commit-takes : TakesBy body (IsOfKind 4) (λ bytes. view_and_place_at bytes >>= λ x. Ok (Commit (record { view = x.0.0; done = x.0.1 }), x.1))
+commit-takes = takes1 pair_format make_commit body (IsOfKind 4) (λ p. refl) (λ p h. ((h, (refl, refl)), refl))
 
-get_state-takes : TakesBy body (IsOfKind 8) (λ bytes. view_and_place_at bytes >>= λ x. Ok (GetState x.0.0 x.0.1, x.1))
-get_state-takes = takes1 pair_format (λ p. GetState p.0 p.1) body (IsOfKind 8) (λ p. refl) (λ p h. ((h, (refl, refl)), refl))
+get_state-takes : TakesBy body (IsOfKind 8) (λ bytes. view_and_place_at bytes >>= λ x. Ok (GetState (record { view = x.0.0; base = x.0.1 }), x.1))
+get_state-takes = takes1 pair_format make_get_state body (IsOfKind 8) (λ p. refl) (λ p h. ((h, (refl, refl)), refl))
 
-recovery-takes : TakesBy body (IsOfKind 10) (λ bytes. number_at 4 bytes >>= λ nonce. Ok (Recovery nonce.0, nonce.1))
-recovery-takes = takes1 n4 Recovery body (IsOfKind 10) (λ a. refl) (λ a h. ((h, (refl, refl)), refl))
+recovery-takes : TakesBy body (IsOfKind 10) (λ bytes. number_at 4 bytes >>= λ nonce. Ok (Recovery (record { nonce = nonce.0 }), nonce.1))
+recovery-takes = takes1 n4 make_recovery body (IsOfKind 10) (λ a. refl) (λ a h. ((h, (refl, refl)), refl))
 
 pay_order-takes : TakesBy body (IsOfKind 13) (λ bytes. order_at bytes >>= λ due. Ok (PayOrder due.0, due.1))
 pay_order-takes = takes1 order_format PayOrder body (IsOfKind 13) (λ a. refl) (λ a h. ((h, (refl, refl)), refl))
@@ -167,18 +189,18 @@ message-takes (suc (suc (suc (suc (suc (suc (suc (suc (suc (suc (suc (suc (suc (
 
 message-again : (m : BankMsg) (rest : List ℕ) → IsMessage m → message_at false (kind m) (body m ++ rest) ≡ Ok (m, rest)
 unfolding message_at request_at prepare_at start_view_change_at do_view_change_at start_view_at new_state_at recovery_response_at answer_at
-message-again (Request a b) rest h = again2 n4 command_format Request a b rest h.0.0 h.0.1
+message-again (Request msg) rest h = again2 n4 command_format make_request msg.number msg.cmd rest h.0.0 h.0.1
 message-again (Prepare msg) rest h = again4 n4 n2 n2 row_format make_prepare msg.view msg.place msg.done msg.row rest h.0.0 h.0.1 h.0.2 (h.0.3, (parted (has_client msg.row) true h.1.0).0)
-message-again (PrepareOk a b) rest h = again1 pair_format (λ p. PrepareOk p.0 p.1) (a, b) rest h.0
-message-again (Commit a b) rest h = again1 pair_format (λ p. Commit p.0 p.1) (a, b) rest h.0
-message-again (StartViewChange a b) rest h = again2 n4 boots_format StartViewChange a b rest h.0.0 (h.0.1, h.1.1)
+message-again (PrepareOk msg) rest h = again1 pair_format make_prepare_ok (msg.view, msg.place) rest h.0
+message-again (Commit msg) rest h = again1 pair_format make_commit (msg.view, msg.done) rest h.0
+message-again (StartViewChange msg) rest h = again2 n4 boots_format make_start_view_change msg.view msg.known rest h.0.0 (h.0.1, h.1.1)
 message-again (DoViewChange msg) rest h = again5 n4 n4 n2 boots_format rows_format make_vote msg.view msg.last_normal msg.done msg.known msg.rows rest h.0.0 h.0.1 h.0.2 (h.0.3, h.1.1) (h.0.4, h.1.0)
 message-again (StartView msg) rest h = again3 n4 n2 rows_format make_start_view msg.view msg.done msg.rows rest h.0.0 h.0.1 (h.0.2, h.1.0)
-message-again (GetState a b) rest h = again1 pair_format (λ p. GetState p.0 p.1) (a, b) rest h.0
+message-again (GetState msg) rest h = again1 pair_format make_get_state (msg.view, msg.base) rest h.0
 message-again (NewState msg) rest h = again4 n4 n2 n2 rows_format make_new_state msg.view msg.base msg.done msg.rows rest h.0.0 h.0.1 h.0.2 (h.0.3, h.1.0)
-message-again (Recovery a) rest h = again1 n4 Recovery a rest h.0
+message-again (Recovery msg) rest h = again1 n4 make_recovery msg.nonce rest h.0
 message-again (RecoveryResponse msg) rest h = again4 n4 n4 boots_format option_format make_response msg.view msg.nonce msg.known msg.state rest h.0.0 h.0.1 (h.0.2, h.1.1) (h.0.3, h.1.0)
-message-again (Reply a b c) rest h = again3 n4 n4 reply_format Reply a b c rest h.0.0 h.0.1 h.0.2
+message-again (Reply msg) rest h = again3 n4 n4 reply_format make_answer msg.view msg.number msg.reply rest h.0.0 h.0.1 h.0.2
 message-again (PayOrder a) rest h = again1 order_format PayOrder a rest h.0
 
 pub message_format : (k : ℕ) → 1 ≤ k → k ≤ 13 → IsFormat body (IsOfKind k) (message_at false k)

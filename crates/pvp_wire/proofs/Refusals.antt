@@ -6,7 +6,7 @@ use Rattle.byteorder.specs.Endian.{big_number}
 use Rattle.pvp_types.specs.declared.command.Cmd.TheVariants.{Instruct, Rescind, Fund, Settle, PayOut, Paid, Returned}
 use Rattle.pvp_types.specs.declared.command.Reason.{Reason}
 use Rattle.pvp_types.specs.declared.command.Reply.TheVariants.{Settled, Order, No}
-use Rattle.vr_types.specs.declared.message.MsgOf.TheVariants.{Request, PrepareOk, Commit, StartViewChange, GetState, Recovery, Reply, PayOrder}
+use Rattle.vr_types.specs.declared.message.MsgOf.TheVariants.{PayOrder}
 use Rattle.vr_types.specs.Actors.{is_actor, is_client}
 use Rattle.vr_types.specs.Messages.{known_in}
 use Rattle.pvp_wire.specs.declared.fault.WireFault.{WireFault}
@@ -16,7 +16,7 @@ use Rattle.pvp_wire.specs.Spelling.{BankMsg, BankRow, version, is_site_count}
 use Rattle.pvp_wire.specs.Reading.{◌>>=◌, Reads, number_at, listed_at, instruct_at, command_at, reason_at, reply_at, order_at, row_at, items_from, rows_at, boots_at, state_at, option_at, view_and_place_at, request_at, prepare_at, start_view_change_at, do_view_change_at, start_view_at, new_state_at, recovery_response_at, answer_at, message_at, stamp_at, envelope_at, all_read, counted_at, frame_where, most_length, carries_a_list, HasAnItem, IsOfField, frame_at}
 use Rattle.pvp_wire.proofs.Formats.{failed, done, bind_ok, wanted_ok, ok_is, fault_is, reads1, reads2, reads3, reads4, reads5}
 use Rattle.pvp_wire.proofs.Parts.{make_order, make_row, parted}
-use Rattle.pvp_wire.proofs.MessageFormats.{make_state, make_pair, make_prepare, make_start_view, make_new_state, make_vote, make_response}
+use Rattle.pvp_wire.proofs.MessageFormats.{make_state, make_pair, make_request, make_prepare, make_prepare_ok, make_commit, make_start_view_change, make_start_view, make_get_state, make_new_state, make_vote, make_recovery, make_response, make_answer}
 use Rattle.pvp_wire.proofs.Frames.{make_stamp, make_stamped, all_read-ok}
 
 -- the same fault of another reading
@@ -261,7 +261,7 @@ made {Z} Has z rest has x e = subst (λ (p : Z × List ℕ). Has p.0) (ok_is (z,
 
 request_only : OnlyFields request_at
 unfolding request_at
-request_only = only2 (number_only 4) command_only Request
+request_only = only2 (number_only 4) command_only make_request
 
 prepare_only : OnlyFields prepare_at
 unfolding prepare_at
@@ -269,15 +269,15 @@ prepare_only = only4 (number_only 4) (number_only 2) (number_only 2) row_only ma
 
 answer_only : OnlyFields answer_at
 unfolding answer_at
-answer_only = only3 (number_only 4) (number_only 4) reply_only Reply
+answer_only = only3 (number_only 4) (number_only 4) reply_only make_answer
 
 start_view_change_asked : AskedFor (Unit {0}) HasAnItem (start_view_change_at true) (start_view_change_at false)
 unfolding start_view_change_at
 start_view_change_asked bytes =
     let G : BankMsg × List ℕ → Type 0 = λ x. HasAnItem x.0 in
-    asked_always (only2 (number_only 4) boots_only StartViewChange bytes)
-    (made_after G (number_at 4 bytes) (λ a. reads1 (boots_at false) (StartViewChange a.0) a.1) (λ a.
-    made_after G (boots_at false a.1) (λ b. Ok (StartViewChange a.0 b.0, b.1)) (λ b. made HasAnItem (StartViewChange a.0 b.0) b.1 (known_item (StartViewChange a.0 b.0) b.0 refl))))
+    asked_always (only2 (number_only 4) boots_only make_start_view_change bytes)
+    (made_after G (number_at 4 bytes) (λ a. reads1 (boots_at false) (make_start_view_change a.0) a.1) (λ a.
+    made_after G (boots_at false a.1) (λ b. Ok (make_start_view_change a.0 b.0, b.1)) (λ b. made HasAnItem (make_start_view_change a.0 b.0) b.1 (known_item (make_start_view_change a.0 b.0) b.0 refl))))
 
 do_view_change_asked : AskedFor (Unit {0}) HasAnItem (do_view_change_at true) (do_view_change_at false)
 unfolding do_view_change_at
@@ -311,10 +311,10 @@ recovery_response_asked bytes =
 fields_asked : (k : ℕ) → AskedFor (Unit {0}) HasAnItem (message_at true k) (message_at false k)
 unfolding message_at
 fields_asked k bytes =
-    asked_if (k == 1) (asked_only (request_only bytes)) (asked_if (k == 2) (asked_only (prepare_only bytes)) (asked_if (k == 3) (asked_only (only1 pair_only (λ p. PrepareOk p.0 p.1) bytes))
-    (asked_if (k == 4) (asked_only (only1 pair_only (λ p. Commit p.0 p.1) bytes)) (asked_if (k == 5) (start_view_change_asked bytes)
-    (asked_if (k == 6) (do_view_change_asked bytes) (asked_if (k == 7) (start_view_asked bytes) (asked_if (k == 8) (asked_only (only1 pair_only (λ p. GetState p.0 p.1) bytes))
-    (asked_if (k == 9) (new_state_asked bytes) (asked_if (k == 10) (asked_only (only1 (number_only 4) Recovery bytes)) (asked_if (k == 11) (recovery_response_asked bytes)
+    asked_if (k == 1) (asked_only (request_only bytes)) (asked_if (k == 2) (asked_only (prepare_only bytes)) (asked_if (k == 3) (asked_only (only1 pair_only make_prepare_ok bytes))
+    (asked_if (k == 4) (asked_only (only1 pair_only make_commit bytes)) (asked_if (k == 5) (start_view_change_asked bytes)
+    (asked_if (k == 6) (do_view_change_asked bytes) (asked_if (k == 7) (start_view_asked bytes) (asked_if (k == 8) (asked_only (only1 pair_only make_get_state bytes))
+    (asked_if (k == 9) (new_state_asked bytes) (asked_if (k == 10) (asked_only (only1 (number_only 4) make_recovery bytes)) (asked_if (k == 11) (recovery_response_asked bytes)
     (asked_if (k == 12) (asked_only (answer_only bytes)) (asked_if (k == 13) (asked_only (only1 order_only PayOrder bytes)) (unasked (λ e. absurd cc))))))))))))))
 
 quiet : {A : Type 0} {read : Result A WireFault} → Only read → read ≡ Err NoMemory → ⊥
@@ -340,10 +340,10 @@ bare k bytes none =
     let a = neither (k == 6) ((k == 7) || ((k == 9) || (k == 11))) z.1 in
     let b = neither (k == 7) ((k == 9) || (k == 11)) a.1 in
     let c = neither (k == 9) (k == 11) b.1 in
-    never_if (k == 1) (λ is. quiet (request_only bytes)) (never_if (k == 2) (λ is. quiet (prepare_only bytes)) (never_if (k == 3) (λ is. quiet (only1 pair_only (λ p. PrepareOk p.0 p.1) bytes))
-    (never_if (k == 4) (λ is. quiet (only1 pair_only (λ p. Commit p.0 p.1) bytes)) (never_if (k == 5) (λ is e. differ (k == 5) z.0 is)
-    (never_if (k == 6) (λ is e. differ (k == 6) a.0 is) (never_if (k == 7) (λ is e. differ (k == 7) b.0 is) (never_if (k == 8) (λ is. quiet (only1 pair_only (λ p. GetState p.0 p.1) bytes))
-    (never_if (k == 9) (λ is e. differ (k == 9) c.0 is) (never_if (k == 10) (λ is. quiet (only1 (number_only 4) Recovery bytes)) (never_if (k == 11) (λ is e. differ (k == 11) c.1 is)
+    never_if (k == 1) (λ is. quiet (request_only bytes)) (never_if (k == 2) (λ is. quiet (prepare_only bytes)) (never_if (k == 3) (λ is. quiet (only1 pair_only make_prepare_ok bytes))
+    (never_if (k == 4) (λ is. quiet (only1 pair_only make_commit bytes)) (never_if (k == 5) (λ is e. differ (k == 5) z.0 is)
+    (never_if (k == 6) (λ is e. differ (k == 6) a.0 is) (never_if (k == 7) (λ is e. differ (k == 7) b.0 is) (never_if (k == 8) (λ is. quiet (only1 pair_only make_get_state bytes))
+    (never_if (k == 9) (λ is e. differ (k == 9) c.0 is) (never_if (k == 10) (λ is. quiet (only1 (number_only 4) make_recovery bytes)) (never_if (k == 11) (λ is e. differ (k == 11) c.1 is)
     (never_if (k == 12) (λ is. quiet (answer_only bytes)) (never_if (k == 13) (λ is. quiet (only1 order_only PayOrder bytes)) (λ e. absurd cc)))))))))))))
 
 of_kind : (k : ℕ) (bytes : List ℕ) (b : Bool) → carries_a_list k ≡ b → message_at true k bytes ≡ Err NoMemory → b ≡ true
@@ -420,11 +420,11 @@ never_then {A} {B} (Err d) k h hk e = h (elsewhere {A = B} {B = A} d NoMemory e)
 message_never : (k : ℕ) (bytes : List ℕ) → message_at false k bytes ≡ Err NoMemory → ⊥
 unfolding message_at start_view_change_at do_view_change_at start_view_at new_state_at recovery_response_at
 message_never k bytes =
-    never_if (k == 1) (λ is. quiet (request_only bytes)) (never_if (k == 2) (λ is. quiet (prepare_only bytes)) (never_if (k == 3) (λ is. quiet (only1 pair_only (λ p. PrepareOk p.0 p.1) bytes))
-    (never_if (k == 4) (λ is. quiet (only1 pair_only (λ p. Commit p.0 p.1) bytes)) (never_if (k == 5) (λ is. quiet (only2 (number_only 4) boots_only StartViewChange bytes))
+    never_if (k == 1) (λ is. quiet (request_only bytes)) (never_if (k == 2) (λ is. quiet (prepare_only bytes)) (never_if (k == 3) (λ is. quiet (only1 pair_only make_prepare_ok bytes))
+    (never_if (k == 4) (λ is. quiet (only1 pair_only make_commit bytes)) (never_if (k == 5) (λ is. quiet (only2 (number_only 4) boots_only make_start_view_change bytes))
     (never_if (k == 6) (λ is. quiet (only5 (number_only 4) (number_only 4) (number_only 2) boots_only rows_only make_vote bytes)) (never_if (k == 7) (λ is. quiet (only3 (number_only 4) (number_only 2) rows_only make_start_view bytes))
-    (never_if (k == 8) (λ is. quiet (only1 pair_only (λ p. GetState p.0 p.1) bytes)) (never_if (k == 9) (λ is. quiet (only4 (number_only 4) (number_only 2) (number_only 2) rows_only make_new_state bytes))
-    (never_if (k == 10) (λ is. quiet (only1 (number_only 4) Recovery bytes)) (never_if (k == 11) (λ is. quiet (only4 (number_only 4) (number_only 4) boots_only option_only make_response bytes))
+    (never_if (k == 8) (λ is. quiet (only1 pair_only make_get_state bytes)) (never_if (k == 9) (λ is. quiet (only4 (number_only 4) (number_only 2) (number_only 2) rows_only make_new_state bytes))
+    (never_if (k == 10) (λ is. quiet (only1 (number_only 4) make_recovery bytes)) (never_if (k == 11) (λ is. quiet (only4 (number_only 4) (number_only 4) boots_only option_only make_response bytes))
     (never_if (k == 12) (λ is. quiet (answer_only bytes)) (never_if (k == 13) (λ is. quiet (only1 order_only PayOrder bytes)) (λ e. absurd cc)))))))))))))
 
 envelope_never : (k : ℕ) (bytes : List ℕ) → envelope_at false k bytes ≡ Err NoMemory → ⊥

@@ -14,7 +14,7 @@ sent from clock index to msg = record { stamp = record { actor = from; clock = c
 
 -- COMMIT of view 0, 1 row executed, from site 0 to site 1
 abbrev commit : Stamped
-commit = sent 200 5 0 201 (Commit 0 1)
+commit = sent 200 5 0 201 (Commit (record { view = 0; done = 1 }))
 
 abbrev commit_bytes : List ℕ
 commit_bytes = 0 ∷ 0 ∷ 0 ∷ 24 ∷ 2 ∷ 4 ∷ 0 ∷ 200 ∷ 0 ∷ 0 ∷ 0 ∷ 0 ∷ 0 ∷ 0 ∷ 0 ∷ 5 ∷ 0 ∷ 0 ∷ 0 ∷ 0 ∷ 0 ∷ 201 ∷ 0 ∷ 0 ∷ 0 ∷ 0 ∷ 0 ∷ 1 ∷ []
@@ -29,7 +29,7 @@ commit_is_read = refl
 
 -- REQUEST 1 of USD's node: its pay-in 1 brought 1200 for member 1
 abbrev request : Stamped
-request = sent 102 1 0 200 (Request 1 (Fund 1 1 1 1200))
+request = sent 102 1 0 200 (Request (record { number = 1; cmd = Fund 1 1 1 1200 }))
 
 abbrev request_bytes : List ℕ
 request_bytes = 0 ∷ 0 ∷ 0 ∷ 38 ∷ 2 ∷ 1 ∷ 0 ∷ 102 ∷ 0 ∷ 0 ∷ 0 ∷ 0 ∷ 0 ∷ 0 ∷ 0 ∷ 1 ∷ 0 ∷ 0 ∷ 0 ∷ 0 ∷ 0 ∷ 200 ∷ 0 ∷ 0 ∷ 0 ∷ 1
@@ -60,7 +60,7 @@ order_is_read = refl
 
 -- REPLY of view 0 to request 3 of member 1: refused, as the bank is short
 abbrev answer : Stamped
-answer = sent 200 7 0 1 (Reply 0 3 (No BankShort))
+answer = sent 200 7 0 1 (Reply (record { view = 0; number = 3; reply = No BankShort }))
 
 abbrev answer_bytes : List ℕ
 answer_bytes = 0 ∷ 0 ∷ 0 ∷ 28 ∷ 2 ∷ 12 ∷ 0 ∷ 200 ∷ 0 ∷ 0 ∷ 0 ∷ 0 ∷ 0 ∷ 0 ∷ 0 ∷ 7 ∷ 0 ∷ 0 ∷ 0 ∷ 0 ∷ 0 ∷ 1 ∷ 0 ∷ 0 ∷ 0 ∷ 0 ∷ 0 ∷ 0 ∷ 0 ∷ 3 ∷ 5 ∷ 11 ∷ []
@@ -91,7 +91,7 @@ start_view_is_read = refl
 
 -- STARTVIEWCHANGE of view 2 from site 2 to site 1, which knows of no boot of any of three sites
 abbrev start_view_change : Stamped
-start_view_change = sent 202 2 1 201 (StartViewChange 2 (0 ∷ 0 ∷ 0 ∷ []))
+start_view_change = sent 202 2 1 201 (StartViewChange (record { view = 2; known = 0 ∷ 0 ∷ 0 ∷ [] }))
 
 abbrev start_view_change_bytes : List ℕ
 start_view_change_bytes = 0 ∷ 0 ∷ 0 ∷ 35 ∷ 2 ∷ 5 ∷ 0 ∷ 202 ∷ 0 ∷ 0 ∷ 0 ∷ 0 ∷ 0 ∷ 0 ∷ 0 ∷ 2 ∷ 0 ∷ 0 ∷ 0 ∷ 1 ∷ 0 ∷ 201 ∷ 0 ∷ 0 ∷ 0 ∷ 2

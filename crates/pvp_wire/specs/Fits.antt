@@ -54,19 +54,19 @@ StateFits None = Unit {0}
 StateFits (Some s) = Fits 2 s.done × RowsFit s.rows
 
 abbrev pub MessageFits : BankMsg → Type 0
-MessageFits (Request n cmd) = Fits 4 n × CommandFits cmd
+MessageFits (Request msg) = Fits 4 msg.number × CommandFits msg.cmd
 MessageFits (Prepare msg) = Fits 4 msg.view × Fits 2 msg.place × Fits 2 msg.done × RowFits msg.row
-MessageFits (PrepareOk view place) = Fits 4 view × Fits 2 place
-MessageFits (Commit view k) = Fits 4 view × Fits 2 k
-MessageFits (StartViewChange view known) = Fits 4 view × BootsFit known
+MessageFits (PrepareOk msg) = Fits 4 msg.view × Fits 2 msg.place
+MessageFits (Commit msg) = Fits 4 msg.view × Fits 2 msg.done
+MessageFits (StartViewChange msg) = Fits 4 msg.view × BootsFit msg.known
 MessageFits (DoViewChange msg) =
     Fits 4 msg.view × Fits 4 msg.last_normal × Fits 2 msg.done × BootsFit msg.known × RowsFit msg.rows
 MessageFits (StartView msg) = Fits 4 msg.view × Fits 2 msg.done × RowsFit msg.rows
-MessageFits (GetState view base) = Fits 4 view × Fits 2 base
+MessageFits (GetState msg) = Fits 4 msg.view × Fits 2 msg.base
 MessageFits (NewState msg) = Fits 4 msg.view × Fits 2 msg.base × Fits 2 msg.done × RowsFit msg.rows
-MessageFits (Recovery nonce) = Fits 4 nonce
+MessageFits (Recovery msg) = Fits 4 msg.nonce
 MessageFits (RecoveryResponse msg) = Fits 4 msg.view × Fits 4 msg.nonce × BootsFit msg.known × StateFits msg.state
-MessageFits (Reply view n answer) = Fits 4 view × Fits 4 n × ReplyFits answer
+MessageFits (Reply msg) = Fits 4 msg.view × Fits 4 msg.number × ReplyFits msg.reply
 MessageFits (PayOrder due) = OrderFits due
 
 abbrev pub StampFits : Stamp → Type 0

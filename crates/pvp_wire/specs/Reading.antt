@@ -177,7 +177,7 @@ unfoldable pub request_at : List ℕ → Reads BankMsg
 request_at bytes = do
   number ← number_at 4 bytes
   cmd ← command_at number.1
-  Ok (Request number.0 cmd.0, cmd.1)
+  Ok (Request (record { number = number.0; cmd = cmd.0 }), cmd.1)
 
 unfoldable pub prepare_at : List ℕ → Reads BankMsg
 prepare_at bytes = do
@@ -198,7 +198,7 @@ unfoldable pub start_view_change_at : Bool → List ℕ → Reads BankMsg
 start_view_change_at refused bytes = do
   view ← number_at 4 bytes
   known ← boots_at refused view.1
-  Ok (StartViewChange view.0 known.0, known.1)
+  Ok (StartViewChange (record { view = view.0; known = known.0 }), known.1)
 
 unfoldable pub do_view_change_at : Bool → List ℕ → Reads BankMsg
 do_view_change_at refused bytes = do
@@ -237,21 +237,21 @@ answer_at bytes = do
   view ← number_at 4 bytes
   number ← number_at 4 view.1
   answer ← reply_at number.1
-  Ok (Reply view.0 number.0 answer.0, answer.1)
+  Ok (Reply (record { view = view.0; number = number.0; reply = answer.0 }), answer.1)
 
 -- the fields of a message of this kind; no message has another than 1 to 13
 unfoldable pub message_at : Bool → ℕ → List ℕ → Reads BankMsg
 message_at refused kind bytes =
     if kind == 1 then request_at bytes
     else if kind == 2 then prepare_at bytes
-    else if kind == 3 then (view_and_place_at bytes >>= λ x. Ok (PrepareOk x.0.0 x.0.1, x.1))
-    else if kind == 4 then (view_and_place_at bytes >>= λ x. Ok (Commit x.0.0 x.0.1, x.1))
+    else if kind == 3 then (view_and_place_at bytes >>= λ x. Ok (PrepareOk (record { view = x.0.0; place = x.0.1 }), x.1))
+    else if kind == 4 then (view_and_place_at bytes >>= λ x. Ok (Commit (record { view = x.0.0; done = x.0.1 }), x.1))
     else if kind == 5 then start_view_change_at refused bytes
     else if kind == 6 then do_view_change_at refused bytes
     else if kind == 7 then start_view_at refused bytes
-    else if kind == 8 then (view_and_place_at bytes >>= λ x. Ok (GetState x.0.0 x.0.1, x.1))
+    else if kind == 8 then (view_and_place_at bytes >>= λ x. Ok (GetState (record { view = x.0.0; base = x.0.1 }), x.1))
     else if kind == 9 then new_state_at refused bytes
-    else if kind == 10 then (number_at 4 bytes >>= λ nonce. Ok (Recovery nonce.0, nonce.1))
+    else if kind == 10 then (number_at 4 bytes >>= λ nonce. Ok (Recovery (record { nonce = nonce.0 }), nonce.1))
     else if kind == 11 then recovery_response_at refused bytes
     else if kind == 12 then answer_at bytes
     else if kind == 13 then (order_at bytes >>= λ due. Ok (PayOrder due.0, due.1))

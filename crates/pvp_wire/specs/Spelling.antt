@@ -83,34 +83,34 @@ state (Some s) = 1 ∷ number 2 s.done ++ rows s.rows
 
 -- the kind of a message
 abbrev pub kind : BankMsg → ℕ
-kind (Request n cmd) = 1
+kind (Request msg) = 1
 kind (Prepare msg) = 2
-kind (PrepareOk view place) = 3
-kind (Commit view k) = 4
-kind (StartViewChange view known) = 5
+kind (PrepareOk msg) = 3
+kind (Commit msg) = 4
+kind (StartViewChange msg) = 5
 kind (DoViewChange msg) = 6
 kind (StartView msg) = 7
-kind (GetState view base) = 8
+kind (GetState msg) = 8
 kind (NewState msg) = 9
-kind (Recovery nonce) = 10
+kind (Recovery msg) = 10
 kind (RecoveryResponse msg) = 11
-kind (Reply view n answer) = 12
+kind (Reply msg) = 12
 kind (PayOrder due) = 13
 
 -- the fields of a message
 abbrev pub body : BankMsg → List ℕ
-body (Request n cmd) = number 4 n ++ command cmd
+body (Request msg) = number 4 msg.number ++ command msg.cmd
 body (Prepare msg) = number 4 msg.view ++ number 2 msg.place ++ number 2 msg.done ++ row msg.row
-body (PrepareOk view place) = number 4 view ++ number 2 place
-body (Commit view k) = number 4 view ++ number 2 k
-body (StartViewChange view known) = number 4 view ++ boots known
+body (PrepareOk msg) = number 4 msg.view ++ number 2 msg.place
+body (Commit msg) = number 4 msg.view ++ number 2 msg.done
+body (StartViewChange msg) = number 4 msg.view ++ boots msg.known
 body (DoViewChange msg) = number 4 msg.view ++ number 4 msg.last_normal ++ number 2 msg.done ++ boots msg.known ++ rows msg.rows
 body (StartView msg) = number 4 msg.view ++ number 2 msg.done ++ rows msg.rows
-body (GetState view base) = number 4 view ++ number 2 base
+body (GetState msg) = number 4 msg.view ++ number 2 msg.base
 body (NewState msg) = number 4 msg.view ++ number 2 msg.base ++ number 2 msg.done ++ rows msg.rows
-body (Recovery nonce) = number 4 nonce
+body (Recovery msg) = number 4 msg.nonce
 body (RecoveryResponse msg) = number 4 msg.view ++ number 4 msg.nonce ++ boots msg.known ++ state msg.state
-body (Reply view n answer) = number 4 view ++ number 4 n ++ reply answer
+body (Reply msg) = number 4 msg.view ++ number 4 msg.number ++ reply msg.reply
 body (PayOrder due) = order due
 
 abbrev pub stamp : Stamp → List ℕ

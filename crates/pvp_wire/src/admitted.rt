@@ -31,13 +31,13 @@ fn has_clients(msg: &Message) -> bool
         MsgOf::StartView(msg) => are_of_clients(&msg.rows),
         MsgOf::NewState(msg) => are_of_clients(&msg.rows),
         MsgOf::RecoveryResponse(msg) => state_has_clients(&msg.state),
-        MsgOf::Request { .. }
-        | MsgOf::PrepareOk { .. }
-        | MsgOf::Commit { .. }
-        | MsgOf::StartViewChange { .. }
-        | MsgOf::GetState { .. }
-        | MsgOf::Recovery { .. }
-        | MsgOf::Reply { .. }
+        MsgOf::Request(_)
+        | MsgOf::PrepareOk(_)
+        | MsgOf::Commit(_)
+        | MsgOf::StartViewChange(_)
+        | MsgOf::GetState(_)
+        | MsgOf::Recovery(_)
+        | MsgOf::Reply(_)
         | MsgOf::PayOrder(_) => true,
     }
 }
@@ -47,7 +47,7 @@ fn has_site_count(msg: &Message) -> bool
     ensures { result ≡ has_site_count (known_in msg.now) }
 {
     match msg {
-        MsgOf::StartViewChange { known, .. } => is_site_count(known.len()),
+        MsgOf::StartViewChange(msg) => is_site_count(msg.known.len()),
         MsgOf::DoViewChange(msg) => is_site_count(msg.known.len()),
         MsgOf::RecoveryResponse(msg) => is_site_count(msg.known.len()),
         _ => true,

@@ -7,7 +7,10 @@ use crate::fields::{command_at, order_at, reply_at, row_at, u16_at, u32_at, view
 use crate::rows::{option_at, rows_at};
 use crate::stamped::Message;
 use std::alloc::Global;
-use vr_types::{DoViewChangeOf, MsgOf, NewStateOf, PrepareOf, RecoveryResponseOf, StartViewOf};
+use vr_types::{
+    Commit, DoViewChangeOf, GetState, MsgOf, NewStateOf, PrepareOf, PrepareOk, Recovery,
+    RecoveryResponseOf, ReplyOf, RequestOf, StartViewChange, StartViewOf,
+};
 
 /// The fields of a message of a kind.
 #[tactic(auto, unfolding(crate::specs::Reading::message_at))]
@@ -19,23 +22,23 @@ pub fn message_at(alloc: Global, kind: u8, bytes: &[u8]) -> Result<(Message, &[u
         2 => prepare_at(bytes),
         3 => {
             let ((view, place), rest) = view_and_place_at(bytes)?;
-            Ok((MsgOf::PrepareOk { view, place }, rest))
+            Ok((MsgOf::PrepareOk(PrepareOk { view, place }), rest))
         }
         4 => {
             let ((view, done), rest) = view_and_place_at(bytes)?;
-            Ok((MsgOf::Commit { view, done }, rest))
+            Ok((MsgOf::Commit(Commit { view, done }), rest))
         }
         5 => start_view_change_at(alloc, bytes),
         6 => do_view_change_at(alloc, bytes),
         7 => start_view_at(alloc, bytes),
         8 => {
             let ((view, base), rest) = view_and_place_at(bytes)?;
-            Ok((MsgOf::GetState { view, base }, rest))
+            Ok((MsgOf::GetState(GetState { view, base }), rest))
         }
         9 => new_state_at(alloc, bytes),
         10 => {
             let (nonce, rest) = u32_at(bytes)?;
-            Ok((MsgOf::Recovery { nonce }, rest))
+            Ok((MsgOf::Recovery(Recovery { nonce }), rest))
         }
         11 => recovery_response_at(alloc, bytes),
         12 => answer_at(bytes),
@@ -53,7 +56,8 @@ fn request_at(bytes: &[u8]) -> Result<(Message, &[u8]), WireFault>
 {
     let (number, rest) = u32_at(bytes)?;
     let (cmd, rest) = command_at(rest)?;
-    Ok((MsgOf::Request { number, cmd }, rest))
+    let msg = RequestOf { number, cmd };
+    Ok((MsgOf::Request(msg), rest))
 }
 
 #[tactic(auto, unfolding(crate::specs::Reading::prepare_at))]
@@ -79,7 +83,8 @@ fn start_view_change_at(alloc: Global, bytes: &[u8]) -> Result<(Message, &[u8]),
 {
     let (view, rest) = u32_at(bytes)?;
     let (known, rest) = boots_at(alloc, rest)?;
-    Ok((MsgOf::StartViewChange { view, known }, rest))
+    let msg = StartViewChange { view, known };
+    Ok((MsgOf::StartViewChange(msg), rest))
 }
 
 #[tactic(auto, unfolding(crate::specs::Reading::do_view_change_at))]
@@ -153,12 +158,10 @@ fn answer_at(bytes: &[u8]) -> Result<(Message, &[u8]), WireFault>
     let (view, rest) = u32_at(bytes)?;
     let (number, rest) = u32_at(rest)?;
     let (reply, rest) = reply_at(rest)?;
-    Ok((
-        MsgOf::Reply {
-            view,
-            number,
-            reply,
-        },
-        rest,
-    ))
+    let msg = ReplyOf {
+        view,
+        number,
+        reply,
+    };
+    Ok((MsgOf::Reply(msg), rest))
 }

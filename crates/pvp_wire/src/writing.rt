@@ -20,7 +20,7 @@ use pvp_types::{Cmd, PayOrder, Reason, Reply};
 use std::io::{self, Write};
 use vr_types::{
     DoViewChangeOf, Known, MAX_ROWS, MsgOf, NewStateOf, PAGE_ROWS, PrepareOf, RecoveryResponseOf,
-    RowOf, RowsOf, StartViewOf, StateOf,
+    ReplyOf, RequestOf, RowOf, RowsOf, StartViewChange, StartViewOf, StateOf,
 };
 
 /// Bytes on the stack. What of a message stands in front of its rows fits.
@@ -493,18 +493,18 @@ fn kind_of(msg: &Message) -> u8
     ensures { result ≡ spell.kind msg.now }
 {
     match msg {
-        MsgOf::Request { .. } => 1,
+        MsgOf::Request(_) => 1,
         MsgOf::Prepare(_) => 2,
-        MsgOf::PrepareOk { .. } => 3,
-        MsgOf::Commit { .. } => 4,
-        MsgOf::StartViewChange { .. } => 5,
+        MsgOf::PrepareOk(_) => 3,
+        MsgOf::Commit(_) => 4,
+        MsgOf::StartViewChange(_) => 5,
         MsgOf::DoViewChange(_) => 6,
         MsgOf::StartView(_) => 7,
-        MsgOf::GetState { .. } => 8,
+        MsgOf::GetState(_) => 8,
         MsgOf::NewState(_) => 9,
-        MsgOf::Recovery { .. } => 10,
+        MsgOf::Recovery(_) => 10,
         MsgOf::RecoveryResponse(_) => 11,
-        MsgOf::Reply { .. } => 12,
+        MsgOf::Reply(_) => 12,
         MsgOf::PayOrder(_) => 13,
     }
 }
@@ -527,33 +527,29 @@ fn push_front(out: &mut Piece, msg: &Message)
     ensures fits { piece.LastFits (piece.last_rows msg.now) → MessageFits msg.now }
 {
     match msg {
-        MsgOf::Request { number, cmd } => push_request(out, *number, *cmd),
+        MsgOf::Request(msg) => push_request(out, *msg),
         MsgOf::Prepare(msg) => push_prepare(out, msg),
-        MsgOf::PrepareOk { view, place } => push_view_and_place(out, *view, *place),
-        MsgOf::Commit { view, done } => push_view_and_place(out, *view, *done),
-        MsgOf::StartViewChange { view, known } => push_start_view_change(out, *view, known),
+        MsgOf::PrepareOk(msg) => push_view_and_place(out, msg.view, msg.place),
+        MsgOf::Commit(msg) => push_view_and_place(out, msg.view, msg.done),
+        MsgOf::StartViewChange(msg) => push_start_view_change(out, msg),
         MsgOf::DoViewChange(msg) => push_do_view_change(out, msg),
         MsgOf::StartView(msg) => push_start_view(out, msg),
-        MsgOf::GetState { view, base } => push_view_and_place(out, *view, *base),
+        MsgOf::GetState(msg) => push_view_and_place(out, msg.view, msg.base),
         MsgOf::NewState(msg) => push_new_state(out, msg),
-        MsgOf::Recovery { nonce } => push_u32(out, *nonce),
+        MsgOf::Recovery(msg) => push_u32(out, msg.nonce),
         MsgOf::RecoveryResponse(msg) => push_regained(out, msg),
-        MsgOf::Reply {
-            view,
-            number,
-            reply,
-        } => push_answer(out, *view, *number, *reply),
+        MsgOf::Reply(msg) => push_answer(out, *msg),
         MsgOf::PayOrder(order) => push_order(out, *order),
     }
 }
 
-fn push_request(out: &mut Piece, number: u32, cmd: Cmd)
+fn push_request(out: &mut Piece, msg: RequestOf<Cmd>)
     requires { array_vec_len out.old + 29 ≤ piece.room }
-    ensures bytes { out.new.items ≡ out.old.items ++ spell.body (message.Request number cmd) }
-    ensures fits { CommandFits cmd }
+    ensures bytes { out.new.items ≡ out.old.items ++ spell.body (message.Request msg) }
+    ensures fits { MessageFits (message.Request msg) }
 {
-    push_u32(out, number);
-    push_command(out, cmd);
+    push_u32(out, msg.number);
+    push_command(out, msg.cmd);
 }
 
 fn push_prepare(out: &mut Piece, msg: &PrepareOf<Cmd>)
@@ -566,14 +562,14 @@ fn push_prepare(out: &mut Piece, msg: &PrepareOf<Cmd>)
     push_row(out, msg.row);
 }
 
-fn push_start_view_change(out: &mut Piece, view: u32, known: &Known)
-    requires count { spell.is_site_count (length known.now) ≡ true }
+fn push_start_view_change(out: &mut Piece, msg: &StartViewChange)
+    requires count { spell.is_site_count (length msg.now.known) ≡ true }
     requires room { array_vec_len out.old + 33 ≤ piece.room }
-    ensures bytes { out.new.items ≡ out.old.items ++ spell.body (message.StartViewChange view known.now) }
-    ensures fits { BootsFit known.now }
+    ensures bytes { out.new.items ≡ out.old.items ++ spell.body (message.StartViewChange msg.now) }
+    ensures fits { MessageFits (message.StartViewChange msg.now) }
 {
-    push_u32(out, view);
-    push_boots(out, known);
+    push_u32(out, msg.view);
+    push_boots(out, &msg.known);
 }
 
 fn push_do_view_change(out: &mut Piece, msg: &DoViewChangeOf<Cmd>)
@@ -622,12 +618,12 @@ fn push_regained(out: &mut Piece, msg: &RecoveryResponseOf<Cmd>)
 }
 
 /// What a client is answered.
-fn push_answer(out: &mut Piece, view: u32, number: u32, reply: Reply)
+fn push_answer(out: &mut Piece, msg: ReplyOf<Reply>)
     requires { array_vec_len out.old + 13 ≤ piece.room }
-    ensures bytes { out.new.items ≡ out.old.items ++ spell.body (message.Reply view number reply) }
-    ensures fits { ReplyFits reply }
+    ensures bytes { out.new.items ≡ out.old.items ++ spell.body (message.Reply msg) }
+    ensures fits { MessageFits (message.Reply msg) }
 {
-    push_u32(out, view);
-    push_u32(out, number);
-    push_reply(out, reply);
+    push_u32(out, msg.view);
+    push_u32(out, msg.number);
+    push_reply(out, msg.reply);
 }

@@ -40,11 +40,11 @@ one-each : (f me number : ℕ) (cmd : Cmd) → length (to_sites f me number cmd)
 one-each f me number cmd = subst (λ k. k ≤ 2 * f + 1) (sym (length-map-range_with_len (λ j. letter j) 0 (2 * f + 1))) (omega arith)
   where
     letter : ℕ → Envelope
-    letter j = record { from = me; to = actor_of j; msg = Request number cmd }
+    letter j = record { from = me; to = actor_of j; msg = Request (record { number = number; cmd = cmd }) }
 
 all-fixed : (f me number : ℕ) (cmd : Cmd) → All (λ (e : Envelope). has_fixed_size e.msg ≡ true) (to_sites f me number cmd)
 all-fixed f me number cmd =
-    All-map (λ (e : Envelope). has_fixed_size e.msg ≡ true) (λ j. record { from = me; to = actor_of j; msg = Request number cmd }) (sites f) (λ k d low. refl)
+    All-map (λ (e : Envelope). has_fixed_size e.msg ≡ true) (λ j. record { from = me; to = actor_of j; msg = Request (record { number = number; cmd = cmd }) }) (sites f) (λ k d low. refl)
 
 -- these are at most one a site
 pub requests-few : (f me : ℕ) (sent : List Envelope) → AreRequests f me sent → length sent ≤ 2 * f + 1
@@ -93,7 +93,7 @@ module _ (setup : Setup) (f c : ℕ) (x : Node) where
       (after_checks ((int_lt (account x) (pos o.amt), Short) ∷ []) _ (noted (with_pay_out x o) (Paid c o.out))))))
 
   at_message : (msg : MsgOf Cmd Answer PaymentOrder) → AreRequests f (node_of c) (on_message setup f c x msg).sent
-  at_message (Reply view number answer) = either_way ((number == x.answered + 1) && nat_lt x.answered (length x.notices)) _ _ (out (record x { answered = x.answered + 1 })) (nothing f (node_of c))
+  at_message (Reply msg) = either_way ((msg.number == x.answered + 1) && nat_lt x.answered (length x.notices)) _ _ (out (record x { answered = x.answered + 1 })) (nothing f (node_of c))
   at_message (PayOrder o) = at_order o
   at_message _ = nothing f (node_of c)
 
@@ -128,7 +128,7 @@ module _ (f me : ℕ) (x : Client) where
       by_reply number answer (Some cmd) = by_same (number == x.number) _
 
       by : (msg : MsgOf Cmd Answer PaymentOrder) → AreRequests f me (rules.on_message f me x msg).sent
-      by (Reply view number answer) = by_reply number answer x.waiting
+      by (Reply msg) = by_reply msg.number msg.reply x.waiting
       by _ = nothing f me
   client-requests client.Beats = by x.waiting
     where

@@ -14,6 +14,10 @@ use Rattle.vr_types.specs.declared.message.MsgOf.TheVariants.{Request, Prepare, 
 use Rattle.vr_types.specs.declared.message.PrepareOf.{PrepareOf}
 use Rattle.vr_types.specs.declared.message.StartViewOf.{StartViewOf}
 use Rattle.vr_types.specs.declared.message.NewStateOf.{NewStateOf}
+use Rattle.vr_types.specs.declared.message.Commit.{Commit as CommitMsg}
+use Rattle.vr_types.specs.declared.message.GetState.{GetState as GetStateMsg}
+use Rattle.vr_types.specs.declared.message.PrepareOk.{PrepareOk as PrepareOkMsg}
+use Rattle.vr_types.specs.declared.message.Recovery.{Recovery as RecoveryMsg}
 use Rattle.vr_types.specs.declared.row.RowOf.{RowOf}
 use Rattle.vr_types.specs.Cell.{nonce_of}
 use Rattle.vr_types.specs.Group.{primary}
@@ -69,18 +73,18 @@ module _ (R O : Type 0) {C : Type 0} (choose : Choice C) (f me : ℕ) (x : Site 
       (quiet_if (is_recovering x.status) _ _ silent
       (quiet_if (nat_lt msg.view x.view) _ _ silent (quiet_if (nat_lt x.view msg.view || is_change x.status) _ _ tt tt)))
 
-  commit_quiet : (from w k : ℕ) → IsQuiet (on_commit {R = R} {O = O} f me x from w k)
+  commit_quiet : (from : ℕ) (msg : CommitMsg) → IsQuiet (on_commit {R = R} {O = O} f me x from msg)
   unfolding on_commit
-  commit_quiet from w k =
-      quiet_if (not (primary f w == from)) _ _ silent
+  commit_quiet from msg =
+      quiet_if (not (primary f msg.view == from)) _ _ silent
       (quiet_if (is_recovering x.status) _ _ silent
-      (quiet_if (nat_lt w x.view) _ _ silent (quiet_if (nat_lt x.view w || is_change x.status) _ _ tt tt)))
+      (quiet_if (nat_lt msg.view x.view) _ _ silent (quiet_if (nat_lt x.view msg.view || is_change x.status) _ _ tt tt)))
 
-  prepare_ok_quiet : (from w place : ℕ) → IsQuiet (on_prepare_ok {R = R} {O = O} choose f me x from w place)
+  prepare_ok_quiet : (from : ℕ) (msg : PrepareOkMsg) → IsQuiet (on_prepare_ok {R = R} {O = O} choose f me x from msg)
   unfolding on_prepare_ok
-  prepare_ok_quiet from w place =
+  prepare_ok_quiet from msg =
       quiet_if (not (is_normal x.status)) _ _ silent
-      (quiet_if (not (w == x.view)) _ _ silent (quiet_if (not (primary f x.view == me)) _ _ silent tt))
+      (quiet_if (not (msg.view == x.view)) _ _ silent (quiet_if (not (primary f x.view == me)) _ _ silent tt))
 
   beat_quiet : IsQuiet (beats_normal {R = R} {O = O} f me x)
   unfolding beats_normal
@@ -127,12 +131,12 @@ module _ (R O : Type 0) {C : Type 0} (choose : Choice C) (f me : ℕ) (x : Site 
   unfolding beats_in_change
   beat_in_change_quiet = tt
 
-  get_state_quiet : (from w base : ℕ) → IsQuiet (on_get_state {R = R} {O = O} f me x from w base)
+  get_state_quiet : (from : ℕ) (msg : GetStateMsg) → IsQuiet (on_get_state {R = R} {O = O} f me x from msg)
   unfolding on_get_state
-  get_state_quiet from w base =
+  get_state_quiet from msg =
       quiet_if (not (is_normal x.status)) _ _ silent
-      (quiet_if (not (w == x.view)) _ _ silent
-      (quiet_if (not (primary f x.view == me)) _ _ silent (quiet_if (nat_lt (length x.log) base) _ _ silent tt)))
+      (quiet_if (not (msg.view == x.view)) _ _ silent
+      (quiet_if (not (primary f x.view == me)) _ _ silent (quiet_if (nat_lt (length x.log) msg.base) _ _ silent tt)))
 
   new_state_quiet : (from : ℕ) (msg : NewStateOf C) → IsQuiet (on_new_state {R = R} {O = O} choose f me x from msg)
   unfolding on_new_state
@@ -145,10 +149,10 @@ module _ (R O : Type 0) {C : Type 0} (choose : Choice C) (f me : ℕ) (x : Site 
       (quiet_if (nat_le msg.base (length x.log) && nat_lt (length x.log) (msg.base + length msg.rows)) _ _ (taking_quiet msg.view msg.done (take msg.base x.log ++ msg.rows)) silent)
       (quiet_if (nat_le msg.base x.done && nat_le x.done (msg.base + length msg.rows)) _ _ (taking_quiet msg.view msg.done (take msg.base x.log ++ msg.rows)) silent)))))
 
-  recovery_quiet : (from nonce : ℕ) → IsQuiet (on_recovery {R = R} {O = O} f me x from nonce)
+  recovery_quiet : (from : ℕ) (msg : RecoveryMsg) → IsQuiet (on_recovery {R = R} {O = O} f me x from msg)
   unfolding on_recovery
-  recovery_quiet from nonce =
-      quiet_if (not (is_normal x.status)) _ _ silent (quiet_if (nat_lt nonce (boot_of x.known from)) _ _ silent tt)
+  recovery_quiet from msg =
+      quiet_if (not (is_normal x.status)) _ _ silent (quiet_if (nat_lt msg.nonce (boot_of x.known from)) _ _ silent tt)
 
   recovery_response_quiet : (nonce : ℕ) (response : Response C) → IsQuiet (on_recovery_response {R = R} {O = O} choose x nonce response)
   unfolding on_recovery_response
@@ -171,18 +175,18 @@ module _ (R O : Type 0) {C : Type 0} (choose : Choice C) (f me : ℕ) (x : Site 
   restart_quiet = tt
 
   message_quiet : (actor : ℕ) (msg : MsgOf C R O) → IsQuiet (on_message choose f me x actor msg)
-  message_quiet actor (Request number cmd) = request_quiet _
+  message_quiet actor (Request msg) = request_quiet _
   message_quiet actor (Prepare msg) = prepare_quiet _ msg
-  message_quiet actor (PrepareOk w place) = prepare_ok_quiet _ w place
-  message_quiet actor (Commit w k) = commit_quiet _ w k
-  message_quiet actor (StartViewChange w known) = start_view_change_quiet w _
+  message_quiet actor (PrepareOk msg) = prepare_ok_quiet _ msg
+  message_quiet actor (Commit msg) = commit_quiet _ msg
+  message_quiet actor (StartViewChange msg) = start_view_change_quiet msg.view _
   message_quiet actor (DoViewChange msg) = do_view_change_quiet msg.view _
   message_quiet actor (StartView msg) = start_view_quiet _ msg
-  message_quiet actor (GetState w base) = get_state_quiet _ w base
+  message_quiet actor (GetState msg) = get_state_quiet _ msg
   message_quiet actor (NewState msg) = new_state_quiet _ msg
-  message_quiet actor (Recovery nonce) = recovery_quiet _ nonce
+  message_quiet actor (Recovery msg) = recovery_quiet _ msg
   message_quiet actor (RecoveryResponse msg) = recovery_response_quiet msg.nonce _
-  message_quiet actor (Reply view number reply) = tt
+  message_quiet actor (Reply msg) = tt
   message_quiet actor (PayOrder order) = tt
 
   beats_quiet : (status : Status) → IsQuiet {R = R} {O = O} (on_beat f me x status)

@@ -96,10 +96,10 @@ impl Client {
     pub fn take(&mut self, alloc: Global, envelope: Envelope<Book>) -> Vec<Envelope<Book>>
         ensures { IsStep self.old self.new (step_of self.old (Takes envelope)) result.items }
     {
-        if let MsgOf::Reply { number, reply, .. } = envelope.msg {
-            if self.waiting.is_some() && number == self.number {
+        if let MsgOf::Reply(msg) = envelope.msg {
+            if self.waiting.is_some() && msg.number == self.number {
                 self.waiting = None;
-                self.answer = Some(reply);
+                self.answer = Some(msg.reply);
             }
         }
         Vec::new(alloc)

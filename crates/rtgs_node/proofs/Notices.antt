@@ -19,7 +19,7 @@ on_err (Err e) p = p
 
 sent-some : (f client number : ℕ) (cmd : Cmd) → nat_lt 0 (length (to_sites f client number cmd)) ≡ true
 sent-some f client number cmd =
-    let all : length (to_sites f client number cmd) ≡ 2 * f + 1 = length-map (sites f) (λ (j : ℕ). record { from = client; to = actor_of j; msg = Request number cmd }) ∙ length-range_with_len 0 (2 * f + 1) in
+    let all : length (to_sites f client number cmd) ≡ 2 * f + 1 = length-map (sites f) (λ (j : ℕ). record { from = client; to = actor_of j; msg = Request (record { number = number; cmd = cmd }) }) ∙ length-range_with_len 0 (2 * f + 1) in
     lt-ltb 0 (length (to_sites f client number cmd)) (omega arith)
 
 -- a notice that is not answered goes out

@@ -114,7 +114,7 @@ module _ (setup : Setup) (f c : ℕ) (x : Node) (are : AreMembers setup x) where
       if-are ((number == x.answered + 1) && nat_lt x.answered (length x.notices)) _ _ (λ _. record { pay_ins = are.pay_ins; pay_outs = are.pay_outs }) (λ _. are)
 
   message-are : (msg : MsgOf Cmd Answer PaymentOrder) → AreMembers setup (on_message setup f c x msg).node
-  message-are (Reply view number answer) = reply-are number
+  message-are (Reply msg) = reply-are msg.number
   message-are (PayOrder o) = order-are o
   message-are _ = are
 

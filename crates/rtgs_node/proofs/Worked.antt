@@ -28,7 +28,7 @@ order : ℕ → ℕ → PaymentOrder
 order out amt = record { ccy = 1; out = out; member = 1; amt = amt }
 
 usd_node : node_sees opening_node (
-    PaysIn 1 1200 ∷ PaysIn 1 8801 ∷ PaysIn 1 300 ∷ to_usd (Reply 0 1 Done) ∷ to_usd (Reply 0 1 Done)
+    PaysIn 1 1200 ∷ PaysIn 1 8801 ∷ PaysIn 1 300 ∷ to_usd (Reply (record { view = 0; number = 1; reply = Done })) ∷ to_usd (Reply (record { view = 0; number = 1; reply = Done }))
     ∷ to_usd (PayOrder (order 1 200)) ∷ to_usd (PayOrder (order 1 200)) ∷ to_usd (PayOrder (order 2 200))
     ∷ to_usd (PayOrder (order 3 1101)) ∷ Beats ∷ [])
     ≡ (None, 3, pos 1200, pos 8800) ∷ (Some Short, 0, pos 1200, pos 8800) ∷ (None, 0, pos 1500, pos 8500)
@@ -43,7 +43,7 @@ usd_node = refl
 usd_closed : node_sees opening_node (
     PaysIn 1 1200 ∷ to_usd (PayOrder (order 1 200)) ∷ Closes 3 ∷ Closes 1 ∷ Closes 1 ∷ PaysIn 1 0 ∷ PaysIn 1 5
     ∷ to_usd (PayOrder (order 2 9999)) ∷ to_usd (PayOrder (order 2 9999)) ∷ to_usd (PayOrder (order 1 200))
-    ∷ to_usd (Reply 0 1 Done) ∷ [])
+    ∷ to_usd (Reply (record { view = 0; number = 1; reply = Done })) ∷ [])
     ≡ (None, 3, pos 1200, pos 8800) ∷ (None, 0, pos 1000, pos 9000) ∷ (Some UnknownMember, 0, pos 1000, pos 9000)
     ∷ (None, 0, pos 1000, pos 9000) ∷ (Some Closed, 0, pos 1000, pos 9000)
     ∷ (Some BadAmount, 0, pos 1000, pos 9000) ∷ (Some Closed, 0, pos 1000, pos 9000)

@@ -26,7 +26,7 @@ Envelope = EnvelopeOf Cmd Answer PaymentOrder
 -- a client's REQUEST, to every site
 abbrev pub to_sites : ℕ → ℕ → ℕ → Cmd → List Envelope
 to_sites f client number cmd =
-    map (λ j. record { from = client; to = actor_of j; msg = Request number cmd }) (sites f)
+    map (λ j. record { from = client; to = actor_of j; msg = Request (record { number = number; cmd = cmd }) }) (sites f)
 
 pub record Node : Type 0 where
   pub pay_ins : List PayIn  -- numbered from 1
@@ -182,7 +182,7 @@ module _ (setup : Setup) (f c : ℕ) (x : Node) where
       else does x []
 
   abbrev pub on_message : MsgOf Cmd Answer PaymentOrder → NodeStep
-  on_message (Reply view number answer) = on_reply number
+  on_message (Reply msg) = on_reply msg.number
   on_message (PayOrder order) = on_order order
   on_message _ = refuses x NotMine
 

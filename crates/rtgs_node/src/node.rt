@@ -156,7 +156,7 @@ impl Node {
             return Err(NodeFault::NotMine);
         }
         match envelope.msg {
-            MsgOf::Reply { number, .. } => self.on_reply(number),
+            MsgOf::Reply(msg) => self.on_reply(msg.number),
             MsgOf::PayOrder(order) => self.on_order(order),
             _ => Err(NodeFault::NotMine),
         }

@@ -5,7 +5,7 @@ ghost use Rattle.rtgs_node.specs.Node.{to_sites};
 use pvp_book::Book;
 use pvp_types::Cmd;
 use std::alloc::{AllocError, Global};
-use vr_types::{Envelope, EnvelopeOf, FIRST_SITE, MsgOf};
+use vr_types::{Envelope, EnvelopeOf, FIRST_SITE, MsgOf, RequestOf};
 
 /// A client's REQUEST of this number to each of 2f+1 sites, in ascending order (section 4 of 'Viewstamped
 /// Replication Revisited', MIT-CSAIL-TR-2012-021, sends it to the primary alone at first). `Err` where memory is
@@ -24,7 +24,7 @@ pub fn to_sites(
         .map(|site| EnvelopeOf {
             from: client,
             to: FIRST_SITE + site,
-            msg: MsgOf::Request { number, cmd },
+            msg: MsgOf::Request(RequestOf { number, cmd }),
         })
         .collect(alloc)
 }

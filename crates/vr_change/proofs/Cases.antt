@@ -8,6 +8,7 @@ use Rattle.vr_types.specs.declared.message.EnvelopeOf.{EnvelopeOf}
 use Rattle.vr_types.specs.declared.message.MsgOf.TheVariants.{PrepareOk, StartViewChange, NewState}
 use Rattle.vr_types.specs.declared.message.StartViewOf.{StartViewOf}
 use Rattle.vr_types.specs.declared.message.NewStateOf.{NewStateOf}
+use Rattle.vr_types.specs.declared.message.GetState.{GetState as GetStateMsg}
 use Rattle.vr_types.specs.declared.row.RowOf.{RowOf}
 use Rattle.vr_types.specs.Choice.{Choice}
 use Rattle.vr_types.specs.Group.{primary, mail, to_all}
@@ -20,40 +21,40 @@ use Rattle.vr_change.proofs.Sites.{normal_with}
 
 module _ {C R O : Type 0} (f me : ℕ) (x : Site C) where
   pub on_timer-is : is_recovering x.status ≡ false
-      → ◌≡◌ {A = Step C R O} (on_timer f me x) (does (record x { status = Change; view = x.view + 1; collected = nothing }) (to_all f me (StartViewChange (x.view + 1) x.known)))
+      → ◌≡◌ {A = Step C R O} (on_timer f me x) (does (record x { status = Change; view = x.view + 1; collected = nothing }) (to_all f me (StartViewChange (record { view = x.view + 1; known = x.known }))))
   unfolding on_timer
   on_timer-is e = rw e
 
-  pub beats_in_change-is : (more : List (EnvelopeOf C R O)) → (if x.collected.voted && not (primary f x.view == me) then sends_vote f me x else []) ≡ more → ◌≡◌ {A = Step C R O} (beats_in_change f me x) (does x (to_all f me (StartViewChange x.view x.known) ++ more))
+  pub beats_in_change-is : (more : List (EnvelopeOf C R O)) → (if x.collected.voted && not (primary f x.view == me) then sends_vote f me x else []) ≡ more → ◌≡◌ {A = Step C R O} (beats_in_change f me x) (does x (to_all f me (StartViewChange (record { view = x.view; known = x.known })) ++ more))
   unfolding beats_in_change
-  beats_in_change-is more e = ap (λ l. let s : Step C R O = does x (to_all f me (StartViewChange x.view x.known) ++ l) in s) e
+  beats_in_change-is more e = ap (λ l. let s : Step C R O = does x (to_all f me (StartViewChange (record { view = x.view; known = x.known })) ++ l) in s) e
 
-  pub beats_in_change-votes : x.collected.voted ≡ true → (primary f x.view == me) ≡ false → ◌≡◌ {A = Step C R O} (beats_in_change f me x) (does x (to_all f me (StartViewChange x.view x.known) ++ sends_vote f me x))
+  pub beats_in_change-votes : x.collected.voted ≡ true → (primary f x.view == me) ≡ false → ◌≡◌ {A = Step C R O} (beats_in_change f me x) (does x (to_all f me (StartViewChange (record { view = x.view; known = x.known })) ++ sends_vote f me x))
   beats_in_change-votes v p = beats_in_change-is (sends_vote f me x) (ap (λ b. if b && not (primary f x.view == me) then sends_vote f me x else []) v ∙ ap (λ b. if not b then sends_vote f me x else []) p)
 
-  pub beats_in_change-silent : (x.collected.voted && not (primary f x.view == me)) ≡ false → ◌≡◌ {A = Step C R O} (beats_in_change f me x) (does x (to_all f me (StartViewChange x.view x.known)))
-  beats_in_change-silent v = beats_in_change-is [] (ap (λ b. if b then sends_vote f me x else []) v) ∙ ap (λ l. let s : Step C R O = does x l in s) (append-nil (to_all f me (StartViewChange x.view x.known)))
+  pub beats_in_change-silent : (x.collected.voted && not (primary f x.view == me)) ≡ false → ◌≡◌ {A = Step C R O} (beats_in_change f me x) (does x (to_all f me (StartViewChange (record { view = x.view; known = x.known }))))
+  beats_in_change-silent v = beats_in_change-is [] (ap (λ b. if b then sends_vote f me x else []) v) ∙ ap (λ l. let s : Step C R O = does x l in s) (append-nil (to_all f me (StartViewChange (record { view = x.view; known = x.known }))))
 
-  pub on_get_state-status : (from w base : ℕ) → is_normal x.status ≡ false → ◌≡◌ {A = Step C R O} (on_get_state f me x from w base) (drops x Status)
+  pub on_get_state-status : (from : ℕ) (msg : GetStateMsg) → is_normal x.status ≡ false → ◌≡◌ {A = Step C R O} (on_get_state f me x from msg) (drops x Status)
   unfolding on_get_state
-  on_get_state-status from w base e = rw e
+  on_get_state-status from msg e = rw e
 
-  pub on_get_state-view : (from w base : ℕ) → is_normal x.status ≡ true → w ≢ x.view → ◌≡◌ {A = Step C R O} (on_get_state f me x from w base) (drops x View)
+  pub on_get_state-view : (from : ℕ) (msg : GetStateMsg) → is_normal x.status ≡ true → msg.view ≢ x.view → ◌≡◌ {A = Step C R O} (on_get_state f me x from msg) (drops x View)
   unfolding on_get_state
-  on_get_state-view from w base e other = rw (e, ne_eqb _ _ other)
+  on_get_state-view from msg e other = rw (e, ne_eqb _ _ other)
 
-  pub on_get_state-backup : (from w base : ℕ) → is_normal x.status ≡ true → w ≡ x.view → (primary f x.view == me) ≡ false → ◌≡◌ {A = Step C R O} (on_get_state f me x from w base) (drops x NotPrimary)
+  pub on_get_state-backup : (from : ℕ) (msg : GetStateMsg) → is_normal x.status ≡ true → msg.view ≡ x.view → (primary f x.view == me) ≡ false → ◌≡◌ {A = Step C R O} (on_get_state f me x from msg) (drops x NotPrimary)
   unfolding on_get_state
-  on_get_state-backup from w base e same p = rw (e, eq-eqb _ _ same, p)
+  on_get_state-backup from msg e same p = rw (e, eq-eqb _ _ same, p)
 
-  pub on_get_state-stale : (from w base : ℕ) → is_normal x.status ≡ true → w ≡ x.view → (primary f x.view == me) ≡ true → length x.log < base → ◌≡◌ {A = Step C R O} (on_get_state f me x from w base) (drops x Stale)
+  pub on_get_state-stale : (from : ℕ) (msg : GetStateMsg) → is_normal x.status ≡ true → msg.view ≡ x.view → (primary f x.view == me) ≡ true → length x.log < msg.base → ◌≡◌ {A = Step C R O} (on_get_state f me x from msg) (drops x Stale)
   unfolding on_get_state
-  on_get_state-stale from w base e same p short = rw (e, eq-eqb _ _ same, p, lt-ltb _ _ short)
+  on_get_state-stale from msg e same p short = rw (e, eq-eqb _ _ same, p, lt-ltb _ _ short)
 
-  pub on_get_state-mine : (from w base : ℕ) → is_normal x.status ≡ true → w ≡ x.view → (primary f x.view == me) ≡ true → base ≤ length x.log
-      → ◌≡◌ {A = Step C R O} (on_get_state f me x from w base) (does x (mail me from (NewState (record { view = x.view; base = base; done = x.done; rows = drop base x.log })) ∷ []))
+  pub on_get_state-mine : (from : ℕ) (msg : GetStateMsg) → is_normal x.status ≡ true → msg.view ≡ x.view → (primary f x.view == me) ≡ true → msg.base ≤ length x.log
+      → ◌≡◌ {A = Step C R O} (on_get_state f me x from msg) (does x (mail me from (NewState (record { view = x.view; base = msg.base; done = x.done; rows = drop msg.base x.log })) ∷ []))
   unfolding on_get_state
-  on_get_state-mine from w base e same p long = rw (e, eq-eqb _ _ same, p, le-ltb _ _ long)
+  on_get_state-mine from msg e same p long = rw (e, eq-eqb _ _ same, p, le-ltb _ _ long)
 
 module _ {C R O : Type 0} (choose : Choice C) (f me : ℕ) (x : Site C) where
   pub on_start_view-leader : (from : ℕ) (msg : StartViewOf C) → (primary f msg.view == from) ≡ false → ◌≡◌ {A = Step C R O} (on_start_view choose f me x from msg) (drops x NotPrimary)
@@ -148,14 +149,14 @@ module _ {C R O : Type 0} (choose : Choice C) (f me : ℕ) (x : Site C) (w k : �
   takes_log-stale e = rw e
 
   pub takes_log-is : (more : List (EnvelopeOf C R O)) → begins_with_executed choose.same x log ≡ true
-      → (if nat_lt (max x.done (min k (length log))) (length log) then mail me (primary f w) (PrepareOk w (length log)) ∷ [] else []) ≡ more
+      → (if nat_lt (max x.done (min k (length log))) (length log) then mail me (primary f w) (PrepareOk (record { view = w; place = length log })) ∷ [] else []) ≡ more
       → ◌≡◌ {A = Step C R O} (takes_log choose f me x w k log) (does (normal_with w (max x.done (min k (length log))) log x.known x.cell) more)
   takes_log-is more e d = rw e (ap (λ l. let s : Step C R O = does (normal_with w (max x.done (min k (length log))) log x.known x.cell) l in s) d)
 
   pub takes_log-rest : begins_with_executed choose.same x log ≡ true → max x.done (min k (length log)) < length log
-      → ◌≡◌ {A = Step C R O} (takes_log choose f me x w k log) (does (normal_with w (max x.done (min k (length log))) log x.known x.cell) (mail me (primary f w) (PrepareOk w (length log)) ∷ []))
-  takes_log-rest e left = takes_log-is (mail me (primary f w) (PrepareOk w (length log)) ∷ []) e (ap (λ b. if b then mail me (primary f w) (PrepareOk w (length log)) ∷ [] else []) (lt-ltb _ _ left))
+      → ◌≡◌ {A = Step C R O} (takes_log choose f me x w k log) (does (normal_with w (max x.done (min k (length log))) log x.known x.cell) (mail me (primary f w) (PrepareOk (record { view = w; place = length log })) ∷ []))
+  takes_log-rest e left = takes_log-is (mail me (primary f w) (PrepareOk (record { view = w; place = length log })) ∷ []) e (ap (λ b. if b then mail me (primary f w) (PrepareOk (record { view = w; place = length log })) ∷ [] else []) (lt-ltb _ _ left))
 
   pub takes_log-all : begins_with_executed choose.same x log ≡ true → length log ≤ max x.done (min k (length log))
       → ◌≡◌ {A = Step C R O} (takes_log choose f me x w k log) (does (normal_with w (max x.done (min k (length log))) log x.known x.cell) [])
-  takes_log-all e all = takes_log-is [] e (ap (λ b. if b then mail me (primary f w) (PrepareOk w (length log)) ∷ [] else []) (le-ltb _ _ all))
+  takes_log-all e all = takes_log-is [] e (ap (λ b. if b then mail me (primary f w) (PrepareOk (record { view = w; place = length log })) ∷ [] else []) (le-ltb _ _ all))

@@ -9,7 +9,9 @@ ghost use Rattle.vr_log.specs.Running.{IsSound, IsRunning, Follows, SumUp, site_
 use std::alloc::{AllocError, Global};
 use vr_log::Running;
 use vr_log::send::{mail_to, primary_of};
-use vr_types::{Config, DoViewChangeOf, Envelope, Machine, MsgOf, Outcome, OutcomeOf, Status};
+use vr_types::{
+    Config, DoViewChangeOf, Envelope, Machine, MsgOf, Outcome, OutcomeOf, StartViewChange, Status,
+};
 
 /// Timer: the change to the next view begins, and all are told.
 pub fn timer<M: Machine>(
@@ -75,7 +77,7 @@ pub fn tell_change<M: Machine>(
     config: Config,
     running: &Running<M>,
 ) -> Result<Vec<Envelope<M>>, AllocError>
-    ensures { IfOk result (λ sent. sent.items ≡ to_all config.f config.me (MsgOf.StartViewChange running.now.view running.now.known)) }
+    ensures { IfOk result (λ sent. sent.items ≡ to_all config.f config.me (MsgOf.StartViewChange (record { view = running.now.view; known = running.now.known }))) }
 {
     let mut sent = Vec::new(alloc);
     for site in 0..2 * config.f + 1 {
@@ -94,12 +96,12 @@ fn change_mail<M: Machine>(
     site: u16,
 ) -> Result<Envelope<M>, AllocError>
     requires { site ≤ 2 * config.f }
-    ensures { IfOk result (λ sent. sent ≡ mail config.me site (MsgOf.StartViewChange running.now.view running.now.known)) }
+    ensures { IfOk result (λ sent. sent ≡ mail config.me site (MsgOf.StartViewChange (record { view = running.now.view; known = running.now.known }))) }
 {
-    let msg = MsgOf::StartViewChange {
+    let msg = MsgOf::StartViewChange(StartViewChange {
         view: running.view,
         known: running.known.copy(alloc)?,
-    };
+    });
     Ok(mail_to(config, site, msg))
 }
 

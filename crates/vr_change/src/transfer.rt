@@ -11,7 +11,7 @@ use crate::taking::{is_normal_in, take_log};
 use std::alloc::{AllocError, Global};
 use vr_log::Running;
 use vr_log::send::{dropped, mail_to, primary_of, runs_normally, sends_one};
-use vr_types::{Config, MAX_ROWS, Machine, MsgOf, NewStateOf, Outcome, Why};
+use vr_types::{Config, GetState, MAX_ROWS, Machine, MsgOf, NewStateOf, Outcome, Why};
 
 /// GETSTATE: the primary of the view sends the rows after the first `base`.
 pub fn get_state<M: Machine>(
@@ -19,32 +19,31 @@ pub fn get_state<M: Machine>(
     config: Config,
     running: &Running<M>,
     from: u16,
-    view: u32,
-    base: u16,
+    msg: GetState,
 ) -> Result<Outcome<M>, AllocError>
     requires { from ≤ 2 * config.f }
     ensures { (start : M) (acks : List Ack) (cell : Boot) → IsRunning M.Machine start config.f running.now acks →
-        Follows M.Machine start config.f config.me running.now result (on_get_state config.f config.me (site_of running.now acks cell) from view base) }
+        Follows M.Machine start config.f config.me running.now result (on_get_state config.f config.me (site_of running.now acks cell) from msg) }
 {
     if !runs_normally(running.status) {
         return Ok(dropped(alloc, Why::Status));
     }
-    if view != running.view {
+    if msg.view != running.view {
         return Ok(dropped(alloc, Why::View));
     }
     if primary_of(config, running.view) != config.me {
         return Ok(dropped(alloc, Why::NotPrimary));
     }
-    if running.kept.log.len() < base as usize {
+    if running.kept.log.len() < msg.base as usize {
         return Ok(dropped(alloc, Why::Stale));
     }
-    let msg = MsgOf::NewState(NewStateOf {
+    let state = MsgOf::NewState(NewStateOf {
         view: running.view,
-        base,
+        base: msg.base,
         done: running.kept.done,
-        rows: running.kept.log.copy_from(alloc, base as usize)?,
+        rows: running.kept.log.copy_from(alloc, msg.base as usize)?,
     });
-    sends_one(alloc, mail_to(config, from, msg))
+    sends_one(alloc, mail_to(config, from, state))
 }
 
 /// NEWSTATE: the rows that come after the first `base` of the log are taken, and the site is normal in their view.

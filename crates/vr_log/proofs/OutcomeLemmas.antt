@@ -60,10 +60,10 @@ module _ {H C R O S : Type 0} (m : Ghosts H C R O S) (start : H) (f me : ℕ) wh
   reply_mails x (place ∷ places) = one (slice_get x.log (place - 1)) (reply_mails x places)
     where
       one : (o : Option (RowOf C)) → filter_map (reply_to m start me x) places ≡ map (reply_mail me x.view) (filter_map (answer_to m start x.log) places)
-          → cons_option (option_map (λ row. let e : EnvelopeOf C R O = record { from = actor_of me; to = row.client; msg = Reply x.view row.number (answer_at m start x.log place row) } in e) o) (filter_map (reply_to m start me x) places)
+          → cons_option (option_map (λ row. let e : EnvelopeOf C R O = record { from = actor_of me; to = row.client; msg = Reply (record { view = x.view; number = row.number; reply = answer_at m start x.log place row }) } in e) o) (filter_map (reply_to m start me x) places)
           ≡ map (reply_mail me x.view) (cons_option (option_map (λ row. record { client = row.client; number = row.number; reply = answer_at m start x.log place row }) o) (filter_map (answer_to m start x.log) places))
       one None h = h
-      one (Some row) h = ap (λ mails. let e : EnvelopeOf C R O = record { from = actor_of me; to = row.client; msg = Reply x.view row.number (answer_at m start x.log place row) } in e ∷ mails) h
+      one (Some row) h = ap (λ mails. let e : EnvelopeOf C R O = record { from = actor_of me; to = row.client; msg = Reply (record { view = x.view; number = row.number; reply = answer_at m start x.log place row }) } in e ∷ mails) h
 
   -- clients are answered, and sites are sent nothing
   pub answers_meets : (r : Running H C R O S) (out : OutcomeOf C R O) (x : Site C) (places : List ℕ) → Sends out (map (reply_mail me x.view) (filter_map (answer_to m start x.log) places)) → IsRunning m start f r x.collected.acks → x ≡ site_of r x.collected.acks x.cell → Meets m start f me r out (answers x places)

@@ -43,4 +43,4 @@ pub record IsKept {H C R O S : Type 0} (m : Ghosts H C R O S) (start : H) (k : K
 
 -- an answer in an envelope
 abbrev pub reply_mail : {C R O : Type 0} → ℕ → ℕ → AnswerOf R → EnvelopeOf C R O
-reply_mail me view answer = record { from = actor_of me; to = answer.client; msg = Reply view answer.number answer.reply }
+reply_mail me view answer = record { from = actor_of me; to = answer.client; msg = Reply (record { view = view; number = answer.number; reply = answer.reply }) }

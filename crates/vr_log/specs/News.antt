@@ -7,5 +7,5 @@ use Rattle.vr_log.specs.declared.send.News.TheVariants.{Prepare, Commit, Recover
 -- the message that tells it
 abbrev pub news_msg : {C R O : Type 0} → News C → MsgOf C R O
 news_msg (Prepare prepare) = msg.Prepare prepare
-news_msg (Commit view done) = msg.Commit view done
-news_msg (Recovery nonce) = msg.Recovery nonce
+news_msg (Commit commit) = msg.Commit commit
+news_msg (Recovery recovery) = msg.Recovery recovery

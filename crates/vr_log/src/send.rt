@@ -7,14 +7,17 @@ ghost use Rattle.vr_log.specs.News.{news_msg};
 
 use crate::kept::AnswerOf;
 use std::alloc::{AllocError, Global};
-use vr_types::{Config, EnvelopeOf, FIRST_SITE, MsgOf, OutcomeOf, PrepareOf, Status, Why};
+use vr_types::{
+    Commit, Config, EnvelopeOf, FIRST_SITE, MsgOf, OutcomeOf, PrepareOf, PrepareOk, Recovery,
+    ReplyOf, Status, Why,
+};
 
 /// What a site tells all the others.
 #[derive(Clone, Copy)]
 pub enum News<C> {
     Prepare(PrepareOf<C>),
-    Commit { view: u32, done: u16 },
-    Recovery { nonce: u32 },
+    Commit(Commit),
+    Recovery(Recovery),
 }
 
 impl<C: Copy> News<C> {
@@ -24,8 +27,8 @@ impl<C: Copy> News<C> {
     {
         match self {
             News::Prepare(prepare) => MsgOf::Prepare(prepare),
-            News::Commit { view, done } => MsgOf::Commit { view, done },
-            News::Recovery { nonce } => MsgOf::Recovery { nonce },
+            News::Commit(commit) => MsgOf::Commit(commit),
+            News::Recovery(recovery) => MsgOf::Recovery(recovery),
         }
     }
 }
@@ -144,9 +147,9 @@ pub fn acknowledge_log<C: Drop, R: Drop, O: Drop>(
     view: u32,
     place: u16,
 ) -> Result<OutcomeOf<C, R, O>, AllocError>
-    ensures { IfOk result (λ out. Sends out (mail config.me (primary config.f view) (MsgOf.PrepareOk view place) ∷ [])) }
+    ensures { IfOk result (λ out. Sends out (mail config.me (primary config.f view) (MsgOf.PrepareOk (record { view = view; place = place })) ∷ [])) }
 {
-    let msg = MsgOf::PrepareOk { view, place };
+    let msg = MsgOf::PrepareOk(PrepareOk { view, place });
     sends_one(alloc, mail_to(config, primary_of(config, view), msg))
 }
 
@@ -160,11 +163,11 @@ pub fn send_replies<C: Drop, R: Copy, O: Drop>(
     ensures { OnOk result (sent.new.items ≡ sent.old.items ++ map (reply_mail config.me view) answers.now) }
 {
     for answer in answers {
-        let reply = MsgOf::Reply {
+        let reply = MsgOf::Reply(ReplyOf {
             view,
             number: answer.number,
             reply: answer.reply,
-        };
+        });
         sent.push(mail_to_client(config, answer.client, reply))?;
     }
     Ok(())

@@ -73,7 +73,7 @@ module _ {H C R O S : Type 0} (m : Ghosts H C R O S) (start : H) (x : Site C) wh
 
   -- the envelope that tells a client again
   pub again_mails : (me view number q place : ℕ) (last : ℕ × R) (e : EnvelopeOf C R O) (result : Result (OutcomeOf C R O) AllocError)
-      → e ≡ record { from = actor_of me; to = q; msg = Reply view number last.1 } → last.0 ≡ number → answer_to m start x.log place ≡ Some (record { client = q; number = last.0; reply = last.1 })
+      → e ≡ record { from = actor_of me; to = q; msg = Reply (record { view = view; number = number; reply = last.1 }) } → last.0 ≡ number → answer_to m start x.log place ≡ Some (record { client = q; number = last.0; reply = last.1 })
       → IfOk result (λ out. Sends out (e ∷ [])) → IfOk result (λ out. Sends out (map (reply_mail me view) (filter_map (answer_to m start x.log) (place ∷ []))))
   again_mails me view number q place last e result is now answer h = subst (λ mails. IfOk result (λ out. Sends out mails)) (ap one is ∙ ap again (sym now) ∙ ap mails (sym answer)) h
     where
@@ -81,7 +81,7 @@ module _ {H C R O S : Type 0} (m : Ghosts H C R O S) (start : H) (x : Site C) wh
       one d = d ∷ []
 
       again : ℕ → List (EnvelopeOf C R O)
-      again n = record { from = actor_of me; to = q; msg = Reply view n last.1 } ∷ []
+      again n = record { from = actor_of me; to = q; msg = Reply (record { view = view; number = n; reply = last.1 }) } ∷ []
 
       mails : Option (AnswerOf R) → List (EnvelopeOf C R O)
       mails o = map (reply_mail me view) (cons_option o [])

@@ -5,6 +5,8 @@ use Rattle.vr_types.specs.declared.event.Why.TheVariants.{Full, Status, View, No
 use Rattle.vr_types.specs.declared.limits.TheConstants.{MAX_ROWS}
 use Rattle.vr_types.specs.declared.message.MsgOf.TheVariants.{Prepare}
 use Rattle.vr_types.specs.declared.message.PrepareOf.{PrepareOf}
+use Rattle.vr_types.specs.declared.message.Commit.{Commit as CommitMsg}
+use Rattle.vr_types.specs.declared.message.PrepareOk.{PrepareOk as PrepareOkMsg}
 use Rattle.vr_types.specs.declared.row.RowOf.{RowOf}
 use Rattle.vr_types.specs.Choice.{Choice}
 use Rattle.vr_types.specs.Group.{primary, to_all}
@@ -55,40 +57,40 @@ module _ {C R O : Type 0} (f me : ℕ) (x : Site C) where
   unfolding on_prepare
   on_prepare-here from msg p e new later = rw (p, e, le-ltb _ _ new, later)
 
-  pub on_commit-leader : (from w k : ℕ) → (primary f w == from) ≡ false → ◌≡◌ {A = Step C R O} (on_commit f me x from w k) (drops x NotPrimary)
+  pub on_commit-leader : (from : ℕ) (msg : CommitMsg) → (primary f msg.view == from) ≡ false → ◌≡◌ {A = Step C R O} (on_commit f me x from msg) (drops x NotPrimary)
   unfolding on_commit
-  on_commit-leader from w k p = rw p
+  on_commit-leader from msg p = rw p
 
-  pub on_commit-view : (from w k : ℕ) → (primary f w == from) ≡ true → is_recovering x.status ≡ false → w < x.view → ◌≡◌ {A = Step C R O} (on_commit f me x from w k) (drops x View)
+  pub on_commit-view : (from : ℕ) (msg : CommitMsg) → (primary f msg.view == from) ≡ true → is_recovering x.status ≡ false → msg.view < x.view → ◌≡◌ {A = Step C R O} (on_commit f me x from msg) (drops x View)
   unfolding on_commit
-  on_commit-view from w k p e old = rw (p, e, lt-ltb _ _ old)
+  on_commit-view from msg p e old = rw (p, e, lt-ltb _ _ old)
 
-  pub on_commit-later : (from w k : ℕ) → (primary f w == from) ≡ true → is_recovering x.status ≡ false → x.view ≤ w → (nat_lt x.view w || is_change x.status) ≡ true
-      → ◌≡◌ {A = Step C R O} (on_commit f me x from w k) (does x (asks_state f me w x.done))
+  pub on_commit-later : (from : ℕ) (msg : CommitMsg) → (primary f msg.view == from) ≡ true → is_recovering x.status ≡ false → x.view ≤ msg.view → (nat_lt x.view msg.view || is_change x.status) ≡ true
+      → ◌≡◌ {A = Step C R O} (on_commit f me x from msg) (does x (asks_state f me msg.view x.done))
   unfolding on_commit
-  on_commit-later from w k p e new later = rw (p, e, le-ltb _ _ new, later)
+  on_commit-later from msg p e new later = rw (p, e, le-ltb _ _ new, later)
 
-  pub on_commit-here : (from w k : ℕ) → (primary f w == from) ≡ true → is_recovering x.status ≡ false → x.view ≤ w → (nat_lt x.view w || is_change x.status) ≡ false
-      → ◌≡◌ {A = Step C R O} (on_commit f me x from w k) (does (executed_to k x) (if nat_lt (length x.log) k then asks_state f me x.view (length x.log) else []))
+  pub on_commit-here : (from : ℕ) (msg : CommitMsg) → (primary f msg.view == from) ≡ true → is_recovering x.status ≡ false → x.view ≤ msg.view → (nat_lt x.view msg.view || is_change x.status) ≡ false
+      → ◌≡◌ {A = Step C R O} (on_commit f me x from msg) (does (executed_to msg.done x) (if nat_lt (length x.log) msg.done then asks_state f me x.view (length x.log) else []))
   unfolding on_commit
-  on_commit-here from w k p e new later = rw (p, e, le-ltb _ _ new, later)
+  on_commit-here from msg p e new later = rw (p, e, le-ltb _ _ new, later)
 
-  pub on_prepare_ok-status : (choose : Choice C) (from w n : ℕ) → is_normal x.status ≡ false → ◌≡◌ {A = Step C R O} (on_prepare_ok choose f me x from w n) (drops x Status)
+  pub on_prepare_ok-status : (choose : Choice C) (from : ℕ) (msg : PrepareOkMsg) → is_normal x.status ≡ false → ◌≡◌ {A = Step C R O} (on_prepare_ok choose f me x from msg) (drops x Status)
   unfolding on_prepare_ok
-  on_prepare_ok-status choose from w n e = rw e
+  on_prepare_ok-status choose from msg e = rw e
 
-  pub on_prepare_ok-view : (choose : Choice C) (from w n : ℕ) → is_normal x.status ≡ true → w ≢ x.view → ◌≡◌ {A = Step C R O} (on_prepare_ok choose f me x from w n) (drops x View)
+  pub on_prepare_ok-view : (choose : Choice C) (from : ℕ) (msg : PrepareOkMsg) → is_normal x.status ≡ true → msg.view ≢ x.view → ◌≡◌ {A = Step C R O} (on_prepare_ok choose f me x from msg) (drops x View)
   unfolding on_prepare_ok
-  on_prepare_ok-view choose from w n e other = rw (e, ne_eqb _ _ other)
+  on_prepare_ok-view choose from msg e other = rw (e, ne_eqb _ _ other)
 
-  pub on_prepare_ok-backup : (choose : Choice C) (from w n : ℕ) → is_normal x.status ≡ true → w ≡ x.view → (primary f x.view == me) ≡ false → ◌≡◌ {A = Step C R O} (on_prepare_ok choose f me x from w n) (drops x NotPrimary)
+  pub on_prepare_ok-backup : (choose : Choice C) (from : ℕ) (msg : PrepareOkMsg) → is_normal x.status ≡ true → msg.view ≡ x.view → (primary f x.view == me) ≡ false → ◌≡◌ {A = Step C R O} (on_prepare_ok choose f me x from msg) (drops x NotPrimary)
   unfolding on_prepare_ok
-  on_prepare_ok-backup choose from w n e same p = rw (e, eq-eqb _ _ same, p)
+  on_prepare_ok-backup choose from msg e same p = rw (e, eq-eqb _ _ same, p)
 
-  pub on_prepare_ok-mine : (choose : Choice C) (from w n : ℕ) → is_normal x.status ≡ true → w ≡ x.view → (primary f x.view == me) ≡ true
-      → ◌≡◌ {A = Step C R O} (on_prepare_ok choose f me x from w n) (let y = with_ack from n x in executes_and_answers (choose.commit_place me y.collected.acks) y)
+  pub on_prepare_ok-mine : (choose : Choice C) (from : ℕ) (msg : PrepareOkMsg) → is_normal x.status ≡ true → msg.view ≡ x.view → (primary f x.view == me) ≡ true
+      → ◌≡◌ {A = Step C R O} (on_prepare_ok choose f me x from msg) (let y = with_ack from msg.place x in executes_and_answers (choose.commit_place me y.collected.acks) y)
   unfolding on_prepare_ok
-  on_prepare_ok-mine choose from w n e same p = rw (e, eq-eqb _ _ same, p)
+  on_prepare_ok-mine choose from msg e same p = rw (e, eq-eqb _ _ same, p)
 
 -- a row that is taken where it is the next one
 pub with_next-is : {C : Type 0} (place : ℕ) (row : RowOf C) (x : Site C) → with_next place row x ≡ record x { log = if place == length x.log + 1 then x.log ++ row ∷ [] else x.log }

@@ -13,7 +13,9 @@ use vr_log::send::{
     acknowledge_log, changes_view, dropped, mail_to, primary_of, sends_one, silent,
 };
 use vr_log::{Kept, Running};
-use vr_types::{Config, Machine, MsgOf, Outcome, OutcomeOf, PrepareOf, Row, Status, Why};
+use vr_types::{
+    Commit, Config, GetState, Machine, MsgOf, Outcome, OutcomeOf, PrepareOf, Row, Status, Why,
+};
 
 /// PREPARE: the next row goes into the log, rows that are committed are executed, and the primary is told.
 pub fn prepare<M: Machine>(
@@ -48,28 +50,27 @@ pub fn commit<M: Machine>(
     config: Config,
     running: &mut Running<M>,
     from: u16,
-    view: u32,
-    done: u16,
+    msg: Commit,
 ) -> Result<Outcome<M>, AllocError>
     requires { IsReady M.Machine running.old.kept }
     ensures sound { OnOk result ((start : M) → IsSound M.Machine start config.f running.old → IsSound M.Machine start config.f running.new) }
     ensures status { running.new.status ≡ running.old.status }
     ensures view { running.new.view ≡ running.old.view }
     ensures step { (start : M) (acks : List Ack) (cell : Boot) → IsRunning M.Machine start config.f running.old acks →
-        Follows M.Machine start config.f config.me running.new result (on_commit config.f config.me (site_of running.old acks cell) from view done) }
+        Follows M.Machine start config.f config.me running.new result (on_commit config.f config.me (site_of running.old acks cell) from msg) }
 {
-    if primary_of(config, view) != from {
+    if primary_of(config, msg.view) != from {
         return Ok(dropped(alloc, Why::NotPrimary));
     }
-    if view < running.view {
+    if msg.view < running.view {
         return Ok(dropped(alloc, Why::View));
     }
-    if lags(running.status, running.view, view) {
-        return ask_state(alloc, config, view, running.kept.done);
+    if lags(running.status, running.view, msg.view) {
+        return ask_state(alloc, config, msg.view, running.kept.done);
     }
     let len = running.kept.log.len() as u16;
-    let _ = running.kept.execute(alloc, done)?;
-    if len < done {
+    let _ = running.kept.execute(alloc, msg.done)?;
+    if len < msg.done {
         ask_state(alloc, config, running.view, len)
     } else {
         Ok(silent(alloc))
@@ -133,6 +134,6 @@ fn ask_state<C: Drop, R: Drop, O: Drop>(
 ) -> Result<OutcomeOf<C, R, O>, AllocError>
     ensures { IfOk result (λ out. Sends out (asks_state config.f config.me view base)) }
 {
-    let msg = MsgOf::GetState { view, base };
+    let msg = MsgOf::GetState(GetState { view, base });
     sends_one(alloc, mail_to(config, primary_of(config, view), msg))
 }

@@ -11,7 +11,7 @@ ghost use Rattle.vr_log.specs.Running.{IsRunning, Follows, site_of};
 use std::alloc::{AllocError, Global};
 use vr_log::Running;
 use vr_log::send::{News, mail_to_client, primary_of, silent, tell_all};
-use vr_types::{Config, Envelope, Machine, MsgOf, Outcome, OutcomeOf, PrepareOf};
+use vr_types::{Commit, Config, Envelope, Machine, MsgOf, Outcome, OutcomeOf, PrepareOf};
 
 /// Beat of a normal site: the primary tells its backups again what they may have missed, and each client that has an
 /// open order.
@@ -50,10 +50,10 @@ fn news<M: Machine>(running: &Running<M>) -> News<M::Cmd>
             done,
             row,
         }),
-        None => News::Commit {
+        None => News::Commit(Commit {
             view: running.view,
             done,
-        },
+        }),
     }
 }
 

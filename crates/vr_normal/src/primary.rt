@@ -9,7 +9,9 @@ ghost use Rattle.vr_log.specs.Running.{IsSound, IsRunning, Follows, site_of};
 use std::alloc::{AllocError, Global};
 use vr_log::Running;
 use vr_log::send::{News, dropped, mail_to_client, primary_of, runs_normally, sends_one, tell_all};
-use vr_types::{Config, MAX_ROWS, Machine, MsgOf, Outcome, OutcomeOf, PrepareOf, Row, Why};
+use vr_types::{
+    Config, MAX_ROWS, Machine, MsgOf, Outcome, OutcomeOf, PrepareOf, ReplyOf, Row, Why,
+};
 
 /// REQUEST: a client's new request goes into the log and to all backups, and its newest is answered again.
 pub fn request<M: Machine>(
@@ -91,10 +93,10 @@ fn answer_again<M: Machine>(
     if last.0 != number {
         return Ok(dropped(alloc, Why::Known));
     }
-    let reply = MsgOf::Reply {
+    let reply = MsgOf::Reply(ReplyOf {
         view: running.view,
         number,
         reply: last.1,
-    };
+    });
     sends_one(alloc, mail_to_client(config, client, reply))
 }

@@ -11,7 +11,7 @@ ghost use Rattle.vr_normal.specs.Support.{has_support};
 use std::alloc::{AllocError, Global};
 use vr_log::Running;
 use vr_log::send::{dropped, primary_of, runs_normally, send_replies};
-use vr_types::{Config, Machine, Outcome, OutcomeOf, Why};
+use vr_types::{Config, Machine, Outcome, OutcomeOf, PrepareOk, Why};
 
 /// PREPAREOK: what f different other sites have acknowledged is executed, and its clients are answered.
 pub fn prepare_ok<M: Machine>(
@@ -19,8 +19,7 @@ pub fn prepare_ok<M: Machine>(
     config: Config,
     running: &mut Running<M>,
     from: u16,
-    view: u32,
-    place: u16,
+    msg: PrepareOk,
 ) -> Result<Outcome<M>, AllocError>
     requires ready { IsReady M.Machine running.old.kept }
     requires sites { length running.old.acked.items ≡ 2 * config.f + 1 }
@@ -29,18 +28,18 @@ pub fn prepare_ok<M: Machine>(
     ensures status { running.new.status ≡ running.old.status }
     ensures view { running.new.view ≡ running.old.view }
     ensures step { (choose : Choice M.Cmd) (start : M) (acks : List Ack) (cell : Boot) → IsRight config.f choose → IsRunning M.Machine start config.f running.old acks →
-        Follows M.Machine start config.f config.me running.new result (on_prepare_ok choose config.f config.me (site_of running.old acks cell) from view place) }
+        Follows M.Machine start config.f config.me running.new result (on_prepare_ok choose config.f config.me (site_of running.old acks cell) from msg) }
 {
     if !runs_normally(running.status) {
         return Ok(dropped(alloc, Why::Status));
     }
-    if view != running.view {
+    if msg.view != running.view {
         return Ok(dropped(alloc, Why::View));
     }
     if primary_of(config, running.view) != config.me {
         return Ok(dropped(alloc, Why::NotPrimary));
     }
-    acknowledge(alloc, config, running, from, place)
+    acknowledge(alloc, config, running, from, msg.place)
 }
 
 /// Notes a site's acknowledgement, executes up to the commit place, and answers the clients.

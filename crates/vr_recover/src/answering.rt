@@ -10,7 +10,7 @@ use std::alloc::{AllocError, Global};
 use vr_log::Running;
 use vr_log::send::{News, dropped, mail_to, primary_of, runs_normally, sends_one, tell_all};
 use vr_types::{
-    Config, Machine, MsgOf, Outcome, OutcomeOf, RecoveryResponseOf, State, StateOf, Why,
+    Config, Machine, MsgOf, Outcome, OutcomeOf, Recovery, RecoveryResponseOf, State, StateOf, Why,
 };
 
 /// RECOVERY at a running site: a normal one notes the boot of its sender and answers with its view and with what it
@@ -21,7 +21,7 @@ pub fn recovery<M: Machine>(
     config: Config,
     running: &mut Running<M>,
     from: u16,
-    nonce: u32,
+    msg: Recovery,
 ) -> Result<Outcome<M>, AllocError>
     requires from { from ≤ 2 * config.f }
     requires known { length running.old.known ≡ 2 * config.f + 1 }
@@ -29,22 +29,22 @@ pub fn recovery<M: Machine>(
     ensures status { running.new.status ≡ running.old.status }
     ensures view { running.new.view ≡ running.old.view }
     ensures step { (start : M) (acks : List Ack) (cell : Boot) → IsRunning M.Machine start config.f running.old acks →
-        Follows M.Machine start config.f config.me running.new result (on_recovery config.f config.me (site_of running.old acks cell) from nonce) }
+        Follows M.Machine start config.f config.me running.new result (on_recovery config.f config.me (site_of running.old acks cell) from msg) }
 {
     if !runs_normally(running.status) {
         return Ok(dropped(alloc, Why::Status));
     }
-    if nonce < running.known.get(from) {
+    if msg.nonce < running.known.get(from) {
         return Ok(dropped(alloc, Why::Stale));
     }
-    running.known.note(from, nonce);
-    let msg = MsgOf::RecoveryResponse(RecoveryResponseOf {
+    running.known.note(from, msg.nonce);
+    let response = MsgOf::RecoveryResponse(RecoveryResponseOf {
         view: running.view,
-        nonce,
+        nonce: msg.nonce,
         state: state_of_its_view(alloc, config, running)?,
         known: running.known.copy(alloc)?,
     });
-    sends_one(alloc, mail_to(config, from, msg))
+    sends_one(alloc, mail_to(config, from, response))
 }
 
 /// The state of a running site's view, which its primary alone has. The log is copied once.
@@ -72,9 +72,9 @@ pub fn ask_all<C: Copy + Drop, R: Drop, O: Drop>(
     config: Config,
     nonce: u32,
 ) -> Result<OutcomeOf<C, R, O>, AllocError>
-    ensures { IfOk result (λ out. Sends out (to_all config.f config.me (MsgOf.Recovery nonce))) }
+    ensures { IfOk result (λ out. Sends out (to_all config.f config.me (MsgOf.Recovery (record { nonce = nonce })))) }
 {
-    let sent = tell_all(alloc, config, News::<C>::Recovery { nonce })?;
+    let sent = tell_all(alloc, config, News::<C>::Recovery(Recovery { nonce }))?;
     Ok(OutcomeOf {
         sent,
         dropped: None,

@@ -5,7 +5,7 @@ use crate::trial::{Given, Trial, in_change, normal};
 use fixtures::Said;
 use std::alloc::{AllocError, Global};
 use std::test::Fail;
-use vr_types::{EventOf, Known, MsgOf, RecoveryResponseOf, SiteFault, Why};
+use vr_types::{EventOf, Known, MsgOf, RecoveryResponseOf, SiteFault, StartViewChange, Why};
 
 const NONE: [u32; 3] = [0, 0, 0];
 
@@ -119,7 +119,11 @@ fn start_of_a_view_comes_too_late(rt: HostRuntime) -> Result<(), Fail> {
 fn long_vector(alloc: Global) -> Given {
     let mut known = known(alloc, NONE)?;
     known.push(0)?;
-    to(200, 201, MsgOf::StartViewChange { view: 1, known })
+    to(
+        200,
+        201,
+        MsgOf::StartViewChange(StartViewChange { view: 1, known }),
+    )
 }
 
 /// RECOVERYRESPONSE with none.

@@ -4,8 +4,9 @@ use crate::trial::Given;
 use fixtures::{Ask, Tally};
 use std::alloc::{AllocError, Global};
 use vr_types::{
-    DoViewChangeOf, EnvelopeOf, EventOf, Known, Msg, MsgOf, NewStateOf, PrepareOf,
-    RecoveryResponseOf, RowOf, RowsOf, StartViewOf, StateOf,
+    Commit, DoViewChangeOf, EnvelopeOf, EventOf, GetState, Known, Msg, MsgOf, NewStateOf,
+    PrepareOf, PrepareOk, Recovery, RecoveryResponseOf, RequestOf, RowOf, RowsOf, StartViewChange,
+    StartViewOf, StateOf,
 };
 
 /// A message comes.
@@ -49,7 +50,7 @@ pub fn known(alloc: Global, boots: [u32; 3]) -> Result<Known, AllocError> {
 /// Client 5 asks to add 3.
 pub fn request(site: u16, number: u32) -> Given {
     let cmd = Ask::Add(3);
-    to(site, 5, MsgOf::Request { number, cmd })
+    to(site, 5, MsgOf::Request(RequestOf { number, cmd }))
 }
 
 /// PREPARE of the request that has the place's number.
@@ -65,16 +66,20 @@ pub fn prepare(site: u16, from: u16, view: u32, place: u16, done: u16) -> Given 
 }
 
 pub fn prepare_ok(site: u16, from: u16, view: u32, place: u16) -> Given {
-    to(site, from, MsgOf::PrepareOk { view, place })
+    to(site, from, MsgOf::PrepareOk(PrepareOk { view, place }))
 }
 
 pub fn commit(site: u16, from: u16, view: u32, done: u16) -> Given {
-    to(site, from, MsgOf::Commit { view, done })
+    to(site, from, MsgOf::Commit(Commit { view, done }))
 }
 
 pub fn start_view_change(alloc: Global, site: u16, from: u16, view: u32, boots: [u32; 3]) -> Given {
     let known = known(alloc, boots)?;
-    to(site, from, MsgOf::StartViewChange { view, known })
+    to(
+        site,
+        from,
+        MsgOf::StartViewChange(StartViewChange { view, known }),
+    )
 }
 
 /// A vote: its last normal view, how many rows are executed, and the numbers of its rows.
@@ -121,7 +126,7 @@ pub fn start_view(
 }
 
 pub fn get_state(site: u16, from: u16, view: u32, base: u16) -> Given {
-    to(site, from, MsgOf::GetState { view, base })
+    to(site, from, MsgOf::GetState(GetState { view, base }))
 }
 
 /// NEWSTATE of site 1: its view, base and commit-number, and the numbers of its rows.
@@ -143,7 +148,7 @@ pub fn new_state(
 }
 
 pub fn recovery(site: u16, from: u16, nonce: u32) -> Given {
-    to(site, from, MsgOf::Recovery { nonce })
+    to(site, from, MsgOf::Recovery(Recovery { nonce }))
 }
 
 /// RECOVERYRESPONSE without a state.

@@ -5,7 +5,7 @@ use crate::trial::{Trial, in_change, normal};
 use fixtures::{Ask, Said};
 use std::alloc::{AllocError, Global};
 use std::test::Fail;
-use vr_types::{EventOf, MsgOf, SiteFault, Why};
+use vr_types::{EventOf, MsgOf, ReplyOf, RequestOf, SiteFault, Why};
 
 #[test]
 fn request_is_prepared_executed_and_answered(rt: HostRuntime) -> Result<(), Fail> {
@@ -37,10 +37,10 @@ fn request_that_is_known_is_dropped(rt: HostRuntime) -> Result<(), Fail> {
     let mut primary = asked(rt.alloc())?;
     primary.drops(&rt, request(200, 1), Why::Known);
     primary.drops(&rt, request(200, 0), Why::Known);
-    let total = MsgOf::Request {
+    let total = MsgOf::Request(RequestOf {
         number: 2,
         cmd: Ask::Total,
-    };
+    });
     let prepares = [
         (201, Said::Prepare(0, 2, 0, 2)),
         (202, Said::Prepare(0, 2, 0, 2)),
@@ -161,11 +161,11 @@ fn only_what_may_come_is_taken(rt: HostRuntime) -> Result<(), Fail> {
     for from in [65, 99, 200, 203] {
         site.refuses(&rt, prepare_ok(200, from, 0, 1), SiteFault::NotMine);
     }
-    let reply = MsgOf::Reply {
+    let reply = MsgOf::Reply(ReplyOf {
         view: 0,
         number: 1,
         reply: 10,
-    };
+    });
     site.refuses(&rt, to(200, 201, reply), SiteFault::NotMine);
     site.refuses(&rt, to(200, 201, MsgOf::PayOrder(())), SiteFault::NotMine);
     Ok(())

@@ -9,6 +9,10 @@ use Rattle.vr_types.specs.declared.message.MsgOf.TheVariants.{Request, Prepare, 
 use Rattle.vr_types.specs.declared.message.PrepareOf.{PrepareOf}
 use Rattle.vr_types.specs.declared.message.StartViewOf.{StartViewOf}
 use Rattle.vr_types.specs.declared.message.NewStateOf.{NewStateOf}
+use Rattle.vr_types.specs.declared.message.Commit.{Commit as CommitMsg}
+use Rattle.vr_types.specs.declared.message.GetState.{GetState as GetStateMsg}
+use Rattle.vr_types.specs.declared.message.PrepareOk.{PrepareOk as PrepareOkMsg}
+use Rattle.vr_types.specs.declared.message.Recovery.{Recovery as RecoveryMsg}
 use Rattle.vr_types.specs.declared.row.RowOf.{RowOf}
 use Rattle.vr_types.specs.Change.{Part, starts_view, starts_later_view, with_start, with_vote, with_voted, own_vote, sends_vote, votes_where_due, is_to_vote, is_to_open, opens_where_due, on_timer, on_start_view_change, on_do_view_change, on_start_view, beats_in_change}
 use Rattle.vr_types.specs.Choice.{Choice}
@@ -77,19 +81,19 @@ module _ {C R O : Type 0} (f me : ℕ) (x : Site C) where
       by_place true = refl
       by_place false = refl
 
-  commit_keeps : (from w k : ℕ) → KeepsCell {R = R} {O = O} x (on_commit f me x from w k)
+  commit_keeps : (from : ℕ) (msg : CommitMsg) → KeepsCell {R = R} {O = O} x (on_commit f me x from msg)
   unfolding on_commit
-  commit_keeps from w k =
-      keeps_if x (not (primary f w == from)) _ _ (record { same = refl })
+  commit_keeps from msg =
+      keeps_if x (not (primary f msg.view == from)) _ _ (record { same = refl })
       (keeps_if x (is_recovering x.status) _ _ (record { same = refl })
-      (keeps_if x (nat_lt w x.view) _ _ (record { same = refl })
-      (keeps_if x (nat_lt x.view w || is_change x.status) _ _ (record { same = refl }) (record { same = refl }))))
+      (keeps_if x (nat_lt msg.view x.view) _ _ (record { same = refl })
+      (keeps_if x (nat_lt x.view msg.view || is_change x.status) _ _ (record { same = refl }) (record { same = refl }))))
 
-  prepare_ok_keeps : (choose : Choice C) (from w place : ℕ) → KeepsCell {R = R} {O = O} x (on_prepare_ok choose f me x from w place)
+  prepare_ok_keeps : (choose : Choice C) (from : ℕ) (msg : PrepareOkMsg) → KeepsCell {R = R} {O = O} x (on_prepare_ok choose f me x from msg)
   unfolding on_prepare_ok
-  prepare_ok_keeps choose from w place =
+  prepare_ok_keeps choose from msg =
       keeps_if x (not (is_normal x.status)) _ _ (record { same = refl })
-      (keeps_if x (not (w == x.view)) _ _ (record { same = refl })
+      (keeps_if x (not (msg.view == x.view)) _ _ (record { same = refl })
       (keeps_if x (not (primary f x.view == me)) _ _ (record { same = refl }) (record { same = refl })))
 
   opening_keeps : (choose : Choice C) (part : Part C R O) → part.site.cell ≡ x.cell → KeepsCell x (opens_where_due choose f me x part)
@@ -140,13 +144,13 @@ module _ {C R O : Type 0} (f me : ℕ) (x : Site C) where
       (keeps_if x (nat_lt msg.view x.view) _ _ (record { same = refl })
       (keeps_if x (is_normal x.status && (msg.view == x.view)) _ _ (record { same = refl }) (taking_keeps choose msg.view msg.done msg.rows))))
 
-  get_state_keeps : (from w base : ℕ) → KeepsCell {R = R} {O = O} x (on_get_state f me x from w base)
+  get_state_keeps : (from : ℕ) (msg : GetStateMsg) → KeepsCell {R = R} {O = O} x (on_get_state f me x from msg)
   unfolding on_get_state
-  get_state_keeps from w base =
+  get_state_keeps from msg =
       keeps_if x (not (is_normal x.status)) _ _ (record { same = refl })
-      (keeps_if x (not (w == x.view)) _ _ (record { same = refl })
+      (keeps_if x (not (msg.view == x.view)) _ _ (record { same = refl })
       (keeps_if x (not (primary f x.view == me)) _ _ (record { same = refl })
-      (keeps_if x (nat_lt (length x.log) base) _ _ (record { same = refl }) (record { same = refl }))))
+      (keeps_if x (nat_lt (length x.log) msg.base) _ _ (record { same = refl }) (record { same = refl }))))
 
   new_state_keeps : (choose : Choice C) (from : ℕ) (msg : NewStateOf C) → KeepsCell {R = R} {O = O} x (on_new_state choose f me x from msg)
   unfolding on_new_state
@@ -159,9 +163,9 @@ module _ {C R O : Type 0} (f me : ℕ) (x : Site C) where
       (keeps_if x (nat_le msg.base (length x.log) && nat_lt (length x.log) (msg.base + length msg.rows)) _ _ (taking_keeps choose msg.view msg.done _) (record { same = refl }))
       (keeps_if x (nat_le msg.base x.done && nat_le x.done (msg.base + length msg.rows)) _ _ (taking_keeps choose msg.view msg.done _) (record { same = refl }))))))
 
-  recovery_keeps : (from nonce : ℕ) → KeepsCell {R = R} {O = O} x (on_recovery f me x from nonce)
+  recovery_keeps : (from : ℕ) (msg : RecoveryMsg) → KeepsCell {R = R} {O = O} x (on_recovery f me x from msg)
   unfolding on_recovery
-  recovery_keeps from nonce = keeps_if x (not (is_normal x.status)) _ _ (record { same = refl }) (keeps_if x (nat_lt nonce (boot_of x.known from)) _ _ (record { same = refl }) (record { same = refl }))
+  recovery_keeps from msg = keeps_if x (not (is_normal x.status)) _ _ (record { same = refl }) (keeps_if x (nat_lt msg.nonce (boot_of x.known from)) _ _ (record { same = refl }) (record { same = refl }))
 
   -- a running site takes no response
   pub response_drops : (choose : Choice C) (nonce : ℕ) (response : Response C) → is_running x.status ≡ true → ◌≡◌ {A = Step C R O} (on_recovery_response choose x nonce response) (drops x why.Status)
@@ -169,18 +173,18 @@ module _ {C R O : Type 0} (f me : ℕ) (x : Site C) where
   response_drops choose nonce response up = rw (running_is_here x.status up)
 
   pub message_keeps : (choose : Choice C) → is_running x.status ≡ true → (actor : ℕ) (msg : MsgOf C R O) → KeepsCell x (on_message choose f me x actor msg)
-  message_keeps choose up actor (Request number cmd) = request_keeps _
+  message_keeps choose up actor (Request msg) = request_keeps _
   message_keeps choose up actor (Prepare msg) = prepare_keeps _ msg
-  message_keeps choose up actor (PrepareOk w place) = prepare_ok_keeps choose _ w place
-  message_keeps choose up actor (Commit w k) = commit_keeps _ w k
-  message_keeps choose up actor (StartViewChange w known) = start_view_change_keeps choose w _
+  message_keeps choose up actor (PrepareOk msg) = prepare_ok_keeps choose _ msg
+  message_keeps choose up actor (Commit msg) = commit_keeps _ msg
+  message_keeps choose up actor (StartViewChange msg) = start_view_change_keeps choose msg.view _
   message_keeps choose up actor (DoViewChange msg) = do_view_change_keeps choose msg.view _
   message_keeps choose up actor (StartView msg) = start_view_keeps choose _ msg
-  message_keeps choose up actor (GetState w base) = get_state_keeps _ w base
+  message_keeps choose up actor (GetState msg) = get_state_keeps _ msg
   message_keeps choose up actor (NewState msg) = new_state_keeps choose _ msg
-  message_keeps choose up actor (Recovery nonce) = recovery_keeps _ nonce
+  message_keeps choose up actor (Recovery msg) = recovery_keeps _ msg
   message_keeps choose up actor (RecoveryResponse msg) = record { same = ap (λ (s : Step C R O). s.site.cell) (response_drops choose msg.nonce _ up) }
-  message_keeps choose up actor (Reply view number reply) = record { same = refl }
+  message_keeps choose up actor (Reply msg) = record { same = refl }
   message_keeps choose up actor (PayOrder order) = record { same = refl }
 
   pub timer_keeps : KeepsCell {R = R} {O = O} x (on_timer f me x)

@@ -8,6 +8,10 @@ use Rattle.vr_types.specs.declared.message.PrepareOf.{PrepareOf}
 use Rattle.vr_types.specs.declared.message.RecoveryResponseOf.{RecoveryResponseOf}
 use Rattle.vr_types.specs.declared.message.StartViewOf.{StartViewOf}
 use Rattle.vr_types.specs.declared.message.NewStateOf.{NewStateOf}
+use Rattle.vr_types.specs.declared.message.Commit.{Commit as CommitMsg}
+use Rattle.vr_types.specs.declared.message.GetState.{GetState as GetStateMsg}
+use Rattle.vr_types.specs.declared.message.PrepareOk.{PrepareOk as PrepareOkMsg}
+use Rattle.vr_types.specs.declared.message.Recovery.{Recovery as RecoveryMsg}
 use Rattle.vr_types.specs.declared.row.RowOf.{RowOf}
 use Rattle.vr_types.specs.Change.{on_timer, on_start_view_change, on_do_view_change, on_start_view}
 use Rattle.vr_types.specs.Cell.{nonce_of}
@@ -33,9 +37,9 @@ module _ {C R O : Type 0} (f me : ℕ) (kept : RecoveringOf C) (acks : List Ack)
   unfolding on_prepare
   prepare_drops from msg = not_primary_first (primary f msg.view == from)
 
-  pub commit_drops : (from w k : ℕ) → ◌≡◌ {A = Step C R O} (on_commit f me (recovering_site kept acks cell) from w k) (drops (recovering_site kept acks cell) (if primary f w == from then Status else NotPrimary))
+  pub commit_drops : (from : ℕ) (msg : CommitMsg) → ◌≡◌ {A = Step C R O} (on_commit f me (recovering_site kept acks cell) from msg) (drops (recovering_site kept acks cell) (if primary f msg.view == from then Status else NotPrimary))
   unfolding on_commit
-  commit_drops from w k = not_primary_first (primary f w == from)
+  commit_drops from msg = not_primary_first (primary f msg.view == from)
 
   pub start_view_drops : (choose : Choice C) (from : ℕ) (msg : StartViewOf C) → ◌≡◌ {A = Step C R O} (on_start_view choose f me (recovering_site kept acks cell) from msg) (drops (recovering_site kept acks cell) (if primary f msg.view == from then Status else NotPrimary))
   unfolding on_start_view
@@ -49,9 +53,9 @@ module _ {C R O : Type 0} (f me : ℕ) (kept : RecoveringOf C) (acks : List Ack)
   unfolding on_request
   request_drops row = refl
 
-  prepare_ok_drops : (choose : Choice C) (from w place : ℕ) → ◌≡◌ {A = Step C R O} (on_prepare_ok choose f me (recovering_site kept acks cell) from w place) (drops (recovering_site kept acks cell) Status)
+  prepare_ok_drops : (choose : Choice C) (from : ℕ) (msg : PrepareOkMsg) → ◌≡◌ {A = Step C R O} (on_prepare_ok choose f me (recovering_site kept acks cell) from msg) (drops (recovering_site kept acks cell) Status)
   unfolding on_prepare_ok
-  prepare_ok_drops choose from w place = refl
+  prepare_ok_drops choose from msg = refl
 
   start_view_change_drops : (choose : Choice C) (w : ℕ) (start : Start) → ◌≡◌ {A = Step C R O} (on_start_view_change choose f me (recovering_site kept acks cell) w start) (drops (recovering_site kept acks cell) Status)
   unfolding on_start_view_change
@@ -61,35 +65,35 @@ module _ {C R O : Type 0} (f me : ℕ) (kept : RecoveringOf C) (acks : List Ack)
   unfolding on_do_view_change
   do_view_change_drops choose w vote = refl
 
-  get_state_drops : (from w base : ℕ) → ◌≡◌ {A = Step C R O} (on_get_state f me (recovering_site kept acks cell) from w base) (drops (recovering_site kept acks cell) Status)
+  get_state_drops : (from : ℕ) (msg : GetStateMsg) → ◌≡◌ {A = Step C R O} (on_get_state f me (recovering_site kept acks cell) from msg) (drops (recovering_site kept acks cell) Status)
   unfolding on_get_state
-  get_state_drops from w base = refl
+  get_state_drops from msg = refl
 
-  recovery_drops : (from nonce : ℕ) → ◌≡◌ {A = Step C R O} (on_recovery f me (recovering_site kept acks cell) from nonce) (drops (recovering_site kept acks cell) Status)
+  recovery_drops : (from : ℕ) (msg : RecoveryMsg) → ◌≡◌ {A = Step C R O} (on_recovery f me (recovering_site kept acks cell) from msg) (drops (recovering_site kept acks cell) Status)
   unfolding on_recovery
-  recovery_drops from nonce = refl
+  recovery_drops from msg = refl
 
   -- all else that may come
   pub others_drop : (choose : Choice C) (actor : ℕ) (msg : MsgOf C R O) → may_send f me actor msg ≡ true
       → ((r : RecoveryResponseOf C) → msg ≡ RecoveryResponse r → ⊥) → ((p : PrepareOf C) → msg ≡ Prepare p → ⊥)
-      → ((w k : ℕ) → msg ≡ Commit w k → ⊥) → ((v : StartViewOf C) → msg ≡ StartView v → ⊥) → ((n : NewStateOf C) → msg ≡ NewState n → ⊥)
+      → ((k : CommitMsg) → msg ≡ Commit k → ⊥) → ((v : StartViewOf C) → msg ≡ StartView v → ⊥) → ((n : NewStateOf C) → msg ≡ NewState n → ⊥)
       → on_message choose f me (recovering_site kept acks cell) actor msg ≡ drops (recovering_site kept acks cell) Status
-  others_drop choose actor (Request number cmd) may a b c d e = request_drops _
+  others_drop choose actor (Request msg) may a b c d e = request_drops _
   others_drop choose actor (Prepare msg) may a b c d e = absurd (b msg refl)
-  others_drop choose actor (PrepareOk w place) may a b c d e = prepare_ok_drops choose _ w place
-  others_drop choose actor (Commit w k) may a b c d e = absurd (c w k refl)
-  others_drop choose actor (StartViewChange w known) may a b c d e = start_view_change_drops choose w _
+  others_drop choose actor (PrepareOk msg) may a b c d e = prepare_ok_drops choose _ msg
+  others_drop choose actor (Commit msg) may a b c d e = absurd (c msg refl)
+  others_drop choose actor (StartViewChange msg) may a b c d e = start_view_change_drops choose msg.view _
   others_drop choose actor (DoViewChange msg) may a b c d e = do_view_change_drops choose msg.view _
   others_drop choose actor (StartView msg) may a b c d e = absurd (d msg refl)
-  others_drop choose actor (GetState w base) may a b c d e = get_state_drops _ w base
+  others_drop choose actor (GetState msg) may a b c d e = get_state_drops _ msg
   others_drop choose actor (NewState msg) may a b c d e = absurd (e msg refl)
-  others_drop choose actor (Recovery nonce) may a b c d e = recovery_drops _ nonce
+  others_drop choose actor (Recovery msg) may a b c d e = recovery_drops _ msg
   others_drop choose actor (RecoveryResponse msg) may a b c d e = absurd (a msg refl)
-  others_drop choose actor (Reply view number reply) may a b c d e = absurd (true≢false (sym may))
+  others_drop choose actor (Reply msg) may a b c d e = absurd (true≢false (sym may))
   others_drop choose actor (PayOrder order) may a b c d e = absurd (true≢false (sym may))
 
 -- it asks all again
-pub beats_is : {C R O : Type 0} (f me : ℕ) (x : Site C) → ◌≡◌ {A = Step C R O} (beats_recovering f me x) (does x (to_all f me (Recovery (nonce_of x.cell))))
+pub beats_is : {C R O : Type 0} (f me : ℕ) (x : Site C) → ◌≡◌ {A = Step C R O} (beats_recovering f me x) (does x (to_all f me (Recovery (record { nonce = nonce_of x.cell }))))
 unfolding beats_recovering
 beats_is f me x = refl
 

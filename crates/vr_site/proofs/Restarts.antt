@@ -44,7 +44,7 @@ pub one_save : {B : Type 0} (c : Cell B) (inside cell new : B) (boot : Boot) →
 one_save c inside cell new boot same e saves = (raises (c.held cell), subst (λ b. c.saves cell b new) e (subst (λ x. c.saves x boot new) same saves))
 
 restart_is : {C R O : Type 0} (f me : ℕ) (x : Site C)
-    → ◌≡◌ {A = Step C R O} (on_restart f me x) (does (restarted f me (raised x.cell)) (to_all f me (Recovery (nonce_of (raised x.cell)))))
+    → ◌≡◌ {A = Step C R O} (on_restart f me x) (does (restarted f me (raised x.cell)) (to_all f me (Recovery (record { nonce = nonce_of (raised x.cell) }))))
 unfolding on_restart
 restart_is f me x = refl
 
@@ -74,9 +74,9 @@ module _ {H C R O S B : Type 0} (m : Ghosts H C R O S) (c : Cell B) (old new : S
     -- it came up again, and asked all
     pub restarted_on : (out : OutcomeOf C R O) (r : RecoveringOf C) → recovering_site r [] now ≡ restarted old.f old.me now → new.volatile ≡ awaiting r
         → c.held new.cell ≡ now → IsOneSave c old.cell now new.cell
-        → Sends out (to_all old.f old.me (Recovery (nonce_of now))) → Handles {H = H} {C = C} {R = R} {O = O} m c old new Restart (Ok out)
+        → Sends out (to_all old.f old.me (Recovery (record { nonce = nonce_of now }))) → Handles {H = H} {C = C} {R = R} {O = O} m c old new Restart (Ok out)
     restarted_on out r site volatile cell saved s = stepped_handles m c old new Restart out may_restart (λ choose acks right summed.
-        let told = to_all {C = C} {R = R} {O = O} old.f old.me (Recovery (nonce_of now)) in
+        let told = to_all {C = C} {R = R} {O = O} old.f old.me (Recovery (record { nonce = nonce_of now })) in
         subst (Does m c old new out) (sym (restart_is old.f old.me (site_shown c.held old acks)))
         (record {
           f = config.0;
@@ -121,14 +121,14 @@ module _ {H C R O S B : Type 0} (m : Ghosts H C R O S) (c : Cell B) (old new : S
     may_beat = rw recovers
 
     beat_is : (acks : List Ack) (choose : Choice C) → ◌≡◌ {A = Step C R O} (on_event choose old.f old.me (site_shown c.held old acks) Beat)
-        (does (site_shown c.held old acks) (to_all old.f old.me (Recovery (nonce_of (c.held old.cell)))))
+        (does (site_shown c.held old acks) (to_all old.f old.me (Recovery (record { nonce = nonce_of (c.held old.cell) }))))
     beat_is acks choose = ap (on_beat old.f old.me (site_shown c.held old acks)) recovers ∙ beats_is old.f old.me (site_shown c.held old acks)
 
     -- a recovering site asked all again
-    pub asked_again : (out : OutcomeOf C R O) → new.volatile ≡ old.volatile → new.cell ≡ old.cell → Sends out (to_all old.f old.me (Recovery (nonce_of (c.held old.cell))))
+    pub asked_again : (out : OutcomeOf C R O) → new.volatile ≡ old.volatile → new.cell ≡ old.cell → Sends out (to_all old.f old.me (Recovery (record { nonce = nonce_of (c.held old.cell) })))
         → Handles {H = H} {C = C} {R = R} {O = O} m c old new Beat (Ok out)
     asked_again out volatile cell s = stepped_handles m c old new Beat out may_beat (λ choose acks right summed.
-        let told = to_all {C = C} {R = R} {O = O} old.f old.me (Recovery (nonce_of (c.held old.cell))) in
+        let told = to_all {C = C} {R = R} {O = O} old.f old.me (Recovery (record { nonce = nonce_of (c.held old.cell) })) in
         subst (Does m c old new out) (sym (beat_is acks choose))
         (record {
           f = config.0;

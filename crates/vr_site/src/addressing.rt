@@ -15,24 +15,24 @@ fn may_send<C, R, O>(config: Config, actor: u16, msg: &MsgOf<C, R, O>) -> bool
     ensures { result ≡ may_come config.f config.me actor msg.now }
 {
     match msg {
-        MsgOf::Request { .. } => is_client(actor),
+        MsgOf::Request(_) => is_client(actor),
         MsgOf::Prepare(_) => is_other_site(config, actor),
-        MsgOf::PrepareOk { .. } => is_other_site(config, actor),
-        MsgOf::Commit { .. } => is_other_site(config, actor),
-        MsgOf::StartViewChange { known, .. } => {
-            is_other_site(config, actor) && is_of_all(config, known)
+        MsgOf::PrepareOk(_) => is_other_site(config, actor),
+        MsgOf::Commit(_) => is_other_site(config, actor),
+        MsgOf::StartViewChange(msg) => {
+            is_other_site(config, actor) && is_of_all(config, &msg.known)
         }
         MsgOf::DoViewChange(msg) => {
             is_other_site(config, actor) && is_of_all(config, &msg.known)
         }
         MsgOf::StartView(_) => is_other_site(config, actor),
-        MsgOf::GetState { .. } => is_other_site(config, actor),
+        MsgOf::GetState(_) => is_other_site(config, actor),
         MsgOf::NewState(_) => is_other_site(config, actor),
-        MsgOf::Recovery { .. } => is_other_site(config, actor),
+        MsgOf::Recovery(_) => is_other_site(config, actor),
         MsgOf::RecoveryResponse(msg) => {
             is_other_site(config, actor) && is_of_all(config, &msg.known)
         }
-        MsgOf::Reply { .. } => false,
+        MsgOf::Reply(_) => false,
         MsgOf::PayOrder(_) => false,
     }
 }

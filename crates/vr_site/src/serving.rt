@@ -31,22 +31,23 @@ pub(crate) fn serve<M: Machine>(
 {
     let site = site_number(from);
     match msg {
-        MsgOf::Request { number, cmd } => {
+        MsgOf::Request(request) => {
             let row = RowOf {
                 client: from,
-                number,
-                cmd,
+                number: request.number,
+                cmd: request.cmd,
             };
             vr_normal::request(alloc, config, running, row)
         }
         MsgOf::Prepare(prepare) => vr_normal::prepare(alloc, config, running, site, prepare),
-        MsgOf::PrepareOk { view, place } => {
-            vr_normal::prepare_ok(alloc, config, running, site, view, place)
-        }
-        MsgOf::Commit { view, done } => vr_normal::commit(alloc, config, running, site, view, done),
-        MsgOf::StartViewChange { view, known } => {
-            let start = StartOf { from: site, known };
-            vr_change::start_view_change(alloc, config, running, view, start)
+        MsgOf::PrepareOk(ok) => vr_normal::prepare_ok(alloc, config, running, site, ok),
+        MsgOf::Commit(commit) => vr_normal::commit(alloc, config, running, site, commit),
+        MsgOf::StartViewChange(change) => {
+            let start = StartOf {
+                from: site,
+                known: change.known,
+            };
+            vr_change::start_view_change(alloc, config, running, change.view, start)
         }
         MsgOf::DoViewChange(change) => {
             let vote = VoteOf {
@@ -59,14 +60,12 @@ pub(crate) fn serve<M: Machine>(
             vr_change::do_view_change(alloc, config, running, change.view, vote)
         }
         MsgOf::StartView(opening) => vr_change::start_view(alloc, config, running, site, opening),
-        MsgOf::GetState { view, base } => {
-            vr_change::get_state(alloc, config, running, site, view, base)
-        }
+        MsgOf::GetState(wanted) => vr_change::get_state(alloc, config, running, site, wanted),
         MsgOf::NewState(state) => vr_change::new_state(alloc, config, running, site, state),
-        MsgOf::Recovery { nonce } => vr_recover::recovery(alloc, config, running, site, nonce),
+        MsgOf::Recovery(recovery) => vr_recover::recovery(alloc, config, running, site, recovery),
         MsgOf::RecoveryResponse(_) => Ok(dropped(alloc, Why::Status)),
         // These two are for clients alone: no actor may send a site one.
-        MsgOf::Reply { .. } => Ok(silent(alloc)),
+        MsgOf::Reply(_) => Ok(silent(alloc)),
         MsgOf::PayOrder(_) => Ok(silent(alloc)),
     }
 }

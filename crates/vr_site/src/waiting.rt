@@ -43,7 +43,7 @@ pub(crate) fn await_state<M: Machine>(
             take_response(alloc, config, setup, boot, recovering, msg.nonce, response)
         }
         MsgOf::Prepare(msg) => Ok(Progress::Dropped(why_of(config, site, msg.view))),
-        MsgOf::Commit { view, .. } => Ok(Progress::Dropped(why_of(config, site, view))),
+        MsgOf::Commit(msg) => Ok(Progress::Dropped(why_of(config, site, msg.view))),
         MsgOf::StartView(msg) => Ok(Progress::Dropped(why_of(config, site, msg.view))),
         MsgOf::NewState(msg) => Ok(Progress::Dropped(why_of(config, site, msg.view))),
         _ => Ok(Progress::Dropped(Why::Status)),

@@ -107,22 +107,22 @@ opening f = record {
 -- the requests that are out, at most one, to every site
 abbrev pub asks : ℕ → ℕ → Option Ask → List Mail
 asks f number None = []
-asks f number (Some ask) = map (λ i. record { from = asker_number; to = actor_of i; msg = Request number ask }) (sites f)
+asks f number (Some ask) = map (λ i. record { from = asker_number; to = actor_of i; msg = Request (record { number = number; cmd = ask }) }) (sites f)
 
 -- the kinds of messages, by their numbers on the wire
 abbrev pub kind_of : Message → ℕ
-kind_of (Request number cmd) = 1
+kind_of (Request msg) = 1
 kind_of (Prepare msg) = 2
-kind_of (PrepareOk view place) = 3
-kind_of (Commit view done) = 4
-kind_of (StartViewChange view known) = 5
+kind_of (PrepareOk msg) = 3
+kind_of (Commit msg) = 4
+kind_of (StartViewChange msg) = 5
 kind_of (DoViewChange msg) = 6
 kind_of (StartView msg) = 7
-kind_of (GetState view base) = 8
+kind_of (GetState msg) = 8
 kind_of (NewState msg) = 9
-kind_of (Recovery nonce) = 10
+kind_of (Recovery msg) = 10
 kind_of (RecoveryResponse msg) = 11
-kind_of (Reply view number reply) = 12
+kind_of (Reply msg) = 12
 kind_of (PayOrder order) = 13
 
 abbrev pub newest_of : ℕ → ℕ → ℕ → List Mail → Option Mail
@@ -143,8 +143,8 @@ module _ (step_of : ℕ → Site Ask → EventOf Ask ℕ ℕ → Step Ask ℕ �
       if length w.asker.requests == w.asker.answered then asks_on more else more
 
   abbrev pub hears : World → Message → World
-  hears w (Reply view number reply) =
-      if number == w.asker.answered + 1 then asks_on (record w { asker = record (w.asker) { answered = number } }) else w
+  hears w (Reply msg) =
+      if msg.number == w.asker.answered + 1 then asks_on (record w { asker = record (w.asker) { answered = msg.number } }) else w
   hears w _ = w
 
   abbrev pub after_step : World → ℕ → Step Ask ℕ ℕ → World
@@ -186,7 +186,7 @@ module _ (step_of : ℕ → Site Ask → EventOf Ask ℕ ℕ → Step Ask ℕ �
   does_line w (PayIn n) = pays_in w n
   does_line w (Drain n) = drains 200 n w
   does_line w (Deliver n) = delivers w (slice_get w.post (n - 1))
-  does_line w (Asks n i) = at_site w i (event.Deliver (record { from = asker_number; to = actor_of i; msg = Request n (Add n) }))
+  does_line w (Asks n i) = at_site w i (event.Deliver (record { from = asker_number; to = actor_of i; msg = Request (record { number = n; cmd = Add n }) }))
   does_line w (To kind from to) = delivers w (newest_of kind from to w.post)
   does_line w (Beat i) = at_site w i event.Beat
   does_line w (Timer i) = at_site w i event.Timer

@@ -17,6 +17,10 @@ use Rattle.vr_types.specs.declared.message.MsgOf.TheVariants.{Request, Prepare, 
 use Rattle.vr_types.specs.declared.message.PrepareOf.{PrepareOf}
 use Rattle.vr_types.specs.declared.message.StartViewOf.{StartViewOf}
 use Rattle.vr_types.specs.declared.message.NewStateOf.{NewStateOf}
+use Rattle.vr_types.specs.declared.message.Commit.{Commit as CommitMsg}
+use Rattle.vr_types.specs.declared.message.GetState.{GetState as GetStateMsg}
+use Rattle.vr_types.specs.declared.message.PrepareOk.{PrepareOk as PrepareOkMsg}
+use Rattle.vr_types.specs.declared.message.Recovery.{Recovery as RecoveryMsg}
 use Rattle.vr_types.specs.declared.row.RowOf.{RowOf}
 use Rattle.vr_types.specs.Cell.{nonce_of, raised}
 use Rattle.vr_types.specs.Execution.{answer_at}
@@ -105,20 +109,20 @@ prepare_saved f me x from msg =
     (saved_if (nat_lt msg.view x.view) _ _ (no_mail x.cell)
     (saved_if (nat_lt x.view msg.view || is_change x.status) _ _ (asking_saved x.cell f me msg.view x.done) (prepares_saved f me x msg))))
 
-commit_saved : {C R O : Type 0} (f me : ℕ) (x : Site C) (from w k : ℕ) → IsSavedStep (on_commit {R = R} {O = O} f me x from w k)
+commit_saved : {C R O : Type 0} (f me : ℕ) (x : Site C) (from : ℕ) (msg : CommitMsg) → IsSavedStep (on_commit {R = R} {O = O} f me x from msg)
 unfolding on_commit
-commit_saved f me x from w k =
-    saved_if (not (primary f w == from)) _ _ (no_mail x.cell)
+commit_saved f me x from msg =
+    saved_if (not (primary f msg.view == from)) _ _ (no_mail x.cell)
     (saved_if (is_recovering x.status) _ _ (no_mail x.cell)
-    (saved_if (nat_lt w x.view) _ _ (no_mail x.cell)
-    (saved_if (nat_lt x.view w || is_change x.status) _ _ (asking_saved x.cell f me w x.done)
-    (mail_if x.cell (nat_lt (length x.log) k) _ _ (asking_saved x.cell f me x.view (length x.log)) (no_mail x.cell)))))
+    (saved_if (nat_lt msg.view x.view) _ _ (no_mail x.cell)
+    (saved_if (nat_lt x.view msg.view || is_change x.status) _ _ (asking_saved x.cell f me msg.view x.done)
+    (mail_if x.cell (nat_lt (length x.log) msg.done) _ _ (asking_saved x.cell f me x.view (length x.log)) (no_mail x.cell)))))
 
-prepare_ok_saved : {C R O : Type 0} (choose : Choice C) (f me : ℕ) (x : Site C) (from w place : ℕ) → IsSavedStep (on_prepare_ok {R = R} {O = O} choose f me x from w place)
+prepare_ok_saved : {C R O : Type 0} (choose : Choice C) (f me : ℕ) (x : Site C) (from : ℕ) (msg : PrepareOkMsg) → IsSavedStep (on_prepare_ok {R = R} {O = O} choose f me x from msg)
 unfolding on_prepare_ok
-prepare_ok_saved choose f me x from w place =
+prepare_ok_saved choose f me x from msg =
     saved_if (not (is_normal x.status)) _ _ (no_mail x.cell)
-    (saved_if (not (w == x.view)) _ _ (no_mail x.cell)
+    (saved_if (not (msg.view == x.view)) _ _ (no_mail x.cell)
     (saved_if (not (primary f x.view == me)) _ _ (no_mail x.cell) (no_mail x.cell)))
 
 news_saved : {C : Type 0} (R O : Type 0) (x : Site C) (row : Option (RowOf C)) → IsSavedFor x.cell (news {R = R} {O = O} x row)
@@ -136,7 +140,7 @@ starting_later_saved : {C R O : Type 0} (f me w : ℕ) (x : Site C) → IsSavedP
 starting_later_saved {C} {R} {O} f me w x = by_test (nat_lt x.view w)
   where
     by_test : (b : Bool) → IsSavedPart (if b then starts_view {R = R} {O = O} f me w x else record { site = x; sent = [] })
-    by_test true = mail_to_all x.cell f me (StartViewChange w x.known) tt
+    by_test true = mail_to_all x.cell f me (StartViewChange (record { view = w; known = x.known })) tt
     by_test false = no_mail x.cell
 
 keeping_start_saved : {C R O : Type 0} (start : Start) (p : Part C R O) → IsSavedPart p → IsSavedPart (record p { site = with_start start p.site })
@@ -212,24 +216,24 @@ start_view_saved choose f me x from msg =
 timer_saved : {C R O : Type 0} (f me : ℕ) (x : Site C) → IsSavedStep (on_timer {R = R} {O = O} f me x)
 unfolding on_timer
 timer_saved f me x =
-    saved_if (is_recovering x.status) _ _ (no_mail x.cell) (mail_to_all x.cell f me (StartViewChange (x.view + 1) x.known) tt)
+    saved_if (is_recovering x.status) _ _ (no_mail x.cell) (mail_to_all x.cell f me (StartViewChange (record { view = x.view + 1; known = x.known })) tt)
 
 beat_in_change_saved : {C R O : Type 0} (f me : ℕ) (x : Site C) → IsSavedStep (beats_in_change {R = R} {O = O} f me x)
 unfolding beats_in_change
 beat_in_change_saved f me x =
-    both_mails x.cell _ _ (mail_to_all x.cell f me (StartViewChange x.view x.known) tt)
+    both_mails x.cell _ _ (mail_to_all x.cell f me (StartViewChange (record { view = x.view; known = x.known })) tt)
     (mail_if x.cell (x.collected.voted && not (primary f x.view == me)) _ _ (one_mail x.cell _ tt) (no_mail x.cell))
 
 -- state transfer
 
-get_state_saved : {C R O : Type 0} (f me : ℕ) (x : Site C) (from w base : ℕ) → IsSavedStep (on_get_state {R = R} {O = O} f me x from w base)
+get_state_saved : {C R O : Type 0} (f me : ℕ) (x : Site C) (from : ℕ) (msg : GetStateMsg) → IsSavedStep (on_get_state {R = R} {O = O} f me x from msg)
 unfolding on_get_state
-get_state_saved f me x from w base =
+get_state_saved f me x from msg =
     saved_if (not (is_normal x.status)) _ _ (no_mail x.cell)
-    (saved_if (not (w == x.view)) _ _ (no_mail x.cell)
+    (saved_if (not (msg.view == x.view)) _ _ (no_mail x.cell)
     (saved_if (not (primary f x.view == me)) _ _ (no_mail x.cell)
-    (saved_if (nat_lt (length x.log) base) _ _ (no_mail x.cell)
-    (one_mail x.cell (mail me from (NewState (record { view = x.view; base = base; done = x.done; rows = drop base x.log }))) tt))))
+    (saved_if (nat_lt (length x.log) msg.base) _ _ (no_mail x.cell)
+    (one_mail x.cell (mail me from (NewState (record { view = x.view; base = msg.base; done = x.done; rows = drop msg.base x.log }))) tt))))
 
 new_state_saved : {C R O : Type 0} (choose : Choice C) (f me : ℕ) (x : Site C) (from : ℕ) (msg : NewStateOf C) → IsSavedStep (on_new_state {R = R} {O = O} choose f me x from msg)
 unfolding on_new_state
@@ -244,13 +248,13 @@ new_state_saved choose f me x from msg =
 
 -- recovery
 
-recovery_saved : {C R O : Type 0} (f me : ℕ) (x : Site C) (from nonce : ℕ) → IsSavedStep (on_recovery {R = R} {O = O} f me x from nonce)
+recovery_saved : {C R O : Type 0} (f me : ℕ) (x : Site C) (from : ℕ) (msg : RecoveryMsg) → IsSavedStep (on_recovery {R = R} {O = O} f me x from msg)
 unfolding on_recovery
-recovery_saved f me x from nonce =
-    let y = notes from nonce x in
+recovery_saved f me x from msg =
+    let y = notes from msg.nonce x in
     saved_if (not (is_normal x.status)) _ _ (no_mail x.cell)
-    (saved_if (nat_lt nonce (boot_of x.known from)) _ _ (no_mail x.cell)
-    (one_mail x.cell (mail me from (RecoveryResponse (record { view = y.view; nonce = nonce; state = state_of_view f me y; known = y.known }))) tt))
+    (saved_if (nat_lt msg.nonce (boot_of x.known from)) _ _ (no_mail x.cell)
+    (one_mail x.cell (mail me from (RecoveryResponse (record { view = y.view; nonce = msg.nonce; state = state_of_view f me y; known = y.known }))) tt))
 
 regaining_saved : {C R O : Type 0} (x : Site C) (regained : Option (Regained C)) → IsSavedStep (regains {R = R} {O = O} x regained)
 regaining_saved x None = no_mail x.cell
@@ -269,28 +273,28 @@ recovery_response_saved choose x nonce response =
 
 beat_recovering_saved : {C R O : Type 0} (f me : ℕ) (x : Site C) → IsSavedStep (beats_recovering {R = R} {O = O} f me x)
 unfolding beats_recovering
-beat_recovering_saved f me x = mail_to_all x.cell f me (Recovery (nonce_of x.cell)) refl
+beat_recovering_saved f me x = mail_to_all x.cell f me (Recovery (record { nonce = nonce_of x.cell })) refl
 
 restart_saved : {C R O : Type 0} (f me : ℕ) (x : Site C) → IsSavedStep (on_restart {R = R} {O = O} f me x)
 unfolding on_restart
-restart_saved f me x = mail_to_all (raised x.cell) f me (Recovery (nonce_of (raised x.cell))) refl
+restart_saved f me x = mail_to_all (raised x.cell) f me (Recovery (record { nonce = nonce_of (raised x.cell) })) refl
 
 -- every event
 
 module _ {C R O : Type 0} (choose : Choice C) (f me : ℕ) (x : Site C) where
   message_saved : (actor : ℕ) (msg : MsgOf C R O) → IsSavedStep (on_message choose f me x actor msg)
-  message_saved actor (Request number cmd) = request_saved f me x _
+  message_saved actor (Request msg) = request_saved f me x _
   message_saved actor (Prepare msg) = prepare_saved f me x _ msg
-  message_saved actor (PrepareOk w place) = prepare_ok_saved choose f me x _ w place
-  message_saved actor (Commit w k) = commit_saved f me x _ w k
-  message_saved actor (StartViewChange w known) = start_view_change_saved choose f me x w _
+  message_saved actor (PrepareOk msg) = prepare_ok_saved choose f me x _ msg
+  message_saved actor (Commit msg) = commit_saved f me x _ msg
+  message_saved actor (StartViewChange msg) = start_view_change_saved choose f me x msg.view _
   message_saved actor (DoViewChange msg) = do_view_change_saved choose f me x msg.view _
   message_saved actor (StartView msg) = start_view_saved choose f me x _ msg
-  message_saved actor (GetState w base) = get_state_saved f me x _ w base
+  message_saved actor (GetState msg) = get_state_saved f me x _ msg
   message_saved actor (NewState msg) = new_state_saved choose f me x _ msg
-  message_saved actor (Recovery nonce) = recovery_saved f me x _ nonce
+  message_saved actor (Recovery msg) = recovery_saved f me x _ msg
   message_saved actor (RecoveryResponse msg) = recovery_response_saved choose x msg.nonce _
-  message_saved actor (Reply view number reply) = no_mail x.cell
+  message_saved actor (Reply msg) = no_mail x.cell
   message_saved actor (PayOrder order) = no_mail x.cell
 
   beats_saved : (status : Status) → IsSavedStep {R = R} {O = O} (on_beat f me x status)
@@ -318,9 +322,9 @@ module _ {H C R O S : Type 0} (m : Ghosts H C R O S) (start : H) (me : ℕ) (cel
   replies_saved x (p ∷ ps) = one (slice_get x.log (p - 1)) (filter_map (reply_to m start me x) ps) (replies_saved x ps)
     where
       one : (row : Option (RowOf C)) (rest : List (EnvelopeOf C R O)) → AllSaved cell rest
-          → AllSaved cell (cons_option (option_map (λ r. record { from = actor_of me; to = r.client; msg = Reply x.view r.number (answer_at m start x.log p r) }) row) rest)
+          → AllSaved cell (cons_option (option_map (λ r. record { from = actor_of me; to = r.client; msg = Reply (record { view = x.view; number = r.number; reply = answer_at m start x.log p r }) }) row) rest)
       one None rest h = h
-      one (Some r) rest h = both_mails cell (record { from = actor_of me; to = r.client; msg = Reply x.view r.number (answer_at m start x.log p r) } ∷ []) rest (one_mail cell _ tt) h
+      one (Some r) rest h = both_mails cell (record { from = actor_of me; to = r.client; msg = Reply (record { view = x.view; number = r.number; reply = answer_at m start x.log p r }) } ∷ []) rest (one_mail cell _ tt) h
 
   orders_saved : (b : Bool) (due : List (ℕ × O)) → AllSaved {C = C} {R = R} {O = O} cell (if b then map (order_to me) due else [])
   orders_saved true due = All-map (λ (d : EnvelopeOf C R O). IsSavedFor cell d.msg) (order_to me) due (λ k d low. tt)

@@ -44,7 +44,7 @@ told_again_shows : shows told_again ≡
 unfolding on_request on_prepare on_prepare_ok on_commit beats_normal on_start_view_change on_do_view_change on_start_view on_timer beats_in_change on_get_state on_new_state on_recovery on_recovery_response beats_recovering on_restart
 told_again_shows = refl
 
-told_again_sends : drop 10 told_again.post ≡ replicate 5 (record { from = 200; to = 102; msg = Reply 0 1 1200 })
+told_again_sends : drop 10 told_again.post ≡ replicate 5 (record { from = 200; to = 102; msg = Reply (record { view = 0; number = 1; reply = 1200 }) })
 unfolding on_request on_prepare on_prepare_ok on_commit beats_normal on_start_view_change on_do_view_change on_start_view on_timer beats_in_change on_get_state on_new_state on_recovery on_recovery_response beats_recovering on_restart
 told_again_sends = refl
 
@@ -64,7 +64,7 @@ cut_off_prepare : slice_get cut_off.post 33 ≡ Some (record { from = 201; to = 
 unfolding on_request on_prepare on_prepare_ok on_commit beats_normal on_start_view_change on_do_view_change on_start_view on_timer beats_in_change on_get_state on_new_state on_recovery on_recovery_response beats_recovering on_restart
 cut_off_prepare = refl
 
-cut_off_asks : slice_get cut_off.post 35 ≡ Some (record { from = 202; to = 201; msg = GetState 1 0 })
+cut_off_asks : slice_get cut_off.post 35 ≡ Some (record { from = 202; to = 201; msg = GetState (record { view = 1; base = 0 }) })
 unfolding on_request on_prepare on_prepare_ok on_commit beats_normal on_start_view_change on_do_view_change on_start_view on_timer beats_in_change on_get_state on_new_state on_recovery on_recovery_response beats_recovering on_restart
 cut_off_asks = refl
 

@@ -29,7 +29,7 @@ answers_unnoted f me x from nonce =
     else does x (mail me from (RecoveryResponse (record { view = x.view; nonce = nonce; state = state_of_view f me x; known = x.known })) ∷ [])
 
 abbrev takes_unnoted : ℕ → ℕ → Site Ask → ℕ → MsgOf Ask ℕ ℕ → Step Ask ℕ ℕ
-takes_unnoted f me x actor (Recovery nonce) = answers_unnoted f me x (site_of actor) nonce
+takes_unnoted f me x actor (Recovery msg) = answers_unnoted f me x (site_of actor) msg.nonce
 takes_unnoted f me x actor msg = on_message (choice_of same_ask f) f me x actor msg
 
 abbrev unnoted : World
@@ -66,7 +66,7 @@ votes_keeping f me x w vote =
     opens_where_due (choice_of same_ask f) f me x (record started { site = with_vote vote started.site }))
 
 abbrev takes_keeping : ℕ → ℕ → Site Ask → ℕ → MsgOf Ask ℕ ℕ → Step Ask ℕ ℕ
-takes_keeping f me x actor (StartViewChange w known) = starts_keeping f me x w (record { from = site_of actor; known = known })
+takes_keeping f me x actor (StartViewChange msg) = starts_keeping f me x msg.view (record { from = site_of actor; known = msg.known })
 takes_keeping f me x actor (DoViewChange msg) = votes_keeping f me x msg.view (vote_of (site_of actor) msg)
 takes_keeping f me x actor msg = on_message (choice_of same_ask f) f me x actor msg
 

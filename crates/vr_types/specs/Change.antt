@@ -21,7 +21,7 @@ pub record Part (C R O : Type 0) : Type 0 where
 abbrev pub starts_view : {C R O : Type 0} → ℕ → ℕ → ℕ → Site C → Part C R O
 starts_view f me w x = record {
   site = record x { status = Change; view = w; collected = nothing };
-  sent = to_all f me (StartViewChange w x.known);
+  sent = to_all f me (StartViewChange (record { view = w; known = x.known }));
 }
 
 -- a later view is started
@@ -142,5 +142,5 @@ on_timer f me x =
 -- Beat of a site in change: it says again what it has said of its view.
 unfoldable pub beats_in_change : {C R O : Type 0} → ℕ → ℕ → Site C → Step C R O
 beats_in_change f me x =
-    does x (to_all f me (StartViewChange x.view x.known)
+    does x (to_all f me (StartViewChange (record { view = x.view; known = x.known }))
     ++ (if x.collected.voted && not (primary f x.view == me) then sends_vote f me x else []))

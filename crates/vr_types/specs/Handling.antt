@@ -41,24 +41,24 @@ refusal f me x Restart =
 
 -- a message of an actor that may send it; to the rules a client is its actor's number, and a site its own
 abbrev pub on_message : {C R O : Type 0} → Choice C → ℕ → ℕ → Site C → ℕ → MsgOf C R O → Step C R O
-on_message choose f me x actor (Request number cmd) = on_request f me x (record { client = actor; number = number; cmd = cmd })
+on_message choose f me x actor (Request msg) = on_request f me x (record { client = actor; number = msg.number; cmd = msg.cmd })
 on_message choose f me x actor (Prepare msg) = on_prepare f me x (site_of actor) msg
-on_message choose f me x actor (PrepareOk w place) = on_prepare_ok choose f me x (site_of actor) w place
-on_message choose f me x actor (Commit w k) = on_commit f me x (site_of actor) w k
-on_message choose f me x actor (StartViewChange w known) = on_start_view_change choose f me x w (record { from = site_of actor; known = known })
+on_message choose f me x actor (PrepareOk msg) = on_prepare_ok choose f me x (site_of actor) msg
+on_message choose f me x actor (Commit msg) = on_commit f me x (site_of actor) msg
+on_message choose f me x actor (StartViewChange msg) = on_start_view_change choose f me x msg.view (record { from = site_of actor; known = msg.known })
 on_message choose f me x actor (DoViewChange msg) = on_do_view_change choose f me x msg.view (vote_of (site_of actor) msg)
 on_message choose f me x actor (StartView msg) = on_start_view choose f me x (site_of actor) msg
-on_message choose f me x actor (GetState w base) = on_get_state f me x (site_of actor) w base
+on_message choose f me x actor (GetState msg) = on_get_state f me x (site_of actor) msg
 on_message choose f me x actor (NewState msg) = on_new_state choose f me x (site_of actor) msg
-on_message choose f me x actor (Recovery nonce) = on_recovery f me x (site_of actor) nonce
+on_message choose f me x actor (Recovery msg) = on_recovery f me x (site_of actor) msg
 on_message choose f me x actor (RecoveryResponse msg) = on_recovery_response choose x msg.nonce (response_of (site_of actor) msg)
-on_message choose f me x actor (Reply view number reply) = refuses x NotMine
+on_message choose f me x actor (Reply msg) = refuses x NotMine
 on_message choose f me x actor (PayOrder order) = refuses x NotMine
 
 -- the DOVIEWCHANGEs by which a message decides whether a view opens: none where it opens none
 abbrev pub votes_used : {C R O : Type 0} → ℕ → ℕ → Site C → ℕ → MsgOf C R O → List (Vote C)
-votes_used {C} {R} {O} f me x actor (StartViewChange w known) =
-    let part : Part C R O = after_start f me w (record { from = site_of actor; known = known }) x in part.site.collected.votes
+votes_used {C} {R} {O} f me x actor (StartViewChange msg) =
+    let part : Part C R O = after_start f me msg.view (record { from = site_of actor; known = msg.known }) x in part.site.collected.votes
 votes_used {C} {R} {O} f me x actor (DoViewChange msg) =
     let part : Part C R O = after_vote f me msg.view (vote_of (site_of actor) msg) x in part.site.collected.votes
 votes_used f me x actor _ = []
@@ -115,7 +115,7 @@ machine_of m start x = held_after m start (executed_rows x)
 abbrev pub reply_to : {H C R O S : Type 0} → Ghosts H C R O S → H → ℕ → Site C → ℕ → Option (EnvelopeOf C R O)
 reply_to m start me x place =
     option_map
-    (λ row. record { from = actor_of me; to = row.client; msg = Reply x.view row.number (answer_at m start x.log place row) })
+    (λ row. record { from = actor_of me; to = row.client; msg = Reply (record { view = x.view; number = row.number; reply = answer_at m start x.log place row }) })
     (slice_get x.log (place - 1))
 
 -- PAYORDER of an open order to its client

@@ -6,7 +6,7 @@ use Rattle.vr_types.specs.declared.message.StateOf.{StateOf}
 use Rattle.vr_types.specs.declared.row.RowOf.{RowOf}
 
 abbrev pub is_request : {C R O : Type 0} → MsgOf C R O → Bool
-is_request (Request number cmd) = true
+is_request (Request msg) = true
 is_request _ = false
 
 -- the rows of the state that an answer to a recovering site holds
@@ -25,19 +25,19 @@ rows_in _ = []
 
 -- what its sender knew of boots, where a message tells it
 abbrev pub known_in : {C R O : Type 0} → MsgOf C R O → Option (List ℕ)
-known_in (StartViewChange view known) = Some known
+known_in (StartViewChange msg) = Some msg.known
 known_in (DoViewChange msg) = Some msg.known
 known_in (RecoveryResponse msg) = Some msg.known
 known_in _ = None
 
 -- the nonce with which a site asks for the state, where a message asks for it
 abbrev pub asked_nonce : {C R O : Type 0} → MsgOf C R O → Option ℕ
-asked_nonce (Recovery nonce) = Some nonce
+asked_nonce (Recovery msg) = Some msg.nonce
 asked_nonce _ = None
 
 -- a message that carries no list: neither rows nor what is known of boots
 abbrev pub has_fixed_size : {C R O : Type 0} → MsgOf C R O → Bool
-has_fixed_size (StartViewChange view known) = false
+has_fixed_size (StartViewChange msg) = false
 has_fixed_size (DoViewChange msg) = false
 has_fixed_size (StartView msg) = false
 has_fixed_size (NewState msg) = false

@@ -6,6 +6,7 @@ use Rattle.vr_types.specs.declared.event.Why.TheVariants.{Status, Known, Stale}
 use Rattle.vr_types.specs.declared.message.MsgOf.TheVariants.{Recovery, RecoveryResponse}
 use Rattle.vr_types.specs.declared.message.RecoveryResponseOf.{RecoveryResponseOf}
 use Rattle.vr_types.specs.declared.message.StateOf.{StateOf}
+use Rattle.vr_types.specs.declared.message.Recovery.{Recovery as RecoveryMsg}
 use Rattle.vr_types.specs.Cell.{nonce_of, raised}
 use Rattle.vr_types.specs.Group.{primary, mail, to_all}
 use Rattle.vr_types.specs.Site.{Site, Response, over, restarted, boot_of, is_normal, is_recovering}
@@ -21,11 +22,11 @@ abbrev pub notes : {C : Type 0} → ℕ → ℕ → Site C → Site C
 notes from boot x = record x { known = slice_set x.known from boot }
 
 -- RECOVERY (step 2). This project's own: the nonce is noted before it is answered, and an earlier one is dropped.
-unfoldable pub on_recovery : {C R O : Type 0} → ℕ → ℕ → Site C → ℕ → ℕ → Step C R O
-on_recovery f me x from nonce =
+unfoldable pub on_recovery : {C R O : Type 0} → ℕ → ℕ → Site C → ℕ → RecoveryMsg → Step C R O
+on_recovery f me x from msg =
     if not (is_normal x.status) then drops x Status
-    else if nat_lt nonce (boot_of x.known from) then drops x Stale
-    else (let y = notes from nonce x in does y (mail me from (RecoveryResponse (record { view = y.view; nonce = nonce; state = state_of_view f me y; known = y.known })) ∷ []))
+    else if nat_lt msg.nonce (boot_of x.known from) then drops x Stale
+    else (let y = notes from msg.nonce x in does y (mail me from (RecoveryResponse (record { view = y.view; nonce = msg.nonce; state = state_of_view f me y; known = y.known })) ∷ []))
 
 -- what a site answers by its RECOVERYRESPONSE
 abbrev pub response_of : {C : Type 0} → ℕ → RecoveryResponseOf C → Response C
@@ -61,7 +62,7 @@ on_recovery_response choose x nonce response =
 
 -- Beat of a recovering site: it asks again (step 1).
 unfoldable pub beats_recovering : {C R O : Type 0} → ℕ → ℕ → Site C → Step C R O
-beats_recovering f me x = does x (to_all f me (Recovery (nonce_of x.cell)))
+beats_recovering f me x = does x (to_all f me (Recovery (record { nonce = nonce_of x.cell })))
 
 -- Crash: all is lost but the cell.
 abbrev pub on_crash : {C R O : Type 0} → Site C → Step C R O
@@ -70,4 +71,4 @@ on_crash x = does (over x.cell Down) []
 -- Restart of a site that is down (step 1): the count of restarts is raised and saved, and all are asked. A count at its greatest is refused before.
 unfoldable pub on_restart : {C R O : Type 0} → ℕ → ℕ → Site C → Step C R O
 on_restart f me x =
-    let cell = raised x.cell in does (restarted f me cell) (to_all f me (Recovery (nonce_of cell)))
+    let cell = raised x.cell in does (restarted f me cell) (to_all f me (Recovery (record { nonce = nonce_of cell })))

@@ -6,7 +6,7 @@ use pvp_wire::{Message, WireFault, decode, encode, wireable};
 use std::alloc::{AllocError, Global};
 use std::io::{self, Write};
 use std::test::Fail;
-use vr_types::{MsgOf, PrepareOf};
+use vr_types::{Commit, MsgOf, PrepareOf, StartViewChange};
 
 /// What `decode` makes of bytes: the size of the frame, or the fault.
 fn read(alloc: Global, bytes: &[u8]) -> Result<usize, WireFault> {
@@ -115,17 +115,17 @@ fn a_stranger_is_not_wireable(rt: HostRuntime) -> Result<(), Fail> {
         row: other,
     });
     assert!(rt; !wireable(&stamped(200, 1, 0, 201, prepare)));
-    let commit = MsgOf::Commit { view: 0, done: 0 };
+    let commit = MsgOf::Commit(Commit { view: 0, done: 0 });
     assert!(rt; !wireable(&stamped(200, 1, 0, 207, commit)));
     Ok(())
 }
 
 /// A STARTVIEWCHANGE that tells of as many boots.
 fn change(alloc: Global, boots: &[u32]) -> Result<Message, AllocError> {
-    Ok(MsgOf::StartViewChange {
+    Ok(MsgOf::StartViewChange(StartViewChange {
         view: 1,
         known: known(alloc, boots)?,
-    })
+    }))
 }
 
 #[test]
@@ -163,7 +163,7 @@ impl Write for Failing {
 #[test]
 fn a_failing_writer_is_told(rt: HostRuntime) -> Result<(), Fail> {
     for (left, want) in [(0, false), (1, false), (2, true)] {
-        let commit = stamped(200, 5, 0, 201, MsgOf::Commit { view: 0, done: 1 });
+        let commit = stamped(200, 5, 0, 201, MsgOf::Commit(Commit { view: 0, done: 1 }));
         if !wireable(&commit) {
             return Err(Fail::new("it has no spelling"));
         }

@@ -6,7 +6,8 @@ use pvp_wire::{Message, decode};
 use std::alloc::Global;
 use std::test::Fail;
 use vr_types::{
-    DoViewChangeOf, MsgOf, NewStateOf, PrepareOf, RecoveryResponseOf, RowsOf, StartViewOf, StateOf,
+    Commit, DoViewChangeOf, GetState, MsgOf, NewStateOf, PrepareOf, PrepareOk, Recovery,
+    RecoveryResponseOf, ReplyOf, RequestOf, RowsOf, StartViewChange, StartViewOf, StateOf,
 };
 
 /// Whether a message is read as it is written: its frame is read whole, and written again the same.
@@ -22,10 +23,10 @@ fn normal_operation(rt: HostRuntime) -> Result<(), Fail> {
     let alloc = rt.alloc();
     let view = u32::MAX;
     let done = u16::MAX;
-    let request = MsgOf::Request {
+    let request = MsgOf::Request(RequestOf {
         number: u32::MAX,
         cmd: Cmd::Rescind { reference: 0 },
-    };
+    });
     assert!(rt; comes_back(alloc, request)?);
     let prepare = MsgOf::Prepare(PrepareOf {
         view,
@@ -34,8 +35,8 @@ fn normal_operation(rt: HostRuntime) -> Result<(), Fail> {
         row: row(),
     });
     assert!(rt; comes_back(alloc, prepare)?);
-    assert!(rt; comes_back(alloc, MsgOf::PrepareOk { view, place: done })?);
-    assert!(rt; comes_back(alloc, MsgOf::Commit { view, done })?);
+    assert!(rt; comes_back(alloc, MsgOf::PrepareOk(PrepareOk { view, place: done }))?);
+    assert!(rt; comes_back(alloc, MsgOf::Commit(Commit { view, done }))?);
     Ok(())
 }
 
@@ -59,7 +60,7 @@ const COMMANDS: [Cmd; 4] = [
 #[test]
 fn commands(rt: HostRuntime) -> Result<(), Fail> {
     for cmd in COMMANDS {
-        assert!(rt; comes_back(rt.alloc(), MsgOf::Request { number: 1, cmd })?);
+        assert!(rt; comes_back(rt.alloc(), MsgOf::Request(RequestOf { number: 1, cmd }))?);
     }
     Ok(())
 }
@@ -71,10 +72,10 @@ fn a_view_change(rt: HostRuntime) -> Result<(), Fail> {
     let done = u16::MAX;
     let boots = [u32::MAX, 0, 1, 2, 3, 4, 5];
     for sites in 1..8 {
-        let change = MsgOf::StartViewChange {
+        let change = MsgOf::StartViewChange(StartViewChange {
             view,
             known: known(alloc, &boots[..sites])?,
-        };
+        });
         assert!(rt; comes_back(alloc, change)?);
         let vote = MsgOf::DoViewChange(DoViewChangeOf {
             view,
@@ -98,7 +99,7 @@ fn a_view_change(rt: HostRuntime) -> Result<(), Fail> {
 fn a_state_transfer(rt: HostRuntime) -> Result<(), Fail> {
     let alloc = rt.alloc();
     let view = u32::MAX;
-    assert!(rt; comes_back(alloc, MsgOf::GetState { view, base: 0 })?);
+    assert!(rt; comes_back(alloc, MsgOf::GetState(GetState { view, base: 0 }))?);
     let state = MsgOf::NewState(NewStateOf {
         view,
         base: u16::MAX,
@@ -113,7 +114,7 @@ fn a_state_transfer(rt: HostRuntime) -> Result<(), Fail> {
 fn a_recovery(rt: HostRuntime) -> Result<(), Fail> {
     let alloc = rt.alloc();
     let nonce = u32::MAX;
-    assert!(rt; comes_back(alloc, MsgOf::Recovery { nonce })?);
+    assert!(rt; comes_back(alloc, MsgOf::Recovery(Recovery { nonce }))?);
     let bare = MsgOf::RecoveryResponse(RecoveryResponseOf {
         view: 0,
         nonce,
@@ -145,11 +146,11 @@ fn answers_and_orders(rt: HostRuntime) -> Result<(), Fail> {
         Reply::No(Reason::NotYours),
         Reply::No(Reason::Late),
     ] {
-        let answer = MsgOf::Reply {
+        let answer = MsgOf::Reply(ReplyOf {
             view: 0,
             number: u32::MAX,
             reply,
-        };
+        });
         assert!(rt; comes_back(rt.alloc(), answer)?);
     }
     let order = MsgOf::PayOrder(PayOrder {

@@ -6,7 +6,10 @@ use pvp_wire::{Message, decode};
 use std::alloc::{AllocError, Global};
 use std::process::Abort;
 use std::test::Fail;
-use vr_types::{DoViewChangeOf, MsgOf, RecoveryResponseOf, RowsOf, StateOf};
+use vr_types::{
+    Commit, DoViewChangeOf, MsgOf, RecoveryResponseOf, ReplyOf, RequestOf, RowsOf, StartViewChange,
+    StateOf,
+};
 
 /// COMMIT of view 0, 1 row executed, from site 0 to site 1, clock 5, index 0.
 pub const COMMIT: [u8; 28] = [
@@ -78,9 +81,9 @@ fn is_spelled<R: Abort + AllocGlobal>(
 
 #[test]
 fn normal_operation(rt: HostRuntime) -> Result<(), Fail> {
-    let commit = MsgOf::Commit { view: 0, done: 1 };
+    let commit = MsgOf::Commit(Commit { view: 0, done: 1 });
     is_spelled(&rt, (200, 201), (5, 0), commit, COMMIT.as_slice())?;
-    let fund = MsgOf::Request {
+    let fund = MsgOf::Request(RequestOf {
         number: 1,
         cmd: Cmd::Fund {
             ccy: 1,
@@ -88,12 +91,12 @@ fn normal_operation(rt: HostRuntime) -> Result<(), Fail> {
             member: 1,
             amt: 1200,
         },
-    };
+    });
     is_spelled(&rt, (102, 200), (1, 0), fund, REQUEST.as_slice())?;
-    let returned = MsgOf::Request {
+    let returned = MsgOf::Request(RequestOf {
         number: 2,
         cmd: Cmd::Returned { ccy: 1, out: 1 },
-    };
+    });
     is_spelled(&rt, (102, 200), (2, 0), returned, RETURNED.as_slice())
 }
 
@@ -106,11 +109,11 @@ fn what_clients_and_nodes_are_told(rt: HostRuntime) -> Result<(), Fail> {
         amt: 200,
     });
     is_spelled(&rt, (200, 102), (7, 2), order, ORDER.as_slice())?;
-    let answer = MsgOf::Reply {
+    let answer = MsgOf::Reply(ReplyOf {
         view: 0,
         number: 3,
         reply: Reply::No(Reason::BankShort),
-    };
+    });
     is_spelled(&rt, (200, 1), (7, 0), answer, ANSWER.as_slice())
 }
 
@@ -127,10 +130,10 @@ fn vote(alloc: Global) -> Result<Message, AllocError> {
 #[test]
 fn what_tells_of_boots(rt: HostRuntime) -> Result<(), Fail> {
     let alloc = rt.alloc();
-    let change = MsgOf::StartViewChange {
+    let change = MsgOf::StartViewChange(StartViewChange {
         view: 2,
         known: known(alloc, [0, 0, 0].as_slice())?,
-    };
+    });
     is_spelled(&rt, (202, 201), (2, 1), change, CHANGE.as_slice())?;
     is_spelled(&rt, (202, 201), (3, 0), vote(alloc)?, VOTE.as_slice())?;
     let regained = MsgOf::RecoveryResponse(RecoveryResponseOf {

@@ -11,8 +11,9 @@ use std::alloc::Global;
 use std::process::Abort;
 use std::test::Fail;
 use vr_types::{
-    DoViewChangeOf, Known, MemCell, Msg, MsgOf, NewStateOf, PrepareOf, RecoveryResponseOf, RowOf,
-    RowsOf, StartViewOf, StateOf,
+    DoViewChangeOf, GetState, Known, MemCell, Msg, MsgOf, NewStateOf, PrepareOf, PrepareOk,
+    Recovery, RecoveryResponseOf, ReplyOf, RequestOf, RowOf, RowsOf, StartViewChange, StartViewOf,
+    StateOf,
 };
 
 /// Tries steps, and tells each.
@@ -152,10 +153,10 @@ fn is_told(
 
 /// Messages that change a view.
 fn changes_are_told(rt: &impl Abort, alloc: Global, setup: &Setup) -> Result<(), Fail> {
-    let starts = MsgOf::StartViewChange {
+    let starts = MsgOf::StartViewChange(StartViewChange {
         view: 1,
         known: known(alloc)?,
-    };
+    });
     let want = "STARTVIEWCHANGE view 1 boots 0 2 0";
     is_told(rt, alloc, setup, starts, want)?;
     let vote = MsgOf::DoViewChange(DoViewChangeOf {
@@ -236,7 +237,7 @@ fn requests_are_told(rt: &impl Abort, alloc: Global, setup: &Setup) -> Result<()
         (4, returned, "REQUEST 4 returned JPY 1"),
     ];
     for (number, cmd, want) in requests {
-        let request = MsgOf::Request { number, cmd };
+        let request = MsgOf::Request(RequestOf { number, cmd });
         is_told(rt, alloc, setup, request, want)?;
     }
     Ok(())
@@ -252,21 +253,21 @@ fn short_messages_are_told(rt: &impl Abort, alloc: Global, setup: &Setup) -> Res
     });
     let want = "PREPARE view 2 place 4 done 3 row ALFA 9 rescind 7";
     is_told(rt, alloc, setup, prepare, want)?;
-    let prepare_ok = MsgOf::PrepareOk { view: 2, place: 4 };
+    let prepare_ok = MsgOf::PrepareOk(PrepareOk { view: 2, place: 4 });
     is_told(rt, alloc, setup, prepare_ok, "PREPAREOK view 2 place 4")?;
-    let get_state = MsgOf::GetState { view: 2, base: 4 };
+    let get_state = MsgOf::GetState(GetState { view: 2, base: 4 });
     is_told(rt, alloc, setup, get_state, "GETSTATE view 2 base 4")?;
-    let recovery = MsgOf::Recovery { nonce: 3 };
+    let recovery = MsgOf::Recovery(Recovery { nonce: 3 });
     is_told(rt, alloc, setup, recovery, "RECOVERY nonce 3")
 }
 
 /// What goes to clients and nodes.
 fn answers_are_told(rt: &impl Abort, alloc: Global, setup: &Setup) -> Result<(), Fail> {
-    let reply = |reply| MsgOf::Reply {
+    let reply = |reply| MsgOf::Reply(ReplyOf {
         view: 2,
         number: 6,
         reply,
-    };
+    });
     let settled = reply(Reply::Settled(3));
     is_told(rt, alloc, setup, settled, "REPLY view 2 to 6 settled 3")?;
     let repeated = reply(Reply::No(Reason::Repeated));

@@ -34,7 +34,7 @@ returns g c = λ start acks cell h.
     let me = c.args.config.me in
     let r = c.args.running.now in
     let x = site_of r acks cell in
-    let told = to_all f me (StartViewChange r.view r.known) in
+    let told = to_all f me (StartViewChange (record { view = r.view; known = r.known })) in
     elim c.if-running.branch [
       | then-running+then-primary_of-config+in_ok-own_vote+in_ok-push w ↦
           let p : (primary f r.view == me) ≡ false = ne_eqb _ _ (λ same. w.if-primary_of-config.true (w.primary_of.ensures.site ∙ same)) in

@@ -9,7 +9,7 @@ loop-site-preserved g c =
     let r = c.args.running.now in
     let me = c.args.config.me in
     let site = c.loop-site.site in
-    let msg = StartViewChange r.view r.known in
+    let msg = StartViewChange (record { view = r.view; known = r.known }) in
     elim c.if-site-config.branch [
       | then-site-config+in_ok-change_mail+in_ok-push w ↦
           ap (λ v. v.items) w.sent-is ∙ w.in_ok-push.ensures.items

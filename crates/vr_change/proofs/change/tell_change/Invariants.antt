@@ -5,4 +5,4 @@ use Rattle.vr_change.proofs.change.tell_change.Given as goal
 
 -- the sites so far were told
 abbrev pub invariant-loop-site : goal.invariant-loop-site
-invariant-loop-site g l = l.sent.items ≡ told l.site l.config.me (StartViewChange l.running.view l.running.known)
+invariant-loop-site g l = l.sent.items ≡ told l.site l.config.me (StartViewChange (record { view = l.running.view; known = l.running.known }))

@@ -39,7 +39,7 @@ returns-clause-step g c = λ start acks cell h.
     let view = r.view + 1 in
     let gave : GaveUp n = record { acked = now.acked; starts = now.starts; voted = now.voted; votes = now.votes } in
     let up : is_running n.status ≡ true = ap is_running now.status in
-    let told : to_all f me (StartViewChange n.view n.known) ≡ to_all f me (StartViewChange view r.known) = λ i. to_all f me (StartViewChange (now.view i) (now.known i)) in
+    let told : to_all f me (StartViewChange (record { view = n.view; known = n.known })) ≡ to_all f me (StartViewChange (record { view = view; known = r.known })) = λ i. to_all f me (StartViewChange (record { view = now.view i; known = now.known i })) in
     let kept : IsKept m start n.kept = subst (IsKept m start) (sym now.kept) h.sound.kept in
     meets_as m start f me n _ _ _ (on_timer-is f me x (running_is_here r.status h.sound.up))
     (does_meets m start f me n _ _ _ (record { mails = c.in_ok-sent.ensures ∙ told; dropped = refl })

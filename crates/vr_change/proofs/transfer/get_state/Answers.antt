@@ -16,19 +16,19 @@ returns-then-not-runs_normally g c = λ start acks cell h.
     let x = site_of r acks cell in
     let d = c.dropped in
     let e : is_normal r.status ≡ false = sym c.runs_normally.ensures ∙ c.if-not-runs_normally.true in
-    meets_as m start f me r d.result _ _ (on_get_state-status f me x c.args.from c.args.view c.args.base e)
+    meets_as m start f me r d.result _ _ (on_get_state-status f me x c.args.from c.args.msg e)
     (drops_meets m start f me r d.result acks cell _ d.ensures h)
 
-pub returns-then-view-running : goal.returns-then-view-running
-returns-then-view-running g c = λ start acks cell h.
+pub returns-then-msg-running : goal.returns-then-msg-running
+returns-then-msg-running g c = λ start acks cell h.
     let m = g.M.Machine in
     let f = c.args.config.f in
     let me = c.args.config.me in
     let r = c.args.running.now in
     let x = site_of r acks cell in
-    let d = c.dropped-then-view-running in
+    let d = c.dropped-then-msg-running in
     let e : is_normal r.status ≡ true = sym c.runs_normally.ensures ∙ c.if-not-runs_normally.false in
-    meets_as m start f me r d.result _ _ (on_get_state-view f me x c.args.from c.args.view c.args.base e c.if-view-running.true)
+    meets_as m start f me r d.result _ _ (on_get_state-view f me x c.args.from c.args.msg e c.if-msg-running.true)
     (drops_meets m start f me r d.result acks cell _ d.ensures h)
 
 pub returns-then-primary_of-config : goal.returns-then-primary_of-config
@@ -41,21 +41,21 @@ returns-then-primary_of-config g c = λ start acks cell h.
     let d = c.dropped-then-primary_of-config in
     let e : is_normal r.status ≡ true = sym c.runs_normally.ensures ∙ c.if-not-runs_normally.false in
     let p : (primary f r.view == me) ≡ false = ne_eqb _ _ (λ same. c.if-primary_of-config.true (c.primary_of.ensures.site ∙ same)) in
-    meets_as m start f me r d.result _ _ (on_get_state-backup f me x c.args.from c.args.view c.args.base e c.if-view-running.false p)
+    meets_as m start f me r d.result _ _ (on_get_state-backup f me x c.args.from c.args.msg e c.if-msg-running.false p)
     (drops_meets m start f me r d.result acks cell _ d.ensures h)
 
-pub returns-then-len-base : goal.returns-then-len-base
-returns-then-len-base g c = λ start acks cell h.
+pub returns-then-len-msg : goal.returns-then-len-msg
+returns-then-len-msg g c = λ start acks cell h.
     let m = g.M.Machine in
     let f = c.args.config.f in
     let me = c.args.config.me in
     let r = c.args.running.now in
     let x = site_of r acks cell in
-    let d = c.dropped-then-len-base in
+    let d = c.dropped-then-len-msg in
     let e : is_normal r.status ≡ true = sym c.runs_normally.ensures ∙ c.if-not-runs_normally.false in
     let p : (primary f r.view == me) ≡ true = eq-eqb _ _ (sym c.primary_of.ensures.site ∙ c.if-primary_of-config.false) in
-    let short : length r.kept.log < c.args.base = omega arith in
-    meets_as m start f me r d.result _ _ (on_get_state-stale f me x c.args.from c.args.view c.args.base e c.if-view-running.false p short)
+    let short : length r.kept.log < c.args.msg.base = omega arith in
+    meets_as m start f me r d.result _ _ (on_get_state-stale f me x c.args.from c.args.msg e c.if-msg-running.false p short)
     (drops_meets m start f me r d.result acks cell _ d.ensures h)
 
 pub returns-in_err-copy_from : goal.returns-in_err-copy_from
@@ -67,8 +67,8 @@ returns-in_err-copy_from g c = λ start acks cell h.
     let x = site_of r acks cell in
     let e : is_normal r.status ≡ true = sym c.runs_normally.ensures ∙ c.if-not-runs_normally.false in
     let p : (primary f r.view == me) ≡ true = eq-eqb _ _ (sym c.primary_of.ensures.site ∙ c.if-primary_of-config.false) in
-    let long : c.args.base ≤ length r.kept.log = omega arith in
-    err_follows m start f me r c.from_residual.result _ c.from_residual.ensures.0 (ap (λ s. s.ending) (on_get_state-mine f me x c.args.from c.args.view c.args.base e c.if-view-running.false p long))
+    let long : c.args.msg.base ≤ length r.kept.log = omega arith in
+    err_follows m start f me r c.from_residual.result _ c.from_residual.ensures.0 (ap (λ s. s.ending) (on_get_state-mine f me x c.args.from c.args.msg e c.if-msg-running.false p long))
 
 pub returns : goal.returns
 returns g c = λ start acks cell h.
@@ -79,6 +79,6 @@ returns g c = λ start acks cell h.
     let x = site_of r acks cell in
     let e : is_normal r.status ≡ true = sym c.runs_normally.ensures ∙ c.if-not-runs_normally.false in
     let p : (primary f r.view == me) ≡ true = eq-eqb _ _ (sym c.primary_of.ensures.site ∙ c.if-primary_of-config.false) in
-    let long : c.args.base ≤ length r.kept.log = omega arith in
-    follows_as m start f me r c.sends_one.result _ _ (on_get_state-mine f me x c.args.from c.args.view c.args.base e c.if-view-running.false p long)
+    let long : c.args.msg.base ≤ length r.kept.log = omega arith in
+    follows_as m start f me r c.sends_one.result _ _ (on_get_state-mine f me x c.args.from c.args.msg e c.if-msg-running.false p long)
     (does_follows m start f me r c.sends_one.result x _ (rw (c.mail_to.ensures, c.in_ok-copy_from.ensures) at c.sends_one.ensures) h refl)

@@ -56,7 +56,7 @@ returns-clause-part g c = if_ok c.tell_change.result _ _ (λ sent told start ack
       running = gave_up_sound m start f k n gave (ap is_running now.status) now.sites (ap length now.known) kept t.sound;
       site = ap (λ (y : Site _). record y { status = Change; view = w; collected = nothing }) (sym (c.learn.ensures.site acks cell))
           ∙ changed_site k n acks cell w gave now.status now.view now.last_normal now.kept now.known;
-      sent = told ∙ (λ i. to_all f me (StartViewChange (now.view i) ((now.known ∙ c.learn.ensures.known) i)));
+      sent = told ∙ (λ i. to_all f me (StartViewChange (record { view = now.view i; known = (now.known ∙ c.learn.ensures.known) i })));
     })) c.tell_change.ensures
 
 pub returns-clause-known : goal.returns-clause-known

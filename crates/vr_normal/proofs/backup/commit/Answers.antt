@@ -14,20 +14,20 @@ returns-then-primary_of-from-clause-step g c = λ start acks cell h.
     let f = c.args.config.f in
     let me = c.args.config.me in
     let r = c.args.running.now in
-    let p : (primary f c.args.view == c.args.from) ≡ false = ne_eqb _ _ (λ same. c.if-primary_of-from.true (c.primary_of.ensures.site ∙ same)) in
-    meets_as m start f me r c.dropped.result _ _ (on_commit-leader f me (site_of r acks cell) c.args.from c.args.view c.args.done p)
+    let p : (primary f c.args.msg.view == c.args.from) ≡ false = ne_eqb _ _ (λ same. c.if-primary_of-from.true (c.primary_of.ensures.site ∙ same)) in
+    meets_as m start f me r c.dropped.result _ _ (on_commit-leader f me (site_of r acks cell) c.args.from c.args.msg p)
     (drops_meets m start f me r c.dropped.result acks cell _ c.dropped.ensures h)
 
-pub returns-then-view-running-clause-step : goal.returns-then-view-running-clause-step
-returns-then-view-running-clause-step g c = λ start acks cell h.
+pub returns-then-msg-running-clause-step : goal.returns-then-msg-running-clause-step
+returns-then-msg-running-clause-step g c = λ start acks cell h.
     let m = g.M.Machine in
     let f = c.args.config.f in
     let me = c.args.config.me in
     let r = c.args.running.now in
-    let d = c.dropped-then-view-running in
-    let p : (primary f c.args.view == c.args.from) ≡ true = eq-eqb _ _ (sym c.primary_of.ensures.site ∙ c.if-primary_of-from.false) in
+    let d = c.dropped-then-msg-running in
+    let p : (primary f c.args.msg.view == c.args.from) ≡ true = eq-eqb _ _ (sym c.primary_of.ensures.site ∙ c.if-primary_of-from.false) in
     let here = running_is_here r.status h.sound.up in
-    meets_as m start f me r d.result _ _ (on_commit-view f me (site_of r acks cell) c.args.from c.args.view c.args.done p here c.if-view-running.true)
+    meets_as m start f me r d.result _ _ (on_commit-view f me (site_of r acks cell) c.args.from c.args.msg p here c.if-msg-running.true)
     (drops_meets m start f me r d.result acks cell _ d.ensures h)
 
 pub returns-then-lags-clause-sound : goal.returns-then-lags-clause-sound
@@ -40,11 +40,11 @@ returns-then-lags-clause-step g c = λ start acks cell h.
     let me = c.args.config.me in
     let r = c.args.running.now in
     let x = site_of r acks cell in
-    let p : (primary f c.args.view == c.args.from) ≡ true = eq-eqb _ _ (sym c.primary_of.ensures.site ∙ c.if-primary_of-from.false) in
+    let p : (primary f c.args.msg.view == c.args.from) ≡ true = eq-eqb _ _ (sym c.primary_of.ensures.site ∙ c.if-primary_of-from.false) in
     let here = running_is_here r.status h.sound.up in
-    let new : r.view ≤ c.args.view = omega arith in
-    let later : (nat_lt r.view c.args.view || is_change r.status) ≡ true = sym c.lags.ensures ∙ c.if-lags.true in
-    follows_as m start f me r c.ask_state.result _ _ (on_commit-later f me x c.args.from c.args.view c.args.done p here new later)
+    let new : r.view ≤ c.args.msg.view = omega arith in
+    let later : (nat_lt r.view c.args.msg.view || is_change r.status) ≡ true = sym c.lags.ensures ∙ c.if-lags.true in
+    follows_as m start f me r c.ask_state.result _ _ (on_commit-later f me x c.args.from c.args.msg p here new later)
     (does_follows m start f me r c.ask_state.result x _ c.ask_state.ensures h refl)
 
 pub returns-in_err-execute-clause-step : goal.returns-in_err-execute-clause-step
@@ -54,54 +54,54 @@ returns-in_err-execute-clause-step g c = λ start acks cell h.
     let me = c.args.config.me in
     let r = c.args.running.now in
     let x = site_of r acks cell in
-    let p : (primary f c.args.view == c.args.from) ≡ true = eq-eqb _ _ (sym c.primary_of.ensures.site ∙ c.if-primary_of-from.false) in
+    let p : (primary f c.args.msg.view == c.args.from) ≡ true = eq-eqb _ _ (sym c.primary_of.ensures.site ∙ c.if-primary_of-from.false) in
     let here = running_is_here r.status h.sound.up in
-    let new : r.view ≤ c.args.view = omega arith in
-    let later : (nat_lt r.view c.args.view || is_change r.status) ≡ false = sym c.lags.ensures ∙ c.if-lags.false in
-    err_follows m start f me _ c.from_residual.result _ c.from_residual.ensures.0 (ap (λ s. s.ending) (on_commit-here f me x c.args.from c.args.view c.args.done p here new later))
+    let new : r.view ≤ c.args.msg.view = omega arith in
+    let later : (nat_lt r.view c.args.msg.view || is_change r.status) ≡ false = sym c.lags.ensures ∙ c.if-lags.false in
+    err_follows m start f me _ c.from_residual.result _ c.from_residual.ensures.0 (ap (λ s. s.ending) (on_commit-here f me x c.args.from c.args.msg p here new later))
 
-pub returns-then-len-done-clause-sound : goal.returns-then-len-done-clause-sound
-returns-then-len-done-clause-sound g c = on_ok c.ask_state-then-len-done.result _ (λ start s. record { kept = c.in_ok-execute.ensures.kept start s.kept; sites = s.sites; known = s.known; up = s.up; votes = s.votes })
+pub returns-then-len-msg-clause-sound : goal.returns-then-len-msg-clause-sound
+returns-then-len-msg-clause-sound g c = on_ok c.ask_state-then-len-msg.result _ (λ start s. record { kept = c.in_ok-execute.ensures.kept start s.kept; sites = s.sites; known = s.known; up = s.up; votes = s.votes })
 
-pub returns-then-len-done-clause-step : goal.returns-then-len-done-clause-step
-returns-then-len-done-clause-step g c = λ start acks cell h.
+pub returns-then-len-msg-clause-step : goal.returns-then-len-msg-clause-step
+returns-then-len-msg-clause-step g c = λ start acks cell h.
     let m = g.M.Machine in
     let f = c.args.config.f in
     let me = c.args.config.me in
     let r = c.args.running.now in
     let x = site_of r acks cell in
     let now = c.in_ok-execute.ensures in
-    let y = executed_to c.args.done x in
-    let p : (primary f c.args.view == c.args.from) ≡ true = eq-eqb _ _ (sym c.primary_of.ensures.site ∙ c.if-primary_of-from.false) in
+    let y = executed_to c.args.msg.done x in
+    let p : (primary f c.args.msg.view == c.args.from) ≡ true = eq-eqb _ _ (sym c.primary_of.ensures.site ∙ c.if-primary_of-from.false) in
     let here = running_is_here r.status h.sound.up in
-    let new : r.view ≤ c.args.view = omega arith in
-    let later : (nat_lt r.view c.args.view || is_change r.status) ≡ false = sym c.lags.ensures ∙ c.if-lags.false in
-    let missing : length r.kept.log < c.args.done = omega (arith, c.len-len.ensures.length, c.if-len-done.true) in
-    follows_as m start f me _ c.ask_state-then-len-done.result _ _
-    (on_commit-here f me x c.args.from c.args.view c.args.done p here new later ∙ ap (does y) (missing_rows (length r.kept.log) c.args.done (asks_state f me r.view (length r.kept.log)) [] missing))
-    (does_follows m start f me _ c.ask_state-then-len-done.result y _ (rw c.len-len.ensures.length at c.ask_state-then-len-done.ensures)
+    let new : r.view ≤ c.args.msg.view = omega arith in
+    let later : (nat_lt r.view c.args.msg.view || is_change r.status) ≡ false = sym c.lags.ensures ∙ c.if-lags.false in
+    let missing : length r.kept.log < c.args.msg.done = omega (arith, c.len-len.ensures.length, c.if-len-msg.true) in
+    follows_as m start f me _ c.ask_state-then-len-msg.result _ _
+    (on_commit-here f me x c.args.from c.args.msg p here new later ∙ ap (does y) (missing_rows (length r.kept.log) c.args.msg.done (asks_state f me r.view (length r.kept.log)) [] missing))
+    (does_follows m start f me _ c.ask_state-then-len-msg.result y _ (rw c.len-len.ensures.length at c.ask_state-then-len-msg.ensures)
     (record { sound = record { kept = now.kept start h.sound.kept; sites = h.sound.sites; known = h.sound.known; up = h.sound.up; votes = h.sound.votes }; summed = h.summed })
-    (same_site x r.kept.log _ (max r.kept.done (min c.args.done (length r.kept.log))) _ (sym now.log) (sym now.done)))
+    (same_site x r.kept.log _ (max r.kept.done (min c.args.msg.done (length r.kept.log))) _ (sym now.log) (sym now.done)))
 
-pub returns-else-len-done-clause-sound : goal.returns-else-len-done-clause-sound
-returns-else-len-done-clause-sound g c = λ start s. record { kept = c.in_ok-execute.ensures.kept start s.kept; sites = s.sites; known = s.known; up = s.up; votes = s.votes }
+pub returns-else-len-msg-clause-sound : goal.returns-else-len-msg-clause-sound
+returns-else-len-msg-clause-sound g c = λ start s. record { kept = c.in_ok-execute.ensures.kept start s.kept; sites = s.sites; known = s.known; up = s.up; votes = s.votes }
 
-pub returns-else-len-done-clause-step : goal.returns-else-len-done-clause-step
-returns-else-len-done-clause-step g c = λ start acks cell h.
+pub returns-else-len-msg-clause-step : goal.returns-else-len-msg-clause-step
+returns-else-len-msg-clause-step g c = λ start acks cell h.
     let m = g.M.Machine in
     let f = c.args.config.f in
     let me = c.args.config.me in
     let r = c.args.running.now in
     let x = site_of r acks cell in
     let now = c.in_ok-execute.ensures in
-    let y = executed_to c.args.done x in
-    let p : (primary f c.args.view == c.args.from) ≡ true = eq-eqb _ _ (sym c.primary_of.ensures.site ∙ c.if-primary_of-from.false) in
+    let y = executed_to c.args.msg.done x in
+    let p : (primary f c.args.msg.view == c.args.from) ≡ true = eq-eqb _ _ (sym c.primary_of.ensures.site ∙ c.if-primary_of-from.false) in
     let here = running_is_here r.status h.sound.up in
-    let new : r.view ≤ c.args.view = omega arith in
-    let later : (nat_lt r.view c.args.view || is_change r.status) ≡ false = sym c.lags.ensures ∙ c.if-lags.false in
-    let enough : c.args.done ≤ length r.kept.log = omega (arith, c.len-len.ensures.length, c.if-len-done.false) in
+    let new : r.view ≤ c.args.msg.view = omega arith in
+    let later : (nat_lt r.view c.args.msg.view || is_change r.status) ≡ false = sym c.lags.ensures ∙ c.if-lags.false in
+    let enough : c.args.msg.done ≤ length r.kept.log = omega (arith, c.len-len.ensures.length, c.if-len-msg.false) in
     meets_as m start f me _ c.silent.result _ _
-    (on_commit-here f me x c.args.from c.args.view c.args.done p here new later ∙ ap (does y) (enough_rows (length r.kept.log) c.args.done (asks_state f me r.view (length r.kept.log)) [] enough))
+    (on_commit-here f me x c.args.from c.args.msg p here new later ∙ ap (does y) (enough_rows (length r.kept.log) c.args.msg.done (asks_state f me r.view (length r.kept.log)) [] enough))
     (does_meets m start f me _ c.silent.result y [] c.silent.ensures
     (record { sound = record { kept = now.kept start h.sound.kept; sites = h.sound.sites; known = h.sound.known; up = h.sound.up; votes = h.sound.votes }; summed = h.summed })
-    (same_site x r.kept.log _ (max r.kept.done (min c.args.done (length r.kept.log))) _ (sym now.log) (sym now.done)))
+    (same_site x r.kept.log _ (max r.kept.done (min c.args.msg.done (length r.kept.log))) _ (sym now.log) (sym now.done)))

@@ -13,17 +13,17 @@ returns-then-not-runs_normally-clause-step g c = λ choose start acks cell right
     let me = c.args.config.me in
     let r = c.args.running.now in
     let e : is_normal r.status ≡ false = sym c.runs_normally.ensures ∙ c.if-not-runs_normally.true in
-    meets_as g.M.Machine start f me r c.dropped.result _ _ (on_prepare_ok-status f me (site_of r acks cell) choose c.args.from c.args.view c.args.place e)
+    meets_as g.M.Machine start f me r c.dropped.result _ _ (on_prepare_ok-status f me (site_of r acks cell) choose c.args.from c.args.msg e)
     (drops_meets g.M.Machine start f me r c.dropped.result acks cell _ c.dropped.ensures h)
 
-pub returns-then-view-running-clause-step : goal.returns-then-view-running-clause-step
-returns-then-view-running-clause-step g c = λ choose start acks cell right h.
+pub returns-then-msg-running-clause-step : goal.returns-then-msg-running-clause-step
+returns-then-msg-running-clause-step g c = λ choose start acks cell right h.
     let f = c.args.config.f in
     let me = c.args.config.me in
     let r = c.args.running.now in
-    let d = c.dropped-then-view-running in
+    let d = c.dropped-then-msg-running in
     let e : is_normal r.status ≡ true = sym c.runs_normally.ensures ∙ c.if-not-runs_normally.false in
-    meets_as g.M.Machine start f me r d.result _ _ (on_prepare_ok-view f me (site_of r acks cell) choose c.args.from c.args.view c.args.place e c.if-view-running.true)
+    meets_as g.M.Machine start f me r d.result _ _ (on_prepare_ok-view f me (site_of r acks cell) choose c.args.from c.args.msg e c.if-msg-running.true)
     (drops_meets g.M.Machine start f me r d.result acks cell _ d.ensures h)
 
 pub returns-then-primary_of-config-clause-step : goal.returns-then-primary_of-config-clause-step
@@ -34,7 +34,7 @@ returns-then-primary_of-config-clause-step g c = λ choose start acks cell right
     let d = c.dropped-then-primary_of-config in
     let e : is_normal r.status ≡ true = sym c.runs_normally.ensures ∙ c.if-not-runs_normally.false in
     let p : (primary f r.view == me) ≡ false = ne_eqb _ _ (λ same. c.if-primary_of-config.true (c.primary_of.ensures.site ∙ same)) in
-    meets_as g.M.Machine start f me r d.result _ _ (on_prepare_ok-backup f me (site_of r acks cell) choose c.args.from c.args.view c.args.place e c.if-view-running.false p)
+    meets_as g.M.Machine start f me r d.result _ _ (on_prepare_ok-backup f me (site_of r acks cell) choose c.args.from c.args.msg e c.if-msg-running.false p)
     (drops_meets g.M.Machine start f me r d.result acks cell _ d.ensures h)
 
 pub returns-clause-step : goal.returns-clause-step
@@ -44,5 +44,5 @@ returns-clause-step g c = λ choose start acks cell right h.
     let r = c.args.running.now in
     let e : is_normal r.status ≡ true = sym c.runs_normally.ensures ∙ c.if-not-runs_normally.false in
     let p : (primary f r.view == me) ≡ true = eq-eqb _ _ (sym c.primary_of.ensures.site ∙ c.if-primary_of-config.false) in
-    follows_as g.M.Machine start f me c.acknowledge.new.running c.acknowledge.result _ _ (on_prepare_ok-mine f me (site_of r acks cell) choose c.args.from c.args.view c.args.place e c.if-view-running.false p)
+    follows_as g.M.Machine start f me c.acknowledge.new.running c.acknowledge.result _ _ (on_prepare_ok-mine f me (site_of r acks cell) choose c.args.from c.args.msg e c.if-msg-running.false p)
     (c.acknowledge.ensures.step choose start acks cell right h)

@@ -13,20 +13,20 @@ returns-then-not-runs_normally-clause-step g c = λ start acks cell h.
     let me = c.args.config.me in
     let r = c.args.running.now in
     let e : is_normal r.status ≡ false = sym c.runs_normally.ensures ∙ c.if-not-runs_normally.true in
-    meets_as g.M.Machine start f me r c.dropped.result _ _ (on_recovery-status f me (site_of r acks cell) c.args.from c.args.nonce e)
+    meets_as g.M.Machine start f me r c.dropped.result _ _ (on_recovery-status f me (site_of r acks cell) c.args.from c.args.msg e)
     (drops_meets g.M.Machine start f me r c.dropped.result acks cell _ c.dropped.ensures h)
 
-pub returns-then-nonce-get-clause-step : goal.returns-then-nonce-get-clause-step
-returns-then-nonce-get-clause-step g c = λ start acks cell h.
+pub returns-then-msg-get-clause-step : goal.returns-then-msg-get-clause-step
+returns-then-msg-get-clause-step g c = λ start acks cell h.
     let f = c.args.config.f in
     let me = c.args.config.me in
     let r = c.args.running.now in
     let e : is_normal r.status ≡ true = sym c.runs_normally.ensures ∙ c.if-not-runs_normally.false in
     let is = c.get.ensures in
-    let low = c.if-nonce-get.true in
-    let old : nat_lt c.args.nonce (boot_of r.known c.args.from) ≡ true = grind (arith, nat_tests, is, low) in
-    meets_as g.M.Machine start f me r c.dropped-then-nonce-get.result _ _ (on_recovery-stale f me (site_of r acks cell) c.args.from c.args.nonce e old)
-    (drops_meets g.M.Machine start f me r c.dropped-then-nonce-get.result acks cell _ c.dropped-then-nonce-get.ensures h)
+    let low = c.if-msg-get.true in
+    let old : nat_lt c.args.msg.nonce (boot_of r.known c.args.from) ≡ true = grind (arith, nat_tests, is, low) in
+    meets_as g.M.Machine start f me r c.dropped-then-msg-get.result _ _ (on_recovery-stale f me (site_of r acks cell) c.args.from c.args.msg e old)
+    (drops_meets g.M.Machine start f me r c.dropped-then-msg-get.result acks cell _ c.dropped-then-msg-get.ensures h)
 
 pub returns-in_err-state_of_its_view-clause-step : goal.returns-in_err-state_of_its_view-clause-step
 returns-in_err-state_of_its_view-clause-step g c = λ start acks cell h.
@@ -35,9 +35,9 @@ returns-in_err-state_of_its_view-clause-step g c = λ start acks cell h.
     let r = c.args.running.now in
     let e : is_normal r.status ≡ true = sym c.runs_normally.ensures ∙ c.if-not-runs_normally.false in
     let is = c.get.ensures in
-    let high = c.if-nonce-get.false in
-    let new : nat_lt c.args.nonce (boot_of r.known c.args.from) ≡ false = grind (arith, nat_tests, is, high) in
-    err_follows g.M.Machine start f me _ c.from_residual.result _ c.from_residual.ensures.0 (ap (λ s. s.ending) (on_recovery-normal f me (site_of r acks cell) c.args.from c.args.nonce e new))
+    let high = c.if-msg-get.false in
+    let new : nat_lt c.args.msg.nonce (boot_of r.known c.args.from) ≡ false = grind (arith, nat_tests, is, high) in
+    err_follows g.M.Machine start f me _ c.from_residual.result _ c.from_residual.ensures.0 (ap (λ s. s.ending) (on_recovery-normal f me (site_of r acks cell) c.args.from c.args.msg e new))
 
 pub returns-in_err-copy-clause-step : goal.returns-in_err-copy-clause-step
 returns-in_err-copy-clause-step g c = λ start acks cell h.
@@ -46,9 +46,9 @@ returns-in_err-copy-clause-step g c = λ start acks cell h.
     let r = c.args.running.now in
     let e : is_normal r.status ≡ true = sym c.runs_normally.ensures ∙ c.if-not-runs_normally.false in
     let is = c.get.ensures in
-    let high = c.if-nonce-get.false in
-    let new : nat_lt c.args.nonce (boot_of r.known c.args.from) ≡ false = grind (arith, nat_tests, is, high) in
-    err_follows g.M.Machine start f me _ c.from_residual-in_err-copy.result _ c.from_residual-in_err-copy.ensures.0 (ap (λ s. s.ending) (on_recovery-normal f me (site_of r acks cell) c.args.from c.args.nonce e new))
+    let high = c.if-msg-get.false in
+    let new : nat_lt c.args.msg.nonce (boot_of r.known c.args.from) ≡ false = grind (arith, nat_tests, is, high) in
+    err_follows g.M.Machine start f me _ c.from_residual-in_err-copy.result _ c.from_residual-in_err-copy.ensures.0 (ap (λ s. s.ending) (on_recovery-normal f me (site_of r acks cell) c.args.from c.args.msg e new))
 
 pub returns-clause-step : goal.returns-clause-step
 returns-clause-step g c = λ start acks cell h.
@@ -56,13 +56,13 @@ returns-clause-step g c = λ start acks cell h.
     let me = c.args.config.me in
     let r = c.args.running.now in
     let x = site_of r acks cell in
-    let y = notes c.args.from c.args.nonce x in
+    let y = notes c.args.from c.args.msg.nonce x in
     let e : is_normal r.status ≡ true = sym c.runs_normally.ensures ∙ c.if-not-runs_normally.false in
     let is = c.get.ensures in
-    let high = c.if-nonce-get.false in
-    let new : nat_lt c.args.nonce (boot_of r.known c.args.from) ≡ false = grind (arith, nat_tests, is, high) in
+    let high = c.if-msg-get.false in
+    let new : nat_lt c.args.msg.nonce (boot_of r.known c.args.from) ≡ false = grind (arith, nat_tests, is, high) in
     let noted = c.note.ensures in
-    let all : length c.note.new.self ≡ 2 * f + 1 = rw noted (length-set r.known c.args.from c.args.nonce ∙ h.sound.known) in
+    let all : length c.note.new.self ≡ 2 * f + 1 = rw noted (length-set r.known c.args.from c.args.msg.nonce ∙ h.sound.known) in
     let runs : IsRunning g.M.Machine start f (record r { known = c.note.new.self }) acks = record {
       sound = record { kept = h.sound.kept; sites = h.sound.sites; known = all; up = h.sound.up; votes = h.sound.votes };
       summed = h.summed;
@@ -71,5 +71,5 @@ returns-clause-step g c = λ start acks cell h.
     let state = c.in_ok-state_of_its_view.ensures acks cell in
     let copied = c.in_ok-copy.ensures ∙ noted in
     follows_as g.M.Machine start f me _ c.sends_one.result _ _
-    (on_recovery-normal f me x c.args.from c.args.nonce e new)
+    (on_recovery-normal f me x c.args.from c.args.msg e new)
     (does_follows g.M.Machine start f me _ c.sends_one.result y _ (rw (c.mail_to.ensures, state, copied) at c.sends_one.ensures) runs site)

@@ -36,7 +36,7 @@ returns-in-PrepareOk-clause-step g c = λ choose start acks cell right h.
     let r = c.args.running.now in
     let x = site_of r acks cell in
     follows_as g.M.Machine start f me c.prepare_ok.new.running c.prepare_ok.result _ _
-    (ap (λ msg. on_message choose f me x c.args.from msg) c.in-PrepareOk.is ∙ ap (λ s. on_prepare_ok choose f me x s c.in-PrepareOk.view c.in-PrepareOk.place) (sym c.site_number-site.ensures))
+    (ap (λ msg. on_message choose f me x c.args.from msg) c.in-PrepareOk.is ∙ ap (λ s. on_prepare_ok choose f me x s c.in-PrepareOk.ok) (sym c.site_number-site.ensures))
     (c.prepare_ok.ensures.step choose start acks cell right h)
 
 pub returns-in-Commit-clause-step : goal.returns-in-Commit-clause-step
@@ -46,7 +46,7 @@ returns-in-Commit-clause-step g c = λ choose start acks cell right h.
     let r = c.args.running.now in
     let x = site_of r acks cell in
     follows_as g.M.Machine start f me c.commit.new.running c.commit.result _ _
-    (ap (λ msg. on_message choose f me x c.args.from msg) c.in-Commit.is ∙ ap (λ s. on_commit f me x s c.in-Commit.view c.in-Commit.done) (sym c.site_number-site.ensures))
+    (ap (λ msg. on_message choose f me x c.args.from msg) c.in-Commit.is ∙ ap (λ s. on_commit f me x s c.in-Commit.commit) (sym c.site_number-site.ensures))
     (c.commit.ensures.step start acks cell h)
 
 pub returns-in-StartViewChange-clause-step : goal.returns-in-StartViewChange-clause-step
@@ -56,7 +56,7 @@ returns-in-StartViewChange-clause-step g c = λ choose start acks cell right h.
     let r = c.args.running.now in
     let x = site_of r acks cell in
     follows_as g.M.Machine start f me c.start_view_change.new.running c.start_view_change.result _ _
-    (ap (λ msg. on_message choose f me x c.args.from msg) c.in-StartViewChange.is ∙ ap (λ s. on_start_view_change choose f me x c.in-StartViewChange.view (record { from = s; known = c.in-StartViewChange.known })) (sym c.site_number-site.ensures))
+    (ap (λ msg. on_message choose f me x c.args.from msg) c.in-StartViewChange.is ∙ ap (λ s. on_start_view_change choose f me x c.in-StartViewChange.change.view (record { from = s; known = c.in-StartViewChange.change.known })) (sym c.site_number-site.ensures))
     (c.start_view_change.ensures.step choose start acks cell right h)
 
 pub returns-in-DoViewChange-clause-step : goal.returns-in-DoViewChange-clause-step
@@ -86,7 +86,7 @@ returns-in-GetState-clause-step g c = λ choose start acks cell right h.
     let r = c.args.running.now in
     let x = site_of r acks cell in
     follows_as g.M.Machine start f me r c.get_state.result _ _
-    (ap (λ msg. on_message choose f me x c.args.from msg) c.in-GetState.is ∙ ap (λ s. on_get_state f me x s c.in-GetState.view c.in-GetState.base) (sym c.site_number-site.ensures))
+    (ap (λ msg. on_message choose f me x c.args.from msg) c.in-GetState.is ∙ ap (λ s. on_get_state f me x s c.in-GetState.wanted) (sym c.site_number-site.ensures))
     (c.get_state.ensures start acks cell h)
 
 pub returns-in-NewState-clause-step : goal.returns-in-NewState-clause-step
@@ -106,7 +106,7 @@ returns-in-Recovery-clause-step g c = λ choose start acks cell right h.
     let r = c.args.running.now in
     let x = site_of r acks cell in
     follows_as g.M.Machine start f me c.recovery.new.running c.recovery.result _ _
-    (ap (λ msg. on_message choose f me x c.args.from msg) c.in-Recovery.is ∙ ap (λ s. on_recovery f me x s c.in-Recovery.nonce) (sym c.site_number-site.ensures))
+    (ap (λ msg. on_message choose f me x c.args.from msg) c.in-Recovery.is ∙ ap (λ s. on_recovery f me x s c.in-Recovery.recovery) (sym c.site_number-site.ensures))
     (c.recovery.ensures.step start acks cell h)
 
 pub returns-in-RecoveryResponse-clause-step : goal.returns-in-RecoveryResponse-clause-step

@@ -40,8 +40,8 @@ returns-in-Commit-clause-step g c = λ choose acks right.
     let me = c.args.config.me in
     let kept = c.args.recovering.now in
     let x = recovering_site kept acks c.args.boot in
-    ap (λ msg. on_message choose f me x c.args.from msg) c.in-Commit.is ∙ commit_drops f me kept acks c.args.boot _ c.in-Commit.view _
-    ∙ ap (drops x) (ap (λ s. if primary f c.in-Commit.view == s then Status else NotPrimary) (sym c.site_number-site.ensures) ∙ sym c.why_of-in-Commit.ensures)
+    ap (λ msg. on_message choose f me x c.args.from msg) c.in-Commit.is ∙ commit_drops f me kept acks c.args.boot _ c.in-Commit.msg
+    ∙ ap (drops x) (ap (λ s. if primary f c.in-Commit.msg.view == s then Status else NotPrimary) (sym c.site_number-site.ensures) ∙ sym c.why_of-in-Commit.ensures)
 
 pub returns-in-StartView-clause-sound : goal.returns-in-StartView-clause-sound
 returns-in-StartView-clause-sound g c = c.requires.sound

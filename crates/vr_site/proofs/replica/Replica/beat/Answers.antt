@@ -50,7 +50,7 @@ returns-in-Ok-clause-handles g c =
     let view = c.self.view_is in
     let was : at.life ≡ Recovering c.in-Recovering.recovering = sym c.replace.ensures.value ∙ c.in-Recovering.is in
     let recovers : old.volatile.status ≡ status.Recovering = sym (ap (λ v. v.volatile.status) view) ∙ ap (λ l. (volatile_of l).status) was in
-    let told = subst (λ v. Sends c.in-Ok.out (to_all v.f v.me (msg.Recovery c.load-boot.result.boots))) view c.in-Ok.ensures in
+    let told = subst (λ v. Sends c.in-Ok.out (to_all v.f v.me (msg.Recovery (record { nonce = c.load-boot.result.boots })))) view c.in-Ok.ensures in
     asked_again g.M.Machine g.C.BootCell old _ (ap (λ v. v.f) view, ap (λ v. v.me) view, ap (λ v. v.setup) view) recovers c.in-Ok.out
     (ap volatile_of (sym was) ∙ ap (λ v. v.volatile) view) (ap (λ v. v.cell) view)
-    (subst (λ b. Sends c.in-Ok.out (to_all old.f old.me (msg.Recovery b.boots))) (c.load-boot.ensures ∙ ap (λ v. held v.cell) view) told)
+    (subst (λ b. Sends c.in-Ok.out (to_all old.f old.me (msg.Recovery (record { nonce = b.boots })))) (c.load-boot.ensures ∙ ap (λ v. held v.cell) view) told)

@@ -73,6 +73,6 @@ returns-clause-handles g c =
     let saved = one_save g.C.BootCell _ old.cell c.save.new.cell c.in-Some.boot (ap (λ v. v.cell) view) now c.save.ensures.saves in
     let site = subst (λ b. recovering_site c.in-Ok.recovering [] b ≡ restarted old.f old.me b) now
     (subst (λ v. recovering_site c.in-Ok.recovering [] c.in-Some.boot ≡ restarted v.f v.me c.in-Some.boot) view c.in-Ok.ensures.site) in
-    let told = subst (λ b. Sends c.in-Ok-ask_all.out (to_all old.f old.me (Recovery (nonce_of b)))) now
-    (subst (λ v. Sends c.in-Ok-ask_all.out (to_all v.f v.me (Recovery (nonce_of c.in-Some.boot)))) view c.in-Ok-ask_all.ensures) in
+    let told = subst (λ b. Sends c.in-Ok-ask_all.out (to_all old.f old.me (Recovery (record { nonce = nonce_of b })))) now
+    (subst (λ v. Sends c.in-Ok-ask_all.out (to_all v.f v.me (Recovery (record { nonce = nonce_of c.in-Some.boot })))) view c.in-Ok-ask_all.ensures) in
     restarted_on m g.C.BootCell old _ (ap (λ v. v.f) view, ap (λ v. v.me) view, ap (λ v. v.setup) view) status more c.in-Ok-ask_all.out c.in-Ok.recovering site refl (c.in_ok-save.ensures.ok ∙ now) saved told
