@@ -1,6 +1,6 @@
 #!/usr/bin/env python3
 """Tests .ci/edits over a small crate: what the prover lets through is told, alone and in a round whose other edits are refused;
-and that turns leave no edit out."""
+what was seen refused serves a later run for the same text alone; and turns leave no edit out."""
 import importlib.machinery
 import importlib.util
 import os
@@ -82,8 +82,8 @@ def write(path, text):
 PROVED = "".join(f"fn counter::{name}: proved\n" for name in ("next", "after_next", "smaller", "twice"))
 
 
-def wrong_of(ran, way):
-    """What a run of the edits says otherwise than it should."""
+def wrong_of(ran, way, kept=()):
+    """What a run of the edits says otherwise than it should. It tries all edits but the kept ones, which an earlier run saw refused."""
     wrong = []
     for name, (_, _, wanted) in EDITS.items():
         said = re.search(rf"^counter/{name}\.edit: (.*)", ran.stdout, re.M)
@@ -93,6 +93,9 @@ def wrong_of(ran, way):
     last = f"{refused} passed, {len(EDITS) - refused} failed"
     if ran.stdout.rstrip("\n").split("\n")[-1] != last or ran.returncode != 1:
         wrong.append(f"{way}: the last line is not '{last}' with status 1")
+    tried = re.search(r"^== counter: \d+ edits, (\d+) tried", ran.stdout, re.M)
+    if not tried or int(tried[1]) != len(EDITS) - len(kept):
+        wrong.append(f"{way}: not {len(EDITS) - len(kept)} edits were tried")
     if wrong:
         print(ran.stdout)
     return wrong
@@ -113,6 +116,12 @@ def turns_gone_wrong():
     return [] if all(tried + each + few) else ["in four turns not each edit of a public function is tried, or in one not one of each"]
 
 
+def run(room, *words):
+    """Runs the edits of the small crate, with a place of its own for what is kept."""
+    place = {**os.environ, "XDG_CACHE_HOME": f"{room}/cache"}
+    return subprocess.run([f"{room}/.ci/edits", *words], stdout=subprocess.PIPE, stderr=subprocess.STDOUT, text=True, env=place)
+
+
 def main():
     wrong = turns_gone_wrong()
     with tempfile.TemporaryDirectory(prefix="edits-test-") as room:
@@ -124,13 +133,17 @@ def main():
             write(f"{room}/crates/counter/wrong/{name}.edit", f"file: src/lib.rt\nold: {old}\nnew: {new}\n")
         os.makedirs(f"{room}/.ci")
         shutil.copy(f"{HERE}/edits", f"{room}/.ci/edits")
-        ways = {"over its own proof": [], "over a proof of before": ["--proved", f"{room}/proved"]}
-        for way, words in ways.items():
-            ran = subprocess.run([f"{room}/.ci/edits", *words], stdout=subprocess.PIPE, stderr=subprocess.STDOUT, text=True)
-            wrong += wrong_of(ran, way)
+        refused = [it for it, (_, _, wanted) in EDITS.items() if wanted.startswith("refused")]
+        wrong += wrong_of(run(room), "over its own proof")
+        # one edit with another text, then the crate with another text
+        old, _, _ = EDITS["next_stays"]
+        write(f"{room}/crates/counter/wrong/next_stays.edit", f"file: src/lib.rt\nold: {old}\nnew:     n + 3\n")
+        wrong += wrong_of(run(room), "after a run that saw them refused", [it for it in refused if it != "next_stays"])
+        write(f"{room}/crates/counter/src/lib.rt", SOURCE.replace("One more", "One more than that"))
+        wrong += wrong_of(run(room, "--proved", f"{room}/proved"), "with another text, over a proof of before")
     if wrong:
         print("\n".join(wrong))
-    print(f"{2 * len(EDITS) + 1 - len(wrong)} passed, {len(wrong)} failed")
+    print(f"{3 * len(EDITS) + 1 - len(wrong)} passed, {len(wrong)} failed")
     return 1 if wrong else 0
 
 
