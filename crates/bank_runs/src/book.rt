@@ -95,17 +95,31 @@ const ORDER: PayOrder = PayOrder {
     amt: 200,
 };
 
+/// The open order behind so many others, and the node that has to pay it.
+fn has_open(rt: &impl Abort, book: &Book, before: usize, order: Option<(u16, PayOrder)>) {
+    assert_eq!(rt; book.open(before), order);
+}
+
+/// The first open order of a currency.
+fn first_open(book: &Book, ccy: u8) -> Option<PayOrder> {
+    book.open_orders(ccy).next()
+}
+
+/// How many orders are open, and how many of USD there were.
+fn has_orders(rt: &impl Abort, book: &Book, counts: (usize, u32)) {
+    assert_eq!(rt; (book.open_count(), book.orders(USD)), counts);
+}
+
 fn shows_the_order(rt: &impl Abort, book: &Book) {
-    assert_eq!(rt; book.open(0), Some((USD_NODE, ORDER)));
-    assert_eq!(rt; book.open(1), None);
-    assert_eq!(rt; book.open_orders(USD).next(), Some(ORDER));
-    assert_eq!(rt; book.open_count(), 1);
+    has_open(rt, book, 0, Some((USD_NODE, ORDER)));
+    has_open(rt, book, 1, None);
+    has_orders(rt, book, (1, 1));
+    assert_eq!(rt; first_open(book, USD), Some(ORDER));
 }
 
 fn shows_no_open_order(rt: &impl Abort, book: &Book) {
-    assert_eq!(rt; book.open(0), None);
-    assert_eq!(rt; book.open_count(), 0);
-    assert_eq!(rt; book.orders(USD), 1);
+    has_open(rt, book, 0, None);
+    has_orders(rt, book, (0, 1));
 }
 
 #[test]
@@ -150,10 +164,8 @@ fn credits_a_returned_pay_out_once(rt: HostRuntime) -> Result<(), Fail> {
 
 /// Two commands came, of which the second was the first again.
 fn shows_what_came(rt: &impl Abort, book: &Book) {
-    assert_eq!(rt; book.applied(), 2);
-    assert!(rt; book.paid_in(USD, 1));
-    assert!(rt; !book.paid_in(USD, 2));
-    assert_eq!(rt; book.setup().sites, 3);
+    assert_eq!(rt; (book.applied(), book.setup().sites), (2, 3));
+    assert_eq!(rt; (book.paid_in(USD, 1), book.paid_in(USD, 2)), (true, false));
 }
 
 #[test]

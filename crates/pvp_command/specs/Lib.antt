@@ -1,6 +1,7 @@
 pub mod Fails
 pub mod Fault
 pub mod Request
+pub mod Runs
 pub mod Shows
 pub mod Lives
 pub mod Codes

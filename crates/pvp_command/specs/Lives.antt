@@ -1,5 +1,5 @@
 -- What a live run writes, and which fault it tells, where the bytes of its files are known.
-use Rattle.std.specs.Prelude.{◌≡◌, ◌⊎◌, ℕ, List, Option, Ok, IsOk}
+use Rattle.std.specs.Prelude.{◌≡◌, ◌⊎◌, ℕ, List, Option, Ok, IsOk, IfSome}
 use Rattle.std.specs.Io.KnownBytes.{Appends}
 use Rattle.pvp_types.specs.declared.setup.Setup.{Setup}
 use Rattle.pvp_text.specs.declared.script.Line.{Line}
@@ -13,11 +13,9 @@ use Rattle.pvp_live.specs.Scripts.{script_text}
 use Rattle.pvp_command.specs.declared.lives.Ending.{Ending}
 use Rattle.pvp_command.specs.declared.lives.Ending.TheVariants.{Books, Script}
 use Rattle.pvp_command.specs.declared.fault.Fault.{Fault}
-use Rattle.pvp_command.specs.declared.fault.Fault.TheVariants.{Net, Seats}
-use Rattle.pvp_command.specs.Fault.{run_told}
-use Rattle.pvp_text.specs.declared.book.RunFault.{RunFault}
+use Rattle.pvp_command.specs.declared.fault.Fault.TheVariants.{Net, Seats, NoMemory, Output}
 use Rattle.pvp_command.specs.declared.files.FileFault.{FileFault}
-use Rattle.pvp_command.specs.Request.{TellsFile, TellsSetup}
+use Rattle.pvp_command.specs.Request.{TellsFile, TellsSetup, TellsScript}
 
 -- an audit that says no has a status of its own
 abbrev pub status_judged : Judgement → ℕ
@@ -40,13 +38,23 @@ LivesScript ending s script old new status = (lines : List Line) × (script_at L
 abbrev pub LiveWrites : Ending → List ℕ → List ℕ → Option (List ℕ) → Option (List ℕ) → ℕ → Type 0
 LiveWrites ending setup script old new status = (s : Setup) × (setup_text setup ≡ Ok s) × LivesScript ending s script old new status
 
--- the fault of a live run: that of its script or of its text, or that it could not be run
-abbrev pub TellsRun : Fault → Type 0
-TellsRun told = ((fault : RunFault) × (told ≡ run_told fault)) ⊎ ((told ≡ Net) ⊎ (told ≡ Seats))
+-- a text was not written: memory was refused, or the writer failed
+abbrev pub IsTextFault : Fault → Type 0
+IsTextFault told = (told ≡ NoMemory) ⊎ (told ≡ Output)
 
-abbrev pub TellsLive : (FileFault → Type 0) → Fault → Type 0
-TellsLive fails told = TellsFile fails told ⊎ TellsRun told
+-- what may end a live run once its script is read: that it could not be run, and then nothing is written; want of memory,
+-- or that the writer failed
+abbrev pub LifeStops : {W : Type 0} → W → W → Fault → Type 0
+LifeStops old new told = (((told ≡ Net) ⊎ (told ≡ Seats)) × (new ≡ old)) ⊎ IsTextFault told
 
-abbrev pub LiveTells : (FileFault → Type 0) → List ℕ → (FileFault → Type 0) → Fault → Type 0
-LiveTells fails setup script_fails told =
-    TellsFile fails told ⊎ (TellsSetup setup told ⊎ (IsOk (setup_text setup) × TellsLive script_fails told))
+-- the fault of a live script, where its bytes are known: its file's or its first faulty line, and then nothing is written;
+-- or, of one that reads right, what ended the run
+abbrev pub TellsLive : {W : Type 0} → (FileFault → Type 0) → Setup → Option (List ℕ) → W → W → Fault → Type 0
+TellsLive fails s script old new told =
+    TellsScript fails Live s script old new told ⊎ IfSome script (λ bytes. IsOk (script_at Live s bytes) × LifeStops old new told)
+
+-- the fault of a live run: a file's or the setup's, and then nothing is written; or the script's
+abbrev pub LiveTells : {W : Type 0} → (FileFault → Type 0) → List ℕ → (FileFault → Type 0) → Option (List ℕ) → W → W → Fault → Type 0
+LiveTells fails setup script_fails script old new told =
+    ((TellsFile fails told ⊎ TellsSetup setup told) × (new ≡ old))
+    ⊎ ((s : Setup) × (setup_text setup ≡ Ok s) × TellsLive script_fails s script old new told)

@@ -1,10 +1,13 @@
 -- What a request writes, and which fault it tells, where the bytes of its files are known.
-use Rattle.std.specs.Prelude.{◌≡◌, ◌⊎◌, ℕ, List, Option, Some, None, Ok, codes, IsOk}
+use Rattle.std.specs.Prelude.{◌≡◌, ◌⊎◌, ℕ, List, Option, Some, None, Result, Ok, Err, codes, IsOk, IfSome}
 use Rattle.std.specs.Io.KnownBytes.{Appends}
 use Rattle.pvp_types.specs.declared.setup.Setup.{Setup}
 use Rattle.pvp_text.specs.declared.script.Line.{Line}
+use Rattle.pvp_text.specs.declared.script.LineFault.{LineFault}
+use Rattle.pvp_text.specs.declared.script.Kind.{Kind}
 use Rattle.pvp_text.specs.declared.script.Kind.TheVariants.{Book, Play}
 use Rattle.pvp_text.specs.declared.book.RunFault.{RunFault}
+use Rattle.pvp_text.specs.declared.book.RunFault.TheVariants as run
 use Rattle.pvp_text.specs.declared.setup.TextFault.{TextFault}
 use Rattle.pvp_text.specs.Reading.{Faults}
 use Rattle.pvp_text.specs.SetupText.{setup_text, setup_where, text_fault_is_memory}
@@ -29,10 +32,11 @@ abbrev pub CheckWrites : List ℕ → Option (List ℕ) → Option (List ℕ) �
 CheckWrites setup old new = IsOk (setup_text setup) × Appends old new (codes "setup ok\n")
 
 -- the text of one book over the script's lines
+abbrev pub BooksScript : Setup → List ℕ → Option (List ℕ) → Option (List ℕ) → Type 0
+BooksScript s script old new = (lines : List Line) × (script_at Book s script ≡ Ok lines) × Appends old new (book_text s lines)
+
 abbrev pub BookWrites : List ℕ → List ℕ → Option (List ℕ) → Option (List ℕ) → Type 0
-BookWrites setup script old new =
-    (s : Setup) × (setup_text setup ≡ Ok s) × (lines : List Line) × (script_at Book s script ≡ Ok lines)
-    × Appends old new (book_text s lines)
+BookWrites setup script old new = (s : Setup) × (setup_text setup ≡ Ok s) × BooksScript s script old new
 
 -- what the lines of a play tell, from a new world of the setup on, over new cells of which these saves are to fail: what
 -- they print, or the steps that they try
@@ -64,26 +68,39 @@ abbrev pub TellsSetup : List ℕ → Fault → Type 0
 TellsSetup setup told =
     (fault : TextFault) × Faults text_fault_is_memory fault (λ refused. setup_where refused setup) × (told ≡ text_told fault)
 
--- the fault of a check: its file's, its setup's, or that the writer failed
-abbrev pub CheckTells : (FileFault → Type 0) → List ℕ → Fault → Type 0
-CheckTells fails setup told = TellsFile fails told ⊎ (TellsSetup setup told ⊎ (IsOk (setup_text setup) × (told ≡ Output)))
+-- the fault of a check: its file's or its setup's, and then nothing is written; or that the writer failed
+abbrev pub CheckTells : {W : Type 0} → (FileFault → Type 0) → List ℕ → W → W → Fault → Type 0
+CheckTells fails setup old new told =
+    ((TellsFile fails told ⊎ TellsSetup setup told) × (new ≡ old)) ⊎ (IsOk (setup_text setup) × (told ≡ Output))
 
--- the fault of a script: its file's, or the run's
-abbrev pub TellsScript : (FileFault → Type 0) → Fault → Type 0
-TellsScript fails told = TellsFile fails told ⊎ ((fault : RunFault) × (told ≡ run_told fault))
+-- The fault of a run of what a script was read as: its first faulty line, and then nothing is written; of one that reads
+-- right, that the writer failed; or want of memory, which may come anywhere.
+abbrev pub RunStops : {W : Type 0} → Result (List Line) LineFault → RunFault → W → W → Type 0
+RunStops read (run.Line fault) old new = (read ≡ Err fault) × (new ≡ old)
+RunStops read run.Output old new = IsOk read
+RunStops read run.NoMemory old new = Unit {0}
 
--- the fault of a script's run on one book: a file's, the setup's, or the script's
-abbrev pub RunTells : (FileFault → Type 0) → List ℕ → (FileFault → Type 0) → Fault → Type 0
-RunTells fails setup script_fails told =
-    TellsFile fails told ⊎ (TellsSetup setup told ⊎ (IsOk (setup_text setup) × TellsScript script_fails told))
+abbrev pub TellsRun : {W : Type 0} → Result (List Line) LineFault → W → W → Fault → Type 0
+TellsRun read old new told = (fault : RunFault) × (told ≡ run_told fault) × RunStops read fault old new
+
+-- the fault of a script, where its bytes are known: its file's, and then nothing is written; or the run's
+abbrev pub TellsScript : {W : Type 0} → (FileFault → Type 0) → Kind → Setup → Option (List ℕ) → W → W → Fault → Type 0
+TellsScript fails kind s script old new told =
+    (TellsFile fails told × (new ≡ old)) ⊎ IfSome script (λ bytes. TellsRun (script_at kind s bytes) old new told)
+
+-- the fault of a script's run on one book: a file's or the setup's, and then nothing is written; or the script's
+abbrev pub BookTells : {W : Type 0} → (FileFault → Type 0) → List ℕ → (FileFault → Type 0) → Option (List ℕ) → W → W → Fault → Type 0
+BookTells fails setup script_fails script old new told =
+    ((TellsFile fails told ⊎ TellsSetup setup told) × (new ≡ old))
+    ⊎ ((s : Setup) × (setup_text setup ≡ Ok s) × TellsScript script_fails Book s script old new told)
 
 -- a site of which a save is to fail is looked for before the script is read
-abbrev pub TellsPlay : Option ℕ → (FileFault → Type 0) → Fault → Type 0
-TellsPlay (Some site) script_fails told = told ≡ NoSuchSite site
-TellsPlay None script_fails told = TellsScript script_fails told
+abbrev pub TellsPlay : {W : Type 0} → Option ℕ → (FileFault → Type 0) → Setup → Option (List ℕ) → W → W → Fault → Type 0
+TellsPlay (Some site) script_fails s script old new told = (told ≡ NoSuchSite site) × (new ≡ old)
+TellsPlay None script_fails s script old new told = TellsScript script_fails Play s script old new told
 
--- the fault of a play: a file's, the setup's, that of a site that the setup lacks, or the script's
-abbrev pub PlayTells : (FileFault → Type 0) → List ℕ → List Fail → (FileFault → Type 0) → Fault → Type 0
-PlayTells fails setup saves script_fails told =
-    TellsFile fails told ⊎ (TellsSetup setup told
-    ⊎ ((s : Setup) × (setup_text setup ≡ Ok s) × TellsPlay (unknown_site s saves) script_fails told))
+-- the fault of a play: a file's or the setup's, and then nothing is written; that of a site that the setup lacks; or the script's
+abbrev pub PlayTells : {W : Type 0} → (FileFault → Type 0) → List ℕ → List Fail → (FileFault → Type 0) → Option (List ℕ) → W → W → Fault → Type 0
+PlayTells fails setup saves script_fails script old new told =
+    ((TellsFile fails told ⊎ TellsSetup setup told) × (new ≡ old))
+    ⊎ ((s : Setup) × (setup_text setup ≡ Ok s) × TellsPlay (unknown_site s saves) script_fails s script old new told)

@@ -2,7 +2,7 @@
 ghost use Rattle.std.specs.Prelude.{◌≡◌, OnOk, IfOk, IfErr, IfSome};
 ghost use Rattle.std.specs.Io.KnownBytes.{Appends};
 ghost use Rattle.pvp_types.specs.Setup.{IsValid};
-ghost use Rattle.pvp_command.specs.Lives.{LiveWrites, LiveTells, LivesScript, TellsLive, IsTold, TellsRun, ending_text, status_judged};
+ghost use Rattle.pvp_command.specs.Lives.{LiveWrites, LiveTells, LivesScript, TellsLive, IsTold, IsTextFault, LifeStops, ending_text, status_judged};
 
 use crate::fault::Fault;
 use crate::files::Files;
@@ -50,7 +50,8 @@ where
         IfSome (F.known files.now script.now) (λ script_bytes.
         LiveWrites ending setup_bytes script_bytes (O.contents out.old) (O.contents out.new) status))) }
     ensures err { IfErr result (λ fault. IfSome (F.known files.now setup.now) (λ setup_bytes.
-        LiveTells (F.fails files.now setup.now) setup_bytes (F.fails files.now script.now) fault)) }
+        LiveTells (F.fails files.now setup.now) setup_bytes (F.fails files.now script.now) (F.known files.now script.now)
+        out.old out.new fault)) }
 {
     let setup = files.read(alloc, setup)?;
     let setup = read_setup(alloc, setup.as_slice())?;
@@ -74,7 +75,7 @@ where
     requires { IsValid setup.now }
     ensures ok { IfOk result (λ status. IfSome (F.known files.now script.now) (λ bytes.
         LivesScript ending setup.now bytes (O.contents out.old) (O.contents out.new) status)) }
-    ensures err { IfErr result (TellsLive (F.fails files.now script.now)) }
+    ensures err { IfErr result (TellsLive (F.fails files.now script.now) setup.now (F.known files.now script.now) out.old out.new) }
 {
     let script = files.read(alloc, script)?;
     let lines = read_lines(alloc, setup, Kind::Live, script.as_slice())?;
@@ -96,7 +97,7 @@ where
     R::Stream: Read + Write + Send + Drop,
     requires { IsValid setup.now }
     ensures ok { IfOk result (IsTold ending setup.now (O.contents out.old) (O.contents out.new)) }
-    ensures err { IfErr result TellsRun }
+    ensures err { IfErr result (LifeStops out.old out.new) }
 {
     let judgement = run_live(rt, alloc, setup, lines, notes)?;
     tell(alloc, ending, &judgement, out)
@@ -111,7 +112,7 @@ fn tell<O: Write>(
 ) -> Result<u8, Fault>
     ensures text { OnOk result (Appends (O.contents out.old) (O.contents out.new) (ending_text ending judgement.now)) }
     ensures status { IfOk result (λ status. status ≡ status_judged judgement.now) }
-    ensures err { IfErr result TellsRun }
+    ensures err { IfErr result IsTextFault }
 {
     match ending {
         Ending::Books => print_judgement(alloc, judgement, out)?,

@@ -4,9 +4,12 @@ ghost use Rattle.std.specs.Prelude.{◌≡◌, ◌≢◌, ◌⊎◌, true, false
 ghost use Rattle.std.specs.Io.KnownBytes.{Appends};
 ghost use Rattle.pvp_types.specs.Setup.{IsValid};
 ghost use Rattle.pvp_codes.specs.Codes.{codes_text};
+ghost use Rattle.pvp_text.specs.declared.script.Kind.TheVariants as kinds;
+ghost use Rattle.pvp_text.specs.Script.{script_at};
 ghost use Rattle.pvp_command.specs.declared.fault.Fault.TheVariants.{NoMemory, Output};
 ghost use Rattle.pvp_command.specs.Fault.{status_told};
-ghost use Rattle.pvp_command.specs.Request.{CheckWrites, CheckTells, BookWrites, PlayWrites, RunTells, PlayTells, PlaysScript, DrawsScript, ShowsScript, TellsScript};
+ghost use Rattle.pvp_command.specs.Runs.{Writes, Tells};
+ghost use Rattle.pvp_command.specs.Request.{CheckWrites, CheckTells, BookWrites, BookTells, BooksScript, PlayWrites, PlayTells, ShowsScript, TellsRun, TellsScript};
 
 use crate::explain::{Sources, explained};
 use crate::fails::unknown_site;
@@ -17,7 +20,7 @@ use crate::request::{Asked, Request, is_help, parse};
 use crate::shows::Show;
 use clap::Error;
 use pvp_codes::print_codes;
-use pvp_picture::picture::{Steps, picture};
+use pvp_picture::picture::picture;
 use pvp_play::{Fail, Telling, play_failing, trace};
 use pvp_text::{Kind, read_setup, run_book};
 use pvp_types::Setup;
@@ -186,7 +189,10 @@ fn run<F: Files, O: Write>(
     request: Request<'_>,
     files: &F,
     out: &mut O,
-) -> Result<u8, Fault> {
+) -> Result<u8, Fault>
+    ensures ok { IfOk result (λ status. (status ≡ 0) × Writes (F.known files.now) request.entry (O.contents out.old) (O.contents out.new)) }
+    ensures err { IfErr result (Tells (F.known files.now) (F.fails files.now) request.entry out.old out.new) }
+{
     match request {
         Request::Check { setup } => check(alloc, files, setup, out)?,
         Request::Book { setup, script } => book(alloc, files, setup, script, out)?,
@@ -221,7 +227,7 @@ fn check<F: Files, O: Write>(
     ensures ok { OnOk result (IfSome (F.known files.now setup.now) (λ bytes.
         CheckWrites bytes (O.contents out.old) (O.contents out.new))) }
     ensures err { IfErr result (λ fault. IfSome (F.known files.now setup.now) (λ bytes.
-        CheckTells (F.fails files.now setup.now) bytes fault)) }
+        CheckTells (F.fails files.now setup.now) bytes out.old out.new fault)) }
 {
     let bytes = files.read(alloc, setup)?;
     read_setup(alloc, bytes.as_slice())?;
@@ -243,12 +249,44 @@ fn book<F: Files, O: Write>(
         IfSome (F.known files.now script.now) (λ script_bytes.
         BookWrites setup_bytes script_bytes (O.contents out.old) (O.contents out.new)))) }
     ensures err { IfErr result (λ fault. IfSome (F.known files.now setup.now) (λ setup_bytes.
-        RunTells (F.fails files.now setup.now) setup_bytes (F.fails files.now script.now) fault)) }
+        BookTells (F.fails files.now setup.now) setup_bytes (F.fails files.now script.now) (F.known files.now script.now)
+        out.old out.new fault)) }
 {
     let setup = files.read(alloc, setup)?;
     let setup = read_setup(alloc, setup.as_slice())?;
+    book_script(alloc, files, &setup, script, out)
+}
+
+/// Runs a script on one book of a setup.
+fn book_script<F: Files, O: Write>(
+    alloc: Global,
+    files: &F,
+    setup: &Setup,
+    script: &str,
+    out: &mut O,
+) -> Result<(), Fault>
+    requires { IsValid setup.now }
+    ensures ok { OnOk result (IfSome (F.known files.now script.now) (λ bytes.
+        BooksScript setup.now bytes (O.contents out.old) (O.contents out.new))) }
+    ensures err { IfErr result (TellsScript (F.fails files.now script.now) kinds.Book setup.now (F.known files.now script.now)
+        out.old out.new) }
+{
     let script = files.read(alloc, script)?;
-    run_book(alloc, &setup, script.as_slice(), out)?;
+    run_lines(alloc, setup, script.as_slice(), out)
+}
+
+/// Runs the lines of a script on one book.
+fn run_lines<O: Write>(
+    alloc: Global,
+    setup: &Setup,
+    script: &[u8],
+    out: &mut O,
+) -> Result<(), Fault>
+    requires { IsValid setup.now }
+    ensures ok { OnOk result (BooksScript setup.now script.now (O.contents out.old) (O.contents out.new)) }
+    ensures err { IfErr result (TellsRun (script_at kinds.Book setup.now script.now) out.old out.new) }
+{
+    run_book(alloc, setup, script, out)?;
     Ok(())
 }
 
@@ -266,7 +304,8 @@ fn play<F: Files, O: Write>(
         IfSome (F.known files.now script.now) (λ script_bytes.
         PlayWrites show setup_bytes fails.now script_bytes (O.contents out.old) (O.contents out.new)))) }
     ensures err { IfErr result (λ fault. IfSome (F.known files.now setup.now) (λ setup_bytes.
-        PlayTells (F.fails files.now setup.now) setup_bytes fails.now (F.fails files.now script.now) fault)) }
+        PlayTells (F.fails files.now setup.now) setup_bytes fails.now (F.fails files.now script.now) (F.known files.now script.now)
+        out.old out.new fault)) }
 {
     let bytes = files.read(alloc, setup)?;
     let bank = read_setup(alloc, bytes.as_slice())?;
@@ -289,69 +328,30 @@ fn play_script<F: Files, O: Write>(
     requires { IsValid setup.now }
     ensures ok { OnOk result (IfSome (F.known files.now script.now) (λ bytes.
         ShowsScript show setup.now fails.now bytes (O.contents out.old) (O.contents out.new))) }
-    ensures err { IfErr result (TellsScript (F.fails files.now script.now)) }
+    ensures err { IfErr result (TellsScript (F.fails files.now script.now) kinds.Play setup.now (F.known files.now script.now)
+        out.old out.new) }
+{
+    let script = files.read(alloc, script)?;
+    show_play(alloc, show, setup, script.as_slice(), fails, out)
+}
+
+/// Plays the lines of a script, and prints what they print, prints the steps that they try, or draws some of these.
+fn show_play<O: Write>(
+    alloc: Global,
+    show: Show,
+    setup: &Setup,
+    script: &[u8],
+    fails: &[Fail],
+    out: &mut O,
+) -> Result<(), Fault>
+    requires { IsValid setup.now }
+    ensures ok { OnOk result (ShowsScript show setup.now fails.now script.now (O.contents out.old) (O.contents out.new)) }
+    ensures err { IfErr result (TellsRun (script_at kinds.Play setup.now script.now) out.old out.new) }
 {
     match show {
-        Show::Told(Telling::Books) => print_script(alloc, files, setup, script, fails, out),
-        Show::Told(Telling::Steps) => trace_script(alloc, files, setup, script, fails, out),
-        Show::Drawn(steps) => draw_script(alloc, files, steps, setup, script, fails, out),
+        Show::Told(Telling::Books) => play_failing(alloc, setup, fails, script, out)?,
+        Show::Told(Telling::Steps) => trace(alloc, setup, fails, script, out)?,
+        Show::Drawn(steps) => picture(alloc, setup, fails, script, steps, out)?,
     }
-}
-
-/// Prints what the lines of a script print.
-fn print_script<F: Files, O: Write>(
-    alloc: Global,
-    files: &F,
-    setup: &Setup,
-    script: &str,
-    fails: &[Fail],
-    out: &mut O,
-) -> Result<(), Fault>
-    requires { IsValid setup.now }
-    ensures ok { OnOk result (IfSome (F.known files.now script.now) (λ bytes.
-        PlaysScript Telling.Books setup.now fails.now bytes (O.contents out.old) (O.contents out.new))) }
-    ensures err { IfErr result (TellsScript (F.fails files.now script.now)) }
-{
-    let lines = files.read(alloc, script)?;
-    play_failing(alloc, setup, fails, lines.as_slice(), out)?;
-    Ok(())
-}
-
-/// Prints the steps that the lines of a script try.
-fn trace_script<F: Files, O: Write>(
-    alloc: Global,
-    files: &F,
-    setup: &Setup,
-    script: &str,
-    fails: &[Fail],
-    out: &mut O,
-) -> Result<(), Fault>
-    requires { IsValid setup.now }
-    ensures ok { OnOk result (IfSome (F.known files.now script.now) (λ bytes.
-        PlaysScript Telling.Steps setup.now fails.now bytes (O.contents out.old) (O.contents out.new))) }
-    ensures err { IfErr result (TellsScript (F.fails files.now script.now)) }
-{
-    let lines = files.read(alloc, script)?;
-    trace(alloc, setup, fails, lines.as_slice(), out)?;
-    Ok(())
-}
-
-/// Draws some of the steps that the lines of a script try.
-fn draw_script<F: Files, O: Write>(
-    alloc: Global,
-    files: &F,
-    steps: Steps,
-    setup: &Setup,
-    script: &str,
-    fails: &[Fail],
-    out: &mut O,
-) -> Result<(), Fault>
-    requires { IsValid setup.now }
-    ensures ok { OnOk result (IfSome (F.known files.now script.now) (λ bytes.
-        DrawsScript setup.now bytes (O.contents out.old) (O.contents out.new))) }
-    ensures err { IfErr result (TellsScript (F.fails files.now script.now)) }
-{
-    let lines = files.read(alloc, script)?;
-    picture(alloc, setup, fails, lines.as_slice(), steps, out)?;
     Ok(())
 }

@@ -21,29 +21,6 @@ fn has_row(rt: &impl Abort, rows: &RowsOf<Ask>, before: usize, row: Option<RowOf
     assert_eq!(rt; rows.get(before), row);
 }
 
-/// Rows 1 and 2, on one page.
-fn has_two(rt: &impl Abort, rows: &RowsOf<Ask>) {
-    assert_eq!(rt; rows.len(), 2);
-    assert_eq!(rt; rows.page(0), Some([row(1), row(2)].as_slice()));
-    assert_eq!(rt; rows.page(1), None);
-}
-
-#[test]
-fn rows_are_read_and_copied(rt: HostRuntime) -> Result<(), Fail> {
-    let alloc = rt.alloc();
-    let mut rows = RowsOf::new(alloc);
-    is_empty(&rt, &rows);
-    rows.push(row(1))?;
-    rows.push(row(2))?;
-    let copy = rows.copy(alloc)?;
-    rows.push(row(3))?;
-    has_len(&rt, &rows, 3);
-    has_row(&rt, &rows, 2, Some(row(3)));
-    has_row(&rt, &rows, 3, None);
-    has_two(&rt, &copy);
-    Ok(())
-}
-
 /// Adds a row that has its place as its number.
 fn push_next(rows: &mut RowsOf<Ask>) -> Result<(), AllocError> {
     if rows.len() < MAX_ROWS {
@@ -75,6 +52,22 @@ fn has_page(rt: &impl Abort, rows: &RowsOf<Ask>, page: usize, wanted: (usize, u3
 }
 
 #[test]
+fn rows_are_read_and_copied(rt: HostRuntime) -> Result<(), Fail> {
+    is_empty(&rt, &RowsOf::new(rt.alloc()));
+    let mut rows = numbered(rt.alloc(), 2)?;
+    let copy = rows.copy(rt.alloc())?;
+    push_next(&mut rows)?;
+    has_len(&rt, &rows, 3);
+    has_row(&rt, &rows, 2, Some(row(3)));
+    has_row(&rt, &rows, 3, None);
+    has_len(&rt, &copy, 2);
+    has_page(&rt, &copy, 0, (2, 1));
+    has_page(&rt, &copy, 1, (0, 0));
+    has_row(&rt, &copy, 1, Some(row(2)));
+    Ok(())
+}
+
+#[test]
 fn full_page_is_followed_by_a_new_one(rt: HostRuntime) -> Result<(), Fail> {
     let mut rows = numbered(rt.alloc(), 63)?;
     has_page(&rt, &rows, 0, (63, 1));
@@ -100,18 +93,18 @@ fn longest_log_ends_one_short_of_a_full_page(rt: HostRuntime) -> Result<(), Fail
     Ok(())
 }
 
-/// Replaces the rows from 100 on of 200 by 100 others.
-fn replace_half(rows: &mut RowsOf<Ask>, part: RowsOf<Ask>) -> Result<(), AllocError> {
-    if rows.len() == 200 && part.len() == 100 {
-        rows.replace_from(100, part)?;
+/// Puts others in place of the rows behind so many.
+fn replace(rows: &mut RowsOf<Ask>, before: usize, part: RowsOf<Ask>) -> Result<(), AllocError> {
+    if before <= rows.len() && before.saturating_add(part.len()) <= MAX_ROWS {
+        rows.replace_from(before, part)?;
     }
     Ok(())
 }
 
-/// A copy of the rows from 130 on of 200.
-fn tail_of(alloc: Global, rows: &RowsOf<Ask>) -> Result<RowsOf<Ask>, AllocError> {
-    if rows.len() == 200 {
-        rows.copy_from(alloc, 130)
+/// A copy of the rows behind so many.
+fn tail_of(alloc: Global, rows: &RowsOf<Ask>, before: usize) -> Result<RowsOf<Ask>, AllocError> {
+    if before <= rows.len() {
+        rows.copy_from(alloc, before)
     } else {
         Ok(RowsOf::new(alloc))
     }
@@ -121,13 +114,13 @@ fn tail_of(alloc: Global, rows: &RowsOf<Ask>) -> Result<RowsOf<Ask>, AllocError>
 fn rows_behind_a_part_that_stays_lie_on_pages(rt: HostRuntime) -> Result<(), Fail> {
     let alloc = rt.alloc();
     let mut rows = numbered(alloc, 200)?;
-    replace_half(&mut rows, numbered(alloc, 100)?)?;
+    replace(&mut rows, 100, numbered(alloc, 100)?)?;
     has_len(&rt, &rows, 200);
     has_page(&rt, &rows, 1, (64, 65));
     has_row(&rt, &rows, 99, Some(row(100)));
     has_row(&rt, &rows, 100, Some(row(1)));
     has_page(&rt, &rows, 3, (8, 93));
-    let tail = tail_of(alloc, &rows)?;
+    let tail = tail_of(alloc, &rows, 130)?;
     has_len(&rt, &tail, 70);
     has_page(&rt, &tail, 0, (64, 31));
     has_page(&rt, &tail, 1, (6, 95));
@@ -137,15 +130,9 @@ fn rows_behind_a_part_that_stays_lie_on_pages(rt: HostRuntime) -> Result<(), Fai
 #[test]
 fn log_takes_rows_at_its_end_and_in_its_middle(rt: HostRuntime) -> Result<(), Fail> {
     let alloc = rt.alloc();
-    let mut log = RowsOf::new(alloc);
-    is_empty(&rt, &log);
-    log.push(row(1))?;
-    log.push(row(2))?;
-    has_len(&rt, &log.copy_from(alloc, 1)?, 1);
-    let part = rows(alloc, &[3, 4])?;
-    if part.len() == 2 && log.len() == 2 {
-        log.replace_from(1, part)?;
-    }
+    let mut log = numbered(alloc, 2)?;
+    has_len(&rt, &tail_of(alloc, &log, 1)?, 1);
+    replace(&mut log, 1, rows(alloc, &[3, 4])?)?;
     has_len(&rt, &log, 3);
     has_row(&rt, &log, 1, Some(row(3)));
     has_row(&rt, &log, 3, None);
@@ -168,13 +155,17 @@ fn clients_are_noted_and_answered(rt: HostRuntime) -> Result<(), Fail> {
     clients.answered(5, 1, 70)?;
     has_newest(&rt, &clients, 5, 2);
     has_newest(&rt, &clients, 6, 0);
-    let mut log = RowsOf::new(alloc);
-    log.push(row(4))?;
-    clients.rebuild(&log)?;
+    clients.rebuild(&rows(alloc, &[4])?)?;
     has_newest(&rt, &clients, 5, 4);
     has_reply(&rt, &clients, 5, Some((1, 70)));
     has_reply(&rt, &clients, 6, None);
     Ok(())
+}
+
+/// Saves a value; whether that was done, what the cell then has, and how often it failed.
+fn saved(cell: &mut MemCell, boot: Boot) -> (bool, Boot, u64) {
+    let is_done = cell.save(boot).is_ok();
+    (is_done, cell.load(), cell.failures())
 }
 
 #[test]
@@ -182,14 +173,13 @@ fn cell_fails_once_and_counts_it(rt: HostRuntime) -> Result<(), Fail> {
     let first = Boot { boots: 1 };
     let second = Boot { boots: 2 };
     let mut cell = MemCell::failing(2, false);
-    assert!(rt; cell.save(first).is_ok());
-    assert_eq!(rt; cell.failures(), 0);
-    assert!(rt; cell.save(second).is_err());
-    assert_eq!(rt; cell.failures(), 1);
-    assert_eq!(rt; cell.load(), first);
-    assert!(rt; cell.save(second).is_ok());
-    assert_eq!(rt; cell.load(), second);
-    assert_eq!(rt; cell.failures(), 1);
+    for (boot, want) in [
+        (first, (true, first, 0)),
+        (second, (false, first, 1)),
+        (second, (true, second, 1)),
+    ] {
+        assert_eq!(rt; saved(&mut cell, boot), want);
+    }
     Ok(())
 }
 

@@ -1,7 +1,7 @@
 //! The greatest frames.
 
-use crate::sent::{frame, known, row, rows, stamped};
-use pvp_wire::{Message, decode};
+use crate::sent::{self, frame, known, row, rows, stamped};
+use pvp_wire::Message;
 use std::alloc::Global;
 use std::process::Abort;
 use std::test::Fail;
@@ -18,10 +18,7 @@ fn comes_back<R: Abort + AllocGlobal>(rt: &R, msg: Message, length: usize) -> Re
     let alloc: Global = rt.alloc();
     let bytes = frame(alloc, &stamped(200, 1, 0, 201, msg))?;
     assert_eq!(rt; bytes.len(), length);
-    let (read, size) = decode(alloc, bytes.as_slice())?;
-    assert_eq!(rt; size, length);
-    let again = frame(alloc, &read)?;
-    assert!(rt; again.as_slice() == bytes.as_slice());
+    assert!(rt; sent::comes_back(alloc, bytes.as_slice())?);
     Ok(())
 }
 

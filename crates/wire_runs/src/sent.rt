@@ -1,7 +1,7 @@
 //! What the tests send, and the frames of it.
 
 use pvp_types::Cmd;
-use pvp_wire::{Message, Stamp, Stamped, encode, wireable};
+use pvp_wire::{Message, Stamp, Stamped, decode, encode, wireable};
 use std::alloc::{AllocError, Global};
 use std::test::Fail;
 use vr_types::{EnvelopeOf, Known, RowOf, RowsOf};
@@ -26,6 +26,18 @@ pub fn frame(alloc: Global, stamped: &Stamped) -> Result<Vec<u8>, Fail> {
     let mut out = Vec::new(alloc);
     encode(stamped, &mut out)?;
     Ok(out)
+}
+
+/// The frame at the front of bytes once more, as it is written where it is read, and how many bytes were read.
+pub fn again(alloc: Global, bytes: &[u8]) -> Result<(Vec<u8>, usize), Fail> {
+    let (read, size) = decode(alloc, bytes)?;
+    Ok((frame(alloc, &read)?, size))
+}
+
+/// Whether bytes are one frame, which is written as it is read.
+pub fn comes_back(alloc: Global, bytes: &[u8]) -> Result<bool, Fail> {
+    let (written, size) = again(alloc, bytes)?;
+    Ok(size == bytes.len() && written.as_slice() == bytes)
 }
 
 /// What is known of boots, one number a site.

@@ -3,7 +3,7 @@
 use crate::faults::altered;
 use crate::sent::frame;
 use crate::worked::{ANSWER, CHANGE, COMMIT, ORDER, REGAINED, VOTE};
-use pvp_wire::{Feeder, WireFault};
+use pvp_wire::{Feeder, Stamped, WireFault};
 use std::alloc::Global;
 use std::test::Fail;
 
@@ -45,10 +45,19 @@ fn cuts_do_not_matter(rt: HostRuntime) -> Result<(), Fail> {
 
 /// A stream of three frames and part of a fourth.
 fn stream(alloc: Global) -> Result<Vec<u8>, Fail> {
-    let mut bytes = Vec::from_slice(alloc, &COMMIT)?;
-    bytes.extend_from_slice(&CHANGE)?;
-    bytes.extend_from_slice(&ORDER)?;
-    bytes.extend_from_slice(&ANSWER[..9])?;
+    let mut bytes = Vec::new(alloc);
+    for piece in [&COMMIT, &CHANGE[..], &ORDER, &ANSWER[..9]] {
+        bytes.extend_from_slice(piece)?;
+    }
+    Ok(bytes)
+}
+
+/// Frames as they are written, one after the other.
+fn written(alloc: Global, frames: &[Stamped]) -> Result<Vec<u8>, Fail> {
+    let mut bytes = Vec::new(alloc);
+    for stamped in frames {
+        bytes.extend_from_slice(frame(alloc, stamped)?.as_slice())?;
+    }
     Ok(bytes)
 }
 
@@ -57,14 +66,9 @@ fn one_piece_may_have_many_frames(rt: HostRuntime) -> Result<(), Fail> {
     let alloc = rt.alloc();
     let mut feeder = Feeder::new(alloc);
     let bytes = stream(alloc)?;
-    let frames = feeder.feed(bytes.as_slice())?;
-    assert_eq!(rt; frames.len(), 3);
-    for (stamped, want) in frames
-        .iter()
-        .zip([COMMIT.as_slice(), CHANGE.as_slice(), ORDER.as_slice()])
-    {
-        assert_eq!(rt; frame(alloc, stamped)?.as_slice(), want);
-    }
+    let again = written(alloc, feeder.feed(bytes.as_slice())?.as_slice())?;
+    assert_eq!(rt; again.len(), COMMIT.len() + CHANGE.len() + ORDER.len());
+    assert!(rt; bytes.as_slice().starts_with(again.as_slice()));
     assert_eq!(rt; feeder.held(), 9);
     assert_eq!(rt; feeder.feed(&[])?.len(), 0);
     assert_eq!(rt; feeder.held(), 9);

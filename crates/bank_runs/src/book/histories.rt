@@ -85,6 +85,15 @@ fn matched_by(entry: &Entry) -> Option<Deal> {
     }
 }
 
+/// Whether an entry has this command.
+fn has(entries: &[Entry], cmd: Cmd) -> bool {
+    entries.iter().any(|e| e.cmd == cmd)
+}
+
+fn is_settled(settled: &[Deal], reference: u32) -> bool {
+    settled.iter().any(|s| s.reference == reference)
+}
+
 fn has_asked(entries: &[Entry], client: u16, reference: u32) -> bool {
     entries
         .iter()
@@ -95,7 +104,7 @@ fn has_asked(entries: &[Entry], client: u16, reference: u32) -> bool {
 fn waits(entries: &[Entry], settled: &[Deal], deal: Deal) -> bool {
     let both = has_asked(entries, deal.first, deal.reference)
         && has_asked(entries, deal.second, deal.reference);
-    !both && !settled.iter().any(|s| s.reference == deal.reference)
+    !both && !is_settled(settled, deal.reference)
 }
 
 /// Nothing of a currency that there is not.
@@ -182,9 +191,7 @@ fn orders(alloc: Global, entries: &[Entry], c: u8) -> Result<Vec<(PayOrder, bool
                     member: entry.client,
                     amt,
                 };
-                let ended = entries
-                    .iter()
-                    .any(|e| e.cmd == paid(c, out) || e.cmd == returned(c, out));
+                let ended = has(entries, paid(c, out)) || has(entries, returned(c, out));
                 orders.push((order, ended))?;
             }
         }
@@ -227,7 +234,7 @@ fn state(entries: &[Entry], settled: &[Deal], client: u16, reference: u32) -> Pa
     }
     let back = has_asked(entries, client, reference);
     match matched {
-        Some(_) if settled.iter().any(|s| s.reference == reference) => PairState::Settled,
+        Some(_) if is_settled(settled, reference) => PairState::Settled,
         Some(deal) if back && has_asked(entries, deal.second, reference) => PairState::Rescinded,
         Some(_) => PairState::Matched,
         None if back => PairState::Rescinded,

@@ -18,34 +18,37 @@ pub fn posted(balances: [i64; 3], sell: (u8, u64), buy: (u8, u64)) -> [i64; 3] {
     after
 }
 
+/// What a balance is worth at a rate, less its haircut where it is above 0 and with it where it is below.
+fn worth(balance: i64, rate: i64, haircut: i64) -> i64 {
+    let rated = balance.wrapping_mul(rate);
+    if balance < 0 {
+        rated.wrapping_mul(10_000i64.wrapping_add(haircut))
+    } else {
+        rated.wrapping_mul(10_000i64.wrapping_sub(haircut))
+    }
+}
+
 /// A member's value, at the rates of the setup.
 pub fn value(balances: [i64; 3]) -> i64 {
-    let mut value: i64 = 0;
-    let rates = [(110, 500), (100, 0), (1, 1000)];
-    for (balance, (rate, haircut)) in balances.iter().zip(rates.iter()) {
-        let rated = balance.wrapping_mul(*rate);
-        if *balance < 0 {
-            value = value.wrapping_add(rated.wrapping_mul(10_000i64.wrapping_add(*haircut)));
-        } else {
-            value = value.wrapping_add(rated.wrapping_mul(10_000i64.wrapping_sub(*haircut)));
-        }
-    }
-    value
+    let [eur, usd, jpy] = balances;
+    worth(eur, 110, 500)
+        .wrapping_add(worth(usd, 100, 0))
+        .wrapping_add(worth(jpy, 1, 1000))
+}
+
+/// How much a balance lacks at a rate.
+fn shortage(balance: i64, rate: i64) -> i64 {
+    balance.min(0).wrapping_mul(rate).wrapping_neg()
 }
 
 /// The three tests, at the limits and rates of the setup.
 pub fn passes(balances: [i64; 3]) -> bool {
-    let mut shortage: i64 = 0;
-    let limits = [(110, 1000), (100, 1000), (1, 100_000)];
-    for (balance, (rate, short)) in balances.iter().zip(limits.iter()) {
-        if *balance < 0 {
-            shortage = shortage.wrapping_sub(balance.wrapping_mul(*rate));
-        }
-        if balance.wrapping_add(*short) < 0 {
-            return false;
-        }
-    }
-    value(balances) >= 0 && shortage <= 150_000
+    let [eur, usd, jpy] = balances;
+    let aggregate = shortage(eur, 110)
+        .wrapping_add(shortage(usd, 100))
+        .wrapping_add(shortage(jpy, 1));
+    let is_short = eur < -1000 || usd < -1000 || jpy < -100_000;
+    value(balances) >= 0 && aggregate <= 150_000 && !is_short
 }
 
 /// Which of the offers a walk posts, from these balances on.

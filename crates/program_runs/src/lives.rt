@@ -1,6 +1,6 @@
 //! Live runs: on a machine without a net, what is told while one runs, and as the script that one is told as. `.ci/live` runs
 //! the program.
-use crate::program::{SETUP, TwoFiles, runs};
+use crate::files::{SETUP, ends};
 use pvp_judge::Judgement;
 use pvp_live::{live, print_judgement, print_script};
 use pvp_play::play;
@@ -16,18 +16,20 @@ use std::test::Fail;
 use std::thread::Threads;
 use std::time::Clock;
 
-/// Words of a live run are of a form; without a net that is told before the files are read.
+/// Words of a live run.
+const WORDS: &[&[&str]] = &[
+    &["pvpsim", "live", "setup.json", "script.txt"],
+    &["pvpsim", "live", "setup.json", "script.txt", "--script"],
+    &["pvpsim", "live", "setup.json", "no such", "--explain"],
+];
+
+/// Without a net that is told, before the files are read.
 #[test]
 fn a_net_that_is_not_there(rt: HostRuntime) -> Result<(), Fail> {
-    let script = "payin ALFA USD 1\nrest 5\nbeat s0\n";
-    let files = TwoFiles {
-        setup: SETUP,
-        script,
-    };
-    let words = ["pvpsim", "live", "setup.json", "script.txt"];
-    runs(&rt, words.as_slice(), &files, (1, "", "fault net\n"))?;
-    let words = ["pvpsim", "live", "setup.json", "script.txt", "--script"];
-    runs(&rt, words.as_slice(), &files, (1, "", "fault net\n"))
+    for words in WORDS {
+        ends(&rt, *words, "", 9, (1, "fault net\n"))?;
+    }
+    Ok(())
 }
 
 /// A run of a bank on threads: pay-ins, a pair that is settled, a pay-out, a crash, a timer and a restart.
@@ -49,25 +51,25 @@ fn a_run_is_played_again(rt: HostRuntime) -> Result<(), Fail> {
     are_played_again(&rt, LIVE, 3)
 }
 
-/// A hundred runs with short rests are played again, in four parts, each of which ends in time.
+/// Forty runs with short rests are played again, in four parts, so that each ends in time where the machine has other work.
 #[test]
 fn hasty_runs_are_played_again(rt: HostRuntime) -> Result<(), Fail> {
-    are_played_again(&rt, HASTY, 25)
+    are_played_again(&rt, HASTY, 10)
 }
 
 #[test]
 fn more_hasty_runs_are_played_again(rt: HostRuntime) -> Result<(), Fail> {
-    are_played_again(&rt, HASTY, 25)
+    are_played_again(&rt, HASTY, 10)
 }
 
 #[test]
 fn as_many_hasty_runs_are_played_again(rt: HostRuntime) -> Result<(), Fail> {
-    are_played_again(&rt, HASTY, 25)
+    are_played_again(&rt, HASTY, 10)
 }
 
 #[test]
 fn the_last_hasty_runs_are_played_again(rt: HostRuntime) -> Result<(), Fail> {
-    are_played_again(&rt, HASTY, 25)
+    are_played_again(&rt, HASTY, 10)
 }
 
 /// Runs the bank so many times, and plays the script of each run.

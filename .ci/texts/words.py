@@ -1,12 +1,8 @@
-//! What each fault code means.
-use super::{Failing, SETUP, TwoFiles, runs};
-use pvp_command::command;
-use std::test::Fail;
+"""Words of the command line: those of no form, help, the version, and what each fault code means."""
+from program import Runs
 
-const WORDS: [&str; 3] = ["pvpsim", "help", "codes"];
-
-/// All codes, in the order of `docs/formats.md`, with what each means.
-const CODES: &str = "J1  the text is no JSON
+# all codes, in the order of `docs/formats.md`, with what each means
+CODES = """J1  the text is no JSON
 J2  a member of an object is missing or of another type; a number is digits alone, below 2^64
 K1  the sites are not 3, 5 or 7
 K2  the currencies are not 1 to 8
@@ -69,51 +65,42 @@ F5  a field has a value that it may not have
 F6  the fields end before the frame does, or after it
 F7  memory was refused
 E1  a seat of a live run did not come back, so its actors could not be audited
-";
+"""
 
-#[test]
-fn each_code_is_told_with_its_meaning(rt: HostRuntime) -> Result<(), Fail> {
-    let files = TwoFiles {
-        setup: "",
-        script: "",
-    };
-    runs(&rt, WORDS.as_slice(), &files, (0, CODES, ""))
-}
 
-#[test]
-fn a_writer_that_takes_no_codes(rt: HostRuntime) -> Result<(), Fail> {
-    let files = TwoFiles {
-        setup: SETUP,
-        script: "",
-    };
-    let mut out = Failing { left: 0 };
-    let mut err: Vec<u8> = Vec::new(rt.alloc());
-    let status = command(rt.alloc(), WORDS.as_slice(), &files, &mut out, &mut err);
-    assert_eq!(rt; status, 1);
-    assert_eq!(rt; err.as_slice(), "fault output\n".as_bytes());
-    Ok(())
-}
+class Words(Runs):
+    def test_words_of_no_form(self):
+        for words in [
+            [],
+            ["play", "setup.json"],
+            ["book", "setup.json"],
+            ["check", "setup.json", "script.txt"],
+            ["--fail", "setup.json"],
+        ]:
+            self.has_no_form(words, "pvpsim")
 
-/// Other words after `help` are its reader's: it tells of a command, or that there is none.
-#[test]
-fn help_tells_of_commands_too(rt: HostRuntime) -> Result<(), Fail> {
-    let files = TwoFiles {
-        setup: SETUP,
-        script: "",
-    };
-    let cases: [(&[&str], &str); 4] = [
-        (&["pvpsim", "help"], "`pvpsim help codes`"),
-        (&["pvpsim", "help", "check"], "A setup: a JSON file"),
-        (&["pvpsim", "help", "code"], "code"),
-        (&["pvpsim", "help", "codes", "codes"], "codes"),
-    ];
-    for (words, told) in cases {
-        let mut out: Vec<u8> = Vec::new(rt.alloc());
-        let mut err: Vec<u8> = Vec::new(rt.alloc());
-        let status = command(rt.alloc(), words, &files, &mut out, &mut err);
-        let said = std::str::from_utf8(err.as_slice())?;
-        assert_eq!(rt; (status, out.len()), (2, 0), "{said}");
-        assert!(rt; said.contains(told), "{said}");
-    }
-    Ok(())
-}
+    def test_help_and_version(self):
+        """They are told on standard error, with status 2."""
+        for words, told in [
+            (["--version"], "pvpsim 0.1.0\n"),
+            (["--help"], "Tells whether a setup meets the rules: prints `setup ok`, or the first rule that is broken"),
+            (["--help"], "docs/formats.md"),
+            (["check", "--help"], "A setup: a JSON file with the sites, the currencies and the members of the bank"),
+            (["book", "--help"], "A script: a text file with one statement a line"),
+            (["play", "--help"], "--fail <SITE:AT:KEEP>"),
+            (["play", "--help"], "Lets a save of a site's boot cell fail; may stand once for each site."),
+        ]:
+            self.has_no_form(words, told)
+
+    def test_each_code_is_told_with_its_meaning(self):
+        self.prints(["help", "codes"], CODES)
+
+    def test_help_tells_of_commands_too(self):
+        """Other words after `help` are their reader's: it tells of a command, or that there is none."""
+        for words, told in [
+            (["help"], "`pvpsim help codes`"),
+            (["help", "check"], "A setup: a JSON file"),
+            (["help", "code"], "code"),
+            (["help", "codes", "codes"], "codes"),
+        ]:
+            self.has_no_form(words, told)

@@ -1,0 +1,37 @@
+#!/usr/bin/env python3
+"""What the built program prints, tells and answers, run by run: each file beside this one has the cases of one subject, whose
+outcomes were worked by hand from the rules.
+
+usage: python3 .ci/texts [NAME ..]
+
+  NAME   the cases alone whose name has one of these words
+
+The last line is 'N passed, M failed'.
+"""
+import os
+import sys
+import unittest
+
+sys.dont_write_bytecode = True
+HERE = os.path.dirname(os.path.abspath(__file__))
+
+
+def named(suite, words):
+    """The cases of a suite whose names have one of these words, or all."""
+    for it in suite:
+        if isinstance(it, unittest.TestSuite):
+            yield from named(it, words)
+        elif not words or any(word in it.id() for word in words):
+            yield it
+
+
+def main(words):
+    cases = unittest.TestSuite(named(unittest.defaultTestLoader.discover(HERE, pattern="[a-z]*.py"), words))
+    ran = unittest.TextTestRunner(verbosity=0).run(cases)
+    failed = len(ran.failures) + len(ran.errors)
+    print(f"{ran.testsRun - failed} passed, {failed} failed")
+    return 1 if failed or not ran.testsRun else 0
+
+
+if __name__ == "__main__":
+    sys.exit(main(sys.argv[1:]))

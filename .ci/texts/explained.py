@@ -1,0 +1,198 @@
+"""Faults that are explained: the second line on standard error that `--explain` asks for."""
+from program import BOOK, FOUR_SITES, NO_SITE_3, PLAY, SETUP, TRACE, TWO_DOLLARS, Runs
+
+
+class Explained(Runs):
+    def explains(self, words, setup, script, fault, more):
+        """The second line is there where it is asked for, before or behind the files' names; all else is the same."""
+        self.tells(words, fault, setup, script)
+        self.tells([words[0], "--explain", *words[1:]], fault + more, setup, script)
+        self.tells([*words, "--explain"], fault + more, setup, script)
+
+    def tells_lines(self, words, cases):
+        """Each script has one fault: on this line, of this code, of which this is told."""
+        for script, line, code, told in cases:
+            self.explains(words, SETUP, script, f"fault line {line} {code}\n", f"line {line}: {told}\n")
+
+
+class Lines(Explained):
+    def test_a_number(self):
+        """Of several malformed numbers the first is told, also where a name before it is unknown."""
+        self.tells_lines(BOOK, [
+            ("do ALFA payout USD 01", 1, "L4", '"01" is no number: a leading zero'),
+            ("print\ndo CARL payout DEM 1,000", 2, "L4", '"1,000" is no number: a byte that is no digit'),
+            ("do @ rescind x", 1, "L4", '"@" is no number: no digits'),
+            ("do @65536 settle 1", 1, "L4", '"@65536" is too large a number: above 65535'),
+            ("do ALFA instruct 4294967296 BETA USD 1 @256 -1", 1, "L4", '"4294967296" is too large a number: above 4294967295'),
+            ("do ALFA instruct 4294967295 BETA USD 1 @256 -1", 1, "L4", '"@256" is too large a number: above 255'),
+            (
+                "do OP fund USD 0 ALFA 18446744073709551616",
+                1,
+                "L4",
+                '"18446744073709551616" is too large a number: above 18446744073709551615',
+            ),
+            ("do USD paid USD +1", 1, "L4", '"+1" is no number: a byte that is no digit'),
+        ])
+
+    def test_a_number_of_a_play(self):
+        for words in (PLAY, TRACE):
+            self.tells_lines(words, [
+                ("# a site\ncrash s256\n", 2, "L4", '"s256" is too large a number: above 255'),
+                ("beat s\n", 1, "L4", '"s" is no number: no digits'),
+                ("cut s01\n", 1, "L4", '"s01" is no number: a leading zero'),
+                ("heal @00\n", 1, "L4", '"@00" is no number: a leading zero'),
+                ("timer @200\n", 1, "L4", '"@200" is no site: s and its number'),
+                ("deliver e7\n", 1, "L4", '"e7" is no number: a byte that is no digit'),
+                ("chaos 7 1000001\n", 1, "L4", '"1000001" is too large a number: above 1000000'),
+                ("payin ALFA USD 1.5\n", 1, "L4", '"1.5" is no number: a byte that is no digit'),
+            ])
+
+    def test_a_name(self):
+        """Of several unknown names the first is told."""
+        self.tells_lines(BOOK, [
+            ("print\n\n  do CARL  payout DEM 1", 3, "L5", '"CARL" is no name of a client that may send a command'),
+            ("do ALFA payout DEM 1", 1, "L5", '"DEM" is no currency\'s code'),
+            ("do ALFA payout BETA 1", 1, "L5", '"BETA" is no currency\'s code'),
+            ("do @9 fund @9 1 GAMA 5", 1, "L5", '"GAMA" is no client\'s name'),
+        ])
+
+    def test_a_name_of_a_play(self):
+        """A currency's code is no sender in a play, though it is in a book."""
+        self.tells_lines(PLAY, [
+            ("do USD paid USD 1\n", 1, "L5", '"USD" is no name of a client that may send a command'),
+            ("beat GAMA\n", 1, "L5", '"GAMA" is no actor\'s name'),
+            ("crash ALFA\n", 1, "L5", '"ALFA" is no site: s and its number'),
+            ("close GAMA USD\n", 1, "L5", '"GAMA" is no client\'s name'),
+        ])
+
+    def test_a_word(self):
+        self.tells_lines(BOOK, [
+            ("print\n\n# no such word\nsettle\nprint\n", 4, "L2", '"settle" begins no line of such a script'),
+            ("print\nbeat s0\n", 2, "L2", '"beat" begins no line of such a script'),
+            ("do ALFA pay USD 1", 1, "L2", '"pay" is no command'),
+        ])
+        self.tells_lines(PLAY, [("rest 5\n", 1, "L2", '"rest" begins no line of such a script')])
+
+    def test_a_count_of_words(self):
+        self.tells_lines(BOOK, [
+            ("print x\n", 1, "L3", "too many words, the form has 1: print x"),
+            ("do ALFA  payout USD\n", 1, "L3", "too few words, the form has 5: do ALFA  payout USD"),
+            (
+                "do ALFA instruct 1 BETA USD 1 EUR 1 please",
+                1,
+                "L3",
+                "too many words, the form has 9: do ALFA instruct 1 BETA USD 1 EUR 1 please",
+            ),
+            ("do ALFA\n", 1, "L3", "too few words: do ALFA"),
+            ("do\n", 1, "L3", "too few words: do"),
+        ])
+
+    def test_a_line_that_is_not_shown(self):
+        """A byte that is no printed character is not printed, nor is a line that is too long, or one of too many."""
+        self.tells_lines(BOOK, [
+            ("print\ndo ALFA\tpayout USD 1", 2, "L1", "a byte outside 32 to 126"),
+            ("print\r\n", 1, "L1", "a byte outside 32 to 126"),
+            ("print \u001b[2J\n", 1, "L1", "a byte outside 32 to 126"),
+            ("x" * 257, 1, "L6", "a line of more than 256 bytes"),
+            ("#\n" * 65536, 65536, "L7", "more than 65535 lines"),
+        ])
+
+    def test_a_line_as_long_as_may_be(self):
+        """A line of 256 printed characters is shown whole, and so is a word."""
+        word = "~" * 256
+        line = "print " + " ~" * 125
+        self.tells_lines(BOOK, [
+            (word, 1, "L2", f'"{word}" begins no line of such a script'),
+            (line, 1, "L3", f"too many words, the form has 1: {line}"),
+        ])
+
+
+def currency(code, rate=1, haircut=0):
+    return f'{{"code":"{code}","rate":{rate},"haircut":{haircut}}}'
+
+
+def member(name, aggregate=0, short="0", deposit="0"):
+    return f'{{"name":"{name}","aggregate":{aggregate},"short":[{short}],"deposit":[{deposit}]}}'
+
+
+# the member of the greatest limits
+ALFA = member("ALFA", 10**18, 10**18, 10**15)
+
+
+class Setups(Explained):
+    def tells_setup(self, setup, fault, more):
+        """The same is told by each command that reads a setup."""
+        for words in (BOOK, PLAY, TRACE):
+            self.explains(words, setup, "print", fault, more)
+        self.tells(["check", "--explain", "setup.json"], fault + more, setup)
+
+    def tells_parts(self, cases):
+        """Setups of three sites with such currencies and members."""
+        for currencies, members, code, told in cases:
+            setup = f'{{"sites":3,"currencies":[{currencies}],"members":[{members}]}}'
+            self.tells_setup(setup, f"fault setup {code}\n", f"{told}\n")
+
+    def test_a_text_that_is_no_setup(self):
+        self.tells_setup('{"sites":3', "fault json J1\n", "setup: the text is no JSON\n")
+        missing = "setup: a member of an object is missing or of another type; a number is digits alone, below 2^64\n"
+        self.tells_setup('{"sites":3}', "fault json J2\n", missing)
+        self.tells_setup(FOUR_SITES, "fault setup K1\n", "setup: the sites are not 3, 5 or 7: 4\n")
+        self.tells_setup(TWO_DOLLARS, "fault setup K3\n", 'currency 1 "USD": the code stands twice\n')
+
+    def test_a_currency_that_breaks_a_rule(self):
+        """Currencies are numbered from 0, and a code that is no printed text is not shown."""
+        no_code = "the code is not three letters A to Z"
+        self.tells_parts([
+            ("", "", "K2", "setup: the currencies are not 1 to 8: 0"),
+            (f"{currency('USD')},{currency('usd', rate=0)}", ALFA, "K3", f'currency 1 "usd": {no_code}'),
+            (currency("U\\u0007D"), ALFA, "K3", f"currency 0: {no_code}"),
+            (currency(""), ALFA, "K3", f"currency 0: {no_code}"),
+            (
+                f"{currency('USD', rate=1000000)},{currency('EUR', rate=1000001)},{currency('JPY', rate=0)}",
+                ALFA,
+                "K4",
+                'currency 1 "EUR": the rate is not 1 to 1000000: 1000001',
+            ),
+            (
+                f"{currency('USD', haircut=9999)},{currency('EUR', haircut=10000)}",
+                ALFA,
+                "K5",
+                'currency 1 "EUR": the haircut is not 0 to 9999: 10000',
+            ),
+        ])
+
+    def test_a_member_that_breaks_a_rule(self):
+        """Members are numbered from 1."""
+        dollars, no_name = currency("USD"), "the name is not 1 to 8 of A to Z and digits, a letter first"
+        self.tells_parts([
+            (dollars, "", "K6", "setup: the members are not 1 to 64: 0"),
+            (dollars, member("alfa"), "K7", f'member 1 "alfa": {no_name}'),
+            (dollars, member("ALFABRAVO"), "K7", f'member 1 "ALFABRAVO": {no_name}'),
+            (dollars, f"{ALFA},{member('1ALFA')}", "K7", f'member 2 "1ALFA": {no_name}'),
+            (dollars, f"{ALFA},{ALFA}", "K7", 'member 2 "ALFA": the name stands twice'),
+            (dollars, member("OP"), "K7", 'member 1 "OP": the name is OP'),
+            (dollars, member("USD"), "K7", 'member 1 "USD": the name is a currency\'s code'),
+        ])
+
+    def test_a_limit_that_breaks_a_rule(self):
+        for second, code, told in [
+            (member("BETA", short="0,0"), "K8", "the short limits are not one for each currency: 2"),
+            (member("BETA", deposit=""), "K8", "the deposits are not one for each currency: 0"),
+            (member("BETA", 10**18 + 1), "K9", "the aggregate limit is not 0 to 1000000000000000000: 1000000000000000001"),
+            (
+                member("BETA", 0, 10**18 + 1, 10**15 + 1),
+                "K9",
+                "a short limit is not 0 to 1000000000000000000: 1000000000000000001",
+            ),
+            (member("BETA", deposit=10**15 + 1), "K9", "a deposit is not 0 to 1000000000000000: 1000000000000001"),
+        ]:
+            self.tells_parts([(currency("USD"), f"{ALFA},{second}", code, f'member 2 "BETA": {told}')])
+
+
+class Others(Runs):
+    def test_other_faults_are_not_explained(self):
+        """What is no fault on a setup or a script has its one line alone, and a run that ends well none."""
+        self.prints(["check", "setup.json", "--explain"], "setup ok\n")
+        self.tells(["check", "no such", "--explain"], "fault file\n")
+        words = ["play", "--fail", "3:1:new", "setup.json", "script.txt", "--explain"]
+        self.ends(words, (2, "", NO_SITE_3))

@@ -1,0 +1,97 @@
+"""Pictures: which words ask for one, how one ends, and some of what it tells. What pictures of the example plays show is held
+against their traces by `.ci/pictures`."""
+from program import FOUR_SITES, NO_SITE_3, SETUP, TRACE, Runs
+
+PICTURE = [*TRACE, "--svg"]
+
+# one step sends a request to each site; the primary takes it, a backup drops it, and the third is down
+SCRIPT = """do ALFA payout USD 5
+deliver 1
+deliver 2
+crash s2
+deliver 3
+"""
+
+
+class Pictures(Runs):
+    def test_each_way_of_an_envelope_is_told(self):
+        picture = self.printed(PICTURE, script=SCRIPT)
+        for text in [
+            ">A run of the bank: steps 1 to 5 of 5</text>",
+            "<title>step 1: do ALFA payout USD 5</title>",
+            "<title>1  ALFA -&gt; s0  REQUEST 1 payout USD 5; sent in step 1, delivered in step 2</title>",
+            "<title>2  ALFA -&gt; s1  REQUEST 1 payout USD 5; sent in step 1, delivered in step 3; dropped: another site is the primary</title>",
+            "<title>3  ALFA -&gt; s2  REQUEST 1 payout USD 5; sent in step 1, delivered in step 5; refused S3: the site is down</title>",
+            "<title>4  s0 -&gt; s1  PREPARE view 0 place 1 done 0 row ALFA 1 payout USD 5; sent in step 2, never delivered</title>",
+            ">ALFA</text>",
+        ]:
+            self.assertIn(text, picture)
+        self.assertNotIn(">OP</text>", picture)
+
+    def test_some_steps_are_drawn(self):
+        """The first step that is drawn, and the last; what stands before and after is counted."""
+        for words, told in [
+            (["--from", "2", "--to", "4"], "steps 2 to 4 of 5, 1 more before them, 1 more after them"),
+            (["--from=4"], "steps 4 to 5 of 5, 3 more before them"),
+            (["--to=1"], "steps 1 to 1 of 5, 4 more after them"),
+            (["--from", "5", "--to", "5"], "steps 5 to 5 of 5, 4 more before them"),
+            (["--from", "6"], "no step of 5, 5 more before them"),
+            (["--from", "4294967295", "--to", "4294967295"], "no step of 5, 5 more before them"),
+            (["--to", "4294967295"], "steps 1 to 5 of 5"),
+        ]:
+            picture = self.printed([*PICTURE, *words], script=SCRIPT)
+            self.assertIn(f">A run of the bank: {told}</text>", picture)
+
+    def test_sixty_steps_are_drawn(self):
+        """Of a longer run 60 steps are drawn, and it says how many more there are."""
+        script = "beat s1\n" * 62
+        for words, told in [
+            ([], "steps 1 to 60 of 62, 2 more after them"),
+            (["--from", "3"], "steps 3 to 62 of 62, 2 more before them"),
+            (["--from", "1", "--to", "62"], "steps 1 to 62 of 62<"),
+        ]:
+            self.assertIn(told, self.printed([*PICTURE, *words], script=script))
+
+    def test_a_script_that_tries_nothing(self):
+        picture = self.printed(PICTURE, script="print\nskip 3\n")
+        self.assertTrue(picture.startswith("<svg ") and picture.endswith("</svg>\n"))
+        self.assertIn("A run of the bank: no step of 0</text>", picture)
+
+    def test_words_that_ask_for_no_steps(self):
+        """They are told on standard error, with status 2, before any file is read."""
+        for words in [
+            ["--from", "1"],
+            ["--to", "1"],
+            ["--from", "1", "--to", "1"],
+            ["--svg", "--from", "0"],
+            ["--svg", "--to", "0"],
+            ["--svg", "--from", "3", "--to", "2"],
+            ["--svg", "--from", "01"],
+            ["--svg", "--to", "02"],
+            ["--svg", "--from", ""],
+            ["--svg", "--from", "x"],
+            ["--svg", "--to", "+2"],
+            ["--svg", "--from", "4294967296"],
+            ["--svg", "--to", "4294967296"],
+            ["--svg", "--from"],
+            ["--svg", "--from", "1", "--from", "2"],
+            ["--svg", "--svg"],
+            ["--svg", "7"],
+        ]:
+            self.has_no_form([*TRACE, *words], "error: ", FOUR_SITES, "bad")
+
+    def test_faults(self):
+        """They are told as of a trace, and nothing is written."""
+        words = [*PICTURE, "--fail"]
+        self.tells([*words, "1:1:new"], "fault line 2 L5\n", SETUP, "beat s0\ncrash OP")
+        self.ends([*words, "3:1:new"], (2, "", NO_SITE_3), SETUP, "beat s0")
+        self.tells(["trace", "setup.json", "no such", "--svg", "--fail", "1:1:new"], "fault file\n")
+        self.tells([*words, "9:1:new"], "fault setup K1\n", FOUR_SITES, "bad")
+
+    def test_saves_that_fail_are_drawn(self):
+        """A save that fails is drawn where it fails: the cell has the new count, and the site stays down."""
+        told = "<title>step 2: restart s1; refused S2: the boot cell did not save, and the site is down</title>"
+        for fail, saved in [("1:1:new", True), ("1:1:old", False)]:
+            picture = self.printed([*PICTURE, "--fail", fail], script="crash s1\nrestart s1\n")
+            self.assertIn(told, picture)
+            self.assertEqual(">cell 1</text>" in picture, saved)

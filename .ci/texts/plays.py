@@ -1,0 +1,288 @@
+"""Plays: what is printed of worked scripts, line by line, and that chaos keeps every account. Traces: each step with what came of
+it and what it sent."""
+from program import PLAY, SETUP, TRACE, Runs, adds_up, of_sites
+
+NEW_SITE = """normal view 0 log 0 done 0 cell 0
+  ALFA 0 0 0
+  BETA 0 0 0
+  pairs 0 0 0 0
+  figure 0 0 0
+  open 0
+"""
+
+# a pay-out is ordered of an account that is closed
+CLOSED = """payin ALFA USD 1200
+drain 100
+beat s0
+drain 100
+close ALFA USD
+do ALFA payout USD 200
+drain 100
+beat s0
+"""
+
+
+class Plays(Runs):
+    def shows(self, script, want, setup=SETUP):
+        """Plays a script, and looks for these lines in this order among those that it prints."""
+        lines = iter(self.printed(PLAY, setup, script).splitlines())
+        for line in want:
+            self.assertIn(line, lines, script)
+
+    def test_a_new_world(self):
+        sites = "".join(f"site {site} {NEW_SITE}" for site in range(3))
+        ways = "".join(f"  site {site} figure 0 way 0\n" for site in range(3))
+        nodes = "".join(f"node {code} account 0 payins 0 payouts 0\n{ways}" for code in ("EUR", "USD", "JPY"))
+        self.prints(PLAY, sites + nodes, script="print\n")
+
+    def test_an_empty_play(self):
+        self.prints(PLAY, "")
+
+    def test_refused_steps(self):
+        script = """do ALFA payout USD 5
+do ALFA payout USD 6
+timer s9
+deliver 99
+cut @9
+heal s3
+payin ALFA USD 10001
+close ALFA USD
+close ALFA USD
+crash s1
+beat s1
+restart s0
+"""
+        text = """refused 2 G3
+refused 3 G2
+refused 4 G1
+refused 5 G2
+refused 6 G2
+refused 7 N1
+refused 9 N7
+refused 11 S3
+refused 12 S4
+"""
+        self.prints(PLAY, text, script=script)
+
+    def test_faults(self):
+        self.tells(PLAY, "fault line 1 L5\n", script="do USD payout USD 1")
+        self.tells(PLAY, "fault line 1 L2\n", script="rest 5")
+        self.tells(PLAY, "fault line 2 L4\n", script="print\ntimer @200")
+
+    def test_a_vote_binds_though_it_was_forgotten(self):
+        script = """timer s2
+timer s2
+crash s2
+restart s2
+deliver 5
+deliver 6
+deliver 7
+deliver 8
+deliver 4
+print
+payin ALFA USD 1
+deliver 9
+deliver 12
+deliver 14
+print
+"""
+        self.shows(script, [
+            "site 0 normal view 0 log 0 done 0 cell 0",
+            "site 1 normal view 0 log 0 done 0 cell 0",
+            "site 2 normal view 0 log 0 done 0 cell 1",
+            "site 0 normal view 0 log 1 done 1 cell 0",
+            "site 1 normal view 0 log 1 done 0 cell 0",
+            "site 2 normal view 0 log 0 done 0 cell 1",
+        ])
+
+    def test_votes_of_an_earlier_boot_are_given_up(self):
+        script = """timer s1
+deliver 1
+deliver 5
+crash s0
+restart s0
+deliver 7
+deliver 2
+deliver 10
+print
+deliver 11
+print
+"""
+        self.shows(script, [
+            "site 0 recovering cell 1",
+            "site 1 change view 1 log 0 done 0 cell 0",
+            "site 2 change view 1 log 0 done 0 cell 0",
+            "site 0 recovering cell 1",
+            "site 1 normal view 1 log 0 done 0 cell 0",
+            "site 2 change view 1 log 0 done 0 cell 0",
+        ])
+
+    def test_a_request_survives_the_primary(self):
+        script = """payin ALFA USD 500
+deliver 1
+crash s0
+timer s1
+deliver 7
+deliver 9
+deliver 10
+deliver 12
+beat USD
+deliver 14
+deliver 17
+deliver 18
+deliver 19
+beat s1
+deliver 21
+restart s0
+deliver 22
+deliver 23
+deliver 24
+deliver 25
+deliver 4
+print
+"""
+        self.shows(script, [
+            "site 0 normal view 1 log 1 done 1 cell 1",
+            "  ALFA 0 500 0",
+            "site 1 normal view 1 log 1 done 1 cell 0",
+            "site 2 normal view 1 log 1 done 1 cell 0",
+            "node USD account 500 payins 1 payouts 0",
+            "  site 0 figure 500 way 0",
+            "  site 1 figure 500 way 0",
+            "  site 2 figure 500 way 0",
+        ])
+
+    def test_an_order_comes_back_from_a_closed_account(self):
+        script = f"""{CLOSED}print
+drain 100
+deliver 21
+beat s0
+drain 100
+print
+payin ALFA USD 1
+"""
+        self.shows(script, [
+            "node USD account 1200 payins 1 payouts 0",
+            "  site 0 figure 1000 way 200",
+            "  site 1 figure 1200 way 0",
+            "site 0 normal view 0 log 3 done 3 cell 0",
+            "  ALFA 0 1200 0",
+            "  open 0",
+            "node USD account 1200 payins 1 payouts 0 returned 1",
+            "  site 0 figure 1200 way 0",
+            "client ALFA 1 order 1",
+            "refused 15 N7",
+        ])
+
+    def test_a_return_survives_the_primary(self):
+        """The primary crashes between the order's return and the bank's word of it; the next primary credits the member once."""
+        script = f"""{CLOSED}deliver 21
+crash s0
+drain 100
+timer s1
+drain 100
+beat USD
+drain 100
+beat s1
+drain 100
+print
+"""
+        self.shows(script, [
+            "site 0 down cell 0",
+            "site 1 normal view 1 log 3 done 3 cell 0",
+            "  ALFA 0 1200 0",
+            "  open 0",
+            "site 2 normal view 1 log 3 done 3 cell 0",
+            "  ALFA 0 1200 0",
+            "  open 0",
+            "node USD account 1200 payins 1 payouts 0 returned 1",
+            "  site 1 figure 1200 way 0",
+            "  site 2 figure 1200 way 0",
+            "client ALFA 1 order 1",
+        ])
+
+    def test_chaos_keeps_every_account(self):
+        script = "chaos 7 1000\nprint\nchaos 8 1000\nprint\n"
+        text = self.printed(PLAY, script=script)
+        self.assertEqual(self.printed(PLAY, script=script), text)
+        self.assertTrue(adds_up(text))
+
+    def test_chaos_keeps_every_account_of_more_sites(self):
+        for sites in (3, 5, 7):
+            text = self.printed(PLAY, of_sites(sites), "chaos 7 20000\nprint\n")
+            self.assertTrue(adds_up(text), sites)
+
+    def test_five_sites_recover_and_commit(self):
+        recovers = "crash s4\nrestart s4\ndeliver 1\ndeliver 2\ndeliver 5\ndeliver 6\nprint\ndeliver 3\ndeliver 7\nprint\n"
+        want = ["site 4 recovering cell 1", "site 4 normal view 0 log 0 done 0 cell 1"]
+        self.shows(recovers, want, of_sites(5))
+        # a pay-in that reaches every book takes 18 envelopes
+        pays_in = "payin ALFA USD 1200\ndrain 100\nbeat s0\ndrain 100\ndeliver 18\ndeliver 19\n"
+        self.shows(pays_in, ["refused 6 G1"], of_sites(5))
+
+
+# What is refused by the play, by the world, by a client, a site and a node; what is dropped; and a site that falls as its first save
+# fails, though its cell takes the new count.
+STEPS = """cut @999
+deliver 1
+do ALFA payout USD 5
+do ALFA payout USD 6
+deliver 2
+deliver 1
+crash s1
+deliver 4
+print
+restart s1
+restart s0
+timer s9
+payin ALFA USD 10001
+restart s1
+drain 2
+skip 1
+cut s2
+drain 2
+heal s7
+"""
+
+# Site 1 asks by its second count, as the first was saved though it fell; the turns of a drain are steps, and the envelope to the
+# site that is cut off is passed over.
+TRACED = """refused 1 G2
+1  deliver 1: G1, no envelope has this number
+2  do ALFA payout USD 5
+   1  ALFA -> s0  REQUEST 1 payout USD 5
+   2  ALFA -> s1  REQUEST 1 payout USD 5
+   3  ALFA -> s2  REQUEST 1 payout USD 5
+3  do ALFA payout USD 6: G3, the client still waits for an answer
+4  deliver 2 to s1: dropped, another site is the primary
+5  deliver 1 to s0
+   4  s0 -> s1  PREPARE view 0 place 1 done 0 row ALFA 1 payout USD 5
+   5  s0 -> s2  PREPARE view 0 place 1 done 0 row ALFA 1 payout USD 5
+6  crash s1
+7  deliver 4 to s1: S3, the site is down
+8  restart s1: S2, the boot cell did not save, and the site is down, its cell holds 1
+9  restart s0: S4, the site is not down
+10  timer s9: G2, there is no such actor
+11  payin ALFA USD 10001: N1, the account that pays is short
+12  restart s1
+   6  s1 -> s0  RECOVERY nonce 2
+   7  s1 -> s2  RECOVERY nonce 2
+13  deliver 1 to s0: dropped, the site has it already
+14  deliver 2 to s1: dropped, the site's status takes no part in it
+15  deliver 4 to s1: dropped, the site's status takes no part in it
+16  deliver 6 to s0
+   8  s0 -> s1  RECOVERYRESPONSE view 0 nonce 2 done 0 rows 1 last ALFA 1 payout USD 5 boots 0 2 0
+refused 19 G2
+"""
+
+
+class Traces(Runs):
+    def test_each_step_is_told(self):
+        self.prints([*TRACE, "--fail", "1:1:new"], TRACED, script=STEPS)
+
+    def test_a_script_that_tries_nothing(self):
+        self.prints(TRACE, "")
+        self.prints(TRACE, "", script="print\ncut s1\nskip 3\ndrain 9\nheal s1\n")
+
+    def test_faults(self):
+        self.tells(TRACE, "fault line 2 L5\n", script="beat s0\ndo USD payout USD 1")
+        self.tells(TRACE, "fault line 1 L2\n", script="rest 5")

@@ -1,0 +1,90 @@
+"""The built program, and the setup of the worked scripts."""
+import os
+import subprocess
+import tempfile
+import unittest
+
+PROGRAM = os.path.abspath(os.path.join(os.path.dirname(__file__), "..", "..", "crates", "pvpsim", "out", "pvpsim"))
+
+# three currencies, and two members with equal limits
+SETUP = """{"sites":3,
+ "currencies":[{"code":"EUR","rate":110,"haircut":500},
+  {"code":"USD","rate":100,"haircut":0},{"code":"JPY","rate":1,"haircut":1000}],
+ "members":[{"name":"ALFA","aggregate":150000,"short":[1000,1000,100000],
+   "deposit":[10000,10000,1000000]},
+  {"name":"BETA","aggregate":150000,"short":[1000,1000,100000],
+   "deposit":[10000,10000,1000000]}]}"""
+
+# four sites in place of three, and no members
+FOUR_SITES = '{"sites":4,"currencies":[],"members":[]}'
+
+# two currencies of one code
+TWO_DOLLARS = (
+    '{"sites":3,"currencies":[{"code":"USD","rate":1,"haircut":0},{"code":"USD","rate":1,"haircut":0}],"members":[]}'
+)
+
+NO_SITE_3 = "error: the setup has no site 3, of which a save is to fail\n"
+
+
+def of_sites(count):
+    """The setup with 5 or 7 sites in place of three."""
+    return SETUP.replace('"sites":3', f'"sites":{count}')
+
+
+def adds_up(text):
+    """Whether each printed site's figure and way come to the account above it; and there is one."""
+    account, seen = 0, False
+    for words in (line.split() for line in text.splitlines()):
+        if words[0] == "node":
+            account = int(words[3])
+        elif words[0] == "site" and words[2] == "figure":
+            if int(words[3]) + int(words[5]) != account:
+                return False
+            seen = True
+    return seen
+
+
+class Runs(unittest.TestCase):
+    """Cases over a folder that has a setup.json and a script.txt."""
+
+    maxDiff = None
+
+    def run_on(self, words, setup=SETUP, script=""):
+        """The status of a run, what it printed and what it told."""
+        with tempfile.TemporaryDirectory() as folder:
+            for name, text in (("setup.json", setup), ("script.txt", script)):
+                with open(os.path.join(folder, name), "w", encoding="utf-8", newline="") as file:
+                    file.write(text)
+            ran = subprocess.run([PROGRAM, *words], cwd=folder, stdin=subprocess.DEVNULL, capture_output=True, timeout=120)
+        return ran.returncode, ran.stdout.decode(), ran.stderr.decode()
+
+    def ends(self, words, want, setup=SETUP, script=""):
+        """Runs the program, and compares its status, what it printed and what it told."""
+        with self.subTest(words=words, script=script):
+            self.assertEqual(self.run_on(words, setup, script), want)
+
+    def prints(self, words, text, setup=SETUP, script=""):
+        """Runs the program, which ends well and prints this."""
+        self.ends(words, (0, text, ""), setup, script)
+
+    def tells(self, words, fault, setup=SETUP, script=""):
+        """Runs the program, which prints nothing and tells a fault."""
+        self.ends(words, (1, "", fault), setup, script)
+
+    def printed(self, words, setup=SETUP, script=""):
+        """What a run prints that ends well."""
+        status, text, told = self.run_on(words, setup, script)
+        self.assertEqual((status, told), (0, ""), script)
+        return text
+
+    def has_no_form(self, words, told, setup=SETUP, script=""):
+        """Runs the program on words that ask for nothing it does: told on standard error, with status 2."""
+        with self.subTest(words=words):
+            status, text, said = self.run_on(words, setup, script)
+            self.assertEqual((status, text), (2, ""))
+            self.assertIn(told, said)
+
+
+BOOK = ["book", "setup.json", "script.txt"]
+PLAY = ["play", "setup.json", "script.txt"]
+TRACE = ["trace", "setup.json", "script.txt"]
