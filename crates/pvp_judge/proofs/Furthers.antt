@@ -1,13 +1,13 @@
 -- What sites opened over, one actor further.
 use Rattle.std.proofs.Common.{◌≡◌, inl, inr, ℕ, zero, suc, ◌+◌, ◌<◌, Bool, true, false, nat_lt, length, List, [], ◌∷◌, ◌++◌, map, take, slice_get, option_to_list, Option, Some, None, refl, sym, ap, subst, ◌∙◌, arith}
 use Rattle.std.proofs.lemmas.Bool.Decides.{nat_tests}
-use Rattle.std.proofs.lemmas.Option.{slice_get_within}
+use Rattle.pvp_types.specs.declared.setup.Setup.{Setup}
 use Rattle.vr_types.specs.declared.cell.Boot.{Boot}
 use Rattle.vr_types.specs.declared.cell.MemCell.{MemCell}
 use Rattle.vr_types.specs.MemoryCell.{held_by}
 use Rattle.headline.proofs.Basics.{none-some, some-same}
 use Rattle.pvp_judge.specs.Judged.{Left, openings}
-use Rattle.pvp_judge.specs.Banked.{OpensInOrder, AllAre}
+use Rattle.pvp_judge.specs.Banked.{OpensInOrder, HasItsSites, AllAre}
 use Rattle.pvp_judge.proofs.Endings.{push_cases, push_last, push_length}
 
 -- what one actor more opened over
@@ -66,13 +66,13 @@ openings_front [] (suc n) i b is = is
 openings_front (d ∷ more) zero i b is = absurd (none-some b is)
 openings_front (d ∷ more) (suc n) i b is = join_front (option_to_list d.opening) (openings (take n more)) (openings more) i b (λ j h. openings_front more n j b h) is
 
--- each site is numbered by how many before it opened
+-- each of the first sites is numbered by how many before it opened
 abbrev pub AreCounted : List Left → ℕ → Type 0
 AreCounted closed n = (j : ℕ) (c : Left) (boot : Boot) → j < n → slice_get closed j ≡ Some c → c.opening ≡ Some boot → c.number ≡ 200 + length (openings (take j closed))
 
-pub in_order : (closed : List Left) → AreCounted closed (length closed) → OpensInOrder closed
-in_order closed far k c is site boot number opening =
-    let counted = far k c boot (slice_get_within closed k c is) is opening in
+pub in_order : (setup : Setup) (closed : List Left) → HasItsSites setup closed → OpensInOrder closed
+in_order setup closed sites k c is site boot number opening =
+    let counted = sites.numbered k c boot is opening in
     let place : site ≡ length (openings (take k closed)) = omega (arith, number, counted) in
     let next : openings (take (suc k) closed) ≡ openings (take k closed) ++ boot ∷ [] = openings_next closed k c is ∙ ap (λ (o : Option Boot). openings (take k closed) ++ option_to_list o) opening in
     ap (λ (n : ℕ). slice_get (openings closed) n) place

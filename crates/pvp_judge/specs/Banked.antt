@@ -1,9 +1,10 @@
 -- The actors of one bank, as they opened.
-use Rattle.std.specs.Prelude.{◌≡◌, ℕ, ◌+◌, ◌*◌, ◌<◌, ◌≤◌, List, length, slice_get, Option, Some, None}
+use Rattle.std.specs.Prelude.{◌≡◌, ℕ, ◌+◌, ◌*◌, ◌<◌, ◌≤◌, List, length, take, slice_get, Option, Some, None}
 use Rattle.pvp_types.specs.declared.setup.Setup.{Setup}
 use Rattle.pvp_types.specs.Setup.{faults}
 use Rattle.vr_types.specs.Actors.{first_node, first_site}
 use Rattle.vr_types.specs.declared.cell.Boot.{Boot}
+use Rattle.pvp_audit.specs.Runs.{AreInOrder}
 use Rattle.pvp_audit.specs.Verdicts.{HoldOfAll}
 use Rattle.pvp_parties.specs.declared.party.Party.{Party}
 use Rattle.pvp_parties.specs.declared.party.Party.TheVariants.{Site, Node, Client}
@@ -32,6 +33,22 @@ pub record IsOfBank (setup : Setup) (c : Left) : Type 0 where
 
 abbrev pub AreOfBank : Setup → List Left → Type 0
 AreOfBank setup closed = HoldOfAll closed (λ _ c. IsOfBank setup c)
+
+-- how many actors a bank has: the operator, the members, the nodes and the sites
+abbrev pub actor_count : Setup → ℕ
+actor_count setup = length setup.members + 1 + length setup.currencies + (2 * faults setup + 1)
+
+-- its sites are all there: where n of them stand before it, one has the number 200 + n
+pub record HasItsSites (setup : Setup) (closed : List Left) : Type 0 where
+  pub all : length (openings closed) ≡ 2 * faults setup + 1
+  pub numbered : (k : ℕ) (c : Left) (boot : Boot) → slice_get closed k ≡ Some c → c.opening ≡ Some boot → c.number ≡ first_site + length (openings (take k closed))
+
+-- what all actors of one bank left: as many as it has, in order of their numbers, each of its setup
+pub record IsTheBank (setup : Setup) (closed : List Left) : Type 0 where
+  pub all : length closed ≡ actor_count setup
+  pub order : AreInOrder closed
+  pub bank : AreOfBank setup closed
+  pub sites : HasItsSites setup closed
 
 -- what the sites opened over stands in order of their numbers
 abbrev pub OpensInOrder : List Left → Type 0

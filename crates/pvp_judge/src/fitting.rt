@@ -1,20 +1,33 @@
 //! Whether actors are those of a bank, and the cells over which its sites opened.
-ghost use Rattle.std.specs.Prelude.{◌≡◌, ◌+◌, IsTrue, IfOk, map};
+ghost use Rattle.std.specs.Prelude.{◌≡◌, ◌+◌, ◌↔◌, IsTrue, IfOk, map};
 ghost use Rattle.pvp_types.specs.Setup.{IsValid};
 ghost use Rattle.vr_types.specs.MemoryCell.{held_by, IsReliable};
 ghost use Rattle.pvp_judge.specs.Judged.{openings};
-ghost use Rattle.pvp_judge.specs.Banked.{AreOfBank, IsOfBank, OpenedOver, HasPlace, OpensInOrder, AllAre};
+ghost use Rattle.pvp_judge.specs.Banked.{actor_count, AreOfBank, IsOfBank, OpenedOver, HasPlace, HasItsSites, AllAre, IsTheBank};
 
 use crate::setups::same_setup;
-use pvp_parties::Party;
+use pvp_parties::{Party, are_in_order};
 use pvp_rooms::Closed;
 use pvp_types::Setup;
 use std::alloc::{AllocError, Global};
 use vr_types::{Boot, FIRST_NODE, FIRST_SITE, MemCell};
 
-/// How many actors a bank has: the operator, the members, the nodes and the sites.
-pub fn count_of(setup: &Setup) -> usize
+/// Whether these are what all actors of a bank left: as many as it has, in order of their numbers, each of its setup under its
+/// own number, and all of its sites, which alone opened over what their cells held.
+pub fn is_the_bank(setup: &Setup, closed: &[Closed<Party>]) -> bool
     requires { IsValid setup.now }
+    ensures { IsTrue result ↔ IsTheBank setup.now closed.now }
+{
+    if closed.len() != count_of(setup) || !are_in_order(closed) || !are_of_bank(setup, closed) {
+        return false;
+    }
+    sites_are_numbered(setup, closed)
+}
+
+/// How many actors a bank has: the operator, the members, the nodes and the sites.
+fn count_of(setup: &Setup) -> usize
+    requires { IsValid setup.now }
+    ensures { result ≡ actor_count setup.now }
 {
     let clients = usize::from(setup.member_count()) + 1;
     let nodes = usize::from(setup.currency_count());
@@ -23,9 +36,9 @@ pub fn count_of(setup: &Setup) -> usize
 }
 
 /// Whether each of these is what an actor of this bank left, under its number.
-pub fn are_of_bank(setup: &Setup, closed: &[Closed<Party>]) -> bool
+fn are_of_bank(setup: &Setup, closed: &[Closed<Party>]) -> bool
     requires { IsValid setup.now }
-    ensures { IsTrue result → AreOfBank setup.now closed.now }
+    ensures { IsTrue result ↔ AreOfBank setup.now closed.now }
 {
     for k in 0..closed.len() {
         if !is_of_bank(setup, &closed[k]) {
@@ -38,7 +51,7 @@ pub fn are_of_bank(setup: &Setup, closed: &[Closed<Party>]) -> bool
 /// Whether this is what an actor of this bank left, under its number.
 fn is_of_bank(setup: &Setup, one: &Closed<Party>) -> bool
     requires { IsValid setup.now }
-    ensures { IsTrue result → IsOfBank setup.now one.now }
+    ensures { IsTrue result ↔ IsOfBank setup.now one.now }
 {
     one.number == one.end.number()
         && same_setup(one.end.setup(), setup)
@@ -48,7 +61,7 @@ fn is_of_bank(setup: &Setup, one: &Closed<Party>) -> bool
 
 /// Whether a site opened over what its cell held, and a node or a client over nothing.
 fn is_opened(end: &Party, opening: Option<Boot>) -> bool
-    ensures { IsTrue result → OpenedOver end.now opening }
+    ensures { IsTrue result ↔ OpenedOver end.now opening }
 {
     match (end, opening) {
         (Party::Site(_), Some(_)) => true,
@@ -61,7 +74,7 @@ fn is_opened(end: &Party, opening: Option<Boot>) -> bool
 /// Whether a bank has such an actor.
 fn has_place(setup: &Setup, end: &Party) -> bool
     requires { IsValid setup.now }
-    ensures { IsTrue result → HasPlace setup.now end.now }
+    ensures { IsTrue result ↔ HasPlace setup.now end.now }
 {
     match end {
         Party::Site(site) => site.number() <= FIRST_SITE + 2 * setup.faults(),
@@ -70,9 +83,10 @@ fn has_place(setup: &Setup, end: &Party) -> bool
     }
 }
 
-/// Whether the sites are numbered without a gap, in order.
-pub fn open_in_order(closed: &[Closed<Party>]) -> bool
-    ensures { IsTrue result → OpensInOrder closed.now }
+/// Whether all sites of a bank are there, numbered from 200 without a gap.
+fn sites_are_numbered(setup: &Setup, closed: &[Closed<Party>]) -> bool
+    requires { IsValid setup.now }
+    ensures { IsTrue result ↔ HasItsSites setup.now closed.now }
 {
     let mut sites = 0;
     for k in 0..closed.len() {
@@ -85,12 +99,12 @@ pub fn open_in_order(closed: &[Closed<Party>]) -> bool
         }
         sites += 1;
     }
-    true
+    sites == usize::from(2 * setup.faults() + 1)
 }
 
 /// Whether a number is this site's.
 fn is_site(number: u16, site: usize) -> bool
-    ensures { IsTrue result → number ≡ 200 + site }
+    ensures { IsTrue result ↔ (number ≡ 200 + site) }
 {
     number >= FIRST_SITE && usize::from(number - FIRST_SITE) == site
 }

@@ -1,16 +1,16 @@
 //! What the audit of a whole bank says.
-ghost use Rattle.std.specs.Prelude.{◌≡◌, ◌+◌, ◌*◌, IfOk, length, map};
+ghost use Rattle.std.specs.Prelude.{◌≡◌, ◌+◌, ◌*◌, IfOk, IfErr, length, map};
 ghost use Rattle.pvp_types.specs.Setup.{IsValid, faults};
 ghost use Rattle.vr_types.specs.MemoryCell.{held_by, IsReliable};
 ghost use Rattle.pvp_audit.specs.Runs.{AreInOrder};
 ghost use Rattle.pvp_audit.specs.Verdicts.{HoldOfAll, IsAlone};
-ghost use Rattle.pvp_judge.specs.Banked.{AreOfBank, OpensInOrder, AllAre};
+ghost use Rattle.pvp_judge.specs.Banked.{AreOfBank, OpensInOrder, AllAre, IsTheBank};
 ghost use Rattle.pvp_judge.specs.Judged.{Judges, AreSound, openings};
 
-use crate::fitting::{are_of_bank, cells_of, count_of, open_in_order};
+use crate::fitting::{cells_of, is_the_bank};
 use crate::replay::retell;
 use pvp_audit::{Verdict, Why, audit};
-use pvp_parties::{Party, are_in_order};
+use pvp_parties::Party;
 use pvp_rooms::Closed;
 use pvp_types::Setup;
 use pvp_world::World;
@@ -41,21 +41,16 @@ pub fn judge(
     closed: &[Closed<Party>],
 ) -> Result<Judgement, NotTheBank>
     requires { IsValid setup.now }
-    ensures { IfOk result (Judges setup.now closed.now) }
+    ensures verdict { IfOk result (Judges setup.now closed.now) }
+    ensures bank { IfOk result (λ _. IsTheBank setup.now closed.now) }
+    ensures stranger { IfErr result (λ _. IsTheBank setup.now closed.now → ⊥) }
 {
-    if closed.len() != count_of(setup)
-        || !are_in_order(closed)
-        || !are_of_bank(setup, closed)
-        || !open_in_order(closed)
-    {
+    if !is_the_bank(setup, closed) {
         return Err(NotTheBank);
     }
     let Ok(cells) = cells_of(alloc, closed) else {
         return Ok(no_memory());
     };
-    if cells.len() != usize::from(2 * setup.faults() + 1) {
-        return Err(NotTheBank);
-    }
     match audit(alloc, closed) {
         Verdict::No { actor, event, why } => Ok(Judgement::No { actor, event, why }),
         Verdict::Yes => Ok(taken_again(alloc, setup, closed, cells)),

@@ -7,6 +7,7 @@ use Rattle.pvp_codes.specs.declared.code.Code.TheVariants.{Audit}
 use Rattle.pvp_play.specs.BooksText.{books_text}
 use Rattle.pvp_judge.specs.declared.judgement.Judgement.{Judgement}
 use Rattle.pvp_judge.specs.declared.judgement.Judgement.TheVariants.{Yes, No}
+use Rattle.pvp_judge.specs.Banked.{IsTheBank}
 use Rattle.pvp_judge.specs.Judged.{Left, Judges}
 use Rattle.pvp_streams.specs.declared.sockets.NetFault.{NetFault}
 use Rattle.pvp_streams.specs.declared.sockets.NetFault.TheVariants as net
@@ -18,9 +19,10 @@ abbrev pub judgement_text : Judgement → List ℕ
 judgement_text (Yes world) = books_text held_by world ++ codes "audit yes\n"
 judgement_text (No actor event why) = codes "audit no " ++ decimal actor ++ codes " " ++ decimal event ++ codes " " ++ code_text (Audit why) ++ codes "\n"
 
--- what some actors left was judged so
+-- what all actors of the bank left was judged so
 pub record WasJudged (setup : Setup) (judgement : Judgement) : Type 0 where
   pub closed : List Left
+  pub bank : IsTheBank setup closed
   pub judged : Judges setup closed judgement
 
 -- what a fault of the net is told as
