@@ -11,6 +11,6 @@ pub mod player;
 pub use books::print_books;
 pub use cells::Fail;
 pub use chaos::rage;
-pub use lines::{play, play_failing, trace};
+pub use lines::{do_line, play, play_failing, trace};
 pub use notes::Telling;
 pub use player::Player;

@@ -197,8 +197,9 @@ fn steps_told<C: BootCell>(
     Ok(text)
 }
 
-/// Does what a line says, and answers why it was refused, if it was. `Err` where memory is refused.
-fn do_line<C: BootCell>(
+/// Does what a line says, and answers why it was refused, if it was. `Err` where memory is refused; of a line of several
+/// steps those before that one are then done.
+pub fn do_line<C: BootCell>(
     alloc: Global,
     player: &mut Player<C>,
     statement: Statement,
