@@ -28,7 +28,8 @@ def named(suite, words):
 def main(words):
     cases = unittest.TestSuite(named(unittest.defaultTestLoader.discover(HERE, pattern="[a-z]*.py"), words))
     ran = unittest.TextTestRunner(verbosity=0).run(cases)
-    failed = len(ran.failures) + len(ran.errors)
+    # of a case several rows may fail
+    failed = len({getattr(it, "test_case", it).id() for it, _ in ran.failures + ran.errors})
     print(f"{ran.testsRun - failed} passed, {failed} failed")
     return 1 if failed or not ran.testsRun else 0
 

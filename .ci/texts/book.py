@@ -260,9 +260,115 @@ do OP settle 10
 ]
 
 
+# each reason to refuse a command, also where two apply: a script's lines, each with its answer
+REFUSED = {
+    "instruct": [
+        ("do USD instruct 0 @9 USD 0 USD 0", "no B1"),
+        ("do OP instruct 1 BETA USD 1 EUR 1", "no B1"),
+        ("do @3 instruct 1 BETA USD 1 EUR 1", "no B2"),
+        ("do ALFA instruct 0 @3 USD 0 USD 0", "no B2"),
+        ("do ALFA instruct 1 ALFA USD 1 EUR 1", "no B2"),
+        ("do ALFA instruct 1 OP USD 1 EUR 1", "no B2"),
+        ("do ALFA instruct 0 BETA @3 0 EUR 1", "no B3"),
+        ("do ALFA instruct 0 BETA EUR 0 EUR 1", "no B3"),
+        ("do ALFA instruct 0 BETA USD 0 EUR 1", "no B4"),
+        ("do ALFA instruct 0 BETA USD 1 EUR 1000000000001", "no B4"),
+        ("do ALFA instruct 0 BETA USD 1 EUR 1", "no B7"),
+        ("do ALFA instruct 1 BETA USD 1 EUR 1000000000000", "done"),
+        ("do ALFA instruct 1 BETA USD 2 EUR 1", "no B5"),
+        ("do BETA instruct 1 ALFA EUR 1 USD 1", "no B6"),
+    ],
+    "a mirror": [
+        ("do ALFA instruct 3 BETA USD 10 EUR 9", "done"),
+        ("do BETA instruct 3 ALFA EUR 9 USD 11", "no B6"),
+        ("do BETA instruct 3 ALFA EUR 8 USD 10", "no B6"),
+        ("do BETA instruct 3 ALFA JPY 9 USD 10", "no B6"),
+        ("do BETA instruct 3 ALFA EUR 9 JPY 10", "no B6"),
+        ("do BETA instruct 3 ALFA EUR 9 USD 10", "matched"),
+        ("do ALFA instruct 3 BETA USD 10 EUR 9", "no B5"),
+        ("do BETA instruct 3 ALFA EUR 9 USD 10", "no B5"),
+    ],
+    "rescind": [
+        ("do OP rescind 1", "no B1"),
+        ("do @3 rescind 1", "no B2"),
+        ("do ALFA rescind 1", "no B7"),
+        ("do ALFA rescind 0", "no B7"),
+        ("do ALFA instruct 1 BETA USD 1 EUR 1", "done"),
+        ("do BETA rescind 1", "no B1"),
+        ("do ALFA rescind 1", "done"),
+        ("do BETA rescind 1", "no B1"),
+        ("do ALFA rescind 1", "no B8"),
+        ("do BETA instruct 1 ALFA EUR 1 USD 1", "no B5"),
+    ],
+    "fund and paid": [
+        ("do BETA fund USD 0 @9 0", "no B1"),
+        ("do @104 fund @3 1 ALFA 5", "no B2"),
+        ("do USD fund USD 0 @3 0", "no B2"),
+        ("do USD fund USD 0 ALFA 0", "no B4"),
+        ("do USD fund USD 0 ALFA 1000000000001", "no B4"),
+        ("do USD fund USD 0 ALFA 5", "no B7"),
+        ("do USD fund USD 1 ALFA 1000000000000", "done"),
+        ("do USD fund USD 1 BETA 5", "no B5"),
+        ("do EUR fund EUR 1 BETA 5", "done"),
+        ("do EUR paid USD 1", "no B1"),
+        ("do @104 paid @3 1", "no B2"),
+        ("do USD paid USD 1", "no B7"),
+    ],
+    "an order ends once": [
+        ("do USD fund USD 1 ALFA 1200", "done"),
+        ("do ALFA payout USD 200", "order 1"),
+        ("do EUR returned USD 1", "no B1"),
+        ("do USD returned USD 2", "no B7"),
+        ("do USD returned USD 1", "done"),
+        ("do USD returned USD 1", "no B5"),
+        ("do USD paid USD 1", "no B5"),
+        ("do ALFA payout USD 1200", "order 2"),
+        ("do USD paid USD 2", "done"),
+        ("do USD returned USD 2", "no B5"),
+    ],
+    "payout": [
+        ("do USD payout @9 0", "no B1"),
+        ("do @3 payout @9 0", "no B2"),
+        ("do ALFA payout @3 0", "no B3"),
+        ("do ALFA payout USD 0", "no B4"),
+        ("do ALFA payout USD 1", "no B9"),
+        ("do USD fund USD 1 ALFA 5", "done"),
+        ("do ALFA payout USD 6", "no B9"),
+        ("do ALFA payout USD 5", "order 1"),
+    ],
+    # BETA is short of EUR 952, for which it needs USD 1100
+    "a payout meets the tests before the bank": [
+        ("do USD fund USD 1 ALFA 1200", "done"),
+        ("do EUR fund EUR 1 BETA 48", "done"),
+        ("do ALFA instruct 1 BETA USD 1100 EUR 1000", "done"),
+        ("do BETA instruct 1 ALFA EUR 1000 USD 1100", "matched"),
+        ("do OP settle 10", "settled 1"),
+        ("do USD fund USD 2 BETA 1", "done"),
+        ("do BETA payout EUR 1", "no B9"),
+        ("do BETA payout USD 2", "no B10"),
+        ("do BETA payout USD 1", "order 1"),
+        ("do BETA payout USD 1", "no B10"),
+        ("do ALFA payout USD 100", "order 2"),
+        ("do ALFA payout EUR 49", "no B11"),
+    ],
+    "settle": [
+        ("do ALFA settle 1", "no B1"),
+        ("do USD settle 1", "no B1"),
+        ("do OP settle 0", "settled 0"),
+        ("do OP settle 1", "settled 0"),
+    ],
+}
+
+
 class Book(Runs):
     def test_the_worked_scripts(self):
         for script, text in WORKED:
+            self.prints(BOOK, text, script=script)
+
+    def test_each_reason_to_refuse(self):
+        for rows in REFUSED.values():
+            script = "".join(f"{line}\n" for line, _ in rows)
+            text = "".join(f"{number} {answer}\n" for number, (_, answer) in enumerate(rows, 1))
             self.prints(BOOK, text, script=script)
 
     def test_pairs_in_each_state(self):

@@ -1,4 +1,5 @@
-//! Commands to a book of the small bank, and what they are answered.
+//! What a book of the small bank shows of the commands that came: each of its calls once. What commands are answered, in which
+//! order their faults are told, and histories drawn at random: `.ci/texts`.
 use fixtures::setup::three_currencies;
 use pvp_book::{Book, PairState};
 use pvp_types::{Cmd, PayOrder, Reason, Reply};
@@ -6,11 +7,7 @@ use std::alloc::{AllocError, Global};
 use std::process::Abort;
 use std::test::Fail;
 
-mod answers;
-mod histories;
 mod long;
-mod rows;
-mod walks;
 
 /// The clients: the operator, two members and two nodes.
 const OPERATOR: u16 = 0;
@@ -27,8 +24,6 @@ const USD_NODE: u16 = 102;
 const EUR: u8 = 0;
 
 const USD: u8 = 1;
-
-const JPY: u8 = 2;
 
 fn fund(ccy: u8, pay: u32, member: u16, amt: u64) -> Cmd {
     Cmd::Fund {
@@ -162,9 +157,10 @@ fn credits_a_returned_pay_out_once(rt: HostRuntime) -> Result<(), Fail> {
     Ok(())
 }
 
-/// Two commands came, of which the second was the first again.
+/// Two commands came, of which the second, the first again, was refused: it is counted, and is no entry.
 fn shows_what_came(rt: &impl Abort, book: &Book) {
-    assert_eq!(rt; (book.applied(), book.setup().sites), (2, 3));
+    assert_eq!(rt; (book.applied(), book.entries().len()), (2, 1));
+    assert_eq!(rt; book.setup().sites, 3);
     assert_eq!(rt; (book.paid_in(USD, 1), book.paid_in(USD, 2)), (true, false));
 }
 
