@@ -23,12 +23,6 @@ beat s0
 
 
 class Plays(Runs):
-    def shows(self, script, want, setup=SETUP):
-        """Plays a script, and looks for these lines in this order among those that it prints."""
-        lines = iter(self.printed(PLAY, setup, script).splitlines())
-        for line in want:
-            self.assertIn(line, lines, script)
-
     def test_a_new_world(self):
         sites = "".join(f"site {site} {NEW_SITE}" for site in range(3))
         ways = "".join(f"  site {site} figure 0 way 0\n" for site in range(3))
@@ -86,7 +80,7 @@ deliver 12
 deliver 14
 print
 """
-        self.shows(script, [
+        self.shows(PLAY, script, [
             "site 0 normal view 0 log 0 done 0 cell 0",
             "site 1 normal view 0 log 0 done 0 cell 0",
             "site 2 normal view 0 log 0 done 0 cell 1",
@@ -108,7 +102,7 @@ print
 deliver 11
 print
 """
-        self.shows(script, [
+        self.shows(PLAY, script, [
             "site 0 recovering cell 1",
             "site 1 change view 1 log 0 done 0 cell 0",
             "site 2 change view 1 log 0 done 0 cell 0",
@@ -141,7 +135,7 @@ deliver 25
 deliver 4
 print
 """
-        self.shows(script, [
+        self.shows(PLAY, script, [
             "site 0 normal view 1 log 1 done 1 cell 1",
             "  ALFA 0 500 0",
             "site 1 normal view 1 log 1 done 1 cell 0",
@@ -161,7 +155,7 @@ drain 100
 print
 payin ALFA USD 1
 """
-        self.shows(script, [
+        self.shows(PLAY, script, [
             "node USD account 1200 payins 1 payouts 0",
             "  site 0 figure 1000 way 200",
             "  site 1 figure 1200 way 0",
@@ -187,7 +181,7 @@ beat s1
 drain 100
 print
 """
-        self.shows(script, [
+        self.shows(PLAY, script, [
             "site 0 down cell 0",
             "site 1 normal view 1 log 3 done 3 cell 0",
             "  ALFA 0 1200 0",
@@ -215,10 +209,10 @@ print
     def test_five_sites_recover_and_commit(self):
         recovers = "crash s4\nrestart s4\ndeliver 1\ndeliver 2\ndeliver 5\ndeliver 6\nprint\ndeliver 3\ndeliver 7\nprint\n"
         want = ["site 4 recovering cell 1", "site 4 normal view 0 log 0 done 0 cell 1"]
-        self.shows(recovers, want, of_sites(5))
+        self.shows(PLAY, recovers, want, of_sites(5))
         # a pay-in that reaches every book takes 18 envelopes
         pays_in = "payin ALFA USD 1200\ndrain 100\nbeat s0\ndrain 100\ndeliver 18\ndeliver 19\n"
-        self.shows(pays_in, ["refused 6 G1"], of_sites(5))
+        self.shows(PLAY, pays_in, ["refused 6 G1"], of_sites(5))
 
 
 # What is refused by the play, by the world, by a client, a site and a node; what is dropped; and a site that falls as its first save

@@ -77,6 +77,12 @@ class Runs(unittest.TestCase):
         self.assertEqual((status, told), (0, ""), script)
         return text
 
+    def shows(self, words, script, want, setup=SETUP):
+        """Runs a script, and looks for these lines in this order among those that it prints."""
+        lines = iter(self.printed(words, setup, script).splitlines())
+        for line in want:
+            self.assertIn(line, lines, script)
+
     def has_no_form(self, words, told, setup=SETUP, script=""):
         """Runs the program on words that ask for nothing it does: told on standard error, with status 2."""
         with self.subTest(words=words):

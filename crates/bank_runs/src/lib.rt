@@ -1,11 +1,9 @@
-//! Tests alone: of the bank's types, its book and its nodes, and runs of one site and of three that keep the book, with
-//! envelopes handed over by hand.
+//! Tests alone: of the bank's types, its book and its nodes, of one site that keeps the book, and of a run of the whole world.
+//! What else several sites do is told by plays of the built program.
 #![tactic(auto)]
 
 #[cfg(test)]
 mod book;
-#[cfg(test)]
-mod group;
 #[cfg(test)]
 mod nodes;
 #[cfg(test)]
@@ -13,4 +11,4 @@ mod one_site;
 #[cfg(test)]
 mod setups;
 #[cfg(test)]
-mod three_sites;
+mod world;

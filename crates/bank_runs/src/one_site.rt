@@ -1,8 +1,13 @@
-use crate::group::{Site, site};
+use fixtures::setup::three_currencies;
+use pvp_book::Book;
 use pvp_types::Cmd;
 use std::alloc::Global;
 use std::test::Fail;
-use vr_types::{EnvelopeOf, EventOf, MemCell, MsgOf, RequestOf, Why};
+use vr_site::Replica;
+use vr_types::{Config, EnvelopeOf, EventOf, MemCell, MsgOf, RequestOf, Why};
+
+/// A site of the bank.
+type Site = Replica<Book, MemCell>;
 
 /// Why site 0 drops a request of USD's node for a pay-in of 1200, where it does.
 fn drops_request(site: &mut Site, alloc: Global, number: u32) -> Option<Why> {
@@ -23,7 +28,8 @@ fn drops_request(site: &mut Site, alloc: Global, number: u32) -> Option<Why> {
 #[test]
 fn a_full_log_drops_a_request(rt: HostRuntime) -> Result<(), Fail> {
     let alloc = rt.alloc();
-    let mut primary = site(alloc, 0, MemCell::new())?;
+    let config = Config { f: 1, me: 0 };
+    let mut primary = Replica::new(alloc, config, three_currencies(alloc)?, MemCell::new())?;
     for number in 1..65_536 {
         assert_eq!(rt; drops_request(&mut primary, alloc, number), None);
     }

@@ -1,0 +1,206 @@
+"""What each step of a bank does, and how a trace tells it: every kind of message and of command, and every reason for which a step
+is not taken."""
+from program import PLAY, TRACE, Runs, of_sites
+
+# a pay-in that reaches every book
+PAID_IN = "payin ALFA USD 1200\n" + "".join(f"deliver {it}\n" for it in range(1, 9)) + "beat s0\ndeliver 9\ndeliver 10\n"
+
+# ALFA asks for 200 of it, and the primary's beat orders the payment: envelope 21
+ORDERED = PAID_IN + "do ALFA payout USD 200\n" + "".join(f"deliver {it}\n" for it in range(11, 19)) + "beat s0\n"
+
+OF_ALFA = "ALFA 1 instruct 5 BETA EUR 100 USD 200"
+
+# a trade, a view change in which both new logs are compared, a recovery, and a site that asks for what it lacks
+CHANGE = """do ALFA instruct 5 BETA EUR 100 USD 200
+deliver 1
+deliver 4
+deliver 6
+timer s1
+deliver 9
+deliver 11
+deliver 12
+deliver 14
+deliver 15
+crash s0
+restart s0
+deliver 17
+deliver 18
+do OP settle 8
+deliver 22
+do BETA rescind 5
+deliver 27
+deliver 30
+deliver 31
+"""
+
+CHANGE_TOLD = f"""1  do ALFA instruct 5 BETA EUR 100 USD 200
+   1  ALFA -> s0  REQUEST 1 instruct 5 BETA EUR 100 USD 200
+   2  ALFA -> s1  REQUEST 1 instruct 5 BETA EUR 100 USD 200
+   3  ALFA -> s2  REQUEST 1 instruct 5 BETA EUR 100 USD 200
+2  deliver 1 to s0
+   4  s0 -> s1  PREPARE view 0 place 1 done 0 row {OF_ALFA}
+   5  s0 -> s2  PREPARE view 0 place 1 done 0 row {OF_ALFA}
+3  deliver 4 to s1
+   6  s1 -> s0  PREPAREOK view 0 place 1
+4  deliver 6 to s0
+   7  s0 -> ALFA  REPLY view 0 to 1 done
+5  timer s1
+   8  s1 -> s0  STARTVIEWCHANGE view 1 boots 0 0 0
+   9  s1 -> s2  STARTVIEWCHANGE view 1 boots 0 0 0
+6  deliver 9 to s2
+   10  s2 -> s0  STARTVIEWCHANGE view 1 boots 0 0 0
+   11  s2 -> s1  STARTVIEWCHANGE view 1 boots 0 0 0
+   12  s2 -> s1  DOVIEWCHANGE view 1 normal 0 done 0 rows 0 boots 0 0 0
+7  deliver 11 to s1
+8  deliver 12 to s1
+   13  s1 -> s0  STARTVIEW view 1 done 0 rows 1 last {OF_ALFA}
+   14  s1 -> s2  STARTVIEW view 1 done 0 rows 1 last {OF_ALFA}
+9  deliver 14 to s2
+   15  s2 -> s1  PREPAREOK view 1 place 1
+10  deliver 15 to s1
+   16  s1 -> ALFA  REPLY view 1 to 1 done
+11  crash s0
+12  restart s0
+   17  s0 -> s1  RECOVERY nonce 1
+   18  s0 -> s2  RECOVERY nonce 1
+13  deliver 17 to s1
+   19  s1 -> s0  RECOVERYRESPONSE view 1 nonce 1 done 1 rows 1 last {OF_ALFA} boots 1 0 0
+14  deliver 18 to s2
+   20  s2 -> s0  RECOVERYRESPONSE view 1 nonce 1 boots 1 0 0
+15  do OP settle 8
+   21  OP -> s0  REQUEST 1 settle 8
+   22  OP -> s1  REQUEST 1 settle 8
+   23  OP -> s2  REQUEST 1 settle 8
+16  deliver 22 to s1
+   24  s1 -> s0  PREPARE view 1 place 2 done 1 row OP 1 settle 8
+   25  s1 -> s2  PREPARE view 1 place 2 done 1 row OP 1 settle 8
+17  do BETA rescind 5
+   26  BETA -> s0  REQUEST 1 rescind 5
+   27  BETA -> s1  REQUEST 1 rescind 5
+   28  BETA -> s2  REQUEST 1 rescind 5
+18  deliver 27 to s1
+   29  s1 -> s0  PREPARE view 1 place 3 done 1 row BETA 1 rescind 5
+   30  s1 -> s2  PREPARE view 1 place 3 done 1 row BETA 1 rescind 5
+19  deliver 30 to s2
+   31  s2 -> s1  GETSTATE view 1 base 1
+20  deliver 31 to s1
+   32  s1 -> s2  NEWSTATE view 1 base 1 done 1 rows 2 last BETA 1 rescind 5
+"""
+
+
+class Steps(Runs):
+    def test_a_pay_in_is_told(self):
+        script = "payin ALFA USD 1200\ndeliver 1\ndeliver 2\ndeliver 4\ndeliver 5\ndeliver 6\ndeliver 7\ndeliver 8\nbeat s0\n"
+        self.prints(TRACE, """1  payin ALFA USD 1200
+   1  USD -> s0  REQUEST 1 fund USD 1 ALFA 1200
+   2  USD -> s1  REQUEST 1 fund USD 1 ALFA 1200
+   3  USD -> s2  REQUEST 1 fund USD 1 ALFA 1200
+2  deliver 1 to s0
+   4  s0 -> s1  PREPARE view 0 place 1 done 0 row USD 1 fund USD 1 ALFA 1200
+   5  s0 -> s2  PREPARE view 0 place 1 done 0 row USD 1 fund USD 1 ALFA 1200
+3  deliver 2 to s1: dropped, another site is the primary
+4  deliver 4 to s1
+   6  s1 -> s0  PREPAREOK view 0 place 1
+5  deliver 5 to s2
+   7  s2 -> s0  PREPAREOK view 0 place 1
+6  deliver 6 to s0
+   8  s0 -> USD  REPLY view 0 to 1 done
+7  deliver 7 to s0
+8  deliver 8 to USD
+9  beat s0
+   9  s0 -> s1  COMMIT view 0 done 1
+   10  s0 -> s2  COMMIT view 0 done 1
+""", script=script)
+
+    def test_a_view_change_and_what_follows_are_told(self):
+        self.prints(TRACE, CHANGE_TOLD, script=CHANGE)
+
+    def test_a_vote_with_rows_is_told(self):
+        """Site 2 leads view 2, for which its timer runs out twice."""
+        script = "do ALFA payout USD 300\ndeliver 1\ndeliver 4\ntimer s2\ntimer s2\ndeliver 10\n"
+        self.shows(TRACE, script, [
+            "   9  s2 -> s0  STARTVIEWCHANGE view 2 boots 0 0 0",
+            "6  deliver 10 to s1",
+            "   12  s1 -> s2  STARTVIEWCHANGE view 2 boots 0 0 0",
+            "   13  s1 -> s2  DOVIEWCHANGE view 2 normal 0 done 0 rows 1 last ALFA 1 payout USD 300 boots 0 0 0",
+        ])
+
+    def test_a_currency_that_is_not_there_is_told_by_its_number(self):
+        script = "do ALFA instruct 5 BETA EUR 100 @7 200\n"
+        self.shows(TRACE, script, ["   3  ALFA -> s2  REQUEST 1 instruct 5 BETA EUR 100 @7 200"])
+
+    def test_refusals_and_falls_are_told(self):
+        script = "deliver 1\nclose @3 USD\ndo @9 settle 1\ncrash s2\ntimer s2\nbeat USD\nrestart s2\n"
+        self.prints([*TRACE, "--fail", "2:1:new"], """1  deliver 1: G1, no envelope has this number
+2  close @3 USD: N2, there is no such member
+3  do @9 settle 1: G2, there is no such actor
+4  crash s2
+5  timer s2: S3, the site is down
+6  beat USD
+7  restart s2: S2, the boot cell did not save, and the site is down, its cell holds 1
+""", script=script)
+
+    def test_each_reason_to_take_no_step(self):
+        """The steps change nothing: three envelopes were sent, and no account has moved."""
+        refused = [
+            ("deliver 0", "G1"), ("deliver 4", "G1"), ("timer s3", "G2"), ("beat @203", "G2"), ("beat @104", "G2"), ("beat @3", "G2"),
+            ("close @3 @3", "G2"), ("do ALFA payout USD 5", "G3"), ("beat s2", "S3"), ("restart s0", "S4"), ("close @3 USD", "N2"),
+            ("payin ALFA USD 0", "N3"), ("payin ALFA USD 10001", "N1"), ("deliver 4", "G1"),
+        ]
+        script = "do ALFA payout USD 5\ncrash s2\n" + "".join(f"{step}\n" for step, _ in refused) + "print\n"
+        told = [f"refused {line} {code}" for line, (_, code) in enumerate(refused, 3)]
+        self.shows(PLAY, script, [*told, "site 2 down cell 0", "node USD account 0 payins 0 payouts 0", "client ALFA 1 waits"])
+
+    def test_requests_that_come_again_do_nothing(self):
+        """The primary says its REPLY again each time, and the others drop."""
+        again = 5 * "deliver 1\ndeliver 2\ndeliver 3\n"
+        self.shows(PLAY, f"{PAID_IN}{again}print\ndeliver 15\ndeliver 16\n", [
+            "site 0 normal view 0 log 1 done 1 cell 0",
+            "  ALFA 0 1200 0",
+            "node USD account 1200 payins 1 payouts 0",
+            "  site 0 figure 1200 way 0",
+            "refused 30 G1",
+        ])
+
+    def test_a_payment_is_ordered_and_done_once(self):
+        """The order is in the primary's book alone at first; its envelope comes a second time."""
+        done = "".join(f"deliver {it}\n" for it in [*range(19, 30), 21])
+        self.shows(PLAY, f"{ORDERED}print\n{done}print\n", [
+            "node USD account 1200 payins 1 payouts 0",
+            "  site 0 figure 1000 way 200",
+            "  site 1 figure 1200 way 0",
+            "client ALFA 1 order 1",
+            "site 0 normal view 0 log 3 done 3 cell 0",
+            "site 1 normal view 0 log 3 done 2 cell 0",
+            "site 2 normal view 0 log 3 done 2 cell 0",
+            "node USD account 1000 payins 1 payouts 1",
+            "  site 0 figure 1000 way 0",
+            "  site 1 figure 1000 way 0",
+            "  site 2 figure 1000 way 0",
+        ])
+
+    def test_an_order_and_its_payment_are_told(self):
+        self.shows(TRACE, f"{ORDERED}deliver 21\n", [
+            "22  beat s0",
+            "   21  s0 -> USD  PAYORDER USD 1 ALFA 200",
+            "23  deliver 21 to USD",
+            "   22  USD -> s0  REQUEST 2 paid USD 1",
+        ])
+
+    def test_an_order_that_is_returned_is_told(self):
+        self.shows(TRACE, f"{ORDERED}close ALFA USD\ndeliver 21\n", ["24  deliver 21 to USD", "   22  USD -> s0  REQUEST 2 returned USD 1"])
+
+    def test_answers_are_told(self):
+        """A settlement run over no pair, and a rescission of a pair that there is not."""
+        script = "do OP settle 8\ndeliver 1\ndeliver 4\ndeliver 6\ndo ALFA rescind 5\ndeliver 8\ndeliver 11\ndeliver 13\n"
+        self.shows(TRACE, script, ["   7  s0 -> OP  REPLY view 0 to 1 settled 0", "   14  s0 -> ALFA  REPLY view 0 to 1 no B7"])
+
+    def test_five_sites_want_two_acknowledgements_of_others(self):
+        """One that comes twice is one."""
+        script = "payin ALFA USD 1200\ndeliver 1\ndeliver 6\ndeliver 10\ndeliver 10\nprint\ndeliver 7\ndeliver 11\nprint\n"
+        want = [f"site 0 normal view 0 log 1 done {done} cell 0" for done in (0, 1)]
+        self.shows(PLAY, script, want, of_sites(5))
+
+    def test_a_timer_tells_six_other_sites(self):
+        sent = "".join(f"   {number}  s1 -> s{to}  STARTVIEWCHANGE view 1 boots 0 0 0 0 0 0 0\n" for number, to in enumerate((0, 2, 3, 4, 5, 6), 1))
+        self.prints(TRACE, f"1  timer s1\n{sent}", of_sites(7), "timer s1\n")
