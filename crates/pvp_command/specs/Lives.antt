@@ -22,6 +22,10 @@ abbrev pub status_judged : Judgement → ℕ
 status_judged (Yes world) = 0
 status_judged (No actor event why) = 3
 
+-- the status of a run that no fault ended: it is done, or an audit says no
+abbrev pub IsFaultless : ℕ → Type 0
+IsFaultless status = (status ≡ 0) ⊎ (status ≡ 3)
+
 -- the books that a run left, or the script that plays it again
 abbrev pub ending_text : Ending → Judgement → List ℕ
 ending_text Books judgement = judgement_text judgement

@@ -1,4 +1,4 @@
--- What a request comes to on a machine without threads and net, by the bytes of its files where these are known.
+-- What a request comes to, by the bytes of its files where these are known.
 use Rattle.std.specs.Prelude.{◌≡◌, ◌⊎◌, ℕ, List, Option, IfSome}
 use Rattle.std.specs.Io.KnownBytes.{Appends}
 use Rattle.pvp_codes.specs.Codes.{codes_text}
@@ -8,8 +8,9 @@ use Rattle.pvp_command.specs.declared.files.FileFault.{FileFault}
 use Rattle.pvp_command.specs.declared.request.Request.{Request}
 use Rattle.pvp_command.specs.declared.request.Request.TheVariants.{Check, Book, Play, Live, Codes}
 use Rattle.pvp_command.specs.Request.{CheckWrites, CheckTells, BookWrites, BookTells, PlayWrites, PlayTells}
+use Rattle.pvp_command.specs.Lives.{LiveWrites, LiveTells}
 
--- what it writes
+-- what it writes on a machine without threads and net
 abbrev pub Writes : (List ℕ → Option (List ℕ)) → Request → Option (List ℕ) → Option (List ℕ) → Type 0
 Writes known (Check setup) old new = IfSome (known setup.now) (λ bytes. CheckWrites bytes old new)
 Writes known (Book setup script) old new = IfSome (known setup.now) (λ rules. IfSome (known script.now) (λ bytes. BookWrites rules bytes old new))
@@ -18,7 +19,21 @@ Writes known (Play show setup script fails) old new =
 Writes known (Live ending verbose setup script) old new = ⊥
 Writes known Codes old new = Appends old new codes_text
 
--- which fault it tells, and where nothing is written then
+-- what it writes on any machine, and the status that goes with it
+abbrev pub Ends : (List ℕ → Option (List ℕ)) → Request → Option (List ℕ) → Option (List ℕ) → ℕ → Type 0
+Ends known (Live ending verbose setup script) old new status =
+    IfSome (known setup.now) (λ rules. IfSome (known script.now) (λ bytes. LiveWrites ending rules bytes old new status))
+Ends known request old new status = (status ≡ 0) × Writes known request old new
+
+-- A REQUEST WAS DONE: its whole text is written, where the bytes of its files are known
+abbrev pub IsWritten : (List ℕ → Option (List ℕ)) → Option (List ℕ) → Option (List ℕ) → Type 0
+IsWritten known old new = (request : Request) × Writes known request old new
+
+-- on any machine, with this status
+abbrev pub HasEnded : (List ℕ → Option (List ℕ)) → Option (List ℕ) → Option (List ℕ) → ℕ → Type 0
+HasEnded known old new status = (request : Request) × Ends known request old new status
+
+-- which fault it tells on a machine without threads and net, and where nothing is written then
 abbrev pub Tells : {W : Type 0} → (List ℕ → Option (List ℕ)) → (List ℕ → FileFault → Type 0) → Request → W → W → Fault → Type 0
 Tells known fails (Check setup) old new told = IfSome (known setup.now) (λ bytes. CheckTells (fails setup.now) bytes old new told)
 Tells known fails (Book setup script) old new told =
@@ -27,3 +42,9 @@ Tells known fails (Play show setup script saves) old new told =
     IfSome (known setup.now) (λ rules. PlayTells (fails setup.now) rules saves.items (fails script.now) (known script.now) old new told)
 Tells known fails (Live ending verbose setup script) old new told = (told ≡ Net) × (new ≡ old)
 Tells known fails Codes old new told = (told ≡ NoMemory) ⊎ (told ≡ Output)
+
+-- which fault it tells on any machine
+abbrev pub Stops : {W : Type 0} → (List ℕ → Option (List ℕ)) → (List ℕ → FileFault → Type 0) → Request → W → W → Fault → Type 0
+Stops known fails (Live ending verbose setup script) old new told =
+    IfSome (known setup.now) (λ rules. LiveTells (fails setup.now) rules (fails script.now) (known script.now) old new told)
+Stops known fails request old new told = Tells known fails request old new told

@@ -2,7 +2,7 @@
 ghost use Rattle.std.specs.Prelude.{◌≡◌, OnOk, IfOk, IfErr, IfSome};
 ghost use Rattle.std.specs.Io.KnownBytes.{Appends};
 ghost use Rattle.pvp_types.specs.Setup.{IsValid};
-ghost use Rattle.pvp_command.specs.Lives.{LiveWrites, LiveTells, LivesScript, TellsLive, IsTold, IsTextFault, LifeStops, ending_text, status_judged};
+ghost use Rattle.pvp_command.specs.Lives.{LiveWrites, LiveTells, LivesScript, TellsLive, IsTold, IsFaultless, IsTextFault, LifeStops, ending_text, status_judged};
 
 use crate::fault::Fault;
 use crate::files::Files;
@@ -49,6 +49,7 @@ where
     ensures ok { IfOk result (λ status. IfSome (F.known files.now setup.now) (λ setup_bytes.
         IfSome (F.known files.now script.now) (λ script_bytes.
         LiveWrites ending setup_bytes script_bytes (O.contents out.old) (O.contents out.new) status))) }
+    ensures faultless { IfOk result IsFaultless }
     ensures err { IfErr result (λ fault. IfSome (F.known files.now setup.now) (λ setup_bytes.
         LiveTells (F.fails files.now setup.now) setup_bytes (F.fails files.now script.now) (F.known files.now script.now)
         out.old out.new fault)) }
@@ -75,6 +76,7 @@ where
     requires { IsValid setup.now }
     ensures ok { IfOk result (λ status. IfSome (F.known files.now script.now) (λ bytes.
         LivesScript ending setup.now bytes (O.contents out.old) (O.contents out.new) status)) }
+    ensures faultless { IfOk result IsFaultless }
     ensures err { IfErr result (TellsLive (F.fails files.now script.now) setup.now (F.known files.now script.now) out.old out.new) }
 {
     let script = files.read(alloc, script)?;
@@ -97,6 +99,7 @@ where
     R::Stream: Read + Write + Send + Drop,
     requires { IsValid setup.now }
     ensures ok { IfOk result (IsTold ending setup.now (O.contents out.old) (O.contents out.new)) }
+    ensures faultless { IfOk result IsFaultless }
     ensures err { IfErr result (LifeStops out.old out.new) }
 {
     let judgement = run_live(rt, alloc, setup, lines, notes)?;
@@ -112,6 +115,7 @@ fn tell<O: Write>(
 ) -> Result<u8, Fault>
     ensures text { OnOk result (Appends (O.contents out.old) (O.contents out.new) (ending_text ending judgement.now)) }
     ensures status { IfOk result (λ status. status ≡ status_judged judgement.now) }
+    ensures faultless { IfOk result IsFaultless }
     ensures err { IfErr result IsTextFault }
 {
     match ending {
@@ -123,7 +127,8 @@ fn tell<O: Write>(
 
 /// The status of a live run that was judged so.
 fn status_judged(judgement: &Judgement) -> u8
-    ensures { result ≡ status_judged judgement.now }
+    ensures status { result ≡ status_judged judgement.now }
+    ensures faultless { IsFaultless result }
 {
     match judgement {
         Judgement::Yes(_) => 0,

@@ -1,14 +1,17 @@
 //! The whole program, over its words, its files and its two outputs.
 
-ghost use Rattle.std.specs.Prelude.{◌≡◌, ◌≢◌, ◌⊎◌, true, false, OnOk, OnErr, IfOk, IfErr, IfSome};
+ghost use Rattle.std.specs.Prelude.{◌≡◌, ◌≢◌, ◌≤◌, ◌⊎◌, true, false, OnOk, OnErr, IfOk, IfErr, IfSome};
 ghost use Rattle.std.specs.Io.KnownBytes.{Appends};
+ghost use Rattle.clap.specs.Values.{kind_of};
+ghost use Rattle.clap.specs.declared.error.kind.ErrorKind.TheVariants as refused;
 ghost use Rattle.pvp_types.specs.Setup.{IsValid};
 ghost use Rattle.pvp_codes.specs.Codes.{codes_text};
 ghost use Rattle.pvp_text.specs.declared.script.Kind.TheVariants as kinds;
 ghost use Rattle.pvp_text.specs.Script.{script_at};
 ghost use Rattle.pvp_command.specs.declared.fault.Fault.TheVariants.{NoMemory, Output};
 ghost use Rattle.pvp_command.specs.Fault.{status_told};
-ghost use Rattle.pvp_command.specs.Runs.{Writes, Tells};
+ghost use Rattle.pvp_command.specs.Runs.{Writes, Tells, Ends, Stops, IsWritten, HasEnded};
+ghost use Rattle.pvp_command.specs.Lives.{IsFaultless};
 ghost use Rattle.pvp_command.specs.Request.{CheckWrites, CheckTells, BookWrites, BookTells, BooksScript, PlayWrites, PlayTells, ShowsScript, TellsRun, TellsScript};
 
 use crate::explain::{Sources, explained};
@@ -22,7 +25,7 @@ use clap::Error;
 use pvp_codes::print_codes;
 use pvp_picture::picture::picture;
 use pvp_play::{Fail, Telling, play_failing, trace};
-use pvp_text::{Kind, read_setup, run_book};
+use pvp_text::{read_setup, run_book};
 use pvp_types::Setup;
 use std::alloc::Global;
 use std::convert::AsStr;
@@ -43,6 +46,8 @@ const NO_FORM: u8 = 2;
 
 /// Does what the words ask for, and answers the status of the program: 0, or 1 for a fault, or 2
 /// for words of no form, or 3 where the audit of a live run says no. Faults and help go to `err`, all else to `out`.
+/// At 0 and at 3 the whole text of a request is written, where the bytes of its files are known; that it is the request
+/// which the words ask for is not said here.
 pub fn command_on<R, S: AsStr, F: Files, O: Write, E: Write>(
     rt: &R,
     alloc: Global,
@@ -54,70 +59,53 @@ pub fn command_on<R, S: AsStr, F: Files, O: Write, E: Write>(
 where
     R: Threads + Wait + Clock + Net + Sync,
     R::Stream: Read + Write + Send + Drop,
+    ensures done { IsFaultless result → HasEnded (F.known files.now) (O.contents out.old) (O.contents out.new) result }
+    ensures status { result ≤ 3 }
 {
     match parse(alloc, words) {
-        Ok(
-            Some(
-                Asked {
-                    request: Request::Live {
-                        ending,
-                        verbose,
-                        setup,
-                        script,
-                    },
-                    explains,
-                },
-            ),
-        ) => {
-            let told = if verbose {
-                live(rt, alloc, files, ending, setup, script, out, err)
-            } else {
-                live(rt, alloc, files, ending, setup, script, out, &mut sink())
-            };
-            let sources = Sources {
-                kind: Kind::Live,
-                setup,
-                script: Some(script),
-            };
-            tell_more(alloc, told, explains, files, Some(sources), err)
+        Ok(Some(Asked { request, explains })) => {
+            let sources = request.sources();
+            let told = run_on(rt, alloc, request, files, out, err);
+            tell_more(alloc, told, explains, files, sources, err)
         }
-        asked => answer(alloc, asked, files, out, err),
+        Ok(None) => NO_FORM,
+        Err(refusal) => refuse(&refusal, err),
     }
 }
 
 /// Does what the words ask for as `command_on` does, on a machine without threads and net: a live run is told as
-/// `fault net` before its files are read.
+/// `fault net` before its files are read, and the status is never 3.
 pub fn command<S: AsStr, F: Files, O: Write, E: Write>(
     alloc: Global,
     words: &[S],
     files: &F,
     out: &mut O,
     err: &mut E,
-) -> u8 {
-    let asked = parse(alloc, words);
-    answer(alloc, asked, files, out, err)
-}
-
-/// Does what was asked for, where the words were of a form, and answers the status.
-fn answer<F: Files, O: Write, E: Write>(
-    alloc: Global,
-    asked: Result<Option<Asked<'_>>, Error>,
-    files: &F,
-    out: &mut O,
-    err: &mut E,
-) -> u8 {
-    match asked {
+) -> u8
+    ensures done { result ≡ 0 → IsWritten (F.known files.now) (O.contents out.old) (O.contents out.new) }
+    ensures status { result ≤ 2 }
+{
+    match parse(alloc, words) {
         Ok(Some(Asked { request, explains })) => {
             let sources = request.sources();
             let told = run(alloc, request, files, out);
             tell_more(alloc, told, explains, files, sources, err)
         }
         Ok(None) => NO_FORM,
-        Err(refusal) if is_help(refusal.kind()) => {
-            let _ = write!(err, "{refusal}");
-            NO_FORM
-        }
-        Err(_) => tell(Err(Fault::NoMemory), err),
+        Err(refusal) => refuse(&refusal, err),
+    }
+}
+
+/// Tells why the words ask for nothing, and answers the status.
+fn refuse<E: Write>(refusal: &Error, err: &mut E) -> u8
+    ensures memory { kind_of refusal.now ≡ refused.OutOfMemory → result ≡ 1 }
+    ensures help { kind_of refusal.now ≢ refused.OutOfMemory → result ≡ 2 }
+{
+    if is_help(refusal.kind()) {
+        let _ = write!(err, "{refusal}");
+        NO_FORM
+    } else {
+        tell(Err(Fault::NoMemory), err)
     }
 }
 
@@ -180,6 +168,38 @@ pub fn no_words<E: Write>(refusal: ErrorKind, err: &mut E) -> u8
             let _ = err.write_all(b"error: a word is not UTF-8\n");
             NO_FORM
         }
+    }
+}
+
+/// Does what was asked for on a machine with threads and net, where a bank can run by itself, and answers the status.
+fn run_on<R, F: Files, O: Write, E: Write>(
+    rt: &R,
+    alloc: Global,
+    request: Request<'_>,
+    files: &F,
+    out: &mut O,
+    err: &mut E,
+) -> Result<u8, Fault>
+where
+    R: Threads + Wait + Clock + Net + Sync,
+    R::Stream: Read + Write + Send + Drop,
+    ensures ok { IfOk result (λ status. IsFaultless status × Ends (F.known files.now) request.entry (O.contents out.old) (O.contents out.new) status) }
+    ensures err { IfErr result (Stops (F.known files.now) (F.fails files.now) request.entry out.old out.new) }
+{
+    match request {
+        Request::Live {
+            ending,
+            verbose,
+            setup,
+            script,
+        } => {
+            if verbose {
+                live(rt, alloc, files, ending, setup, script, out, err)
+            } else {
+                live(rt, alloc, files, ending, setup, script, out, &mut sink())
+            }
+        }
+        asked => run(alloc, asked, files, out),
     }
 }
 
