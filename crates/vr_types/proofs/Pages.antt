@@ -1,6 +1,6 @@
 -- Lists that lie on pages of 64, all full but the last.
 use Rattle.std.proofs.Common.{◌≡◌, ℕ, zero, suc, ◌+◌, ◌-◌, ◌*◌, ◌<◌, ◌≤◌, List, [], ◌∷◌, ◌++◌, length, take, drop, get_or, slice_get, Some, None, ◌%◌, refl, sym, ap, ◌∙◌, append_assoc, arith, length-append}
-use Rattle.std.specs.List.{flat_map, AllByRecursion, slice_range}
+use Rattle.std.specs.List.{flat_map, AllByRecursion, AllZip, slice_range}
 use Rattle.std.proofs.lemmas.List.{take-append-le, take_all, drop_all, length-drop, length-take-le}
 use Rattle.std.proofs.lemmas.List.Concat.{flat_map-append}
 use Rattle.std.proofs.lemmas.List.{take_more}
@@ -159,3 +159,35 @@ joined-pages rows pages more last end part whole from base full within starts or
     ∙ ap (λ l. l ++ (slice_range (flat_map rows pages ++ last) from base ++ part)) before
     ∙ sym (append_assoc (take from (flat_map rows pages ++ last)) (slice_range (flat_map rows pages ++ last) from base) part)
     ∙ ap (λ l. l ++ part) (sym (take-add from (base - from) (flat_map rows pages ++ last)) ∙ ap (λ n. take n (flat_map rows pages ++ last)) upto)
+
+-- the pages that are left are full
+pub full-drop : {X Y : Type 0} (rows : X → List Y) (pages : List X) (n : ℕ) → AreFull rows pages → AreFull rows (drop n pages)
+full-drop rows [] zero full = tt
+full-drop rows [] (suc n) full = tt
+full-drop rows (page ∷ pages) zero full = full
+full-drop rows (page ∷ pages) (suc n) full = full-drop rows pages n full.1
+
+-- pages that are shared hold the same rows
+pub shared-rows : {X V Y : Type 0} (value : X → V) (rows : V → List Y) (pages copies : List X) → AllZip (λ page copy. value copy ≡ value page) pages copies → flat_map (λ page. rows (value page)) copies ≡ flat_map (λ page. rows (value page)) pages
+shared-rows value rows [] [] same = refl
+shared-rows value rows [] (copy ∷ copies) same = absurd same
+shared-rows value rows (page ∷ pages) [] same = absurd same
+shared-rows value rows (page ∷ pages) (copy ∷ copies) same =
+    ap (λ v. rows v ++ flat_map (λ p. rows (value p)) copies) same.0 ∙ ap (λ l. rows (value page) ++ l) (shared-rows value rows pages copies same.1)
+
+-- and are full as they were
+pub shared-full : {X V Y : Type 0} (value : X → V) (rows : V → List Y) (pages copies : List X) → AllZip (λ page copy. value copy ≡ value page) pages copies → AreFull (λ page. rows (value page)) pages → AreFull (λ page. rows (value page)) copies
+shared-full value rows [] [] same full = tt
+shared-full value rows [] (copy ∷ copies) same full = absurd same
+shared-full value rows (page ∷ pages) [] same full = absurd same
+shared-full value rows (page ∷ pages) (copy ∷ copies) same full =
+    (ap (λ v. length (rows v)) same.0 ∙ full.0, shared-full value rows pages copies same.1 full.1)
+
+-- rows that are one page lie on the page behind all full ones
+pub one-page : {X Y : Type 0} (rows : X → List Y) (pages : List X) (rest : List Y) → AreFull rows pages → (length rest ≡ 0 → length pages ≡ 0) → length (flat_map rows pages ++ rest) ≡ 64 → flat_map rows pages ++ rest ≡ rest
+one-page rows [] rest full none long = refl
+one-page rows (page ∷ pages) rest full none long =
+    let all = length-pages rows (page ∷ pages) rest full in
+    let empty : length rest ≡ 0 = omega (arith, all, long) in
+    let before = none empty in
+    absurd (omega (arith, before))

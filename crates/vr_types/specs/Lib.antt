@@ -1,4 +1,5 @@
 pub mod Actors
+pub mod Boots
 pub mod Cell
 pub mod Change
 pub mod Choice

@@ -35,9 +35,8 @@ abbrev pub asked_nonce : {C R O : Type 0} → MsgOf C R O → Option ℕ
 asked_nonce (Recovery msg) = Some msg.nonce
 asked_nonce _ = None
 
--- a message that carries no list: neither rows nor what is known of boots
+-- a message of a kind that carries no list of rows
 abbrev pub has_fixed_size : {C R O : Type 0} → MsgOf C R O → Bool
-has_fixed_size (StartViewChange msg) = false
 has_fixed_size (DoViewChange msg) = false
 has_fixed_size (StartView msg) = false
 has_fixed_size (NewState msg) = false

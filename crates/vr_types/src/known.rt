@@ -1,94 +1,107 @@
-ghost use Rattle.std.specs.Prelude.{◌≡◌, ◌<◌, ◌≤◌, ◌==◌, ◌++◌, ◌∷◌, [], IfOk, OnOk, OnErr, length, slice_set};
+ghost use Rattle.std.specs.Prelude.{◌≡◌, ◌<◌, ◌≤◌, ◌==◌, ◌++◌, ◌∷◌, [], length, slice_set};
+ghost use Rattle.vr_types.specs.Actors.{most_sites};
 ghost use Rattle.vr_types.specs.Site.{boot_of, no_boots};
 ghost use Rattle.vr_types.specs.Step.{greater};
 
-use std::alloc::{AllocError, Global};
+use crate::actors::MOST_SITES;
 use std::marker::Model;
 
+/// How many boot numbers there is room for.
+const PLACES: usize = MOST_SITES as usize;
+
 /// Of each site the greatest boot number that is known, in order of the sites: 0 where none is. In clauses it is their
-/// list.
-#[derive(Drop)]
+/// list. It lies in the value itself, so none of its calls takes memory.
+#[derive(Clone, Copy)]
 pub struct Known {
-    boots: Vec<u32>,
+    boots: [u32; PLACES],
+    sites: usize,
 }
 
 impl Model for Known {
-    ghost use Rattle.std.specs.Prelude.{List, ℕ};
+    ghost use Rattle.std.specs.Prelude.{◌-◌, ◌++◌, List, ℕ, take, replicate, length};
+    ghost use Rattle.vr_types.specs.Actors.{most_sites};
+    ghost use Rattle.vr_types.specs.Boots.{AreBoots, sites_back, boots_back};
 
     ghost Value = { List ℕ };
 
-    ghost view = { λ a. a.boots.items };
+    ghost view = { λ a. take a.sites a.boots };
+
+    ghost invariant = { λ a. AreBoots a.boots a.sites };
+
+    ghost inverse = { λ known. record {
+      boots = known ++ replicate (most_sites - length known) 0;
+      sites = length known;
+    } };
+
+    ghost inverse_ok = { λ a h i. record {
+      boots = boots_back a.boots a.sites h i;
+      sites = sites_back a.boots a.sites h i;
+    } };
 }
 
 impl Known {
     ghost use Rattle.vr_types.specs.Step.{is_outdated};
 
-    /// Of no sites at all. It takes no memory.
-    pub fn new(alloc: Global) -> Self
+    /// Of no sites at all.
+    pub fn new() -> Self
         ensures { result ≡ [] }
     {
         Known {
-            boots: Vec::new(alloc),
+            boots: [0; PLACES],
+            sites: 0,
         }
     }
 
     /// Of 2f+1 sites, of none of which a boot is known.
-    pub fn of_none(alloc: Global, f: u16) -> Result<Self, AllocError>
+    pub fn of_none(f: u16) -> Self
         requires { f ≤ 3 }
-        ensures { IfOk result (λ known. known ≡ no_boots f) }
+        ensures { result ≡ no_boots f }
     {
-        Ok(Known {
-            boots: vec![in alloc; 0; usize::from(2 * f + 1)]?,
-        })
+        Known {
+            boots: [0; PLACES],
+            sites: usize::from(2 * f + 1),
+        }
     }
 
-    /// How many sites it tells of.
+    /// How many sites it tells of: seven at most.
     pub fn len(&self) -> usize
-        ensures { result ≡ length self.now }
+        ensures is { result ≡ length self.now }
+        ensures most { result ≤ most_sites }
     {
-        self.boots.len()
+        self.sites
     }
 
     /// Whether it tells of no site.
     pub fn is_empty(&self) -> bool
         ensures { result ≡ (length self.now == 0) }
     {
-        self.boots.is_empty()
+        self.sites == 0
     }
 
     /// The boot number of a site: 0 where none is known, also of a site that is not told of.
     pub fn get(&self, site: u16) -> u32
         ensures { result ≡ boot_of self.now site }
     {
-        self.boots.get(usize::from(site)).copied().unwrap_or(0)
+        self.as_slice().get(usize::from(site)).copied().unwrap_or(0)
     }
 
     /// The boot numbers, in order of the sites.
     pub fn as_slice(&self) -> &[u32]
         ensures { result.now ≡ self.now }
     {
-        self.boots.as_slice()
+        &self.boots[..self.sites]
     }
 
-    /// Tells of one site more. An `Err` leaves it as it was.
-    pub fn push(&mut self, boot: u32) -> Result<(), AllocError>
-        ensures ok { OnOk result (self.new ≡ self.old ++ boot ∷ []) }
-        ensures err { OnErr result (self.new ≡ self.old) }
+    /// Tells of one site more.
+    pub fn push(&mut self, boot: u32)
+        requires { length self.old < most_sites }
+        ensures { self.new ≡ self.old ++ boot ∷ [] }
     {
-        self.boots.push(boot)?;
-        Ok(())
+        self.boots[self.sites] = boot;
+        self.sites += 1;
     }
 
-    /// The same boots once more.
-    pub fn copy(&self, alloc: Global) -> Result<Self, AllocError>
-        ensures { IfOk result (λ copy. copy ≡ self.now) }
-    {
-        Ok(Known {
-            boots: Vec::from_slice(alloc, self.boots.as_slice())?,
-        })
-    }
-
-    /// Notes the boot number of a site, whatever was known of it. It takes no memory.
+    /// Notes the boot number of a site, whatever was known of it.
     pub fn note(&mut self, site: u16, boot: u32)
         requires { site < length self.old }
         ensures { self.new ≡ slice_set self.old site boot }
@@ -96,13 +109,13 @@ impl Known {
         self.boots[usize::from(site)] = boot;
     }
 
-    /// Takes over what a sender knew, where that is greater. It takes no memory.
+    /// Takes over what a sender knew, where that is greater.
     pub fn learn(&mut self, told: &Known)
         requires { length told.now ≤ length self.old }
         ensures { self.new ≡ greater self.old told.now }
     {
-        for site in 0..told.boots.len() {
-            self.boots[site] = self.boots[site].max(told.boots[site]);
+        for site in 0..told.len() as u16 {
+            self.note(site, self.get(site).max(told.get(site)));
         }
     }
 

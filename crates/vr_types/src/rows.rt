@@ -1,4 +1,4 @@
-ghost use Rattle.std.specs.Prelude.{◌≡◌, ◌≢◌, ◌+◌, ◌-◌, ◌==◌, ◌<◌, ◌≤◌, ◌%◌, ◌++◌, ◌∷◌, [], Some, slice_get, slice_range, IfOk, IsOk, OnOk, OnErr, length, take, drop, option_map};
+ghost use Rattle.std.specs.Prelude.{◌≡◌, ◌≢◌, ◌+◌, ◌-◌, ◌*◌, ◌==◌, ◌<◌, ◌≤◌, ◌%◌, ◌++◌, ◌∷◌, [], Some, slice_get, slice_range, IfOk, IsOk, OnOk, OnErr, length, take, drop, option_map, vec_capacity};
 ghost use Rattle.vr_types.specs.Pages.{page_of, page_rows};
 
 use crate::limits::{MAX_ROWS, PAGE_ROWS};
@@ -7,13 +7,15 @@ use crate::row::RowOf;
 use std::alloc::{AllocError, Global};
 use std::marker::Model;
 use std::mem;
+use std::sync::Arc;
 
 /// Rows of a log, at most 65,535, as a site keeps them and as a message carries them. They lie on pages of 64, and the
-/// room of each page is made at once. In clauses it is their list.
+/// room of each page is made at once. All pages but the last are full; they never change, and copies share them. In
+/// clauses it is their list.
 #[derive(Drop)]
 pub struct RowsOf<C> {
     alloc: Global,
-    full: Vec<Vec<RowOf<C>>>,
+    full: Vec<Arc<Vec<RowOf<C>>>>,
     last: Vec<RowOf<C>>,
 }
 
@@ -78,7 +80,8 @@ impl<C: Copy> RowsOf<C> {
         let page = at / PAGE_ROWS;
         let within = at % PAGE_ROWS;
         if page < self.full.len() {
-            self.full[page][within]
+            let rows: &Vec<RowOf<C>> = &self.full[page];
+            rows[within]
         } else {
             self.last[within]
         }
@@ -90,7 +93,8 @@ impl<C: Copy> RowsOf<C> {
         ensures { option_map (λ lent. lent.now) result ≡ page_of self.now page }
     {
         if page < self.full.len() {
-            Some(self.full[page].as_slice())
+            let lent: &Vec<RowOf<C>> = &self.full[page];
+            Some(lent.as_slice())
         } else if page == self.full.len() && !self.last.is_empty() {
             Some(self.last.as_slice())
         } else {
@@ -114,10 +118,19 @@ impl<C: Copy> RowsOf<C> {
         page.push(row)?;
         self.full.reserve(1)?;
         let before = mem::replace(&mut self.last, page);
-        if !before.is_empty() {
-            self.full.push(before)?;
+        if before.is_empty() {
+            return Ok(());
         }
-        Ok(())
+        match Arc::new(self.alloc, before) {
+            Ok(shared) => {
+                self.full.push(shared)?;
+                Ok(())
+            }
+            Err(refused) => {
+                self.last = refused.value;
+                Err(AllocError)
+            }
+        }
     }
 
     /// Puts the rows of others from an index up to another at the end. After an `Err` this may only be dropped.
@@ -147,7 +160,7 @@ impl<C: Copy> RowsOf<C> {
         }
         // the pages in front of the one with the last row that stays
         let whole = (base - 1) / PAGE_ROWS;
-        let tail = self.joined(whole * PAGE_ROWS, base, &part)?;
+        let tail = self.joined(whole * PAGE_ROWS, base, part)?;
         let RowsOf { mut full, last, .. } = tail;
         self.full.reserve(full.len())?;
         self.full.truncate(whole);
@@ -156,33 +169,91 @@ impl<C: Copy> RowsOf<C> {
         Ok(())
     }
 
-    /// The rows from an index up to another, and these behind them.
-    fn joined(&self, from: usize, to: usize, part: &RowsOf<C>) -> Result<RowsOf<C>, AllocError>
+    /// The rows from an index up to another, and these behind them. Where the former are a page, the pages of the
+    /// latter are moved, not copied.
+    fn joined(&self, from: usize, to: usize, part: RowsOf<C>) -> Result<RowsOf<C>, AllocError>
         requires order { from ≤ to }
         requires there { to ≤ length self.now }
-        requires few { to - from + length part.now ≤ MAX_ROWS }
-        ensures { IfOk result (λ rows. rows ≡ slice_range self.now from to ++ part.now) }
+        requires few { to - from + length part ≤ MAX_ROWS }
+        ensures { IfOk result (λ rows. rows ≡ slice_range self.now from to ++ part) }
     {
         let mut rows = RowsOf::new(self.alloc);
         rows.append(self, from, to)?;
-        rows.append(part, 0, part.len())?;
+        if rows.len() == PAGE_ROWS && !part.is_empty() {
+            return rows.in_front(part);
+        }
+        rows.append(&part, 0, part.len())?;
         Ok(rows)
     }
 
-    /// The rows after the first `base`.
+    /// These rows, which are a page, and others behind them, whose pages are moved, not copied.
+    fn in_front(self, part: RowsOf<C>) -> Result<RowsOf<C>, AllocError>
+        requires page { length self ≡ page_rows }
+        requires some { 0 < length part }
+        requires few { page_rows + length part ≤ MAX_ROWS }
+        ensures { IfOk result (λ rows. rows ≡ self ++ part) }
+    {
+        let RowsOf {
+            alloc,
+            last: page,
+            ..
+        } = self;
+        let RowsOf {
+            full: mut behind,
+            last,
+            ..
+        } = part;
+        let first = Arc::new(alloc, page)?;
+        let mut full = Vec::new(alloc);
+        full.reserve(behind.len())?;
+        full.push(first)?;
+        full.append(&mut behind)?;
+        Ok(RowsOf { alloc, full, last })
+    }
+
+    /// The rows after the first `base`. Where these begin a page, all pages but the last are shared, not copied.
     pub fn copy_from(&self, alloc: Global, base: usize) -> Result<RowsOf<C>, AllocError>
         requires { base ≤ length self.now }
         ensures { IfOk result (λ rows. rows ≡ drop base self.now) }
     {
+        if base % PAGE_ROWS == 0 {
+            return self.pages_from(alloc, base / PAGE_ROWS);
+        }
         let mut rows = RowsOf::new(alloc);
         rows.append(self, base, self.len())?;
         Ok(rows)
     }
 
-    /// The same rows once more.
+    /// The rows from a page on, counted from 0. All pages but the last are shared, not copied.
+    fn pages_from(&self, alloc: Global, page: usize) -> Result<RowsOf<C>, AllocError>
+        requires { page_rows * page ≤ length self.now }
+        ensures { IfOk result (λ rows. rows ≡ drop (page_rows * page) self.now) }
+    {
+        if page > self.full.len() {
+            return Ok(RowsOf::new(alloc));
+        }
+        let full = Vec::from_clones(alloc, &self.full[page..])?;
+        let last = copy_of_page(alloc, &self.last)?;
+        Ok(RowsOf { alloc, full, last })
+    }
+
+    /// The same rows once more. All pages but the last are shared, not copied.
     pub fn copy(&self, alloc: Global) -> Result<Self, AllocError>
         ensures { IfOk result (λ copy. copy ≡ self.now) }
     {
         self.copy_from(alloc, 0)
     }
+}
+
+/// The rows of a page once more, with room for a whole page where there are rows.
+fn copy_of_page<C: Copy>(alloc: Global, page: &Vec<RowOf<C>>) -> Result<Vec<RowOf<C>>, AllocError>
+    ensures items { IfOk result (λ copy. copy.items ≡ page.now.items) }
+    ensures room { IfOk result (λ copy. 0 < length page.now.items → page_rows ≤ vec_capacity copy) }
+{
+    if page.is_empty() {
+        return Ok(Vec::new(alloc));
+    }
+    let mut copy = Vec::with_capacity(alloc, PAGE_ROWS)?;
+    copy.extend_from_slice(page.as_slice())?;
+    Ok(copy)
 }
