@@ -3,3 +3,4 @@ pub mod KeptLemmas
 pub mod Others
 pub mod OutcomeLemmas
 pub mod Rows
+pub mod Table

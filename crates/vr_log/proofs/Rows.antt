@@ -1,13 +1,16 @@
 -- Lists of rows that grow by one, and what they say of a client.
-use Rattle.std.proofs.Common.{◌≡◌, ℕ, zero, suc, ◌+◌, ◌-◌, ◌==◌, ◌≤◌, Bool, true, false, List, [], ◌∷◌, ◌++◌, length, take, drop, filter, slice_get, Option, Some, None, if◌then◌else◌, refl, sym, ap, ◌∙◌, append_assoc, arith, ◌⊎◌, inl, inr, eqb→eq}
+use Rattle.std.proofs.Common.{◌≡◌, ℕ, zero, suc, ◌+◌, ◌-◌, ◌*◌, ◌==◌, ◌≤◌, Bool, true, false, List, [], ◌∷◌, ◌++◌, length, take, drop, filter, slice_get, Option, Some, None, if◌then◌else◌, refl, sym, ap, ◌∙◌, append_assoc, arith, ◌⊎◌, inl, inr, eqb→eq}
 use Rattle.std.specs.List.{enumerate_from, last_or, range_with_len, filter_map, cons_option}
 use Rattle.std.specs.Option.{option_map_or}
 use Rattle.std.proofs.lemmas.Option.{slice_get_within, get_or_from_slice_get}
 use Rattle.std.proofs.lemmas.List.{take_more, drop_more}
 use Rattle.std.proofs.lemmas.List.Elements.{filter_map-append}
 use Rattle.vr_types.specs.declared.row.RowOf.{RowOf}
+use Rattle.vr_types.specs.Pages.{page_rows, as_page}
 use Rattle.vr_types.specs.Rows.{last_of, newest}
 use Rattle.vr_types.specs.Step.{places_between}
+use Rattle.vr_log.specs.Clients.{rows_at}
+use Rattle.std.proofs.Math.Seq.{take-add}
 
 -- the first n + 1 elements are the first n and the next
 pub take_next : {X : Type 0} (xs : List X) (n : ℕ) (x : X) → slice_get xs n ≡ Some x → take (n + 1) xs ≡ take n xs ++ x ∷ []
@@ -23,6 +26,22 @@ drop_end [] zero h = refl
 drop_end [] (suc n) h = refl
 drop_end (x ∷ xs) zero h = cc
 drop_end (x ∷ xs) (suc n) h = drop_end xs n h
+
+-- the rows of a page more
+pub page-more : {X : Type 0} (rows : List X) (page : ℕ) → take (page_rows * (page + 1)) rows ≡ take (page_rows * page) rows ++ rows_at rows page
+page-more rows page =
+    let e : page_rows * (page + 1) ≡ page_rows * page + page_rows = omega arith in
+    rw e (take-add (page_rows * page) page_rows rows)
+
+-- a page that is lent has the rows that stand there
+pub lent-page : {X : Type 0} (found lent : List X) → Some lent ≡ as_page found → lent ≡ found
+lent-page [] lent is = absurd cc
+lent-page (x ∷ rest) lent is = cc
+
+-- where none is lent there are none
+pub no-page : {X : Type 0} (found : List X) → None ≡ as_page found → [] ≡ found
+no-page [] is = refl
+no-page (x ∷ rest) is = absurd cc
 
 -- what the first elements have, all have
 pub slice_get-take : {X : Type 0} (xs : List X) (n i : ℕ) (x : X) → slice_get (take n xs) i ≡ Some x → slice_get xs i ≡ Some x

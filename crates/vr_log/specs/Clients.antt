@@ -1,14 +1,25 @@
 -- What the clients' table says.
-use Rattle.std.specs.Prelude.{ℕ, Option}
-use Rattle.std.specs.Ordering.{nat_cmp}
-use Rattle.std.specs.Option.{option_and_then, option_map_or}
-use Rattle.std.specs.BTreeMap.{get}
+use Rattle.std.specs.Prelude.{ℕ, ◌*◌, None, List, Option, drop, get_or, take}
+use Rattle.vr_types.specs.Pages.{page_rows}
+use Rattle.vr_log.specs.declared.clients.ClientOf.{ClientOf}
 use Rattle.vr_log.specs.declared.clients.ClientsOf.{ClientsOf}
+
+-- a client that has sent nothing
+abbrev pub unknown : {R : Type 0} → ClientOf R
+unknown = record { newest = 0; answer = None }
+
+-- what is known of a client
+abbrev pub known_in : {R : Type 0} → ClientsOf R → ℕ → ClientOf R
+known_in clients client = get_or clients.table.items client unknown
 
 -- the number of a client's newest row, 0 for none
 abbrev pub newest_in : {R : Type 0} → ClientsOf R → ℕ → ℕ
-newest_in clients client = option_map_or (λ known. known.newest) (get nat_cmp clients.table client) 0
+newest_in clients client = (known_in clients client).newest
 
 -- the number of a client's last executed row, and the answer to it
 abbrev pub reply_in : {R : Type 0} → ClientsOf R → ℕ → Option (ℕ × R)
-reply_in clients client = option_and_then (λ known. known.answer) (get nat_cmp clients.table client)
+reply_in clients client = (known_in clients client).answer
+
+-- the rows of a page, counted from 0; none behind the last one
+abbrev pub rows_at : {X : Type 0} → List X → ℕ → List X
+rows_at rows page = take page_rows (drop (page_rows * page) rows)

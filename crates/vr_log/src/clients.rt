@@ -1,10 +1,11 @@
-ghost use Rattle.std.specs.Prelude.{◌≡◌, ℕ, ◌==◌, ◌++◌, List, Some, None, IfOk, OnOk, OnErr, if◌then◌else◌};
+ghost use Rattle.std.specs.Prelude.{◌≡◌, ℕ, ◌*◌, ◌==◌, ◌<◌, ◌≤◌, ◌++◌, List, Some, None, length, IfOk, OnOk, OnErr, if◌then◌else◌};
 ghost use Rattle.vr_types.specs.declared.row.RowOf.{RowOf};
 ghost use Rattle.vr_types.specs.Rows.{newest};
+ghost use Rattle.vr_types.specs.Pages.{page_rows};
+ghost use Rattle.vr_log.specs.Clients.{rows_at};
 
 use std::alloc::{AllocError, Global};
-use std::collections::BTreeMap;
-use vr_types::{Machine, RowsOf};
+use vr_types::{Machine, PAGE_ROWS, RowOf, RowsOf};
 
 /// The number of a client's newest row, 0 for none, and the number of its last executed row, with the answer to it.
 #[derive(Clone, Copy)]
@@ -25,11 +26,12 @@ impl<R> ClientOf<R> {
     }
 }
 
-/// Of each client the number of its newest row, and what it was last answered.
+/// Of each client the number of its newest row, and what it was last answered. Clients have small numbers, so each has its
+/// own place; one that has none has sent nothing.
 #[derive(Drop)]
 pub struct ClientsOf<R> {
     alloc: Global,
-    table: BTreeMap<u16, ClientOf<R>>,
+    table: Vec<ClientOf<R>>,
 }
 
 /// The clients of a machine.
@@ -37,7 +39,7 @@ pub type Clients<M> = ClientsOf<<M as Machine>::Reply>;
 
 impl<R: Copy> ClientsOf<R> {
     ghost use Rattle.vr_types.specs.Rows.{newest};
-    ghost use Rattle.vr_log.specs.Clients.{newest_in, reply_in};
+    ghost use Rattle.vr_log.specs.Clients.{known_in, newest_in, reply_in};
 
     /// No client has sent anything. It takes no memory.
     pub fn new(alloc: Global) -> Self
@@ -46,7 +48,7 @@ impl<R: Copy> ClientsOf<R> {
     {
         ClientsOf {
             alloc,
-            table: BTreeMap::new(alloc),
+            table: Vec::new(alloc),
         }
     }
 
@@ -54,7 +56,7 @@ impl<R: Copy> ClientsOf<R> {
     pub fn newest(&self, client: u16) -> u32
         ensures { result ≡ newest_in self.now client }
     {
-        self.table.get(&client).map_or(0, |known| known.newest)
+        self.known(client).newest
     }
 
     /// Notes the number of a client's newest row. An `Err` leaves the table as it was.
@@ -63,8 +65,8 @@ impl<R: Copy> ClientsOf<R> {
         ensures err { OnErr result ((q : ℕ) → newest_in self.new q ≡ newest_in self.old q) }
         ensures replies { (q : ℕ) → reply_in self.new q ≡ reply_in self.old q }
     {
-        let known = self.table.entry(client)?.or_insert(ClientOf::new());
-        known.newest = number;
+        self.reach(client)?;
+        self.table[usize::from(client)].newest = number;
         Ok(())
     }
 
@@ -72,7 +74,7 @@ impl<R: Copy> ClientsOf<R> {
     pub fn reply(&self, client: u16) -> Option<(u32, R)>
         ensures { result ≡ reply_in self.now client }
     {
-        self.table.get(&client)?.answer
+        self.known(client).answer
     }
 
     /// Notes that a client's row of this number was executed and answered so. An `Err` leaves the table as it was.
@@ -81,9 +83,31 @@ impl<R: Copy> ClientsOf<R> {
         ensures err { OnErr result ((q : ℕ) → reply_in self.new q ≡ reply_in self.old q) }
         ensures newest { (q : ℕ) → newest_in self.new q ≡ newest_in self.old q }
     {
-        let known = self.table.entry(client)?.or_insert(ClientOf::new());
-        known.answer = Some((number, reply));
+        self.reach(client)?;
+        self.table[usize::from(client)].answer = Some((number, reply));
         Ok(())
+    }
+
+    /// What is known of a client.
+    fn known(&self, client: u16) -> ClientOf<R>
+        ensures { result ≡ known_in self.now client }
+    {
+        match self.table.get(usize::from(client)) {
+            Some(known) => *known,
+            None => ClientOf::new(),
+        }
+    }
+
+    /// Makes a client's place where there is none. An `Err` leaves the table as it was.
+    fn reach(&mut self, client: u16) -> Result<(), AllocError>
+        ensures known { (q : ℕ) → known_in self.new q ≡ known_in self.old q }
+        ensures there { OnOk result (client < length self.new.table.items) }
+    {
+        let place = usize::from(client);
+        if place < self.table.len() {
+            return Ok(());
+        }
+        self.table.resize(place + 1, ClientOf::new())
     }
 
     /// Notes the rows that come at a log's end. After an `Err` this may only be dropped.
@@ -92,8 +116,19 @@ impl<R: Copy> ClientsOf<R> {
             (q : ℕ) → newest_in self.new q ≡ newest (log ++ rows.now) q) }
         ensures replies { (q : ℕ) → reply_in self.new q ≡ reply_in self.old q }
     {
-        for at in 0..rows.len() {
-            let row = rows.row(at);
+        for page in 0..page_count(rows) {
+            self.note_page(page_at(rows, page))?;
+        }
+        Ok(())
+    }
+
+    /// Notes the rows of a page that come at a log's end. After an `Err` this may only be dropped.
+    fn note_page<C: Copy>(&mut self, page: &[RowOf<C>]) -> Result<(), AllocError>
+        ensures ok { OnOk result ((log : List (RowOf C)) → ((q : ℕ) → newest_in self.old q ≡ newest log q) →
+            (q : ℕ) → newest_in self.new q ≡ newest (log ++ page.now) q) }
+        ensures replies { (q : ℕ) → reply_in self.new q ≡ reply_in self.old q }
+    {
+        for row in page {
             self.note(row.client, row.number)?;
         }
         Ok(())
@@ -116,14 +151,33 @@ impl<R: Copy> ClientsOf<R> {
         ensures newest { IfOk result (λ clients. (q : ℕ) → newest_in clients q ≡ 0) }
         ensures replies { IfOk result (λ clients. (q : ℕ) → reply_in clients q ≡ reply_in self.now q) }
     {
-        let mut clients = ClientsOf::new(self.alloc);
-        for (client, known) in &self.table {
-            let unnumbered = ClientOf {
+        let mut table = Vec::with_capacity(self.alloc, self.table.len())?;
+        for known in self.table.as_slice() {
+            table.push(ClientOf {
                 newest: 0,
                 ..*known
-            };
-            let _ = clients.table.insert(*client, unnumbered)?;
+            })?;
         }
-        Ok(clients)
+        Ok(ClientsOf {
+            alloc: self.alloc,
+            table,
+        })
+    }
+}
+
+/// On how many pages the rows of a list lie.
+fn page_count<C: Copy>(rows: &RowsOf<C>) -> usize
+    ensures { length rows.now ≤ page_rows * result }
+{
+    rows.len().div_ceil(PAGE_ROWS)
+}
+
+/// The rows of a page; none behind the last one.
+pub(crate) fn page_at<C: Copy>(rows: &RowsOf<C>, page: usize) -> &[RowOf<C>]
+    ensures { result.now ≡ rows_at rows.now page }
+{
+    match rows.page(page) {
+        Some(lent) => lent,
+        None => &[],
     }
 }

@@ -1,9 +1,9 @@
 ghost use Rattle.std.specs.Prelude.{◌≡◌, ℕ, ◌+◌, ◌<◌, ◌≤◌, ◌++◌, ◌∷◌, [], Some, slice_get, filter_map, IfOk, OnOk, IsTrue, ◌↔◌, length, max, min, take};
 ghost use Rattle.std.specs.List.{starts_with};
 
-use crate::clients::Clients;
+use crate::clients::{Clients, page_at};
 use std::alloc::{AllocError, Global};
-use vr_types::{MAX_ROWS, Machine, Row, Rows, RowsOf, is_same};
+use vr_types::{MAX_ROWS, Machine, PAGE_ROWS, Row, Rows, RowsOf, is_same};
 
 /// A site's log: it is a list of rows, as messages carry them.
 pub type Log<M> = Rows<M>;
@@ -61,7 +61,12 @@ impl<M: Machine> Kept<M> {
         if base + rows.len() < done {
             return false;
         }
-        for at in base..done {
+        let start = if base == 0 {
+            same_pages::<M>(&self.log, rows, done)
+        } else {
+            base
+        };
+        for at in start..done {
             if !is_same_row::<M>(rows.row(at - base), self.log.row(at)) {
                 return false;
             }
@@ -130,6 +135,35 @@ impl<M: Machine> Kept<M> {
             reply,
         })
     }
+}
+
+/// How many of the first rows of two lists are the same, as far as whole pages of them are, and at most so many.
+fn same_pages<M: Machine>(a: &Rows<M>, b: &Rows<M>, most: usize) -> usize
+    ensures few { result ≤ most }
+    ensures same { take result a.now ≡ take result b.now }
+{
+    let whole = most / PAGE_ROWS;
+    for page in 0..whole {
+        if !is_same_page::<M>(page_at(a, page), page_at(b, page)) {
+            return page * PAGE_ROWS;
+        }
+    }
+    whole * PAGE_ROWS
+}
+
+/// Whether the rows of two pages are the same.
+fn is_same_page<M: Machine>(a: &[Row<M>], b: &[Row<M>]) -> bool
+    ensures { IsTrue result → a.now ≡ b.now }
+{
+    if a.len() != b.len() {
+        return false;
+    }
+    for at in 0..a.len() {
+        if !is_same_row::<M>(a[at], b[at]) {
+            return false;
+        }
+    }
+    true
 }
 
 /// Whether two rows are the same.

@@ -9,7 +9,7 @@ use crate::kept::AnswerOf;
 use std::alloc::{AllocError, Global};
 use vr_types::{
     Commit, Config, EnvelopeOf, FIRST_SITE, MsgOf, OutcomeOf, PrepareOf, PrepareOk, Recovery,
-    ReplyOf, Status, Why,
+    ReplyOf, StartViewChange, Status, Why,
 };
 
 /// What a site tells all the others.
@@ -17,6 +17,7 @@ use vr_types::{
 pub enum News<C> {
     Prepare(PrepareOf<C>),
     Commit(Commit),
+    StartViewChange(StartViewChange),
     Recovery(Recovery),
 }
 
@@ -28,6 +29,7 @@ impl<C: Copy> News<C> {
         match self {
             News::Prepare(prepare) => MsgOf::Prepare(prepare),
             News::Commit(commit) => MsgOf::Commit(commit),
+            News::StartViewChange(change) => MsgOf::StartViewChange(change),
             News::Recovery(recovery) => MsgOf::Recovery(recovery),
         }
     }
