@@ -8,7 +8,7 @@ ghost use Rattle.vr_log.specs.Running.{IsSound, IsRunning, Follows, SumUp, site_
 
 use std::alloc::{AllocError, Global};
 use vr_log::Running;
-use vr_log::send::{mail_to, primary_of};
+use vr_log::send::{News, mail_to, primary_of, tell_all};
 use vr_types::{
     Config, DoViewChangeOf, Envelope, Machine, MsgOf, Outcome, OutcomeOf, StartViewChange, Status,
 };
@@ -66,7 +66,7 @@ pub fn own_vote<M: Machine>(
         last_normal: running.last_normal,
         done: running.kept.done,
         rows: running.kept.log.copy_from(alloc, 0)?,
-        known: running.known.copy(alloc)?,
+        known: running.known,
     });
     Ok(mail_to(config, primary_of(config, running.view), msg))
 }
@@ -79,30 +79,11 @@ pub fn tell_change<M: Machine>(
 ) -> Result<Vec<Envelope<M>>, AllocError>
     ensures { IfOk result (λ sent. sent.items ≡ to_all config.f config.me (MsgOf.StartViewChange (record { view = running.now.view; known = running.now.known }))) }
 {
-    let mut sent = Vec::new(alloc);
-    for site in 0..2 * config.f + 1 {
-        if site != config.me {
-            sent.push(change_mail(alloc, config, running, site)?)?;
-        }
-    }
-    Ok(sent)
-}
-
-/// STARTVIEWCHANGE of the site's view to a site.
-fn change_mail<M: Machine>(
-    alloc: Global,
-    config: Config,
-    running: &Running<M>,
-    site: u16,
-) -> Result<Envelope<M>, AllocError>
-    requires { site ≤ 2 * config.f }
-    ensures { IfOk result (λ sent. sent ≡ mail config.me site (MsgOf.StartViewChange (record { view = running.now.view; known = running.now.known }))) }
-{
-    let msg = MsgOf::StartViewChange(StartViewChange {
+    let change = StartViewChange {
         view: running.view,
-        known: running.known.copy(alloc)?,
-    });
-    Ok(mail_to(config, site, msg))
+        known: running.known,
+    };
+    tell_all(alloc, config, News::<M::Cmd>::StartViewChange(change))
 }
 
 /// The site takes part in the change to a view, and gives up what it collected.

@@ -253,7 +253,7 @@ fn keep_own_vote<M: Machine>(
         last_normal: running.last_normal,
         done: running.kept.done,
         log: running.kept.log.copy_from(alloc, 0)?,
-        known: running.known.copy(alloc)?,
+        known: running.known,
     };
     running.votes.push(vote)?;
     Ok(())

@@ -42,7 +42,7 @@ pub fn recovery<M: Machine>(
         view: running.view,
         nonce: msg.nonce,
         state: state_of_its_view(alloc, config, running)?,
-        known: running.known.copy(alloc)?,
+        known: running.known,
     });
     sends_one(alloc, mail_to(config, from, response))
 }

@@ -8,9 +8,8 @@ ghost use Rattle.vr_recover.specs.Recovering.{response_of, responses_of, IsSound
 use crate::recovering::{Recovering, ResponseOf, has_as_late, keep, learn, take_regained};
 use crate::regaining::regain;
 use std::alloc::{AllocError, Global};
-use std::mem;
 use vr_log::Running;
-use vr_types::{Boot, Config, Known, Machine, Why};
+use vr_types::{Boot, Config, Machine, Why};
 
 /// What came of a response.
 #[derive(Drop)]
@@ -76,8 +75,7 @@ fn regain_where_due<M: Machine>(
 {
     match take_regained(config, &mut recovering.responses) {
         Some((view, state)) => {
-            let known = mem::replace(&mut recovering.known, Known::new(alloc));
-            let running = regain(alloc, config, setup, view, state, known)?;
+            let running = regain(alloc, config, setup, view, state, recovering.known)?;
             Ok(Progress::Regained(running))
         }
         None => Ok(Progress::Waits),

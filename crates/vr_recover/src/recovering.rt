@@ -32,20 +32,16 @@ pub type Recovering<M> = RecoveringOf<<M as Machine>::Cmd>;
 
 /// What a site keeps right after a restart that saved this cell: of boots it knows its own alone, and no response has
 /// come.
-pub fn restarted<C: Drop>(
-    alloc: Global,
-    config: Config,
-    boot: Boot,
-) -> Result<RecoveringOf<C>, AllocError>
-    ensures sound { IfOk result (IsSoundRecovering config.f) }
-    ensures site { IfOk result (λ recovering. recovering_site recovering [] boot ≡ restarted config.f config.me boot) }
+pub fn restarted<C: Drop>(alloc: Global, config: Config, boot: Boot) -> RecoveringOf<C>
+    ensures sound { IsSoundRecovering config.f result }
+    ensures site { recovering_site result [] boot ≡ restarted config.f config.me boot }
 {
-    let mut known = Known::of_none(alloc, config.f)?;
+    let mut known = Known::of_none(config.f);
     known.note(config.me, boot.boots);
-    Ok(RecoveringOf {
+    RecoveringOf {
         known,
         responses: Vec::new(alloc),
-    })
+    }
 }
 
 /// Whether a response of the new one's sender is kept that is of its view or a later one, and that the new one does not

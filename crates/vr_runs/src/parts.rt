@@ -1,5 +1,6 @@
 //! The parts that sites are made of: rows, the clients' table, a cell, what is known of boots.
 
+use self::Look::{Len, Page, Row};
 use crate::events::{known, row, rows};
 use fixtures::Ask;
 use std::alloc::{AllocError, Global};
@@ -7,19 +8,6 @@ use std::process::Abort;
 use std::test::Fail;
 use vr_log::ClientsOf;
 use vr_types::{Boot, BootCell, Known, MAX_ROWS, MemCell, RowOf, RowsOf};
-
-fn is_empty(rt: &impl Abort, rows: &RowsOf<Ask>) {
-    assert!(rt; rows.is_empty());
-}
-
-fn has_len(rt: &impl Abort, rows: &RowsOf<Ask>, len: usize) {
-    assert_eq!(rt; rows.len(), len);
-}
-
-/// The row behind so many.
-fn has_row(rt: &impl Abort, rows: &RowsOf<Ask>, before: usize, row: Option<RowOf<Ask>>) {
-    assert_eq!(rt; rows.get(before), row);
-}
 
 /// Adds a row that has its place as its number.
 fn push_next(rows: &mut RowsOf<Ask>) -> Result<(), AllocError> {
@@ -46,50 +34,74 @@ fn page_of(rows: &RowsOf<Ask>, page: usize) -> (usize, u32) {
     }
 }
 
-/// A page has so many rows, of which the first has this number.
-fn has_page(rt: &impl Abort, rows: &RowsOf<Ask>, page: usize, wanted: (usize, u32)) {
-    assert_eq!(rt; page_of(rows, page), wanted);
+/// What is looked at in rows, and what is to stand there.
+#[derive(Clone, Copy)]
+enum Look {
+    /// There are so many.
+    Len(usize),
+    /// Behind so many stands client 5's request of this number, or none.
+    Row(usize, Option<u32>),
+    /// The page of this place has so many rows, of which the first has this number; 0 and 0 where there is no such page.
+    Page(usize, usize, u32),
+}
+
+/// Whether rows have what is looked for.
+fn has(rows: &RowsOf<Ask>, look: Look) -> bool {
+    match look {
+        Look::Len(len) => rows.len() == len && rows.is_empty() == (len == 0),
+        Look::Row(before, number) => rows.get(before) == number.map(row),
+        Look::Page(page, len, first) => page_of(rows, page) == (len, first),
+    }
+}
+
+/// Each look finds what is to stand there.
+fn shows(rt: &impl Abort, rows: &RowsOf<Ask>, looks: &[Look]) {
+    for (at, look) in looks.iter().enumerate() {
+        assert!(rt; has(rows, *look), "look {at}");
+    }
 }
 
 #[test]
 fn rows_are_read_and_copied(rt: HostRuntime) -> Result<(), Fail> {
-    is_empty(&rt, &RowsOf::new(rt.alloc()));
+    const LONGER: &[Look] = &[Len(3), Row(2, Some(3)), Row(3, None)];
+    const COPY: &[Look] = &[Len(2), Page(0, 2, 1), Page(1, 0, 0), Row(1, Some(2))];
+    shows(&rt, &RowsOf::new(rt.alloc()), &[Len(0)]);
     let mut rows = numbered(rt.alloc(), 2)?;
     let copy = rows.copy(rt.alloc())?;
     push_next(&mut rows)?;
-    has_len(&rt, &rows, 3);
-    has_row(&rt, &rows, 2, Some(row(3)));
-    has_row(&rt, &rows, 3, None);
-    has_len(&rt, &copy, 2);
-    has_page(&rt, &copy, 0, (2, 1));
-    has_page(&rt, &copy, 1, (0, 0));
-    has_row(&rt, &copy, 1, Some(row(2)));
+    shows(&rt, &rows, LONGER);
+    shows(&rt, &copy, COPY);
     Ok(())
 }
 
 #[test]
 fn full_page_is_followed_by_a_new_one(rt: HostRuntime) -> Result<(), Fail> {
+    const FULL: &[Look] = &[Page(0, 64, 1), Page(1, 0, 0)];
+    const FOLLOWED: &[Look] = &[
+        Page(0, 64, 1),
+        Page(1, 1, 65),
+        Row(63, Some(64)),
+        Row(64, Some(65)),
+        Row(65, None),
+    ];
     let mut rows = numbered(rt.alloc(), 63)?;
-    has_page(&rt, &rows, 0, (63, 1));
+    shows(&rt, &rows, &[Page(0, 63, 1)]);
     push_next(&mut rows)?;
-    has_page(&rt, &rows, 0, (64, 1));
-    has_page(&rt, &rows, 1, (0, 0));
+    shows(&rt, &rows, FULL);
     push_next(&mut rows)?;
-    has_page(&rt, &rows, 0, (64, 1));
-    has_page(&rt, &rows, 1, (1, 65));
-    has_row(&rt, &rows, 63, Some(row(64)));
-    has_row(&rt, &rows, 64, Some(row(65)));
-    has_row(&rt, &rows, 65, None);
+    shows(&rt, &rows, FOLLOWED);
     Ok(())
 }
 
 #[test]
 fn longest_log_ends_one_short_of_a_full_page(rt: HostRuntime) -> Result<(), Fail> {
-    let rows = numbered(rt.alloc(), 65_535)?;
-    has_len(&rt, &rows, 65_535);
-    has_page(&rt, &rows, 1023, (63, 65_473));
-    has_page(&rt, &rows, 1024, (0, 0));
-    has_row(&rt, &rows, 65_534, Some(row(65_535)));
+    const LONGEST: &[Look] = &[
+        Len(65_535),
+        Page(1023, 63, 65_473),
+        Page(1024, 0, 0),
+        Row(65_534, Some(65_535)),
+    ];
+    shows(&rt, &numbered(rt.alloc(), 65_535)?, LONGEST);
     Ok(())
 }
 
@@ -112,30 +124,30 @@ fn tail_of(alloc: Global, rows: &RowsOf<Ask>, before: usize) -> Result<RowsOf<As
 
 #[test]
 fn rows_behind_a_part_that_stays_lie_on_pages(rt: HostRuntime) -> Result<(), Fail> {
+    const ROWS: &[Look] = &[
+        Len(200),
+        Page(1, 64, 65),
+        Row(99, Some(100)),
+        Row(100, Some(1)),
+        Page(3, 8, 93),
+    ];
+    const TAIL: &[Look] = &[Len(70), Page(0, 64, 31), Page(1, 6, 95)];
     let alloc = rt.alloc();
     let mut rows = numbered(alloc, 200)?;
     replace(&mut rows, 100, numbered(alloc, 100)?)?;
-    has_len(&rt, &rows, 200);
-    has_page(&rt, &rows, 1, (64, 65));
-    has_row(&rt, &rows, 99, Some(row(100)));
-    has_row(&rt, &rows, 100, Some(row(1)));
-    has_page(&rt, &rows, 3, (8, 93));
-    let tail = tail_of(alloc, &rows, 130)?;
-    has_len(&rt, &tail, 70);
-    has_page(&rt, &tail, 0, (64, 31));
-    has_page(&rt, &tail, 1, (6, 95));
+    shows(&rt, &rows, ROWS);
+    shows(&rt, &tail_of(alloc, &rows, 130)?, TAIL);
     Ok(())
 }
 
 #[test]
 fn log_takes_rows_at_its_end_and_in_its_middle(rt: HostRuntime) -> Result<(), Fail> {
+    const LOG: &[Look] = &[Len(3), Row(1, Some(3)), Row(3, None)];
     let alloc = rt.alloc();
     let mut log = numbered(alloc, 2)?;
-    has_len(&rt, &tail_of(alloc, &log, 1)?, 1);
+    shows(&rt, &tail_of(alloc, &log, 1)?, &[Len(1)]);
     replace(&mut log, 1, rows(alloc, &[3, 4])?)?;
-    has_len(&rt, &log, 3);
-    has_row(&rt, &log, 1, Some(row(3)));
-    has_row(&rt, &log, 3, None);
+    shows(&rt, &log, LOG);
     Ok(())
 }
 
@@ -183,14 +195,9 @@ fn cell_fails_once_and_counts_it(rt: HostRuntime) -> Result<(), Fail> {
     Ok(())
 }
 
-fn has_boots(rt: &impl Abort, known: &Known, site: u16, boots: u32) {
-    assert_eq!(rt; known.get(site), boots);
-}
-
 /// What is told is behind at the first site, and is not at the last.
 fn is_outdated(rt: &impl Abort, mine: &Known, told: &Known) {
-    assert!(rt; mine.is_outdated(0, told));
-    assert!(rt; !mine.is_outdated(2, told));
+    assert!(rt; mine.is_outdated(0, told) && !mine.is_outdated(2, told));
 }
 
 fn learn(mine: &mut Known, told: &Known) {
@@ -199,13 +206,14 @@ fn learn(mine: &mut Known, told: &Known) {
     }
 }
 
-/// The greater of both, and nothing of a fourth site.
-fn shows_the_greater(rt: &impl Abort, mine: &Known) {
+/// Three sites have these boots, and a fourth is not known of.
+fn has_boots(rt: &impl Abort, known: &Known, boots: [u32; 3]) {
+    let [first, second, third] = boots;
     assert_eq!(rt;
-        [mine.get(0), mine.get(1), mine.get(2), mine.get(3)],
-        [1, 2, 9, 0]
+        [known.get(0), known.get(1), known.get(2), known.get(3)],
+        [first, second, third, 0]
     );
-    assert_eq!(rt; mine.len(), 3);
+    assert_eq!(rt; known.len(), 3);
 }
 
 fn note_one(known: &mut Known) {
@@ -216,15 +224,14 @@ fn note_one(known: &mut Known) {
 
 #[test]
 fn what_is_known_only_grows(rt: HostRuntime) -> Result<(), Fail> {
-    let alloc = rt.alloc();
-    let mut mine = known(alloc, [1, 0, 5])?;
-    let told = known(alloc, [0, 2, 9])?;
+    let mut mine = known(&[1, 0, 5]);
+    let told = known(&[0, 2, 9]);
     is_outdated(&rt, &mine, &told);
     learn(&mut mine, &told);
-    shows_the_greater(&rt, &mine);
-    let copy = mine.copy(alloc)?;
+    has_boots(&rt, &mine, [1, 2, 9]);
+    let copy = mine;
     note_one(&mut mine);
-    has_boots(&rt, &mine, 1, 7);
-    has_boots(&rt, &copy, 1, 2);
+    has_boots(&rt, &mine, [1, 7, 9]);
+    has_boots(&rt, &copy, [1, 2, 9]);
     Ok(())
 }

@@ -1,80 +1,83 @@
 //! Each kind of event where memory is refused: the site is down, its cell as before or as the event saves it. With ample
 //! memory each is handled; a run with the Nth request for memory refused shows the rest.
 
-use crate::events::{
-    Ballot, commit, do_view_change, get_state, new_state, prepare, prepare_ok, recovery, request,
-    response, start_view, start_view_change, state_response,
+use crate::events::Ballot;
+use crate::events::Comes::{
+    Beat, Commit, Crash, DoViewChange, GetState, NewState, Prepare, PrepareOk, Recovery, Request,
+    Response, Restart, StartView, StartViewChange, StateResponse, Timer,
 };
-use crate::trial::Trial;
+use crate::trial::Step::Stands;
+use crate::trial::{Step, run};
 use std::test::Fail;
-use vr_types::EventOf;
 
 const NONE: [u32; 3] = [0, 0, 0];
 
 #[test]
 fn primary_stands_or_is_down(rt: HostRuntime) -> Result<(), Fail> {
-    let mut primary = Trial::new(rt.alloc(), 0)?;
-    primary.stands(&rt, request(200, 1), 0);
-    primary.stands(&rt, prepare_ok(200, 201, 0, 1), 0);
-    primary.stands(&rt, request(200, 1), 0);
-    primary.stands(&rt, Ok(EventOf::Beat), 0);
-    primary.stands(&rt, recovery(200, 202, 1), 0);
-    primary.stands(&rt, get_state(200, 202, 0, 0), 0);
-    Ok(())
+    const STEPS: &[Step] = &[
+        Stands(Request(200, 1), 0),
+        Stands(PrepareOk(200, 201, 0, 1), 0),
+        Stands(Request(200, 1), 0),
+        Stands(Beat, 0),
+        Stands(Recovery(200, 202, 1), 0),
+        Stands(GetState(200, 202, 0, 0), 0),
+    ];
+    run(&rt, 0, STEPS)
 }
 
 #[test]
 fn backup_stands_or_is_down(rt: HostRuntime) -> Result<(), Fail> {
-    let mut backup = Trial::new(rt.alloc(), 1)?;
-    backup.stands(&rt, prepare(201, 200, 0, 1, 0), 0);
-    backup.stands(&rt, commit(201, 200, 0, 1), 0);
-    backup.stands(&rt, recovery(201, 202, 1), 0);
-    backup.stands(&rt, prepare(201, 200, 0, 3, 0), 0);
-    Ok(())
+    const STEPS: &[Step] = &[
+        Stands(Prepare(201, 200, 0, 1, 0), 0),
+        Stands(Commit(201, 200, 0, 1), 0),
+        Stands(Recovery(201, 202, 1), 0),
+        Stands(Prepare(201, 200, 0, 3, 0), 0),
+    ];
+    run(&rt, 1, STEPS)
 }
 
 #[test]
 fn lagging_site_stands_or_is_down(rt: HostRuntime) -> Result<(), Fail> {
-    let alloc = rt.alloc();
-    let mut lagging = Trial::new(alloc, 2)?;
-    lagging.stands(&rt, prepare(202, 201, 1, 4, 3), 0);
-    lagging.stands(&rt, new_state(alloc, 202, 1, 0, 3, &[1, 2, 3, 4]), 0);
-    Ok(())
+    const STEPS: &[Step] = &[
+        Stands(Prepare(202, 201, 1, 4, 3), 0),
+        Stands(NewState(202, 1, 0, 3, &[1, 2, 3, 4]), 0),
+    ];
+    run(&rt, 2, STEPS)
 }
 
 #[test]
 fn new_primary_stands_or_is_down(rt: HostRuntime) -> Result<(), Fail> {
-    let alloc = rt.alloc();
-    let mut primary = Trial::new(alloc, 1)?;
-    primary.stands(&rt, Ok(EventOf::Timer), 0);
-    primary.stands(&rt, start_view_change(alloc, 201, 200, 1, NONE), 0);
-    primary.stands(&rt, Ok(EventOf::Beat), 0);
-    let vote = Ballot {
+    const VOTE: Ballot = Ballot {
         last_normal: 0,
         done: 1,
         numbers: &[1],
     };
-    primary.stands(&rt, do_view_change(alloc, 201, 200, 1, vote, NONE), 0);
-    Ok(())
+    const STEPS: &[Step] = &[
+        Stands(Timer, 0),
+        Stands(StartViewChange(201, 200, 1, &NONE), 0),
+        Stands(Beat, 0),
+        Stands(DoViewChange(201, 200, 1, VOTE, &NONE), 0),
+    ];
+    run(&rt, 1, STEPS)
 }
 
 #[test]
 fn backup_of_a_new_view_stands_or_is_down(rt: HostRuntime) -> Result<(), Fail> {
-    let alloc = rt.alloc();
-    let mut backup = Trial::new(alloc, 2)?;
-    backup.stands(&rt, start_view_change(alloc, 202, 201, 1, NONE), 0);
-    backup.stands(&rt, start_view(alloc, 202, 201, 1, 1, &[1]), 0);
-    Ok(())
+    const STEPS: &[Step] = &[
+        Stands(StartViewChange(202, 201, 1, &NONE), 0),
+        Stands(StartView(202, 201, 1, 1, &[1]), 0),
+    ];
+    run(&rt, 2, STEPS)
 }
 
 #[test]
 fn restarted_site_stands_or_is_down(rt: HostRuntime) -> Result<(), Fail> {
-    let alloc = rt.alloc();
-    let mut site = Trial::new(alloc, 2)?;
-    site.stands(&rt, Ok(EventOf::Crash), 0);
-    site.stands(&rt, Ok(EventOf::Restart), 1);
-    site.stands(&rt, Ok(EventOf::Beat), 1);
-    site.stands(&rt, state_response(alloc, 202, 200, 0, 1, [0, 0, 1]), 1);
-    site.stands(&rt, response(alloc, 202, 201, 0, 1, [0, 0, 1]), 1);
-    Ok(())
+    const STEPS: &[Step] = &[
+        Stands(Crash, 0),
+        Stands(Restart, 1),
+        Stands(Beat, 1),
+        Stands(StateResponse(202, 200, 0, 1, &[0, 0, 1]), 1),
+        Stands(Response(202, 201, 0, 1, &[0, 0, 1]), 1),
+    ];
+    run(&rt, 2, STEPS)
 }

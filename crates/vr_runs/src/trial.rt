@@ -2,31 +2,68 @@
 
 ghost use Rattle.std.specs.Prelude.{◌≤◌};
 
+use crate::events::Comes;
 use fixtures::{Said, Tally, said_by};
 use std::alloc::{AllocError, Global};
 use std::process::Abort;
+use std::test::Fail;
 use vr_site::Replica;
-use vr_types::{Config, Event, MemCell, Outcome, SiteFault, Status, Why};
-
-/// An event, unless memory for it was refused.
-pub type Given = Result<Event<Tally>, AllocError>;
+use vr_types::{Config, MemCell, Outcome, SiteFault, Status, Why};
 
 /// What the reading calls show of a site of three.
 #[derive(Clone, Copy, Debug, PartialEq, Eq)]
-pub struct Shown {
-    pub status: Status,
-    pub view: u32,
-    pub rows: usize,
-    pub done: usize,
-    pub known: [u32; 3],
-    pub boots: u32,
+struct Shown {
+    status: Status,
+    view: u32,
+    rows: usize,
+    done: usize,
+    known: [u32; 3],
+    boots: u32,
     /// The sum, where there is a machine.
-    pub total: Option<u64>,
+    total: Option<u64>,
+}
+
+/// What a site of three is to show.
+#[derive(Clone, Copy)]
+pub enum Shows {
+    /// It is normal: the view, how many rows there are, how many of them are executed. It knows of no boots.
+    Normal(u32, usize, usize),
+    /// The same, where it knows these boots, over a cell that counts so many restarts.
+    NormalKnows(u32, usize, usize, [u32; 3], u32),
+    /// It is in change: the view, how many rows there are, how many of them are executed. It knows of no boots.
+    Change(u32, usize, usize),
+    /// The same, where it knows these boots.
+    ChangeKnows(u32, usize, usize, [u32; 3]),
+    /// It recovers, and has lost all but its cell, which counts so many restarts; it knows these boots.
+    Recovering([u32; 3], u32),
+    /// It is down, and has lost all but its cell, which counts so many restarts.
+    Down(u32),
+}
+
+impl Shows {
+    /// What the reading calls are to show.
+    fn shown(self) -> Shown {
+        match self {
+            Shows::Normal(view, rows, done) => running(Status::Normal, view, rows, done),
+            Shows::NormalKnows(view, rows, done, known, boots) => Shown {
+                known,
+                boots,
+                ..running(Status::Normal, view, rows, done)
+            },
+            Shows::Change(view, rows, done) => running(Status::Change, view, rows, done),
+            Shows::ChangeKnows(view, rows, done, known) => Shown {
+                known,
+                ..running(Status::Change, view, rows, done)
+            },
+            Shows::Recovering(known, boots) => lost(Status::Recovering, known, boots),
+            Shows::Down(boots) => lost(Status::Down, [0, 0, 0], boots),
+        }
+    }
 }
 
 /// A site that runs in a view, with this many rows, of which so many are executed: each of them adds 3 to a sum that
 /// starts at 7. It knows of no boots.
-pub fn running(status: Status, view: u32, rows: usize, done: usize) -> Shown {
+fn running(status: Status, view: u32, rows: usize, done: usize) -> Shown {
     Shown {
         status,
         view,
@@ -38,16 +75,8 @@ pub fn running(status: Status, view: u32, rows: usize, done: usize) -> Shown {
     }
 }
 
-pub fn normal(view: u32, rows: usize, done: usize) -> Shown {
-    running(Status::Normal, view, rows, done)
-}
-
-pub fn in_change(view: u32, rows: usize, done: usize) -> Shown {
-    running(Status::Change, view, rows, done)
-}
-
 /// A site that recovers or is down, which has lost all but its cell.
-pub fn lost(status: Status, known: [u32; 3], boots: u32) -> Shown {
+fn lost(status: Status, known: [u32; 3], boots: u32) -> Shown {
     Shown {
         status,
         view: 0,
@@ -59,35 +88,61 @@ pub fn lost(status: Status, known: [u32; 3], boots: u32) -> Shown {
     }
 }
 
-impl Shown {
-    /// The same, where these boots are known.
-    pub fn knows(self, known: [u32; 3]) -> Self {
-        Shown { known, ..self }
-    }
+/// What is sent, and the actor that it goes to.
+pub type Sent = (u16, Said<u64>);
 
-    /// The same, over a cell that counts so many restarts.
-    pub fn over(self, boots: u32) -> Self {
-        Shown { boots, ..self }
-    }
+/// What a site is given or asked, and what is to come of it.
+#[derive(Clone, Copy)]
+pub enum Step {
+    /// The event leads to whatever it does.
+    Takes(Comes),
+    /// The event is handled, sends just this, and leaves this site.
+    Leads(Comes, &'static [Sent], Shows),
+    /// The event is dropped for this reason, and the site shows what it did.
+    Drops(Comes, Why),
+    /// The event is refused with this fault, and the site shows what it did.
+    Refuses(Comes, SiteFault),
+    /// The site falls by the event with this fault, over a cell that then counts so many restarts.
+    Falls(Comes, SiteFault, u32),
+    /// The event is handled, or the site falls by it for want of memory; its cell then counts so many restarts, or as
+    /// many as before.
+    Stands(Comes, u32),
+    /// The site shows this.
+    Is(Shows),
+    /// The request in a row, counted from 1, has this number.
+    HasNumber(usize, Option<u32>),
+}
+
+/// A new site of three goes these steps.
+pub fn run<R: Abort + AllocGlobal>(rt: &R, me: u16, steps: &[Step]) -> Result<(), Fail>
+    requires { me ≤ 2 }
+{
+    run_over(rt, me, MemCell::new(), steps)
+}
+
+/// A site of three over this cell goes these steps.
+pub fn run_over<R: Abort + AllocGlobal>(
+    rt: &R,
+    me: u16,
+    cell: MemCell,
+    steps: &[Step],
+) -> Result<(), Fail>
+    requires { me ≤ 2 }
+{
+    Trial::over(rt.alloc(), me, cell)?.go(rt, steps);
+    Ok(())
 }
 
 /// A site of three, whose sum starts at 7.
 #[derive(Drop)]
-pub struct Trial {
-    pub alloc: Global,
+struct Trial {
+    alloc: Global,
     site: Replica<Tally, MemCell>,
 }
 
 impl Trial {
-    /// Over a new cell.
-    pub fn new(alloc: Global, me: u16) -> Result<Self, AllocError>
-        requires { me ≤ 2 }
-    {
-        Trial::over(alloc, me, MemCell::new())
-    }
-
     /// Over this cell.
-    pub fn over(alloc: Global, me: u16, cell: MemCell) -> Result<Self, AllocError>
+    fn over(alloc: Global, me: u16, cell: MemCell) -> Result<Self, AllocError>
         requires { me ≤ 2 }
     {
         Ok(Trial {
@@ -96,7 +151,33 @@ impl Trial {
         })
     }
 
-    pub fn shown(&self) -> Shown {
+    /// Goes steps in turn, each of which is as it says and leaves what is to be shown.
+    fn go(&mut self, rt: &impl Abort, steps: &[Step]) {
+        for (at, step) in steps.iter().enumerate() {
+            let (is_right, shown) = self.goes(*step);
+            assert_eq!(rt; (is_right, self.shown()), (true, shown), "step {at}");
+        }
+    }
+
+    /// Goes a step: whether it is as it says, and what the site is to show after it.
+    fn goes(&mut self, step: Step) -> (bool, Shown) {
+        let before = self.shown();
+        match step {
+            Step::Takes(event) => (self.takes(event), self.shown()),
+            Step::Leads(event, sent, shows) => (self.leads(event, sent), shows.shown()),
+            Step::Drops(event, why) => (self.drops(event, why), before),
+            Step::Refuses(event, fault) => (self.refuses(event, fault), before),
+            Step::Falls(event, fault, boots) => {
+                (self.fails(event, fault), Shows::Down(boots).shown())
+            }
+            Step::Stands(event, boots) => (self.stands(event, boots), self.shown()),
+            Step::Is(shows) => (true, shows.shown()),
+            Step::HasNumber(place, number) => (self.number(place) == number, before),
+        }
+    }
+
+    /// What the reading calls show.
+    fn shown(&self) -> Shown {
         Shown {
             status: self.site.status(),
             view: self.site.view(),
@@ -108,80 +189,65 @@ impl Trial {
         }
     }
 
-    /// The site shows this.
-    pub fn shows(&self, rt: &impl Abort, shown: Shown) {
-        assert_eq!(rt; self.shown(), shown);
+    /// The number of the request in a row, counted from 1.
+    fn number(&self, place: usize) -> Option<u32> {
+        self.site.row(place).map(|row| row.number)
     }
 
-    /// The request in a row, counted from 1, has this number.
-    pub fn has_number(&self, rt: &impl Abort, place: usize, number: Option<u32>) {
-        assert_eq!(rt; self.site.row(place).map(|row| row.number), number);
-    }
-
-    fn given(&mut self, event: Given) -> Option<Result<Outcome<Tally>, SiteFault>> {
-        let event = event.ok()?;
+    /// What comes of an event; `None` where memory for it was refused.
+    fn given(&mut self, comes: Comes) -> Option<Result<Outcome<Tally>, SiteFault>> {
+        let event = comes.given(self.alloc).ok()?;
         Some(self.site.handle(self.alloc, event))
     }
 
     /// Whether the event is handled, or its fault.
-    fn ended(&mut self, event: Given) -> Option<Result<(), SiteFault>> {
+    fn ended(&mut self, event: Comes) -> Option<Result<(), SiteFault>> {
         match self.given(event)? {
             Ok(_) => Some(Ok(())),
             Err(fault) => Some(Err(fault)),
         }
     }
 
-    /// Gives the site an event, whatever it leads to.
-    pub fn take(&mut self, event: Given) {
+    /// Takes an event: it is right whatever it leads to.
+    fn takes(&mut self, event: Comes) -> bool {
         let _ = self.given(event);
+        true
     }
 
-    /// The event is handled, sends just this, each with the actor that it goes to, and leaves this site.
-    pub fn leads(
-        &mut self,
-        rt: &impl Abort,
-        event: Given,
-        sent: &[(u16, Said<u64>)],
-        shown: Shown,
-    ) {
-        let leads = match self.given(event) {
+    /// Whether the event is handled and sends just this.
+    fn leads(&mut self, event: Comes, sent: &[Sent]) -> bool {
+        match self.given(event) {
             Some(Ok(out)) => says(&out, sent),
             _ => false,
-        };
-        assert_eq!(rt; (leads, self.shown()), (true, shown));
+        }
     }
 
-    /// The event is dropped for this reason, and the site shows what it did.
-    pub fn drops(&mut self, rt: &impl Abort, event: Given, why: Why) {
-        let before = self.shown();
-        let drops = match self.given(event) {
+    /// Whether the event is dropped for this reason.
+    fn drops(&mut self, event: Comes, why: Why) -> bool {
+        match self.given(event) {
             Some(Ok(out)) => is_dropped(&out, why),
             _ => false,
-        };
-        assert_eq!(rt; (drops, self.shown()), (true, before));
+        }
     }
 
-    /// The event is refused with this fault, and the site shows what it did.
-    pub fn refuses(&mut self, rt: &impl Abort, event: Given, fault: SiteFault) {
-        let before = self.shown();
-        let ended = self.ended(event);
-        assert_eq!(rt; (ended, self.shown()), (Some(Err(fault)), before));
+    /// Whether the event ends with this fault.
+    fn fails(&mut self, event: Comes, fault: SiteFault) -> bool {
+        self.ended(event) == Some(Err(fault))
     }
 
-    /// The site falls by the event with this fault, over a cell that then counts so many restarts.
-    pub fn falls(&mut self, rt: &impl Abort, event: Given, fault: SiteFault, boots: u32) {
-        let down = lost(Status::Down, [0, 0, 0], boots);
-        let ended = self.ended(event);
-        assert_eq!(rt; (ended, self.shown()), (Some(Err(fault)), down));
+    /// Whether the site says that it refuses the event with this fault, and then does.
+    fn refuses(&mut self, event: Comes, fault: SiteFault) -> bool {
+        self.says_why(event) == Some(fault) && self.fails(event, fault)
     }
 
-    /// The event is handled, or the site falls by it for want of memory; its cell then counts so many restarts, or as
-    /// many as before.
-    pub fn stands(&mut self, rt: &impl Abort, event: Given, boots: u32) {
-        assert!(rt; self.is_up_or_down(event, boots));
+    /// Why the site says that it refuses an event, where it does.
+    fn says_why(&self, event: Comes) -> Option<SiteFault> {
+        let event = event.given(self.alloc).ok()?;
+        self.site.refuses(&event)
     }
 
-    fn is_up_or_down(&mut self, event: Given, boots: u32) -> bool {
+    /// Whether the event is handled over a cell that then counts so many restarts, or the site is down for want of memory.
+    fn stands(&mut self, event: Comes, boots: u32) -> bool {
         let before = self.site.boot().boots;
         if self.site.status() == Status::Down && before == boots {
             return true;
@@ -199,7 +265,7 @@ impl Trial {
 }
 
 /// Whether just this is sent.
-fn says(out: &Outcome<Tally>, sent: &[(u16, Said<u64>)]) -> bool {
+fn says(out: &Outcome<Tally>, sent: &[Sent]) -> bool {
     out.dropped.is_none()
         && out.sent.len() == sent.len()
         && out.sent.iter().zip(sent).all(|(envelope, wanted)| (envelope.to, said_by(&envelope.msg))

@@ -154,6 +154,16 @@ down_refuses_crash R O f me x e = rw e
 pub down_refuses_message : {C R O : Type 0} (f me : ℕ) (x : Site C) (e : EnvelopeOf C R O) → is_down x.status ≡ true → refusal f me x (Deliver e) ≡ Some NotUp
 down_refuses_message f me x e d = rw d
 
+-- an envelope that is not for a site is refused: as one for another site, or as one that comes to a site that is down
+turned_away : (down mine : Bool) (why : SiteFault) → mine ≡ false → why ≡ (if down then NotUp else NotMine)
+    → (if down then Some NotUp else if not mine then Some NotMine else None) ≡ Some why
+turned_away true mine why away is = ap (λ w. Some w) (sym is)
+turned_away false mine why away is = rw away (ap (λ w. Some w) (sym is))
+
+pub refuses_for_another : {C R O : Type 0} (f me : ℕ) (x : Site C) (e : EnvelopeOf C R O) (why : SiteFault) → is_mine f me e ≡ false
+    → why ≡ (if is_down x.status then NotUp else NotMine) → refusal f me x (Deliver e) ≡ Some why
+refuses_for_another f me x e = turned_away (is_down x.status) (is_mine f me e)
+
 -- a running site refuses a timer where there is no greater view, and there alone
 pub spent_refuses_timer : {C : Type 0} (R O : Type 0) (f me : ℕ) (x : Site C) → is_running x.status ≡ true → x.view ≡ max_number → refusal {R = R} {O = O} f me x Timer ≡ Some ViewsSpent
 spent_refuses_timer R O f me x up spent = rw (up_is_not_down x.status up, running_is_here x.status up, eq-eqb _ _ spent)

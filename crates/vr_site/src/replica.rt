@@ -274,13 +274,10 @@ impl<M: Machine, C: BootCell> Replica<M, C> {
             return Err(SiteFault::BootsSpent);
         };
         save(&mut self.cell, boot)?;
-        let Ok(recovering) = restarted(alloc, self.config, boot) else {
-            return Err(SiteFault::NoMemory);
-        };
         let Ok(out) = ask_all(alloc, self.config, boot.boots) else {
             return Err(SiteFault::NoMemory);
         };
-        self.life = Life::Recovering(recovering);
+        self.life = Life::Recovering(restarted(alloc, self.config, boot));
         Ok(out)
     }
 
@@ -495,7 +492,6 @@ fn first<M: Machine>(
         done: 0,
         rows: RowsOf::new(alloc),
     };
-    let known = Known::of_none(alloc, config.f)?;
-    let running = regain(alloc, config, setup, 0, empty, known)?;
+    let running = regain(alloc, config, setup, 0, empty, Known::of_none(config.f))?;
     Ok(running)
 }

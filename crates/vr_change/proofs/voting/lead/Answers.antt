@@ -89,8 +89,8 @@ returns-then-has_own-clause-step g c = λ choose start acks cell right h.
     (lead-is choose f me x y st sent votes due p ∙ opens-col choose f me x y z.collected sent opened ∙ ap (λ l. opens_with choose f me x y sent (choose.pick l).log (choose.most_done l)) ballot)
     (c.open_with_kept.ensures.step choose start acks cell right h)
 
-pub returns-clause-step : goal.returns-clause-step
-returns-clause-step g c = λ choose start acks cell right h.
+pub returns-else-has_own-clause-step : goal.returns-else-has_own-clause-step
+returns-else-has_own-clause-step g c = λ choose start acks cell right h.
     let m = g.M.Machine in
     let f = c.args.config.f in
     let me = c.args.config.me in

@@ -39,17 +39,6 @@ returns-in_err-state_of_its_view-clause-step g c = λ start acks cell h.
     let new : nat_lt c.args.msg.nonce (boot_of r.known c.args.from) ≡ false = grind (arith, nat_tests, is, high) in
     err_follows g.M.Machine start f me _ c.from_residual.result _ c.from_residual.ensures.0 (ap (λ s. s.ending) (on_recovery-normal f me (site_of r acks cell) c.args.from c.args.msg e new))
 
-pub returns-in_err-copy-clause-step : goal.returns-in_err-copy-clause-step
-returns-in_err-copy-clause-step g c = λ start acks cell h.
-    let f = c.args.config.f in
-    let me = c.args.config.me in
-    let r = c.args.running.now in
-    let e : is_normal r.status ≡ true = sym c.runs_normally.ensures ∙ c.if-not-runs_normally.false in
-    let is = c.get.ensures in
-    let high = c.if-msg-get.false in
-    let new : nat_lt c.args.msg.nonce (boot_of r.known c.args.from) ≡ false = grind (arith, nat_tests, is, high) in
-    err_follows g.M.Machine start f me _ c.from_residual-in_err-copy.result _ c.from_residual-in_err-copy.ensures.0 (ap (λ s. s.ending) (on_recovery-normal f me (site_of r acks cell) c.args.from c.args.msg e new))
-
 pub returns-clause-step : goal.returns-clause-step
 returns-clause-step g c = λ start acks cell h.
     let f = c.args.config.f in
@@ -69,7 +58,6 @@ returns-clause-step g c = λ start acks cell h.
     } in
     let site : y ≡ site_of (record r { known = c.note.new.self }) acks cell = ap (λ known. let z : Site _ = record x { known = known } in z) (sym noted) in
     let state = c.in_ok-state_of_its_view.ensures acks cell in
-    let copied = c.in_ok-copy.ensures ∙ noted in
     follows_as g.M.Machine start f me _ c.sends_one.result _ _
     (on_recovery-normal f me x c.args.from c.args.msg e new)
-    (does_follows g.M.Machine start f me _ c.sends_one.result y _ (rw (c.mail_to.ensures, state, copied) at c.sends_one.ensures) runs site)
+    (does_follows g.M.Machine start f me _ c.sends_one.result y _ (rw (c.mail_to.ensures, state, noted) at c.sends_one.ensures) runs site)

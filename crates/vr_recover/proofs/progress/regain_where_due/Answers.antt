@@ -14,8 +14,7 @@ returns-in_ok-running-in-Some-clause-step g c = λ choose acks right.
     let state = c.in-Some.state in
     let chosen = regained_chosen c.args.config.f choose kept (record { view = view; state = state }) right c.requires.sound.one_each c.in-Some.ensures.some in
     ap (regains (recovering_site old acks cell)) chosen
-    ∙ ap (λ x. does x []) (ap (λ known. executed_to state.done (normal_in view state.rows (recovers_with known kept acks cell))) (sym c.replace-known.ensures.value)
-    ∙ c.in_ok-running-in-Some.ensures.site kept acks cell)
+    ∙ ap (λ x. does x []) (c.in_ok-running-in-Some.ensures.site kept acks cell)
 
 pub returns-in-None-clause-step : goal.returns-in-None-clause-step
 returns-in-None-clause-step g c = λ choose acks right.

@@ -1,13 +1,15 @@
-use Rattle.std.proofs.Common.{◌≡◌, ◌≢◌, [], refl, sym, ap, ◌∙◌, subst}
+use Rattle.std.proofs.Common.{◌≡◌, ◌≢◌, [], Some, refl, sym, ap, ◌∙◌, subst}
 use Rattle.vr_types.specs.declared.event.EventOf.TheVariants.{Timer}
+use Rattle.vr_types.specs.declared.event.SiteFault.TheVariants.{ViewsSpent}
 use Rattle.vr_types.specs.Cell.{max_number}
+use Rattle.vr_types.specs.Handling.{refusal}
 use Rattle.vr_log.specs.Running.{site_of}
 use Rattle.vr_site.specs.declared.life.Life.TheVariants.{Recovering, Up}
 use Rattle.vr_site.specs.Life.{IsWell}
-use Rattle.vr_site.specs.Replica.{shown, Handles}
+use Rattle.vr_site.specs.Replica.{shown, site_shown, Handles}
 use Rattle.vr_site.proofs.Cells.{timer_keeps}
 use Rattle.vr_site.proofs.Recovering.{timer_is}
-use Rattle.vr_site.proofs.Shows.{on_ok_then, timer_is_taken}
+use Rattle.vr_site.proofs.Shows.{on_ok_then, refused_handles, spent_refuses_timer, timer_is_taken}
 use Rattle.vr_site.proofs.replica.Replica.timer.Goals as goal
 
 pub returns-in-Recovering-clause-handles : goal.returns-in-Recovering-clause-handles
@@ -19,6 +21,21 @@ returns-in-Recovering-clause-handles g c =
     let kept = c.in-Recovering.recovering in
     subst (λ v. Handles m g.C.BootCell v c.proceed.new.self Timer c.proceed.result) (ap (shown at.config.f at.config.me at.setup at.cell) (sym was) ∙ c.self.view_is)
     (c.proceed.ensures.handles kept Timer (record { allowed = refl; follows = λ choose acks right. timer_is at.config.f at.config.me kept acks (held at.cell) }))
+
+pub returns-then-running-clause-handles : goal.returns-then-running-clause-handles
+returns-then-running-clause-handles g c =
+    let m = g.M.Machine in
+    let held = g.C.BootCell.held in
+    let at = c.self.inside in
+    let f = at.config.f in
+    let me = at.config.me in
+    let r = c.in-Up.running in
+    let was : at.life ≡ Up r = sym c.replace.ensures.value ∙ c.in-Up.is in
+    let well = subst (λ l. IsWell m (m.start at.setup) f l) was c.self.invariant.1 in
+    let same = ap (shown f me at.setup at.cell) (sym was) ∙ c.self.view_is in
+    let spent = spent_refuses_timer g.row.M-Reply.Denot g.row.M-Order.Denot f me (site_of r [] (held at.cell)) well.up c.if-running.true in
+    refused_handles m g.C.BootCell c.args.self.now _ Timer ViewsSpent same
+    (subst (λ v. refusal {R = g.row.M-Reply.Denot} {O = g.row.M-Order.Denot} v.f v.me (site_shown held v []) Timer ≡ Some ViewsSpent) same spent)
 
 pub finish-requires-clause-sound : goal.finish-requires-clause-sound
 finish-requires-clause-sound g c =
