@@ -11,7 +11,7 @@ use Rattle.vr_types.specs.Group.{sites, others, primary, mail, to_all}
 use Rattle.vr_types.specs.Site.{Start, Vote, Collected, Site, boot_of, has_start, has_vote, is_normal, is_change, is_recovering, is_down, is_running}
 use Rattle.vr_types.specs.Choice.{Choice, IsPick, IsRight}
 use Rattle.vr_types.specs.Step.{does, greater, is_outdated, learns, executed_to, normal_in, begins_with_executed}
-use Rattle.vr_types.specs.Change.{ballot, Part, with_start, with_vote, with_voted, own_vote, sends_vote, is_to_vote, is_to_open, starts_view, starts_later_view, votes_where_due, opened_with, opens_where_due, on_start_view_change, on_do_view_change, on_timer, beats_in_change}
+use Rattle.vr_types.specs.Change.{ballot, Part, with_start, with_vote, with_voted, own_vote, sends_vote, is_to_vote, is_to_open, starts_view, starts_later_view, votes_where_due, opened_with, opens_where_due, after_vote, on_start_view_change, on_do_view_change, on_timer, beats_in_change}
 use Rattle.vr_types.proofs.ChoosingPick.{Contains-cases, Contains-none, Contains-here, not_before, IsNotBefore}
 use Rattle.agreement.proofs.Quorums.{quorums_meet, with_one, one_more}
 use Rattle.agreement.proofs.Histories.{History}
@@ -408,6 +408,21 @@ module _ {C R O : Type 0} (f me : ℕ) where
             by_test : (b : Bool) → (if b then x else record x { collected = record (x.collected) { starts = x.collected.starts ++ start ∷ [] } }).status ≡ Change
             by_test true = change
             by_test false = change
+
+    -- the site as it decides whether the view opens
+    pub kept_after_vote : (to w : ℕ) (vote : Vote C) → is_running (s me).status ≡ true → nat_lt w (s me).view ≡ false → (is_normal (s me).status && (w == (s me).view)) ≡ false
+        → is_outdated (s me).known vote.from vote.known ≡ false → Contains g.said (mail vote.from to (DoViewChange (ballot w vote)))
+        → (let part = after_vote {R = R} {O = O} f me w vote (s me) in Kept f g s me (does part.site part.sent))
+    kept_after_vote to w vote run e₂ e₃ e₄ in' =
+        let x = learns vote.known (s me) in
+        let is = started_in R O f me x w e₂ run e₃ in
+        let part = starts_later_view f me w x in
+        silently g s _ part.sent (kept_go f g s me part.site part.sent (λ x. with_vote vote x) (λ x. []) (begun_kept vote.known w good.told.boots run)
+        (λ h t grown e later. vote_kept h t later (ap (λ (x : Site C). x.status) e ∙ is.0) vote (current_vote vote (t me) (ap (λ (x : Site C). x.known) e ∙ is.2) e₄)
+        (to, subst (λ (v : ℕ). Contains h.said (mail vote.from to (DoViewChange (ballot v vote)))) (sym (ap (λ (x : Site C). x.view) e ∙ is.1)) (grown.said _ in'))))
+      where
+        good : IsVote f g vote.from (ballot w vote)
+        good = holds.said vote.from to (DoViewChange (ballot w vote)) in'
 
     pub kept_do_view_change : (choose : Choice C) → IsRight f choose → (to w : ℕ) (vote : Vote C) → is_down (s me).status ≡ false
         → Contains g.said (mail vote.from to (DoViewChange (ballot w vote))) → Kept f g s me (on_do_view_change choose f me (s me) w vote)

@@ -39,14 +39,14 @@ past_end (x ∷ xs) (suc n) e = let h = past_end xs n e in omega arith
 
 module _ {C R O : Type 0} (choose : Choice C) (f : ℕ) (right : IsRight f choose) (cells : List Boot) where
   module _ (before after : List (Happening C R O)) (early late : World C R O) (legal : IsLegal choose f cells before early) (run : IsRun choose f early after late) where
-    a : IsReached f first early
+    pub a : IsReached f first early
     a = legal_holds f choose right cells before early legal
 
-    b : IsReached f a.history late
+    pub b : IsReached f a.history late
     b = run_holds f choose right a.history early late after a.holds run
 
     -- what a site of either moment has executed is committed at the later moment
-    early_committed : (x : Site C) → Contains early.sites x → (top : ℕ) × Committed f b.history top (executed_rows x)
+    pub early_committed : (x : Site C) → Contains early.sites x → (top : ℕ) × Committed f b.history top (executed_rows x)
     early_committed x in' =
         let i = has_number f early x in' in
         let c : (top : ℕ) × Committed f a.history top (executed_rows (site_at early i.0)) = executed_committed f a.history (site_at early) a.holds.holds i.0 in

@@ -54,3 +54,24 @@ mod Senders
 pub mod Answering
 -- a legal list, computed
 mod Worked
+-- the sites go on until all work
+mod Going
+pub mod Counts
+mod Raises
+mod Lengths
+mod Facts
+mod Waiting
+mod Starts
+mod NeverStale
+mod Ballots
+mod Follows
+mod Regained
+mod Acks
+mod Commits
+mod Asks
+mod Heals
+mod Serving
+pub mod Repeating
+pub mod Onward
+-- wrong rules by which sites come to a dead end
+mod DeadEnds

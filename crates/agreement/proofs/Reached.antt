@@ -56,7 +56,7 @@ pub record IsReached {C R O : Type 0} (f : ℕ) (g : History C R O) (world : Wor
   pub grown : IsGrown f g history
 
 -- the sites after one of them changed
-set_is_put : {C : Type 0} (sites : List (Site C)) (i : ℕ) (x : Site C) → i < length sites → (λ j. get_or (set sites i x) j nobody) ≡ put (λ j. get_or sites j nobody) i x
+pub set_is_put : {C : Type 0} (sites : List (Site C)) (i : ℕ) (x : Site C) → i < length sites → (λ j. get_or (set sites i x) j nobody) ≡ put (λ j. get_or sites j nobody) i x
 set_is_put sites i x small = fun_ext (λ j. sym (put_cases (λ k. get_or sites k nobody) i x (λ k y. y ≡ get_or (set sites i x) k nobody) j
     (sym (get_or-set_same sites i x nobody small)) (λ apart. sym (get_or-set_other sites i _ x nobody apart))))
 

@@ -72,7 +72,7 @@ module _ {C R O : Type 0} (f me : ℕ) (g : History C R O) (s : ℕ → Site C) 
             good,
             told_later f g (say (mail me from (msg state) ∷ []) g) me 0 (later_say f g me (msg state) (mail me from (msg state) ∷ []) tt (says_one me from (msg state)) 0) me (s me).view (s me).known
                 (record { boots = (holds.sites me).hears.heard; lived = r.at_view.lived }),
-            record { covers = λ _ v n p e. abreast state v n p e },
+            record { opened = ap g.opened (sym (r.normal normal)) ∙ r.log_of.opened; covers = λ _ v n p e. abreast state v n p e },
           ))
 
       answers : (b : Bool) → (primary f (s me).view == me) ≡ b

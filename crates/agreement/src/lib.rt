@@ -4,10 +4,12 @@
 //!
 //! A `LegalList` is any list of deliveries, losses, repeats, timers, beats, crashes, restarts and falls that may happen
 //! to 2f+1 sites over boot cells of any value, with the world that it leads to; `Continued` is any way in which it goes
-//! on. Each promise is a word of `specs/Promises.antt`.
+//! on. Each promise is a word of `specs/Promises.antt`; those of how a list can go on, of `specs/Progress.antt`.
 #![tactic(auto)]
 
-ghost use Rattle.std.specs.Prelude.{◌≡◌, ℕ, ◌++◌, List, All};
+ghost use Rattle.std.specs.Prelude.{◌≡◌, ℕ, ◌≤◌, ◌++◌, List, All};
+ghost use Rattle.agreement.specs.Progress.{CanGoOn, Progresses, AreWorking, IsNew, Serves, IsNewest, Repeats};
+ghost use Rattle.vr_types.specs.declared.row.RowOf.{RowOf};
 ghost use Rattle.vr_types.specs.declared.cell.Boot.{Boot};
 ghost use Rattle.vr_types.specs.Choice.{Choice};
 ghost use Rattle.vr_types.specs.Step.{Step};
@@ -101,4 +103,22 @@ pub fn one_world<C, R, O>()
     ensures one_choice { (choose : Choice C) (f : ℕ) (cells : List Boot) (a b : World C R O) →
         (events : List (Happening C R O)) → IsLegal choose f cells events a →
         IsLegal choose f cells events b → a ≡ b }
+{}
+
+/// For f above 0: no legal list in which f+1 sites run, and no view is near its end, is a dead end: without a crash it
+/// can go on, by timers, beats, restarts and messages between sites that were sent, until every site that is not down
+/// for good works in one view with one log, all of it executed, which begins with what any site had executed at any
+/// moment of the list. Where sites work so, each new request can be executed by all and answered, one after another;
+/// and the newest of a client can be answered again.
+pub fn progress<C, R, O>()
+    ensures progress { (f : ℕ) → 1 ≤ f → (list : LegalList C R O f) →
+        CanGoOn f list.world.sites → Progresses list }
+    ensures serving { (f : ℕ) → 1 ≤ f → (list : LegalList C R O f) →
+        (view : ℕ) (log : List (RowOf C)) (row : RowOf C) →
+        AreWorking f view log list.world.sites → IsNew log row →
+        Serves list.choose f list.world view log row }
+    ensures repeating { (f : ℕ) → 1 ≤ f → (list : LegalList C R O f) →
+        (view : ℕ) (log : List (RowOf C)) (row : RowOf C) →
+        AreWorking f view log list.world.sites → IsNewest log row →
+        Repeats list.choose f list.world view log row }
 {}
