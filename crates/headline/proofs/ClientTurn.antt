@@ -2,7 +2,7 @@
 use Rattle.std.proofs.Common.{◌≡◌, ◌⊎◌, inl, inr, ℕ, ◌+◌, ◌≤◌, ◌==◌, Bool, true, false, if◌then◌else◌, List, [], ◌∷◌, ◌++◌, length, slice_get, Option, Some, None, sym, ap, ◌∙◌, arith, true≢false, refl}
 use Rattle.std.specs.Prelude.{Contains}
 use Rattle.std.proofs.lemmas.Option.{slice_get_within}
-use Rattle.std.proofs.lemmas.List.Elements.{Contains-append_cases}
+use Rattle.std.proofs.lemmas.List.Elements.{Contains-append_left, Contains-append_cases}
 use Rattle.pvp_types.specs.declared.setup.Setup.{Setup}
 use Rattle.pvp_types.specs.declared.command.Cmd.{Cmd}
 use Rattle.pvp_types.specs.declared.command.Reply.{Reply as Answer}
@@ -149,6 +149,9 @@ module _ (setup : Setup) (choose : Choice Cmd) (f : ℕ) (cells : List Boot) (mo
         rows = h.rows;
         asked = h.asked;
         between = between_too;
+        arrived = λ i e in'. Contains-append_left bank.post step.sent e (h.arrived i e in');
+        back = λ e in'. Contains-append_left bank.post step.sent e (h.back e in');
+        told = λ r e in' is. Contains-append_left bank.post step.sent e (h.told r e in' is);
         requests = requests_too;
         orders = orders_too;
         replies = replies_too;

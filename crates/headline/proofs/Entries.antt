@@ -14,7 +14,8 @@ use Rattle.pvp_book.specs.Limits.{passes}
 use Rattle.pvp_book.specs.Settlement.{settled}
 use Rattle.pvp_book.specs.Ledger.{Ledger, opening, node_of, has_pay_in, balance, figure}
 use Rattle.pvp_book.specs.Orders.{orders, has_end}
-use Rattle.pvp_book.specs.Answer.{Row, answer, is_refusal, on_fund, on_pay_out, on_end, has_member, has_currency, has_order, is_amount, is_member_number, balances_less, answer_to, after, after_rows, book_of}
+use Rattle.pvp_book.specs.Answer.{Row, answer, is_refusal, pay_out_checks, on_fund, on_pay_out, on_end, has_member, has_currency, has_order, is_amount, is_member_number, balances_less, answer_to, after, after_rows, book_of}
+use Rattle.pvp_book.proofs.Checks.{passed, is-so}
 use Rattle.pvp_book.proofs.Reached.{entry_of, reached}
 use Rattle.vr_types.proofs.ChoosingPick.{Contains-here, Contains-there, Contains-none}
 use Rattle.headline.proofs.Basics.{push-has}
@@ -56,7 +57,7 @@ abbrev pub IsAccepted : Setup → ℕ → Cmd → Reply → Type 0
 IsAccepted setup client (Fund c k m amt) reply = (client ≡ node_of c) × (c < length setup.currencies)
 IsAccepted setup client (Paid c out) reply = (client ≡ node_of c) × (c < length setup.currencies)
 IsAccepted setup client (Returned c out) reply = (client ≡ node_of c) × (c < length setup.currencies)
-IsAccepted setup client (PayOut c amt) reply = (out : ℕ) × (reply ≡ Order out)
+IsAccepted setup client (PayOut c amt) reply = (out : ℕ) × (reply ≡ Order out) × (has_member setup client ≡ true) × (is_amount amt ≡ true)
 IsAccepted setup client _ reply = ⊤
 
 fund-accepted : (setup : Setup) (entries : List Entry) (client c pay member amt : ℕ)
@@ -112,7 +113,9 @@ unfolding answer
 accepted setup entries client (Fund ccy pay member amt) e = fund-accepted setup entries client ccy pay member amt e
 accepted setup entries client (Paid ccy out) e = end-accepted setup entries client ccy out e
 accepted setup entries client (Returned ccy out) e = end-accepted setup entries client ccy out e
-accepted setup entries client (PayOut ccy amt) e = (length (orders entries ccy) + 1, pay_out-accepted setup entries client ccy amt e)
+accepted setup entries client (PayOut ccy amt) e =
+    let t = passed (pay_out_checks setup entries client ccy amt) (Order (length (orders entries ccy) + 1)) e in
+    (length (orders entries ccy) + 1, pay_out-accepted setup entries client ccy amt e, is-so _ t.1.0, is-so _ t.1.1.1.0)
 accepted setup entries client _ e = tt
 
 pub all-accepted : (setup : Setup) (history : List Row) (e : Entry) → Contains (book_of setup history) e → IsAccepted setup e.client e.cmd e.reply

@@ -144,7 +144,7 @@ or-first true b e = refl
 or-first false b e = absurd (true≢false (sym e))
 
 -- one more order in a list
-more-outs : (os : List PaymentOrder) (o : PaymentOrder) (out : ℕ) → list_any (λ (p : PaymentOrder). p.out == out) (os ++ o ∷ []) ≡ (list_any (λ (p : PaymentOrder). p.out == out) os || list_any (λ (p : PaymentOrder). p.out == out) (o ∷ []))
+pub more-outs : (os : List PaymentOrder) (o : PaymentOrder) (out : ℕ) → list_any (λ (p : PaymentOrder). p.out == out) (os ++ o ∷ []) ≡ (list_any (λ (p : PaymentOrder). p.out == out) os || list_any (λ (p : PaymentOrder). p.out == out) (o ∷ []))
 more-outs os o out = list_any-append (λ (p : PaymentOrder). p.out == out) os (o ∷ [])
 
 old-out : (os : List PaymentOrder) (o : PaymentOrder) (out : ℕ) → list_any (λ (p : PaymentOrder). p.out == out) os ≡ true → list_any (λ (p : PaymentOrder). p.out == out) (os ++ o ∷ []) ≡ true

@@ -1,7 +1,7 @@
 -- A node's step keeps the invariant.
 use Rattle.std.proofs.Common.{◌≡◌, ◌⊎◌, inl, inr, ℕ, zero, suc, ◌-◌, true, List, [], ◌∷◌, ◌++◌, slice_get, slice_set, Option, Some, sym, ap, ◌∙◌, subst, arith, true≢false, refl}
 use Rattle.std.specs.Prelude.{Contains}
-use Rattle.std.proofs.lemmas.List.Elements.{Contains-append_cases}
+use Rattle.std.proofs.lemmas.List.Elements.{Contains-append_left, Contains-append_cases}
 use Rattle.pvp_types.specs.declared.setup.Setup.{Setup}
 use Rattle.pvp_types.specs.declared.command.Cmd.{Cmd}
 use Rattle.pvp_types.specs.declared.command.Reply.{Reply as Answer}
@@ -133,6 +133,9 @@ module _ (setup : Setup) (choose : Choice Cmd) (f : ℕ) (cells : List Boot) (mo
         rows = λ row in'. asks-stays row.client row.number row.cmd (h.rows row in');
         asked = λ i e in' asked is. asks-stays e.from asked.number asked.cmd (h.asked i e in' asked is);
         between = between_too;
+        arrived = λ i e in'. Contains-append_left bank.post step.sent e (h.arrived i e in');
+        back = λ e in'. Contains-append_left bank.post step.sent e (h.back e in');
+        told = λ r e in' is. Contains-append_left bank.post step.sent e (h.told r e in' is);
         requests = requests_too;
         orders = orders_too;
         replies = replies_too;

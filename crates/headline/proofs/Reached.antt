@@ -69,7 +69,10 @@ module _ (setup : Setup) (choose : Choice Cmd) (f : ℕ) (cells : List Boot) (al
     one = λ more later y run in'. inr (record { rest = executed_rows y; is = refl });
     rows = λ row in'. absurd (none row in');
     asked = λ i e in'. absurd (none _ in');
+    arrived = λ i e in'. absurd (none _ in');
     between = λ e in'. absurd (none e in');
+    back = λ e in'. absurd (none e in');
+    told = λ r e in' is. absurd (none r in');
     requests = λ e in'. absurd (none e in');
     orders = λ e o in'. absurd (none e in');
     replies = λ e said in'. absurd (none e in');
@@ -81,7 +84,7 @@ module _ (setup : Setup) (choose : Choice Cmd) (f : ℕ) (cells : List Boot) (al
 
 -- WHAT COMES WAS SENT
 
-abbrev Carries : List Envelope → Turn → Type 0
+abbrev pub Carries : List Envelope → Turn → Type 0
 Carries post (OfSite i event) = (e : Envelope) → event ≡ Deliver e → Contains post e
 Carries post (OfNode c event) = (e : Envelope) → event ≡ node.Takes e → Contains post e
 Carries post (OfClient k event) = ⊤
@@ -102,7 +105,7 @@ beat-carries post actor = by (nat_le 200 actor) (nat_le 101 actor)
     by false true = λ e same. absurd (cc)
     by false false = tt
 
-carries : (post : List Envelope) (step : Step) (t : Turn) → turn post step ≡ Some t → Carries post t
+pub carries : (post : List Envelope) (step : Step) (t : Turn) → turn post step ≡ Some t → Carries post t
 carries post (Delivers number) t is = by (number == 0) (slice_get post (number - 1)) refl is
   where
     by : (zero : Bool) (found : Option Envelope) → slice_get post (number - 1) ≡ found → (if zero then None else option_map delivery found) ≡ Some t → Carries post t

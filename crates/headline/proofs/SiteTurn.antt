@@ -38,7 +38,7 @@ use Rattle.rtgs_node.specs.Node.{Envelope}
 use Rattle.headline.specs.declared.step.Move.{Move}
 use Rattle.headline.specs.Bank.{Bank, with_site}
 use Rattle.headline.specs.Legal.{Leads}
-use Rattle.headline.proofs.Basics.{and_right, none-some, some-same, there, set-here, set-has, push-has, map-has, map-in, filter_map-has}
+use Rattle.headline.proofs.Basics.{and_right, none-some, some-same, there, set-here, set-has, push-has, map-has, map-in, filter_map-has, filter_map-in}
 use Rattle.headline.proofs.Between.{is_between, step_between}
 use Rattle.headline.proofs.Books.{held-is, due-ordered, ordered-more}
 use Rattle.headline.proofs.Runs.{happens-more, legal-more, moment-now, moment-more}
@@ -286,6 +286,30 @@ module _ (setup : Setup) (choose : Choice Cmd) (f : ℕ) (cells : List Boot) (ri
           by (inr (inr (inl reply))) = absurd (true≢false (sym kind ∙ ap is_between reply.1))
           by (inr (inr (inr ordered))) = absurd (true≢false (sym kind ∙ ap is_between ordered.2))
 
+      arrived_too : (j : ℕ) (e : Envelope) → Contains (h.events ++ happening ∷ []) (step_of j (Deliver e)) → Contains after.post e
+      arrived_too j e in' = by (push-has h.events happening (step_of j (Deliver e)) in')
+        where
+          by : Contains h.events (step_of j (Deliver e)) ⊎ (happening ≡ step_of j (Deliver e)) → Contains after.post e
+          by (inl old) = Contains-append_left bank.post new e (h.arrived j e old)
+          by (inr same) = Contains-append_left bank.post new e (arrived e (ap (λ (k : Happening Cmd Answer PaymentOrder). k.event) same))
+
+      back_too : (e : Envelope) → Contains next.sent e → Contains after.post e
+      back_too e in' = by (Contains-append_cases h.world.sent step.sent e in')
+        where
+          by : Contains h.world.sent e ⊎ Contains step.sent e → Contains after.post e
+          by (inl old) = Contains-append_left bank.post new e (h.back e old)
+          by (inr sent) = Contains-append_right bank.post new e (Contains-append_left (step.sent ++ replies) orders_out e (Contains-append_left step.sent replies e sent))
+
+      told_too : (r : Replied Cmd) (e : Envelope) → Contains next.replies r → reply_to book (opening setup) r.from r.sender r.place ≡ Some e → Contains after.post e
+      told_too r e in' is = by (Contains-append_cases h.world.replies (replied i step) r in')
+        where
+          by : Contains h.world.replies r ⊎ Contains (replied i step) r → Contains after.post e
+          by (inl old) = Contains-append_left bank.post new e (h.told r e old is)
+          by (inr fresh) =
+              let t = map-has (λ place. record { from = i; sender = step.site; place = place }) step.replies r fresh in
+              let same : reply_to book (opening setup) i step.site t.0 ≡ Some e = ap (λ (q : Replied Cmd). reply_to book (opening setup) q.from q.sender q.place) t.2 ∙ is in
+              Contains-append_right bank.post new e (Contains-append_left (step.sent ++ replies) orders_out e (Contains-append_right step.sent replies e (filter_map-in (reply_to book (opening setup) i step.site) step.replies t.0 e t.1 same)))
+
       requests_too : (e : Envelope) → Contains after.post e → IsAsked bank.nodes e
       requests_too e in' asked is = by (post_cases e in')
         where
@@ -349,6 +373,9 @@ module _ (setup : Setup) (choose : Choice Cmd) (f : ℕ) (cells : List Boot) (ri
           rows = longer.asked;
           asked = asked_too;
           between = between_too;
+          arrived = arrived_too;
+          back = back_too;
+          told = told_too;
           requests = requests_too;
           orders = orders_too;
           replies = replies_too;
@@ -401,6 +428,9 @@ module _ (setup : Setup) (choose : Choice Cmd) (f : ℕ) (cells : List Boot) (ri
         rows = h.rows;
         asked = asked_too_at;
         between = λ e in' kind. h.between e in' kind;
+        arrived = arrived_there;
+        back = λ e in'. h.back e in';
+        told = λ r e in' is. h.told r e in' is;
         requests = λ e in'. h.requests e in';
         replies = λ e said in' is. reply-more setup choose f cells moves bank move fallen_bank h.world (fallen h.world i cell) e leads (λ r old. old) (h.replies e said in' is);
         orders = λ e o in' is. order-more setup choose f cells moves bank move fallen_bank h.history h.history o.ccy o leads (begins_itself h.history) (h.orders e o in' is);
@@ -417,6 +447,13 @@ module _ (setup : Setup) (choose : Choice Cmd) (f : ℕ) (cells : List Boot) (ri
             by : (over cell Down ≡ y) ⊎ Contains bank.sites y → Begins (executed_rows y) h.history
             by (inl same) = subst (λ (z : Site Cmd). Begins (executed_rows z) h.history) same (record { rest = h.history; is = refl })
             by (inr old) = h.begins y old
+
+        arrived_there : (j : ℕ) (e : Envelope) → Contains (h.events ++ fall ∷ []) (step_of j (Deliver e)) → Contains bank.post e
+        arrived_there j e in' = by (push-has h.events fall (step_of j (Deliver e)) in')
+          where
+            by : Contains h.events (step_of j (Deliver e)) ⊎ (fall ≡ step_of j (Deliver e)) → Contains bank.post e
+            by (inl old) = h.arrived j e old
+            by (inr same) = arrived e (ap (λ (k : Happening Cmd Answer PaymentOrder). k.event) same)
 
         asked_too_at : (j : ℕ) (e : Envelope) → Contains (h.events ++ fall ∷ []) (step_of j (Deliver e)) → IsAsked bank.nodes e
         asked_too_at j e in' = by (push-has h.events fall (step_of j (Deliver e)) in')

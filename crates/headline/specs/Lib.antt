@@ -3,6 +3,7 @@ pub mod Client
 pub mod Headline
 pub mod Legal
 pub mod Machine
+pub mod Progress
 pub mod Replies
 pub mod Way
 pub mod Whole

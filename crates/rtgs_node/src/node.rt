@@ -212,6 +212,14 @@ impl Node {
         self.returned.len()
     }
 
+    /// How many of its notices are not answered.
+    pub fn unanswered(&self) -> usize
+        ensures count { result ≡ length self.now.node.notices - self.now.node.answered }
+        ensures few { result ≤ 131070 }
+    {
+        self.notices.len() - self.answered as usize
+    }
+
     /// What the node was set up with.
     pub fn setup(&self) -> &Setup
         ensures same { result.now ≡ self.now.setup }
