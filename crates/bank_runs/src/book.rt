@@ -214,3 +214,47 @@ fn knows_how_far_a_pair_has_come(rt: HostRuntime) -> Result<(), Fail> {
     shows_the_pairs(&rt, &book);
     Ok(())
 }
+
+/// What the value test adds up of ALFA and BETA, and which pairs wait, the first of them.
+fn has_values(rt: &impl Abort, book: &Book, values: [i128; 2], waiting: (usize, Option<u32>)) {
+    assert_eq!(rt; [book.value(ALFA), book.value(BETA)], values);
+    assert_eq!(rt; (book.queued(), book.queue_at(0)), waiting);
+}
+
+/// USD 1200 of ALFA and EUR of BETA, an exchange of USD 1100 for EUR 1000 that is agreed, and a walk over it.
+fn exchange(rt: &impl Abort, book: &mut Book, euros: u64, settled: u32) -> Result<(), Fail> {
+    let rows = [
+        (USD_NODE, fund(USD, 1, ALFA, 1200), Reply::Done),
+        (EUR_NODE, fund(EUR, 1, BETA, euros), Reply::Done),
+        (
+            ALFA,
+            instruct(1, BETA, (USD, 1100), (EUR, 1000)),
+            Reply::Done,
+        ),
+        (
+            BETA,
+            instruct(1, ALFA, (EUR, 1000), (USD, 1100)),
+            Reply::Matched,
+        ),
+        (OPERATOR, settle(10), Reply::Settled(settled)),
+    ];
+    run(rt, book, &rows)
+}
+
+/// BETA would have EUR -953, which weigh 1,100,715,000 with their haircut, against USD 1100, which weigh 1,100,000,000.
+#[test]
+fn keeps_a_pair_that_no_value_covers(rt: HostRuntime) -> Result<(), Fail> {
+    let mut book = book(rt.alloc())?;
+    exchange(&rt, &mut book, 47, 0)?;
+    has_values(&rt, &book, [1_200_000_000, 49_115_000], (1, Some(1)));
+    Ok(())
+}
+
+/// With one euro more the pair settles: ALFA has USD 100 and EUR 1000, BETA EUR -952 and USD 1100.
+#[test]
+fn settles_a_pair_that_the_value_covers(rt: HostRuntime) -> Result<(), Fail> {
+    let mut book = book(rt.alloc())?;
+    exchange(&rt, &mut book, 48, 1)?;
+    has_values(&rt, &book, [1_145_000_000, 440_000], (0, None));
+    Ok(())
+}

@@ -16,6 +16,8 @@ mod Falling
 mod Saves
 -- the headline where a trail leads
 mod Proved
+-- where it is no dead end
+mod GoingOn
 -- many steps, one after another
 mod Many
 -- each reason that a world has is its bank's

@@ -1,5 +1,6 @@
 pub mod Client
 pub mod Fault
+pub mod Progress
 pub mod Serving
 pub mod Steps
 pub mod World

@@ -65,9 +65,18 @@ pub record IsAt {B : Type 0} (held : B → Boot) (world : Shown B) : Type 0 wher
   pub moves : list.moves ≡ world.trail
   pub shows : ShowsBank held world list.bank
 
--- AND THERE THE HEADLINE HOLDS: of any two moments of its trail, and of what it shows
+-- this holds of the legal list that the world's trail is, whatever right choices its steps take as given
+abbrev pub OfTrail : {B : Type 0} (world : Shown B)
+    → (LegalList world.setup (faults world.setup) → Type 0) → Type 0
+OfTrail world Holds =
+    (list : LegalList world.setup (faults world.setup))
+    → list.cells ≡ world.opening → list.moves ≡ world.trail → Holds list
+
+-- AND THE HEADLINE HOLDS: the world shows what its trail leads to, and of any two moments of the trail, an early and a
+-- late one with the rest of the trail behind them, the headline is so
 pub record IsProved {B : Type 0} (held : B → Boot) (world : Shown B) : Type 0 where
   pub is_at : IsAt held world
+  pub shows : OfTrail world (λ list. ShowsBank held world list.bank)
   pub headline : (early : LegalList world.setup (faults world.setup)) (late : Continued early)
-      → early.cells ≡ world.opening → early.moves ++ late.moves ≡ world.trail
-      → ShowsBank held world late.bank × Headline early late
+      (rest : List Move) → early.cells ≡ world.opening
+      → (early.moves ++ late.moves) ++ rest ≡ world.trail → Headline early late

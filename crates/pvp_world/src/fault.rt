@@ -29,7 +29,7 @@ pub enum WorldFault {
 pub enum FallFault {
     /// Why its step would not be taken, or that it is no site's (G2); S1 or S2 where the site so met another value.
     Step(WorldFault),
-    /// G6: the site's cell then holds another value: neither the old one nor what the step saves.
+    /// G6: the site's cell then holds another value than it was told to, which is what the step saves.
     Elsewhere,
 }
 

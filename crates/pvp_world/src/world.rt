@@ -1,5 +1,6 @@
-ghost use Rattle.std.specs.Prelude.{◌≡◌, ◌≢◌, ◌+◌, ◌*◌, ◌<◌, ◌==◌, ◌-◌, ◌≤◌, [], true, false, None, Some, Err, List, length, map, slice_get, if◌then◌else◌, IfOk, OnOk, IfErr, OnErr, option_map, vec_len, vec_capacity};
+ghost use Rattle.std.specs.Prelude.{◌≡◌, ◌≢◌, ◌+◌, ◌*◌, ◌<◌, ◌==◌, ◌-◌, ◌≤◌, [], true, false, None, Some, Err, List, length, map, slice_get, if◌then◌else◌, IfOk, OnOk, IfErr, OnErr, option_map, vec_len, vec_capacity, min, count_by, IsTrue, ◌↔◌};
 ghost use Rattle.pvp_world.specs.Steps.{told_as};
+ghost use Rattle.vr_types.specs.Site.{is_running};
 
 mod falls;
 
@@ -16,7 +17,7 @@ use rtgs_node::{Node, NodeEvent};
 use std::alloc::{AllocError, Global};
 use std::marker::Model;
 use vr_site::Replica;
-use vr_types::{Boot, BootCell, Envelope, Event, EventOf};
+use vr_types::{Boot, BootCell, Envelope, Event, EventOf, MAX_ROWS, Status};
 
 /// The bank in its world: 2f+1 sites over their boot cells, a node for each currency, the clients, and the post, which has
 /// every envelope that was ever sent, numbered from 1. The trail has what was done.
@@ -51,6 +52,8 @@ impl<C: BootCell> World<C> {
     ghost use Rattle.headline.specs.declared.step.Turn.TheVariants.{OfSite, OfNode, OfClient};
     ghost use Rattle.headline.specs.Bank.{turn};
     ghost use Rattle.pvp_world.specs.World.{IsAt, IsProved};
+    ghost use Rattle.pvp_world.specs.Progress.{CanGoOn, GoesOn, can_go_on, unanswered, has_room};
+    ghost use Rattle.std.specs.List.{list_all};
     ghost use Rattle.pvp_world.specs.Steps.{Applies, AreTaken, IsStopped, AreReliable, TellsFailures, failures, has_number, has_actor, IsWhy, is_world_fall, InTurn};
     ghost use Rattle.pvp_world.specs.declared.fault.WorldFault.TheVariants.{Site as OfSiteFault, NoMemory as OutOfMemory};
     ghost use Rattle.vr_types.specs.declared.event.SiteFault.TheVariants.{CellFault};
@@ -121,6 +124,22 @@ impl<C: BootCell> World<C> {
         headline::one_bank();
     }
 
+    /// Whether the bank has what it needs to go on: more sites run than may fail at once, no site's view is near its end,
+    /// and each log has room for what may come to be asked. Where it does, the trail is no dead end: by deliveries, beats,
+    /// timers and restarts alone the bank can go on until its sites work in one view with one log, which begins with all
+    /// that any site ever executed; each request and each notice is answered, each order is done or returned, and told to
+    /// the book; and nothing is on the way: each node's account is the figure of that log's book.
+    pub fn can_go_on(&self) -> bool
+        ensures is { result ≡ can_go_on self.now }
+        ensures exact { IsTrue result ↔ CanGoOn self.now }
+        ensures goes_on { IsTrue result → GoesOn self.now }
+    {
+        let _ = &self.setup;
+        headline::one_bank();
+        headline::progress();
+        self.has_needs()
+    }
+
     /// What the bank was set up with.
     pub fn setup(&self) -> &Setup
         ensures same { result.now ≡ self.now.setup }
@@ -169,6 +188,46 @@ impl<C: BootCell> World<C> {
         ensures { result.now ≡ self.now.trail }
     {
         self.trail.as_slice()
+    }
+
+    /// Whether most sites run, and each site has room.
+    fn has_needs(&self) -> bool
+        ensures { result ≡ can_go_on self.now }
+    {
+        running(self.sites.as_slice()) > usize::from(self.setup.faults()) && self.have_room()
+    }
+
+    /// Whether each site has room.
+    fn have_room(&self) -> bool
+        ensures { result ≡ list_all (has_room self.now) self.now.sites }
+    {
+        let notices = self.unanswered();
+        self.sites.iter().all(|site| self.has_room(site, notices))
+    }
+
+    /// How many notices of nodes are not answered; what no log has room for stands for any more.
+    fn unanswered(&self) -> usize
+        ensures { result ≡ min (unanswered self.now) (MAX_ROWS + 1) }
+    {
+        let mut count = 0;
+        for node in &self.nodes {
+            count = (count + node.unanswered()).min(MAX_ROWS + 1);
+        }
+        count
+    }
+
+    /// Whether a site's view is not near its end, and its log has room for what may come to be asked.
+    fn has_room(&self, site: &Replica<Book, C>, notices: usize) -> bool
+        requires { notices ≡ min (unanswered self.now) (MAX_ROWS + 1) }
+        ensures { result ≡ has_room self.now site.now }
+    {
+        let sites = 2 * u64::from(self.setup.faults()) + 1;
+        let rows = site.log_len();
+        let clients = self.clients.len();
+        u64::from(site.view()) + 2 * sites <= u64::from(u32::MAX)
+            && rows <= MAX_ROWS
+            && clients <= MAX_ROWS
+            && 2 * (rows + clients) + notices <= MAX_ROWS
     }
 
     /// Takes a step.
@@ -322,6 +381,26 @@ impl<C: BootCell> World<C> {
             Err(fault) => Err(told_as(fault)),
         }
     }
+}
+
+/// Whether a site runs: it is normal, or in a view change.
+fn runs<C: BootCell>(site: &Replica<Book, C>) -> bool
+    ensures { result ≡ is_running site.now.volatile.status }
+{
+    matches!(site.status(), Status::Normal | Status::Change)
+}
+
+/// How many of these sites run.
+fn running<C: BootCell>(sites: &[Replica<Book, C>]) -> usize
+    ensures { result ≡ count_by (λ site. is_running site.volatile.status) sites.now }
+{
+    let mut count = 0;
+    for site in sites {
+        if runs(site) {
+            count += 1;
+        }
+    }
+    count
 }
 
 /// What a client's fault is told as.
