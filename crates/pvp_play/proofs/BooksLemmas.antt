@@ -1,25 +1,33 @@
--- What is printed of one part more, what is on the way by one payment more, and how many parts a world has.
-use Rattle.std.proofs.Common.{◌≡◌, ℕ, zero, suc, ◌+◌, ◌*◌, ◌<◌, ◌≤◌, List, [], ◌∷◌, ◌++◌, length, map, take, get_or, slice_get, sum_by, Option, Some, None, refl, sym, ap, ◌∙◌, subst, add-one, zero-add, arith}
-use Rattle.std.specs.List.{flat_map, filter_map, cons_option, enumerate_from}
+-- What is printed of one part more, how many parts a world has, and that its accounts match its books.
+use Rattle.std.proofs.Common.{◌≡◌, ℕ, zero, suc, ◌+◌, ◌*◌, ◌≤◌, List, [], ◌∷◌, ◌++◌, length, map, take, slice_get, Some, None, refl, sym, ap, ◌∙◌, subst, add-one, arith, ◌+ℤ◌}
+use Rattle.std.specs.List.{flat_map, enumerate_from}
 use Rattle.std.proofs.lemmas.Grind.{flat_map-append}
-use Rattle.std.proofs.lemmas.List.{append-nil, take_all, take_more}
-use Rattle.std.proofs.lemmas.Option.{slice_get-get_or}
-use Rattle.std.proofs.lemmas.List.Elements.{filter_map-append}
-use Rattle.std.proofs.lemmas.List.Sums.{sum_by-append, sum_by_push}
+use Rattle.std.proofs.lemmas.List.{append-nil, take_all}
 use Rattle.pvp_types.specs.declared.setup.Setup.{Setup}
 use Rattle.pvp_types.specs.declared.command.Cmd.{Cmd}
 use Rattle.pvp_types.specs.Setup.{faults}
 use Rattle.vr_types.specs.declared.cell.Boot.{Boot}
 use Rattle.vr_types.specs.Choice.{Choice}
+use Rattle.vr_types.specs.Site.{Site, executed_rows}
+use Rattle.pvp_book.specs.Answer.{Row, after_rows}
+use Rattle.pvp_book.specs.Ledger.{Ledger, opening, figure}
+use Rattle.rtgs_node.specs.Node.{Node, account}
+use Rattle.rtgs_node.specs.Shown as node
 use Rattle.headline.specs.declared.step.Move.{Move}
 use Rattle.headline.specs.declared.step.Move.TheVariants.{Takes, Falls}
 use Rattle.headline.specs.declared.step.Turn.{Turn}
 use Rattle.headline.specs.declared.step.Turn.TheVariants.{OfSite, OfNode, OfClient}
 use Rattle.headline.specs.Bank.{Bank, opening_bank}
-use Rattle.headline.specs.Legal.{Acts, FallsBy, Leads, IsRun}
-use Rattle.headline.proofs.Basics.{none-some, some-same, set-length}
-use Rattle.pvp_world.specs.World.{Shown, IsAt}
+use Rattle.headline.specs.Legal.{Acts, FallsBy, Leads, IsRun, Continued}
+use Rattle.headline.specs.Headline.{AccountsMatch}
+use Rattle.headline.specs.Way.{way}
+use Rattle.headline.proofs.Basics.{none-some, some-same, set-length, there as has}
+use Rattle.headline.proofs.Books.{held-is, held-setup}
+use Rattle.vr_site.specs.Replica as replica
+use Rattle.vr_site.specs.Replica.{site_shown}
+use Rattle.pvp_world.specs.World.{Shown, IsAt, IsProved}
 use Rattle.pvp_text.proofs.BookTextLemmas.{appended}
+use Rattle.pvp_play.specs.BooksText.{Matches, SiteMatches, book_of}
 
 -- PARTS IN THEIR ORDER
 
@@ -63,37 +71,6 @@ module _ {A : Type 0} (line : ℕ × A → List ℕ) (xs : List A) where
   -- all parts were
   pub printed-all : (new start : List ℕ) (n : ℕ) → length xs ≤ n → new ≡ start ++ first n → new ≡ start ++ flat_map line (enumerate_from 0 xs)
   printed-all new start n all so_far = so_far ∙ ap (λ ys. start ++ flat_map line (enumerate_from 0 ys)) (take_all n xs all)
-
--- SUMS
-
--- one numbered item more was added
-pub sum-more : {A : Type 0} (f : ℕ × A → ℕ) (xs : List A) (n : ℕ) (d : A) (so_far next : ℕ) → n < length xs
-    → so_far ≡ sum_by f (enumerate_from 1 (take n xs)) → next ≡ so_far + f (n + 1, get_or xs n d)
-    → next ≡ sum_by f (enumerate_from 1 (take (n + 1) xs))
-sum-more f xs n d so_far next low was added =
-    let x = get_or xs n d in
-    added ∙ ap (λ m. m + f (n + 1, x)) was ∙ ap (λ k. sum_by f (enumerate_from 1 (take n xs)) + f (k, x)) (omega arith)
-    ∙ sym (sum_by_push f (enumerate_from 1 (take n xs)) (1 + n, x))
-    ∙ ap (sum_by f) (sym (enumerate-more 1 xs n x (slice_get-get_or xs n d low)))
-
--- what was added of the item that a list's next item gives, if it gives one
-abbrev pub part_of : {B : Type 0} → (B → ℕ) → Option B → ℕ
-part_of f None = 0
-part_of f (Some y) = f y
-
-pub filtered-more : {A B : Type 0} (h : A → Option B) (f : B → ℕ) (xs : List A) (n : ℕ) (d : A) (so_far next : ℕ) → n < length xs
-    → so_far ≡ sum_by f (filter_map h (take n xs)) → next ≡ so_far + part_of f (h (get_or xs n d))
-    → next ≡ sum_by f (filter_map h (take (n + 1) xs))
-filtered-more {A} {B} h f xs n d so_far next low was added =
-    let x = get_or xs n d in
-    let front = filter_map h (take n xs) in
-    added ∙ ap (λ m. m + part_of f (h x)) was ∙ ap (λ m. sum_by f front + m) (by (h x))
-    ∙ sym (sum_by-append f front (filter_map h (x ∷ [])))
-    ∙ ap (sum_by f) (sym (filter_map-append h (take n xs) (x ∷ [])) ∙ ap (filter_map h) (sym (take_more xs n d low)))
-  where
-    by : (found : Option B) → part_of f found ≡ sum_by f (cons_option found [])
-    by None = refl
-    by (Some y) = sym (zero-add (f y))
 
 -- HOW MANY PARTS THERE ARE
 
@@ -143,3 +120,40 @@ has_all held world at =
       nodes = at.shows.nodes.count ∙ same.nodes ∙ length-map _ world.setup.currencies;
       clients = at.shows.clients.count ∙ same.clients ∙ ap (λ n. suc n) (length-map _ world.setup.members) ∙ omega arith;
     }
+
+-- ACCOUNTS AND FIGURES
+
+-- where one list has an item, another as long has one
+other-there : {X Y : Type 0} (xs : List X) (ys : List Y) (i : ℕ) (x : X) → length xs ≡ length ys → slice_get xs i ≡ Some x → (y : Y) × (slice_get ys i ≡ Some y)
+other-there [] ys i x count e = absurd (none-some x e)
+other-there (z ∷ xs) [] i x count e = absurd (omega arith)
+other-there (z ∷ xs) (y ∷ ys) zero x count e = (y, refl)
+other-there (z ∷ xs) (y ∷ ys) (suc i) x count e = other-there xs ys i x (omega arith) e
+
+-- the headline says it of the list that led to a world
+accounts-match : {B : Type 0} (held : B → Boot) (world : Shown B) (proved : IsProved held world) → AccountsMatch world.setup proved.is_at.list.bank
+accounts-match held world proved =
+    let list = proved.is_at.list in
+    let late : Continued list = record { moves = []; bank = list.bank; run = refl } in
+    (proved.headline list late [] proved.is_at.cells (append-nil (list.moves ++ []) ∙ append-nil list.moves ∙ proved.is_at.moves)).accounts
+
+-- a node's account is the figure of a running site's book, and what is on the way between the two
+pub matches : {B : Type 0} (held : B → Boot) (world : Shown B) → IsProved held world → (i c : ℕ) (v : replica.Shown Cmd Setup B) (x : node.Shown)
+    → slice_get world.sites i ≡ Some v → slice_get world.nodes c ≡ Some x → SiteMatches held c x.node v
+matches held world proved i c v x there node_there runs =
+    let shows = proved.is_at.shows in
+    let bank = proved.is_at.list.bank in
+    let site = other-there world.sites bank.sites i v shows.sites.count there in
+    let of_node = other-there world.nodes bank.nodes c x shows.nodes.count node_there in
+    let is = shows.sites.each i v site.0 there site.1 in
+    let node_is : x.node ≡ of_node.0 = ap (λ (n : node.Shown). n.node) (shows.nodes.each c x of_node.0 node_there of_node.1) in
+    let rows = executed_rows (site_shown held v []) in
+    let same : executed_rows site.0 ≡ rows = ap (λ (s : Site Cmd). executed_rows s) is.site in
+    let book : book_of held v ≡ after_rows (opening world.setup) rows =
+    held-is (opening v.setup) rows ∙ ap (λ (s : Setup). after_rows (opening s) rows) is.made_from in
+    let ledger = after_rows (opening world.setup) rows in
+    let law = accounts-match held world proved site.0 c of_node.0 (has bank.sites i site.0 site.1) of_node.1 in
+    let of_rows = subst (λ (rs : List Row). let e = (after_rows (opening world.setup) rs).entries in account of_node.0 ≡ figure world.setup e c +ℤ way c of_node.0 e) same law in
+    let of_shown = subst (λ (n : Node). account n ≡ figure world.setup ledger.entries c +ℤ way c n ledger.entries) (sym node_is) of_rows in
+    subst (λ (b : Ledger). Matches c x.node b) (sym book)
+    (of_shown ∙ ap (λ (s : Setup). figure s ledger.entries c +ℤ way c x.node ledger.entries) (sym (held-setup (opening world.setup) rows)))

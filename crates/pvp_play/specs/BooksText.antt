@@ -1,5 +1,5 @@
 -- The printed books of a world. Every line ends with LF.
-use Rattle.std.specs.Prelude.{ℕ, ◌-◌, ◌==◌, ◌++◌, List, [], length, slice_get, Option, Some, None, if◌then◌else◌, codes, decimal}
+use Rattle.std.specs.Prelude.{◌≡◌, ℕ, ◌-◌, ◌+ℤ◌, ◌==◌, ◌++◌, true, List, [], length, slice_get, Option, Some, None, if◌then◌else◌, codes, decimal}
 use Rattle.std.specs.Fmt.{signed_decimal}
 use Rattle.std.specs.List.{flat_map, enumerate_from}
 use Rattle.std.specs.Option.{option_map_or}
@@ -70,6 +70,14 @@ node_line setup c x =
 -- the figure of a book in the node's currency, and what is on the way between the two
 abbrev pub figure_text : ℕ → Node → Ledger → List ℕ
 figure_text c x held = codes " figure " ++ signed_decimal (figure held.setup held.entries c) ++ codes " way " ++ signed_decimal (way c x held.entries)
+
+-- what the node's account holds is the figure and the way together
+abbrev pub Matches : ℕ → Node → Ledger → Type 0
+Matches c x held = account x ≡ figure held.setup held.entries c +ℤ way c x held.entries
+
+-- so of a running site's book
+abbrev pub SiteMatches : {B : Type 0} → (B → Boot) → ℕ → Node → replica.Shown Cmd Setup B → Type 0
+SiteMatches held c x v = is_running v.volatile.status ≡ true → Matches c x (book_of held v)
 
 -- those of a running site
 abbrev pub way_line : {B : Type 0} → (B → Boot) → ℕ → Node → ℕ × replica.Shown Cmd Setup B → List ℕ

@@ -1,11 +1,11 @@
 //! The printed books of a world: the book of each site, the bank's account at each node, and what clients were
 //! answered.
 
-ghost use Rattle.std.specs.Prelude.{◌≡◌, ◌++◌, ◌⊎◌, Err, OnOk, IfErr, string_bytes};
+ghost use Rattle.std.specs.Prelude.{◌≡◌, ◌++◌, ◌⊎◌, Err, OnOk, IfErr, Some, slice_get, string_bytes};
 ghost use Rattle.std.specs.Io.KnownBytes.{Appends};
 ghost use Rattle.std.specs.List.{flat_map, enumerate_from};
 ghost use Rattle.pvp_text.specs.declared.book.RunFault.TheVariants.{NoMemory, Output};
-ghost use Rattle.pvp_play.specs.BooksText.{books_text, site_text, status_text, standing_text, node_text, node_line, code_of, returned_text, way_line, client_text, name_of, answer_text};
+ghost use Rattle.pvp_play.specs.BooksText.{SiteMatches, books_text, site_text, status_text, standing_text, node_text, node_line, code_of, returned_text, way_line, client_text, name_of, answer_text};
 
 mod way;
 
@@ -172,6 +172,7 @@ fn push_figures<C: BootCell>(
     ccy: u8,
     node: &Node,
 ) -> Result<(), AllocError>
+    requires { slice_get world.now.nodes ccy ≡ Some node.now }
     ensures { OnOk result (string_bytes text.new
         ≡ string_bytes text.old ++ flat_map (way_line C.held ccy node.now.node) (enumerate_from 0 world.now.sites)) }
 {
@@ -193,6 +194,7 @@ fn push_site_figure<C: BootCell>(
     ccy: u8,
     node: &Node,
 ) -> Result<(), AllocError>
+    requires { SiteMatches C.held ccy node.now.node site.now }
     ensures { OnOk result (string_bytes text.new
         ≡ string_bytes text.old ++ way_line C.held ccy node.now.node (i, site.now)) }
 {

@@ -1,9 +1,13 @@
 use Rattle.std.proofs.Common.{string_bytes, sym, ap, ◌∙◌, arith}
 use Rattle.pvp_types.specs.Setup.{faults}
 use Rattle.pvp_play.specs.BooksText.{way_line}
-use Rattle.pvp_play.proofs.BooksLemmas.{printed-more, printed-none, printed-all, has_all}
+use Rattle.pvp_play.proofs.BooksLemmas.{printed-more, printed-none, printed-all, has_all, matches}
 use Rattle.pvp_play.proofs.books.push_figures.Goals.{in-Some+in_ok-push_site_figure, in_default}
 use Rattle.pvp_play.proofs.books.push_figures.Goals as goal
+
+pub push_site_figure-requires : goal.push_site_figure-requires
+push_site_figure-requires g c =
+    matches g.C.BootCell.held c.args.world.now c.is_proved.ensures c.loop-i.i c.args.ccy c.in-Some.site.now c.args.node.now (sym c.in-Some.ensures) c.requires
 
 pub loop-i-preserved : goal.loop-i-preserved
 loop-i-preserved g c =
