@@ -130,7 +130,7 @@ prepare-takes : TakesBy body (IsOfKind 2) prepare_at
 unfolding prepare_at
 prepare-takes = takes4 n4 n2 n2 row_format make_prepare body (IsOfKind 2) (λ a b c d. refl) (λ a b c d ha hb hc hd. (((ha, hb, hc, hd.0), (both (has_client d) true hd.1 refl, refl)), refl))
 
-start_view_change-takes : TakesBy body (IsOfKind 5) (start_view_change_at false)
+start_view_change-takes : TakesBy body (IsOfKind 5) start_view_change_at
 unfolding start_view_change_at
 start_view_change-takes = takes2 n4 boots_format make_start_view_change body (IsOfKind 5) (λ a b. refl) (λ a b ha hb. (((ha, hb.0), (refl, hb.1)), refl))
 

@@ -305,7 +305,7 @@ AreBoots known = BootsFit known × (is_site_count (length known) ≡ true)
 count_fits : (count : ℕ) → is_site_count count ≡ true → Fits 1 count
 count_fits count h = let few : count ≤ 7 = leb-true count 7 (parted (nat_le 1 count) (nat_le count 7) h).1 in omega arith
 
-pub boots_format : IsFormat boots AreBoots (boots_at false)
+pub boots_format : IsFormat boots AreBoots boots_at
 unfolding boots_at
 boots_format = record {
   takes = λ bytes known rest fits e.

@@ -1,6 +1,6 @@
--- Where reading takes memory: only where an item of a list was read.
+-- Where reading takes memory: only where a row was read.
 use Rattle.std.proofs.Common.{◌≡◌, ◌≢◌, inl, inr, ℕ, zero, suc, ◌+◌, ◌<◌, ◌≤◌, ◌==◌, ◌&&◌, ◌||◌, Bool, true, false, not, nat_lt, nat_le, List, [], ◌∷◌, length, get_or, take, drop, Some, Result, Ok, Err, refl, sym, ap, ◌∙◌, subst, if◌then◌else◌, arith}
-use Rattle.std.proofs.lemmas.Bool.{ltb-false, leb-true}
+use Rattle.std.proofs.lemmas.Bool.{ltb-false}
 use Rattle.std.proofs.lemmas.List.{get_or-drop, get_or-take}
 use Rattle.byteorder.specs.Endian.{big_number}
 use Rattle.pvp_types.specs.declared.command.Cmd.TheVariants.{Instruct, Rescind, Fund, Settle, PayOut, Paid, Returned}
@@ -8,14 +8,14 @@ use Rattle.pvp_types.specs.declared.command.Reason.{Reason}
 use Rattle.pvp_types.specs.declared.command.Reply.TheVariants.{Settled, Order, No}
 use Rattle.vr_types.specs.declared.message.MsgOf.TheVariants.{PayOrder}
 use Rattle.vr_types.specs.Actors.{is_actor, is_client}
-use Rattle.vr_types.specs.Messages.{known_in}
+use Rattle.vr_types.specs.Messages.{rows_of_state}
 use Rattle.pvp_wire.specs.declared.fault.WireFault.{WireFault}
 use Rattle.pvp_wire.specs.declared.fault.WireFault.TheVariants.{Short, TooLong, Version, Kind, Field, Length, NoMemory}
 use Rattle.pvp_wire.specs.declared.stamped.Stamped.{Stamped}
 use Rattle.pvp_wire.specs.Spelling.{BankMsg, BankRow, version, is_site_count}
-use Rattle.pvp_wire.specs.Reading.{◌>>=◌, Reads, number_at, listed_at, instruct_at, command_at, reason_at, reply_at, order_at, row_at, items_from, rows_at, boots_at, state_at, option_at, view_and_place_at, request_at, prepare_at, start_view_change_at, do_view_change_at, start_view_at, new_state_at, recovery_response_at, answer_at, message_at, stamp_at, envelope_at, all_read, counted_at, frame_where, most_length, carries_a_list, HasAnItem, IsOfField, frame_at}
-use Rattle.pvp_wire.proofs.Formats.{failed, done, bind_ok, wanted_ok, ok_is, fault_is, reads1, reads2, reads3, reads4, reads5}
-use Rattle.pvp_wire.proofs.Parts.{make_order, make_row, parted}
+use Rattle.pvp_wire.specs.Reading.{◌>>=◌, Reads, number_at, listed_at, instruct_at, command_at, reason_at, reply_at, order_at, row_at, items_from, rows_at, boots_at, state_at, option_at, view_and_place_at, request_at, prepare_at, start_view_change_at, do_view_change_at, start_view_at, new_state_at, recovery_response_at, answer_at, message_at, stamp_at, envelope_at, all_read, counted_at, frame_where, most_length, carries_a_list, HasARow, IsOfField, frame_at}
+use Rattle.pvp_wire.proofs.Formats.{failed, ok_is, fault_is, reads1, reads2, reads3, reads4, reads5}
+use Rattle.pvp_wire.proofs.Parts.{make_order, make_row}
 use Rattle.pvp_wire.proofs.MessageFormats.{make_state, make_pair, make_request, make_prepare, make_prepare_ok, make_commit, make_start_view_change, make_start_view, make_get_state, make_new_state, make_vote, make_recovery, make_response, make_answer}
 use Rattle.pvp_wire.proofs.Frames.{make_stamp, make_stamped, all_read-ok}
 
@@ -122,27 +122,9 @@ rows_only : OnlyFields (rows_at false)
 unfolding rows_at
 rows_only bytes = only_then (number_at 2 bytes) (λ n. items_from row_at false n.0 n.1) (number_only 2 bytes) (λ n. more_only row_at row_only n.0 n.1)
 
-boots_only : OnlyFields (boots_at false)
+boots_only : OnlyFields boots_at
 unfolding boots_at
 boots_only bytes = only_then (listed_at 1 is_site_count bytes) (λ n. items_from (number_at 4) false n.0 n.1) (listed_only 1 is_site_count bytes) (λ n. more_only (number_at 4) (number_only 4) n.0 n.1)
-
--- boots that are read take memory, as there is one at least
-one_asked : (count : ℕ) (bytes : List ℕ) (x : List ℕ × List ℕ) → 1 ≤ count → items_from (number_at 4) false count bytes ≡ Ok x → items_from (number_at 4) true count bytes ≡ Err NoMemory
-unfolding items_from
-one_asked zero bytes x some e = absurd (omega arith)
-one_asked (suc count) bytes x some e =
-    let m = bind_ok (number_at 4 bytes) (λ n. items_from (number_at 4) false count n.1 >>= λ others. Ok (n.0 ∷ others.0, others.1)) x e in
-    rw m.1 refl
-
-pub boots_asked : (bytes : List ℕ) (x : List ℕ × List ℕ) → boots_at false bytes ≡ Ok x → boots_at true bytes ≡ Err NoMemory
-unfolding boots_at
-boots_asked bytes x e =
-    let m = bind_ok (listed_at 1 is_site_count bytes) (λ count. items_from (number_at 4) false count.0 count.1) x e in
-    let n = bind_ok (number_at 1 bytes) (λ y. if is_site_count y.0 then Ok y else Err Field) m.0 m.1 in
-    let g = wanted_ok (is_site_count n.0.0) Field n.0 m.0 n.2 in
-    let some : 1 ≤ n.0.0 = leb-true 1 n.0.0 (parted (nat_le 1 n.0.0) (nat_le n.0.0 7) g.0).0 in
-    let count-is : n.0.0 ≡ m.0.0 = ap (λ (p : ℕ × List ℕ). p.0) g.1 in
-    rw m.1 (one_asked m.0.0 m.0.1 x (omega arith) m.2)
 
 option_only : OnlyFields (option_at false)
 unfolding option_at state_at
@@ -216,6 +198,11 @@ asked4 : {A B C D Z : Type 0} {So : Type 0} {Has : D → Type 0} {ra : List ℕ 
 asked4 {A} {B} {C} {D} {Z} {So} {Has} {ra} {rb} {rc} {r} {s} HasAfter ha hb hc h make keeps bytes =
     asked_then (ra bytes) (λ xa. reads3 rb rc r (make xa.0) xa.1) (λ xa. reads3 rb rc s (make xa.0) xa.1) (ha bytes) (λ xa. asked3 HasAfter hb hc h (make xa.0) (keeps xa.0) xa.1)
 
+asked5 : {A B C D E Z : Type 0} {So : Type 0} {Has : E → Type 0} {ra : List ℕ → Reads A} {rb : List ℕ → Reads B} {rc : List ℕ → Reads C} {rd : List ℕ → Reads D} {r s : List ℕ → Reads E} (HasAfter : Z → Type 0) → OnlyFields ra → OnlyFields rb → OnlyFields rc → OnlyFields rd → AskedFor So Has r s
+    → (make : A → B → C → D → E → Z) → ((a : A) (b : B) (c : C) (d : D) (e : E) → Has e → HasAfter (make a b c d e)) → AskedFor So HasAfter (reads5 ra rb rc rd r make) (reads5 ra rb rc rd s make)
+asked5 {A} {B} {C} {D} {E} {Z} {So} {Has} {ra} {rb} {rc} {rd} {r} {s} HasAfter ha hb hc hd h make keeps bytes =
+    asked_then (ra bytes) (λ xa. reads4 rb rc rd r (make xa.0) xa.1) (λ xa. reads4 rb rc rd s (make xa.0) xa.1) (ha bytes) (λ xa. asked4 HasAfter hb hc hd h (make xa.0) (keeps xa.0) xa.1)
+
 -- ---- rows
 
 abbrev SomeRows : List BankRow → Type 0
@@ -241,23 +228,18 @@ rows_asked : AskedFor (Unit {0}) SomeRows (rows_at true) (rows_at false)
 unfolding rows_at
 rows_asked bytes = asked_then (number_at 2 bytes) (λ n. items_from row_at true n.0 n.1) (λ n. items_from row_at false n.0 n.1) (number_only 2 bytes) (λ n. more_asked n.0 n.1)
 
+state_asked : AskedFor (Unit {0}) (λ state. SomeRows state.rows) (state_at true) (state_at false)
+unfolding state_at
+state_asked = asked2 (λ state. SomeRows state.rows) (number_only 2) rows_asked make_state (λ done rows some. some)
+
+-- a state is there, and has a row
+option_asked : AskedFor (Unit {0}) (λ state. SomeRows (rows_of_state state)) (option_at true) (option_at false)
+unfolding option_at
+option_asked [] = asked_only only_length
+option_asked (flag ∷ bytes) =
+    asked_if (flag == 0) (asked_only (only_put _)) (asked_if (flag == 1) (asked1 (λ state. SomeRows (rows_of_state state)) state_asked Some (λ state some. some) bytes) (asked_only only_field))
+
 -- ---- messages
-
--- a message that tells of boots has an item, whatever else
-known_item : (m : BankMsg) (known : List ℕ) → known_in m ≡ Some known → HasAnItem m
-known_item m known e = inr (rw e refl)
-
--- reading that fails at fields alone, and whose values have a property, takes memory or not
-asked_always : {A : Type 0} {Has : A → Type 0} {refused read : Result A WireFault} → Only read → ((x : A) → read ≡ Ok x → Has x) → Asked (Unit {0}) Has refused read
-asked_always h has = record { kind = λ e. tt; found = λ x e same. has x same; fault = λ f e same. h.faults f same }
-
--- what is read is made of its parts
-made_after : {A B : Type 0} (G : B → Type 0) (read : Result A WireFault) (k : A → Result B WireFault) → ((x : A) (z : B) → k x ≡ Ok z → G z) → (z : B) → (read >>= k) ≡ Ok z → G z
-made_after G (Ok x) k h z e = h x z e
-made_after G (Err d) k h z e = absurd cc
-
-made : {Z : Type 0} (Has : Z → Type 0) (z : Z) (rest : List ℕ) → Has z → (x : Z × List ℕ) → done {A = Z × List ℕ} (z, rest) ≡ Ok x → Has x.0
-made {Z} Has z rest has x e = subst (λ (p : Z × List ℕ). Has p.0) (ok_is (z, rest) x e) has
 
 request_only : OnlyFields request_at
 unfolding request_at
@@ -271,48 +253,33 @@ answer_only : OnlyFields answer_at
 unfolding answer_at
 answer_only = only3 (number_only 4) (number_only 4) reply_only make_answer
 
-start_view_change_asked : AskedFor (Unit {0}) HasAnItem (start_view_change_at true) (start_view_change_at false)
+start_view_change_only : OnlyFields start_view_change_at
 unfolding start_view_change_at
-start_view_change_asked bytes =
-    let G : BankMsg × List ℕ → Type 0 = λ x. HasAnItem x.0 in
-    asked_always (only2 (number_only 4) boots_only make_start_view_change bytes)
-    (made_after G (number_at 4 bytes) (λ a. reads1 (boots_at false) (make_start_view_change a.0) a.1) (λ a.
-    made_after G (boots_at false a.1) (λ b. Ok (make_start_view_change a.0 b.0, b.1)) (λ b. made HasAnItem (make_start_view_change a.0 b.0) b.1 (known_item (make_start_view_change a.0 b.0) b.0 refl))))
+start_view_change_only = only2 (number_only 4) boots_only make_start_view_change
 
-do_view_change_asked : AskedFor (Unit {0}) HasAnItem (do_view_change_at true) (do_view_change_at false)
+do_view_change_asked : AskedFor (Unit {0}) HasARow (do_view_change_at true) (do_view_change_at false)
 unfolding do_view_change_at
-do_view_change_asked bytes =
-    let G : BankMsg × List ℕ → Type 0 = λ x. HasAnItem x.0 in
-    asked_always (only5 (number_only 4) (number_only 4) (number_only 2) boots_only rows_only make_vote bytes)
-    (made_after G (number_at 4 bytes) (λ a. reads4 (number_at 4) (number_at 2) (boots_at false) (rows_at false) (make_vote a.0) a.1) (λ a.
-    made_after G (number_at 4 a.1) (λ b. reads3 (number_at 2) (boots_at false) (rows_at false) (make_vote a.0 b.0) b.1) (λ b.
-    made_after G (number_at 2 b.1) (λ c. reads2 (boots_at false) (rows_at false) (make_vote a.0 b.0 c.0) c.1) (λ c.
-    made_after G (boots_at false c.1) (λ d. reads1 (rows_at false) (make_vote a.0 b.0 c.0 d.0) d.1) (λ d.
-    made_after G (rows_at false d.1) (λ e. Ok (make_vote a.0 b.0 c.0 d.0 e.0, e.1)) (λ e. made HasAnItem (make_vote a.0 b.0 c.0 d.0 e.0) e.1 (known_item (make_vote a.0 b.0 c.0 d.0 e.0) d.0 refl)))))))
+do_view_change_asked =
+    asked5 HasARow (number_only 4) (number_only 4) (number_only 2) boots_only rows_asked make_vote (λ a b c d e some. some)
 
-start_view_asked : AskedFor (Unit {0}) HasAnItem (start_view_at true) (start_view_at false)
+start_view_asked : AskedFor (Unit {0}) HasARow (start_view_at true) (start_view_at false)
 unfolding start_view_at
-start_view_asked = asked3 HasAnItem (number_only 4) (number_only 2) rows_asked make_start_view (λ a b c some. inl some)
+start_view_asked = asked3 HasARow (number_only 4) (number_only 2) rows_asked make_start_view (λ a b c some. some)
 
-new_state_asked : AskedFor (Unit {0}) HasAnItem (new_state_at true) (new_state_at false)
+new_state_asked : AskedFor (Unit {0}) HasARow (new_state_at true) (new_state_at false)
 unfolding new_state_at
-new_state_asked = asked4 HasAnItem (number_only 4) (number_only 2) (number_only 2) rows_asked make_new_state (λ a b c d some. inl some)
+new_state_asked = asked4 HasARow (number_only 4) (number_only 2) (number_only 2) rows_asked make_new_state (λ a b c d some. some)
 
-recovery_response_asked : AskedFor (Unit {0}) HasAnItem (recovery_response_at true) (recovery_response_at false)
+recovery_response_asked : AskedFor (Unit {0}) HasARow (recovery_response_at true) (recovery_response_at false)
 unfolding recovery_response_at
-recovery_response_asked bytes =
-    let G : BankMsg × List ℕ → Type 0 = λ x. HasAnItem x.0 in
-    asked_always (only4 (number_only 4) (number_only 4) boots_only option_only make_response bytes)
-    (made_after G (number_at 4 bytes) (λ a. reads3 (number_at 4) (boots_at false) (option_at false) (make_response a.0) a.1) (λ a.
-    made_after G (number_at 4 a.1) (λ b. reads2 (boots_at false) (option_at false) (make_response a.0 b.0) b.1) (λ b.
-    made_after G (boots_at false b.1) (λ c. reads1 (option_at false) (make_response a.0 b.0 c.0) c.1) (λ c.
-    made_after G (option_at false c.1) (λ d. Ok (make_response a.0 b.0 c.0 d.0, d.1)) (λ d. made HasAnItem (make_response a.0 b.0 c.0 d.0) d.1 (known_item (make_response a.0 b.0 c.0 d.0) c.0 refl))))))
+recovery_response_asked =
+    asked4 HasARow (number_only 4) (number_only 4) boots_only option_asked make_response (λ a b c d some. some)
 
-fields_asked : (k : ℕ) → AskedFor (Unit {0}) HasAnItem (message_at true k) (message_at false k)
+fields_asked : (k : ℕ) → AskedFor (Unit {0}) HasARow (message_at true k) (message_at false k)
 unfolding message_at
 fields_asked k bytes =
     asked_if (k == 1) (asked_only (request_only bytes)) (asked_if (k == 2) (asked_only (prepare_only bytes)) (asked_if (k == 3) (asked_only (only1 pair_only make_prepare_ok bytes))
-    (asked_if (k == 4) (asked_only (only1 pair_only make_commit bytes)) (asked_if (k == 5) (start_view_change_asked bytes)
+    (asked_if (k == 4) (asked_only (only1 pair_only make_commit bytes)) (asked_if (k == 5) (asked_only (start_view_change_only bytes))
     (asked_if (k == 6) (do_view_change_asked bytes) (asked_if (k == 7) (start_view_asked bytes) (asked_if (k == 8) (asked_only (only1 pair_only make_get_state bytes))
     (asked_if (k == 9) (new_state_asked bytes) (asked_if (k == 10) (asked_only (only1 (number_only 4) make_recovery bytes)) (asked_if (k == 11) (recovery_response_asked bytes)
     (asked_if (k == 12) (asked_only (answer_only bytes)) (asked_if (k == 13) (asked_only (only1 order_only PayOrder bytes)) (unasked (λ e. absurd cc))))))))))))))
@@ -336,12 +303,11 @@ differ false none some = absurd cc
 bare : (k : ℕ) (bytes : List ℕ) → carries_a_list k ≡ false → message_at true k bytes ≡ Err NoMemory → ⊥
 unfolding message_at
 bare k bytes none =
-    let z = neither (k == 5) ((k == 6) || ((k == 7) || ((k == 9) || (k == 11)))) none in
-    let a = neither (k == 6) ((k == 7) || ((k == 9) || (k == 11))) z.1 in
+    let a = neither (k == 6) ((k == 7) || ((k == 9) || (k == 11))) none in
     let b = neither (k == 7) ((k == 9) || (k == 11)) a.1 in
     let c = neither (k == 9) (k == 11) b.1 in
     never_if (k == 1) (λ is. quiet (request_only bytes)) (never_if (k == 2) (λ is. quiet (prepare_only bytes)) (never_if (k == 3) (λ is. quiet (only1 pair_only make_prepare_ok bytes))
-    (never_if (k == 4) (λ is. quiet (only1 pair_only make_commit bytes)) (never_if (k == 5) (λ is e. differ (k == 5) z.0 is)
+    (never_if (k == 4) (λ is. quiet (only1 pair_only make_commit bytes)) (never_if (k == 5) (λ is. quiet (start_view_change_only bytes))
     (never_if (k == 6) (λ is e. differ (k == 6) a.0 is) (never_if (k == 7) (λ is e. differ (k == 7) b.0 is) (never_if (k == 8) (λ is. quiet (only1 pair_only make_get_state bytes))
     (never_if (k == 9) (λ is e. differ (k == 9) c.0 is) (never_if (k == 10) (λ is. quiet (only1 (number_only 4) make_recovery bytes)) (never_if (k == 11) (λ is e. differ (k == 11) c.1 is)
     (never_if (k == 12) (λ is. quiet (answer_only bytes)) (never_if (k == 13) (λ is. quiet (only1 order_only PayOrder bytes)) (λ e. absurd cc)))))))))))))
@@ -350,13 +316,13 @@ of_kind : (k : ℕ) (bytes : List ℕ) (b : Bool) → carries_a_list k ≡ b →
 of_kind k bytes true some e = refl
 of_kind k bytes false none e = absurd (bare k bytes none e)
 
-message_asked : (k : ℕ) → AskedFor (carries_a_list k ≡ true) HasAnItem (message_at true k) (message_at false k)
+message_asked : (k : ℕ) → AskedFor (carries_a_list k ≡ true) HasARow (message_at true k) (message_at false k)
 message_asked k bytes = record { kind = of_kind k bytes (carries_a_list k) refl; found = (fields_asked k bytes).found; fault = (fields_asked k bytes).fault }
 
 -- ---- frames
 
 abbrev pub HasIn : Stamped → Type 0
-HasIn s = HasAnItem s.envelope.msg
+HasIn s = HasARow s.envelope.msg
 
 stamp_only : OnlyFields stamp_at
 unfolding stamp_at
@@ -418,10 +384,10 @@ never_then (Ok x) k h hk e = hk x e
 never_then {A} {B} (Err d) k h hk e = h (elsewhere {A = B} {B = A} d NoMemory e)
 
 message_never : (k : ℕ) (bytes : List ℕ) → message_at false k bytes ≡ Err NoMemory → ⊥
-unfolding message_at start_view_change_at do_view_change_at start_view_at new_state_at recovery_response_at
+unfolding message_at do_view_change_at start_view_at new_state_at recovery_response_at
 message_never k bytes =
     never_if (k == 1) (λ is. quiet (request_only bytes)) (never_if (k == 2) (λ is. quiet (prepare_only bytes)) (never_if (k == 3) (λ is. quiet (only1 pair_only make_prepare_ok bytes))
-    (never_if (k == 4) (λ is. quiet (only1 pair_only make_commit bytes)) (never_if (k == 5) (λ is. quiet (only2 (number_only 4) boots_only make_start_view_change bytes))
+    (never_if (k == 4) (λ is. quiet (only1 pair_only make_commit bytes)) (never_if (k == 5) (λ is. quiet (start_view_change_only bytes))
     (never_if (k == 6) (λ is. quiet (only5 (number_only 4) (number_only 4) (number_only 2) boots_only rows_only make_vote bytes)) (never_if (k == 7) (λ is. quiet (only3 (number_only 4) (number_only 2) rows_only make_start_view bytes))
     (never_if (k == 8) (λ is. quiet (only1 pair_only make_get_state bytes)) (never_if (k == 9) (λ is. quiet (only4 (number_only 4) (number_only 2) (number_only 2) rows_only make_new_state bytes))
     (never_if (k == 10) (λ is. quiet (only1 (number_only 4) make_recovery bytes)) (never_if (k == 11) (λ is. quiet (only4 (number_only 4) (number_only 4) boots_only option_only make_response bytes))

@@ -116,9 +116,9 @@ other_counts_of_sites = (refl, refl, refl, refl)
 
 -- ---- memory
 
-start_view_change_takes_memory : TakesMemory start_view_change_bytes
+start_view_change_takes_none : TakesMemory start_view_change_bytes → ⊥
 unfolding frame_where counted_at envelope_at stamp_at message_at start_view_change_at boots_at items_from
-start_view_change_takes_memory = refl
+start_view_change_takes_none = λ e. absurd cc
 
 start_view_takes_memory : TakesMemory start_view_bytes
 unfolding frame_where counted_at envelope_at stamp_at message_at start_view_at rows_at items_from row_at command_at

@@ -11,7 +11,7 @@ use Rattle.pvp_types.specs.declared.command.Reply.TheVariants.{Done, Matched, Se
 use Rattle.vr_types.specs.declared.message.MsgOf.TheVariants.{Request, Prepare, PrepareOk, Commit, StartViewChange, DoViewChange, StartView, GetState, NewState, Recovery, RecoveryResponse, Reply, PayOrder}
 use Rattle.vr_types.specs.declared.message.StateOf.{StateOf}
 use Rattle.vr_types.specs.Actors.{is_actor, is_client}
-use Rattle.vr_types.specs.Messages.{rows_in, known_in}
+use Rattle.vr_types.specs.Messages.{rows_in}
 use Rattle.pvp_wire.specs.declared.fault.WireFault.{WireFault}
 use Rattle.pvp_wire.specs.declared.fault.WireFault.TheVariants.{Short, TooLong, Version, Kind, Field, Length, NoMemory}
 use Rattle.pvp_wire.specs.declared.stamped.Stamp.{Stamp}
@@ -132,7 +132,7 @@ row_at bytes = do
   cmd ← command_at number.1
   Ok (record { client = client.0; number = number.0; cmd = cmd.0 }, cmd.1)
 
--- ---- lists. Each item that was read is kept, which alone takes memory: what follows is read as if memory were refused
+-- ---- lists. Each row that was read is kept, which alone takes memory: what follows is read as if memory were refused
 -- there, or as if it were not.
 
 -- an item is kept
@@ -153,8 +153,8 @@ unfoldable pub rows_at : Bool → List ℕ → Reads (List BankRow)
 rows_at refused bytes = number_at 2 bytes >>= λ count. items_from row_at refused count.0 count.1
 
 -- of how many sites the boots are told, 1 to 7, and the boot number of each
-unfoldable pub boots_at : Bool → List ℕ → Reads (List ℕ)
-boots_at refused bytes = listed_at 1 is_site_count bytes >>= λ count. items_from (number_at 4) refused count.0 count.1
+unfoldable pub boots_at : List ℕ → Reads (List ℕ)
+boots_at bytes = listed_at 1 is_site_count bytes >>= λ count. items_from (number_at 4) false count.0 count.1
 
 -- a state: how many rows are executed, and the rows
 unfoldable pub state_at : Bool → List ℕ → Reads (StateOf Cmd)
@@ -194,10 +194,10 @@ view_and_place_at bytes = do
   place ← number_at 2 view.1
   Ok ((view.0, place.0), place.1)
 
-unfoldable pub start_view_change_at : Bool → List ℕ → Reads BankMsg
-start_view_change_at refused bytes = do
+unfoldable pub start_view_change_at : List ℕ → Reads BankMsg
+start_view_change_at bytes = do
   view ← number_at 4 bytes
-  known ← boots_at refused view.1
+  known ← boots_at view.1
   Ok (StartViewChange (record { view = view.0; known = known.0 }), known.1)
 
 unfoldable pub do_view_change_at : Bool → List ℕ → Reads BankMsg
@@ -205,7 +205,7 @@ do_view_change_at refused bytes = do
   view ← number_at 4 bytes
   last_normal ← number_at 4 view.1
   k ← number_at 2 last_normal.1
-  known ← boots_at refused k.1
+  known ← boots_at k.1
   log ← rows_at refused known.1
   Ok (DoViewChange (record { view = view.0; last_normal = last_normal.0; done = k.0; rows = log.0; known = known.0 }), log.1)
 
@@ -228,7 +228,7 @@ unfoldable pub recovery_response_at : Bool → List ℕ → Reads BankMsg
 recovery_response_at refused bytes = do
   view ← number_at 4 bytes
   nonce ← number_at 4 view.1
-  known ← boots_at refused nonce.1
+  known ← boots_at nonce.1
   s ← option_at refused known.1
   Ok (RecoveryResponse (record { view = view.0; nonce = nonce.0; state = s.0; known = known.0 }), s.1)
 
@@ -246,7 +246,7 @@ message_at refused kind bytes =
     else if kind == 2 then prepare_at bytes
     else if kind == 3 then (view_and_place_at bytes >>= λ x. Ok (PrepareOk (record { view = x.0.0; place = x.0.1 }), x.1))
     else if kind == 4 then (view_and_place_at bytes >>= λ x. Ok (Commit (record { view = x.0.0; done = x.0.1 }), x.1))
-    else if kind == 5 then start_view_change_at refused bytes
+    else if kind == 5 then start_view_change_at bytes
     else if kind == 6 then do_view_change_at refused bytes
     else if kind == 7 then start_view_at refused bytes
     else if kind == 8 then (view_and_place_at bytes >>= λ x. Ok (GetState (record { view = x.0.0; base = x.0.1 }), x.1))
@@ -306,17 +306,17 @@ frame_where refused bytes =
 abbrev pub frame_at : List ℕ → Result (Stamped × ℕ) WireFault
 frame_at bytes = frame_where false bytes
 
--- Reading this frame takes memory: all tests up to a list are passed, and its first item is read.
+-- Reading this frame takes memory: all tests up to its rows are passed, and the first row is read.
 abbrev pub TakesMemory : List ℕ → Type 0
 TakesMemory bytes = frame_where true bytes ≡ Err NoMemory
 
--- the kinds of messages that carry a list, of rows or of boots
+-- the kinds of messages that carry a list of rows
 abbrev pub carries_a_list : ℕ → Bool
-carries_a_list kind = (kind == 5) || ((kind == 6) || ((kind == 7) || ((kind == 9) || (kind == 11))))
+carries_a_list kind = (kind == 6) || ((kind == 7) || ((kind == 9) || (kind == 11)))
 
--- a message that has an item of a list: a row, or what its sender knew of boots
-abbrev pub HasAnItem : BankMsg → Type 0
-HasAnItem msg = (rows_in msg ≢ []) ⊎ (is_some (known_in msg) ≡ true)
+-- a message that carries a row
+abbrev pub HasARow : BankMsg → Type 0
+HasARow msg = rows_in msg ≢ []
 
 -- what is wrong with fields: one has a value that it may not have, or they end before the frame does, or after it
 abbrev pub IsOfField : WireFault → Type 0
@@ -329,8 +329,8 @@ abbrev pub Finds : {X Y : Type 0} → (X → Y) → Result X WireFault → Resul
 Finds view (Ok x) read = read ≡ Ok (view x)
 Finds view (Err fault) read = read ≡ Err fault
 
--- What a function that takes memory for a list returned is what reading gives where memory is not refused. Only where
--- reading meets an item that it has to keep may it tell that memory was refused.
+-- What a function that takes memory for rows returned is what reading gives where memory is not refused. Only where
+-- reading meets a row that it has to keep may it tell that memory was refused.
 abbrev pub Gives : {X Y : Type 0} → (X → Y) → Result X WireFault → (Bool → Result Y WireFault) → Type 0
 Gives view (Ok x) read = read false ≡ Ok (view x)
 Gives view (Err fault) read = (read false ≡ Err fault) ⊎ ((fault ≡ NoMemory) × (read true ≡ Err NoMemory))

@@ -1,31 +1,32 @@
 //! What a sender knew of the sites' boots.
-ghost use Rattle.pvp_wire.specs.Reading.{Gives, number_at, items_from, boots_at};
+ghost use Rattle.std.specs.Prelude.{◌≤◌, false};
+ghost use Rattle.vr_types.specs.Actors.{most_sites};
+ghost use Rattle.pvp_wire.specs.Reading.{Finds, number_at, items_from, boots_at};
 
 use crate::fault::WireFault;
 use crate::fields::{site_count_at, u32_at};
-use std::alloc::Global;
 use vr_types::Known;
 
 /// The boot numbers of so many sites.
-fn boots_from(alloc: Global, count: u8, bytes: &[u8]) -> Result<(Known, &[u8]), WireFault>
-    ensures { Gives (λ x. (x.0, x.1.now)) result
-        (λ refused. items_from (number_at 4) refused count bytes.now) }
+fn boots_from(count: u8, bytes: &[u8]) -> Result<(Known, &[u8]), WireFault>
+    requires { count ≤ most_sites }
+    ensures { Finds (λ x. (x.0, x.1.now)) result (items_from (number_at 4) false count bytes.now) }
 {
-    let mut known = Known::new(alloc);
+    let mut known = Known::new();
     let mut rest = bytes;
     for _ in 0..count {
         let (boot, after) = u32_at(rest)?;
-        known.push(boot)?;
+        known.push(boot);
         rest = after;
     }
     Ok((known, rest))
 }
 
-/// Of how many sites the boots are told, and the boot number of each.
+/// Of how many sites the boots are told, and the boot number of each. It takes no memory.
 #[tactic(auto, unfolding(crate::specs::Reading::boots_at))]
-pub fn boots_at(alloc: Global, bytes: &[u8]) -> Result<(Known, &[u8]), WireFault>
-    ensures { Gives (λ x. (x.0, x.1.now)) result (λ refused. boots_at refused bytes.now) }
+pub fn boots_at(bytes: &[u8]) -> Result<(Known, &[u8]), WireFault>
+    ensures { Finds (λ x. (x.0, x.1.now)) result (boots_at bytes.now) }
 {
     let (count, rest) = site_count_at(bytes)?;
-    boots_from(alloc, count, rest)
+    boots_from(count, rest)
 }

@@ -18,7 +18,7 @@ pub enum WireFault {
     Field,
     /// F6: the fields end before the frame does, or after it.
     Length,
-    /// F7: memory was refused, by `decode` for an item of a list: a row, or what is known of a site's boots.
+    /// F7: memory was refused, by `decode` for a row.
     NoMemory,
 }
 

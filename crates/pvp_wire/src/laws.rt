@@ -5,7 +5,7 @@ ghost use Rattle.pvp_wire.specs.declared.fault.WireFault.{WireFault};
 ghost use Rattle.pvp_wire.specs.declared.stamped.Stamped.{Stamped};
 ghost use Rattle.pvp_wire.specs.Spelling.{spelling, most_body};
 ghost use Rattle.pvp_wire.specs.Fits.{IsBytes, IsSpelled};
-ghost use Rattle.pvp_wire.specs.Reading.{frame_at, TakesMemory, carries_a_list, HasAnItem, IsOfField};
+ghost use Rattle.pvp_wire.specs.Reading.{frame_at, TakesMemory, carries_a_list, HasARow, IsOfField};
 ghost use Rattle.pvp_wire.specs.Feeding.{Splits, Call, IsFed, AreFed, empty, all_taken, all_given, all_answered, after_calls};
 
 /// What is read is spelled so, to the byte; what has a spelling is read again from it, whatever follows; no spelling
@@ -18,12 +18,12 @@ pub fn frames()
     ensures short { (stamped : Stamped) → IsSpelled stamped → length (spelling stamped) ≤ 22 + most_body }
 {}
 
-/// Memory is taken only for frames of the five kinds that carry a list, of rows or of boots. One that is read has an item
-/// of a list then; of one that is not, a field is at fault, or the frame's length.
+/// Memory is taken only for frames of the four kinds that carry a list of rows. One that is read has a row then; of one
+/// that is not, a field is at fault, or the frame's length.
 pub fn memory()
     ensures kind { (bytes : List ℕ) → TakesMemory bytes → carries_a_list (slice_index bytes 5) ≡ true }
     ensures read { (bytes : List ℕ) (stamped : Stamped) (size : ℕ) → TakesMemory bytes → frame_at bytes ≡ Ok (stamped, size) →
-        HasAnItem stamped.envelope.msg }
+        HasARow stamped.envelope.msg }
     ensures fault { (bytes : List ℕ) (fault : WireFault) → TakesMemory bytes → frame_at bytes ≡ Err fault → IsOfField fault }
 {}
 

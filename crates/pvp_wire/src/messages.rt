@@ -28,7 +28,7 @@ pub fn message_at(alloc: Global, kind: u8, bytes: &[u8]) -> Result<(Message, &[u
             let ((view, done), rest) = view_and_place_at(bytes)?;
             Ok((MsgOf::Commit(Commit { view, done }), rest))
         }
-        5 => start_view_change_at(alloc, bytes),
+        5 => start_view_change_at(bytes),
         6 => do_view_change_at(alloc, bytes),
         7 => start_view_at(alloc, bytes),
         8 => {
@@ -78,11 +78,14 @@ fn prepare_at(bytes: &[u8]) -> Result<(Message, &[u8]), WireFault>
 }
 
 #[tactic(auto, unfolding(crate::specs::Reading::start_view_change_at))]
-fn start_view_change_at(alloc: Global, bytes: &[u8]) -> Result<(Message, &[u8]), WireFault>
-    ensures { Gives (λ x. (x.0, x.1.now)) result (λ refused. start_view_change_at refused bytes.now) }
+fn start_view_change_at(bytes: &[u8]) -> Result<(Message, &[u8]), WireFault>
+    ensures { Finds (λ x. (x.0, x.1.now)) result (start_view_change_at bytes.now) }
 {
     let (view, rest) = u32_at(bytes)?;
-    let (known, rest) = boots_at(alloc, rest)?;
+    let (known, rest) = match boots_at(rest) {
+        Ok(told) => told,
+        Err(fault) => return Err(fault),
+    };
     let msg = StartViewChange { view, known };
     Ok((MsgOf::StartViewChange(msg), rest))
 }
@@ -94,7 +97,10 @@ fn do_view_change_at(alloc: Global, bytes: &[u8]) -> Result<(Message, &[u8]), Wi
     let (view, rest) = u32_at(bytes)?;
     let (last_normal, rest) = u32_at(rest)?;
     let (done, rest) = u16_at(rest)?;
-    let (known, rest) = boots_at(alloc, rest)?;
+    let (known, rest) = match boots_at(rest) {
+        Ok(told) => told,
+        Err(fault) => return Err(fault),
+    };
     let (rows, rest) = rows_at(alloc, rest)?;
     let msg = DoViewChangeOf {
         view,
@@ -140,7 +146,10 @@ fn recovery_response_at(alloc: Global, bytes: &[u8]) -> Result<(Message, &[u8]),
 {
     let (view, rest) = u32_at(bytes)?;
     let (nonce, rest) = u32_at(rest)?;
-    let (known, rest) = boots_at(alloc, rest)?;
+    let (known, rest) = match boots_at(rest) {
+        Ok(told) => told,
+        Err(fault) => return Err(fault),
+    };
     let (state, rest) = option_at(alloc, rest)?;
     let msg = RecoveryResponseOf {
         view,

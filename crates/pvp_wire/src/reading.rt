@@ -24,9 +24,8 @@ const LEAST_LENGTH: usize = 18;
 /// fewer bytes than the length says; F3 the version; F4 the kind; then the fields in their order, F6 where the
 /// frame's end cuts one off and F5 where it has a value that it may not have; F6 bytes after the body.
 ///
-/// Memory is taken for the items of a list alone, rows or what is known of sites' boots, each as it was read. So F7 comes
-/// only from a STARTVIEWCHANGE, DOVIEWCHANGE, STARTVIEW, NEWSTATE or RECOVERYRESPONSE of which at least the first item of
-/// a list was read, in place of the envelope or of a fault behind that item.
+/// Memory is taken for rows alone, each as it was read. So F7 comes only from a DOVIEWCHANGE, STARTVIEW, NEWSTATE or
+/// RECOVERYRESPONSE of which at least the first row was read, in place of the envelope or of a fault behind that row.
 #[tactic(auto, unfolding(crate::specs::Reading::frame_where))]
 pub fn decode(alloc: Global, bytes: &[u8]) -> Result<(Stamped, usize), WireFault>
     ensures { Gives (λ x. x) result (λ refused. frame_where refused bytes.now) }

@@ -1,10 +1,11 @@
 //! Bytes that are no frame, and envelopes that have none.
 
-use crate::sent::{frame, known, row, stamped};
+use crate::sent::{comes_back, known, row, stamped};
 use crate::worked::{CHANGE, COMMIT, REGAINED, REQUEST, VOTE};
 use pvp_wire::{Message, WireFault, decode, encode, wireable};
 use std::alloc::{AllocError, Global};
 use std::io::{self, Write};
+use std::process::Abort;
 use std::test::Fail;
 use vr_types::{Commit, MsgOf, PrepareOf, StartViewChange};
 
@@ -30,19 +31,44 @@ fn of_sites(count: u8) -> [u8; 39] {
     bytes
 }
 
+/// Fronts of frames, and what is told of each.
+const FRONTS: [(&[u8], WireFault); 4] = [
+    (&[], WireFault::Short),
+    (&[0, 64, 0, 0], WireFault::Short),
+    (&[0, 64, 0, 1], WireFault::TooLong),
+    (&[0, 0, 0, 17], WireFault::Length),
+];
+
+/// A place of the COMMIT, the byte that is put there, and what is made of that.
+const ALTERED: [(usize, u8, Result<usize, WireFault>); 6] = [
+    (4, 1, Err(WireFault::Version)),
+    (4, 3, Err(WireFault::Version)),
+    (5, 0, Err(WireFault::Kind)),
+    (7, 99, Err(WireFault::Field)),
+    (21, 0, Ok(28)),
+    (3, 23, Err(WireFault::Length)),
+];
+
+fn tells_of_fronts<R: Abort + AllocGlobal>(rt: &R) {
+    for (bytes, want) in FRONTS {
+        assert_eq!(rt; read(rt.alloc(), bytes), Err(want));
+    }
+}
+
+fn tells_of_altered<R: Abort + AllocGlobal>(rt: &R) {
+    for (at, byte, want) in ALTERED {
+        assert_eq!(rt;
+            read(rt.alloc(), &altered(at, byte)),
+            want,
+            "{byte} at {at}"
+        );
+    }
+}
+
 #[test]
 fn tells_each_fault(rt: HostRuntime) -> Result<(), Fail> {
-    let alloc = rt.alloc();
-    assert_eq!(rt; read(alloc, &[]), Err(WireFault::Short));
-    assert_eq!(rt; read(alloc, &[0, 64, 0, 0]), Err(WireFault::Short));
-    assert_eq!(rt; read(alloc, &[0, 64, 0, 1]), Err(WireFault::TooLong));
-    assert_eq!(rt; read(alloc, &[0, 0, 0, 17]), Err(WireFault::Length));
-    assert_eq!(rt; read(alloc, &altered(4, 1)), Err(WireFault::Version));
-    assert_eq!(rt; read(alloc, &altered(4, 3)), Err(WireFault::Version));
-    assert_eq!(rt; read(alloc, &altered(5, 0)), Err(WireFault::Kind));
-    assert_eq!(rt; read(alloc, &altered(7, 99)), Err(WireFault::Field));
-    assert_eq!(rt; read(alloc, &altered(21, 0)), Ok(28));
-    assert_eq!(rt; read(alloc, &altered(3, 23)), Err(WireFault::Length));
+    tells_of_fronts(&rt);
+    tells_of_altered(&rt);
     Ok(())
 }
 
@@ -88,53 +114,59 @@ fn a_front_of_a_frame_is_short(rt: HostRuntime) -> Result<(), Fail> {
     Ok(())
 }
 
+/// Whether bytes are a fault, or one frame, which is written as it is read.
+fn is_sound(alloc: Global, bytes: &[u8]) -> Result<bool, Fail> {
+    Ok(read(alloc, bytes).is_err() || comes_back(alloc, bytes)?)
+}
+
 #[test]
 fn an_altered_frame_is_another_or_a_fault(rt: HostRuntime) -> Result<(), Fail> {
-    let alloc = rt.alloc();
     for at in 0..28 {
-        let byte = COMMIT[at];
-        for other in [0, 255, byte ^ 1] {
-            if let Ok((stamped, size)) = decode(alloc, &altered(at, other)) {
-                assert_eq!(rt; size, 28);
-                let again = frame(alloc, &stamped)?;
-                assert_eq!(rt; again.as_slice(), altered(at, other).as_slice());
-            }
+        for other in [0, 255, COMMIT[at] ^ 1] {
+            assert!(rt;
+                is_sound(rt.alloc(), &altered(at, other))?,
+                "{other} at {at}"
+            );
         }
     }
     Ok(())
+}
+
+/// Whether a message of site 0 to this actor has a frame.
+fn has_frame(to: u16, msg: Message) -> bool {
+    wireable(&stamped(200, 1, 0, to, msg))
 }
 
 #[test]
 fn a_stranger_is_not_wireable(rt: HostRuntime) -> Result<(), Fail> {
     let mut other = row();
     other.client = 109;
-    let prepare = MsgOf::Prepare(PrepareOf {
+    let prepare = PrepareOf {
         view: 0,
         place: 1,
         done: 0,
         row: other,
-    });
-    assert!(rt; !wireable(&stamped(200, 1, 0, 201, prepare)));
-    let commit = MsgOf::Commit(Commit { view: 0, done: 0 });
-    assert!(rt; !wireable(&stamped(200, 1, 0, 207, commit)));
+    };
+    let commit = Commit { view: 0, done: 0 };
+    assert!(rt; !has_frame(201, MsgOf::Prepare(prepare)));
+    assert!(rt; !has_frame(207, MsgOf::Commit(commit)));
     Ok(())
 }
 
 /// A STARTVIEWCHANGE that tells of as many boots.
-fn change(alloc: Global, boots: &[u32]) -> Result<Message, AllocError> {
-    Ok(MsgOf::StartViewChange(StartViewChange {
+fn change(boots: &[u32]) -> Message {
+    MsgOf::StartViewChange(StartViewChange {
         view: 1,
-        known: known(alloc, boots)?,
-    }))
+        known: known(boots),
+    })
 }
 
 #[test]
 fn boots_of_1_to_7_sites_are_wireable(rt: HostRuntime) -> Result<(), Fail> {
-    let boots = [0, 1, 2, 3, 4, 5, 6, 7];
-    for count in 0..9 {
-        let msg = change(rt.alloc(), &boots[..count])?;
-        let is_wireable = wireable(&stamped(200, 1, 0, 201, msg));
-        assert_eq!(rt; is_wireable, 1 <= count && count <= 7, "of {count}");
+    let boots = [0, 1, 2, 3, 4, 5, 6];
+    for count in 0..8 {
+        let has_frame = has_frame(201, change(&boots[..count]));
+        assert_eq!(rt; has_frame, 1 <= count, "of {count}");
     }
     Ok(())
 }
@@ -159,17 +191,20 @@ impl Write for Failing {
     }
 }
 
+/// Whether a COMMIT is written to a writer that takes so many writes.
+fn is_written(left: u32) -> Result<bool, Fail> {
+    let commit = stamped(200, 5, 0, 201, MsgOf::Commit(Commit { view: 0, done: 1 }));
+    if !wireable(&commit) {
+        return Err(Fail::new("it has no spelling"));
+    }
+    Ok(encode(&commit, &mut Failing { left }).is_ok())
+}
+
 /// A writer that fails at its first write or in the middle of a frame is told; one that takes all writes is not.
 #[test]
 fn a_failing_writer_is_told(rt: HostRuntime) -> Result<(), Fail> {
     for (left, want) in [(0, false), (1, false), (2, true)] {
-        let commit = stamped(200, 5, 0, 201, MsgOf::Commit(Commit { view: 0, done: 1 }));
-        if !wireable(&commit) {
-            return Err(Fail::new("it has no spelling"));
-        }
-        let mut writer = Failing { left };
-        let wrote = encode(&commit, &mut writer).is_ok();
-        assert_eq!(rt; wrote, want, "after {left} writes");
+        assert_eq!(rt; is_written(left)?, want, "after {left} writes");
     }
     Ok(())
 }

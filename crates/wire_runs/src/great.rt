@@ -2,7 +2,7 @@
 
 use crate::sent::{self, frame, known, row, rows, stamped};
 use pvp_wire::Message;
-use std::alloc::Global;
+use std::alloc::{AllocError, Global};
 use std::process::Abort;
 use std::test::Fail;
 use vr_types::{DoViewChangeOf, MsgOf, RecoveryResponseOf, StartViewOf, StateOf};
@@ -13,12 +13,20 @@ const MOST_ROWS: usize = 65_535;
 /// How many bytes as many rows take with their count, each an Instruct.
 const MOST_BYTES: usize = 2 + MOST_ROWS * 31;
 
+/// The frame of a message.
+fn frame_of(alloc: Global, msg: Message) -> Result<Vec<u8>, Fail> {
+    frame(alloc, &stamped(200, 1, 0, 201, msg))
+}
+
+/// How long a message's frame is, and whether that is read and written again the same.
+fn written(alloc: Global, msg: Message) -> Result<(usize, bool), Fail> {
+    let bytes = frame_of(alloc, msg)?;
+    Ok((bytes.len(), sent::comes_back(alloc, bytes.as_slice())?))
+}
+
 /// Writes a message, reads it and writes it again.
 fn comes_back<R: Abort + AllocGlobal>(rt: &R, msg: Message, length: usize) -> Result<(), Fail> {
-    let alloc: Global = rt.alloc();
-    let bytes = frame(alloc, &stamped(200, 1, 0, 201, msg))?;
-    assert_eq!(rt; bytes.len(), length);
-    assert!(rt; sent::comes_back(alloc, bytes.as_slice())?);
+    assert_eq!(rt; written(rt.alloc(), msg)?, (length, true));
     Ok(())
 }
 
@@ -43,7 +51,7 @@ fn a_state_has_a_whole_log_and_seven_sites(rt: HostRuntime) -> Result<(), Fail> 
             done: 0,
             rows: rows(alloc, row(), MOST_ROWS)?,
         }),
-        known: known(alloc, [1, 2, 3, 4, 5, 6, 7].as_slice())?,
+        known: known(&[1, 2, 3, 4, 5, 6, 7]),
     });
     comes_back(&rt, regained, 2_031_649)
 }
@@ -59,18 +67,21 @@ const VOTES: [(usize, usize); 7] = [
     (MOST_ROWS, 2_031_632),
 ];
 
+/// A vote of so many rows.
+fn vote(alloc: Global, count: usize) -> Result<Message, AllocError> {
+    Ok(MsgOf::DoViewChange(DoViewChangeOf {
+        view: 2,
+        last_normal: 1,
+        done: 0,
+        rows: rows(alloc, row(), count)?,
+        known: known(&[1, 2, 3]),
+    }))
+}
+
 #[test]
 fn votes_of_whole_pages_and_of_more(rt: HostRuntime) -> Result<(), Fail> {
-    let alloc = rt.alloc();
     for (count, length) in VOTES {
-        let vote = MsgOf::DoViewChange(DoViewChangeOf {
-            view: 2,
-            last_normal: 1,
-            done: 0,
-            rows: rows(alloc, row(), count)?,
-            known: known(alloc, [1, 2, 3].as_slice())?,
-        });
-        comes_back(&rt, vote, length)?;
+        comes_back(&rt, vote(rt.alloc(), count)?, length)?;
     }
     Ok(())
 }

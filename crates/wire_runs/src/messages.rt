@@ -3,17 +3,28 @@
 use crate::sent::{self, frame, known, row, rows, stamped};
 use pvp_types::{Cmd, PayOrder, Reason, Reply};
 use pvp_wire::Message;
-use std::alloc::Global;
+use std::alloc::{AllocError, Global};
+use std::process::Abort;
 use std::test::Fail;
 use vr_types::{
     Commit, DoViewChangeOf, GetState, MsgOf, NewStateOf, PrepareOf, PrepareOk, Recovery,
     RecoveryResponseOf, ReplyOf, RequestOf, RowsOf, StartViewChange, StartViewOf, StateOf,
 };
 
+/// The frame of a message with the greatest stamp.
+fn frame_of(alloc: Global, msg: Message) -> Result<Vec<u8>, Fail> {
+    frame(alloc, &stamped(206, u64::MAX, u32::MAX, 200, msg))
+}
+
 /// Whether a message is read as it is written: its frame is read whole, and written again the same.
-fn comes_back(alloc: Global, msg: Message) -> Result<bool, Fail> {
-    let bytes = frame(alloc, &stamped(206, u64::MAX, u32::MAX, 200, msg))?;
-    sent::comes_back(alloc, bytes.as_slice())
+fn is_read_as_written(alloc: Global, msg: Message) -> Result<bool, Fail> {
+    sent::comes_back(alloc, frame_of(alloc, msg)?.as_slice())
+}
+
+/// A message is read as it is written.
+fn comes_back<R: Abort + AllocGlobal>(rt: &R, msg: Message) -> Result<(), Fail> {
+    assert!(rt; is_read_as_written(rt.alloc(), msg)?);
+    Ok(())
 }
 
 #[test]
@@ -25,17 +36,16 @@ fn normal_operation(rt: HostRuntime) -> Result<(), Fail> {
         number: u32::MAX,
         cmd: Cmd::Rescind { reference: 0 },
     });
-    assert!(rt; comes_back(alloc, request)?);
+    comes_back(&rt, request)?;
     let prepare = MsgOf::Prepare(PrepareOf {
         view,
         place: 0,
         done,
         row: row(),
     });
-    assert!(rt; comes_back(alloc, prepare)?);
-    assert!(rt; comes_back(alloc, MsgOf::PrepareOk(PrepareOk { view, place: done }))?);
-    assert!(rt; comes_back(alloc, MsgOf::Commit(Commit { view, done }))?);
-    Ok(())
+    comes_back(&rt, prepare)?;
+    comes_back(&rt, MsgOf::PrepareOk(PrepareOk { view, place: done }))?;
+    comes_back(&rt, MsgOf::Commit(Commit { view, done }))
 }
 
 /// One command of each kind that the other tests do not send.
@@ -58,80 +68,81 @@ const COMMANDS: [Cmd; 4] = [
 #[test]
 fn commands(rt: HostRuntime) -> Result<(), Fail> {
     for cmd in COMMANDS {
-        assert!(rt; comes_back(rt.alloc(), MsgOf::Request(RequestOf { number: 1, cmd }))?);
+        comes_back(&rt, MsgOf::Request(RequestOf { number: 1, cmd }))?;
     }
     Ok(())
+}
+
+/// STARTVIEWCHANGE of the greatest view, with these boots.
+fn change(boots: &[u32]) -> Message {
+    MsgOf::StartViewChange(StartViewChange {
+        view: u32::MAX,
+        known: known(boots),
+    })
+}
+
+/// DOVIEWCHANGE of the greatest view, with these boots and as many rows.
+fn vote(alloc: Global, boots: &[u32]) -> Result<Message, AllocError> {
+    Ok(MsgOf::DoViewChange(DoViewChangeOf {
+        view: u32::MAX,
+        last_normal: 0,
+        done: u16::MAX,
+        rows: rows(alloc, row(), boots.len())?,
+        known: known(boots),
+    }))
 }
 
 #[test]
 fn a_view_change(rt: HostRuntime) -> Result<(), Fail> {
     let alloc = rt.alloc();
-    let view = u32::MAX;
-    let done = u16::MAX;
     let boots = [u32::MAX, 0, 1, 2, 3, 4, 5];
     for sites in 1..8 {
-        let change = MsgOf::StartViewChange(StartViewChange {
-            view,
-            known: known(alloc, &boots[..sites])?,
-        });
-        assert!(rt; comes_back(alloc, change)?);
-        let vote = MsgOf::DoViewChange(DoViewChangeOf {
-            view,
-            last_normal: 0,
-            done,
-            rows: rows(alloc, row(), sites)?,
-            known: known(alloc, &boots[..sites])?,
-        });
-        assert!(rt; comes_back(alloc, vote)?);
+        comes_back(&rt, change(&boots[..sites]))?;
+        comes_back(&rt, vote(alloc, &boots[..sites])?)?;
     }
     let start = MsgOf::StartView(StartViewOf {
-        view,
-        done,
+        view: u32::MAX,
+        done: u16::MAX,
         rows: rows(alloc, row(), 2)?,
     });
-    assert!(rt; comes_back(alloc, start)?);
-    Ok(())
+    comes_back(&rt, start)
 }
 
 #[test]
 fn a_state_transfer(rt: HostRuntime) -> Result<(), Fail> {
     let alloc = rt.alloc();
     let view = u32::MAX;
-    assert!(rt; comes_back(alloc, MsgOf::GetState(GetState { view, base: 0 }))?);
+    comes_back(&rt, MsgOf::GetState(GetState { view, base: 0 }))?;
     let state = MsgOf::NewState(NewStateOf {
         view,
         base: u16::MAX,
         done: 0,
         rows: RowsOf::new(alloc),
     });
-    assert!(rt; comes_back(alloc, state)?);
-    Ok(())
+    comes_back(&rt, state)
+}
+
+/// RECOVERYRESPONSE to the greatest nonce.
+fn response(view: u32, state: Option<StateOf<Cmd>>, boots: &[u32]) -> Message {
+    MsgOf::RecoveryResponse(RecoveryResponseOf {
+        view,
+        nonce: u32::MAX,
+        state,
+        known: known(boots),
+    })
 }
 
 #[test]
 fn a_recovery(rt: HostRuntime) -> Result<(), Fail> {
     let alloc = rt.alloc();
-    let nonce = u32::MAX;
-    assert!(rt; comes_back(alloc, MsgOf::Recovery(Recovery { nonce }))?);
-    let bare = MsgOf::RecoveryResponse(RecoveryResponseOf {
-        view: 0,
-        nonce,
-        state: None,
-        known: known(alloc, [7].as_slice())?,
-    });
-    assert!(rt; comes_back(alloc, bare)?);
+    comes_back(&rt, MsgOf::Recovery(Recovery { nonce: u32::MAX }))?;
+    comes_back(&rt, response(0, None, &[7]))?;
     let state = StateOf {
         done: u16::MAX,
         rows: rows(alloc, row(), 2)?,
     };
-    let full = MsgOf::RecoveryResponse(RecoveryResponseOf {
-        view: u32::MAX,
-        nonce,
-        state: Some(state),
-        known: known(alloc, [0, 1, 2, 3, 4, 5, u32::MAX].as_slice())?,
-    });
-    assert!(rt; comes_back(alloc, full)?);
-    Ok(())
+    let boots = [0, 1, 2, 3, 4, 5, u32::MAX];
+    comes_back(&rt, response(u32::MAX, Some(state), &boots))
 }
 
 #[test]
@@ -149,7 +160,7 @@ fn answers_and_orders(rt: HostRuntime) -> Result<(), Fail> {
             number: u32::MAX,
             reply,
         });
-        assert!(rt; comes_back(rt.alloc(), answer)?);
+        comes_back(&rt, answer)?;
     }
     let order = MsgOf::PayOrder(PayOrder {
         ccy: u8::MAX,
@@ -157,6 +168,5 @@ fn answers_and_orders(rt: HostRuntime) -> Result<(), Fail> {
         member: u16::MAX,
         amt: u64::MAX,
     });
-    assert!(rt; comes_back(rt.alloc(), order)?);
-    Ok(())
+    comes_back(&rt, order)
 }

@@ -3,8 +3,9 @@
 use pvp_types::Cmd;
 use pvp_wire::{Message, Stamp, Stamped, decode, encode, wireable};
 use std::alloc::{AllocError, Global};
+use std::io::Write;
 use std::test::Fail;
-use vr_types::{EnvelopeOf, Known, RowOf, RowsOf};
+use vr_types::{EnvelopeOf, Known, MOST_SITES, RowOf, RowsOf};
 
 /// An envelope with its stamp.
 pub fn stamped(from: u16, clock: u64, index: u32, to: u16, msg: Message) -> Stamped {
@@ -18,35 +19,43 @@ pub fn stamped(from: u16, clock: u64, index: u32, to: u16, msg: Message) -> Stam
     }
 }
 
-/// The frame of a stamped envelope.
-pub fn frame(alloc: Global, stamped: &Stamped) -> Result<Vec<u8>, Fail> {
+/// Writes the frame of a stamped envelope.
+pub fn write<W: Write>(stamped: &Stamped, writer: &mut W) -> Result<(), Fail> {
     if !wireable(stamped) {
         return Err(Fail::new("it has no spelling"));
     }
+    encode(stamped, writer)?;
+    Ok(())
+}
+
+/// The frame of a stamped envelope.
+pub fn frame(alloc: Global, stamped: &Stamped) -> Result<Vec<u8>, Fail> {
     let mut out = Vec::new(alloc);
-    encode(stamped, &mut out)?;
+    write(stamped, &mut out)?;
     Ok(out)
 }
 
-/// The frame at the front of bytes once more, as it is written where it is read, and how many bytes were read.
-pub fn again(alloc: Global, bytes: &[u8]) -> Result<(Vec<u8>, usize), Fail> {
-    let (read, size) = decode(alloc, bytes)?;
-    Ok((frame(alloc, &read)?, size))
+/// Whether bytes are the frame of a stamped envelope, all of this size.
+pub fn is_frame(alloc: Global, stamped: &Stamped, size: usize, bytes: &[u8]) -> Result<bool, Fail> {
+    let written = frame(alloc, stamped)?;
+    Ok(size == bytes.len() && written.as_slice() == bytes)
 }
 
 /// Whether bytes are one frame, which is written as it is read.
 pub fn comes_back(alloc: Global, bytes: &[u8]) -> Result<bool, Fail> {
-    let (written, size) = again(alloc, bytes)?;
-    Ok(size == bytes.len() && written.as_slice() == bytes)
+    let (read, size) = decode(alloc, bytes)?;
+    is_frame(alloc, &read, size, bytes)
 }
 
-/// What is known of boots, one number a site.
-pub fn known(alloc: Global, boots: &[u32]) -> Result<Known, AllocError> {
-    let mut known = Known::new(alloc);
+/// What is known of boots, a number for each site: of seven at most.
+pub fn known(boots: &[u32]) -> Known {
+    let mut known = Known::new();
     for boot in boots {
-        known.push(*boot)?;
+        if known.len() < usize::from(MOST_SITES) {
+            known.push(*boot);
+        }
     }
-    Ok(known)
+    known
 }
 
 /// A row with the greatest numbers, which takes as many bytes as a row may.

@@ -1,8 +1,8 @@
 //! Frames that were worked by hand from the formats, byte by byte.
 
-use crate::sent::{comes_back, frame, known, rows, settle, stamped};
+use crate::sent::{comes_back, is_frame, known, rows, settle, stamped};
 use pvp_types::{Cmd, PayOrder, Reason, Reply};
-use pvp_wire::Message;
+use pvp_wire::{Message, Stamped};
 use std::alloc::{AllocError, Global};
 use std::process::Abort;
 use std::test::Fail;
@@ -60,7 +60,16 @@ pub const REGAINED: [u8; 48] = [
     3, 0, 0, 0, 0, 0, 0, 0, 0, 0, 0, 0, 1, 1, 0, 0, 0, 0,
 ];
 
-/// The frame of an envelope is these bytes, and they are read as an envelope of that frame.
+/// The frame of a stamped envelope is these bytes, and they are read as an envelope of that frame.
+fn spells<R: Abort + AllocGlobal>(rt: &R, stamped: &Stamped, bytes: &[u8]) -> Result<(), Fail> {
+    let alloc: Global = rt.alloc();
+    let is_written = is_frame(alloc, stamped, bytes.len(), bytes)?;
+    let is_read = comes_back(alloc, bytes)?;
+    assert!(rt; is_written && is_read, "{bytes:?}");
+    Ok(())
+}
+
+/// A message between these two actors with this clock and index is spelled by these bytes.
 fn is_spelled<R: Abort + AllocGlobal>(
     rt: &R,
     ends: (u16, u16),
@@ -70,10 +79,7 @@ fn is_spelled<R: Abort + AllocGlobal>(
 ) -> Result<(), Fail> {
     let (from, to) = ends;
     let (clock, index) = stamp;
-    let written = frame(rt.alloc(), &stamped(from, clock, index, to, msg))?;
-    let is_spelled = written.as_slice() == bytes && comes_back(rt.alloc(), bytes)?;
-    assert!(rt; is_spelled, "{bytes:?}");
-    Ok(())
+    spells(rt, &stamped(from, clock, index, to, msg), bytes)
 }
 
 #[test]
@@ -120,27 +126,39 @@ fn vote(alloc: Global) -> Result<Message, AllocError> {
         last_normal: 1,
         done: 0,
         rows: rows(alloc, settle(), 1)?,
-        known: known(alloc, [1, 0, 0].as_slice())?,
+        known: known(&[1, 0, 0]),
     }))
 }
 
-#[test]
-fn what_tells_of_boots(rt: HostRuntime) -> Result<(), Fail> {
-    let alloc = rt.alloc();
-    let change = MsgOf::StartViewChange(StartViewChange {
+fn change() -> Message {
+    MsgOf::StartViewChange(StartViewChange {
         view: 2,
-        known: known(alloc, [0, 0, 0].as_slice())?,
-    });
-    is_spelled(&rt, (202, 201), (2, 1), change, CHANGE.as_slice())?;
-    is_spelled(&rt, (202, 201), (3, 0), vote(alloc)?, VOTE.as_slice())?;
-    let regained = MsgOf::RecoveryResponse(RecoveryResponseOf {
+        known: known(&[0, 0, 0]),
+    })
+}
+
+fn regained(alloc: Global) -> Message {
+    MsgOf::RecoveryResponse(RecoveryResponseOf {
         view: 2,
         nonce: 1,
         state: Some(StateOf {
             done: 0,
             rows: RowsOf::new(alloc),
         }),
-        known: known(alloc, [0, 0, 1].as_slice())?,
-    });
-    is_spelled(&rt, (200, 202), (4, 1), regained, REGAINED.as_slice())
+        known: known(&[0, 0, 1]),
+    })
+}
+
+#[test]
+fn what_tells_of_boots(rt: HostRuntime) -> Result<(), Fail> {
+    let alloc = rt.alloc();
+    is_spelled(&rt, (202, 201), (2, 1), change(), CHANGE.as_slice())?;
+    is_spelled(&rt, (202, 201), (3, 0), vote(alloc)?, VOTE.as_slice())?;
+    is_spelled(
+        &rt,
+        (200, 202),
+        (4, 1),
+        regained(alloc),
+        REGAINED.as_slice(),
+    )
 }
