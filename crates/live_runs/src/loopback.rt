@@ -1,8 +1,10 @@
 //! Sites at work over sockets of this machine.
+ghost use Rattle.std.specs.Prelude.{◌≡◌, []};
+
 use crate::common::{Open, site, sites};
 use crate::frames::REQUEST;
 use pvp_book::Book;
-use pvp_peers::Why;
+use pvp_peers::Outbox;
 use pvp_rooms::{SiteCell, SiteSeat};
 use pvp_streams::{
     Connected, Incoming, NetFault, Outgoing, Peer, Player, Sending, Writer, Writers, connect_all,
@@ -51,7 +53,9 @@ impl Asker {
 }
 
 impl Player for Asker {
-    fn play(&mut self, _out: &Writers) {
+    ghost plays = { λ old new puts. puts ≡ [] };
+
+    fn play<O: Outbox>(&mut self, _out: &mut O) {
         self.answered = self.ask().unwrap_or(None);
     }
 }
@@ -150,6 +154,7 @@ fn a_request_is_committed_over_sockets(rt: HostRuntime) -> Result<(), Fail> {
             cell,
             seat,
             reader: stream,
+            gate: Open,
             end: None,
         })?;
     }
@@ -160,9 +165,65 @@ fn a_request_is_committed_over_sockets(rt: HostRuntime) -> Result<(), Fail> {
         peers.as_mut_slice(),
         parts.writers.as_mut_slice(),
         &out,
-        &Open,
         &mut asker,
     );
     assert!(&rt; asker.answered == Some(Reply::Done));
+    Ok(())
+}
+
+/// A net on which a stranger comes to each listener before whoever is awaited, and leaves at once.
+#[derive(Drop)]
+struct Crowded<'a, R> {
+    net: &'a R,
+}
+
+impl<R: Net> Net for Crowded<'_, R> {
+    type Stream = R::Stream;
+
+    type Listener = R::Listener;
+
+    fn bind(&self, addr: SocketAddr) -> io::Result<R::Listener> {
+        self.net.bind(addr)
+    }
+
+    fn connect(&self, addr: SocketAddr) -> io::Result<R::Stream> {
+        let _stranger = self.net.connect(addr)?;
+        self.net.connect(addr)
+    }
+}
+
+/// What comes out of the reading ends, each with the number of the actor that writes it.
+fn heard<S: Read + Drop>(
+    alloc: Global,
+    incoming: Vec<Incoming<S>>,
+) -> Result<Vec<(u16, u8)>, Fail> {
+    let mut heard = Vec::new(alloc);
+    for mut end in incoming {
+        let mut byte = [0u8; 1];
+        let got = end.stream.read(&mut byte)?;
+        heard.push((end.from, if got == 1 { byte[0] } else { 0 }))?;
+    }
+    Ok(heard)
+}
+
+/// A stranger's connection is neither taken nor the end of the others: what each actor writes comes out at its own ends.
+#[test]
+fn strangers_are_let_go(rt: HostRuntime) -> Result<(), Fail> {
+    let alloc = rt.alloc();
+    let Ok(connected) = connect_all(&Crowded { net: &rt }, alloc, &[102, 200, 201]) else {
+        return Err(Fail::new("the net"));
+    };
+    let mut outgoing = connected.outgoing;
+    for sending in outgoing.as_mut_slice() {
+        let byte = if sending.actor == 102 { 1u8 } else { 2u8 };
+        for out in sending.streams.as_mut_slice() {
+            out.stream.write_all(&[byte])?;
+        }
+    }
+    let heard = heard(alloc, connected.incoming)?;
+    assert_eq!(rt; heard.len(), 6);
+    for (from, byte) in heard {
+        assert_eq!(rt; byte, if from == 102 { 1u8 } else { 2u8 });
+    }
     Ok(())
 }

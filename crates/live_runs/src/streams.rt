@@ -30,7 +30,15 @@ fn served<R: Abort + Wait + AllocGlobal>(
     let Some(mut seat) = seats.pop() else {
         return Err(Fail::new("a seat"));
     };
-    let end = serve_peer(rt, alloc, &cell, &mut seat, &mut stream, &Open, &Lost);
+    let end = serve_peer(
+        rt,
+        alloc,
+        &cell,
+        &mut seat,
+        &mut stream,
+        &mut Open,
+        &mut Lost,
+    );
     let mut stamps = Vec::new(alloc);
     for receipt in seat.receipts() {
         stamps.push(receipt.stamp)?;
@@ -107,6 +115,23 @@ fn worked_ends(rt: HostRuntime) -> Result<(), Fail> {
             assert_eq!(rt; stamps.len(), frames);
         }
     }
+    Ok(())
+}
+
+/// A stream of 112,000 bytes, which no few reads can hold, is read to its end.
+#[test]
+fn a_long_stream_is_read_to_its_end(rt: HostRuntime) -> Result<(), Fail> {
+    let mut bytes = Vec::new(rt.alloc());
+    for _ in 0..4_000 {
+        bytes.extend_from_slice(&COMMIT)?;
+    }
+    let (end, stamps) = served(&rt, Pieces::whole(bytes.as_slice()))?;
+    let want = PeerEnd {
+        frames: 4_000,
+        why: Why::End,
+    };
+    assert_eq!(rt; end, want);
+    assert_eq!(rt; stamps.len(), 4_000);
     Ok(())
 }
 
@@ -201,7 +226,9 @@ fn a_node_and_a_client_are_served(rt: HostRuntime) -> Result<(), Fail> {
             good: None,
         };
         assert_eq!(rt;
-            serve_peer(&rt, alloc, &node, &mut seat, &mut order, &Open, &Lost),
+            serve_peer(
+                &rt, alloc, &node, &mut seat, &mut order, &mut Open, &mut Lost
+            ),
             want
         );
     }
@@ -213,7 +240,15 @@ fn a_node_and_a_client_are_served(rt: HostRuntime) -> Result<(), Fail> {
             good: None,
         };
         assert_eq!(rt;
-            serve_peer(&rt, alloc, &client, &mut seat, &mut answer, &Open, &Lost),
+            serve_peer(
+                &rt,
+                alloc,
+                &client,
+                &mut seat,
+                &mut answer,
+                &mut Open,
+                &mut Lost
+            ),
             want
         );
     }

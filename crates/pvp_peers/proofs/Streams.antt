@@ -1,5 +1,5 @@
 -- A stream with a piece more, and a seat with receipts more.
-use Rattle.std.proofs.Common.{◌≡◌, ◌≢◌, ℕ, ◌<◌, All, List, [], ◌∷◌, ◌++◌, length, Option, Some, None, refl, ◌⊎◌, inl, inr, sym, ap, ◌∙◌, subst, append_assoc, append-nil, arith}
+use Rattle.std.proofs.Common.{◌≡◌, ◌≢◌, ℕ, ◌<◌, All, List, [], ◌∷◌, ◌++◌, length, length-append, Option, Some, None, refl, ◌⊎◌, inl, inr, sym, ap, ◌∙◌, subst, append_assoc, append-nil, arith}
 use Rattle.std.specs.List.{flat_map}
 use Rattle.std.specs.Io.KnownBytes.{Consumes, Keeps}
 use Rattle.std.proofs.lemmas.List.Elements.{All-append}
@@ -21,7 +21,10 @@ use Rattle.pvp_wire.specs.Feeding.{Fed, FeedsAt, IsAt}
 use Rattle.pvp_wire.specs.Reading.{frame_at}
 use Rattle.pvp_wire.proofs.Frames.{frame-lasts, frame-again}
 use Rattle.pvp_peers.specs.declared.peer.Why.{Why}
-use Rattle.pvp_peers.specs.declared.peer.Why.TheVariants.{Memory, Clock}
+use Rattle.pvp_peers.specs.declared.peer.Why.TheVariants.{End, Cut, Read, Wire, Memory, Clock}
+use Rattle.pvp_rooms.specs.Gates.{Passing, Enters, Took, Hears}
+use Rattle.pvp_rooms.proofs.Hearing.{hears_none, hears_more}
+use Rattle.pvp_peers.specs.Puts.{Put, puts, passages, HandsOn, Passes, HasPosted, HasPassed, LastOf, LastRead}
 use Rattle.pvp_peers.specs.Peers.{IsReceiptOf, AreReceiptsOf, IsPosting, IsPosted, IsReading, HasRead, EndsSo, why_of}
 
 pub receipts_append : {E O : Type 0} (delivery : EnvelopeOf Cmd Reply PayOrder → E) (a c : List (Recorded E O)) (b d : List Stamped) → AreReceiptsOf delivery a b → AreReceiptsOf delivery c d → AreReceiptsOf delivery (a ++ c) (b ++ d)
@@ -74,6 +77,90 @@ posting_next {E = E} {O = O} delivery all old seat new frame rest r p more is = 
   receipts = receipts_append delivery p.gained (r ∷ []) p.posted (frame ∷ []) p.receipts (is, tt);
 }
 
+-- WHAT OUTBOX AND GATE HEAR
+
+puts-append : {E O : Type 0} (sent : O → List (EnvelopeOf Cmd Reply PayOrder)) (actor : ℕ) (a b : List (Recorded E O)) → puts sent actor (a ++ b) ≡ puts sent actor a ++ puts sent actor b
+puts-append sent actor [] b = refl
+puts-append sent actor (r ∷ a) b = ap (λ (l : List Put). let p : Put = record { actor = actor; clock = r.clock; sent = sent r.outcome } in p ∷ l) (puts-append sent actor a b)
+
+passages-append : {E O : Type 0} (actor : ℕ) (a b : List (Recorded E O)) → passages actor (a ++ b) ≡ passages actor a ++ passages actor b
+passages-append actor [] b = refl
+passages-append actor (r ∷ a) b = ap (λ (l : List Passing). Enters actor ∷ Took actor ∷ l) (passages-append actor a b)
+
+no_more : {E O : Type 0} (seat : Held E O) → seat ≡ record seat { receipts = seat.receipts ++ [] }
+no_more {E = E} {O = O} seat = ap (λ (l : List (Recorded E O)). let t : Held E O = record seat { receipts = l } in t) (sym (append-nil seat.receipts))
+
+more_still : {E O : Type 0} (old seat new : Held E O) (x y : List (Recorded E O)) → seat ≡ record old { receipts = old.receipts ++ x } → new ≡ record seat { receipts = seat.receipts ++ y } → new ≡ record old { receipts = old.receipts ++ (x ++ y) }
+more_still {E = E} {O = O} old seat new x y h k = k ∙ ap (λ (s : Held E O). let t : Held E O = record s { receipts = s.receipts ++ y } in t) h ∙ ap (λ (l : List (Recorded E O)). let t : Held E O = record old { receipts = l } in t) (append_assoc old.receipts x y)
+
+module _ {E O B : Type 0} (got : B → List Put → Type 0) (sent : O → List (EnvelopeOf Cmd Reply PayOrder)) (actor : ℕ) where
+  pub hands_none : (seat : Held E O) (out : B) → HandsOn got sent actor seat seat out out
+  hands_none seat out = record { gained = []; seat = no_more seat; puts = hears_none got out }
+
+  pub hands_more : (a b c : Held E O) (x y z : B) → HandsOn got sent actor a b x y → HandsOn got sent actor b c y z → HandsOn got sent actor a c x z
+  hands_more a b c x y z h k = record {
+    gained = h.gained ++ k.gained;
+    seat = more_still a b c h.gained k.gained h.seat k.seat;
+    puts = subst (λ (l : List Put). Hears got x z l) (sym (puts-append sent actor h.gained k.gained)) (hears_more got x y z (puts sent actor h.gained) (puts sent actor k.gained) h.puts k.puts);
+  }
+
+  pub hands_same : (seat new : Held E O) (out : B) → new ≡ record seat { receipts = seat.receipts } → HandsOn got sent actor seat new out out
+  hands_same seat new out same = record { gained = []; seat = same ∙ no_more seat; puts = hears_none got out }
+
+  pub hands_one : (seat new : Held E O) (r : Recorded E O) (out after : B) (put : Put) → new ≡ record seat { receipts = seat.receipts ++ r ∷ [] } → put ≡ record { actor = actor; clock = r.clock; sent = sent r.outcome }
+      → Hears got out after (put ∷ []) → HandsOn got sent actor seat new out after
+  hands_one seat new r out after put more is heard = record { gained = r ∷ []; seat = more; puts = subst (λ (p : Put). Hears got out after (p ∷ [])) is heard }
+
+module _ {E O G : Type 0} (heard : G → List Passing → Type 0) (actor : ℕ) where
+  pub passes_none : (seat : Held E O) (gate : G) → Passes heard actor seat seat gate gate []
+  passes_none seat gate = record { gained = []; seat = no_more seat; passed = hears_none heard gate }
+
+  pub passes_more : (a b c : Held E O) (x y z : G) (last : List Passing) → Passes heard actor a b x y [] → Passes heard actor b c y z last → Passes heard actor a c x z last
+  passes_more a b c x y z last h k = record {
+    gained = h.gained ++ k.gained;
+    seat = more_still a b c h.gained k.gained h.seat k.seat;
+    passed = subst (λ (l : List Passing). Hears heard x z l) (together h.gained k.gained) (hears_more heard x y z (passages actor h.gained ++ []) (passages actor k.gained ++ last) h.passed k.passed);
+  }
+    where
+      together : (p q : List (Recorded E O)) → (passages actor p ++ []) ++ (passages actor q ++ last) ≡ passages actor (p ++ q) ++ last
+      together p q =
+          ap (λ (l : List Passing). l ++ (passages actor q ++ last)) (append-nil (passages actor p))
+          ∙ sym (append_assoc (passages actor p) (passages actor q) last)
+          ∙ ap (λ (l : List Passing). l ++ last) (sym (passages-append actor p q))
+
+  pub passes_one : (seat new : Held E O) (r : Recorded E O) (x y : G) → new ≡ record seat { receipts = seat.receipts ++ r ∷ [] }
+      → Hears heard x y (Enters actor ∷ Took actor ∷ []) → Passes heard actor seat new x y []
+  passes_one seat new r x y more told = record { gained = r ∷ []; seat = more; passed = told }
+
+  pub passes_last : (seat new : Held E O) (x y : G) (last : List Passing) → new ≡ record seat { receipts = seat.receipts } → Hears heard x y last → Passes heard actor seat new x y last
+  passes_last seat new x y last same told = record { gained = []; seat = same ∙ no_more seat; passed = told }
+
+  -- all were taken
+  pub all_passed : (a b : Held E O) (x y : G) → HasPosted heard actor a b x y None → Passes heard actor a b x y []
+  all_passed a b x y h = subst (λ (l : List Passing). Passes heard actor a b x y l) h.ends h.passes
+
+  -- one was not taken
+  pub stopped_passes : (a b c : Held E O) (x y z : G) (why : Why) → Passes heard actor a b x y [] → HasPosted heard actor b c y z (Some why) → HasPassed heard actor a c x z why
+  stopped_passes a b c x y z why h k = record { last = k.last; ends = as_read why k.last k.ends; passes = passes_more a b c x y z k.last h k.passes }
+    where
+      as_read : (why : Why) (last : List Passing) → LastOf actor why last → LastRead actor why last
+      as_read Memory last is = inl is
+      as_read Clock last is = is
+      as_read End last is = absurd is
+      as_read (Cut n) last is = absurd is
+      as_read Read last is = absurd is
+      as_read (Wire fault) last is = absurd is
+
+-- nothing was posted where the feeder told a fault
+pub unread_last : (actor : ℕ) (fault : WireFault) → LastRead actor (why_of fault) []
+unread_last actor NoMemory = inr refl
+unread_last actor Short = refl
+unread_last actor TooLong = refl
+unread_last actor Version = refl
+unread_last actor Kind = refl
+unread_last actor Field = refl
+unread_last actor Length = refl
+
 module _ {E O : Type 0} (delivery : EnvelopeOf Cmd Reply PayOrder → E) (before a now : Option (List ℕ)) (old seat : Held E O) where
   -- a piece more, of which nothing was posted
   pub unread : (held piece : List ℕ) (why : Why) → IsReading delivery before a old seat held → Consumes a now piece → EndsSo why now [] (held ++ piece) → HasRead delivery before now old seat why
@@ -123,7 +210,7 @@ module _ {E O : Type 0} (delivery : EnvelopeOf Cmd Reply PayOrder → E) (before
   }
     where
       ends : (why : Why) (left : List Stamped) (rest : List ℕ) → ((why ≡ Memory) ⊎ (why ≡ Clock)) × (0 < length left) → EndsSo why now left rest
-      ends why left rest h = elim h.0 [ inl e ↦ subst (λ w. EndsSo w now left rest) (sym e) tt | inr e ↦ subst (λ w. EndsSo w now left rest) (sym e) h.1 ]
+      ends why left rest h = elim h.0 [ inl e ↦ subst (λ w. EndsSo w now left rest) (sym e) (inl h.1) | inr e ↦ subst (λ w. EndsSo w now left rest) (sym e) h.1 ]
 
 -- at the end of the input
 pub ended : {E O : Type 0} (delivery : EnvelopeOf Cmd Reply PayOrder → E) (before a : Option (List ℕ)) (old seat : Held E O) (held : List ℕ) (why : Why) → IsReading delivery before a old seat held → EndsSo why a [] held → HasRead delivery before a old seat why
@@ -156,14 +243,30 @@ told_at (Some f) old new piece fault fed was is other =
     let same : fault ≡ f = cc in
     (frame-lasts old.held piece f was.0 was.1 ∙ ap (λ x. Err x) (sym same), λ short. was.1 (sym same ∙ short))
 
-pub ends_told : (fault : WireFault) (now : Option (List ℕ)) (rest : List ℕ) → (fault ≢ NoMemory → (frame_at rest ≡ Err fault) × (fault ≢ Short)) → EndsSo (why_of fault) now [] rest
-ends_told NoMemory now rest told = tt
-ends_told Short now rest told = (refl, (told (λ e. cc)).0, (told (λ e. cc)).1)
-ends_told TooLong now rest told = (refl, (told (λ e. cc)).0, (told (λ e. cc)).1)
-ends_told Version now rest told = (refl, (told (λ e. cc)).0, (told (λ e. cc)).1)
-ends_told Kind now rest told = (refl, (told (λ e. cc)).0, (told (λ e. cc)).1)
-ends_told Field now rest told = (refl, (told (λ e. cc)).0, (told (λ e. cc)).1)
-ends_told Length now rest told = (refl, (told (λ e. cc)).0, (told (λ e. cc)).1)
+some_more : (held piece : List ℕ) → piece ≢ [] → 0 < length (held ++ piece)
+some_more held [] some = absurd (some refl)
+some_more held (b ∷ piece) some = let both = length-append held (b ∷ piece) in omega (arith, both)
+
+-- memory is refused only where something was read
+pub memory_for : (o : Option WireFault) (old new : Fed) (piece : List ℕ) (fault : WireFault)
+    → FeedsAt o old piece (Err fault) new → IsAt old.held o → fault ≡ NoMemory → 0 < length (old.held ++ piece)
+memory_for None old new piece fault fed was is = elim fed [
+  | inl told ↦ absurd (told.is_of_the_stream is)
+  | inr refused ↦ some_more old.held piece refused.some
+]
+memory_for (Some f) old new piece fault fed was is =
+    let clash : Err fault ≡ Err f = fed.0 in
+    let same : fault ≡ f = cc in
+    absurd (was.2 (sym same ∙ is))
+
+pub ends_told : (fault : WireFault) (now : Option (List ℕ)) (rest : List ℕ) → (fault ≢ NoMemory → (frame_at rest ≡ Err fault) × (fault ≢ Short)) → (fault ≡ NoMemory → 0 < length rest) → EndsSo (why_of fault) now [] rest
+ends_told NoMemory now rest told memory = inr (memory refl)
+ends_told Short now rest told memory = (refl, (told (λ e. cc)).0, (told (λ e. cc)).1)
+ends_told TooLong now rest told memory = (refl, (told (λ e. cc)).0, (told (λ e. cc)).1)
+ends_told Version now rest told memory = (refl, (told (λ e. cc)).0, (told (λ e. cc)).1)
+ends_told Kind now rest told memory = (refl, (told (λ e. cc)).0, (told (λ e. cc)).1)
+ends_told Field now rest told memory = (refl, (told (λ e. cc)).0, (told (λ e. cc)).1)
+ends_told Length now rest told memory = (refl, (told (λ e. cc)).0, (told (λ e. cc)).1)
 
 not_both : {X : Type 0} (fault : WireFault) (x : X) → Err fault ≡ Ok x → ⊥
 not_both fault x e = cc

@@ -49,7 +49,7 @@ EndsSo End after left rest = IsAtEnd after × (left ≡ []) × (rest ≡ [])
 EndsSo (Cut n) after left rest = IsAtEnd after × (left ≡ []) × (n ≡ length rest) × (0 < n) × (frame_at rest ≡ Err Short)
 EndsSo Read after left rest = left ≡ []
 EndsSo (Wire fault) after left rest = (left ≡ []) × (frame_at rest ≡ Err fault) × (fault ≢ Short)
-EndsSo Memory after left rest = Unit {0}
+EndsSo Memory after left rest = (0 < length left) ⊎ (0 < length rest)
 EndsSo Clock after left rest = 0 < length left
 
 -- A STREAM WAS READ SO FAR: its bytes are frames and what is left, and the seat has a receipt more of each of the first

@@ -1,6 +1,7 @@
 //! One stream of frames for one actor.
 ghost use Rattle.std.specs.Prelude.{◌≡◌};
 ghost use Rattle.pvp_peers.specs.Peers.{IsPosted, HasRead, IsServed, why_of};
+ghost use Rattle.pvp_peers.specs.Puts.{HandsOn, HasPosted, HasPassed};
 
 use crate::outbox::Outbox;
 use crate::served::Served;
@@ -44,10 +45,12 @@ pub fn serve_peer<A: Served, R: Read, G: Gate, O: Outbox, T: Wait>(
     cell: &ActorCell<A>,
     seat: &mut Seat<A::Event, A::Outcome>,
     reader: &mut R,
-    gate: &G,
-    outbox: &O,
+    gate: &mut G,
+    outbox: &mut O,
 ) -> PeerEnd
-    ensures { IsServed A.Served.delivery (R.remaining reader.old) (R.remaining reader.new) seat.old seat.new result }
+    ensures served { IsServed A.Served.delivery (R.remaining reader.old) (R.remaining reader.new) seat.old seat.new result }
+    ensures handed { HandsOn O.got A.Served.sent cell.now.number seat.old seat.new outbox.old outbox.new }
+    ensures passed { HasPassed G.heard cell.now.number seat.old seat.new gate.old gate.new result.why }
 {
     let before = seat.receipts().len();
     let why = read_all::<A, R, G, O, T>(rt, alloc, cell, seat, reader, gate, outbox);
@@ -64,10 +67,12 @@ fn read_all<A: Served, R: Read, G: Gate, O: Outbox, T: Wait>(
     cell: &ActorCell<A>,
     seat: &mut Seat<A::Event, A::Outcome>,
     reader: &mut R,
-    gate: &G,
-    outbox: &O,
+    gate: &mut G,
+    outbox: &mut O,
 ) -> Why
-    ensures { HasRead A.Served.delivery (R.remaining reader.old) (R.remaining reader.new) seat.old seat.new result }
+    ensures read { HasRead A.Served.delivery (R.remaining reader.old) (R.remaining reader.new) seat.old seat.new result }
+    ensures handed { HandsOn O.got A.Served.sent cell.now.number seat.old seat.new outbox.old outbox.new }
+    ensures passed { HasPassed G.heard cell.now.number seat.old seat.new gate.old gate.new result }
 {
     let mut feeder = Feeder::new(alloc);
     let mut buffer = [0u8; 4096];
@@ -103,10 +108,12 @@ fn post_all<A: Served, G: Gate, O: Outbox, T: Wait>(
     cell: &ActorCell<A>,
     seat: &mut Seat<A::Event, A::Outcome>,
     frames: Vec<Stamped>,
-    gate: &G,
-    outbox: &O,
+    gate: &mut G,
+    outbox: &mut O,
 ) -> Option<Why>
-    ensures { IsPosted A.Served.delivery frames.items seat.old seat.new result }
+    ensures posted { IsPosted A.Served.delivery frames.items seat.old seat.new result }
+    ensures handed { HandsOn O.got A.Served.sent cell.now.number seat.old seat.new outbox.old outbox.new }
+    ensures passed { HasPosted G.heard cell.now.number seat.old seat.new gate.old gate.new result }
 {
     for frame in frames {
         let input = Input {

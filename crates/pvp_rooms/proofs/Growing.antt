@@ -65,18 +65,21 @@ room_next m old new input clock outcome room acted next =
 
 -- what a room answers was taken
 pub answers_step : {A N E O : Type 0} (m : Ghosts A N E O) (input : Input E) (old new : Shown N A E O) (answer : Answer O)
-    → Told m input old new answer → IsRoom m new → AnswersStep m input answer
-answers_step {E = E} {O = O} m input old new (Done clock outcome) told sound =
+    → Told m input old new answer → IsRoom m old → IsRoom m new → AnswersStep m input answer
+answers_step {E = E} {O = O} m input old new (Done clock outcome) told was sound =
     let P : List (Recorded E O) → Type 0 = λ h. IsReplayed m new.opening new.actor h in
     record {
       opening = new.opening;
+      before = old.actor;
       actor = new.actor;
       history = old.history;
+      was = subst (λ opening. IsReplayed m opening old.actor old.history) (sym told.opening) was.replayed;
       replayed = subst P told.history sound.replayed;
+      told = told.acted.told;
       rising = subst (λ h. IsRising h 0) told.history sound.rising;
     }
-answers_step m input old new NoMemory told sound = tt
-answers_step m input old new ClockSpent told sound = tt
+answers_step m input old new NoMemory told was sound = tt
+answers_step m input old new ClockSpent told was sound = tt
 
 -- what a room hands out is closed
 pub closes : {A N E O : Type 0} (m : Ghosts A N E O) (room : Shown N A E O) (opening : N) (history : List (Recorded E O)) (end : A)

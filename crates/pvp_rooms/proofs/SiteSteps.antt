@@ -1,26 +1,31 @@
 -- A replica takes an event as an actor.
-use Rattle.std.proofs.Common.{◌≡◌, inl, inr, List, [], Option, Some, None, false, refl, sym, ap, ◌∙◌, subst}
-use Rattle.std.specs.Prelude.{Ok, Err}
+use Rattle.std.proofs.Common.{◌≡◌, inl, inr, ℕ, List, [], Option, Some, None, Result, false, if◌then◌else◌, true≢false, refl, sym, ap, ◌∙◌, subst}
+use Rattle.std.specs.Prelude.{◌≢◌, Ok, Err, IsOk}
 use Rattle.vr_types.specs.declared.cell.Boot.{Boot}
 use Rattle.vr_types.specs.declared.cell.BootCell.{Ghosts as Cell}
 use Rattle.vr_types.specs.declared.event.EventOf.{EventOf}
 use Rattle.vr_types.specs.declared.event.EventOf.TheVariants.{Deliver, Timer, Beat, Crash, Restart}
 use Rattle.vr_types.specs.declared.event.OutcomeOf.{OutcomeOf}
 use Rattle.vr_types.specs.declared.event.SiteFault.{SiteFault}
-use Rattle.vr_types.specs.declared.event.SiteFault.TheVariants.{NoMemory}
+use Rattle.vr_types.specs.declared.event.SiteFault.TheVariants.{NoMemory, CellFault, NotUp}
+use Rattle.vr_types.specs.declared.event.Status.{Status}
 use Rattle.vr_types.specs.declared.event.Status.TheVariants as status
 use Rattle.vr_types.specs.declared.event.Why.{Why}
 use Rattle.vr_types.specs.declared.machine.Machine.{Ghosts}
+use Rattle.vr_types.specs.Cell.{HasRisen}
 use Rattle.vr_types.specs.Choice.{IsRight}
 use Rattle.vr_types.specs.Handling.{envelopes, refusal, site_step, is_refused}
-use Rattle.vr_types.specs.Site.{Ack, Site, over, opening_site}
+use Rattle.vr_types.specs.Site.{Ack, Site, over, opening_site, is_down}
+use Rattle.vr_types.specs.Step.{Handled}
 use Rattle.vr_log.specs.Outcomes.{ended}
 use Rattle.vr_log.specs.Running.{SumUp}
 use Rattle.vr_site.specs.Life.{lost}
 use Rattle.vr_site.specs.Replica.{Shown, KeepsPlace, site_shown, Does, Falls, Handles}
 use Rattle.vr_site.proofs.Shows.{none_summed}
+use Rattle.headline.proofs.Basics.{none-some}
+use Rattle.pvp_rooms.proofs.Silent.{IsSilent, dropped-silent, crash-silent, silent-sends}
 use Rattle.pvp_rooms.specs.declared.site.CameOf.TheVariants.{Did, Fell}
-use Rattle.pvp_rooms.specs.Sites.{SiteState, step_in, Comes, after, IsSiteOf, Opens, Shows}
+use Rattle.pvp_rooms.specs.Sites.{SiteState, step_in, Comes, after, IsSiteOf, Opens, Shows, IsHandled, HasCause}
 
 -- an event that ended so is not refused
 pub ended_allowed : (dropped : Option Why) → is_refused (ended dropped) ≡ false
@@ -101,6 +106,9 @@ module _ {H C R O S B : Type 0} (m : Ghosts H C R O S) (c : Cell B) where
       is_over : site_shown c.held new [] ≡ over (c.held new.cell) status.Down
       is_over = elim falls.site.down [ inl e ↦ down_over _ x.site _ e | inr e ↦ down_over _ x.site _ e ]
 
+      pub ends : (step_in x event).ending ≡ Handled
+      ends = falls.handled
+
       pub fell : (cell : Boot) → cell ≡ c.held new.cell → Comes m x event (Fell why cell) × Shows m c new (after x event (Fell why cell))
       fell cell held =
           let f = falls in
@@ -112,6 +120,58 @@ module _ {H C R O S B : Type 0} (m : Ghosts H C R O S) (c : Cell B) where
               site = there;
             },
           )
+
+  -- a crash that is not refused is taken
+  no_crash : (old : Shown C S B) (event : EventOf C R O) (why : SiteFault)
+      → (event ≡ Crash → old.volatile.status ≢ status.Down → IsOk {T = OutcomeOf C R O} (Err why))
+      → None ≡ refusal old.f old.me (site_shown c.held old []) event → event ≢ Crash
+  no_crash old event why taken allowed crash = absurd (true≢false (sym (taken crash up)))
+    where
+      at : refusal {C = C} {R = R} {O = O} old.f old.me (site_shown c.held old []) Crash ≡ None
+      at = subst (λ (e : EventOf C R O). refusal old.f old.me (site_shown c.held old []) e ≡ None) crash (sym allowed)
+
+      up : old.volatile.status ≢ status.Down
+      up down = none-some NotUp (sym at ∙ ap (λ (s : Status). if is_down s then Some NotUp else None) down)
+
+  -- what a replica tells of its fall in place of an event is why it fell
+  pub fell_by_cause : (old new : Shown C S B) (event : EventOf C R O) (why : SiteFault) (told : Result (OutcomeOf C R O) SiteFault) → told ≡ Err why
+      → KeepsPlace old new → Handles m c old new event (Err why)
+      → None ≡ refusal old.f old.me (site_shown c.held old []) event
+      → (event ≡ Crash → old.volatile.status ≢ status.Down → IsOk {T = OutcomeOf C R O} (Err why))
+      → (told ≡ Err CellFault → HasRisen (c.faults old.cell) (c.faults new.cell))
+      → (told ≢ Err CellFault → c.faults new.cell ≡ c.faults old.cell)
+      → HasCause m c old new event why
+  fell_by_cause old new event why told told_is place handles allowed taken cause counted = record {
+    handled = λ x shows. record { no_crash = no_crash old event why taken allowed; handled = ends old new x event shows place why handles allowed };
+    failed = λ is. cause (told_is ∙ ap (λ w. Err w) is);
+    counted = λ other. counted (λ is. other (same told why told_is is));
+  }
+    where
+      same : (r : Result (OutcomeOf C R O) SiteFault) (a : SiteFault) → r ≡ Err a → r ≡ Err CellFault → a ≡ CellFault
+      same r a p q = cc
+
+  -- so it is where it fell after its step, as something that it sent could not be copied
+  pub after_by_cause : (old mid new : Shown C S B) (event : EventOf C R O) (out : OutcomeOf C R O) → KeepsPlace old mid → Handles m c old mid event (Ok out)
+      → out.sent.items ≢ [] → new ≡ record mid { volatile = lost } → c.faults mid.cell ≡ c.faults old.cell
+      → HasCause m c old new event NoMemory
+  after_by_cause old mid new event out place handles some fallen counted = record {
+    handled = λ x shows. handled x (does old mid x event shows place out handles);
+    failed = λ is. absurd (cc);
+    counted = λ other. ap (λ (v : Shown C S B). c.faults v.cell) fallen ∙ counted;
+  }
+    where
+      said : (x : SiteState H C) → Does m c old mid out (step_in x event) → IsSilent (step_in {R = R} {O = O} x event) → ⊥
+      said x d silent = some (d.sent ∙ silent-sends m (m.start old.setup) old.me (step_in x event) silent)
+
+      handled_as : (x : SiteState H C) → Does m c old mid out (step_in x event) → (why : Option Why) → (step_in {R = R} {O = O} x event).ending ≡ ended why → (step_in {R = R} {O = O} x event).ending ≡ Handled
+      handled_as x d None e = e
+      handled_as x d (Some why) e = absurd (said x d (dropped-silent R O x.choose x.f x.me x.site event why e))
+
+      handled : (x : SiteState H C) → Does m c old mid out (step_in x event) → IsHandled {R = R} {O = O} x event
+      handled x d = record {
+        no_crash = λ crash. said x d (subst (λ (e : EventOf C R O). IsSilent (step_in x e)) (sym crash) (crash-silent R O x.choose x.f x.me x.site));
+        handled = handled_as x d out.dropped d.ending;
+      }
 
   -- a new replica shows the site that it opens as
   pub opened : (v : Shown C S B) (boot : Boot) (x : SiteState H C) → SumUp v.volatile.acked [] → site_shown c.held v [] ≡ opening_site v.f boot → Opens m v boot x → Shows m c v x

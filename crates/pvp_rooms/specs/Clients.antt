@@ -1,11 +1,12 @@
 -- A client as an actor: a state is what it shows.
-use Rattle.std.specs.Prelude.{◌≡◌, ◌⊎◌, List, Some, Result, Ok, Err}
+use Rattle.std.specs.Prelude.{◌≡◌, ◌⊎◌, List, Some, Result, Ok, Err, IfErr}
 use Rattle.rtgs_node.specs.Node.{Envelope}
 use Rattle.headline.specs.declared.step.ClientEvent.{ClientEvent}
+use Rattle.headline.specs.declared.step.ClientEvent.TheVariants.{Submits, Takes, Beats}
 use Rattle.headline.specs.declared.step.ClientFault.{ClientFault}
 use Rattle.headline.specs.declared.step.ClientFault.TheVariants.{NoMemory}
 use Rattle.headline.specs.Client.{opening_client}
-use Rattle.pvp_world.specs.Client.{Shown, step_of, IsStep}
+use Rattle.pvp_world.specs.Client.{Shown, step_of, IsStep, IsRefusal}
 
 -- the state after an event that came out so: a refusal changes nothing
 abbrev pub after : Shown → ClientEvent → Result (List Envelope) ClientFault → Shown
@@ -16,6 +17,16 @@ after x event (Err fault) = x
 abbrev pub Comes : Shown → ClientEvent → Result (List Envelope) ClientFault → Type 0
 Comes x event (Ok sent) = IsStep x (after x event (Ok sent)) (step_of x event) sent
 Comes x event (Err fault) = (fault ≡ NoMemory) ⊎ ((step_of x event).fault ≡ Some fault)
+
+-- a refusal is the step's; want of memory is told only where the step takes memory
+abbrev pub Tells : Shown → Shown → ClientEvent → Result (List Envelope) ClientFault → Type 0
+Tells old new event told = IfErr told (IsRefusal old new (step_of old event))
+
+-- a copy of an envelope takes memory
+abbrev pub Brings : ClientEvent → Type 0
+Brings (Submits cmd) = ⊥
+Brings (Takes envelope) = Unit {0}
+Brings Beats = ⊥
 
 -- a client opens as one that has asked for nothing
 abbrev pub Opens : Shown → Shown → Type 0

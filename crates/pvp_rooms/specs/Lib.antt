@@ -6,3 +6,4 @@ pub mod Sites
 pub mod Requests
 pub mod Nodes
 pub mod Clients
+pub mod Gates

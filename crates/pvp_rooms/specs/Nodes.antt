@@ -1,11 +1,12 @@
 -- A node as an actor: a state is what it shows.
-use Rattle.std.specs.Prelude.{◌≡◌, ◌⊎◌, ℕ, true, List, length, Some, Result, Ok, Err}
+use Rattle.std.specs.Prelude.{◌≡◌, ◌⊎◌, ℕ, true, List, length, Some, Result, Ok, Err, IfErr}
 use Rattle.pvp_book.specs.Answer.{has_member}
 use Rattle.rtgs_node.specs.declared.event.NodeEvent.{NodeEvent}
+use Rattle.rtgs_node.specs.declared.event.NodeEvent.TheVariants.{PaysIn, Closes, Takes, Beats}
 use Rattle.rtgs_node.specs.declared.fault.NodeFault.{NodeFault}
 use Rattle.rtgs_node.specs.declared.fault.NodeFault.TheVariants.{NoMemory}
 use Rattle.rtgs_node.specs.Node.{Envelope, opening_node, account, member_account}
-use Rattle.rtgs_node.specs.Shown.{Shown, step_of, IsStep}
+use Rattle.rtgs_node.specs.Shown.{Shown, step_of, IsStep, IsRefusal}
 
 -- the state after an event that came out so: a refusal changes nothing
 abbrev pub after : Shown → NodeEvent → Result (List Envelope) NodeFault → Shown
@@ -16,6 +17,17 @@ after x event (Err fault) = x
 abbrev pub Comes : Shown → NodeEvent → Result (List Envelope) NodeFault → Type 0
 Comes x event (Ok sent) = IsStep x (after x event (Ok sent)) (step_of x event) sent
 Comes x event (Err fault) = (fault ≡ NoMemory) ⊎ ((step_of x event).fault ≡ Some fault)
+
+-- a refusal is the step's; want of memory is told only where the step takes memory
+abbrev pub Tells : Shown → Shown → NodeEvent → Result (List Envelope) NodeFault → Type 0
+Tells old new event told = IfErr told (IsRefusal old new (step_of old event))
+
+-- a copy of an envelope takes memory
+abbrev pub Brings : NodeEvent → Type 0
+Brings (PaysIn member amt) = ⊥
+Brings (Closes member) = ⊥
+Brings (Takes envelope) = Unit {0}
+Brings Beats = ⊥
 
 -- a node opens as one that has handled nothing
 abbrev pub Opens : Shown → Shown → Type 0

@@ -38,10 +38,12 @@ clock_after own stamp =
 abbrev pub receipt : {E O : Type 0} → Input E → ℕ → O → Recorded E O
 receipt input clock outcome = record { event = input.event; stamp = input.stamp; clock = clock; outcome = outcome }
 
--- what an actor did with an event: it can come out so, and the actor shows the state after it, and is still what it was opened as
+-- what an actor did with an event: it can come out so, and the actor shows the state after it, and is still what it was
+-- opened as; and where it fell or wanted memory, that has its cause
 pub record Acted {A N E O : Type 0} (m : Ghosts A N E O) (old new : A) (event : E) (outcome : O) : Type 0 where
   pub step : (x : m.State) → m.shows old x → Takes m.comes m.after x event outcome (m.shows new)
   pub opens : (opening : N) (x : m.State) → m.opens new opening x → m.opens old opening x
+  pub told : m.tells old new event outcome
 
 -- a room took an input
 pub record Took {A N E O : Type 0} (m : Ghosts A N E O) (input : Input E) (old new : Shown N A E O) (clock : ℕ) (outcome : O) : Type 0 where

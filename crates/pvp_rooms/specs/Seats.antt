@@ -19,12 +19,15 @@ pub record Held (E O : Type 0) : Type 0 where
   pub number : ℕ
   pub receipts : List (Recorded E O)
 
--- the event is the last of a history that some actor is the replay of
+-- the event is the last of a history that some actor is the replay of, and by it that actor became what it is
 pub record WasTaken {A N E O : Type 0} (m : Ghosts A N E O) (r : Recorded E O) : Type 0 where
   pub opening : N
+  pub before : A
   pub actor : A
   pub history : List (Recorded E O)
+  pub was : IsReplayed m opening before history
   pub replayed : IsReplayed m opening actor (history ++ r ∷ [])
+  pub told : m.tells before actor r.event r.outcome
   pub rising : IsRising (history ++ r ∷ []) 0
 
 -- what was answered was taken

@@ -1,17 +1,20 @@
 -- A replica as an actor: its states, and how events come out.
-use Rattle.std.specs.Prelude.{◌≡◌, ◌⊎◌, ◌<◌, ℕ, List, Option, Some}
+use Rattle.std.specs.Prelude.{◌≡◌, ◌≢◌, ◌⊎◌, ◌<◌, ℕ, List, Option, Some}
 use Rattle.vr_types.specs.declared.cell.Boot.{Boot}
 use Rattle.vr_types.specs.declared.cell.BootCell.{Ghosts as Cell}
 use Rattle.vr_types.specs.declared.event.EventOf.{EventOf}
+use Rattle.vr_types.specs.declared.event.EventOf.TheVariants.{Deliver, Timer, Beat, Crash, Restart}
+use Rattle.vr_types.specs.declared.event.SiteFault.{SiteFault}
 use Rattle.vr_types.specs.declared.event.SiteFault.TheVariants.{NoMemory, CellFault}
 use Rattle.vr_types.specs.declared.event.Status.TheVariants as status
 use Rattle.vr_types.specs.declared.event.Why.{Why}
 use Rattle.vr_types.specs.declared.machine.Machine.{Ghosts}
 use Rattle.vr_types.specs.declared.message.EnvelopeOf.{EnvelopeOf}
+use Rattle.vr_types.specs.Cell.{HasRisen}
 use Rattle.vr_types.specs.Choice.{Choice, IsRight}
 use Rattle.vr_types.specs.Handling.{IsFall, envelopes, refusal, site_step}
 use Rattle.vr_types.specs.Site.{Site, over, opening_site, boot_of}
-use Rattle.vr_types.specs.Step.{Step}
+use Rattle.vr_types.specs.Step.{Step, Handled}
 use Rattle.vr_log.specs.Outcomes.{ended}
 use Rattle.vr_log.specs.Running.{SumUp}
 use Rattle.vr_site.specs.Replica.{Shown, site_shown}
@@ -64,6 +67,32 @@ pub record Shows {H C R O S B : Type 0} (m : Ghosts H C R O S) (c : Cell B) (v :
   pub is : IsSiteOf m v x
   pub acks : SumUp v.volatile.acked x.site.collected.acks
   pub site : x.site ≡ site_shown c.held v x.site.collected.acks
+
+-- the event is no crash, and the site would handle it, and neither refuse nor drop it
+pub record IsHandled {H C R O : Type 0} (x : SiteState H C) (event : EventOf C R O) : Type 0 where
+  pub no_crash : event ≢ Crash
+  pub handled : (step_in x event).ending ≡ Handled
+
+-- A FALL HAS ITS CAUSE: a crash fells no site, nor does an event that is dropped; that the cell did not save is told where
+-- a save failed, and only there
+pub record HasCause {H C R O S B : Type 0} (m : Ghosts H C R O S) (c : Cell B) (old new : Shown C S B) (event : EventOf C R O) (why : SiteFault) : Type 0 where
+  pub handled : (x : SiteState H C) → Shows m c old x → IsHandled x event
+  pub failed : why ≡ CellFault → HasRisen (c.faults old.cell) (c.faults new.cell)
+  pub counted : why ≢ CellFault → c.faults new.cell ≡ c.faults old.cell
+
+-- what is told of an event that came out so: a refusal changes nothing, and no save failed that is not told
+abbrev pub Tells : {H C R O S B : Type 0} → Ghosts H C R O S → Cell B → Shown C S B → Shown C S B → EventOf C R O → CameOf C R O → Type 0
+Tells m c old new event (Did sent dropped) = c.faults new.cell ≡ c.faults old.cell
+Tells m c old new event (Refused why) = new ≡ old
+Tells m c old new event (Fell why cell) = HasCause m c old new event why
+
+-- a copy of a message takes memory
+abbrev pub Brings : {C R O : Type 0} → EventOf C R O → Type 0
+Brings (Deliver envelope) = Unit {0}
+Brings Timer = ⊥
+Brings Beat = ⊥
+Brings Crash = ⊥
+Brings Restart = ⊥
 
 -- what the replica's reading calls show, but for its machine, is this site's: of what it knows each number, and a group has at most seven sites
 pub record Reads {H C S B : Type 0} (c : Cell B) (v : Shown C S B) (x : SiteState H C) : Type 0 where

@@ -32,6 +32,13 @@ pub trait Actor: Drop {
     /// Whether what the actor's reading calls show is of this state.
     ghost reads: { Self → Self.State → Type 0 };
 
+    /// Whether an event that came out so may leave an actor that was as the first as the second: a fall and a want of
+    /// memory have their cause.
+    ghost tells: { Self → Self → Self.Event → Self.Outcome → Type 0 };
+
+    /// Whether the event brings something that a copy of it takes memory for.
+    ghost brings: { Self.Event → Type 0 };
+
     /// Takes an event. Where memory for the copies of what comes out is refused, an actor that can fall does so; any
     /// other is as it was, and says so by `Err`.
     fn take(
@@ -43,9 +50,11 @@ pub trait Actor: Drop {
         ensures opens { (opening : Self.Opening) (x : Self.State) → opens self.new opening x → opens self.old opening x }
         ensures recorded { IfOk result (λ copies. copies.recorded ≡ copies.answered) }
         ensures receipted { IfOk result (λ copies. copies.receipted ≡ copies.answered) }
-        ensures err { OnErr result (self.new ≡ self.old) };
+        ensures err { OnErr result (self.new ≡ self.old) }
+        ensures told { IfOk result (λ copies. tells self.old self.new event copies.answered) };
 
-    /// The same event once more. `Err` where memory is refused.
+    /// The same event once more. `Err` where memory is refused, which is asked for what the event brings alone.
     fn copy_event(alloc: Global, event: &Self::Event) -> Result<Self::Event, AllocError>
-        ensures { IfOk result (λ copy. copy ≡ event.now) };
+        ensures copy { IfOk result (λ copy. copy ≡ event.now) }
+        ensures brings { OnErr result (brings event.now) };
 }

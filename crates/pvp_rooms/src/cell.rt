@@ -2,24 +2,17 @@ ghost use Rattle.std.specs.Prelude.{◌≡◌, ◌≢◌, ◌≤◌, ◌⊎◌, 
 ghost use Rattle.std.specs.List.Sorted.{IsNonDecreasingBy};
 ghost use Rattle.pvp_rooms.specs.Seats.{AnswersStep};
 ghost use Rattle.pvp_rooms.specs.Rooms.{receipts_after};
+ghost use Rattle.pvp_rooms.specs.Gates.{Hears, passage};
 ghost use Rattle.pvp_rooms.specs.Closing.{IsClosed, are_complete, fresh_seats};
 
 use crate::actor::Actor;
+use crate::gate::Gate;
 use crate::message::{Answer, Input, Recorded};
 use crate::room::Room;
 use crate::seat::Seat;
 use std::alloc::{AllocError, Global};
 use std::marker::Model;
 use std::sync::{Mutex, Wait};
-
-/// What is called as a step begins and as it ends, under the actor's lock.
-pub trait Gate: Sync {
-    /// The step of this actor begins.
-    fn enter(&self, actor: u16);
-
-    /// The step of this actor has ended.
-    fn leave(&self, actor: u16);
-}
 
 /// An actor behind a lock of its own, which it shares with no other. That the actor is the replay of its history is so
 /// whenever the lock is got.
@@ -100,15 +93,16 @@ impl<A: Actor> ActorCell<A> {
         alloc: Global,
         seat: &mut Seat<A::Event, A::Outcome>,
         input: Input<A::Event>,
-        gate: &G,
+        gate: &mut G,
     ) -> Answer<A::Outcome>
         ensures receipts { seat.new ≡ record seat.old { receipts = receipts_after input seat.old.receipts result } }
         ensures step { AnswersStep A.Actor input result }
+        ensures passed { Hears G.heard gate.old gate.new (passage self.now.number result) }
     {
         let mut room = self.room.lock(rt);
-        gate.enter(self.number);
+        gate.enter(self.number, &*room);
         let answer = room.step_with_receipt(alloc, input, &mut seat.receipts);
-        gate.leave(self.number);
+        gate.leave(self.number, &*room, &answer);
         answer
     }
 

@@ -1,5 +1,5 @@
 //! A client as an actor.
-ghost use Rattle.std.specs.Prelude.{◌≡◌, ◌≤◌, length, IfOk, IfErr, OnErr};
+ghost use Rattle.std.specs.Prelude.{◌≡◌, ◌≤◌, length, IfOk, OnErr};
 ghost use Rattle.pvp_rooms.specs.Closing.{fresh_seats};
 
 use crate::actor::Actor;
@@ -13,9 +13,9 @@ use pvp_world::Client;
 use std::alloc::{AllocError, Global};
 
 impl Actor for Client {
-    ghost use Rattle.pvp_world.specs.Client.{Shown, IsRefusal, step_of};
+    ghost use Rattle.pvp_world.specs.Client.{Shown};
     ghost use Rattle.pvp_rooms.specs.Histories.{Takes};
-    ghost use Rattle.pvp_rooms.specs.Clients.{Opens, Comes, Reads, after};
+    ghost use Rattle.pvp_rooms.specs.Clients.{Opens, Comes, Reads, Tells, Brings, after};
 
     /// It opens as one that has asked for nothing.
     type Opening = ();
@@ -36,6 +36,10 @@ impl Actor for Client {
 
     ghost reads = { Reads };
 
+    ghost tells = { Tells };
+
+    ghost brings = { Brings };
+
     fn take(
         &mut self,
         alloc: Global,
@@ -46,8 +50,7 @@ impl Actor for Client {
         ensures recorded { IfOk result (λ copies. copies.recorded ≡ copies.answered) }
         ensures receipted { IfOk result (λ copies. copies.receipted ≡ copies.answered) }
         ensures err { OnErr result (self.new ≡ self.old) }
-        // Want of memory is told only where the step takes memory.
-        ensures told { IfOk result (λ copies. IfErr copies.answered (IsRefusal self.old self.new (step_of self.old event))) }
+        ensures told { IfOk result (λ copies. Tells self.old self.new event copies.answered) }
     {
         let room = SentRoom::new(alloc, self.faults())?;
         Ok(match self.handle(alloc, event) {

@@ -4,6 +4,7 @@
 pub mod actor;
 pub mod cell;
 pub mod client;
+pub mod gate;
 pub mod message;
 pub mod node;
 mod requests;
@@ -12,8 +13,9 @@ pub mod seat;
 pub mod site;
 
 pub use actor::Actor;
-pub use cell::{ActorCell, CloseFault, Closed, Gate};
+pub use cell::{ActorCell, CloseFault, Closed};
 pub use client::{ClientCell, ClientSeat};
+pub use gate::Gate;
 pub use message::{Answer, Copies, Input, Recorded};
 pub use node::{NodeCell, NodeSeat};
 pub use requests::Told;

@@ -1,5 +1,5 @@
 //! A node as an actor.
-ghost use Rattle.std.specs.Prelude.{◌≡◌, ◌<◌, length, IfOk, IfErr, OnErr};
+ghost use Rattle.std.specs.Prelude.{◌≡◌, ◌<◌, length, IfOk, OnErr};
 ghost use Rattle.pvp_book.specs.Ledger.{node_of};
 ghost use Rattle.pvp_rooms.specs.Closing.{fresh_seats};
 
@@ -14,9 +14,9 @@ use rtgs_node::{Node, NodeEvent, NodeFault};
 use std::alloc::{AllocError, Global};
 
 impl Actor for Node {
-    ghost use Rattle.rtgs_node.specs.Shown.{Shown, IsRefusal, step_of};
+    ghost use Rattle.rtgs_node.specs.Shown.{Shown};
     ghost use Rattle.pvp_rooms.specs.Histories.{Takes};
-    ghost use Rattle.pvp_rooms.specs.Nodes.{Opens, Comes, Reads, after};
+    ghost use Rattle.pvp_rooms.specs.Nodes.{Opens, Comes, Reads, Tells, Brings, after};
 
     /// It opens as its setup says.
     type Opening = ();
@@ -37,6 +37,10 @@ impl Actor for Node {
 
     ghost reads = { Reads };
 
+    ghost tells = { Tells };
+
+    ghost brings = { Brings };
+
     fn take(
         &mut self,
         alloc: Global,
@@ -47,8 +51,7 @@ impl Actor for Node {
         ensures recorded { IfOk result (λ copies. copies.recorded ≡ copies.answered) }
         ensures receipted { IfOk result (λ copies. copies.receipted ≡ copies.answered) }
         ensures err { OnErr result (self.new ≡ self.old) }
-        // Want of memory is told only where the step takes memory.
-        ensures told { IfOk result (λ copies. IfErr copies.answered (IsRefusal self.old self.new (step_of self.old event))) }
+        ensures told { IfOk result (λ copies. Tells self.old self.new event copies.answered) }
     {
         let room = SentRoom::new(alloc, self.setup().faults())?;
         Ok(match self.handle(event) {

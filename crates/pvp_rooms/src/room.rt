@@ -61,6 +61,7 @@ impl<A: Actor> Room<A> {
     ) -> Answer<A::Outcome>
         ensures told { Told A.Actor input self.old self.new result }
         ensures receipts { receipts.new.items ≡ receipts_after input receipts.old.items result }
+        ensures was { IsRoom A.Actor self.old }
         ensures sound { IsRoom A.Actor self.new }
     {
         let Some(clock) = next_clock(self.clock, input.stamp) else {

@@ -1,5 +1,5 @@
 //! A site as an actor.
-ghost use Rattle.std.specs.Prelude.{◌≡◌, ◌+◌, IfOk};
+ghost use Rattle.std.specs.Prelude.{◌≡◌, ◌+◌, [], IfOk, IsOk, OnErr};
 ghost use Rattle.vr_types.specs.Group.{actor_of};
 ghost use Rattle.pvp_rooms.specs.Closing.{fresh_seats};
 ghost use Rattle.pvp_rooms.specs.Sites.{SiteState, Opens, Shows};
@@ -11,7 +11,8 @@ use crate::seat::Seat;
 use std::alloc::{AllocError, Global};
 use vr_site::Replica;
 use vr_types::{
-    Boot, BootCell, Config, Event, FIRST_SITE, Machine, Outcome, Sent, SentOf, SiteFault, Why,
+    Boot, BootCell, Config, Event, EventOf, FIRST_SITE, Machine, Outcome, Sent, SentOf, SiteFault,
+    Why,
 };
 
 /// How an event came out at a site.
@@ -35,7 +36,7 @@ pub enum CameOf<C, R, O> {
 pub type Came<M> = CameOf<<M as Machine>::Cmd, <M as Machine>::Reply, <M as Machine>::Order>;
 
 impl<M: Machine, C: BootCell> Actor for Replica<M, C> {
-    ghost use Rattle.pvp_rooms.specs.Sites.{Comes, Reads, after};
+    ghost use Rattle.pvp_rooms.specs.Sites.{Comes, Reads, Tells, Brings, after};
 
     /// What its cell held.
     type Opening = Boot;
@@ -56,6 +57,10 @@ impl<M: Machine, C: BootCell> Actor for Replica<M, C> {
 
     ghost reads = { λ v x. Reads C.BootCell v x };
 
+    ghost tells = { λ old new event came. Tells M.Machine C.BootCell old new event came };
+
+    ghost brings = { λ event. Brings event };
+
     /// Where a copy of what the site sent is refused after its step, the site falls.
     fn take(&mut self, alloc: Global, event: Event<M>) -> Result<Copies<Came<M>>, AllocError> {
         if let Some(why) = self.refuses(&event) {
@@ -74,7 +79,13 @@ impl<M: Machine, C: BootCell> Actor for Replica<M, C> {
     }
 
     fn copy_event(alloc: Global, event: &Event<M>) -> Result<Event<M>, AllocError> {
-        event.copy(alloc)
+        Ok(match event {
+            EventOf::Deliver(envelope) => EventOf::Deliver(envelope.copy(alloc)?),
+            EventOf::Timer => EventOf::Timer,
+            EventOf::Beat => EventOf::Beat,
+            EventOf::Crash => EventOf::Crash,
+            EventOf::Restart => EventOf::Restart,
+        })
     }
 }
 
@@ -106,16 +117,17 @@ impl<M: Machine, C: BootCell> ActorCell<Replica<M, C>> {
     }
 }
 
-/// What a step led to, three times. `Err` where memory is refused.
+/// What a step led to, three times. `Err` where memory is refused, which is asked for where something was sent alone.
 fn did<M: Machine>(alloc: Global, out: Outcome<M>) -> Result<Copies<Came<M>>, AllocError>
     ensures answered { IfOk result (λ copies. copies.answered ≡ CameOf.Did out.sent.items out.dropped) }
     ensures recorded { IfOk result (λ copies. copies.recorded ≡ copies.answered) }
     ensures receipted { IfOk result (λ copies. copies.receipted ≡ copies.answered) }
+    ensures nothing { out.sent.items ≡ [] → IsOk result }
 {
     let dropped = out.dropped;
     let sent: Sent<M> = SentOf::new(out.sent);
-    let recorded = sent.copy(alloc)?;
-    let receipted = sent.copy(alloc)?;
+    let recorded = copy_of::<M>(alloc, &sent)?;
+    let receipted = copy_of::<M>(alloc, &sent)?;
     Ok(Copies {
         answered: CameOf::Did { sent, dropped },
         recorded: CameOf::Did {
@@ -127,6 +139,17 @@ fn did<M: Machine>(alloc: Global, out: Outcome<M>) -> Result<Copies<Came<M>>, Al
             dropped,
         },
     })
+}
+
+/// What was sent once more. `Err` where memory is refused, which none is where nothing was sent.
+fn copy_of<M: Machine>(alloc: Global, sent: &Sent<M>) -> Result<Sent<M>, AllocError>
+    ensures copy { IfOk result (λ copy. copy ≡ sent.now) }
+    ensures nothing { sent.now ≡ [] → IsOk result }
+{
+    if sent.is_empty() {
+        return Ok(SentOf::new(Vec::new(alloc)));
+    }
+    sent.copy(alloc)
 }
 
 /// A refusal, three times.

@@ -16,4 +16,4 @@ pub use player::Player;
 pub use serving::serve_streams;
 pub use sockets::{Connected, Incoming, NetFault, Sending, connect_all, may_send};
 pub use writer::{Outgoing, Writer};
-pub use writers::Writers;
+pub use writers::{Outlet, Writers};

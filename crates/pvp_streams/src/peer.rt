@@ -1,5 +1,5 @@
 //! One incoming stream of a system.
-use crate::writers::Writers;
+use crate::writers::{Outlet, Writers};
 use pvp_peers::{PeerEnd, Served, serve_peer};
 use pvp_rooms::{Actor, ActorCell, Gate, Seat};
 use std::alloc::Global;
@@ -8,30 +8,34 @@ use std::sync::Wait;
 
 /// An incoming stream of an actor, and the seat from which its frames are posted.
 #[derive(Drop)]
-pub struct Peer<'a, A: Actor, R> {
+pub struct Peer<'a, A: Actor, R, G> {
     /// The actor.
     pub cell: &'a ActorCell<A>,
     pub seat: Seat<A::Event, A::Outcome>,
     pub reader: R,
+    /// What is told of the steps for its frames.
+    pub gate: G,
     /// How the stream ended, once it has been served.
     pub end: Option<PeerEnd>,
 }
 
-impl<A: Served, R: Read> Peer<'_, A, R> {
-    ghost use Rattle.pvp_streams.specs.Serving.{IsPeerServed};
+impl<A: Served, R: Read, G: Gate> Peer<'_, A, R, G> {
+    ghost use Rattle.pvp_streams.specs.Serving.{IsPeerServed, IsPeerHeard};
 
     /// Serves the stream to its end.
-    pub(crate) fn serve<G: Gate, T: Wait>(&mut self, rt: &T, alloc: Global, gate: &G, out: &Writers)
-        ensures { IsPeerServed A.Served.delivery (λ r. R.remaining r) self.old self.new }
+    pub(crate) fn serve<T: Wait>(&mut self, rt: &T, alloc: Global, out: &Writers)
+        ensures served { IsPeerServed A.Served.delivery (λ r. R.remaining r) self.old self.new }
+        ensures heard { IsPeerHeard (λ x. G.heard x) self.old self.new }
     {
+        let mut outlet = Outlet { writers: out };
         let end = serve_peer(
             rt,
             alloc,
             self.cell,
             &mut self.seat,
             &mut self.reader,
-            gate,
-            out,
+            &mut self.gate,
+            &mut outlet,
         );
         self.end = Some(end);
     }

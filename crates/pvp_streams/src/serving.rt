@@ -1,11 +1,11 @@
 //! All workers of a system at once.
 ghost use Rattle.std.specs.Fork.{AcceptsEach};
-ghost use Rattle.pvp_streams.specs.Serving.{AllChanged, AreServed};
+ghost use Rattle.pvp_streams.specs.Serving.{AllChanged, AreServed, AreHeard, IsPeerServed, IsPeerHeard, HasPlayed};
 
 use crate::peer::Peer;
 use crate::player::Player;
 use crate::writer::Writer;
-use crate::writers::Writers;
+use crate::writers::{Outlet, Writers};
 use pvp_peers::Served;
 use pvp_rooms::Gate;
 use std::alloc::Global;
@@ -20,10 +20,9 @@ use std::thread::{self, Threads};
 pub fn serve_streams<A, R, W, G, P, T>(
     rt: &T,
     alloc: Global,
-    peers: &mut [Peer<'_, A, R>],
+    peers: &mut [Peer<'_, A, R, G>],
     writers: &mut [Writer<W>],
     out: &Writers,
-    gate: &G,
     player: &mut P,
 )
 where
@@ -33,15 +32,20 @@ where
     A::Outcome: Send,
     R: Read + Send,
     W: Write + Send + Drop,
-    G: Gate,
+    G: Gate + Send,
     P: Player,
     T: Threads + Wait + Sync,
-    ensures { AreServed A.Served.delivery (λ r. R.remaining r) peers.old peers.new }
+    ensures served { AreServed A.Served.delivery (λ r. R.remaining r) peers.old peers.new }
+    ensures heard { AreHeard (λ x. G.heard x) peers.old peers.new }
+    ensures played { HasPlayed P.plays player.old player.new }
 {
     let write = &mut || write_all(rt, out, player, writers);
     each_beside(
         rt,
-        &|_, peer: &mut Peer<'_, A, R>| peer.serve(rt, alloc, gate, out),
+        &|_, peer: &mut Peer<'_, A, R, G>|
+            ensures served { IsPeerServed A.Served.delivery (λ r. R.remaining r) peer.old peer.new }
+            ensures heard { IsPeerHeard (λ x. G.heard x) peer.old peer.new }
+        { peer.serve(rt, alloc, out) },
         write,
         peers,
     );
@@ -56,7 +60,8 @@ fn each_beside<X: Send, F: Fn(usize, &mut X) + Sync, H: FnMut(), T: Threads + Sy
 )
     requires each { AcceptsEach F.Fn f.now items.old }
     requires other { H.pre other.old }
-    ensures { AllChanged F.Fn f.now items.old items.new }
+    ensures each { AllChanged F.Fn f.now items.old items.new }
+    ensures other { H.step other.old tt other.new }
 {
     let mut work = ||
         requires { AcceptsEach F.Fn f.now items.now }
@@ -80,6 +85,7 @@ where
     W: Write + Send + Drop,
     P: Player,
     T: Threads + Wait + Sync,
+    ensures { HasPlayed P.plays player.old player.new }
 {
     thread::join_mut(
         rt,
@@ -99,7 +105,10 @@ where
 }
 
 /// Runs the player, and then tells the writers to stop.
-fn play<P: Player, T: Wait>(rt: &T, out: &Writers, player: &mut P) {
-    player.play(out);
+fn play<P: Player, T: Wait>(rt: &T, out: &Writers, player: &mut P)
+    ensures { HasPlayed P.plays player.old player.new }
+{
+    let mut outlet = Outlet { writers: out };
+    player.play(&mut outlet);
     out.stop(rt);
 }

@@ -39,10 +39,26 @@ impl Writers {
     }
 }
 
+/// The writers of all actors, as one worker reaches them.
+#[derive(Drop)]
+pub struct Outlet<'a> {
+    pub writers: &'a Writers,
+}
+
 /// An envelope without a spelling, one for whose copy memory is refused, and one that the channel does not take are lost.
-impl Outbox for Writers {
-    fn put<T: Wait>(&self, rt: &T, alloc: Global, actor: u16, clock: u64, sent: &[Envelope<Book>]) {
-        let Some(lane) = self.lane(actor) else {
+impl Outbox for Outlet<'_> {
+    /// Nothing is known of what has come through.
+    ghost got = { λ outlet all. Unit {0} };
+
+    fn put<T: Wait>(
+        &mut self,
+        rt: &T,
+        alloc: Global,
+        actor: u16,
+        clock: u64,
+        sent: &[Envelope<Book>],
+    ) {
+        let Some(lane) = self.writers.lane(actor) else {
             return;
         };
         let mut index = 0u32;
