@@ -1,9 +1,10 @@
-//! What one site left, altered in one place after the run, and where the audit finds it.
-use crate::common::{Place, is_judged};
+//! What one site left, altered in one place after the run, and where the audit finds it, alone and in the whole bank.
+use crate::common::{Place, bank_around, is_judged, is_judged_whole};
 use pvp_audit::{Verdict, Why};
 use pvp_parties::{Party, PartyEvent};
 use pvp_rooms::{Actor, Closed};
 use std::mem;
+use std::process::Abort;
 use std::sync::Wait;
 use std::test::Fail;
 use vr_types::EventOf;
@@ -53,13 +54,21 @@ fn swap_last<T>(one: &mut Vec<T>, other: &mut Vec<T>) {
     }
 }
 
-/// The first site's event of this place fails this test.
-fn site_fails(event: usize, why: Why) -> Verdict {
-    Verdict::No {
+/// The event of this place, of the first site, fails this test, where the site is judged alone and in its bank.
+fn site_fails<R: Abort + AllocGlobal>(
+    rt: &R,
+    mut both: Vec<Closed<Party>>,
+    event: usize,
+    why: Why,
+) -> Result<(), Fail> {
+    both.truncate(1);
+    let told = Verdict::No {
         actor: 200,
         event,
         why,
-    }
+    };
+    is_judged(rt, both.as_slice(), told)?;
+    is_judged_whole(rt, bank_around(rt.alloc(), both)?.as_slice(), told)
 }
 
 /// The receipt of the second beat is that of another site's, which sent nothing.
@@ -67,8 +76,7 @@ fn site_fails(event: usize, why: Why) -> Verdict {
 fn another_receipt_is_told(rt: HostRuntime) -> Result<(), Fail> {
     let mut both = beside(&rt, beaten(&rt, 1, &[0, 1])?)?;
     swap_seats(both.as_mut_slice());
-    both.truncate(1);
-    is_judged(&rt, both.as_slice(), site_fails(2, Why::Receipts))
+    site_fails(&rt, both, 2, Why::Receipts)
 }
 
 /// The second beat has clock 1, as one that was the first of another run.
@@ -77,8 +85,7 @@ fn a_clock_that_stands_still_is_told(rt: HostRuntime) -> Result<(), Fail> {
     let mut both = beside(&rt, beaten(&rt, 0, &[1])?)?;
     swap_seats(both.as_mut_slice());
     swap_events(both.as_mut_slice());
-    both.truncate(1);
-    is_judged(&rt, both.as_slice(), site_fails(2, Why::Clock))
+    site_fails(&rt, both, 2, Why::Clock)
 }
 
 /// The second beat sent nothing, as a backup's.
@@ -87,8 +94,7 @@ fn missing_envelopes_are_told(rt: HostRuntime) -> Result<(), Fail> {
     let mut both = beside(&rt, beaten(&rt, 1, &[0, 1])?)?;
     swap_seats(both.as_mut_slice());
     swap_events(both.as_mut_slice());
-    both.truncate(1);
-    is_judged(&rt, both.as_slice(), site_fails(2, Why::Answered))
+    site_fails(&rt, both, 2, Why::Answered)
 }
 
 /// The end is that of the same site after a crash.
@@ -98,8 +104,7 @@ fn another_end_is_told(rt: HostRuntime) -> Result<(), Fail> {
     crashed.post(&rt, PartyEvent::OfSite(EventOf::Crash), None)?;
     let mut both = beside(&rt, crashed.close()?)?;
     swap_ends(both.as_mut_slice());
-    both.truncate(1);
-    is_judged(&rt, both.as_slice(), site_fails(0, Why::End))
+    site_fails(&rt, both, 0, Why::End)
 }
 
 /// What is delivered was sent by a first site that is not the one whose history is judged: that one took nothing.
@@ -117,5 +122,16 @@ fn a_stamp_of_no_event_is_told(rt: HostRuntime) -> Result<(), Fail> {
         event: 1,
         why: Why::Stamped,
     };
-    is_judged(&rt, closed.as_slice(), told)
+    is_judged(&rt, closed.as_slice(), told)?;
+    is_judged_whole(&rt, bank_around(rt.alloc(), closed)?.as_slice(), told)
+}
+
+/// A receipt is left over, since the history has lost its last event: that is of no event.
+#[test]
+fn a_left_over_receipt_is_told(rt: HostRuntime) -> Result<(), Fail> {
+    let mut both = beside(&rt, beaten(&rt, 1, &[])?)?;
+    for one in both.as_mut_slice() {
+        one.history.truncate(1);
+    }
+    site_fails(&rt, both, 0, Why::Receipts)
 }

@@ -119,3 +119,61 @@ fn strays_do_nothing(rt: HostRuntime) -> Result<(), Fail> {
     closed.push(node.close()?)?;
     is_judged(&rt, closed.as_slice(), Verdict::Yes)
 }
+
+/// A beat of the primary goes to a backup: at the operator it is a stray, and no delivery that a run has.
+#[test]
+fn an_envelope_to_a_site_comes_to_no_client(rt: HostRuntime) -> Result<(), Fail> {
+    let mut three = Three::open(rt.alloc())?;
+    let beat = three
+        .primary
+        .post(&rt, PartyEvent::OfSite(EventOf::Beat), None)?;
+    let (_, came) = three.operator.deliver(&rt, 200, &beat)?;
+    assert!(rt; matches!(came, PartyOutcome::Stray));
+    let told = Verdict::No {
+        actor: 0,
+        event: 1,
+        why: Why::Stamped,
+    };
+    is_judged(&rt, three.close(rt.alloc())?.as_slice(), told)
+}
+
+/// An actor takes these one after another, whatever comes of them.
+fn takes_all<R: Wait + AllocGlobal>(
+    rt: &R,
+    place: &mut Place,
+    events: Vec<PartyEvent>,
+) -> Result<(), Fail> {
+    for event in events {
+        place.post(rt, event, None)?;
+    }
+    Ok(())
+}
+
+/// Each kind of event is taken and recorded: a pay-in, an envelope, a closed account and a beat at a node.
+#[test]
+fn a_node_takes_each_kind_of_event(rt: HostRuntime) -> Result<(), Fail> {
+    let mut node = Place::node(rt.alloc())?;
+    let pays = NodeEvent::PaysIn { member: 1, amt: 5 };
+    let paid = node.post(&rt, PartyEvent::OfNode(pays), None)?;
+    let mut events = Vec::new(rt.alloc());
+    events.push(PartyEvent::OfNode(NodeEvent::Takes(first_letter(rt.alloc(), &paid.1)?)))?;
+    events.push(PartyEvent::OfNode(NodeEvent::Closes(1)))?;
+    events.push(PartyEvent::OfNode(NodeEvent::Beats))?;
+    takes_all(&rt, &mut node, events)
+}
+
+/// A beat, a timer, a crash and a restart at a site, and a beat of a client. Their envelopes and requests go in the runs above.
+#[test]
+fn a_site_and_a_client_take_each_kind_of_event(rt: HostRuntime) -> Result<(), Fail> {
+    let mut three = Three::open(rt.alloc())?;
+    let mut events = Vec::new(rt.alloc());
+    events.push(PartyEvent::OfSite(EventOf::Beat))?;
+    events.push(PartyEvent::OfSite(EventOf::Timer))?;
+    events.push(PartyEvent::OfSite(EventOf::Crash))?;
+    events.push(PartyEvent::OfSite(EventOf::Restart))?;
+    takes_all(&rt, &mut three.backup, events)?;
+    three
+        .operator
+        .post(&rt, PartyEvent::OfClient(ClientEvent::Beats), None)?;
+    Ok(())
+}

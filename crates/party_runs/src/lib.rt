@@ -7,3 +7,5 @@ mod altered;
 mod bank;
 #[cfg(test)]
 mod common;
+#[cfg(test)]
+mod judged;

@@ -22,7 +22,7 @@ use Rattle.pvp_parties.specs.declared.party.PartyEvent.{PartyEvent}
 use Rattle.pvp_parties.specs.declared.party.PartyOutcome.{PartyOutcome}
 use Rattle.pvp_parties.specs.Alike as alike
 use Rattle.pvp_parties.specs.Alike.{AreAlikeSites}
-use Rattle.pvp_parties.specs.Parties.{PartyState, Opens, Shows, Comes, Reads, after, delivers, sent, is_for}
+use Rattle.pvp_parties.specs.Parties.{PartyState, Opens, Shows, Comes, Reads, Tells, Brings, after, delivers, sent, is_for}
 use Rattle.pvp_judge.specs.declared.judgement.Judgement.{Judgement}
 use Rattle.pvp_judge.specs.declared.judgement.Judgement.TheVariants.{Yes, No}
 use Rattle.pvp_judge.specs.Retold.{WentThrough}
@@ -33,7 +33,7 @@ Left = Closed Party (Option Boot) PartyEvent PartyOutcome
 
 -- the ghost members of an actor of the bank
 abbrev pub party : Ghosts Party (Option Boot) PartyEvent PartyOutcome
-party = record { State = PartyState; opens = Opens; shows = Shows; comes = Comes; after = after; reads = Reads }
+party = record { State = PartyState; opens = Opens; shows = Shows; comes = Comes; after = after; reads = Reads; tells = λ old new event told. Tells told old new event; brings = Brings }
 
 -- what the sites opened over, in order
 abbrev pub openings : List Left → List Boot

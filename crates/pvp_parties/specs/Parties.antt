@@ -1,5 +1,6 @@
 -- The bank's three kinds of actors as one kind of actor.
 use Rattle.std.specs.Prelude.{◌≡◌, ◌==◌, ℕ, Bool, true, List, [], Option, Some, None, Ok}
+use Rattle.std.specs.Option.{option_map_or}
 use Rattle.pvp_types.specs.declared.setup.Setup.{Setup}
 use Rattle.pvp_types.specs.declared.command.Cmd.{Cmd}
 use Rattle.vr_types.specs.declared.cell.Boot.{Boot}
@@ -85,6 +86,20 @@ Reads (Node p) (AtNode x) = nodes.Reads p.now x
 Reads (Client p) (AtClient x) = clients.Reads p.now x
 Reads _ _ = ⊥
 
+-- a fall or a want of memory of an actor has its cause; a stray changes nothing
+abbrev pub Tells : PartyOutcome → Party → Party → PartyEvent → Type 0
+Tells Stray old new event = new ≡ old
+Tells (SiteTold came) (Site p) (Site q) (OfSite event) = sites.Tells book memory p.now q.now event came
+Tells (NodeTold told) (Node p) (Node q) (OfNode event) = nodes.Tells p.now q.now event told
+Tells (ClientTold told) (Client p) (Client q) (OfClient event) = clients.Tells p.now q.now event told
+Tells _ _ _ _ = ⊥
+
+-- a copy of an envelope takes memory
+abbrev pub Brings : PartyEvent → Type 0
+Brings (OfSite event) = sites.Brings event
+Brings (OfNode event) = nodes.Brings event
+Brings (OfClient event) = clients.Brings event
+
 -- a turn's event
 abbrev pub event_of : Turn → PartyEvent
 event_of (SiteTurn site event) = OfSite event
@@ -111,5 +126,5 @@ sent _ = []
 
 -- A client takes only what is addressed to its own number. A site and a node see to that themselves.
 abbrev pub is_for : Party → PartyEvent → Bool
-is_for (Client p) (OfClient (ToClient envelope)) = envelope.to == p.place
+is_for (Client p) event = option_map_or (λ envelope. envelope.to == p.place) (delivers event) true
 is_for _ _ = true

@@ -8,7 +8,6 @@ use crate::told::{
     same_came, same_client_event, same_client_told, same_node_event, same_node_told,
     same_site_event,
 };
-use headline::ClientEvent;
 use pvp_audit::Audited;
 use std::alloc::{AllocError, Global};
 use vr_types::Boot;
@@ -94,10 +93,8 @@ impl Audited for Party {
     }
 
     fn is_for(&self, event: &PartyEvent) -> bool {
-        match (self, event) {
-            (Party::Client(client), PartyEvent::OfClient(ClientEvent::Takes(envelope))) => {
-                envelope.to == client.number()
-            }
+        match (self, letter_of(event)) {
+            (Party::Client(client), Some(letter)) => letter.to == client.number(),
             _ => true,
         }
     }

@@ -95,6 +95,7 @@ impl SiteParty {
         ensures recorded { IfOk result (λ copies. copies.recorded ≡ copies.answered) }
         ensures receipted { IfOk result (λ copies. copies.receipted ≡ copies.answered) }
         ensures err { OnErr result (self.new ≡ self.old) }
+        ensures told { IfOk result (λ copies. sites.Tells book memory self.old.now self.new.now event copies.answered) }
     {
         Actor::take(&mut self.site, alloc, event)
     }
@@ -197,6 +198,7 @@ impl NodeParty {
         ensures recorded { IfOk result (λ copies. copies.recorded ≡ copies.answered) }
         ensures receipted { IfOk result (λ copies. copies.receipted ≡ copies.answered) }
         ensures err { OnErr result (self.new ≡ self.old) }
+        ensures told { IfOk result (λ copies. nodes.Tells self.old.now self.new.now event copies.answered) }
     {
         Actor::take(&mut self.node, alloc, event)
     }
@@ -299,6 +301,7 @@ impl ClientParty {
         ensures recorded { IfOk result (λ copies. copies.recorded ≡ copies.answered) }
         ensures receipted { IfOk result (λ copies. copies.receipted ≡ copies.answered) }
         ensures err { OnErr result (self.new ≡ self.old) }
+        ensures told { IfOk result (λ copies. clients.Tells self.old.now self.new.now event copies.answered) }
     {
         Actor::take(&mut self.client, alloc, event)
     }

@@ -10,6 +10,7 @@ use pvp_types::Setup;
 use pvp_world::Client;
 use rtgs_node::{Node, NodeEvent, NodeFault};
 use std::alloc::{AllocError, Global};
+use vr_site::Replica;
 use vr_types::{Boot, Event, MemCell};
 
 /// An actor of the bank.
@@ -39,7 +40,7 @@ pub enum PartyOutcome {
 }
 
 impl Actor for Party {
-    ghost use Rattle.pvp_parties.specs.Parties.{PartyState, Opens, Shows, Comes, Reads, after};
+    ghost use Rattle.pvp_parties.specs.Parties.{PartyState, Opens, Shows, Comes, Reads, Tells, Brings, after};
 
     /// What a site's cell held; a node and a client open over nothing.
     type Opening = Option<Boot>;
@@ -59,6 +60,10 @@ impl Actor for Party {
     ghost after = { after };
 
     ghost reads = { Reads };
+
+    ghost tells = { λ old new event told. Tells told old new event };
+
+    ghost brings = { Brings };
 
     /// An event of another kind of actor is a stray.
     fn take(
@@ -84,7 +89,9 @@ impl Actor for Party {
 
     fn copy_event(alloc: Global, event: &PartyEvent) -> Result<PartyEvent, AllocError> {
         Ok(match event {
-            PartyEvent::OfSite(event) => PartyEvent::OfSite(event.copy(alloc)?),
+            PartyEvent::OfSite(event) => {
+                PartyEvent::OfSite(Replica::<Book, MemCell>::copy_event(alloc, event)?)
+            }
             PartyEvent::OfNode(event) => PartyEvent::OfNode(Node::copy_event(alloc, event)?),
             PartyEvent::OfClient(event) => {
                 PartyEvent::OfClient(Client::copy_event(alloc, event)?)
