@@ -5,3 +5,4 @@ pub mod Voices
 pub mod Followed
 pub mod Notes
 pub mod Outcomes
+pub mod Playing

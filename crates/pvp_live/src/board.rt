@@ -7,7 +7,7 @@ ghost use Rattle.pvp_live.specs.Voices.{site_of};
 ghost use Rattle.pvp_live.specs.Followed.{Follows, Hears, HearsWritten};
 
 use crate::voices::{Voice, site_of};
-use pvp_rooms::Gate;
+use pvp_rooms::{Actor, Answer, Gate, Room};
 use pvp_wire::{Feeder, Message, Stamped};
 use std::alloc::{AllocError, Global};
 use std::io::{self, Write};
@@ -88,12 +88,27 @@ impl Board {
     }
 }
 
-/// As the gate of the workers it counts what they post.
-impl Gate for Board {
-    fn enter(&self, _actor: u16) {}
+/// The gate of one worker: it counts on the board what the worker posts.
+#[derive(Drop)]
+pub struct Counter<'a> {
+    board: &'a Board,
+}
 
-    fn leave(&self, _actor: u16) {
-        self.came.fetch_add(1, Ordering::SeqCst);
+impl<'a> Counter<'a> {
+    /// A gate that counts on this board.
+    pub fn new(board: &'a Board) -> Self {
+        Counter { board }
+    }
+}
+
+impl Gate for Counter<'_> {
+    /// What it counts stands with what others count, so of its own share nothing is known.
+    ghost heard = { λ counter all. Unit {0} };
+
+    fn enter<A: Actor>(&mut self, _actor: u16, _room: &Room<A>) {}
+
+    fn leave<A: Actor>(&mut self, _actor: u16, _room: &Room<A>, _answer: &Answer<A::Outcome>) {
+        self.board.came.fetch_add(1, Ordering::SeqCst);
     }
 }
 

@@ -68,7 +68,7 @@ pub fn tell_left<N: Write>(alloc: Global, notes: &mut N, closed: &[Closed<Party>
 }
 
 /// Tells how many frames were taken over all streams, and how many of these ended before their end.
-pub fn tell_ends<N: Write, S>(notes: &mut N, peers: &[Peer<'_, Party, S>]) {
+pub fn tell_ends<N: Write, S, G>(notes: &mut N, peers: &[Peer<'_, Party, S, G>]) {
     let mut frames: usize = 0;
     let mut broken: usize = 0;
     for peer in peers {

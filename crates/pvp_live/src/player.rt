@@ -1,7 +1,9 @@
 //! The player of a live script: it posts at each actor from a seat of its own.
 
-ghost use Rattle.std.specs.Prelude.{◌≡◌};
+ghost use Rattle.std.specs.Prelude.{◌≡◌, List, Some};
 ghost use Rattle.pvp_live.specs.Outcomes.{seen_after};
+ghost use Rattle.pvp_live.specs.Events as events;
+ghost use Rattle.pvp_live.specs.Playing.{HandsOver, place_of};
 
 use crate::board::Board;
 use crate::events::{Post, posted};
@@ -10,8 +12,8 @@ use crate::standing::{Standing, see};
 use crate::voices::site_of;
 use pvp_parties::{Party, PartyCell, PartyOutcome, PartySeat};
 use pvp_peers::{Outbox, Served};
-use pvp_rooms::{Answer, Gate, Input};
-use pvp_streams::{Player, Writers};
+use pvp_rooms::{Actor, Answer, Gate, Input, Room};
+use pvp_streams::Player;
 use pvp_text::script::{Line, Statement};
 use pvp_types::Setup;
 use std::alloc::Global;
@@ -25,9 +27,11 @@ use std::time::{Clock, Duration};
 pub struct Open;
 
 impl Gate for Open {
-    fn enter(&self, _actor: u16) {}
+    ghost heard = { λ gate all. Unit {0} };
 
-    fn leave(&self, _actor: u16) {}
+    fn enter<A: Actor>(&mut self, _actor: u16, _room: &Room<A>) {}
+
+    fn leave<A: Actor>(&mut self, _actor: u16, _room: &Room<A>, _answer: &Answer<A::Outcome>) {}
 }
 
 /// Posts what the lines of a script say, one after another, and tells what came of each, and where the sites stand.
@@ -48,9 +52,35 @@ pub struct LinePlayer<'a, R, N> {
 }
 
 impl<R: Wait + Clock, N: Write> LinePlayer<'_, R, N> {
+    /// Plays a line.
+    fn line<O: Outbox>(&mut self, line: Line, out: &mut O)
+        ensures posted { HandsOver self.old.cells.now (events.posted line.statement)
+            self.old.seats.items self.new.seats.items O.got out.old out.new }
+        ensures cells { self.new.cells ≡ self.old.cells }
+        ensures lines { self.new.lines ≡ self.old.lines }
+    {
+        match line.statement {
+            Statement::Rest { milliseconds } => {
+                tell_rest(self.notes, line.number, milliseconds);
+                thread::sleep(self.rt, Duration::from_millis(u64::from(milliseconds)));
+                self.tell(line.number);
+            }
+            statement => {
+                if let Some(post) = posted(statement) {
+                    self.post(line, post, out);
+                }
+            }
+        }
+    }
+
     /// Posts the event of a line, where there is its actor, and hands on what that sends. What came of it is told before, so
     /// that what is told rests on nothing that it brought about.
-    fn post(&mut self, line: Line, post: Post, out: &Writers) {
+    fn post<O: Outbox>(&mut self, line: Line, post: Post, out: &mut O)
+        ensures posted { HandsOver self.old.cells.now (Some post) self.old.seats.items
+            self.new.seats.items O.got out.old out.new }
+        ensures cells { self.new.cells ≡ self.old.cells }
+        ensures lines { self.new.lines ≡ self.old.lines }
+    {
         let Some(place) = place_of(self.cells, post.actor) else {
             return;
         };
@@ -61,7 +91,7 @@ impl<R: Wait + Clock, N: Write> LinePlayer<'_, R, N> {
             event: post.event,
             stamp: None,
         };
-        let answer = cell.post(self.rt, self.alloc, seat, input, &Open);
+        let answer = cell.post(self.rt, self.alloc, seat, input, &mut Open);
         tell_posted(
             self.alloc,
             self.notes,
@@ -85,8 +115,11 @@ impl<R: Wait + Clock, N: Write> LinePlayer<'_, R, N> {
     /// Keeps what is known of a site by what came of a line that was posted there, and tells where all stand. Of another
     /// actor nothing is kept or told.
     fn see(&mut self, line: Line, actor: u16, clock: u64, outcome: &PartyOutcome)
-        ensures { self.new.standings.items
+        ensures standings { self.new.standings.items
             ≡ seen_after self.old.standings.items actor line.statement clock outcome.now }
+        ensures seats { self.new.seats ≡ self.old.seats }
+        ensures cells { self.new.cells ≡ self.old.cells }
+        ensures lines { self.new.lines ≡ self.old.lines }
     {
         let (PartyOutcome::OfSite(came), Some(site)) = (outcome, site_of(actor)) else {
             return;
@@ -106,7 +139,10 @@ impl<R: Wait + Clock, N: Write> LinePlayer<'_, R, N> {
 
     /// Tells where the sites stand, and how many frames went over the streams.
     fn tell(&mut self, line: u32)
-        ensures { self.new.standings ≡ self.old.standings }
+        ensures standings { self.new.standings ≡ self.old.standings }
+        ensures seats { self.new.seats ≡ self.old.seats }
+        ensures cells { self.new.cells ≡ self.old.cells }
+        ensures lines { self.new.lines ≡ self.old.lines }
     {
         tell_sites(
             self.alloc,
@@ -119,25 +155,20 @@ impl<R: Wait + Clock, N: Write> LinePlayer<'_, R, N> {
 }
 
 impl<R: Wait + Clock, N: Write> Player for LinePlayer<'_, R, N> {
-    fn play(&mut self, out: &Writers) {
+    ghost use Rattle.pvp_live.specs.Playing.{Plays};
+
+    ghost plays = { λ old new puts. Plays old.cells.now old.lines.now old.seats.items new.seats.items puts };
+
+    fn play<O: Outbox>(&mut self, out: &mut O) {
         for line in self.lines {
-            match line.statement {
-                Statement::Rest { milliseconds } => {
-                    tell_rest(self.notes, line.number, milliseconds);
-                    thread::sleep(self.rt, Duration::from_millis(u64::from(milliseconds)));
-                    self.tell(line.number);
-                }
-                statement => {
-                    if let Some(post) = posted(statement) {
-                        self.post(*line, post, out);
-                    }
-                }
-            }
+            self.line(*line, out);
         }
     }
 }
 
 /// The place of the actor of a number.
-pub fn place_of(cells: &[PartyCell], number: u16) -> Option<usize> {
+pub fn place_of(cells: &[PartyCell], number: u16) -> Option<usize>
+    ensures { result ≡ place_of cells.now number }
+{
     cells.iter().position(|cell| cell.number() == number)
 }

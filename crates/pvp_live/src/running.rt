@@ -4,7 +4,7 @@ ghost use Rattle.pvp_types.specs.Setup.{IsValid};
 ghost use Rattle.pvp_live.specs.Told.{WasJudged, net_told};
 
 use crate::actors::{Bank, numbers_of};
-use crate::board::{Board, Watched};
+use crate::board::{Board, Counter, Watched};
 use crate::notes::{tell_connected, tell_ends, tell_left};
 use crate::player::{LinePlayer, place_of};
 use crate::standing::Standing;
@@ -120,7 +120,7 @@ where
     let Connected { incoming, outgoing } = connected;
     let mut out = Writers::new(alloc);
     let mut writers = writers_of(alloc, &mut out, outgoing, &board)?;
-    let mut peers = peers_of(alloc, cells, seats.as_mut_slice(), incoming)?;
+    let mut peers = peers_of(alloc, cells, seats.as_mut_slice(), incoming, &board)?;
     let Script {
         setup,
         lines,
@@ -143,7 +143,6 @@ where
         peers.as_mut_slice(),
         writers.as_mut_slice(),
         &out,
-        &board,
         &mut player,
     );
     let LinePlayer {
@@ -215,7 +214,8 @@ fn peers_of<'a, S: Drop>(
     cells: &'a [PartyCell],
     seats: &mut [Vec<PartySeat>],
     incoming: Vec<Incoming<S>>,
-) -> Result<Vec<Peer<'a, Party, S>>, LiveFault> {
+    board: &'a Board,
+) -> Result<Vec<Peer<'a, Party, S, Counter<'a>>>, LiveFault> {
     let mut peers = Vec::with_capacity(alloc, incoming.len())?;
     for stream in incoming {
         let Incoming { to, stream, .. } = stream;
@@ -227,6 +227,7 @@ fn peers_of<'a, S: Drop>(
             cell,
             seat,
             reader: stream,
+            gate: Counter::new(board),
             end: None,
         })?;
     }
@@ -245,7 +246,7 @@ fn own_seats(alloc: Global, seats: &mut [Vec<PartySeat>]) -> Result<Vec<PartySea
 /// The seats of peers.
 fn seats_of<S: Drop>(
     alloc: Global,
-    peers: Vec<Peer<'_, Party, S>>,
+    peers: Vec<Peer<'_, Party, S, Counter<'_>>>,
 ) -> Result<Vec<PartySeat>, AllocError> {
     let mut seats = Vec::with_capacity(alloc, peers.len())?;
     for peer in peers {

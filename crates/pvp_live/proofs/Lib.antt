@@ -1,0 +1,2 @@
+-- lines that were played so far
+pub mod PlayedLines
