@@ -16,18 +16,35 @@ use std::test::Fail;
 use std::thread::Threads;
 use std::time::Clock;
 
-/// Words of a live run.
-const WORDS: &[&[&str]] = &[
-    &["pvpsim", "live", "setup.json", "script.txt"],
-    &["pvpsim", "live", "setup.json", "script.txt", "--script"],
-    &["pvpsim", "live", "setup.json", "no such", "--explain"],
+/// Words of a live run, its script, and what is told of them without a net.
+const WITHOUT_A_NET: &[(&[&str], &str, &str)] = &[
+    (
+        &["pvpsim", "live", "setup.json", "script.txt"],
+        "rest 1\n",
+        "fault net\n",
+    ),
+    (
+        &["pvpsim", "live", "setup.json", "script.txt", "--script"],
+        "",
+        "fault net\n",
+    ),
+    (
+        &["pvpsim", "live", "setup.json", "script.txt"],
+        "drain 1\n",
+        "fault line 1 L2\n",
+    ),
+    (
+        &["pvpsim", "live", "setup.json", "no such"],
+        "",
+        "fault file\n",
+    ),
 ];
 
-/// Without a net that is told, before the files are read.
+/// Without a net that is told, once the setup and the script read right.
 #[test]
 fn a_net_that_is_not_there(rt: HostRuntime) -> Result<(), Fail> {
-    for words in WORDS {
-        ends(&rt, *words, "", 9, (1, "fault net\n"))?;
+    for (words, script, told) in WITHOUT_A_NET {
+        ends(&rt, *words, script, 9, (1, *told))?;
     }
     Ok(())
 }

@@ -3,7 +3,7 @@ use Rattle.std.specs.Prelude.{◌≡◌, ◌⊎◌, ℕ, List, Option, IfSome}
 use Rattle.std.specs.Io.KnownBytes.{Appends}
 use Rattle.pvp_codes.specs.Codes.{codes_text}
 use Rattle.pvp_command.specs.declared.fault.Fault.{Fault}
-use Rattle.pvp_command.specs.declared.fault.Fault.TheVariants.{Net, NoMemory, Output}
+use Rattle.pvp_command.specs.declared.fault.Fault.TheVariants.{NoMemory, Output}
 use Rattle.pvp_command.specs.declared.files.FileFault.{FileFault}
 use Rattle.pvp_command.specs.declared.request.Request.{Request}
 use Rattle.pvp_command.specs.declared.request.Request.TheVariants.{Check, Book, Play, Live, Codes}
@@ -40,7 +40,8 @@ Tells known fails (Book setup script) old new told =
     IfSome (known setup.now) (λ rules. BookTells (fails setup.now) rules (fails script.now) (known script.now) old new told)
 Tells known fails (Play show setup script saves) old new told =
     IfSome (known setup.now) (λ rules. PlayTells (fails setup.now) rules saves.items (fails script.now) (known script.now) old new told)
-Tells known fails (Live ending verbose setup script) old new told = (told ≡ Net) × (new ≡ old)
+Tells known fails (Live ending verbose setup script) old new told =
+    IfSome (known setup.now) (λ rules. LiveTells (fails setup.now) rules (fails script.now) (known script.now) old new told) × (new ≡ old)
 Tells known fails Codes old new told = (told ≡ NoMemory) ⊎ (told ≡ Output)
 
 -- which fault it tells on any machine

@@ -59,6 +59,44 @@ where
     live_script(rt, alloc, files, ending, &setup, script, out, notes)
 }
 
+/// Judges setup and script of a bank that is to run by itself, and then tells that there is no net.
+pub fn without_net<F: Files, O>(
+    alloc: Global,
+    files: &F,
+    setup: &str,
+    script: &str,
+    _out: &mut O,
+) -> Result<u8, Fault>
+    ensures never { IfOk result (λ _. ⊥) }
+    ensures err { IfErr result (λ fault. IfSome (F.known files.now setup.now) (λ setup_bytes.
+        LiveTells (F.fails files.now setup.now) setup_bytes (F.fails files.now script.now) (F.known files.now script.now)
+        _out.old _out.new fault)) }
+    ensures unwritten { _out.new ≡ _out.old }
+{
+    let setup = files.read(alloc, setup)?;
+    let setup = read_setup(alloc, setup.as_slice())?;
+    script_without_net(alloc, files, &setup, script, _out)
+}
+
+/// Judges the script of such a bank, and then tells that there is no net.
+fn script_without_net<F: Files, O>(
+    alloc: Global,
+    files: &F,
+    setup: &Setup,
+    script: &str,
+    _out: &mut O,
+) -> Result<u8, Fault>
+    requires { IsValid setup.now }
+    ensures never { IfOk result (λ _. ⊥) }
+    ensures err { IfErr result (TellsLive (F.fails files.now script.now) setup.now (F.known files.now script.now)
+        _out.old _out.new) }
+    ensures unwritten { _out.new ≡ _out.old }
+{
+    let script = files.read(alloc, script)?;
+    let _lines = read_lines(alloc, setup, Kind::Live, script.as_slice())?;
+    Err(Fault::Net)
+}
+
 /// Runs a bank of a setup by itself while a script is played.
 fn live_script<R, F: Files, O: Write, N: Write>(
     rt: &R,

@@ -18,7 +18,7 @@ use crate::explain::{Sources, explained};
 use crate::fails::unknown_site;
 use crate::fault::Fault;
 use crate::files::Files;
-use crate::lives::live;
+use crate::lives::{live, without_net};
 use crate::request::{Asked, Request, is_help, parse};
 use crate::shows::Show;
 use clap::Error;
@@ -73,8 +73,8 @@ where
     }
 }
 
-/// Does what the words ask for as `command_on` does, on a machine without threads and net: a live run is told as
-/// `fault net` before its files are read, and the status is never 3.
+/// Does what the words ask for as `command_on` does, on a machine without threads and net: a live run whose setup and
+/// script read right is told as `fault net`, and the status is never 3.
 pub fn command<S: AsStr, F: Files, O: Write, E: Write>(
     alloc: Global,
     words: &[S],
@@ -222,7 +222,7 @@ fn run<F: Files, O: Write>(
             script,
             fails,
         } => play(alloc, files, show, setup, script, fails.as_slice(), out)?,
-        Request::Live { .. } => return Err(Fault::Net),
+        Request::Live { setup, script, .. } => return without_net(alloc, files, setup, script, out),
         Request::Codes => codes(alloc, out)?,
     }
     Ok(DONE)
