@@ -1,24 +1,34 @@
 #!/usr/bin/env python3
 """Tests .ci/edits over a small crate: what the prover lets through is told, alone and beside edits that are refused; functions as
-they stand are not refused in the way of an edit; and what was seen refused serves a later run for the same text alone."""
+they stand are not refused in the way of an edit; an answer that does not fit refuses nothing by itself; and what stands in the record
+serves a later run for the same text alone, where a sample brings a false line to light."""
 import os
 import re
 import shutil
 import subprocess
 import sys
 import tempfile
+from types import SimpleNamespace
 
 sys.dont_write_bytecode = True
 HERE = os.path.dirname(os.path.abspath(__file__))
+sys.path.insert(0, HERE)
+
+from wrong import prover, record
+from wrong.bodies import edits_of, functions_in, read
+from wrong.trying import Verdict, verdict
 
 SOURCE = """//! A counter, for the test of the edits.
 
 #![tactic(auto)]
 
-ghost use Rattle.std.specs.Prelude.{◌≡◌, ◌+◌, ◌<◌, ◌≤◌, ◌^◌};
+ghost use Rattle.std.specs.Prelude.{◌≡◌, ◌+◌, ◌*◌, ◌<◌, ◌≤◌, ◌^◌, ℕ, IfSome};
 
 pub mod large;
 pub mod small;
+
+/// What parts words.
+pub const GAP: &str = " ";
 
 /// One more.
 pub fn next(n: u8) -> u8
@@ -53,6 +63,16 @@ pub fn counted(n: u8) -> u8
         at = next(at);
     }
     at
+}
+
+/// A number of one digit, of which a fact holds that wants an answer.
+pub fn multiple(n: u8) -> Option<u8>
+    ensures { IfSome result (λ h. (a b m : ℕ) → n ≡ a * b → h * m ≡ m * b * a) }
+{
+    if n > 9 {
+        return None;
+    }
+    Some(n)
 }
 
 /// What has a bound.
@@ -116,6 +136,17 @@ pub returns : goal.returns
 returns c = search rules
 """
 
+FACT = """use Rattle.std.proofs.Common.{◌*◌, ap, sym, ◌∙◌}
+use Rattle.std.proofs.Math.Nat.{mul_comm, mul_assoc}
+use Rattle.counter.proofs.multiple.Goals as goal
+
+pub returns : goal.returns
+returns c = λ a b m e. ap (λ x. x * m) e ∙ mul_comm (a * b) m ∙ ap (λ x. m * x) (mul_comm a b) ∙ sym (mul_assoc m b a)
+"""
+
+# the proof files of the functions that have some
+PROOFS = {"counted/Invariants": INVARIANTS, "counted/Answers": ANSWERS, "multiple/Answers": FACT}
+
 # an edit, its text, and what has to be said of it
 EDITS = {
     # of one function, of which another stands on it
@@ -126,8 +157,11 @@ EDITS = {
     # by a goal of which the contract has two
     "smaller_is_the_greater": ("if a < b { a }", "if b < a { a }", "refused by smaller: `returns"),
     # of a function with an invariant and an answered goal
-    "counted_stops_before": ("while at < n", "while at + 1 < n", "refused by counted: ./proofs/counted/Answers.antt"),
+    "counted_stops_before": ("while at < n", "while at + 1 < n", "refused by counted: `overflow_add-at`"),
     "counted_is_said_otherwise": ("while at < n", "while n > at", "NOT REFUSED"),
+    # whose answer is of another goal: the clause admits the first
+    "multiple_gives_up": ("    Some(n)", "    None", "NOT REFUSED"),
+    "multiple_is_one_more": ("    Some(n)", "    Some(n + 1)", "no proof of multiple: `returns`"),
     # of one of two functions that have one name
     "small_cells_hold_8": ("held: 7 }", "held: 8 }", "refused by new: `returns`"),
     # in place, as a trait's
@@ -140,7 +174,7 @@ EDITS = {
     "stands_nowhere": ("n + 3", "n + 2", "BAD EDIT: it cannot be applied"),
 }
 
-FUNCTIONS = ("next", "after_next", "smaller", "counted", "counter++Digit+Bounded::bound", "small::Cell+u8::new", "large::Cell+u16::new")
+FUNCTIONS = ("next", "after_next", "smaller", "counted", "multiple", "counter++Digit+Bounded::bound", "small::Cell+u8::new", "large::Cell+u16::new")
 
 # what `rt ci` prints of the small crate's functions
 PROVED = "".join(f"fn counter::{name}: proved\n" for name in FUNCTIONS)
@@ -163,52 +197,177 @@ def run(room, *words):
     return subprocess.run([f"{room}/.ci/edits", *words], stdout=subprocess.PIPE, stderr=subprocess.STDOUT, text=True, env=place)
 
 
-def wrong_of(ran, way, names, tried):
-    """What a run over the edits of these names says otherwise than it should; so many of them it tries."""
+def is_taken(said):
+    """Whether a wrong body of which this is said passes."""
+    return said.startswith(("refused", "no proof"))
+
+
+def wrong_of(ran, way, names, tried, recorded=0):
+    """What a run over the edits of these names says otherwise than it should; so many of them it tries, and so many are recorded."""
     wrong = []
     for name in names:
         said = re.search(rf"^counter/{name}\.edit: (.*)", ran.stdout, re.M)
         if not said or not said[1].startswith(EDITS[name][2]):
             wrong.append(f"{name} {way}: wanted '{EDITS[name][2]}', and it said '{said and said[1]}'")
-    refused = sum(EDITS[it][2].startswith("refused") for it in names)
-    last = f"{refused} passed, {len(names) - refused} failed"
-    if ran.stdout.rstrip("\n").split("\n")[-1] != last or (ran.returncode == 0) != (refused == len(names)):
+    passed = sum(is_taken(EDITS[it][2]) for it in names)
+    last = f"{passed} passed, {len(names) - passed} failed" + (f", {recorded} recorded" if recorded else "")
+    if ran.stdout.rstrip("\n").split("\n")[-1] != last or (ran.returncode == 0) != (passed == len(names)):
         wrong.append(f"{way}: the last line is not '{last}' with the status that it has")
-    if f"== counter: {len(names)} edits, {tried} tried\n" not in ran.stdout:
-        wrong.append(f"{way}: not {tried} edits were tried")
+    if f"== counter: {tried} tried, {recorded} recorded" not in ran.stdout:
+        wrong.append(f"{way}: not {tried} edits were tried, with {recorded} recorded")
     if wrong:
         print(ran.stdout)
     return wrong
 
 
+def make(room):
+    """The small crate, with its edits and the program that tries them."""
+    write(f"{room}/crates.txt", "counter:\n")
+    write(f"{room}/HANDLES", "Handles allowed: none.\n")
+    for file, text in SOURCES.items():
+        write(f"{room}/crates/counter/src/{file}.rt", text)
+    for file, text in PROOFS.items():
+        write(f"{room}/crates/counter/proofs/{file}.antt", text)
+    write(f"{room}/proved", PROVED)
+    for name, (old, new, _) in EDITS.items():
+        write_edit(room, name, old, new)
+    shutil.copytree(f"{HERE}/wrong", f"{room}/.ci/wrong")
+    shutil.copy(f"{HERE}/edits", f"{room}/.ci/edits")
+
+
+def recorded(room):
+    """The names in the record of the small crate, with what follows each."""
+    with open(f"{room}/crates/counter/wrong/record", encoding="utf-8") as it:
+        return dict(line.rstrip("\n").split(" ", 1) for line in it if not line.startswith("#"))
+
+
+def tries_of(room):
+    """The small crate's edits as they stand, with the folder of their texts, and the crate."""
+    folder = f"{room}/crates/counter"
+    crate = SimpleNamespace(name="counter", folder=folder, below=lambda: [])
+    return crate, SimpleNamespace(folder=folder, edits=edits_of(folder, functions_in(folder)))
+
+
+def keys(room):
+    crate, tries = tries_of(room)
+    return record.keys_of(crate, tries.folder, tries.edits)
+
+
+def wrong_keys(room):
+    """Whether what could make a wrong body right gives it another key, and nothing else does."""
+    wrong, file, name = [], f"{room}/crates/counter/src/lib.rt", "counter/next_adds_two.edit"
+    before = keys(room)[name]
+    for way, old, new, is_another in (
+        ("a comment", "One more", "One more than that", False),
+        ("another body", "4 + 5", "5 + 4", False),
+        ("its own body", "    n + 1", "    1 + n", True),
+        ("its own contract", "requires { n < 255 }", "requires { n < 254 }", True),
+        ("another contract", "result ≡ n + 2", "result ≡ 2 + n", True),
+        ("a type", "pub held: A", "pub held: A, pub count: u8", True),
+        ("a string", '= " "', '= "  "', True),
+    ):
+        write(file, SOURCE.replace(old, new))
+        if (keys(room).get(name) != before) != is_another:
+            wrong.append(f"with another text of {way} the key is {'the same' if is_another else 'another'}")
+    write(file, SOURCE)
+    for way, path, is_another in (("its own proof", "next", True), ("another proof", "smaller", False)):
+        write(f"{room}/crates/counter/proofs/{path}/Answers.antt", "-- nothing\n")
+        if (keys(room)[name] != before) != is_another:
+            wrong.append(f"with {way} the key is {'the same' if is_another else 'another'}")
+        shutil.rmtree(f"{room}/crates/counter/proofs/{path}")
+    write(f"{room}/crates/counter/specs/Lib.antt", "pub mod Counts\n")
+    if keys(room)[name] == before:
+        wrong.append("with another definition the key is the same")
+    shutil.rmtree(f"{room}/crates/counter/specs")
+    return wrong
+
+
+def wrong_race(room):
+    """Whether a text that changes while it is tried stays out of the record."""
+    crate, tries = tries_of(room)
+    it = record.Record(crate, tries, "a_kit")
+    edit = next(it for it in tries.edits if it.name == "counter/next_adds_two.edit")
+    write_edit(room, "next_adds_two", "    n + 1", "    n + 4")
+    moved = it.take({edit: Verdict(True, "refused by next: `returns`")})
+    write_edit(room, "next_adds_two", *EDITS["next_adds_two"][:2])
+    is_right = moved == [edit.name] and "next_adds_two.edit" not in recorded(room)
+    return [] if is_right else [f"what changed while it was tried stands in the record, or is not told: {moved}"]
+
+
+def wrong_false_record(room):
+    """Whether a sample brings a false line of the record to light."""
+    for name in EDITS:
+        if name != "bound_is_said_otherwise":
+            os.remove(f"{room}/crates/counter/wrong/{name}.edit")
+    key = keys(room)["counter/bound_is_said_otherwise.edit"]
+    with open(f"{os.path.dirname(os.path.realpath(shutil.which('rt')))}/../KIT-ID", encoding="utf-8") as it:
+        kit = " ".join(it.read().split()).replace(" ", "_")
+    write(f"{room}/crates/counter/wrong/record", f"bound_is_said_otherwise.edit {key} {kit} refused by bound: `returns`\n")
+    wrong = wrong_of(run(room, "--proved", f"{room}/proved"), "as the record has it", [], 0, 1)
+    return wrong + wrong_of(run(room, "--draw", "a-word", "--proved", f"{room}/proved"), "of a sample", ["bound_is_said_otherwise"], 1)
+
+
+BRANCHES = """use Rattle.counter.proofs.counted.Goals as goal
+use Rattle.counter.proofs.counted.Goals.{then-at-n, else-at-n as other}
+
+lemma : goal.lemma
+lemma = refl
+
+pub loop-preserved : goal.loop-preserved
+loop-preserved c = elim c.if-at-n.branch [ | then-at-n w ↦ lemma | other w ↦ lemma ]
+"""
+
+
+def wrong_imports(room):
+    """Whether an answer that cites a branch which an edit took away is taken away, and its import with it."""
+    name, file = "counter::counted", f"{room}/crates/counter/proofs/counted/Answers.antt"
+    error = "./proofs/counted/Answers.antt:2:48: error: module `Rattle.counter.proofs.counted.Goals` has no `then-at-n` that can be named from here"
+    write(file, BRANCHES)
+    found = prover.misfits(f"{room}/crates/counter", name, SimpleNamespace(errors=lambda _: [error]))
+    prover.take_away(f"{room}/crates/counter", name, found)
+    left = read(file)
+    write(file, ANSWERS)
+    is_right = found == {"use then-at-n", "loop-preserved"} and "{else-at-n as other}" in left and "lemma = refl" in left and "loop" not in left
+    return [] if is_right else [f"of a branch that is gone {found} is taken away, which leaves '{left}'"]
+
+
+def wrong_goals():
+    """Whether a function that is only called, and whose proof is left out, is taken for an open goal."""
+    line = "fn counter::after_next: no proof: `search` did not prove `returns`; it calls `counter::next`, which is not proved"
+    said = prover.Said(SimpleNamespace(stdout=f"{line}\nlogic=not proved", returncode=1))
+    found, it = said.open_goals("counter::after_next"), verdict(said, {"counter::after_next"}, {"returns"})
+    is_right = found == ["returns"] and it.text == "no proof of after_next: `returns`, whose answer does not fit"
+    return [] if is_right else [f"of a goal and a call {found} are open, and it said '{it.text}'"]
+
+
 def main():
-    wrong = []
+    wrong, count = wrong_goals(), len(EDITS)
     with tempfile.TemporaryDirectory(prefix="edits-test-") as room:
-        write(f"{room}/crates.txt", "counter:\n")
-        write(f"{room}/HANDLES", "Handles allowed: none.\n")
-        for file, text in SOURCES.items():
-            write(f"{room}/crates/counter/src/{file}.rt", text)
-        write(f"{room}/crates/counter/proofs/counted/Invariants.antt", INVARIANTS)
-        write(f"{room}/crates/counter/proofs/counted/Answers.antt", ANSWERS)
-        write(f"{room}/proved", PROVED)
+        make(room)
+        wrong += wrong_keys(room)
+        wrong += wrong_imports(room)
+        wrong += wrong_of(run(room), "over its own proof", EDITS, len(EDITS))
+        taken = [it for it in EDITS if is_taken(EDITS[it][2])]
+        if sorted(recorded(room)) != sorted(f"{it}.edit" for it in taken):
+            wrong.append(f"the record has not just what was refused: {recorded(room)}")
+        # those alone that pass, one of them with another text
+        for name in EDITS:
+            if name not in taken:
+                os.remove(f"{room}/crates/counter/wrong/{name}.edit")
+        write_edit(room, "next_stays", EDITS["next_stays"][0], "    n + 3")
+        ran = run(room, "--proved", f"{room}/proved")
+        wrong += wrong_of(ran, "with one of another text", ["next_stays"], 1, len(taken) - 1)
+        ran = run(room, "--unchanged", "--proved", f"{room}/proved")
+        if ran.stdout.rstrip("\n").split("\n")[-1] != "6 passed, 0 failed" or ran.returncode:
+            wrong.append(f"the functions as they stand: it said '{ran.stdout}'")
         for name, (old, new, _) in EDITS.items():
             write_edit(room, name, old, new)
-        os.makedirs(f"{room}/.ci")
-        shutil.copy(f"{HERE}/edits", f"{room}/.ci/edits")
-        wrong += wrong_of(run(room), "over its own proof", EDITS, len(EDITS) - 1)
-        # one edit with another text, then the crate with another text
-        of_next = [it for it in EDITS if "next_" in it]
-        write_edit(room, "next_stays", EDITS["next_stays"][0], "    n + 3")
-        wrong += wrong_of(run(room, "--only", "next_"), "after a run that saw them refused", of_next, 1)
-        write(f"{room}/crates/counter/src/lib.rt", SOURCE.replace("One more", "One more than that"))
-        ran = run(room, "--only", "next_", "--proved", f"{room}/proved")
-        wrong += wrong_of(ran, "with another text, over a proof of before", of_next, len(of_next))
-        ran = run(room, "--unchanged", "--proved", f"{room}/proved")
-        if ran.stdout.rstrip("\n").split("\n")[-1] != "5 passed, 0 failed" or ran.returncode:
-            wrong.append(f"the functions as they stand: it said '{ran.stdout}'")
+        os.remove(f"{room}/crates/counter/wrong/record")
+        wrong += wrong_race(room)
+        wrong += wrong_false_record(room)
     if wrong:
         print("\n".join(wrong))
-    print(f"{len(EDITS) + 2 * len(of_next) + 1 - len(wrong)} passed, {len(wrong)} failed")
+    print(f"{max(0, count + 17 - len(wrong))} passed, {len(wrong)} failed")
     return 1 if wrong else 0
 
 
