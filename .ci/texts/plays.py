@@ -1,5 +1,7 @@
 """Plays: what is printed of worked scripts, line by line, and that chaos keeps every account. Traces: each step with what came of
 it and what it sent."""
+import re
+
 from program import PLAY, SETUP, TRACE, Runs, adds_up, of_sites
 
 NEW_SITE = """normal view 0 log 0 done 0 cell 0
@@ -204,6 +206,17 @@ print
     def test_chaos_keeps_every_account_of_more_sites(self):
         for sites in (3, 5, 7):
             text = self.printed(PLAY, of_sites(sites), "chaos 7 20000\nprint\n")
+            self.assertTrue(adds_up(text), sites)
+
+    def test_accounts_come_to_the_figures_after_chaos(self):
+        """Where every site is up and all is said again until it has come, nothing is on the way: each account is each site's figure."""
+        for sites in (3, 5, 7):
+            numbers = range(sites)
+            beats = "".join(f"beat {who}\n" for who in (*(f"s{it}" for it in numbers), "EUR", "USD", "JPY", "OP", "ALFA", "BETA"))
+            script = "chaos 7 20000\n" + "".join(f"restart s{it}\n" for it in numbers) + (beats + "drain 100000\n") * 60 + "print\n"
+            text = self.printed(PLAY, of_sites(sites), script)
+            ways = re.findall(r"^  site \d figure -?\d+ way (-?\d+)$", text, re.M)
+            self.assertEqual(ways, ["0"] * (3 * sites), sites)
             self.assertTrue(adds_up(text), sites)
 
     def test_five_sites_recover_and_commit(self):

@@ -162,6 +162,28 @@ class Steps(Runs):
             "refused 30 G1",
         ])
 
+    def test_a_pay_in_reaches_each_book_in_ten_envelopes(self):
+        """Three REQUESTs, two PREPAREs, two PREPAREOKs, a REPLY and two COMMITs; the REQUESTs once more change nothing."""
+        script = "payin ALFA USD 1200\ndrain 100\nbeat s0\ndrain 100\n"
+        sites = "".join(f"site {it} normal view 0 log 1 done 1 cell 0\n  ALFA 0 1200 0\n  BETA 0 0 0\n  pairs 0 0 0 0\n  figure 0 1200 0\n  open 0\n" for it in range(3))
+        nodes = "".join(
+            f"node {ccy} account {amt} payins {count} payouts 0\n" + "".join(f"  site {it} figure {amt} way 0\n" for it in range(3))
+            for ccy, amt, count in (("EUR", 0, 0), ("USD", 1200, 1), ("JPY", 0, 0))
+        )
+        self.prints(PLAY, sites + nodes, script=f"{script}print\n")
+        again = 5 * "deliver 1\ndeliver 2\ndeliver 3\n"
+        self.prints(PLAY, sites + nodes, script=f"{script}{again}print\n")
+        self.shows(PLAY, f"{script}deliver 10\ndeliver 11\n", ["refused 6 G1"])
+
+    def test_a_beat_tells_how_far_it_has_come_before_it_orders(self):
+        """Two rows are executed, and order 1 is open."""
+        self.shows(TRACE, ORDERED, [
+            "22  beat s0",
+            "   19  s0 -> s1  COMMIT view 0 done 2",
+            "   20  s0 -> s2  COMMIT view 0 done 2",
+            "   21  s0 -> USD  PAYORDER USD 1 ALFA 200",
+        ])
+
     def test_a_payment_is_ordered_and_done_once(self):
         """The order is in the primary's book alone at first; its envelope comes a second time."""
         done = "".join(f"deliver {it}\n" for it in [*range(19, 30), 21])
