@@ -308,7 +308,7 @@ def wrong_false_record(room):
 
 
 BRANCHES = """use Rattle.counter.proofs.counted.Goals as goal
-use Rattle.counter.proofs.counted.Goals.{then-at-n, else-at-n as other}
+use Rattle.counter.proofs.counted.Goals.{then-at-n, else-at-n as other, turn-at-n}
 
 lemma : goal.lemma
 lemma = refl
@@ -319,15 +319,15 @@ loop-preserved c = elim c.if-at-n.branch [ | then-at-n w ↦ lemma | other w ↦
 
 
 def wrong_imports(room):
-    """Whether an answer that cites a branch which an edit took away is taken away, and its import with it."""
+    """Whether an answer that cites a branch which an edit took away is taken away, and all imports of such branches with it."""
     name, file = "counter::counted", f"{room}/crates/counter/proofs/counted/Answers.antt"
-    error = "./proofs/counted/Answers.antt:2:48: error: module `Rattle.counter.proofs.counted.Goals` has no `then-at-n` that can be named from here"
+    error = "./proofs/counted/Answers.antt:2:48: error: module `Rattle.counter.proofs.counted.Goals` has no `then-at-n` that can be named from here. Further on in this line, not found: `turn-at-n`"
     write(file, BRANCHES)
     found = prover.misfits(f"{room}/crates/counter", name, SimpleNamespace(errors=lambda _: [error]))
     prover.take_away(f"{room}/crates/counter", name, found)
     left = read(file)
     write(file, ANSWERS)
-    is_right = found == {"use then-at-n", "loop-preserved"} and "{else-at-n as other}" in left and "lemma = refl" in left and "loop" not in left
+    is_right = found == {"use then-at-n", "use turn-at-n", "loop-preserved"} and "{else-at-n as other}" in left and "lemma = refl" in left and "loop" not in left
     return [] if is_right else [f"of a branch that is gone {found} is taken away, which leaves '{left}'"]
 
 

@@ -7,8 +7,9 @@ from wrong.bodies import read, write
 
 # what the prover says of a proof file that only cites a name which an edit took away
 LACKS = r"has no field|is not in scope|has no `|was not admitted|is not determined"
-# what it says where a file imports such a name
+# what it says where a file imports such a name, and where one line imports more of them
 LACKED = r"has no `([^`]+)`"
+LACKED_TOO = "Further on in this line, not found:"
 
 
 class Said:
@@ -117,11 +118,16 @@ def misfits(room, name, said):
     for error in said.errors(name):
         told = re.match(r"\S*/Answers\.antt:(\d+):", error)
         at = int(told[1]) - 1 if told else len(lines)
-        gone = re.search(LACKED, error) if at < len(lines) and lines[at].startswith("use ") else None
-        if gone:
-            found |= {f"use {gone[1]}"} | {it for it, begin, end in answers if re.search(word(gone[1]), "\n".join(lines[begin:end]))}
+        for gone in lacked(error) if at < len(lines) and lines[at].startswith("use ") else []:
+            found |= {f"use {gone}"} | {it for it, begin, end in answers if re.search(word(gone), "\n".join(lines[begin:end]))}
         found |= {it for it, begin, end in answers if begin <= at < end}
     return found
+
+
+def lacked(error):
+    """The names that a line imports and that are not there, as an error says."""
+    first = re.search(LACKED, error)
+    return [first[1], *re.findall("`([^`]+)`", error.partition(LACKED_TOO)[2])] if first else []
 
 
 def word(name):
