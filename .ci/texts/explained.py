@@ -1,5 +1,5 @@
 """Faults that are explained: the second line on standard error that `--explain` asks for."""
-from program import BOOK, FOUR_SITES, NO_SITE_3, PLAY, SETUP, TRACE, TWO_DOLLARS, Runs
+from program import BOOK, FOUR_SITES, LIVE, NO_SITE_3, PLAY, SETUP, TRACE, TWO_DOLLARS, Runs
 
 
 class Explained(Runs):
@@ -59,7 +59,8 @@ class Lines(Explained):
     def test_a_name_of_a_play(self):
         """A currency's code is no sender in a play, though it is in a book."""
         self.tells_lines(PLAY, [
-            ("do USD paid USD 1\n", 1, "L5", '"USD" is no name of a client that may send a command'),
+            ("do USD paid USD 1\n", 1, "L5", '"USD" is a node: in a play nodes send their own commands, use payin'),
+            ("do CARL settle 1\n", 1, "L5", '"CARL" is no name of a client that may send a command'),
             ("beat GAMA\n", 1, "L5", '"GAMA" is no actor\'s name'),
             ("crash ALFA\n", 1, "L5", '"ALFA" is no site: s and its number'),
             ("close GAMA USD\n", 1, "L5", '"GAMA" is no client\'s name'),
@@ -68,10 +69,24 @@ class Lines(Explained):
     def test_a_word(self):
         self.tells_lines(BOOK, [
             ("print\n\n# no such word\nsettle\nprint\n", 4, "L2", '"settle" begins no line of such a script'),
-            ("print\nbeat s0\n", 2, "L2", '"beat" begins no line of such a script'),
             ("do ALFA pay USD 1", 1, "L2", '"pay" is no command'),
         ])
-        self.tells_lines(PLAY, [("rest 5\n", 1, "L2", '"rest" begins no line of such a script')])
+        self.tells_lines(PLAY, [("drained 5\n", 1, "L2", '"drained" begins no line of such a script')])
+
+    def test_a_word_of_another_kind_of_script(self):
+        """A line of another kind of script is told as one, whatever follows its first word."""
+        moves, turns = ["payin", "close", "beat", "timer", "crash", "restart"], ["deliver", "drain", "skip", "cut", "heal", "chaos"]
+        self.tells_lines(BOOK, [
+            ("print\nbeat s0\n", 2, "L2", '"beat" is a line of a play or a live run, not of a book'),
+            *((f"{word}\n", 1, "L2", f'"{word}" is a line of a play or a live run, not of a book') for word in moves),
+            *((f"{word} x y\n", 1, "L2", f'"{word}" is a line of a play, not of a book') for word in turns),
+            ("rest 5\n", 1, "L2", '"rest" is a line of a live run, not of a book'),
+        ])
+        self.tells_lines(PLAY, [("rest 5\n", 1, "L2", '"rest" is a line of a live run, not of a play')])
+        self.tells_lines(LIVE, [
+            ("print\n", 1, "L2", '"print" is a line of a book or a play, not of a live run'),
+            *((f"{word}\n", 1, "L2", f'"{word}" is a line of a play, not of a live run') for word in turns),
+        ])
 
     def test_a_count_of_words(self):
         self.tells_lines(BOOK, [
@@ -88,12 +103,19 @@ class Lines(Explained):
         ])
 
     def test_a_line_that_is_not_shown(self):
-        """A byte that is no printed character is not printed, nor is a line that is too long, or one of too many."""
+        """A byte that is no printed character is told by its number, and is not printed; nor is a line that is too long, or
+        one of too many. The first such byte of a line is told, by its column, which is counted from 1 in bytes."""
         self.tells_lines(BOOK, [
-            ("print\ndo ALFA\tpayout USD 1", 2, "L1", "a byte outside 32 to 126"),
-            ("print\r\n", 1, "L1", "a byte outside 32 to 126"),
-            ("print \u001b[2J\n", 1, "L1", "a byte outside 32 to 126"),
-            ("x" * 257, 1, "L6", "a line of more than 256 bytes"),
+            ("print\ndo ALFA\tpayout USD 1", 2, "L1", "byte 9 at column 8: a tab"),
+            ("print\r\n", 1, "L1", "byte 13 at column 6: a Windows line end"),
+            ("do ALFA payout USD 1\r", 1, "L1", "byte 13 at column 21: a Windows line end"),
+            ("# text\r\n\nprint \r\r\n", 3, "L1", "byte 13 at column 7: outside 32 to 126"),
+            ("pr\rint\n", 1, "L1", "byte 13 at column 3: outside 32 to 126"),
+            ("print \u001b[2J\n", 1, "L1", "byte 27 at column 7: outside 32 to 126"),
+            ("print \u007f\n", 1, "L1", "byte 127 at column 7: outside 32 to 126"),
+            ("do \u00c9VA settle 1\n", 1, "L1", "byte 195 at column 4: outside 32 to 126"),
+            ("x" * 257, 1, "L6", "a line of more than 256 bytes: 257"),
+            ("print\n" + "\t" * 1000 + "\n", 2, "L6", "a line of more than 256 bytes: 1000"),
             ("#\n" * 65536, 65536, "L7", "more than 65535 lines"),
         ])
 
@@ -115,6 +137,9 @@ def member(name, aggregate=0, short="0", deposit="0"):
     return f'{{"name":"{name}","aggregate":{aggregate},"short":[{short}],"deposit":[{deposit}]}}'
 
 
+# what is told of a part that is to be a number
+NO_NUMBER = "no number in digits alone, below 2^64"
+
 # the member of the greatest limits
 ALFA = member("ALFA", 10**18, 10**18, 10**15)
 
@@ -134,10 +159,60 @@ class Setups(Explained):
 
     def test_a_text_that_is_no_setup(self):
         self.tells_setup('{"sites":3', "fault json J1\n", "setup: the text is no JSON\n")
-        missing = "setup: a member of an object is missing or of another type; a number is digits alone, below 2^64\n"
-        self.tells_setup('{"sites":3}', "fault json J2\n", missing)
+        self.tells_setup('{"sites":3}', "fault json J2\n", "setup: currencies: missing\n")
         self.tells_setup(FOUR_SITES, "fault setup K1\n", "setup: the sites are not 3, 5 or 7: 4\n")
         self.tells_setup(TWO_DOLLARS, "fault setup K3\n", 'currency 1 "USD": the code stands twice\n')
+
+    def tells_wrong(self, cases):
+        """Setups that have such a part: the first that is missing or of another type is told."""
+        for setup, told in cases:
+            self.tells_setup(setup, "fault json J2\n", f"setup: {told}\n")
+
+    def test_a_part_that_is_missing_or_of_another_type(self):
+        """Parts are read in this order, and places in lists are counted from 0; other members are ignored."""
+        self.tells_wrong([
+            ("[]", "the text is no object"),
+            ('"setup"', "the text is no object"),
+            ("{}", "sites: missing"),
+            ('{"members":5,"currencies":5,"sites":null}', f"sites: {NO_NUMBER}"),
+            ('{"sites":"3"}', f"sites: {NO_NUMBER}"),
+            ('{"sites":-3}', f"sites: {NO_NUMBER}"),
+            ('{"sites":3.0}', f"sites: {NO_NUMBER}"),
+            ('{"sites":18446744073709551616}', f"sites: {NO_NUMBER}"),
+            ('{"members":5,"currencies":{},"sites":3,"site":null}', "currencies: no list"),
+            ('{"sites":3,"currencies":[]}', "members: missing"),
+            ('{"sites":3,"currencies":[],"members":"ALFA"}', "members: no list"),
+        ])
+
+    def test_a_part_of_a_currency(self):
+        self.tells_wrong([
+            (f'{{"sites":3,"currencies":[{currencies}],"members":[{ALFA}]}}', told)
+            for currencies, told in [
+                ("null", "currencies[0]: no object"),
+                (f"{currency('USD')},{currency('EUR')},[]", "currencies[2]: no object"),
+                ('{"rate":1,"haircut":0}', "currencies[0].code: missing"),
+                (f"{currency('USD')},{{\"code\":7,\"rate\":null}}", "currencies[1].code: no text"),
+                ('{"code":"USD","haircut":-1}', "currencies[0].rate: missing"),
+                (currency("USD", rate="1.5"), f"currencies[0].rate: {NO_NUMBER}"),
+                (currency("USD", haircut='"0"'), f"currencies[0].haircut: {NO_NUMBER}"),
+            ]
+        ])
+
+    def test_a_part_of_a_member(self):
+        self.tells_wrong([
+            (f'{{"sites":3,"currencies":[{currency("USD")}],"members":[{members}]}}', told)
+            for members, told in [
+                ('"ALFA"', "members[0]: no object"),
+                ("{}", "members[0].name: missing"),
+                (f'{ALFA},{{"name":["BETA"]}}', "members[1].name: no text"),
+                (",".join([ALFA] * 12) + ',{"name":"BETA","short":0}', "members[12].aggregate: missing"),
+                (member("ALFA", aggregate="true"), f"members[0].aggregate: {NO_NUMBER}"),
+                ('{"name":"ALFA","aggregate":0,"short":0,"deposit":0}', "members[0].short: no list"),
+                (member("ALFA", short="0,1e2", deposit="null"), f"members[0].short[1]: {NO_NUMBER}"),
+                (f"{ALFA},{member('BETA', deposit='1,2,-0')}", f"members[1].deposit[2]: {NO_NUMBER}"),
+                ('{"name":"ALFA","aggregate":0,"short":[]}', "members[0].deposit: missing"),
+            ]
+        ])
 
     def test_a_currency_that_breaks_a_rule(self):
         """Currencies are numbered from 0, and a code that is no printed text is not shown."""

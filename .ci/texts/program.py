@@ -94,3 +94,4 @@ class Runs(unittest.TestCase):
 BOOK = ["book", "setup.json", "script.txt"]
 PLAY = ["play", "setup.json", "script.txt"]
 TRACE = ["trace", "setup.json", "script.txt"]
+LIVE = ["live", "setup.json", "script.txt"]

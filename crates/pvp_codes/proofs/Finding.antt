@@ -22,7 +22,7 @@ use Rattle.pvp_codes.specs.declared.fields.Field.TheVariants.{First, Command, Am
 use Rattle.pvp_codes.specs.declared.broken.Why.{Why}
 use Rattle.pvp_codes.specs.declared.broken.Why.TheVariants.{NoDigits, LeadingZero, NotDigits, Above}
 use Rattle.pvp_codes.specs.Fields.{command_fields, first_fields, do_form, line_form}
-use Rattle.pvp_codes.specs.Broken.{begins_with, number_fault, after_at, malformed, unless_named, unknown_name, breaks, this_or, first_broken}
+use Rattle.pvp_codes.specs.Broken.{begins_with, number_fault, after_at, malformed, unless_named, no_sender, unknown_name, breaks, this_or, first_broken}
 
 -- ---- reading that does not fail so
 
@@ -141,7 +141,7 @@ currency_read : (code : LineCode) (kind : Kind) (setup : Setup) (word : List ℕ
 currency_read code kind setup word fine = reference_read code 255 (2 ^ 8) word refl (as_number code kind setup Currency word fine)
 
 sender_found : (code : LineCode) (kind : Kind) (setup : Setup) (word : List ℕ) (who : Spelled) → breaks code kind setup Sender word ≡ None → reference_at (2 ^ 16) word ≡ Ok who → Fine code (sender_of kind setup who)
-sender_found code kind setup word who fine is = name_found code _ (sender_number kind setup) word who (λ name same. is_named (2 ^ 16) word name (rw same at is)) (as_name code kind setup Sender word fine)
+sender_found code kind setup word who fine is = name_found code (no_sender kind setup word) (sender_number kind setup) word who (λ name same. is_named (2 ^ 16) word name (rw same at is)) (as_name code kind setup Sender word fine)
 
 client_found : (code : LineCode) (kind : Kind) (setup : Setup) (word : List ℕ) (who : Spelled) → breaks code kind setup Client word ≡ None → reference_at (2 ^ 16) word ≡ Ok who → Fine code (client_of setup who)
 client_found code kind setup word who fine is = name_found code _ (client_number setup) word who (λ name same. is_named (2 ^ 16) word name (rw same at is)) (as_name code kind setup Client word fine)

@@ -2,3 +2,4 @@ pub mod EachTold
 pub mod LineCounted
 pub mod BrokenWords
 pub mod Finding
+pub mod TreeFinding

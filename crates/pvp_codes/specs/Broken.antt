@@ -12,7 +12,9 @@ use Rattle.pvp_text.specs.ScriptFields.{has_leading_zero, sender_number}
 use Rattle.pvp_codes.specs.declared.fields.Field.{Field}
 use Rattle.pvp_codes.specs.declared.fields.Field.TheVariants.{First, Command, Amount, Number, Turns, Sender, Client, Currency, Actor, Site}
 use Rattle.pvp_codes.specs.declared.broken.Why.{Why}
-use Rattle.pvp_codes.specs.declared.broken.Why.TheVariants.{BeginsNoLine, NoCommand, NoDigits, LeadingZero, NotDigits, Above, NoSender, NoClient, NoCurrency, NoActor, NoSite}
+use Rattle.pvp_codes.specs.declared.broken.Why.TheVariants.{BeginsNoLine, OtherKind, NoCommand, NoDigits, LeadingZero, NotDigits, Above, NoSender, OfNode, NoClient, NoCurrency, NoActor, NoSite}
+use Rattle.pvp_codes.specs.declared.kinds.Kinds.{Kinds}
+use Rattle.pvp_codes.specs.Kinds.{kinds_of, kinds_text, kind_text}
 
 -- `@` and `s` tell a number after them
 abbrev pub begins_with : ℕ → List ℕ → Bool
@@ -21,10 +23,15 @@ begins_with byte (first ∷ rest) = first == byte
 
 -- ---- a word that is unknown
 
-abbrev pub unknown_word : Field → List ℕ → Option Why
-unknown_word First word = if bytes_eq word (codes "do") then None else Some BeginsNoLine
-unknown_word Command word = Some NoCommand
-unknown_word _ word = None
+-- a first word of lines of other kinds of script, or of none
+abbrev pub unknown_first : Kind → Option Kinds → Why
+unknown_first kind (Some kinds) = OtherKind kinds kind
+unknown_first kind None = BeginsNoLine
+
+abbrev pub unknown_word : Kind → Field → List ℕ → Option Why
+unknown_word kind First word = if bytes_eq word (codes "do") then None else Some (unknown_first kind (kinds_of word))
+unknown_word kind Command word = Some NoCommand
+unknown_word kind _ word = None
 
 -- ---- a number that is malformed or too large
 
@@ -61,8 +68,12 @@ malformed Site word =
 abbrev pub unless_named : Why → Bool → List ℕ → Option Why
 unless_named why is_named word = if is_named || begins_with 64 word then None else Some why
 
+-- where nodes send their own commands, a currency's code tells a node, which is no sender
+abbrev pub no_sender : Kind → Setup → List ℕ → Why
+no_sender kind setup word = if is_some (currency_number setup word) then OfNode kind else NoSender
+
 abbrev pub unknown_name : Kind → Setup → Field → List ℕ → Option Why
-unknown_name kind setup Sender word = unless_named NoSender (is_some (sender_number kind setup word)) word
+unknown_name kind setup Sender word = unless_named (no_sender kind setup word) (is_some (sender_number kind setup word)) word
 unknown_name kind setup Client word = unless_named NoClient (is_some (client_number setup word)) word
 unknown_name kind setup Currency word = unless_named NoCurrency (is_some (currency_number setup word)) word
 unknown_name kind setup Actor word = if begins_with 115 word then None else unless_named NoActor (is_some (client_number setup word)) word
@@ -73,7 +84,7 @@ unknown_name kind setup _ word = None
 
 -- why a word breaks the rule of a code where it stands
 abbrev pub breaks : LineCode → Kind → Setup → Field → List ℕ → Option Why
-breaks line.UnknownWord kind setup field word = unknown_word field word
+breaks line.UnknownWord kind setup field word = unknown_word kind field word
 breaks line.Number kind setup field word = malformed field word
 breaks line.UnknownName kind setup field word = unknown_name kind setup field word
 breaks _ kind setup field word = None
@@ -92,12 +103,14 @@ first_broken breaks _ _ = None
 
 abbrev pub why_text : Why → List ℕ
 why_text BeginsNoLine = codes "begins no line of such a script"
+why_text (OtherKind kinds kind) = codes "is a line of " ++ kinds_text kinds ++ codes ", not of " ++ kind_text kind
 why_text NoCommand = codes "is no command"
 why_text NoDigits = codes "is no number: no digits"
 why_text LeadingZero = codes "is no number: a leading zero"
 why_text NotDigits = codes "is no number: a byte that is no digit"
 why_text (Above most) = codes "is too large a number: above " ++ decimal most
 why_text NoSender = codes "is no name of a client that may send a command"
+why_text (OfNode kind) = codes "is a node: in " ++ kind_text kind ++ codes " nodes send their own commands, use payin"
 why_text NoClient = codes "is no client's name"
 why_text NoCurrency = codes "is no currency's code"
 why_text NoActor = codes "is no actor's name"

@@ -1,5 +1,5 @@
 -- A fault of a setup or of a script in words: the rule, and what broke it.
-use Rattle.std.specs.Prelude.{◌≡◌, ℕ, zero, suc, ◌+◌, ◌-◌, ◌==◌, ◌&&◌, Bool, true, false, List, [], ◌∷◌, ◌++◌, length, nat_le, nat_lt, decimal, Option, Some, None, Result, Ok, codes, if◌then◌else◌}
+use Rattle.std.specs.Prelude.{◌≡◌, ℕ, zero, suc, ◌+◌, ◌-◌, ◌==◌, ◌&&◌, Bool, true, false, not, List, [], ◌∷◌, ◌++◌, length, slice_index, position, nat_le, nat_lt, decimal, Option, Some, None, Result, Ok, Err, codes, if◌then◌else◌}
 use Rattle.std.specs.List.{list_all, before_first, after_first}
 use Rattle.pvp_types.specs.Setup.{is_between}
 use Rattle.pvp_types.specs.declared.setup.Setup.{Setup}
@@ -11,13 +11,14 @@ use Rattle.pvp_types.specs.declared.setup.SetupFault.{SetupFault}
 use Rattle.pvp_types.specs.declared.setup.SetupFault.TheVariants.{SiteCount, CurrencyCount, CurrencyCode, Rate, Haircut, MemberCount, MemberName, ListLength, Limit}
 use Rattle.pvp_text.specs.SetupText.{parts_where}
 use Rattle.pvp_text.specs.declared.setup.TextFault.{TextFault}
-use Rattle.pvp_text.specs.declared.setup.TextFault.TheVariants.{BadSetup}
+use Rattle.pvp_text.specs.declared.setup.TextFault.TheVariants.{BadMember, BadSetup}
 use Rattle.pvp_text.specs.declared.script.LineFault.{LineFault}
 use Rattle.pvp_text.specs.declared.script.LineCode.{LineCode}
 use Rattle.pvp_text.specs.declared.script.LineCode.TheVariants.{Byte, UnknownWord, WordCount, Number, UnknownName, LineLength, LineCount, NoMemory}
 use Rattle.pvp_codes.specs.Meanings.{text_meaning, line_meaning}
 use Rattle.pvp_codes.specs.Fields.{line_form}
 use Rattle.pvp_codes.specs.Broken.{breaks, first_broken, why_text}
+use Rattle.pvp_codes.specs.Tree.{Found, wrong_in, path_told, flaw_text}
 use Rattle.pvp_codes.specs.Parts.{currency_fault, member_fault, first_part, part_text}
 use Rattle.pvp_codes.specs.declared.parts.PartWhy.{PartWhy}
 use Rattle.pvp_codes.specs.declared.fields.Field.{Field}
@@ -83,12 +84,42 @@ abbrev pub found_told : LineCode → List ℕ → Option (List ℕ × Why) → L
 found_told code line (Some broken) = broken_told broken
 found_told code line None = rule_told code (words line) ++ codes ": " ++ line
 
--- what is told of a line: its words where they are at fault and can be shown, else the rule
+-- what a byte is that is no printed character
+abbrev pub byte_name : ℕ → Bool → List ℕ
+byte_name byte is_last =
+    if byte == 9 then codes "a tab"
+    else if byte == 13 && is_last then codes "a Windows line end"
+    else codes "outside 32 to 126"
+
+-- a byte in a column, and what it is
+abbrev pub byte_told : ℕ → ℕ → Bool → List ℕ
+byte_told byte column is_last = codes "byte " ++ decimal byte ++ codes " at column " ++ decimal column ++ codes ": " ++ byte_name byte is_last
+
+-- where the first byte of a line stands that is no printed character
+abbrev pub first_unprinted : List ℕ → Option ℕ
+first_unprinted line = position (λ byte. not (is_between 32 126 byte)) line
+
+-- a byte of a line by its place; columns are counted from 1
+abbrev pub unprinted_told : List ℕ → Option ℕ → List ℕ
+unprinted_told line (Some place) = byte_told (slice_index line place) (place + 1) (place + 1 == length line)
+unprinted_told line None = line_meaning Byte
+
+-- the rule of a line, and how long the line is
+abbrev pub length_told : LineCode → ℕ → List ℕ
+length_told code count = line_meaning code ++ codes ": " ++ decimal count
+
+-- what is told of a line by no word of it: its first byte that is no printed character, or how long it is
+abbrev pub bytes_told : LineCode → List ℕ → List ℕ
+bytes_told Byte line = unprinted_told line (first_unprinted line)
+bytes_told LineLength line = length_told LineLength (length line)
+bytes_told code line = line_meaning code
+
+-- what is told of a line: its words where they are at fault and can be shown, else its bytes or the rule
 abbrev pub line_told : LineCode → Kind → Setup → List ℕ → List ℕ
 line_told code kind setup line =
     if is_of_words code && is_shown line
     then found_told code line (first_broken (breaks code kind setup) (line_form (words line)) (words line))
-    else line_meaning code
+    else bytes_told code line
 
 -- THE FAULT OF A SCRIPT in words: its line's number, and what is told of the line
 abbrev pub line_explained : LineFault → Kind → Setup → List ℕ → List ℕ
@@ -131,14 +162,25 @@ part_told MemberName setup = member_told MemberName (first_part (member_fault Me
 part_told ListLength setup = member_told ListLength (first_part (member_fault ListLength setup) [] setup.members)
 part_told Limit setup = member_told Limit (first_part (member_fault Limit setup) [] setup.members)
 
--- what is told of a text that is no setup, given its parts, which one without a tree has not
-abbrev pub setup_told : TextFault → Result Setup TextFault → List ℕ
-setup_told (BadSetup rule) (Ok parts) = part_told rule parts
-setup_told fault _ = alone_told fault
+-- what broke a rule, given the parts of the text, which one without a tree has not
+abbrev pub broken_part_told : SetupFault → Result Setup TextFault → List ℕ
+broken_part_told rule (Ok parts) = part_told rule parts
+broken_part_told rule (Err fault) = alone_told (BadSetup rule)
+
+-- a part that is missing or of the wrong type, by the path to it, and what is wrong
+abbrev pub wrong_told : Found → List ℕ
+wrong_told (Some found) = codes "setup: " ++ path_told found.0 ++ flaw_text found.1
+wrong_told None = alone_told BadMember
+
+-- what is told of a text that is no setup
+abbrev pub setup_told : TextFault → List ℕ → List ℕ
+setup_told (BadSetup rule) bytes = broken_part_told rule (parts_where None bytes)
+setup_told BadMember bytes = wrong_told (wrong_in bytes)
+setup_told fault bytes = alone_told fault
 
 -- THE FAULT OF A SETUP in words: what broke the rule, or the rule
 abbrev pub setup_explained : TextFault → List ℕ → List ℕ
-setup_explained fault bytes = setup_told fault (parts_where None bytes) ++ codes "\n"
+setup_explained fault bytes = setup_told fault bytes ++ codes "\n"
 
 -- ---- what holds of the line of a number
 

@@ -1,7 +1,9 @@
 pub mod Meanings
 pub mod Codes
 pub mod Fields
+pub mod Kinds
 pub mod Broken
 pub mod Parts
+pub mod Tree
 pub mod Explained
 pub mod Finding

@@ -6,8 +6,10 @@ ghost use Rattle.std.specs.List.{list_all};
 ghost use Rattle.pvp_text.specs.ScriptFields.{sender_number};
 ghost use Rattle.pvp_text.specs.ScriptWords.{words};
 ghost use Rattle.pvp_codes.specs.Broken as spec;
+ghost use Rattle.pvp_codes.specs.Kinds.{kinds_of};
 
 use crate::fields::{Field, is};
+use crate::kinds::{Kinds, kind_name, kinds_of};
 use pvp_text::{Kind, LineCode, amount, next_word};
 use pvp_types::Setup;
 use std::fmt;
@@ -15,8 +17,10 @@ use std::fmt;
 /// Why a word may not stand where it does.
 #[derive(Clone, Copy, Debug, PartialEq, Eq)]
 pub enum Why {
-    /// It begins no line of such a script.
+    /// It begins no line of any script.
     BeginsNoLine,
+    /// It begins lines of these kinds of script, and this script is of another.
+    OtherKind(Kinds, Kind),
     /// It is no command.
     NoCommand,
     /// A number without digits.
@@ -29,6 +33,8 @@ pub enum Why {
     Above(u64),
     /// No client has the name that may send a command.
     NoSender,
+    /// It is a currency's node, whose commands no script of this kind has.
+    OfNode(Kind),
     /// No client has the name.
     NoClient,
     /// No currency has the code.
@@ -46,12 +52,20 @@ impl fmt::Display for Why {
     fn fmt<W: fmt::Write>(&self, f: &mut fmt::Formatter<W>) -> fmt::Result {
         match self {
             Why::BeginsNoLine => f.write_str("begins no line of such a script"),
+            Why::OtherKind(kinds, kind) => {
+                write!(f, "is a line of {kinds}, not of {}", kind_name(*kind))
+            }
             Why::NoCommand => f.write_str("is no command"),
             Why::NoDigits => f.write_str("is no number: no digits"),
             Why::LeadingZero => f.write_str("is no number: a leading zero"),
             Why::NotDigits => f.write_str("is no number: a byte that is no digit"),
             Why::Above(most) => write!(f, "is too large a number: above {most}"),
             Why::NoSender => f.write_str("is no name of a client that may send a command"),
+            Why::OfNode(kind) => write!(
+                f,
+                "is a node: in {} nodes send their own commands, use payin",
+                kind_name(*kind)
+            ),
             Why::NoClient => f.write_str("is no client's name"),
             Why::NoCurrency => f.write_str("is no currency's code"),
             Why::NoActor => f.write_str("is no actor's name"),
@@ -90,7 +104,7 @@ fn breaks(code: LineCode, kind: Kind, setup: &Setup, field: Field, word: &[u8]) 
     ensures { result ≡ spec.breaks code kind setup.now field word.now }
 {
     match code {
-        LineCode::UnknownWord => unknown_word(field, word),
+        LineCode::UnknownWord => unknown_word(kind, field, word),
         LineCode::Number => malformed(field, word),
         LineCode::UnknownName => unknown_name(kind, setup, field, word),
         LineCode::Byte
@@ -102,14 +116,24 @@ fn breaks(code: LineCode, kind: Kind, setup: &Setup, field: Field, word: &[u8]) 
 }
 
 /// Why a word is unknown that is to tell a form.
-fn unknown_word(field: Field, word: &[u8]) -> Option<Why>
-    ensures { result ≡ spec.unknown_word field word.now }
+fn unknown_word(kind: Kind, field: Field, word: &[u8]) -> Option<Why>
+    ensures { result ≡ spec.unknown_word kind field word.now }
 {
     match field {
         Field::First if is(word, "do") => None,
-        Field::First => Some(Why::BeginsNoLine),
+        Field::First => Some(unknown_first(kind, word)),
         Field::Command => Some(Why::NoCommand),
         _ => None,
+    }
+}
+
+/// Why a first word is unknown: it begins lines of other kinds of script, or of none.
+fn unknown_first(kind: Kind, word: &[u8]) -> Why
+    ensures { result ≡ spec.unknown_first kind (kinds_of word.now) }
+{
+    match kinds_of(word) {
+        Some(kinds) => Why::OtherKind(kinds, kind),
+        None => Why::BeginsNoLine,
     }
 }
 
@@ -181,7 +205,9 @@ fn unknown_name(kind: Kind, setup: &Setup, field: Field, word: &[u8]) -> Option<
     ensures { result ≡ spec.unknown_name kind setup.now field word.now }
 {
     match field {
-        Field::Sender => unless_named(Why::NoSender, sends(kind, setup, word), word),
+        Field::Sender => {
+            unless_named(no_sender(kind, setup, word), sends(kind, setup, word), word)
+        }
         Field::Client => unless_named(Why::NoClient, setup.client(word).is_some(), word),
         Field::Currency => unless_named(Why::NoCurrency, setup.currency(word).is_some(), word),
         Field::Actor if begins_with(b's', word) => None,
@@ -189,6 +215,16 @@ fn unknown_name(kind: Kind, setup: &Setup, field: Field, word: &[u8]) -> Option<
         Field::Site if begins_with(b's', word) || begins_with(b'@', word) => None,
         Field::Site => Some(Why::NoSite),
         _ => None,
+    }
+}
+
+/// Why a name is none of one that may send a command.
+fn no_sender(kind: Kind, setup: &Setup, name: &[u8]) -> Why
+    ensures { result ≡ spec.no_sender kind setup.now name.now }
+{
+    match setup.currency(name) {
+        Some(_) => Why::OfNode(kind),
+        None => Why::NoSender,
     }
 }
 

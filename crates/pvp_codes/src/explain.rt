@@ -1,33 +1,36 @@
 //! Faults of setups and of scripts in words, with what broke the rule.
 
-ghost use Rattle.std.specs.Prelude.{◌≡◌, ◌++◌, [], length, nat_lt, codes, IfOk, OnOk};
+ghost use Rattle.std.specs.Prelude.{◌≡◌, ◌++◌, [], ◌<◌, length, Some, None, nat_lt, codes, IfOk, IfSome, OnOk};
 ghost use Rattle.std.specs.List.{list_all};
 ghost use Rattle.pvp_types.specs.Setup.{is_between};
 ghost use Rattle.pvp_text.specs.ScriptWords.{words};
+ghost use Rattle.pvp_text.specs.SetupText.{parts_where};
 ghost use Rattle.pvp_codes.specs.Parts.{currency_fault, member_fault, first_part};
+ghost use Rattle.pvp_codes.specs.Tree.{wrong_in};
 ghost use Rattle.pvp_codes.specs.Explained as spec;
 
 use crate::broken::{Why, first_broken};
 use crate::fields::{Field, line_form};
 use crate::meanings::{line_meaning, text_meaning};
 use crate::parts::{first_currency, first_member};
+use crate::tree::{Fault, Flaw, check_text};
 use pvp_text::{Kind, LineCode, LineFault, TextFault, cut, next_word, read_parts};
 use pvp_types::{Setup, SetupFault};
 use std::alloc::{AllocError, Global};
 
 /// The fault of a setup in words, as a line: of a rule that the text breaks, which currency or member breaks it first and
-/// how, or how many there are; else the rule.
+/// how, or how many there are; of a part that is missing or of the wrong type, the path to the first in the order of
+/// reading, with places in lists counted from 0, and what is wrong; else the rule.
 ///
-/// The parts of the text are read once more for it.
-#[tactic(auto, unfolding(pvp_text::specs::SetupText::parts_where))]
+/// The text is read once more for it.
 pub fn explain_setup(alloc: Global, fault: TextFault, bytes: &[u8]) -> Result<Vec<u8>, AllocError>
     ensures { IfOk result (λ text. text.items ≡ spec.setup_explained fault bytes.now) }
 {
     let mut text = Vec::new(alloc);
-    match (fault, read_parts(alloc, bytes)) {
-        (TextFault::BadSetup(rule), Ok(parts)) => push_part(alloc, &mut text, rule, &parts)?,
-        (_, Err(TextFault::NoMemory)) => return Err(AllocError),
-        (fault, _) => push_alone(&mut text, fault)?,
+    match fault {
+        TextFault::BadSetup(rule) => push_broken_part(alloc, &mut text, rule, bytes)?,
+        TextFault::BadMember => push_wrong_part(alloc, &mut text, bytes)?,
+        TextFault::NotJson | TextFault::NoMemory => push_alone(&mut text, fault)?,
     }
     text.extend_from_slice(b"\n")?;
     Ok(text)
@@ -39,6 +42,51 @@ fn push_alone(text: &mut Vec<u8>, fault: TextFault) -> Result<(), AllocError>
 {
     push(text, "setup: ")?;
     push(text, text_meaning(fault))
+}
+
+/// Appends which part of a text is missing or of the wrong type, and how.
+fn push_wrong_part(alloc: Global, text: &mut Vec<u8>, bytes: &[u8]) -> Result<(), AllocError>
+    ensures { OnOk result (text.new.items ≡ text.old.items ++ spec.wrong_told (wrong_in bytes.now)) }
+{
+    match check_text(alloc, bytes) {
+        Ok(()) => push_alone(text, TextFault::BadMember),
+        Err(Fault::Wrong { path, flaw }) => push_wrong(alloc, text, path.as_bytes(), flaw),
+        Err(Fault::NoMemory) => Err(AllocError),
+    }
+}
+
+/// Appends the path to a part, which begins with a dot where it is not that of the whole text, and what is wrong with it.
+fn push_wrong(alloc: Global, text: &mut Vec<u8>, path: &[u8], flaw: Flaw) -> Result<(), AllocError>
+    ensures { OnOk result (text.new.items ≡ text.old.items ++ spec.wrong_told (Some (path.now, flaw))) }
+{
+    let reason = format!(in alloc; "{flaw}")?;
+    push(text, "setup: ")?;
+    match path {
+        [] => push(text, "the text is ")?,
+        [_, path @ ..] => {
+            text.extend_from_slice(path)?;
+            push(text, ": ")?;
+        }
+    }
+    push(text, reason.as_str())
+}
+
+/// Appends which part of a text broke a rule, and how; the rule where the text has no parts.
+#[tactic(auto, unfolding(pvp_text::specs::SetupText::parts_where))]
+fn push_broken_part(
+    alloc: Global,
+    text: &mut Vec<u8>,
+    rule: SetupFault,
+    bytes: &[u8],
+) -> Result<(), AllocError>
+    ensures { OnOk result (text.new.items ≡ text.old.items
+        ++ spec.broken_part_told rule (parts_where None bytes.now)) }
+{
+    match read_parts(alloc, bytes) {
+        Ok(parts) => push_part(alloc, text, rule, &parts),
+        Err(TextFault::NoMemory) => Err(AllocError),
+        Err(_) => push_alone(text, TextFault::BadSetup(rule)),
+    }
 }
 
 /// Appends which part of a setup broke a rule, and how.
@@ -130,7 +178,8 @@ fn push_name(text: &mut Vec<u8>, name: &str) -> Result<(), AllocError>
 }
 
 /// The fault of a script in words, as a line: the number of its line, and the first word that broke the rule, where one
-/// did and can be printed; else the rule, and the line where its words are at fault and can be printed.
+/// did and can be printed; else the rule, and the line where its words are at fault and can be printed. Of a byte that is no
+/// printed character it has the column, counted from 1, and of a line that is too long how long it is.
 ///
 /// The script's kind and its setup are those that it was read with.
 pub fn explain_line(
@@ -168,8 +217,86 @@ fn push_line(
             None => push_rule(alloc, text, code, line),
         }
     } else {
-        push(text, line_meaning(code))
+        push_bytes(alloc, text, code, line)
     }
+}
+
+/// Appends what is told of a line by no word of it.
+fn push_bytes(
+    alloc: Global,
+    text: &mut Vec<u8>,
+    code: LineCode,
+    line: &[u8],
+) -> Result<(), AllocError>
+    ensures { OnOk result (text.new.items ≡ text.old.items ++ spec.bytes_told code line.now) }
+{
+    match code {
+        LineCode::Byte => push_unprinted(alloc, text, line),
+        LineCode::LineLength => push_length(alloc, text, code, line.len()),
+        _ => push(text, line_meaning(code)),
+    }
+}
+
+/// Appends which byte of a line is the first that is no printed character.
+fn push_unprinted(alloc: Global, text: &mut Vec<u8>, line: &[u8]) -> Result<(), AllocError>
+    ensures { OnOk result (text.new.items ≡ text.old.items
+        ++ spec.unprinted_told line.now (spec.first_unprinted line.now)) }
+{
+    match first_unprinted(line) {
+        Some(place) => {
+            let column = place + 1;
+            push_byte(alloc, text, line[place], column, column == line.len())
+        }
+        None => push(text, line_meaning(LineCode::Byte)),
+    }
+}
+
+/// Appends in which column a byte stands, and what it is.
+fn push_byte(
+    alloc: Global,
+    text: &mut Vec<u8>,
+    byte: u8,
+    column: usize,
+    is_last: bool,
+) -> Result<(), AllocError>
+    ensures { OnOk result (text.new.items ≡ text.old.items ++ spec.byte_told byte column is_last) }
+{
+    let name = byte_name(byte, is_last);
+    let told = format!(in alloc; "byte {byte} at column {column}: {name}")?;
+    push(text, told.as_str())
+}
+
+/// Appends the rule of a line, and how long the line is.
+fn push_length(
+    alloc: Global,
+    text: &mut Vec<u8>,
+    code: LineCode,
+    count: usize,
+) -> Result<(), AllocError>
+    ensures { OnOk result (text.new.items ≡ text.old.items ++ spec.length_told code count) }
+{
+    let more = format!(in alloc; ": {count}")?;
+    push(text, line_meaning(code))?;
+    push(text, more.as_str())
+}
+
+/// What a byte is that is no printed character.
+fn byte_name(byte: u8, is_last: bool) -> &'static str
+    ensures { result.now ≡ spec.byte_name byte is_last }
+{
+    match byte {
+        b'\t' => "a tab",
+        b'\r' if is_last => "a Windows line end",
+        _ => "outside 32 to 126",
+    }
+}
+
+/// Where the first byte of a line stands that is no printed character.
+fn first_unprinted(line: &[u8]) -> Option<usize>
+    ensures place { result ≡ spec.first_unprinted line.now }
+    ensures within { IfSome result (λ place. place < length line.now) }
+{
+    line.iter().position(|byte| !(32..=126).contains(byte))
 }
 
 /// Appends a word that is quoted, and why it may not stand where it does.

@@ -5,10 +5,12 @@ mod broken;
 pub mod code;
 pub mod explain;
 mod fields;
+mod kinds;
 pub mod laws;
 pub mod meanings;
 mod parts;
 pub mod table;
+mod tree;
 
 pub use code::Code;
 pub use explain::{explain_line, explain_setup};
