@@ -260,23 +260,25 @@ TRACED = """refused 1 G2
    2  ALFA -> s1  REQUEST 1 payout USD 5
    3  ALFA -> s2  REQUEST 1 payout USD 5
 3  do ALFA payout USD 6: G3, the client still waits for an answer
-4  deliver 2 to s1: dropped, another site is the primary
-5  deliver 1 to s0
+4  deliver 2 to s1, REQUEST: dropped, another site is the primary
+5  deliver 1 to s0, REQUEST
    4  s0 -> s1  PREPARE view 0 place 1 done 0 row ALFA 1 payout USD 5
    5  s0 -> s2  PREPARE view 0 place 1 done 0 row ALFA 1 payout USD 5
 6  crash s1
-7  deliver 4 to s1: S3, the site is down
+   s1 is down
+7  deliver 4 to s1, PREPARE: S3, the site is down
 8  restart s1: S2, the boot cell did not save, and the site is down, its cell holds 1
 9  restart s0: S4, the site is not down
 10  timer s9: G2, there is no such actor
 11  payin ALFA USD 10001: N1, the account that pays is short
 12  restart s1
+   s1 is recovering
    6  s1 -> s0  RECOVERY nonce 2
    7  s1 -> s2  RECOVERY nonce 2
-13  deliver 1 to s0: dropped, the site has it already
-14  deliver 2 to s1: dropped, the site's status takes no part in it
-15  deliver 4 to s1: dropped, the site's status takes no part in it
-16  deliver 6 to s0
+13  deliver 1 to s0, REQUEST: dropped, the site has it already
+14  deliver 2 to s1, REQUEST: dropped, the site's status takes no part in it
+15  deliver 4 to s1, PREPARE: dropped, the site's status takes no part in it
+16  deliver 6 to s0, RECOVERY
    8  s0 -> s1  RECOVERYRESPONSE view 0 nonce 2 done 0 rows 1 last ALFA 1 payout USD 5 boots 0 2 0
 refused 19 G2
 """

@@ -37,53 +37,62 @@ CHANGE_TOLD = f"""1  do ALFA instruct 5 BETA EUR 100 USD 200
    1  ALFA -> s0  REQUEST 1 instruct 5 BETA EUR 100 USD 200
    2  ALFA -> s1  REQUEST 1 instruct 5 BETA EUR 100 USD 200
    3  ALFA -> s2  REQUEST 1 instruct 5 BETA EUR 100 USD 200
-2  deliver 1 to s0
+2  deliver 1 to s0, REQUEST
    4  s0 -> s1  PREPARE view 0 place 1 done 0 row {OF_ALFA}
    5  s0 -> s2  PREPARE view 0 place 1 done 0 row {OF_ALFA}
-3  deliver 4 to s1
+3  deliver 4 to s1, PREPARE
    6  s1 -> s0  PREPAREOK view 0 place 1
-4  deliver 6 to s0
+4  deliver 6 to s0, PREPAREOK
+   s0 executes row 1
    7  s0 -> ALFA  REPLY view 0 to 1 done
 5  timer s1
+   s1 is in change to view 1
    8  s1 -> s0  STARTVIEWCHANGE view 1 boots 0 0 0
    9  s1 -> s2  STARTVIEWCHANGE view 1 boots 0 0 0
-6  deliver 9 to s2
+6  deliver 9 to s2, STARTVIEWCHANGE
+   s2 is in change to view 1
    10  s2 -> s0  STARTVIEWCHANGE view 1 boots 0 0 0
    11  s2 -> s1  STARTVIEWCHANGE view 1 boots 0 0 0
    12  s2 -> s1  DOVIEWCHANGE view 1 normal 0 done 0 rows 0 boots 0 0 0
-7  deliver 11 to s1
-8  deliver 12 to s1
+7  deliver 11 to s1, STARTVIEWCHANGE
+8  deliver 12 to s1, DOVIEWCHANGE
+   s1 is normal in view 1
    13  s1 -> s0  STARTVIEW view 1 done 0 rows 1 last {OF_ALFA}
    14  s1 -> s2  STARTVIEW view 1 done 0 rows 1 last {OF_ALFA}
-9  deliver 14 to s2
+9  deliver 14 to s2, STARTVIEW
+   s2 is normal in view 1
    15  s2 -> s1  PREPAREOK view 1 place 1
-10  deliver 15 to s1
+10  deliver 15 to s1, PREPAREOK
+   s1 executes row 1
    16  s1 -> ALFA  REPLY view 1 to 1 done
 11  crash s0
+   s0 is down
 12  restart s0
+   s0 is recovering
    17  s0 -> s1  RECOVERY nonce 1
    18  s0 -> s2  RECOVERY nonce 1
-13  deliver 17 to s1
+13  deliver 17 to s1, RECOVERY
    19  s1 -> s0  RECOVERYRESPONSE view 1 nonce 1 done 1 rows 1 last {OF_ALFA} boots 1 0 0
-14  deliver 18 to s2
+14  deliver 18 to s2, RECOVERY
    20  s2 -> s0  RECOVERYRESPONSE view 1 nonce 1 boots 1 0 0
 15  do OP settle 8
    21  OP -> s0  REQUEST 1 settle 8
    22  OP -> s1  REQUEST 1 settle 8
    23  OP -> s2  REQUEST 1 settle 8
-16  deliver 22 to s1
+16  deliver 22 to s1, REQUEST
    24  s1 -> s0  PREPARE view 1 place 2 done 1 row OP 1 settle 8
    25  s1 -> s2  PREPARE view 1 place 2 done 1 row OP 1 settle 8
 17  do BETA rescind 5
    26  BETA -> s0  REQUEST 1 rescind 5
    27  BETA -> s1  REQUEST 1 rescind 5
    28  BETA -> s2  REQUEST 1 rescind 5
-18  deliver 27 to s1
+18  deliver 27 to s1, REQUEST
    29  s1 -> s0  PREPARE view 1 place 3 done 1 row BETA 1 rescind 5
    30  s1 -> s2  PREPARE view 1 place 3 done 1 row BETA 1 rescind 5
-19  deliver 30 to s2
+19  deliver 30 to s2, PREPARE
+   s2 executes row 1
    31  s2 -> s1  GETSTATE view 1 base 1
-20  deliver 31 to s1
+20  deliver 31 to s1, GETSTATE
    32  s1 -> s2  NEWSTATE view 1 base 1 done 1 rows 2 last BETA 1 rescind 5
 """
 
@@ -95,18 +104,19 @@ class Steps(Runs):
    1  USD -> s0  REQUEST 1 fund USD 1 ALFA 1200
    2  USD -> s1  REQUEST 1 fund USD 1 ALFA 1200
    3  USD -> s2  REQUEST 1 fund USD 1 ALFA 1200
-2  deliver 1 to s0
+2  deliver 1 to s0, REQUEST
    4  s0 -> s1  PREPARE view 0 place 1 done 0 row USD 1 fund USD 1 ALFA 1200
    5  s0 -> s2  PREPARE view 0 place 1 done 0 row USD 1 fund USD 1 ALFA 1200
-3  deliver 2 to s1: dropped, another site is the primary
-4  deliver 4 to s1
+3  deliver 2 to s1, REQUEST: dropped, another site is the primary
+4  deliver 4 to s1, PREPARE
    6  s1 -> s0  PREPAREOK view 0 place 1
-5  deliver 5 to s2
+5  deliver 5 to s2, PREPARE
    7  s2 -> s0  PREPAREOK view 0 place 1
-6  deliver 6 to s0
+6  deliver 6 to s0, PREPAREOK
+   s0 executes row 1
    8  s0 -> USD  REPLY view 0 to 1 done
-7  deliver 7 to s0
-8  deliver 8 to USD
+7  deliver 7 to s0, PREPAREOK
+8  deliver 8 to USD, REPLY
 9  beat s0
    9  s0 -> s1  COMMIT view 0 done 1
    10  s0 -> s2  COMMIT view 0 done 1
@@ -120,7 +130,8 @@ class Steps(Runs):
         script = "do ALFA payout USD 300\ndeliver 1\ndeliver 4\ntimer s2\ntimer s2\ndeliver 10\n"
         self.shows(TRACE, script, [
             "   9  s2 -> s0  STARTVIEWCHANGE view 2 boots 0 0 0",
-            "6  deliver 10 to s1",
+            "6  deliver 10 to s1, STARTVIEWCHANGE",
+            "   s1 is in change to view 2",
             "   12  s1 -> s2  STARTVIEWCHANGE view 2 boots 0 0 0",
             "   13  s1 -> s2  DOVIEWCHANGE view 2 normal 0 done 0 rows 1 last ALFA 1 payout USD 300 boots 0 0 0",
         ])
@@ -135,6 +146,7 @@ class Steps(Runs):
 2  close @3 USD: N2, there is no such member
 3  do @9 settle 1: G2, there is no such actor
 4  crash s2
+   s2 is down
 5  timer s2: S3, the site is down
 6  beat USD
 7  restart s2: S2, the boot cell did not save, and the site is down, its cell holds 1
@@ -205,12 +217,12 @@ class Steps(Runs):
         self.shows(TRACE, f"{ORDERED}deliver 21\n", [
             "22  beat s0",
             "   21  s0 -> USD  PAYORDER USD 1 ALFA 200",
-            "23  deliver 21 to USD",
+            "23  deliver 21 to USD, PAYORDER",
             "   22  USD -> s0  REQUEST 2 paid USD 1",
         ])
 
     def test_an_order_that_is_returned_is_told(self):
-        self.shows(TRACE, f"{ORDERED}close ALFA USD\ndeliver 21\n", ["24  deliver 21 to USD", "   22  USD -> s0  REQUEST 2 returned USD 1"])
+        self.shows(TRACE, f"{ORDERED}close ALFA USD\ndeliver 21\n", ["24  deliver 21 to USD, PAYORDER", "   22  USD -> s0  REQUEST 2 returned USD 1"])
 
     def test_answers_are_told(self):
         """A settlement run over no pair, and a rescission of a pair that there is not."""
@@ -225,4 +237,4 @@ class Steps(Runs):
 
     def test_a_timer_tells_six_other_sites(self):
         sent = "".join(f"   {number}  s1 -> s{to}  STARTVIEWCHANGE view 1 boots 0 0 0 0 0 0 0\n" for number, to in enumerate((0, 2, 3, 4, 5, 6), 1))
-        self.prints(TRACE, f"1  timer s1\n{sent}", of_sites(7), "timer s1\n")
+        self.prints(TRACE, f"1  timer s1\n   s1 is in change to view 1\n{sent}", of_sites(7), "timer s1\n")

@@ -1,11 +1,15 @@
 -- A step that nothing hinders has one outcome in two worlds that came the same way.
-use Rattle.std.proofs.Common.{◌≡◌, ℕ, ◌+◌, ◌-◌, ◌==◌, Bool, true, false, if◌then◌else◌, List, [], ◌∷◌, ◌++◌, length, Option, Some, None, Result, Ok, Err, refl, sym, ap, ◌∙◌, subst, arith, true≢false}
+use Rattle.std.proofs.Common.{◌≡◌, ℕ, ◌+◌, ◌-◌, ◌==◌, Bool, true, false, if◌then◌else◌, List, [], ◌∷◌, ◌++◌, length, slice_get, Option, Some, None, option_map, Result, Ok, Err, refl, sym, ap, ◌∙◌, subst, arith, true≢false}
+use Rattle.std.specs.Prelude.{option_and_then}
 use Rattle.pvp_types.specs.declared.setup.Setup.{Setup}
+use Rattle.pvp_types.specs.declared.command.Cmd.{Cmd}
 use Rattle.pvp_types.specs.Setup.{faults}
 use Rattle.vr_types.specs.declared.cell.Boot.{Boot}
 use Rattle.vr_types.specs.declared.event.SiteFault.{SiteFault}
 use Rattle.vr_types.specs.declared.event.SiteFault.TheVariants as site
 use Rattle.vr_types.specs.declared.event.Why.{Why}
+use Rattle.vr_types.specs.Site.{Site}
+use Rattle.vr_site.specs.Replica as replica
 use Rattle.rtgs_node.specs.Node.{Envelope}
 use Rattle.headline.specs.declared.step.Step.{Step}
 use Rattle.headline.specs.declared.step.Move.{Move}
@@ -19,13 +23,15 @@ use Rattle.pvp_world.specs.declared.fault.WorldFault.{WorldFault}
 use Rattle.pvp_world.specs.declared.fault.WorldFault.TheVariants as fault
 use Rattle.pvp_world.specs.declared.report.Report.{Report}
 use Rattle.pvp_trace.specs.declared.attempt.Attempt.{Attempt}
+use Rattle.pvp_trace.specs.declared.stand.Stand.{Stand}
 use Rattle.pvp_trace.specs.Attempts.{Attempts, fell_by}
+use Rattle.pvp_trace.specs.Stands.{stand_of, stand_at, site_of}
 use Rattle.pvp_world.specs.Refusals.{bank_refuses, turn_refuses, hinders, hinders_site}
 use Rattle.determinism.specs.Unhindered.{is_hindered, refused_as}
 use Rattle.determinism.specs.Twins.{AreTwins}
 use Rattle.determinism.proofs.Banks.{one-bank, was-at, after-list}
 use Rattle.determinism.proofs.Dropped.{dropped-once}
-use Rattle.pvp_world.proofs.Refused.{taken-none, why-told, fall-hinders, no-fall}
+use Rattle.pvp_world.proofs.Refused.{taken-none, why-told, fall-hinders, no-fall, within}
 
 module _ {B : Type 0} (held : B → Boot) where
   -- the reason that is told is the bank's
@@ -115,20 +121,47 @@ module _ {B : Type 0} (held : B → Boot) where
   result-once a b twins c d step (Err r) (Ok s) p q free too = absurd (none-some r (sym (told-once a b twins c d step (Err r) (Ok s) p q free too)))
   result-once a b twins c d step (Err r) (Err s) p q free too = ap (λ (w : WorldFault). Err w) (some-same r s (told-once a b twins c d step (Err r) (Err s) p q free too))
 
+  -- WHERE A SITE STANDS is the bank's
+  bank_stand : ℕ → Site Cmd → Stand
+  bank_stand i x = record { site = i; status = x.status; view = x.view; done = x.done }
+
+  stand-shown : (w : Shown B) (at : IsAt held w) (i : ℕ) → stand_at w i ≡ option_map (bank_stand i) (slice_get at.list.bank.sites i)
+  unfolding bank_stand
+  stand-shown w at i = by (slice_get w.sites i) (slice_get at.list.bank.sites i) refl refl
+    where
+      by : (o : Option (replica.Shown Cmd Setup B)) (p : Option (Site Cmd)) → slice_get w.sites i ≡ o → slice_get at.list.bank.sites i ≡ p
+          → option_map (stand_of i) o ≡ option_map (bank_stand i) p
+      by None None e d = refl
+      by None (Some x) e d = let v = within at.list.bank.sites w.sites i x (sym at.shows.sites.count) d in absurd (none-some v.0 (sym e ∙ v.1))
+      by (Some v) None e d = let x = within w.sites at.list.bank.sites i v at.shows.sites.count e in absurd (none-some x.0 (sym d ∙ x.1))
+      by (Some v) (Some x) e d = ap (λ (y : Site Cmd). Some (bank_stand i y)) (sym (at.shows.sites.each i v x e d).site)
+
+  stands-too : (a b : Shown B) → AreTwins held a b → (number : Option ℕ) → option_and_then (stand_at a) number ≡ option_and_then (stand_at b) number
+  stands-too a b twins None = refl
+  stands-too a b twins (Some i) =
+      stand-shown a twins.one_at i
+      ∙ ap (λ (k : Bank). option_map (bank_stand i) (slice_get k.sites i)) (twin-bank a b twins)
+      ∙ sym (stand-shown b twins.other_at i)
+
   -- ONE ATTEMPT
-  abbrev attempt_of : Step → Result Report WorldFault → Option Boot → ℕ → ℕ → Attempt
-  attempt_of step result fell before after = record { step = step; result = result; fell = fell; before = before; after = after }
+  abbrev attempt_of : Step → Result Report WorldFault → Option Boot → Option Stand → Option Stand → ℕ → ℕ → Attempt
+  attempt_of step result fell was now before after = record { step = step; result = result; fell = fell; was = was; now = now; before = before; after = after }
 
   pub attempt-once : (a b : Shown B) (twins : AreTwins held a b) (c d : Shown B) (step : Step) (x y : Attempt)
       → Attempts held a c step x → Attempts held b d step y → is_hindered x.result ≡ false → is_hindered y.result ≡ false → (x ≡ y) × AreTwins held c d
   attempt-once a b twins c d step x y p q free too =
       let next = twins-go-on a b twins c d step x.result y.result p.applies q.applies free too in
-      let result = result-once a b twins c d step x.result y.result p.applies q.applies free too in (
-        ap (λ (s : Step). attempt_of s x.result x.fell x.before x.after) (p.step ∙ sym q.step)
-            ∙ ap (λ (r : Result Report WorldFault). attempt_of y.step r x.fell x.before x.after) result
-            ∙ ap (λ (o : Option Boot). attempt_of y.step y.result o x.before x.after)
+      let result = result-once a b twins c d step x.result y.result p.applies q.applies free too in
+      let site = ap (λ (es : List Envelope). site_of es step) (twin-post a b twins) in (
+        ap (λ (s : Step). attempt_of s x.result x.fell x.was x.now x.before x.after) (p.step ∙ sym q.step)
+            ∙ ap (λ (r : Result Report WorldFault). attempt_of y.step r x.fell x.was x.now x.before x.after) result
+            ∙ ap (λ (o : Option Boot). attempt_of y.step y.result o x.was x.now x.before x.after)
             (p.fell ∙ ap (λ (r : Result Report WorldFault). fell_by r c.trail) result ∙ ap (λ (ms : List Move). fell_by y.result ms) next.trail ∙ sym q.fell)
-            ∙ ap (λ (n : ℕ). attempt_of y.step y.result y.fell n x.after) (p.before ∙ ap (λ (es : List Envelope). length es) (twin-post a b twins) ∙ sym q.before)
-            ∙ ap (λ (n : ℕ). attempt_of y.step y.result y.fell y.before n) (p.after ∙ ap (λ (es : List Envelope). length es) (twin-post c d next) ∙ sym q.after),
+            ∙ ap (λ (o : Option Stand). attempt_of y.step y.result y.fell o x.now x.before x.after)
+            (p.was ∙ stands-too a b twins (site_of a.post step) ∙ ap (λ (n : Option ℕ). option_and_then (stand_at b) n) site ∙ sym q.was)
+            ∙ ap (λ (o : Option Stand). attempt_of y.step y.result y.fell y.was o x.before x.after)
+            (p.now ∙ stands-too c d next (site_of a.post step) ∙ ap (λ (n : Option ℕ). option_and_then (stand_at d) n) site ∙ sym q.now)
+            ∙ ap (λ (n : ℕ). attempt_of y.step y.result y.fell y.was y.now n x.after) (p.before ∙ ap (λ (es : List Envelope). length es) (twin-post a b twins) ∙ sym q.before)
+            ∙ ap (λ (n : ℕ). attempt_of y.step y.result y.fell y.was y.now y.before n) (p.after ∙ ap (λ (es : List Envelope). length es) (twin-post c d next) ∙ sym q.after),
         next,
       )

@@ -29,8 +29,8 @@ ending_of (Err fault) = Refused fault
 abbrev pub standings_after : List (List Standing) → ℕ → List Standing
 standings_after along count = unwrap_or (slice_get along count) []
 
--- A STEP AS A SCENE HAS IT: its number, counted from 1, its words as a trace has them, what came of it, and where the sites
--- stood after it
+-- A STEP AS A SCENE HAS IT: its number, counted from 1, its words as a trace has them but for the kind of a message, what
+-- came of it, and where the sites stood after it
 pub record IsTurn (setup : Setup) (post : List Envelope) (noted : List Attempt) (along : List (List Standing)) (place : ℕ) (turn : Turn) : Type 0 where
   pub attempt : Attempt
   pub is_noted : slice_get noted place ≡ Some attempt

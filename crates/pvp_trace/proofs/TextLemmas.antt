@@ -1,8 +1,20 @@
 -- A text that grows by one word after another.
-use Rattle.std.proofs.Common.{◌≡◌, ℕ, zero, suc, ◌+◌, ◌≤◌, List, [], ◌∷◌, ◌++◌, length, take, refl, sym, ap, ◌∙◌, append_assoc, arith}
+use Rattle.std.proofs.Common.{◌≡◌, ℕ, zero, suc, ◌+◌, ◌≤◌, List, [], ◌∷◌, ◌++◌, length, take, Result, Ok, Err, OnOk, sym, ap, ◌∙◌, append_assoc, arith}
+use Rattle.std.specs.Prelude.{is_ok, if◌then◌else◌}
 use Rattle.std.specs.List.{flat_map, range_with_len}
 use Rattle.std.proofs.lemmas.Grind.{flat_map-append}
 use Rattle.std.proofs.lemmas.List.{append-nil, take_all}
+
+-- one word more was written after those before it
+pub word-more : (new old start before word : List ℕ) → new ≡ old ++ word → old ≡ start ++ before → new ≡ start ++ (before ++ word)
+word-more new old start before word written was = written ∙ ap (λ t. t ++ word) was ∙ append_assoc start before word
+
+-- and the last of them, where there was memory for it
+pub last-word : {T E : Type 0} (result : Result T E) (new old start before word : List ℕ)
+    → new ≡ (if is_ok result then old ++ word else old) → old ≡ start ++ before
+    → OnOk result (new ≡ start ++ (before ++ word))
+last-word (Ok done) new old start before word written was = word-more new old start before word written was
+last-word (Err fault) new old start before word written was = tt
 
 module _ {A : Type 0} (word : A → List ℕ) (head : List ℕ) (xs : List A) where
   -- what was written with the words of the first n

@@ -1,5 +1,5 @@
--- Steps that were tried, in words: what each was, what came of it, and what it sent.
-use Rattle.std.specs.Prelude.{◌≡◌, ℕ, ◌-◌, ◌+◌, ◌==◌, List, [], ◌++◌, length, slice_get, if◌then◌else◌, Option, Some, None, Result, Ok, Err, codes, decimal}
+-- Steps that were tried, in words: what each was, what came of it, what it changed of its site, and what it sent.
+use Rattle.std.specs.Prelude.{◌≡◌, ℕ, ◌-◌, ◌+◌, ◌==◌, List, [], ◌++◌, length, slice_get, if◌then◌else◌, Option, Some, None, option_and_then, Result, Ok, Err, codes, decimal}
 use Rattle.std.specs.List.{flat_map, range_with_len}
 use Rattle.std.specs.Option.{option_map_or}
 use Rattle.pvp_types.specs.declared.setup.Setup.{Setup}
@@ -17,8 +17,9 @@ use Rattle.pvp_world.specs.Fault.{fault_text}
 use Rattle.pvp_trace.specs.declared.attempt.Attempt.{Attempt}
 use Rattle.pvp_trace.specs.Names.{currency_text, actor_text}
 use Rattle.pvp_trace.specs.Words.{amount_text, command_text}
-use Rattle.pvp_trace.specs.Messages.{envelope_text}
+use Rattle.pvp_trace.specs.Messages.{kind_name, envelope_text}
 use Rattle.pvp_trace.specs.Meanings.{meaning, why_text}
+use Rattle.pvp_trace.specs.Stands.{stand_at, site_of, changes_text}
 
 -- WHAT CAME OF A STEP
 
@@ -33,11 +34,14 @@ abbrev pub fell_by : Result Report WorldFault → List Move → Option Boot
 fell_by (Ok report) trail = None
 fell_by (Err fault) trail = if is_world_fall fault then cell_of (slice_get trail (length trail - 1)) else None
 
--- a step was tried in a world: it did with it what it does, and this is what came of it
+-- a step was tried in a world: it did with it what it does, and this is what came of it; was and now are where the site of
+-- the step stands in the world before and after it
 pub record Attempts {B : Type 0} (held : B → Boot) (old new : Shown B) (asked : Step) (a : Attempt) : Type 0 where
   pub step : a.step ≡ asked
   pub applies : Applies held old new asked a.result
   pub fell : a.fell ≡ fell_by a.result new.trail
+  pub was : a.was ≡ option_and_then (stand_at old) (site_of old.post asked)
+  pub now : a.now ≡ option_and_then (stand_at new) (site_of old.post asked)
   pub before : a.before ≡ length old.post
   pub after : a.after ≡ length new.post
 
@@ -59,6 +63,11 @@ step_text setup post (Timer site) = codes "timer s" ++ decimal site
 step_text setup post (Crash site) = codes "crash s" ++ decimal site
 step_text setup post (Restart site) = codes "restart s" ++ decimal site
 
+-- of a delivery the kind of the message
+abbrev pub kind_text : List Envelope → Step → List ℕ
+kind_text post (Deliver number) = option_map_or (λ e. codes ", " ++ kind_name e.msg) (envelope_of post number) []
+kind_text post _ = []
+
 -- what came of it: why a site dropped it, or why it was refused
 abbrev pub came_text : Result Report WorldFault → List ℕ
 came_text (Ok report) = option_map_or (λ why. codes ": dropped, " ++ why_text why) report.dropped []
@@ -77,8 +86,11 @@ sent_line setup post number =
 abbrev pub sent_text : Setup → List Envelope → Attempt → List ℕ
 sent_text setup post a = flat_map (sent_line setup post) (range_with_len (a.before + 1) (a.after - a.before))
 
--- A STEP THAT WAS TRIED, by its number among those that were
+-- its number among those that were tried, what it was, and what came of it
+abbrev pub told_text : Setup → List Envelope → ℕ → Attempt → List ℕ
+told_text setup post number a =
+    decimal number ++ codes "  " ++ step_text setup post a.step ++ kind_text post a.step ++ came_text a.result ++ fell_text a ++ codes "\n"
+
+-- A STEP THAT WAS TRIED: this, what it changed of its site, and what it sent
 abbrev pub attempt_text : Setup → List Envelope → ℕ → Attempt → List ℕ
-attempt_text setup post number a =
-    decimal number ++ codes "  " ++ step_text setup post a.step ++ came_text a.result ++ fell_text a ++ codes "\n"
-    ++ sent_text setup post a
+attempt_text setup post number a = told_text setup post number a ++ changes_text a.was a.now ++ sent_text setup post a

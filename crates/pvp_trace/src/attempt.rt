@@ -1,13 +1,14 @@
-//! Steps that were tried, in words: what each was, what came of it, and what it sent.
+//! Steps that were tried, in words: what each was, what came of it, what it changed of its site, and what it sent.
 
 ghost use Rattle.std.specs.Prelude.{◌≡◌, ◌++◌, string_bytes, OnOk};
 ghost use Rattle.headline.specs.declared.step.Step.TheVariants.{Deliver};
 ghost use Rattle.pvp_world.specs.Steps.{TellsFailures};
-ghost use Rattle.pvp_trace.specs.Attempts.{Attempts, fell_by, cell_of, step_text, came_text, fell_text, sent_line, sent_text, attempt_text};
+ghost use Rattle.pvp_trace.specs.Attempts.{Attempts, fell_by, cell_of, step_text, kind_text, came_text, fell_text, sent_line, sent_text, told_text, attempt_text};
 
 use crate::meanings::{meaning, reason};
-use crate::messages::push_envelope;
+use crate::messages::{kind_name, push_envelope};
 use crate::names::{push_actor, push_currency};
+use crate::stand::{Stand, push_changes, site_of, stand_at};
 use crate::words::{push_amount, push_command};
 use pvp_world::{Move, Report, Step, World, WorldFault};
 use std::alloc::{AllocError, Global};
@@ -21,6 +22,10 @@ pub struct Attempt {
     pub result: Result<Report, WorldFault>,
     /// What the boot cell of the site that fell by it holds, where one did.
     pub fell: Option<Boot>,
+    /// Where the site of the step stood before it; `None` where it is of no site of the world.
+    pub was: Option<Stand>,
+    /// Where that site stands after it.
+    pub now: Option<Stand>,
     /// How many envelopes the post had before it.
     pub before: usize,
     /// How many it had after it.
@@ -32,12 +37,16 @@ pub fn try_step<C: BootCell>(alloc: Global, world: &mut World<C>, step: Step) ->
     ensures attempts { Attempts C.held world.old world.new step result }
     ensures tells { TellsFailures C.BootCell world.old world.new step result.result }
 {
+    let site = site_of(world, step);
+    let was = stand_at(world, site);
     let before = world.post_len();
     let result = world.apply(alloc, step);
     Attempt {
         step,
         result,
         fell: fell_by(result, world.trail()),
+        was,
+        now: stand_at(world, site),
         before,
         after: world.post_len(),
     }
@@ -65,8 +74,8 @@ fn cell_of(last: Option<Move>) -> Option<Boot>
     }
 }
 
-/// Appends a step that was tried: its number among those that were, what it was, what came of it, and a line for each
-/// envelope that it sent.
+/// Appends a step that was tried: its number among those that were, what it was, and what came of it; then a line for each
+/// change of where its site stands, and for each envelope that it sent.
 pub fn push_attempt<C: BootCell>(
     text: &mut String,
     world: &World<C>,
@@ -76,12 +85,27 @@ pub fn push_attempt<C: BootCell>(
     ensures { OnOk result (string_bytes text.new
         ≡ string_bytes text.old ++ attempt_text world.now.setup world.now.post number attempt) }
 {
+    push_told(text, world, number, attempt)?;
+    push_changes(text, attempt.was, attempt.now)?;
+    push_sent(text, world, attempt)
+}
+
+/// Appends the number of a step, what it was, and what came of it.
+fn push_told<C: BootCell>(
+    text: &mut String,
+    world: &World<C>,
+    number: usize,
+    attempt: Attempt,
+) -> Result<(), AllocError>
+    ensures { OnOk result (string_bytes text.new
+        ≡ string_bytes text.old ++ told_text world.now.setup world.now.post number attempt) }
+{
     write!(text, "{number}  ")?;
     push_step(text, world, attempt.step)?;
+    push_kind(text, world, attempt.step)?;
     push_came(text, attempt.result)?;
     push_fell(text, attempt)?;
-    text.push_str("\n")?;
-    push_sent(text, world, attempt)
+    text.push_str("\n")
 }
 
 /// Appends a step as the script's line that asks for it; of a delivery it says to whom it goes.
@@ -138,6 +162,22 @@ fn push_delivery<C: BootCell>(
         Some(envelope) => {
             text.push_str(" to ")?;
             push_actor(text, world.setup(), envelope.to)
+        }
+        None => Ok(()),
+    }
+}
+
+/// Appends the kind of the message that a step delivers, where it does.
+fn push_kind<C: BootCell>(text: &mut String, world: &World<C>, step: Step) -> Result<(), AllocError>
+    ensures { OnOk result (string_bytes text.new ≡ string_bytes text.old ++ kind_text world.now.post step) }
+{
+    let Step::Deliver(number) = step else {
+        return Ok(());
+    };
+    match world.envelope(number) {
+        Some(envelope) => {
+            text.push_str(", ")?;
+            text.push_str(kind_name(&envelope.msg))
         }
         None => Ok(()),
     }
