@@ -1,2 +1,4 @@
+-- what an answer says of the seats and of the tally
+pub mod Answering
 -- lines that were played so far
 pub mod PlayedLines

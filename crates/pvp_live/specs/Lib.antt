@@ -3,6 +3,8 @@ pub mod Told
 pub mod Scripts
 pub mod Voices
 pub mod Followed
+pub mod Effects
+pub mod Refusals
 pub mod Notes
 pub mod Outcomes
 pub mod Playing

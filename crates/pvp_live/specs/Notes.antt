@@ -1,16 +1,13 @@
 -- What is told of a live run while it runs, in words.
-use Rattle.std.specs.Prelude.{ℕ, Bool, ◌&&◌, ◌||◌, nat_lt, nat_le, if◌then◌else◌, List, [], ◌++◌, length, Some, None, codes, decimal}
+use Rattle.std.specs.Prelude.{ℕ, Bool, ◌&&◌, ◌||◌, nat_lt, nat_le, if◌then◌else◌, List, [], ◌++◌, codes, decimal}
 use Rattle.vr_types.specs.declared.event.Status.{Status}
 use Rattle.vr_types.specs.declared.event.Status.TheVariants.{Normal, Change, Recovering, Down}
-use Rattle.headline.specs.declared.step.ClientFault.{ClientFault}
-use Rattle.headline.specs.declared.step.ClientFault.TheVariants as client
 use Rattle.pvp_world.specs.declared.fault.WorldFault.{WorldFault}
-use Rattle.pvp_world.specs.declared.fault.WorldFault.TheVariants as world
 use Rattle.pvp_world.specs.Fault.{fault_text}
 use Rattle.pvp_trace.specs.Meanings.{meaning, why_text}
-use Rattle.pvp_rooms.specs.declared.site.CameOf.{CameOf}
-use Rattle.pvp_rooms.specs.declared.site.CameOf.TheVariants.{Did, Refused, Fell}
 use Rattle.pvp_live.specs.declared.board.Frames.{Frames}
+use Rattle.pvp_live.specs.declared.effects.Effect.{Effect}
+use Rattle.pvp_live.specs.declared.effects.Effect.TheVariants as did
 use Rattle.pvp_live.specs.declared.voices.Heard.{Heard}
 use Rattle.pvp_live.specs.declared.voices.Named.{Named}
 use Rattle.pvp_live.specs.declared.standing.Standing.{Standing}
@@ -63,14 +60,10 @@ count_text count = codes "sends " ++ decimal count
 abbrev pub refusal_text : WorldFault → List ℕ
 refusal_text fault = fault_text fault ++ codes ", " ++ meaning fault
 
--- a client's refusal as the world tells it
-abbrev pub client_told : ClientFault → WorldFault
-client_told client.Outstanding = world.Outstanding
-client_told client.Spent = world.Spent
-client_told client.NoMemory = world.NoMemory
-
-abbrev pub came_text : {C R O : Type 0} → CameOf C R O → List ℕ
-came_text (Did sent None) = count_text (length sent)
-came_text (Did sent (Some why)) = codes "dropped, " ++ why_text why
-came_text (Refused fault) = refusal_text (world.Site fault)
-came_text (Fell fault cell) = refusal_text (world.Site fault)
+-- what an event did
+abbrev pub effect_text : Effect → List ℕ
+effect_text (did.Sent count) = count_text count
+effect_text (did.Dropped why) = codes "dropped, " ++ why_text why
+effect_text (did.Refused fault) = refusal_text fault
+effect_text did.Stray = codes "it is no event of this actor"
+effect_text did.ClockSpent = codes "there is no greater clock"

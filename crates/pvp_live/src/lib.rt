@@ -4,15 +4,18 @@
 
 pub mod actors;
 mod board;
+mod effects;
 pub mod events;
 mod notes;
 mod player;
+mod refusals;
 pub mod running;
 pub mod scripts;
 mod standing;
 pub mod told;
 mod voices;
 
-pub use running::{LiveFault, live};
+pub use refusals::Refused;
+pub use running::{LiveFault, Lived, live};
 pub use scripts::print_script;
 pub use told::print_judgement;

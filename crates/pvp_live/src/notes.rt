@@ -1,16 +1,16 @@
 //! What goes on in a live run, told line by line while it runs. Who listens may be slow or gone: what cannot be told is not.
 
-ghost use Rattle.std.specs.Prelude.{◌≡◌, ◌++◌, OnOk, string_bytes};
-ghost use Rattle.pvp_live.specs.Notes.{client_told, count_text, end_text, frames_text, refusal_text, site_text};
-ghost use Rattle.pvp_live.specs.Outcomes.{answer_text, outcome_text, posted_text};
+ghost use Rattle.std.specs.Prelude.{◌≡◌, ◌++◌, OnOk, option_copied, string_bytes};
+ghost use Rattle.pvp_live.specs.Notes.{count_text, effect_text, end_text, frames_text, refusal_text, site_text};
+ghost use Rattle.pvp_live.specs.Outcomes.{answer_text, clock_text, posted_text};
 
 use crate::board::{Board, Frames};
+use crate::effects::{Effect, line_effect};
 use crate::standing::{Standing, push_standing};
 use crate::voices::Heard;
-use headline::ClientFault;
 use pvp_parties::{Party, PartyOutcome};
 use pvp_peers::{PeerEnd, Served, Why};
-use pvp_rooms::{Answer, CameOf, Closed};
+use pvp_rooms::{Answer, Closed};
 use pvp_streams::Peer;
 use pvp_trace::meanings::{meaning, reason};
 use pvp_trace::names::push_actor;
@@ -30,14 +30,14 @@ pub fn tell_rest<N: Write>(notes: &mut N, line: u32, milliseconds: u32) {
     let _ = write!(notes, "line {line}: rests {milliseconds} ms\n");
 }
 
-/// Tells what came of the event that a line posted at an actor.
+/// Tells what came of the event that a line posted at an actor; where there is no answer, there is no such actor.
 pub fn tell_posted<N: Write>(
     alloc: Global,
     notes: &mut N,
     setup: &Setup,
     line: u32,
     actor: u16,
-    answer: &Answer<PartyOutcome>,
+    answer: Option<&Answer<PartyOutcome>>,
 ) {
     let mut text = String::new(alloc);
     if push_posted(&mut text, setup, line, actor, answer).is_ok() {
@@ -193,9 +193,9 @@ fn push_posted(
     setup: &Setup,
     line: u32,
     actor: u16,
-    answer: &Answer<PartyOutcome>,
+    answer: Option<&Answer<PartyOutcome>>,
 ) -> Result<(), AllocError>
-    ensures { OnOk result (string_bytes text.new ≡ string_bytes text.old ++ posted_text setup.now line actor answer.now) }
+    ensures { OnOk result (string_bytes text.new ≡ string_bytes text.old ++ posted_text setup.now line actor (option_copied answer.entry)) }
 {
     write!(text, "line {line}: ")?;
     push_actor(text, setup, actor)?;
@@ -203,49 +203,38 @@ fn push_posted(
     text.push_str("\n")
 }
 
-/// Appends at which clock an event was taken and how it came out, or why it was not.
-fn push_answer(text: &mut String, answer: &Answer<PartyOutcome>) -> Result<(), AllocError>
-    ensures { OnOk result (string_bytes text.new ≡ string_bytes text.old ++ answer_text answer.now) }
+/// Appends at which clock an event was taken, if it was, and what it did.
+fn push_answer(text: &mut String, answer: Option<&Answer<PartyOutcome>>) -> Result<(), AllocError>
+    ensures { OnOk result (string_bytes text.new ≡ string_bytes text.old ++ answer_text (option_copied answer.entry)) }
+{
+    push_clock(text, answer)?;
+    text.push_str(": ")?;
+    push_effect(text, line_effect(answer))
+}
+
+/// Appends at which clock an event was taken, if it was.
+fn push_clock(text: &mut String, answer: Option<&Answer<PartyOutcome>>) -> Result<(), AllocError>
+    ensures { OnOk result (string_bytes text.new ≡ string_bytes text.old ++ clock_text (option_copied answer.entry)) }
 {
     match answer {
-        Answer::Done { clock, outcome } => {
-            write!(text, " at clock {clock}: ")?;
-            push_outcome(text, outcome)
-        }
-        Answer::NoMemory => text.push_str(": memory was refused"),
-        Answer::ClockSpent => text.push_str(": there is no greater clock"),
+        Some(Answer::Done { clock, .. }) => write!(text, " at clock {clock}"),
+        Some(Answer::NoMemory | Answer::ClockSpent) | None => Ok(()),
     }
 }
 
-/// Appends how an event came out.
-fn push_outcome(text: &mut String, outcome: &PartyOutcome) -> Result<(), AllocError>
-    ensures { OnOk result (string_bytes text.new ≡ string_bytes text.old ++ outcome_text outcome.now) }
+/// Appends what an event did.
+fn push_effect(text: &mut String, effect: Effect) -> Result<(), AllocError>
+    ensures { OnOk result (string_bytes text.new ≡ string_bytes text.old ++ effect_text effect) }
 {
-    match outcome {
-        PartyOutcome::OfSite(
-            CameOf::Did {
-                sent,
-                dropped: None,
-            },
-        ) => push_count(text, sent.as_slice().len()),
-        PartyOutcome::OfSite(
-            CameOf::Did {
-                dropped: Some(why),
-                ..
-            },
-        ) => {
-            let reason = reason(*why);
+    match effect {
+        Effect::Sent(count) => push_count(text, count),
+        Effect::Dropped(why) => {
+            let reason = reason(why);
             write!(text, "dropped, {reason}")
         }
-        PartyOutcome::OfSite(CameOf::Refused(fault) | CameOf::Fell { why: fault, .. }) => {
-            push_fault(text, WorldFault::Site(*fault))
-        }
-        PartyOutcome::OfNode(Ok(sent)) | PartyOutcome::OfClient(Ok(sent)) => {
-            push_count(text, sent.as_slice().len())
-        }
-        PartyOutcome::OfNode(Err(fault)) => push_fault(text, WorldFault::Node(*fault)),
-        PartyOutcome::OfClient(Err(fault)) => push_fault(text, client_told(*fault)),
-        PartyOutcome::Stray => text.push_str("it is no event of this actor"),
+        Effect::Refused(fault) => push_fault(text, fault),
+        Effect::Stray => text.push_str("it is no event of this actor"),
+        Effect::ClockSpent => text.push_str("there is no greater clock"),
     }
 }
 
@@ -262,15 +251,4 @@ fn push_fault(text: &mut String, fault: WorldFault) -> Result<(), AllocError>
 {
     let meaning = meaning(fault);
     write!(text, "{fault}, {meaning}")
-}
-
-/// A client's refusal as the world tells it.
-fn client_told(fault: ClientFault) -> WorldFault
-    ensures { result ≡ client_told fault }
-{
-    match fault {
-        ClientFault::Outstanding => WorldFault::Outstanding,
-        ClientFault::Spent => WorldFault::Spent,
-        ClientFault::NoMemory => WorldFault::NoMemory,
-    }
 }

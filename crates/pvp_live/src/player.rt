@@ -1,13 +1,18 @@
 //! The player of a live script: it posts at each actor from a seat of its own.
 
-ghost use Rattle.std.specs.Prelude.{◌≡◌, List, Some};
+ghost use Rattle.std.specs.Prelude.{◌≡◌, List, Some, option_copied};
+ghost use Rattle.pvp_rooms.specs.Gates.{Hears};
 ghost use Rattle.pvp_live.specs.Outcomes.{seen_after};
 ghost use Rattle.pvp_live.specs.Events as events;
-ghost use Rattle.pvp_live.specs.Playing.{HandsOver, place_of};
+ghost use Rattle.pvp_live.specs.Effects.{fault_of, line_effect};
+ghost use Rattle.pvp_live.specs.Refusals.{refused_after};
+ghost use Rattle.pvp_live.specs.Playing.{Answers, HandsOver, handed_on, keeps, place_of};
 
 use crate::board::Board;
+use crate::effects::{fault_of, line_effect};
 use crate::events::{Post, posted};
 use crate::notes::{tell_posted, tell_rest, tell_sites};
+use crate::refusals::{Refused, refused_after};
 use crate::standing::{Standing, see};
 use crate::voices::site_of;
 use pvp_parties::{Party, PartyCell, PartyOutcome, PartySeat};
@@ -49,13 +54,17 @@ pub struct LinePlayer<'a, R, N> {
     pub board: &'a Board,
     /// By site.
     pub standings: Vec<Standing>,
+    /// Which lines were refused so far.
+    pub refused: Option<Refused>,
 }
 
 impl<R: Wait + Clock, N: Write> LinePlayer<'_, R, N> {
     /// Plays a line.
     fn line<O: Outbox>(&mut self, line: Line, out: &mut O)
-        ensures posted { HandsOver self.old.cells.now (events.posted line.statement)
-            self.old.seats.items self.new.seats.items O.got out.old out.new }
+        ensures posted { HandsOver self.old.cells.now line.number (events.posted line.statement)
+            (keeps self.old.seats.items self.old.refused)
+            (keeps self.new.seats.items self.new.refused)
+            O.got out.old out.new }
         ensures cells { self.new.cells ≡ self.old.cells }
         ensures lines { self.new.lines ≡ self.old.lines }
     {
@@ -73,42 +82,72 @@ impl<R: Wait + Clock, N: Write> LinePlayer<'_, R, N> {
         }
     }
 
-    /// Posts the event of a line, where there is its actor, and hands on what that sends. What came of it is told before, so
-    /// that what is told rests on nothing that it brought about.
+    /// Posts the event of a line, and hands on what that sends. What came of it is told before, so that what is told rests on
+    /// nothing that it brought about.
     fn post<O: Outbox>(&mut self, line: Line, post: Post, out: &mut O)
-        ensures posted { HandsOver self.old.cells.now (Some post) self.old.seats.items
-            self.new.seats.items O.got out.old out.new }
+        ensures posted { HandsOver self.old.cells.now line.number (Some post)
+            (keeps self.old.seats.items self.old.refused)
+            (keeps self.new.seats.items self.new.refused)
+            O.got out.old out.new }
         ensures cells { self.new.cells ≡ self.old.cells }
         ensures lines { self.new.lines ≡ self.old.lines }
     {
-        let Some(place) = place_of(self.cells, post.actor) else {
-            return;
-        };
-        let (Some(cell), Some(seat)) = (self.cells.get(place), self.seats.get_mut(place)) else {
-            return;
-        };
-        let input = Input {
-            event: post.event,
-            stamp: None,
-        };
-        let answer = cell.post(self.rt, self.alloc, seat, input, &mut Open);
-        tell_posted(
-            self.alloc,
-            self.notes,
-            self.setup,
-            line.number,
-            post.actor,
-            &answer,
-        );
-        if let Answer::Done { clock, outcome } = answer {
-            self.see(line, post.actor, clock, &outcome);
-            out.put(
-                self.rt,
-                self.alloc,
-                post.actor,
-                clock,
-                Party::sent(&outcome),
-            );
+        let actor = post.actor;
+        let answer = self.answer_to(post);
+        let told = answer.as_ref();
+        self.note(line.number, actor, told);
+        self.hand_on(line, actor, told, out);
+    }
+
+    /// Posts an event at its actor, from the seat there. `None` where there is no such actor.
+    fn answer_to(&mut self, post: Post) -> Option<Answer<PartyOutcome>>
+        ensures answers { Answers self.old.cells.now post self.old.seats.items
+            self.new.seats.items result }
+        ensures refused { self.new.refused ≡ self.old.refused }
+        ensures cells { self.new.cells ≡ self.old.cells }
+        ensures lines { self.new.lines ≡ self.old.lines }
+    {
+        let Post { actor, event } = post;
+        let place = place_of(self.cells, actor)?;
+        let cell = self.cells.get(place)?;
+        let seat = self.seats.get_mut(place)?;
+        let input = Input { event, stamp: None };
+        Some(cell.post(self.rt, self.alloc, seat, input, &mut Open))
+    }
+
+    /// Tells what came of the event that a line posted, and counts the line where it was refused.
+    fn note(&mut self, line: u32, actor: u16, answer: Option<&Answer<PartyOutcome>>)
+        ensures refused { self.new.refused
+            ≡ refused_after self.old.refused line (fault_of (line_effect (option_copied answer.entry))) }
+        ensures seats { self.new.seats ≡ self.old.seats }
+        ensures cells { self.new.cells ≡ self.old.cells }
+        ensures lines { self.new.lines ≡ self.old.lines }
+    {
+        tell_posted(self.alloc, self.notes, self.setup, line, actor, answer);
+        self.refused = refused_after(self.refused, line, fault_of(line_effect(answer)));
+    }
+
+    /// Hands on what an actor sent by the event of a line, and keeps what that makes known of a site.
+    fn hand_on<O: Outbox>(
+        &mut self,
+        line: Line,
+        actor: u16,
+        answer: Option<&Answer<PartyOutcome>>,
+        out: &mut O,
+    )
+        ensures handed { Hears O.got out.old out.new (handed_on actor (option_copied answer.entry)) }
+        ensures seats { self.new.seats ≡ self.old.seats }
+        ensures refused { self.new.refused ≡ self.old.refused }
+        ensures cells { self.new.cells ≡ self.old.cells }
+        ensures lines { self.new.lines ≡ self.old.lines }
+    {
+        match answer {
+            Some(Answer::Done { clock, outcome }) => {
+                self.see(line, actor, *clock, outcome);
+                let sent = Party::sent(outcome);
+                out.put(self.rt, self.alloc, actor, *clock, sent);
+            }
+            Some(Answer::NoMemory | Answer::ClockSpent) | None => {}
         }
     }
 
@@ -118,6 +157,7 @@ impl<R: Wait + Clock, N: Write> LinePlayer<'_, R, N> {
         ensures standings { self.new.standings.items
             ≡ seen_after self.old.standings.items actor line.statement clock outcome.now }
         ensures seats { self.new.seats ≡ self.old.seats }
+        ensures refused { self.new.refused ≡ self.old.refused }
         ensures cells { self.new.cells ≡ self.old.cells }
         ensures lines { self.new.lines ≡ self.old.lines }
     {
@@ -141,6 +181,7 @@ impl<R: Wait + Clock, N: Write> LinePlayer<'_, R, N> {
     fn tell(&mut self, line: u32)
         ensures standings { self.new.standings ≡ self.old.standings }
         ensures seats { self.new.seats ≡ self.old.seats }
+        ensures refused { self.new.refused ≡ self.old.refused }
         ensures cells { self.new.cells ≡ self.old.cells }
         ensures lines { self.new.lines ≡ self.old.lines }
     {
@@ -155,9 +196,10 @@ impl<R: Wait + Clock, N: Write> LinePlayer<'_, R, N> {
 }
 
 impl<R: Wait + Clock, N: Write> Player for LinePlayer<'_, R, N> {
-    ghost use Rattle.pvp_live.specs.Playing.{Plays};
+    ghost use Rattle.pvp_live.specs.Playing.{Plays, keeps};
 
-    ghost plays = { λ old new puts. Plays old.cells.now old.lines.now old.seats.items new.seats.items puts };
+    ghost plays = { λ old new puts. Plays old.cells.now old.lines.now
+        (keeps old.seats.items old.refused) (keeps new.seats.items new.refused) puts };
 
     fn play<O: Outbox>(&mut self, out: &mut O) {
         for line in self.lines {

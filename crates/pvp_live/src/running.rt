@@ -1,12 +1,14 @@
 //! A live run, from the first connection to the judgement.
 ghost use Rattle.std.specs.Prelude.{◌≡◌, IfOk, replicate};
 ghost use Rattle.pvp_types.specs.Setup.{IsValid};
+ghost use Rattle.pvp_live.specs.Playing.{IsTally, WasTallied};
 ghost use Rattle.pvp_live.specs.Told.{WasJudged, net_told};
 
 use crate::actors::{Bank, numbers_of};
 use crate::board::{Board, Counter, Watched};
 use crate::notes::{tell_connected, tell_ends, tell_left};
 use crate::player::{LinePlayer, place_of};
+use crate::refusals::Refused;
 use crate::standing::Standing;
 use pvp_judge::{Judgement, judge};
 use pvp_parties::{Party, PartyCell, PartySeat};
@@ -60,21 +62,32 @@ impl From<NetFault> for LiveFault {
     }
 }
 
+/// What a live run leaves.
+#[derive(Drop)]
+pub struct Lived {
+    /// How what its actors did was judged.
+    pub judgement: Judgement,
+    /// Which lines of its script were refused.
+    pub refused: Option<Refused>,
+}
+
 /// Runs a bank by itself while a script is played, and judges what its actors did. Each actor has a lock of its own and a
 /// stream from each other that may send to it. At the script's end the writers stop, all workers end, and the actors are
-/// judged; a refused step of the script stands in the history. What goes on is told to `notes` while it runs.
+/// judged; a refused step of the script stands in the history, and which lines were refused is told beside the judgement. What
+/// goes on is told to `notes` while it runs.
 pub fn live<R, N: Write>(
     rt: &R,
     alloc: Global,
     setup: &Setup,
     lines: &[Line],
     notes: &mut N,
-) -> Result<Judgement, LiveFault>
+) -> Result<Lived, LiveFault>
 where
     R: Threads + Wait + Clock + Net + Sync,
     R::Stream: Read + Write + Send + Drop,
     requires { IsValid setup.now }
-    ensures { IfOk result (WasJudged setup.now) }
+    ensures judged { IfOk result (λ lived. WasJudged setup.now lived.judgement) }
+    ensures tally { IfOk result (λ lived. WasTallied lines.now lived.refused) }
 {
     let actors = numbers_of(alloc, setup)?;
     let connected = connect_all(rt, alloc, actors.as_slice())?;
@@ -85,11 +98,11 @@ where
         lines,
         notes: &mut *notes,
     };
-    let seats = run(rt, alloc, cells.as_slice(), seats, connected, script)?;
+    let Played { seats, refused } = run(rt, alloc, cells.as_slice(), seats, connected, script)?;
     let closed = close_all(alloc, cells, seats)?;
     tell_left(alloc, notes, closed.as_slice());
     match judge(alloc, setup, closed.as_slice()) {
-        Ok(judgement) => Ok(judgement),
+        Ok(judgement) => Ok(Lived { judgement, refused }),
         Err(_) => Err(LiveFault::Seats),
     }
 }
@@ -102,6 +115,15 @@ struct Script<'a, N> {
     notes: &'a mut N,
 }
 
+/// What is left once a script was played and all workers ended.
+#[derive(Drop)]
+struct Played {
+    /// By cell.
+    seats: Vec<Vec<PartySeat>>,
+    /// Which lines were refused.
+    refused: Option<Refused>,
+}
+
 /// Plays the script while all workers are at work, and answers the seats of each cell.
 fn run<R, N: Write>(
     rt: &R,
@@ -110,10 +132,11 @@ fn run<R, N: Write>(
     mut seats: Vec<Vec<PartySeat>>,
     connected: Connected<R::Stream>,
     script: Script<'_, N>,
-) -> Result<Vec<Vec<PartySeat>>, LiveFault>
+) -> Result<Played, LiveFault>
 where
     R: Threads + Wait + Clock + Net + Sync,
     R::Stream: Read + Write + Send + Drop,
+    ensures { IfOk result (λ played. IsTally cells.now script.entry.lines.now played.refused) }
 {
     let sites = site_count(cells);
     let board = Board::new(alloc, sites)?;
@@ -136,6 +159,7 @@ where
         lines,
         board: &board,
         standings: all_up(alloc, sites)?,
+        refused: None,
     };
     serve_streams(
         rt,
@@ -148,12 +172,13 @@ where
     let LinePlayer {
         seats: own,
         notes,
+        refused,
         ..
     } = player;
     tell_ends(notes, peers.as_slice());
     give_back(cells, seats.as_mut_slice(), own)?;
     give_back(cells, seats.as_mut_slice(), seats_of(alloc, peers)?)?;
-    Ok(seats)
+    Ok(Played { seats, refused })
 }
 
 /// How many of these actors are sites.

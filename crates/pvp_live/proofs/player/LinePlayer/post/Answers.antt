@@ -1,31 +1,24 @@
-use Rattle.std.proofs.Common.{rules, inl, inr, List, [], ◌∷◌, None, length, refl, ap}
-use Rattle.std.proofs.lemmas.Option.{slice_get_read}
-use Rattle.rtgs_node.specs.Node.{Envelope}
-use Rattle.pvp_rooms.proofs.Hearing.{hears_none}
-use Rattle.pvp_peers.specs.Puts.{Put}
+use Rattle.std.proofs.Common.{refl, ap, ◌∙◌, subst}
+use Rattle.pvp_rooms.specs.Gates.{Hears}
+use Rattle.pvp_live.specs.Effects.{line_effect, fault_of}
+use Rattle.pvp_live.specs.Refusals.{refused_after}
+use Rattle.pvp_live.specs.Playing.{keeps, handed_on}
+use Rattle.pvp_live.proofs.Answering.{posts}
 use Rattle.pvp_live.proofs.player.LinePlayer.post.Goals as goal
 
-pub returns-in-Done-clause-posted : goal.returns-in-Done-clause-posted
-returns-in-Done-clause-posted g c =
-    let put : List Envelope → Put = λ sent. record { actor = c.args.post.actor; clock = c.in-Done.clock; sent = sent } in
+pub returns-clause-posted : goal.returns-clause-posted
+returns-clause-posted g c =
+    let mid = c.answer_to-answer.new.self in
+    let answer = c.answer_to-answer.result in
     record {
-      puts = put c.sent.result.now ∷ [];
-      posts = inr (record {
-        at = c.in-Some.place;
-        place = search rules;
-        seat = c.in-Some-Some.seat.now;
-        there = slice_get_read c.args.self.now.seats.items (length c.args.self.now.seats.items) c.in-Some.place c.in-Some-Some.seat.now refl (search rules) (search rules);
-        receipt = record { event = c.args.post.event; stamp = None; clock = c.in-Done.clock; outcome = c.in-Done.outcome };
-        event = refl;
-        stamp = refl;
-        seats = search rules;
-        handed = ap (λ sent. put sent ∷ []) c.sent.ensures;
-      });
-      handed = c.put.ensures;
+      puts = handed_on c.args.post.actor answer;
+      posts = posts c.args.self.now.cells.now c.args.line.number c.args.post
+          (keeps c.args.self.now.seats.items c.args.self.now.refused) (keeps c.hand_on.new.self.seats.items c.hand_on.new.self.refused)
+          mid.seats.items mid.refused answer (handed_on c.args.post.actor answer)
+          c.answer_to-answer.ensures.answers
+          (ap (λ s. s.items) (c.hand_on.ensures.seats ∙ c.note.ensures.seats))
+          c.answer_to-answer.ensures.refused
+          (c.hand_on.ensures.refused ∙ c.note.ensures.refused ∙ ap (λ a. refused_after mid.refused c.args.line.number (fault_of (line_effect a))) c.as_ref-told.ensures.value)
+          refl;
+      handed = subst (λ a. Hears g.O.Outbox.got c.args.out.now c.hand_on.new.out (handed_on c.args.post.actor a)) c.as_ref-told.ensures.value c.hand_on.ensures.handed;
     }
-
-pub returns-in_default-answer-clause-posted : goal.returns-in_default-answer-clause-posted
-returns-in_default-answer-clause-posted g c = record { puts = []; posts = inl refl; handed = hears_none g.O.Outbox.got c.args.out.now }
-
-pub returns-in_default-2-clause-posted : goal.returns-in_default-2-clause-posted
-returns-in_default-2-clause-posted g c = record { puts = []; posts = inl refl; handed = hears_none g.O.Outbox.got c.args.out.now }
