@@ -2,7 +2,7 @@
 //! the program.
 use crate::files::{SETUP, ends};
 use pvp_judge::Judgement;
-use pvp_live::{live, print_judgement, print_script};
+use pvp_live::{Lived, Refused, live, print_judgement, print_script};
 use pvp_play::play;
 use pvp_text::book::read_lines;
 use pvp_text::read_setup;
@@ -107,8 +107,8 @@ where
     R: Abort + AllocGlobal + Threads + Wait + Clock + Net + Sync,
     R::Stream: Read + Write + Send + Drop,
 {
-    let judgement = ran(rt, script, &mut sink())?;
-    is_played_again(rt, &judgement)
+    let lived = ran(rt, script, &mut sink())?;
+    is_played_again(rt, &lived.judgement)
 }
 
 /// The script that a run is told as leaves the books that the run left.
@@ -123,8 +123,8 @@ fn is_played_again<R: Abort + AllocGlobal>(rt: &R, judgement: &Judgement) -> Res
     Ok(())
 }
 
-/// How a live run of a script was judged; what goes on is told to `notes`.
-fn ran<R, N: Write>(rt: &R, script: &str, notes: &mut N) -> Result<Judgement, Fail>
+/// What a live run of a script leaves; what goes on is told to `notes`.
+fn ran<R, N: Write>(rt: &R, script: &str, notes: &mut N) -> Result<Lived, Fail>
 where
     R: AllocGlobal + Threads + Wait + Clock + Net + Sync,
     R::Stream: Read + Write + Send + Drop,
@@ -165,6 +165,7 @@ const LINES: &[&str] = &[
     "line 4: s0 up, s1 up, s2 down, 0 frames sent, 0 came",
     "line 5: s2 at clock 3: sends 2",
     "line 5: s0 up, s1 up, s2 restarted, 0 frames sent, 0 came",
+    "line 6: s9: G2, there is no such actor",
     "line 7: USD at clock 1: N3, the amount is not 1 to 1000000000000",
     "line 8: ALFA at clock 1: sends 3",
     "line 9: s0 at clock #: sends 2",
@@ -200,9 +201,20 @@ fn tells_lines(rt: &impl Abort, told: &str) {
 #[test]
 fn tells_what_goes_on(rt: HostRuntime) -> Result<(), Fail> {
     let mut notes: Vec<u8> = Vec::new(rt.alloc());
-    let is_yes = matches!(ran(&rt, TOLD, &mut notes)?, Judgement::Yes(_));
+    let lived = ran(&rt, TOLD, &mut notes)?;
+    let is_yes = matches!(lived.judgement, Judgement::Yes(_));
     assert!(rt; is_yes);
     tells_lines(&rt, std::str::from_utf8(notes.as_slice())?);
+    tells_refused(&rt, lived.refused)
+}
+
+/// Lines 2, 6 and 7 were refused.
+fn tells_refused<R: Abort + AllocGlobal>(rt: &R, refused: Option<Refused>) -> Result<(), Fail> {
+    let Some(refused) = refused else {
+        return Err(Fail::new("no line was refused"));
+    };
+    let told = format!(in rt.alloc(); "{refused}")?;
+    assert_eq!(rt; told.as_str(), "3 lines were refused: the first, line 2, S3");
     Ok(())
 }
 

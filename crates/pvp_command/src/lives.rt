@@ -140,8 +140,8 @@ where
     ensures faultless { IfOk result IsFaultless }
     ensures err { IfErr result (LifeStops out.old out.new) }
 {
-    let judgement = run_live(rt, alloc, setup, lines, notes)?;
-    tell(alloc, ending, &judgement, out)
+    let lived = run_live(rt, alloc, setup, lines, notes)?;
+    tell(alloc, ending, &lived.judgement, out)
 }
 
 /// Prints how a live run was judged, and answers the status.
