@@ -3,3 +3,4 @@ pub mod LineCounted
 pub mod BrokenWords
 pub mod Finding
 pub mod TreeFinding
+pub mod ByteFinding

@@ -1,17 +1,18 @@
--- What holds of the word that an explanation finds, and of the part of a setup.
+-- What holds of the word, the byte or the part of a setup that an explanation finds.
 use Rattle.std.specs.Prelude.{◌≡◌, ◌≢◌, ℕ, true, List, ◌∷◌, length, Option, Some, None, Ok, Err}
 use Rattle.pvp_types.specs.declared.setup.Setup.{Setup}
 use Rattle.pvp_types.specs.Setup.{is_among}
 use Rattle.pvp_text.specs.declared.script.Kind.{Kind}
 use Rattle.pvp_text.specs.declared.script.LineCode.{LineCode}
-use Rattle.pvp_text.specs.declared.script.LineCode.TheVariants.{WordCount}
-use Rattle.pvp_text.specs.Script.{statement_at}
+use Rattle.pvp_text.specs.declared.script.LineCode.TheVariants.{Byte, WordCount}
+use Rattle.pvp_text.specs.Script.{statement_at, line_at}
 use Rattle.pvp_text.specs.SetupText.{setup_text, parts_where}
 use Rattle.pvp_text.specs.declared.setup.TextFault.TheVariants.{BadMember}
 use Rattle.pvp_codes.specs.declared.broken.Why.{Why}
 use Rattle.pvp_codes.specs.Fields.{line_form}
 use Rattle.pvp_codes.specs.Broken.{breaks, first_broken}
 use Rattle.pvp_codes.specs.Tree.{wrong_in}
+use Rattle.pvp_codes.specs.Explained.{first_unprinted}
 
 -- the word that is found for a code in the words of a line, and why
 abbrev pub found_in : LineCode → Kind → Setup → List (List ℕ) → Option (List ℕ × Why)
@@ -32,6 +33,10 @@ FindsWhereItFails = (code : LineCode) (kind : Kind) (setup : Setup) (first : Lis
 abbrev pub CountsWhereItFails : Type 0
 CountsWhereItFails = (kind : Kind) (setup : Setup) (first : List ℕ) (rest : List (List ℕ))
     → statement_at kind setup (first ∷ rest) ≡ Err WordCount → length (first ∷ rest) ≢ length (line_form (first ∷ rest))
+
+-- WHERE IT FAILS by a byte that is no printed character, one is found
+abbrev pub FindsAByte : Type 0
+FindsAByte = (kind : Kind) (setup : Setup) (line : List ℕ) → line_at kind setup line ≡ Err Byte → first_unprinted line ≢ None
 
 -- WHERE THE READER OF SETUPS FAILS at a part that is missing or of the wrong type, one is found
 abbrev pub FindsAPart : Type 0

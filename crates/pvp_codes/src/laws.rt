@@ -1,7 +1,7 @@
 //! What holds of the table and of explanations: functions that do nothing, whose contracts say it.
 ghost use Rattle.pvp_codes.specs.Codes.{EachIsTold, NoneIsToldTwice};
 ghost use Rattle.pvp_codes.specs.Explained.{IsLineCounted};
-ghost use Rattle.pvp_codes.specs.Finding.{IsAWord, FindsWhereItFails, CountsWhereItFails, FindsAPart, FindsNoPart};
+ghost use Rattle.pvp_codes.specs.Finding.{IsAWord, FindsWhereItFails, CountsWhereItFails, FindsAByte, FindsAPart, FindsNoPart};
 
 /// The table has each code, but J3, which the program tells as `fault memory`, and none twice.
 pub fn table()
@@ -20,6 +20,11 @@ pub fn words()
     ensures word { IsAWord }
     ensures finds { FindsWhereItFails }
     ensures counts { CountsWhereItFails }
+{}
+
+/// A byte that is no printed character is found wherever the reader of lines fails at one.
+pub fn bytes()
+    ensures { FindsAByte }
 {}
 
 /// A part of a setup is found wherever the reader of setups fails at one that is missing or of the wrong type, and none where it
