@@ -264,10 +264,36 @@ class Setups(Explained):
             self.tells_parts([(currency("USD"), f"{ALFA},{second}", code, f'member 2 "BETA": {told}')])
 
 
+class Unread(Explained):
+    def test_a_file_that_is_not_read(self):
+        """The second line names it, and why; the first says which command it was that had it alone."""
+        long = "n" * 300
+        for name, why in (
+            ("no such", "there is no such file"),
+            ("", "there is no such file"),
+            (".", "it is a folder"),
+            ("setup.json/more", "a part of its path is no folder"),
+            (long, "no file can have this name"),
+            ("/dev/zero", "it is larger than 64 MiB, or has no end"),
+        ):
+            self.explains(["check", name], SETUP, "", "fault file\n", f'setup "{name}": {why}\n')
+            for command in ("book", "play", "trace", "live"):
+                self.explains([command, name, "script.txt"], SETUP, "", "fault file\n", f'setup "{name}": {why}\n')
+                self.explains([command, "setup.json", name], SETUP, "", "fault file\n", f'script "{name}": {why}\n')
+
+    def test_of_two_the_setup_is_told(self):
+        self.explains(["book", "no setup", "no script"], SETUP, "", "fault file\n", 'setup "no setup": there is no such file\n')
+
+
 class Others(Runs):
     def test_other_faults_are_not_explained(self):
-        """What is no fault on a setup or a script has its one line alone, and a run that ends well none."""
+        """What is no fault on a setup, a script or a file has its one line alone, and a run that ends well none."""
         self.prints(["check", "setup.json", "--explain"], "setup ok\n")
-        self.tells(["check", "no such", "--explain"], "fault file\n")
         words = ["play", "--fail", "3:1:new", "setup.json", "script.txt", "--explain"]
         self.ends(words, (2, "", NO_SITE_3))
+
+    def test_no_explanation(self):
+        """`--no-explain` stands above `--explain`, wherever the two are."""
+        for words in (["--no-explain"], ["--no-explain", "--explain"], ["--explain", "--no-explain"]):
+            self.tells(["check", "no such", *words], "fault file\n")
+            self.tells(["check", *words, "setup.json"], "fault json J1\n", "")

@@ -90,6 +90,13 @@ class Runs(unittest.TestCase):
             self.assertEqual((status, text), (2, ""))
             self.assertIn(told, said)
 
+    def helps(self, words, text):
+        """Runs the program on words that ask for help or for the version: printed, with status 2 too."""
+        with self.subTest(words=words):
+            status, printed, said = self.run_on(words)
+            self.assertEqual((status, said), (2, ""))
+            self.assertIn(text, printed)
+
 
 BOOK = ["book", "setup.json", "script.txt"]
 PLAY = ["play", "setup.json", "script.txt"]

@@ -1,5 +1,9 @@
 """Words of the command line: those of no form, help, the version, and what each fault code means."""
-from program import Runs
+import os
+import subprocess
+import tempfile
+
+from program import BOOK, PROGRAM, SETUP, Runs
 
 # all codes, in the order of `docs/formats.md`, with what each means
 CODES = """J1  the text is no JSON
@@ -80,8 +84,8 @@ class Words(Runs):
             self.has_no_form(words, "pvpsim")
 
     def test_help_and_version(self):
-        """They are told on standard error, with status 2."""
-        for words, told in [
+        """They are printed, with status 2."""
+        for words, text in [
             (["--version"], "pvpsim 0.1.0\n"),
             (["--help"], "Tells whether a setup meets the rules: prints `setup ok`, or the first rule that is broken"),
             (["--help"], "docs/formats.md"),
@@ -89,17 +93,35 @@ class Words(Runs):
             (["book", "--help"], "A script: a text file with one statement a line"),
             (["play", "--help"], "--fail <SITE:AT:KEEP>"),
             (["play", "--help"], "Lets a save of a site's boot cell fail; may stand once for each site."),
+            (["help"], "`pvpsim help codes`"),
+            (["help", "check"], "A setup: a JSON file"),
         ]:
-            self.has_no_form(words, told)
+            self.helps(words, text)
+
+    def test_a_reader_who_leaves(self):
+        """Where the reader of what is printed is gone, nothing is told; a writer that fails otherwise is told."""
+        script = "print\n" * 5000
+        for out, told in ((self.closed_pipe(), b""), (open("/dev/full", "wb", buffering=0), b"fault output\n")):
+            with self.subTest(told=told), out, tempfile.TemporaryDirectory() as folder:
+                for name, text in (("setup.json", SETUP), ("script.txt", script)):
+                    with open(os.path.join(folder, name), "w", encoding="utf-8") as file:
+                        file.write(text)
+                ran = subprocess.run([PROGRAM, *BOOK], cwd=folder, stdin=subprocess.DEVNULL, stdout=out, stderr=subprocess.PIPE, timeout=120)
+                self.assertEqual((ran.returncode, ran.stderr), (1, told))
+
+    @staticmethod
+    def closed_pipe():
+        """The writing end of a pipe that nobody reads."""
+        reader, writer = os.pipe()
+        os.close(reader)
+        return os.fdopen(writer, "wb", buffering=0)
 
     def test_each_code_is_told_with_its_meaning(self):
         self.prints(["help", "codes"], CODES)
 
-    def test_help_tells_of_commands_too(self):
-        """Other words after `help` are their reader's: it tells of a command, or that there is none."""
+    def test_help_on_what_is_no_command(self):
+        """Other words after `help` are their reader's, which tells that there is no such command."""
         for words, told in [
-            (["help"], "`pvpsim help codes`"),
-            (["help", "check"], "A setup: a JSON file"),
             (["help", "code"], "code"),
             (["help", "codes", "codes"], "codes"),
         ]:

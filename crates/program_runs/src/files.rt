@@ -1,5 +1,5 @@
 //! Files that are not read, and writers that fail.
-use pvp_command::{FileFault, Files, command, no_words};
+use pvp_command::{FileFault, Files, Piped, Unread, command, no_words};
 use std::alloc::Global;
 use std::io;
 use std::io::{ErrorKind, Write};
@@ -33,7 +33,7 @@ impl Files for Script<'_> {
             "setup.json" => SETUP,
             "script.txt" => self.text,
             "too large" => return Err(FileFault::NoMemory),
-            _ => return Err(FileFault::Unread),
+            _ => return Err(FileFault::Unread(Unread::Missing)),
         };
         Vec::from_slice(alloc, text.as_bytes()).map_err(|_| FileFault::NoMemory)
     }
@@ -43,12 +43,13 @@ impl Files for Script<'_> {
 #[derive(Drop)]
 struct Failing {
     left: u32,
+    with: ErrorKind,
 }
 
 impl Write for Failing {
     fn write(&mut self, buf: &[u8]) -> io::Result<usize> {
         if self.left == 0 {
-            return Err(io::Error::from(ErrorKind::Other));
+            return Err(io::Error::from(self.with));
         }
         self.left -= 1;
         Ok(buf.len())
@@ -64,11 +65,23 @@ pub fn ends<R: Abort + AllocGlobal>(
     rt: &R,
     words: &[&str],
     script: &str,
-    writes: u32,
+    left: u32,
+    want: (u8, &str),
+) -> Result<(), Fail> {
+    let with = ErrorKind::Other;
+    ends_over(rt, words, script, Failing { left, with }, want)
+}
+
+/// Runs the program over a writer, and compares its status and what it tells.
+fn ends_over<R: Abort + AllocGlobal>(
+    rt: &R,
+    words: &[&str],
+    script: &str,
+    out: Failing,
     (status, told): (u8, &str),
 ) -> Result<(), Fail> {
     let alloc = rt.alloc();
-    let mut out = Failing { left: writes };
+    let mut out = Piped::new(out);
     let mut err: Vec<u8> = Vec::new(alloc);
     let got = command(alloc, words, &Script { text: script }, &mut out, &mut err);
     assert_eq!(rt;
@@ -113,6 +126,18 @@ fn tells_that_the_writer_failed(rt: HostRuntime) -> Result<(), Fail> {
             ends(&rt, *words, *script, left, (1, "fault output\n"))?;
         }
         ends(&rt, *words, *script, *writes, (0, ""))?;
+    }
+    Ok(())
+}
+
+/// A writer whose reader has left fails too, and nothing is told.
+#[test]
+fn tells_nothing_to_a_reader_who_has_left(rt: HostRuntime) -> Result<(), Fail> {
+    for (words, script, writes) in PRINTS {
+        for left in 0..*writes {
+            let with = ErrorKind::BrokenPipe;
+            ends_over(&rt, *words, *script, Failing { left, with }, (1, ""))?;
+        }
     }
     Ok(())
 }

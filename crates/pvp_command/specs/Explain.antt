@@ -1,5 +1,5 @@
 -- The line that explains a fault, and what hinders that it is had.
-use Rattle.std.specs.Prelude.{◌≡◌, ◌⊎◌, ℕ, List, Option, Some, None, Result, Ok, Err, option_map, IsSome, IfSome, IsOk}
+use Rattle.std.specs.Prelude.{◌≡◌, ◌⊎◌, ℕ, List, Option, Some, None, Result, Ok, Err, codes, option_map, IsSome, IfSome, IsOk}
 use Rattle.pvp_types.specs.declared.setup.Setup.{Setup}
 use Rattle.pvp_text.specs.SetupText.{setup_text}
 use Rattle.pvp_text.specs.declared.script.Kind.{Kind}
@@ -10,6 +10,9 @@ use Rattle.pvp_command.specs.declared.explain.Sources.{Sources}
 use Rattle.pvp_command.specs.declared.fault.Fault.{Fault}
 use Rattle.pvp_command.specs.declared.fault.Fault.TheVariants as told
 use Rattle.pvp_command.specs.declared.files.FileFault.{FileFault}
+use Rattle.pvp_command.specs.declared.files.Source.{Source}
+use Rattle.pvp_command.specs.declared.files.Source.TheVariants.{Setup as OfSetup, Script as OfScript}
+use Rattle.pvp_command.specs.Files.{file_line}
 use Rattle.pvp_command.specs.Request.{TellsFile, TellsSetup}
 
 -- that of a fault on a script, whose setup was read
@@ -24,6 +27,11 @@ line_of_script fault kind setup script = line_with fault kind (setup_text setup)
 abbrev pub script_of : Sources → Option (List ℕ)
 script_of sources = option_map (λ name. name.now) sources.script
 
+-- the name of a file of a command
+abbrev pub name_of : Sources → Source → Option (List ℕ)
+name_of sources OfSetup = Some sources.setup.now
+name_of sources OfScript = script_of sources
+
 -- a fault on a script is explained where there is a script: by what is known of its bytes and of the setup's
 abbrev pub ExplainsLine : (List ℕ → Option (List ℕ)) → Sources → LineFault → Option (List ℕ) → Option (List ℕ) → Type 0
 ExplainsLine known sources fault None line = line ≡ None
@@ -31,30 +39,34 @@ ExplainsLine known sources fault (Some script) line =
     IsSome line × IfSome (known sources.setup.now) (λ setup_bytes. IfSome (known script) (λ script_bytes.
     line ≡ line_of_script fault sources.kind setup_bytes script_bytes))
 
+-- what a bank that runs by itself takes of the machine
+abbrev pub net_line : List ℕ
+net_line = codes "net: a listener could not be opened, or a connection not be made, over the loopback of this machine; each actor has a listener, each site two connections with each other actor, and each connection two of the files that `ulimit -n` allows\n"
+
 -- THE LINE THAT EXPLAINS A FAULT of a run over these sources, of whose bytes so much is known: a fault on the setup has one, and
--- so has one on the script that there is; no other has one
+-- so have one on the script that there is, a file that was not read, and the connections of a live run; no other has one
 abbrev pub Explains : (List ℕ → Option (List ℕ)) → Sources → Fault → Option (List ℕ) → Type 0
 Explains known sources (told.Setup fault) line =
     IsSome line × IfSome (known sources.setup.now) (λ bytes. line ≡ Some (setup_explained fault bytes))
 Explains known sources (told.Line number code) line =
     ExplainsLine known sources (record { line = number; code = code }) (script_of sources) line
 Explains known sources (told.NoSuchSite site) line = line ≡ None
-Explains known sources told.File line = line ≡ None
+Explains known sources (told.File source why) line = line ≡ option_map (λ name. file_line source name why) (name_of sources source)
 Explains known sources told.Output line = line ≡ None
-Explains known sources told.Net line = line ≡ None
+Explains known sources told.Net line = line ≡ Some net_line
 Explains known sources told.Seats line = line ≡ None
 Explains known sources told.NoMemory line = line ≡ None
 
 -- ---- what hinders that it is had
 
 -- a file that cannot be read again, or want of memory
-abbrev pub HindersFile : (FileFault → Type 0) → Fault → Type 0
-HindersFile fails why = TellsFile fails why ⊎ (why ≡ told.NoMemory)
+abbrev pub HindersFile : Source → (FileFault → Type 0) → Fault → Type 0
+HindersFile source fails why = TellsFile source fails why ⊎ (why ≡ told.NoMemory)
 
 -- of a line of a script also that its setup does not read any more; the script is read after it
 abbrev pub HindersLine : (FileFault → Type 0) → List ℕ → (FileFault → Type 0) → Fault → Type 0
 HindersLine fails setup script_fails why =
-    TellsFile fails why ⊎ (TellsSetup setup why ⊎ (IsOk (setup_text setup) × HindersFile script_fails why))
+    TellsFile OfSetup fails why ⊎ (TellsSetup setup why ⊎ (IsOk (setup_text setup) × HindersFile OfScript script_fails why))
 
 -- nothing does where there is no script, as there is no line
 abbrev pub HindersScript : (List ℕ → Option (List ℕ)) → (List ℕ → FileFault → Type 0) → List ℕ → Option (List ℕ) → Fault → Type 0
@@ -63,11 +75,11 @@ HindersScript known fails setup (Some script) why = IfSome (known setup) (λ byt
 
 -- WHAT HINDERS THE EXPLANATION of a fault: nothing where it has none
 abbrev pub Hinders : (List ℕ → Option (List ℕ)) → (List ℕ → FileFault → Type 0) → Sources → Fault → Fault → Type 0
-Hinders known fails sources (told.Setup fault) why = HindersFile (fails sources.setup.now) why
+Hinders known fails sources (told.Setup fault) why = HindersFile OfSetup (fails sources.setup.now) why
 Hinders known fails sources (told.Line line code) why = HindersScript known fails sources.setup.now (script_of sources) why
 Hinders known fails sources (told.NoSuchSite site) why = ⊥
-Hinders known fails sources told.File why = ⊥
+Hinders known fails sources (told.File source unread) why = why ≡ told.NoMemory
 Hinders known fails sources told.Output why = ⊥
-Hinders known fails sources told.Net why = ⊥
+Hinders known fails sources told.Net why = why ≡ told.NoMemory
 Hinders known fails sources told.Seats why = ⊥
 Hinders known fails sources told.NoMemory why = ⊥

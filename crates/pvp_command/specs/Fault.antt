@@ -7,6 +7,7 @@ use Rattle.pvp_text.specs.declared.setup.TextFault.TheVariants as text
 use Rattle.pvp_command.specs.declared.fault.Fault.{Fault}
 use Rattle.pvp_command.specs.declared.fault.Fault.TheVariants.{Setup, Line, NoSuchSite, File, Output, Net, Seats, NoMemory}
 use Rattle.pvp_command.specs.declared.files.FileFault.{FileFault}
+use Rattle.pvp_command.specs.declared.files.Source.{Source}
 use Rattle.pvp_live.specs.declared.running.LiveFault.{LiveFault}
 use Rattle.pvp_live.specs.declared.running.LiveFault.TheVariants as live
 use Rattle.pvp_command.specs.declared.files.FileFault.TheVariants as file
@@ -23,9 +24,9 @@ run_told (run.Line at) = Line at.line at.code
 run_told run.NoMemory = NoMemory
 run_told run.Output = Output
 
-abbrev pub file_told : FileFault → Fault
-file_told file.Unread = File
-file_told file.NoMemory = NoMemory
+abbrev pub file_told : Source → FileFault → Fault
+file_told source (file.Unread why) = File source why
+file_told source file.NoMemory = NoMemory
 
 abbrev pub live_told : LiveFault → Fault
 live_told live.Net = Net
@@ -37,7 +38,7 @@ abbrev pub status_told : Fault → ℕ
 status_told (Setup fault) = 1
 status_told (Line line code) = 1
 status_told (NoSuchSite site) = 2
-status_told File = 1
+status_told (File source why) = 1
 status_told Output = 1
 status_told Net = 1
 status_told Seats = 1

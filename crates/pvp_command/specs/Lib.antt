@@ -7,3 +7,4 @@ pub mod Lives
 pub mod Codes
 pub mod Explain
 pub mod Sources
+pub mod Files

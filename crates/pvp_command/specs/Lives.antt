@@ -15,6 +15,7 @@ use Rattle.pvp_command.specs.declared.lives.Ending.TheVariants.{Books, Script}
 use Rattle.pvp_command.specs.declared.fault.Fault.{Fault}
 use Rattle.pvp_command.specs.declared.fault.Fault.TheVariants.{Net, Seats, NoMemory, Output}
 use Rattle.pvp_command.specs.declared.files.FileFault.{FileFault}
+use Rattle.pvp_command.specs.declared.files.Source.TheVariants.{Setup as OfSetup}
 use Rattle.pvp_command.specs.Request.{TellsFile, TellsSetup, TellsScript}
 
 -- an audit that says no has a status of its own
@@ -60,5 +61,5 @@ TellsLive fails s script old new told =
 -- the fault of a live run: a file's or the setup's, and then nothing is written; or the script's
 abbrev pub LiveTells : {W : Type 0} → (FileFault → Type 0) → List ℕ → (FileFault → Type 0) → Option (List ℕ) → W → W → Fault → Type 0
 LiveTells fails setup script_fails script old new told =
-    ((TellsFile fails told ⊎ TellsSetup setup told) × (new ≡ old))
+    ((TellsFile OfSetup fails told ⊎ TellsSetup setup told) × (new ≡ old))
     ⊎ ((s : Setup) × (setup_text setup ≡ Ok s) × TellsLive script_fails s script old new told)

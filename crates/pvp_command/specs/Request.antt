@@ -15,6 +15,8 @@ use Rattle.pvp_text.specs.Script.{script_at}
 use Rattle.pvp_command.specs.declared.fault.Fault.{Fault}
 use Rattle.pvp_command.specs.declared.fault.Fault.TheVariants.{NoSuchSite, Output}
 use Rattle.pvp_command.specs.declared.files.FileFault.{FileFault}
+use Rattle.pvp_command.specs.declared.files.Source.{Source}
+use Rattle.pvp_command.specs.declared.files.Source.TheVariants.{Setup as OfSetup, Script as OfScript}
 use Rattle.pvp_command.specs.Fault.{text_told, run_told, file_told}
 use Rattle.pvp_command.specs.Fails.{unknown_site}
 use Rattle.pvp_text.specs.BookText.{book_text}
@@ -60,8 +62,8 @@ PlayWrites show setup fails script old new =
     (s : Setup) × (setup_text setup ≡ Ok s) × (unknown_site s fails ≡ None) × ShowsScript show s fails script old new
 
 -- the fault of a file that may fail so
-abbrev pub TellsFile : (FileFault → Type 0) → Fault → Type 0
-TellsFile fails told = (fault : FileFault) × fails fault × (told ≡ file_told fault)
+abbrev pub TellsFile : Source → (FileFault → Type 0) → Fault → Type 0
+TellsFile source fails told = (fault : FileFault) × fails fault × (told ≡ file_told source fault)
 
 -- the fault of a setup's text
 abbrev pub TellsSetup : List ℕ → Fault → Type 0
@@ -71,7 +73,7 @@ TellsSetup setup told =
 -- the fault of a check: its file's or its setup's, and then nothing is written; or that the writer failed
 abbrev pub CheckTells : {W : Type 0} → (FileFault → Type 0) → List ℕ → W → W → Fault → Type 0
 CheckTells fails setup old new told =
-    ((TellsFile fails told ⊎ TellsSetup setup told) × (new ≡ old)) ⊎ (IsOk (setup_text setup) × (told ≡ Output))
+    ((TellsFile OfSetup fails told ⊎ TellsSetup setup told) × (new ≡ old)) ⊎ (IsOk (setup_text setup) × (told ≡ Output))
 
 -- The fault of a run of what a script was read as: its first faulty line, and then nothing is written; of one that reads
 -- right, that the writer failed; or want of memory, which may come anywhere.
@@ -86,12 +88,12 @@ TellsRun read old new told = (fault : RunFault) × (told ≡ run_told fault) × 
 -- the fault of a script, where its bytes are known: its file's, and then nothing is written; or the run's
 abbrev pub TellsScript : {W : Type 0} → (FileFault → Type 0) → Kind → Setup → Option (List ℕ) → W → W → Fault → Type 0
 TellsScript fails kind s script old new told =
-    (TellsFile fails told × (new ≡ old)) ⊎ IfSome script (λ bytes. TellsRun (script_at kind s bytes) old new told)
+    (TellsFile OfScript fails told × (new ≡ old)) ⊎ IfSome script (λ bytes. TellsRun (script_at kind s bytes) old new told)
 
 -- the fault of a script's run on one book: a file's or the setup's, and then nothing is written; or the script's
 abbrev pub BookTells : {W : Type 0} → (FileFault → Type 0) → List ℕ → (FileFault → Type 0) → Option (List ℕ) → W → W → Fault → Type 0
 BookTells fails setup script_fails script old new told =
-    ((TellsFile fails told ⊎ TellsSetup setup told) × (new ≡ old))
+    ((TellsFile OfSetup fails told ⊎ TellsSetup setup told) × (new ≡ old))
     ⊎ ((s : Setup) × (setup_text setup ≡ Ok s) × TellsScript script_fails Book s script old new told)
 
 -- a site of which a save is to fail is looked for before the script is read
@@ -102,5 +104,5 @@ TellsPlay None script_fails s script old new told = TellsScript script_fails Pla
 -- the fault of a play: a file's or the setup's, and then nothing is written; that of a site that the setup lacks; or the script's
 abbrev pub PlayTells : {W : Type 0} → (FileFault → Type 0) → List ℕ → List Fail → (FileFault → Type 0) → Option (List ℕ) → W → W → Fault → Type 0
 PlayTells fails setup saves script_fails script old new told =
-    ((TellsFile fails told ⊎ TellsSetup setup told) × (new ≡ old))
+    ((TellsFile OfSetup fails told ⊎ TellsSetup setup told) × (new ≡ old))
     ⊎ ((s : Setup) × (setup_text setup ≡ Ok s) × TellsPlay (unknown_site s saves) script_fails s script old new told)

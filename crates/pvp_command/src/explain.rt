@@ -1,10 +1,13 @@
-//! Faults on setups and scripts, explained.
+//! Faults on setups and scripts, and on their files, explained.
 ghost use Rattle.std.specs.Prelude.{◌≡◌, Some, option_map, IfOk, IfErr, IfSome};
 ghost use Rattle.pvp_codes.specs.Explained.{setup_explained};
-ghost use Rattle.pvp_command.specs.Explain.{Explains, Hinders, HindersFile, HindersLine, line_of_script};
+ghost use Rattle.pvp_command.specs.Explain.{Explains, Hinders, HindersFile, HindersLine, line_of_script, name_of};
+ghost use Rattle.pvp_command.specs.Files.{file_line};
+ghost use Rattle.pvp_command.specs.declared.fault.Fault.TheVariants.{NoMemory};
+ghost use Rattle.pvp_command.specs.declared.files.Source.TheVariants.{Setup as OfSetup};
 
 use crate::fault::Fault;
-use crate::files::Files;
+use crate::files::{Files, Source, Unread, read_source};
 use pvp_codes::{explain_line, explain_setup};
 use pvp_text::{Kind, LineFault, TextFault, read_setup};
 use std::alloc::Global;
@@ -18,8 +21,14 @@ pub struct Sources<'a> {
     pub script: Option<&'a str>,
 }
 
-/// The line that explains a fault on a setup or on a script, whose files are read again for it. `None` where the fault is on
-/// neither, and where it is on a script and there is none.
+/// What is told of a live run whose connections could not be made.
+const NET: &str =
+    "net: a listener could not be opened, or a connection not be made, over the loopback of this machine; each actor has a \
+listener, each site two connections with each other actor, and each connection two of the files that `ulimit -n` allows\n";
+
+/// The line that explains a fault on a setup or on a script, whose files are read again for it, on a file that was not read,
+/// or on the connections of a live run. `None` where the fault is on none of these, and where it is on a script and there is
+/// none.
 ///
 /// A fault that has a line and is left without it is answered why: a file cannot be read again, the setup that a script needs
 /// does not read any more, or memory was refused.
@@ -42,13 +51,32 @@ pub fn explained<F: Files>(
             let fault = LineFault { line, code };
             explained_line(alloc, files, sources.kind, sources.setup, script, fault).map(Some)
         }
-        Fault::NoSuchSite(_)
-        | Fault::File
-        | Fault::Output
-        | Fault::Net
-        | Fault::Seats
-        | Fault::NoMemory => Ok(None),
+        Fault::File(source, why) => file_line(alloc, sources, source, why),
+        Fault::Net => Ok(Some(Vec::from_slice(alloc, NET.as_bytes())?)),
+        Fault::NoSuchSite(_) | Fault::Output | Fault::Seats | Fault::NoMemory => Ok(None),
     }
+}
+
+/// The line of a file that was not read: which it is, its name, and why.
+fn file_line(
+    alloc: Global,
+    sources: Sources<'_>,
+    source: Source,
+    why: Unread,
+) -> Result<Option<Vec<u8>>, Fault>
+    ensures ok { IfOk result (λ line. option_map (λ text. text.items) line
+        ≡ option_map (λ name. file_line source name why) (name_of sources.entry source)) }
+    ensures err { IfErr result (λ fault. fault ≡ NoMemory) }
+{
+    let told = match (source, sources.script) {
+        (Source::Setup, _) => {
+            let name = sources.setup;
+            format!(in alloc; "setup \"{name}\": {why}\n")?
+        }
+        (Source::Script, Some(name)) => format!(in alloc; "script \"{name}\": {why}\n")?,
+        (Source::Script, None) => return Ok(None),
+    };
+    Ok(Some(told.into_bytes()))
 }
 
 /// The line that explains a fault on a setup, whose file is read again for it.
@@ -60,9 +88,9 @@ fn explained_setup<F: Files>(
 ) -> Result<Vec<u8>, Fault>
     ensures ok { IfOk result (λ text. IfSome (F.known files.now setup.now) (λ bytes.
         text.items ≡ setup_explained fault bytes)) }
-    ensures err { IfErr result (HindersFile (F.fails files.now setup.now)) }
+    ensures err { IfErr result (HindersFile OfSetup (F.fails files.now setup.now)) }
 {
-    let bytes = files.read(alloc, setup)?;
+    let bytes = read_source(alloc, files, Source::Setup, setup)?;
     let text = explain_setup(alloc, fault, bytes.as_slice())?;
     Ok(text)
 }
@@ -82,9 +110,9 @@ fn explained_line<F: Files>(
     ensures err { IfErr result (λ why. IfSome (F.known files.now setup.now) (λ bytes.
         HindersLine (F.fails files.now setup.now) bytes (F.fails files.now script.now) why)) }
 {
-    let bytes = files.read(alloc, setup)?;
+    let bytes = read_source(alloc, files, Source::Setup, setup)?;
     let setup = read_setup(alloc, bytes.as_slice())?;
-    let script = files.read(alloc, script)?;
+    let script = read_source(alloc, files, Source::Script, script)?;
     let text = explain_line(alloc, fault, kind, &setup, script.as_slice())?;
     Ok(text)
 }

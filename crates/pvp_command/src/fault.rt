@@ -1,6 +1,6 @@
 //! What ends a run of the program, as it is told on standard error.
 
-use crate::files::FileFault;
+use crate::files::{FileFault, Source, Unread};
 use pvp_live::LiveFault;
 use pvp_text::{LineCode, RunFault, TextFault};
 use std::alloc::AllocError;
@@ -18,9 +18,9 @@ pub enum Fault {
     /// A save is to fail of a site that the setup lacks.
     #[error("error: the setup has no site {0}, of which a save is to fail")]
     NoSuchSite(u16),
-    /// A file could not be read.
+    /// A file could not be read, and why.
     #[error("fault file")]
-    File,
+    File(Source, Unread),
     /// Standard output could not be written.
     #[error("fault output")]
     Output,
@@ -78,15 +78,16 @@ impl From<AllocError> for Fault {
     }
 }
 
-impl From<FileFault> for Fault {
+impl Fault {
     ghost use Rattle.std.specs.Prelude.{◌≡◌};
     ghost use Rattle.pvp_command.specs.Fault.{file_told};
 
-    ghost from_gives = { λ fault told. told ≡ file_told fault };
-
-    fn from(fault: FileFault) -> Fault {
+    /// Why a file of a command was not read.
+    pub fn of_file(source: Source, fault: FileFault) -> Self
+        ensures { result ≡ file_told source fault }
+    {
         match fault {
-            FileFault::Unread => Fault::File,
+            FileFault::Unread(why) => Fault::File(source, why),
             FileFault::NoMemory => Fault::NoMemory,
         }
     }

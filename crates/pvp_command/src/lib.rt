@@ -6,10 +6,12 @@ pub mod fails;
 pub mod fault;
 pub mod files;
 pub mod lives;
+mod output;
 pub mod program;
 pub mod request;
 pub mod shows;
 
 pub use fault::Fault;
-pub use files::{Disk, FileFault, Files};
+pub use files::{Disk, FileFault, Files, Source, Unread};
+pub use output::{Audience, Piped};
 pub use program::{command, command_on, no_words};

@@ -17,11 +17,13 @@ ghost use Rattle.pvp_command.specs.Request.{CheckWrites, CheckTells, BookWrites,
 use crate::explain::{Sources, explained};
 use crate::fails::unknown_site;
 use crate::fault::Fault;
-use crate::files::Files;
-use crate::lives::{live, without_net};
-use crate::request::{Asked, Request, is_help, parse};
+use crate::files::{Files, Source, read_source};
+use crate::lives::{Told, live, without_net};
+use crate::output::Audience;
+use crate::request::{Asked, Request, parse};
 use crate::shows::Show;
 use clap::Error;
+use clap::error::ErrorKind as Refusal;
 use pvp_codes::print_codes;
 use pvp_picture::picture::picture;
 use pvp_play::{Fail, Telling, play_failing, trace};
@@ -29,7 +31,7 @@ use pvp_text::{read_setup, run_book};
 use pvp_types::Setup;
 use std::alloc::Global;
 use std::convert::AsStr;
-use std::io::{ErrorKind, Read, Write, sink};
+use std::io::{ErrorKind, Read, Write};
 use std::net::Net;
 use std::sync::Wait;
 use std::thread::Threads;
@@ -45,10 +47,11 @@ const FAULT: u8 = 1;
 const NO_FORM: u8 = 2;
 
 /// Does what the words ask for, and answers the status of the program: 0, or 1 for a fault, or 2
-/// for words of no form, or 3 where the audit of a live run says no. Faults and help go to `err`, all else to `out`.
+/// for words of no form, for help and for the version, or 3 where the audit of a live run says no. Faults, and why words have
+/// no form, go to `err`, all else to `out`. Where the reader of `out` is gone, as that of a closed pipe is, nothing is told.
 /// At 0 and at 3 the whole text of a request is written, where the bytes of its files are known; that it is the request
 /// which the words ask for is not said here.
-pub fn command_on<R, S: AsStr, F: Files, O: Write, E: Write>(
+pub fn command_on<R, S: AsStr, F: Files, O: Write + Audience, E: Write>(
     rt: &R,
     alloc: Global,
     words: &[S],
@@ -66,16 +69,19 @@ where
         Ok(Some(Asked { request, explains })) => {
             let sources = request.sources();
             let told = run_on(rt, alloc, request, files, out, err);
+            if out.has_left() {
+                return status_of(told);
+            }
             tell_more(alloc, told, explains, files, sources, err)
         }
         Ok(None) => NO_FORM,
-        Err(refusal) => refuse(&refusal, err),
+        Err(refusal) => refuse(&refusal, out, err),
     }
 }
 
 /// Does what the words ask for as `command_on` does, on a machine without threads and net: a live run whose setup and
 /// script read right is told as `fault net`, and the status is never 3.
-pub fn command<S: AsStr, F: Files, O: Write, E: Write>(
+pub fn command<S: AsStr, F: Files, O: Write + Audience, E: Write>(
     alloc: Global,
     words: &[S],
     files: &F,
@@ -89,24 +95,35 @@ pub fn command<S: AsStr, F: Files, O: Write, E: Write>(
         Ok(Some(Asked { request, explains })) => {
             let sources = request.sources();
             let told = run(alloc, request, files, out);
+            if out.has_left() {
+                return status_of(told);
+            }
             tell_more(alloc, told, explains, files, sources, err)
         }
         Ok(None) => NO_FORM,
-        Err(refusal) => refuse(&refusal, err),
+        Err(refusal) => refuse(&refusal, out, err),
     }
 }
 
-/// Tells why the words ask for nothing, and answers the status.
-fn refuse<E: Write>(refusal: &Error, err: &mut E) -> u8
+/// Tells why the words ask for nothing, and answers the status. Help and the version, which were asked for, go to `out`, and
+/// all else to `err`.
+fn refuse<O: Write, E: Write>(refusal: &Error, out: &mut O, err: &mut E) -> u8
     ensures memory { kind_of refusal.now ≡ refused.OutOfMemory → result ≡ 1 }
     ensures help { kind_of refusal.now ≢ refused.OutOfMemory → result ≡ 2 }
+    ensures out { kind_of refusal.now ≢ refused.DisplayHelp → kind_of refusal.now ≢ refused.DisplayVersion → out.new ≡ out.old }
+    ensures err { (kind_of refusal.now ≡ refused.DisplayHelp) ⊎ (kind_of refusal.now ≡ refused.DisplayVersion)
+        → err.new ≡ err.old }
 {
-    if is_help(refusal.kind()) {
-        let _ = write!(err, "{refusal}");
-        NO_FORM
-    } else {
-        tell(Err(Fault::NoMemory), err)
+    match refusal.kind() {
+        Refusal::OutOfMemory => return tell(Err(Fault::NoMemory), err),
+        Refusal::DisplayHelp | Refusal::DisplayVersion => {
+            let _ = write!(out, "{refusal}");
+        }
+        _ => {
+            let _ = write!(err, "{refusal}");
+        }
     }
+    NO_FORM
 }
 
 /// Tells a fault, and answers the status of the run.
@@ -193,11 +210,8 @@ where
             setup,
             script,
         } => {
-            if verbose {
-                live(rt, alloc, files, ending, setup, script, out, err)
-            } else {
-                live(rt, alloc, files, ending, setup, script, out, &mut sink())
-            }
+            let told = Told { ending, verbose };
+            live(rt, alloc, files, told, setup, script, out, err)
         }
         asked => run(alloc, asked, files, out),
     }
@@ -249,7 +263,7 @@ fn check<F: Files, O: Write>(
     ensures err { IfErr result (λ fault. IfSome (F.known files.now setup.now) (λ bytes.
         CheckTells (F.fails files.now setup.now) bytes out.old out.new fault)) }
 {
-    let bytes = files.read(alloc, setup)?;
+    let bytes = read_source(alloc, files, Source::Setup, setup)?;
     read_setup(alloc, bytes.as_slice())?;
     match out.write_all(b"setup ok\n") {
         Ok(()) => Ok(()),
@@ -272,7 +286,7 @@ fn book<F: Files, O: Write>(
         BookTells (F.fails files.now setup.now) setup_bytes (F.fails files.now script.now) (F.known files.now script.now)
         out.old out.new fault)) }
 {
-    let setup = files.read(alloc, setup)?;
+    let setup = read_source(alloc, files, Source::Setup, setup)?;
     let setup = read_setup(alloc, setup.as_slice())?;
     book_script(alloc, files, &setup, script, out)
 }
@@ -291,7 +305,7 @@ fn book_script<F: Files, O: Write>(
     ensures err { IfErr result (TellsScript (F.fails files.now script.now) kinds.Book setup.now (F.known files.now script.now)
         out.old out.new) }
 {
-    let script = files.read(alloc, script)?;
+    let script = read_source(alloc, files, Source::Script, script)?;
     run_lines(alloc, setup, script.as_slice(), out)
 }
 
@@ -327,7 +341,7 @@ fn play<F: Files, O: Write>(
         PlayTells (F.fails files.now setup.now) setup_bytes fails.now (F.fails files.now script.now) (F.known files.now script.now)
         out.old out.new fault)) }
 {
-    let bytes = files.read(alloc, setup)?;
+    let bytes = read_source(alloc, files, Source::Setup, setup)?;
     let bank = read_setup(alloc, bytes.as_slice())?;
     if let Some(site) = unknown_site(&bank, fails) {
         return Err(Fault::NoSuchSite(site));
@@ -351,7 +365,7 @@ fn play_script<F: Files, O: Write>(
     ensures err { IfErr result (TellsScript (F.fails files.now script.now) kinds.Play setup.now (F.known files.now script.now)
         out.old out.new) }
 {
-    let script = files.read(alloc, script)?;
+    let script = read_source(alloc, files, Source::Script, script)?;
     show_play(alloc, show, setup, script.as_slice(), fails, out)
 }
 

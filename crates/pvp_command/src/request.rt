@@ -87,7 +87,7 @@ pub fn parse<'a, S: AsStr>(alloc: Global, words: &'a [S]) -> Result<Option<Asked
     let Some((name, inner)) = matches.subcommand() else {
         return Ok(None);
     };
-    let explains = inner.get_flag("explain");
+    let explains = inner.get_flag("explain") && !inner.get_flag("no-explain");
     match parse_command(alloc, &mut program, name, inner)? {
         Some(request) => Ok(Some(Asked { request, explains })),
         None => Ok(None),
@@ -179,14 +179,6 @@ fn parse_play<'a>(
     }
 }
 
-/// Whether what the reader of the words tells of them is meant for the user: all but want of memory.
-pub fn is_help(kind: ErrorKind) -> bool
-    ensures memory { kind ≡ ErrorKind.OutOfMemory → result ≡ false }
-    ensures help { kind ≢ ErrorKind.OutOfMemory → result ≡ true }
-{
-    !matches!(kind, ErrorKind::OutOfMemory)
-}
-
 /// What stands at the end of each help text.
 const MORE: &str =
     "`pvpsim help codes` prints every fault code and what it means. Setups, scripts, printed text, fault codes and \
@@ -198,7 +190,9 @@ const SETUP_HELP: &str =
 const SCRIPT_HELP: &str = "A script: a text file with one statement a line";
 
 const EXPLAIN_HELP: &str =
-    "Tells after a fault on the setup or the script, in a second line, which rule is broken, and by which line";
+    "Tells after a fault, in a second line, where it is and why: which rule is broken and by which part or line, which file was not read";
+
+const NO_EXPLAIN_HELP: &str = "Tells no second line, also where `--explain` stands too";
 
 const FAIL_HELP: &str =
     "Lets a save of a site's boot cell fail; may stand once for each site. SITE is the number of a site, AT counts its saves \
@@ -265,7 +259,8 @@ fn with_setup<'a>(alloc: Global, name: &'a str, about: &'a str) -> Result<Comman
         .about(about)
         .after_help(MORE)
         .arg(file(alloc, "setup", SETUP_HELP))?
-        .arg(explain(alloc))
+        .arg(flag(alloc, "explain", EXPLAIN_HELP))?
+        .arg(flag(alloc, "no-explain", NO_EXPLAIN_HELP))
 }
 
 /// One that takes a script too.
@@ -285,7 +280,7 @@ fn with_fails<'a>(alloc: Global, name: &'a str, about: &'a str) -> Result<Comman
 /// The trace, which may ask for a picture too.
 fn with_picture<'a>(alloc: Global) -> Result<Command<'a>, AllocError> {
     with_fails(alloc, "trace", TRACE_ABOUT)?
-        .arg(svg(alloc))?
+        .arg(flag(alloc, "svg", SVG_HELP))?
         .arg(step(alloc, "from", FROM_HELP))?
         .arg(step(alloc, "to", TO_HELP))
 }
@@ -293,8 +288,8 @@ fn with_picture<'a>(alloc: Global) -> Result<Command<'a>, AllocError> {
 /// The live run, which may be told as a script.
 fn with_ending<'a>(alloc: Global) -> Result<Command<'a>, AllocError> {
     with_script(alloc, "live", LIVE_ABOUT)?
-        .arg(again(alloc))?
-        .arg(verbose(alloc))
+        .arg(flag(alloc, "script-again", AGAIN_HELP).long("script"))?
+        .arg(flag(alloc, "verbose", VERBOSE_HELP))
 }
 
 /// A file that has to be named.
@@ -305,11 +300,11 @@ fn file<'a>(alloc: Global, id: &'a str, help: &'a str) -> Arg<'a> {
         .action(ArgAction::Set)
 }
 
-/// That faults are to be explained.
-fn explain<'a>(alloc: Global) -> Arg<'a> {
-    Arg::new(alloc, "explain")
-        .long("explain")
-        .help(EXPLAIN_HELP)
+/// A word that is there or not.
+fn flag<'a>(alloc: Global, name: &'a str, help: &'a str) -> Arg<'a> {
+    Arg::new(alloc, name)
+        .long(name)
+        .help(help)
         .action(ArgAction::SetTrue)
 }
 
@@ -320,30 +315,6 @@ fn fail<'a>(alloc: Global) -> Arg<'a> {
         .value_name("SITE:AT:KEEP")
         .help(FAIL_HELP)
         .action(ArgAction::Append)
-}
-
-/// That a picture is asked for.
-fn svg<'a>(alloc: Global) -> Arg<'a> {
-    Arg::new(alloc, "svg")
-        .long("svg")
-        .help(SVG_HELP)
-        .action(ArgAction::SetTrue)
-}
-
-/// That a live run is told as a script.
-fn again<'a>(alloc: Global) -> Arg<'a> {
-    Arg::new(alloc, "script-again")
-        .long("script")
-        .help(AGAIN_HELP)
-        .action(ArgAction::SetTrue)
-}
-
-/// That what goes on is told.
-fn verbose<'a>(alloc: Global) -> Arg<'a> {
-    Arg::new(alloc, "verbose")
-        .long("verbose")
-        .help(VERBOSE_HELP)
-        .action(ArgAction::SetTrue)
 }
 
 /// A step that may be named.

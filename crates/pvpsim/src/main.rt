@@ -1,7 +1,7 @@
 //! `pvpsim`: runs scripts on a settlement bank and prints its books.
 #![tactic(auto)]
 
-use pvp_command::{Disk, command_on, no_words};
+use pvp_command::{Disk, Piped, command_on, no_words};
 use std::process::ExitCode;
 use std::{env, io};
 
@@ -13,7 +13,7 @@ fn main(rt: HostRuntime) -> ExitCode {
             rt.alloc(),
             words.as_slice(),
             &files,
-            &mut rt.stdout(),
+            &mut Piped::new(rt.stdout()),
             &mut rt.stderr(),
         ),
         Err(refusal) => no_words(refusal.kind(), &mut rt.stderr()),

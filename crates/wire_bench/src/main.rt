@@ -1,6 +1,8 @@
 //! Times the feeder: how long a stream takes in pieces of several sizes, and one of twice as many frames; and the same of
 //! one frame, and of one with twice as many rows. A feeder that moves all it holds at each piece shows in the last alone.
 //! And how long the frame of a whole log takes to write and to read, beside a plain copy of its bytes.
+//! With the word `log` it times a log: how long its rows take to push, and how long it takes to copy, whole and from its
+//! second row on, and to change at its end.
 //! With no words it does nothing.
 #![tactic(auto)]
 
@@ -24,6 +26,12 @@ const GREAT: u16 = 32_000;
 
 /// How many rows a whole log has.
 const LOG: u16 = 65_535;
+
+/// How many rows the logs have that are copied and changed.
+const LENGTHS: [u16; 3] = [64, 4_096, LOG];
+
+/// How often each of them is.
+const TIMES: u16 = 1_000;
 
 /// How many bytes a piece has.
 const PIECES: [usize; 3] = [1, 64, 65_536];
@@ -219,15 +227,80 @@ fn bench_log<R: AllocGlobal + Clock + Print>(rt: &R) -> Result<(), BenchFault> {
     Ok(())
 }
 
+/// How many microseconds a log of so many rows takes to push.
+fn push_time<R: AllocGlobal + Clock>(rt: &R, count: u16) -> Result<u128, BenchFault> {
+    let began = Instant::now(rt)?;
+    let rows = log(rt.alloc(), count)?;
+    let took = began.elapsed(rt)?.as_micros();
+    if rows.len() == usize::from(count) {
+        Ok(took)
+    } else {
+        Err(BenchFault::Refused)
+    }
+}
+
+/// How many microseconds it takes to copy the rows behind the first `base` of a log, `TIMES` times.
+fn copy_time<R: AllocGlobal + Clock>(
+    rt: &R,
+    rows: &RowsOf<Cmd>,
+    base: usize,
+) -> Result<u128, BenchFault> {
+    let began = Instant::now(rt)?;
+    for _ in 0..TIMES {
+        if base <= rows.len() {
+            rows.copy_from(rt.alloc(), base)?;
+        }
+    }
+    Ok(began.elapsed(rt)?.as_micros())
+}
+
+/// How many microseconds it takes to replace the last row of a log, `TIMES` times.
+fn change_time<R: AllocGlobal + Clock>(rt: &R, rows: &mut RowsOf<Cmd>) -> Result<u128, BenchFault> {
+    let began = Instant::now(rt)?;
+    for _ in 0..TIMES {
+        let part = log(rt.alloc(), 1)?;
+        let base = rows.len().saturating_sub(1);
+        if base < rows.len() && part.len() == 1 {
+            rows.replace_from(base, part)?;
+        }
+    }
+    Ok(began.elapsed(rt)?.as_micros())
+}
+
+/// Prints how long logs of several lengths take to push, to copy, and to change at their ends.
+fn bench_logs<R: AllocGlobal + Clock + Print>(rt: &R) -> Result<(), BenchFault> {
+    for count in LENGTHS {
+        let pushed = push_time(rt, count)?;
+        let mut rows = log(rt.alloc(), count)?;
+        let copied = copy_time(rt, &rows, 0)?;
+        let behind = copy_time(rt, &rows, 1)?;
+        let changed = change_time(rt, &mut rows)?;
+        rt.println(&format!(in rt.alloc();
+            "{count} rows: pushed in {pushed} us; {TIMES} copies in {copied} us, {TIMES} from the second row on in \
+{behind} us; the last row replaced {TIMES} times in {changed} us"
+        )?)?;
+    }
+    Ok(())
+}
+
+/// Does what the words ask for.
+fn run<R: AllocGlobal + Clock + Print>(rt: &R, is_log: bool) -> Result<(), BenchFault> {
+    if is_log {
+        return bench_logs(rt);
+    }
+    bench(rt)?;
+    bench_log(rt)
+}
+
 fn main(rt: HostRuntime) -> ExitCode {
     let words: Vec<String> = match env::args(&rt).map(|words| words.collect(rt.alloc())) {
         Ok(Ok(words)) => words,
         _ => return ExitCode::from(1),
     };
-    if words.len() < 2 {
+    let Some(word) = words.get(1) else {
         return ExitCode::from(0);
-    }
-    match bench(&rt).and_then(|()| bench_log(&rt)) {
+    };
+    match run(&rt, word.as_str() == "log") {
         Ok(()) => ExitCode::from(0),
         Err(_) => ExitCode::from(1),
     }
