@@ -251,8 +251,8 @@ drain 2
 heal s7
 """
 
-# Site 1 asks by its second count, as the first was saved though it fell; the turns of a drain are steps, and the envelope to the
-# site that is cut off is passed over.
+# Site 1 asks by its second count, as the first was saved though it fell; the turns of a drain are steps; envelope 3 is skipped, and
+# the one to the site that is cut off is held back.
 TRACED = """refused 1 G2
 1  deliver 1: G1, no envelope has this number
 2  do ALFA payout USD 5
@@ -277,9 +277,12 @@ TRACED = """refused 1 G2
    7  s1 -> s2  RECOVERY nonce 2
 13  deliver 1 to s0, REQUEST: dropped, the site has it already
 14  deliver 2 to s1, REQUEST: dropped, the site's status takes no part in it
+skip 3
+cut s2
 15  deliver 4 to s1, PREPARE: dropped, the site's status takes no part in it
 16  deliver 6 to s0, RECOVERY
    8  s0 -> s1  RECOVERYRESPONSE view 0 nonce 2 done 0 rows 1 last ALFA 1 payout USD 5 boots 0 2 0
+held back by a cut: 5
 refused 19 G2
 """
 
@@ -290,7 +293,43 @@ class Traces(Runs):
 
     def test_a_script_that_tries_nothing(self):
         self.prints(TRACE, "")
-        self.prints(TRACE, "", script="print\ncut s1\nskip 3\ndrain 9\nheal s1\n")
+        self.prints(TRACE, "cut s1\nheal s1\n", script="print\ncut s1\nskip 3\ndrain 9\nheal s1\n")
+
+    def test_what_a_cut_and_a_skip_keep_back_is_told(self):
+        """Site 1 is cut off as its REQUEST is next; a drain to the end finds it and the PREPARE to it. Of the three REQUESTs of BETA
+        two are skipped, and more than there is are passed over to the end."""
+        script = "do ALFA payout USD 5\ncut s1\ncut s1\ndrain 9\nheal s1\nheal s1\ndo BETA payout USD 5\nskip 2\nskip 9\nskip 9\ndrain 9\n"
+        self.prints(TRACE, """1  do ALFA payout USD 5
+   1  ALFA -> s0  REQUEST 1 payout USD 5
+   2  ALFA -> s1  REQUEST 1 payout USD 5
+   3  ALFA -> s2  REQUEST 1 payout USD 5
+cut s1
+cut s1
+2  deliver 1 to s0, REQUEST
+   4  s0 -> s1  PREPARE view 0 place 1 done 0 row ALFA 1 payout USD 5
+   5  s0 -> s2  PREPARE view 0 place 1 done 0 row ALFA 1 payout USD 5
+3  deliver 3 to s2, REQUEST: dropped, another site is the primary
+4  deliver 5 to s2, PREPARE
+   6  s2 -> s0  PREPAREOK view 0 place 1
+5  deliver 6 to s0, PREPAREOK
+   s0 executes row 1
+   7  s0 -> ALFA  REPLY view 0 to 1 no B9
+6  deliver 7 to ALFA, REPLY
+held back by a cut: 2, 4
+heal s1
+heal s1
+7  do BETA payout USD 5
+   8  BETA -> s0  REQUEST 1 payout USD 5
+   9  BETA -> s1  REQUEST 1 payout USD 5
+   10  BETA -> s2  REQUEST 1 payout USD 5
+skip 8 to 9
+skip 10
+""", script=script)
+
+    def test_a_turn_of_a_drain_passes_over_what_a_cut_holds_back(self):
+        """The first drain ends at the one that it delivers; the second finds only held ones."""
+        script = "do ALFA payout USD 5\ncut s0\ndrain 1\ncut s2\ndrain 1\ndrain 1\n"
+        self.shows(TRACE, script, ["cut s0", "2  deliver 2 to s1, REQUEST: dropped, another site is the primary", "held back by a cut: 1", "cut s2", "held back by a cut: 3"])
 
     def test_faults(self):
         self.tells(TRACE, "fault line 2 L5\n", script="beat s0\ndo USD payout USD 1")

@@ -1,5 +1,6 @@
 -- Two plays of one setup and the same lines, which nothing hinders, print one text.
-use Rattle.std.proofs.Common.{◌≡◌, ℕ, Bool, nat_lt, if◌then◌else◌, List, [], ◌∷◌, ◌++◌, length, Option, refl, sym, ap, ◌∙◌, subst}
+use Rattle.std.proofs.Common.{◌≡◌, ℕ, Bool, nat_lt, if◌then◌else◌, List, [], ◌∷◌, ◌++◌, length, Option, codes, refl, sym, ap, ◌∙◌, subst}
+use Rattle.std.specs.Prelude.{filter}
 use Rattle.pvp_types.specs.declared.setup.Setup.{Setup}
 use Rattle.vr_types.specs.declared.cell.BootCell.{Ghosts as Cell}
 use Rattle.vr_types.specs.contracts.cell.MemCellBootCell.TheImpl.{ghosts as memory}
@@ -19,6 +20,7 @@ use Rattle.pvp_play.specs.BooksText.{books_text}
 use Rattle.pvp_play.specs.Chaos.{words_of}
 use Rattle.pvp_play.specs.Lines.{Does, Plays, IsOpening, refused_text, print_text, steps_text, line_text, no_notes}
 use Rattle.pvp_play.specs.Notes.{notes, notes_text}
+use Rattle.pvp_play.specs.Passing.{passed, is_held, taken_text, skip_text, held_text, passing_text}
 use Rattle.pvp_play.specs.Player.{Position, beginning, skipped, cut_off, healed, with_cut}
 use Rattle.determinism.specs.Twins.{AreTwins, AreTwinPlayers}
 use Rattle.determinism.specs.Plays.{LineIsFree, PlaysFreely, FreePlay}
@@ -84,6 +86,26 @@ module _ {B : Type 0} (c : Cell B) where
   print-too a b twins (Chaos seed turns) = refl
   print-too a b twins (Rest milliseconds) = refl
 
+  passing-too : (s : Statement) (told : Option WorldFault) (from : ℕ) (p q : Position B) → AreTwinPlayers c.held p q → passing_text s told from p ≡ passing_text s told from q
+  passing-too (Cut actor) told from p q twins = ap (λ (s : Setup). taken_text s (codes "cut") actor told) twins.worlds.setup
+  passing-too (Heal actor) told from p q twins = ap (λ (s : Setup). taken_text s (codes "heal") actor told) twins.worlds.setup
+  passing-too (Skip envelopes) told from p q twins = ap (λ (n : ℕ). skip_text from n) twins.cursor
+  passing-too (Drain turns) told from p q twins =
+      ap (λ (n : ℕ). held_text (filter (is_held p.cut p.world.post) (passed from n))) twins.cursor
+      ∙ ap (λ (cut : List ℕ). held_text (filter (is_held cut p.world.post) (passed from q.cursor))) twins.cut
+      ∙ ap (λ (es : List Envelope). held_text (filter (is_held q.cut es) (passed from q.cursor))) (twin-post c.held p.world q.world twins.worlds)
+  passing-too (Do client cmd) told from p q twins = refl
+  passing-too Print told from p q twins = refl
+  passing-too (PayIn member ccy amt) told from p q twins = refl
+  passing-too (Close member ccy) told from p q twins = refl
+  passing-too (Beat actor) told from p q twins = refl
+  passing-too (Timer site) told from p q twins = refl
+  passing-too (Crash site) told from p q twins = refl
+  passing-too (Restart site) told from p q twins = refl
+  passing-too (Deliver envelope) told from p q twins = refl
+  passing-too (Chaos seed turns) told from p q twins = refl
+  passing-too (Rest milliseconds) told from p q twins = refl
+
   text-too : (telling : Telling) (line : Line) (p q p' q' : Position B) (told other : Option WorldFault) → AreTwinPlayers c.held p q → OneTold c told other p' q'
       → line_text c.held telling line told p p' ≡ line_text c.held telling line other q q'
   text-too Books line p q p' q' told other before one =
@@ -92,11 +114,15 @@ module _ {B : Type 0} (c : Cell B) where
   text-too Steps line p q p' q' told other before one =
       let text : Setup → List Envelope → Option WorldFault → ℕ → List Attempt → List ℕ = λ setup post told before noted. if nat_lt before (length noted) then notes_text setup post before noted else refused_text line.number told in
       let after = one.twins in
-      ap (λ (s : Setup). text s p'.world.post told (length (notes p.noted)) (notes p'.noted)) after.worlds.setup
+      let steps = ap (λ (s : Setup). text s p'.world.post told (length (notes p.noted)) (notes p'.noted)) after.worlds.setup
       ∙ ap (λ (es : List Envelope). text q'.world.setup es told (length (notes p.noted)) (notes p'.noted)) (twin-post c.held p'.world q'.world after.worlds)
       ∙ ap (λ (t : Option WorldFault). text q'.world.setup q'.world.post t (length (notes p.noted)) (notes p'.noted)) one.told
       ∙ ap (λ (n : Option (List Attempt)). text q'.world.setup q'.world.post other (length (notes n)) (notes p'.noted)) before.noted
-      ∙ ap (λ (n : Option (List Attempt)). text q'.world.setup q'.world.post other (length (notes q.noted)) (notes n)) after.noted
+      ∙ ap (λ (n : Option (List Attempt)). text q'.world.setup q'.world.post other (length (notes q.noted)) (notes n)) after.noted in
+      let passing = ap (λ (t : Option WorldFault). passing_text line.statement t p.cursor p') one.told
+      ∙ ap (λ (n : ℕ). passing_text line.statement other n p') before.cursor ∙ passing-too line.statement other q.cursor p' q' after in
+      ap (λ (t : List ℕ). t ++ passing_text line.statement told p.cursor p') steps
+      ∙ ap (λ (t : List ℕ). steps_text q'.world line.number other (length (notes q.noted)) (notes q'.noted) ++ t) passing
 
   -- LINES one after another
   plays-too : (telling : Telling) (lines : List Line) (p q p' q' : Position B) (text other : List ℕ) → AreTwinPlayers c.held p q

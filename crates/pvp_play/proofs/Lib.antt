@@ -5,6 +5,7 @@ pub mod ChaosLemmas
 pub mod Growing
 pub mod Draining
 pub mod LinesLemmas
+pub mod PassingLemmas
 pub mod NotesLemmas
 -- who makes notes
 pub mod Noting

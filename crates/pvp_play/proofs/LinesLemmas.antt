@@ -1,7 +1,7 @@
 -- One line more was played.
-use Rattle.std.proofs.Common.{◌≡◌, ℕ, ◌+◌, ◌<◌, List, [], ◌∷◌, ◌++◌, length, take, get_or, append_assoc, Option, Result, Ok, Err, refl, ap, sym, ◌∙◌, subst}
+use Rattle.std.proofs.Common.{◌≡◌, ◌≢◌, ◌⊎◌, inr, ℕ, ◌+◌, ◌<◌, List, [], ◌∷◌, ◌++◌, length, take, get_or, append_assoc, Option, None, Result, Ok, Err, refl, ap, sym, ◌∙◌, subst}
 use Rattle.std.proofs.lemmas.List.{append-nil, take_more}
-use Rattle.std.specs.Prelude.{IsErrAnd, IfOk}
+use Rattle.std.specs.Prelude.{IsErrAnd, IfOk, OnErr}
 use Rattle.std.proofs.KnownBytes.{Appends-trans}
 use Rattle.std.specs.Io.KnownBytes.{Appends}
 use Rattle.vr_types.specs.declared.cell.BootCell.{Ghosts as Cell}
@@ -10,8 +10,11 @@ use Rattle.pvp_text.specs.declared.book.RunFault.{RunFault}
 use Rattle.pvp_text.specs.declared.book.RunFault.TheVariants.{NoMemory}
 use Rattle.pvp_text.specs.declared.script.Line.{Line}
 use Rattle.pvp_play.specs.declared.notes.Telling.{Telling}
+use Rattle.pvp_play.specs.declared.notes.Telling.TheVariants.{Steps}
+use Rattle.pvp_play.specs.Notes.{notes}
+use Rattle.pvp_play.specs.Passing.{passing_text}
 use Rattle.pvp_play.specs.Player.{Position}
-use Rattle.pvp_play.specs.Lines.{Does, line_text, Plays, PlaysLine, AreStopped, LinesEnd}
+use Rattle.pvp_play.specs.Lines.{Does, line_text, Prints, Plays, PlaysLine, LineStops, AreStopped, LinesEnd}
 use Rattle.pvp_play.proofs.Reliable.{line-keeps}
 
 module _ {B : Type 0} (c : Cell B) (telling : Telling) where
@@ -61,3 +64,18 @@ pub text-played : {B S E : Type 0} (c : Cell B) (telling : Telling) (line : Line
 text-played c telling line old new told bytes (Ok s) text does is same =
     record { told = told; does = does; prints = same ∙ is; reliable = line-keeps c line.statement old new told does }
 text-played c telling line old new told bytes (Err fault) text does is same = tt
+
+-- memory was refused for what a line prints where steps are told
+pub steps-stopped : {B T E : Type 0} (c : Cell B) (telling : Telling) (line : Line) (old new : Position B) (told : Option WorldFault) (before from : ℕ) (result : Result T E)
+    → telling ≡ Steps → Does c line.statement old new told → before ≡ length (notes old.noted) → from ≡ old.cursor
+    → OnErr result ((told ≢ None) ⊎ (before < length (notes new.noted)) ⊎ (passing_text line.statement told from new ≢ []))
+    → OnErr result (LineStops c telling line old new)
+steps-stopped c telling line old new told before from (Ok done) is does count at stopped = tt
+steps-stopped c telling line old new told before from (Err fault) is does count at stopped =
+    inr (
+      told,
+      does,
+      subst (λ (t : Telling). Prints t line told old new) (sym is)
+          (subst (λ (n : ℕ). (told ≢ None) ⊎ (n < length (notes new.noted)) ⊎ (passing_text line.statement told old.cursor new ≢ [])) count
+          (subst (λ (n : ℕ). (told ≢ None) ⊎ (before < length (notes new.noted)) ⊎ (passing_text line.statement told n new ≢ [])) at stopped)),
+    )

@@ -3,5 +3,6 @@ pub mod Cells
 pub mod Chaos
 pub mod Lines
 pub mod Notes
+pub mod Passing
 pub mod Player
 pub mod Turns

@@ -33,6 +33,7 @@ use Rattle.pvp_play.specs.BooksText.{books_text}
 use Rattle.pvp_play.specs.Cells.{IsArmed}
 use Rattle.pvp_play.specs.Chaos.{Rages, RageStops}
 use Rattle.pvp_play.specs.Notes.{notes, notes_text}
+use Rattle.pvp_play.specs.Passing.{passing_text}
 use Rattle.pvp_play.specs.Player.{Position, beginning, Tries, Wants, Drains, DrainStops, skipped, cut_off, healed, with_cut, unknown_actor, CutStops}
 
 -- nothing was refused
@@ -106,12 +107,14 @@ steps_text world number told before noted =
 -- the one or the other
 abbrev pub line_text : {B : Type 0} → (B → Boot) → Telling → Line → Option WorldFault → Position B → Position B → List ℕ
 line_text held Books line told old new = refused_text line.number told ++ print_text held line.statement new.world
-line_text held Steps line told old new = steps_text new.world line.number told (length (notes old.noted)) (notes new.noted)
+line_text held Steps line told old new =
+    steps_text new.world line.number told (length (notes old.noted)) (notes new.noted) ++ passing_text line.statement told old.cursor new
 
 -- there is something to print
 abbrev pub Prints : {B : Type 0} → Telling → Line → Option WorldFault → Position B → Position B → Type 0
 Prints Books line told old new = (told ≢ None) ⊎ (line.statement ≡ Print)
-Prints Steps line told old new = (told ≢ None) ⊎ (length (notes old.noted) < length (notes new.noted))
+Prints Steps line told old new =
+    (told ≢ None) ⊎ (length (notes old.noted) < length (notes new.noted)) ⊎ (passing_text line.statement told old.cursor new ≢ [])
 
 -- A LINE IS PLAYED. Over cells whose saves do not fail it tells no failed save, and leaves them so.
 pub record PlaysLine {B : Type 0} (c : Cell B) (telling : Telling) (line : Line) (old new : Position B) (text : List ℕ) : Type 0 where

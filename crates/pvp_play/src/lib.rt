@@ -6,6 +6,7 @@ pub mod cells;
 pub mod chaos;
 pub mod lines;
 pub mod notes;
+pub mod passing;
 pub mod player;
 
 pub use books::print_books;

@@ -4,6 +4,7 @@ ghost use Rattle.pvp_types.specs.Setup.{IsValid};
 ghost use Rattle.pvp_text.specs.declared.script.Kind.TheVariants as kinds;
 ghost use Rattle.pvp_text.specs.Script.{script_where};
 ghost use Rattle.pvp_play.specs.Notes.{notes};
+ghost use Rattle.pvp_play.specs.Passing.{passing_text};
 ghost use Rattle.pvp_play.specs.Player.{beginning};
 ghost use Rattle.pvp_play.specs.Lines.{no_notes, Does, Stops, refused_text, print_text, steps_text, line_text, Prints, PlaysLine, LineStops, LinesEnd, IsOpening, PlayEnds};
 
@@ -11,6 +12,7 @@ use crate::books::push_books;
 use crate::cells::{Fail, new_cells};
 use crate::chaos::rage;
 use crate::notes::{Telling, push_notes};
+use crate::passing::push_passing;
 use crate::player::Player;
 use headline::Step;
 use pvp_text::book::{read_lines, write_text};
@@ -60,8 +62,9 @@ pub fn play_failing<W: Write>(
 }
 
 /// Plays a script as `play_failing` does, and in place of what its lines print writes each step that they try, what came
-/// of it, and what it sent. Steps are numbered from 1; a line that is refused and tries no step, as a cut, prints what it
-/// prints in a play. Memory is refused for the notes of steps too.
+/// of it, and what it sent; of a cut, a heal and a skip what it did; and which envelopes a drain passed over at a cut.
+/// Steps are numbered from 1; a line that is refused and tries no step, as a cut, prints what it prints in a play. Memory
+/// is refused for the notes of steps too.
 pub fn trace<W: Write>(
     alloc: Global,
     setup: &Setup,
@@ -152,10 +155,11 @@ fn play_line<C: BootCell>(
     ensures stopped { OnErr result (LineStops C.BootCell telling line player.old player.new) }
 {
     let before = player.notes().len();
+    let from = player.cursor();
     let told = do_line(alloc, player, line.statement)?;
     match telling {
         Telling::Books => books_told(alloc, player.world(), line, told),
-        Telling::Steps => steps_told(alloc, player, line.number, told, before),
+        Telling::Steps => line_told(alloc, player, line, told, before, from),
     }
 }
 
@@ -175,7 +179,28 @@ fn books_told<C: BootCell>(
     Ok(text)
 }
 
-/// What a line prints where steps are told: those that were noted after so many before it, or, where it tried none, what
+/// What a line prints where steps are told: its steps, and what it did to the cuts, and to the cursor that stood at `from`
+/// before it. `Err` where memory is refused.
+fn line_told<C: BootCell>(
+    alloc: Global,
+    player: &Player<C>,
+    line: Line,
+    told: Option<WorldFault>,
+    before: usize,
+    from: usize,
+) -> Result<String, AllocError>
+    ensures text { IfOk result (λ text. string_bytes text
+        ≡ steps_text player.now.world line.number told before (notes player.now.noted)
+        ++ passing_text line.statement told from player.now) }
+    ensures stopped { OnErr result ((told ≢ None) ⊎ (before < length (notes player.now.noted))
+        ⊎ (passing_text line.statement told from player.now ≢ [])) }
+{
+    let mut text = steps_told(alloc, player, line.number, told, before)?;
+    push_passing(alloc, &mut text, player, line.statement, told, from)?;
+    Ok(text)
+}
+
+/// The steps of a line: those that were noted after so many before it, or, where it tried none, what
 /// was refused. `Err` where memory is refused.
 fn steps_told<C: BootCell>(
     alloc: Global,

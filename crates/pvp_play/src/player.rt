@@ -1,5 +1,5 @@
 //! A player of a world: what is tried there, which envelopes come next, and who is cut off.
-ghost use Rattle.std.specs.Prelude.{◌≡◌, [], None, Some, IfOk, OnOk, OnErr, is_some, option_map};
+ghost use Rattle.std.specs.Prelude.{◌≡◌, ◌≢◌, [], None, Some, IfOk, OnOk, OnErr, is_some, option_map};
 ghost use Rattle.pvp_play.specs.Player.{healed};
 
 use crate::notes::{make_room, note};
@@ -34,6 +34,7 @@ impl<C: BootCell> Model for Player<C> {
 impl<C: BootCell> Player<C> {
     ghost use Rattle.pvp_play.specs.Player.{beginning, Tries, Wants, Drains, DrainStops, is_open, is_among, skipped, cut_off, with_cut, unknown_actor, CutStops};
     ghost use Rattle.pvp_play.specs.Notes.{notes};
+    ghost use Rattle.pvp_play.specs.Passing.{is_held, held_back};
     ghost use Rattle.pvp_play.specs.Turns.{DrainsTo, WantsTo, next_open};
 
     /// A player of a world at the beginning of its post, who cuts off no one and notes nothing.
@@ -65,6 +66,13 @@ impl<C: BootCell> Player<C> {
         ensures { result.now ≡ self.now.world }
     {
         &self.world
+    }
+
+    /// The number of the envelope up to which the post was gone through.
+    pub fn cursor(&self) -> usize
+        ensures { result ≡ self.now.cursor }
+    {
+        self.cursor
     }
 
     /// The steps that were tried, in their order; none where they are not noted.
@@ -133,6 +141,30 @@ impl<C: BootCell> Player<C> {
             }
         }
         None
+    }
+
+    /// The numbers of the envelopes after a place, up to the cursor, that a cut holds up. `Err` where memory is refused.
+    pub fn held_back(&self, alloc: Global, from: usize) -> Result<Vec<usize>, AllocError>
+        ensures held { IfOk result (λ numbers. numbers.items ≡ held_back from self.now) }
+        ensures stopped { OnErr result (held_back from self.now ≢ []) }
+    {
+        let mut numbers = Vec::new(alloc);
+        for place in from..self.cursor {
+            if self.is_held(place + 1) {
+                numbers.push(place + 1)?;
+            }
+        }
+        Ok(numbers)
+    }
+
+    /// Whether a cut holds up the envelope of a number.
+    fn is_held(&self, number: usize) -> bool
+        ensures { result ≡ is_held self.now.cut self.now.world.post number }
+    {
+        match self.world.envelope(number) {
+            Some(envelope) => !self.is_open(envelope),
+            None => false,
+        }
     }
 
     /// Whether none of the actors that an envelope goes between is cut off.
