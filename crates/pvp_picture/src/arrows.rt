@@ -4,7 +4,7 @@ use crate::escape::push_escaped;
 use crate::labels::{Stack, why_name};
 use crate::layout::{Stroke, column_of, row_of};
 use crate::lifeline::push_line;
-use crate::scene::{Ending, Flight, Scene};
+use crate::scene::{Ending, Flight, Passed, Scene};
 use pvp_trace::meanings::{meaning, reason};
 use std::alloc::AllocError;
 
@@ -52,13 +52,18 @@ fn push_words_of(text: &mut String, flight: &Flight) -> Result<(), AllocError> {
     text.push_str("</title>\n")
 }
 
-/// Appends by which steps an envelope was sent and delivered.
+/// Appends by which steps an envelope was sent and delivered, and why it was passed over.
 fn push_ways(text: &mut String, flight: &Flight) -> Result<(), AllocError> {
     let sent = flight.sent;
     write!(text, "; sent in step {sent}")?;
     match flight.came {
-        Some(came) => write!(text, ", delivered in step {came}"),
-        None => text.push_str(", never delivered"),
+        Some(came) => write!(text, ", delivered in step {came}")?,
+        None => text.push_str(", never delivered")?,
+    }
+    match flight.passed {
+        Some(Passed::Skipped) => text.push_str(", skipped by a line"),
+        Some(Passed::HeldBack) => text.push_str(", held back by a cut"),
+        None => Ok(()),
     }
 }
 
@@ -183,14 +188,24 @@ fn stub_end(scene: &Scene, flight: &Flight) -> usize {
     }
 }
 
-/// Writes the number of an envelope to the left of its stub.
+/// Why an envelope was passed over, in one word.
+fn passed_name(passed: Option<Passed>) -> &'static str {
+    match passed {
+        Some(Passed::Skipped) => " skip",
+        Some(Passed::HeldBack) => " cut",
+        None => "",
+    }
+}
+
+/// Writes the number of an envelope to the left of its stub, and why it was passed over.
 fn push_stub_number(text: &mut String, scene: &Scene, flight: &Flight) -> Result<(), AllocError> {
     let x = column_of(scene, flight.sent).saturating_sub(6);
     let y = stub_end(scene, flight).saturating_add(4);
     let number = flight.number;
+    let passed = passed_name(flight.passed);
     write!(
         text,
-        "<text class=\"number\" text-anchor=\"end\" x=\"{x}\" y=\"{y}\">{number}</text>\n"
+        "<text class=\"number\" text-anchor=\"end\" x=\"{x}\" y=\"{y}\">{number}{passed}</text>\n"
     )
 }
 

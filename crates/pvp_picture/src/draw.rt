@@ -5,7 +5,7 @@ use crate::arrows::{push_ending, push_flights, push_numbers};
 use crate::escape::{push_cut, push_escaped};
 use crate::layout::{Stroke, TOP, column, height, legend_top, width};
 use crate::legend::push_legend;
-use crate::lifeline::{push_all_news, push_lifelines, push_line};
+use crate::lifeline::{push_all_news, push_cuts, push_lifelines, push_line};
 use crate::scene::{Scene, Turn};
 use std::alloc::{AllocError, Global};
 
@@ -31,6 +31,7 @@ text{font-family:'DejaVu Sans',Verdana,sans-serif;font-size:11px;fill:#111;paint
 .down{stroke:#999;stroke-width:2;stroke-dasharray:2 7}
 .lead{stroke:#00406b;stroke-width:1.5}
 .guide{stroke:#e4e4e4;stroke-width:1}
+.apart{fill:#f0e2bd;stroke:#b89a4a;stroke-width:1;stroke-dasharray:1 3}
 .tick{stroke:#000;stroke-width:2.5}
 .save{fill:#fff;stroke:#000;stroke-width:2}
 .arrow{stroke:#333;stroke-width:1.3;marker-end:url(#head)}
@@ -53,6 +54,7 @@ pub fn drawn(alloc: Global, scene: &Scene) -> Result<String, AllocError> {
     push_opening(&mut text, scene)?;
     push_heading(&mut text, scene)?;
     push_guides(&mut text, scene)?;
+    push_cuts(&mut text, scene)?;
     push_lifelines(&mut text, scene)?;
     push_flights(&mut text, scene)?;
     push_names(&mut text, scene)?;

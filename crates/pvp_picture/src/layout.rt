@@ -49,6 +49,17 @@ pub fn column_of(scene: &Scene, number: usize) -> usize {
     column(number.saturating_sub(scene.earlier).saturating_sub(1))
 }
 
+/// How far from the left it is half a step after so many steps: at the left edge where all of them come before those that
+/// are shown, and where the lifelines end where it would be further.
+pub fn behind(scene: &Scene, steps: usize) -> usize {
+    if steps <= scene.earlier {
+        return LEFT;
+    }
+    column_of(scene, steps)
+        .saturating_add(STEP / 2)
+        .min(lifeline_end(scene))
+}
+
 /// How far from the left the lifelines end.
 pub fn lifeline_end(scene: &Scene) -> usize {
     column(scene.turns.len()).saturating_add(TAIL.saturating_sub(STEP))

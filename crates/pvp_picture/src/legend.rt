@@ -4,7 +4,7 @@ use crate::acts::push_dot;
 use crate::arrows::{push_cross, push_ring};
 use crate::labels::push_words;
 use crate::layout::{Stroke, legend_top};
-use crate::lifeline::{push_line, push_square};
+use crate::lifeline::{push_band, push_line, push_square};
 use crate::scene::Scene;
 use std::alloc::AllocError;
 
@@ -41,7 +41,7 @@ fn sample(x: usize, y: usize) -> Stroke {
     }
 }
 
-/// Writes the styles of lifelines.
+/// Writes the styles of lifelines, a dot and a band.
 fn push_statuses(text: &mut String, top: usize) -> Result<(), AllocError> {
     push_status(
         text,
@@ -74,7 +74,10 @@ fn push_statuses(text: &mut String, top: usize) -> Result<(), AllocError> {
         WORDS,
         y,
         "a step that delivers nothing; its name stands above",
-    )
+    )?;
+    let low = y.saturating_add(LINE);
+    push_band(text, SIGN, SIGN.saturating_add(42), low)?;
+    push_below(text, WORDS, low, "an actor that is cut off from all others")
 }
 
 /// Writes the two thin lines of a primary.
@@ -123,7 +126,7 @@ fn push_envelopes(text: &mut String, top: usize) -> Result<(), AllocError> {
         top,
         2,
         "stub",
-        "an envelope that no step delivered, and its number",
+        "an envelope that no step delivered; skip: a line passed over it, cut: a cut held it up",
     )?;
     push_ring(
         text,

@@ -2,6 +2,7 @@
 #![tactic(auto)]
 
 pub mod acts;
+pub mod apart;
 pub mod arrows;
 pub mod draw;
 pub mod escape;

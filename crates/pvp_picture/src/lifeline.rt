@@ -1,12 +1,53 @@
 //! The lifelines of actors: a site's has the style of its status from step to step.
 
 use crate::labels::{ASIDE, Stack, push_news, push_status, push_words, status_name};
-use crate::layout::{LEFT, Stroke, column, lifeline_end, row};
-use crate::scene::{Actor, Scene, Standing, Turn};
+use crate::layout::{LEFT, Stroke, behind, column, lifeline_end, row};
+use crate::scene::{Actor, Cut, Scene, Standing, Turn};
 use std::alloc::AllocError;
 
 /// How far from the left actors' names stand.
 const NAMES: usize = 14;
+
+/// How far a band reaches above and below its lifeline.
+const BAND: usize = 14;
+
+/// Writes a band behind the lifeline of each actor that is cut off, from step to step.
+pub fn push_cuts(text: &mut String, scene: &Scene) -> Result<(), AllocError> {
+    for cut in scene.cuts.iter() {
+        if let Some(place) = scene
+            .actors
+            .iter()
+            .position(|actor| actor.number == cut.actor)
+        {
+            push_cut(text, scene, row(place), *cut)?;
+        }
+    }
+    Ok(())
+}
+
+/// Writes the band of a cut, where it is among the steps that are shown.
+fn push_cut(text: &mut String, scene: &Scene, y: usize, cut: Cut) -> Result<(), AllocError> {
+    let start = behind(scene, cut.after);
+    let end = match cut.until {
+        Some(until) => behind(scene, until),
+        None => lifeline_end(scene),
+    };
+    if start < end {
+        push_band(text, start, end, y)?;
+    }
+    Ok(())
+}
+
+/// Writes a band along a line.
+pub fn push_band(text: &mut String, start: usize, end: usize, y: usize) -> Result<(), AllocError> {
+    let top = y.saturating_sub(BAND);
+    let wide = end.saturating_sub(start);
+    let high = BAND.saturating_mul(2);
+    write!(
+        text,
+        "<rect class=\"apart\" x=\"{start}\" y=\"{top}\" width=\"{wide}\" height=\"{high}\"/>\n"
+    )
+}
 
 /// Writes every lifeline, with its actor's name.
 pub fn push_lifelines(text: &mut String, scene: &Scene) -> Result<(), AllocError> {

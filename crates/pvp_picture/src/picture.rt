@@ -7,7 +7,7 @@ ghost use Rattle.pvp_text.specs.Script.{script_where};
 ghost use Rattle.pvp_picture.specs.Picture.{PictureEnds};
 
 use crate::draw::drawn;
-use crate::plays::{new_world, played};
+use crate::plays::{Play, new_world, played};
 use crate::replay::standings;
 use crate::scene::Scene;
 use crate::staging::{Run, stage};
@@ -81,12 +81,13 @@ fn scene_of(
 ) -> Result<Scene, AllocError>
     requires { IsValid setup.now }
 {
-    let player = played(alloc, new_world(alloc, setup, fails)?, lines)?;
+    let Play { player, apart } = played(alloc, new_world(alloc, setup, fails)?, lines)?;
     let standings = standings(alloc, new_world(alloc, setup, fails)?, player.notes())?;
     let run = Run {
         world: player.world(),
         noted: player.notes(),
         standings: standings.as_slice(),
+        apart: &apart,
     };
     stage(alloc, &run, steps.first(), steps.end())
 }

@@ -3,6 +3,7 @@
 ghost use Rattle.std.specs.Prelude.{◌≡◌, [], IfOk};
 ghost use Rattle.pvp_types.specs.Setup.{IsValid};
 
+use crate::apart::Apart;
 use pvp_play::cells::new_cells;
 use pvp_play::{Fail, Player, do_line};
 use pvp_text::Line;
@@ -21,15 +22,22 @@ pub fn new_world(alloc: Global, setup: &Setup, fails: &[Fail]) -> Result<World<M
     World::new(alloc, setup, cells)
 }
 
-/// The player of all lines in a world, who noted each step that they try. `Err` where memory is refused.
-pub fn played(
-    alloc: Global,
-    world: World<MemCell>,
-    lines: &[Line],
-) -> Result<Player<MemCell>, AllocError> {
+/// A play of all its lines: its player, who noted each step that they try, and what they did apart from steps.
+#[derive(Drop)]
+pub struct Play {
+    pub player: Player<MemCell>,
+    pub apart: Apart,
+}
+
+/// Plays all lines in a world. `Err` where memory is refused.
+pub fn played(alloc: Global, world: World<MemCell>, lines: &[Line]) -> Result<Play, AllocError> {
     let mut player = Player::noting(alloc, world);
+    let mut apart = Apart::new(alloc);
     for line in lines {
-        let _told = do_line(alloc, &mut player, line.statement)?;
+        let from = player.cursor();
+        if do_line(alloc, &mut player, line.statement)?.is_none() {
+            apart.note(alloc, &player, line.statement, from)?;
+        }
     }
-    Ok(player)
+    Ok(Play { player, apart })
 }

@@ -54,6 +54,32 @@ pub struct Turn {
     pub standings: Vec<Standing>,
 }
 
+/// A stretch of a run in which an actor is cut off.
+#[derive(Clone, Copy, Debug, PartialEq, Eq)]
+pub struct Cut {
+    pub actor: u16,
+    /// How many steps were tried before it began.
+    pub after: usize,
+    /// How many before it ended; `None` where it did not.
+    pub until: Option<usize>,
+}
+
+impl Cut {
+    /// Whether it is of this actor and has not ended.
+    pub fn is_open(&self, actor: u16) -> bool {
+        self.actor == actor && self.until.is_none()
+    }
+}
+
+/// Why a play passed over an envelope.
+#[derive(Clone, Copy, Debug, PartialEq, Eq)]
+pub enum Passed {
+    /// A line skipped it.
+    Skipped,
+    /// A cut held it up when all before it had been gone through.
+    HeldBack,
+}
+
 /// An envelope on one of its ways.
 #[derive(Debug, Drop)]
 pub struct Flight {
@@ -67,6 +93,8 @@ pub struct Flight {
     pub came: Option<usize>,
     /// What came of that step.
     pub ending: Ending,
+    /// Why the play passed over it, where it did.
+    pub passed: Option<Passed>,
     /// How many envelopes of the same step stand as stubs before it.
     pub rank: usize,
     /// The whole message, and between whom.
@@ -82,6 +110,7 @@ pub struct Scene {
     pub opening: Vec<Standing>,
     pub turns: Vec<Turn>,
     pub flights: Vec<Flight>,
+    pub cuts: Vec<Cut>,
     /// How many steps were tried before those that are shown, and how many after.
     pub earlier: usize,
     pub later: usize,

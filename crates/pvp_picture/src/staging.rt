@@ -3,7 +3,8 @@
 ghost use Rattle.std.specs.Prelude.{◌≡◌, ◌<◌, ◌≤◌, ◌-◌, length, map, All, IfOk, OnOk};
 ghost use Rattle.pvp_picture.specs.Scene.{ending_of, standings_after, IsTurn, AreTurns, IsFlight, ShowsPart};
 
-use crate::scene::{Actor, Ending, Flight, Scene, Standing, Turn};
+use crate::apart::{Apart, Passing};
+use crate::scene::{Actor, Ending, Flight, Passed, Scene, Standing, Turn};
 use pvp_trace::Attempt;
 use pvp_trace::attempt::push_step;
 use pvp_trace::messages::{kind_name, push_envelope};
@@ -12,19 +13,23 @@ use pvp_world::{Report, Step, World, WorldFault};
 use std::alloc::{AllocError, Global};
 use vr_types::{FIRST_NODE, FIRST_SITE, MemCell};
 
-/// A run: its world at the end, its steps, and where the sites stood before the first and after each.
+/// A run: its world at the end, its steps, where the sites stood before the first and after each, and what its lines did
+/// apart from steps.
 #[derive(Drop)]
 pub struct Run<'a> {
     pub world: &'a World<MemCell>,
     pub noted: &'a [Attempt],
     pub standings: &'a [Vec<Standing>],
+    pub apart: &'a Apart,
 }
 
-/// By which steps envelopes were sent and first delivered, by their places on the post; 0 where a step never did.
+/// By which steps envelopes were sent and first delivered, by their places on the post, 0 where a step never did; and why
+/// they were passed over.
 #[derive(Drop)]
 struct Routes {
     sent: Vec<usize>,
     came: Vec<usize>,
+    passed: Vec<Option<Passed>>,
 }
 
 /// The scene of the steps of a run that stand from `first` on and before `end`, counted from 0.
@@ -42,6 +47,7 @@ pub fn stage(alloc: Global, run: &Run, first: usize, end: usize) -> Result<Scene
         opening: standings_at(alloc, run, first)?,
         turns,
         flights,
+        cuts: Vec::from_slice(alloc, run.apart.cuts.as_slice())?,
         earlier: first,
         later: total - end,
     })
@@ -100,6 +106,7 @@ fn routes_of(alloc: Global, run: &Run) -> Result<Routes, AllocError> {
     let mut routes = Routes {
         sent: Vec::new(alloc),
         came: Vec::new(alloc),
+        passed: Vec::new(alloc),
     };
     for place in 0..run.noted.len() {
         if let Some(attempt) = run.noted.get(place) {
@@ -107,6 +114,7 @@ fn routes_of(alloc: Global, run: &Run) -> Result<Routes, AllocError> {
             note_came(&mut routes, *attempt, place.saturating_add(1));
         }
     }
+    note_passed(&mut routes, run.apart.passed.as_slice());
     Ok(routes)
 }
 
@@ -115,6 +123,7 @@ fn note_sent(routes: &mut Routes, attempt: Attempt, number: usize) -> Result<(),
     for _sent in attempt.before..attempt.after {
         routes.sent.push(number)?;
         routes.came.push(0)?;
+        routes.passed.push(None)?;
     }
     Ok(())
 }
@@ -126,6 +135,15 @@ fn note_came(routes: &mut Routes, attempt: Attempt, number: usize) {
             if *came == 0 {
                 *came = number;
             }
+        }
+    }
+}
+
+/// Notes which envelopes were passed over, and why.
+fn note_passed(routes: &mut Routes, passed: &[Passing]) {
+    for one in passed {
+        if let Some(why) = routes.passed.get_mut(one.number.wrapping_sub(1)) {
+            *why = Some(one.why);
         }
     }
 }
@@ -221,6 +239,7 @@ fn push_delivered(
         sent: step_of(routes.sent.as_slice(), number),
         came: place.checked_add(1),
         ending: ending_of(attempt.result),
+        passed: None,
         rank: 0,
     };
     push_flight(alloc, flights, run.world, way)
@@ -251,6 +270,7 @@ fn push_sent(
                 sent: place.saturating_add(1),
                 came: if came == 0 { None } else { Some(came) },
                 ending: Ending::Taken,
+                passed: routes.passed.get(sent).copied().flatten(),
                 rank,
             };
             push_flight(alloc, flights, run.world, way)?;
@@ -268,13 +288,15 @@ fn step_of(steps: &[usize], envelope: usize) -> usize {
     }
 }
 
-/// One way of an envelope: by which steps it was sent and delivered, what came of it, and how many stubs stand before it.
+/// One way of an envelope: by which steps it was sent and delivered, what came of it, why it was passed over, and how many
+/// stubs stand before it.
 #[derive(Clone, Copy)]
 struct Way {
     number: usize,
     sent: usize,
     came: Option<usize>,
     ending: Ending,
+    passed: Option<Passed>,
     rank: usize,
 }
 
@@ -300,6 +322,7 @@ fn push_flight(
         sent: way.sent,
         came: way.came,
         ending: way.ending,
+        passed: way.passed,
         rank: way.rank,
         words,
     })?;
