@@ -213,7 +213,10 @@ fn tells_refused<R: Abort + AllocGlobal>(rt: &R, refused: Option<Refused>) -> Re
         return Err(Fail::new("no line was refused"));
     };
     let told = format!(in rt.alloc(); "{refused}")?;
-    assert_eq!(rt; told.as_str(), "3 lines were refused: the first, line 2, S3");
+    assert_eq!(rt;
+        told.as_str(),
+        "3 lines were refused: the first, line 2, S3"
+    );
     Ok(())
 }
 
