@@ -270,7 +270,7 @@ fn push_sent(
                 sent: place.saturating_add(1),
                 came: if came == 0 { None } else { Some(came) },
                 ending: Ending::Taken,
-                passed: routes.passed.get(sent).copied().flatten(),
+                passed: why_passed(routes.passed.as_slice(), number),
                 rank,
             };
             push_flight(alloc, flights, run.world, way)?;
@@ -285,6 +285,14 @@ fn step_of(steps: &[usize], envelope: usize) -> usize {
     match envelope.checked_sub(1) {
         Some(place) => steps.get(place).copied().unwrap_or(0),
         None => 0,
+    }
+}
+
+/// Why an envelope was passed over, by its number.
+fn why_passed(passed: &[Option<Passed>], envelope: usize) -> Option<Passed> {
+    match envelope.checked_sub(1) {
+        Some(place) => passed.get(place).copied().unwrap_or(None),
+        None => None,
     }
 }
 
