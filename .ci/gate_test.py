@@ -444,10 +444,19 @@ class Bank:
     def told(self, sites, script):
         sent, came, all_came, broke, all_sent, lost = self.counts("\nrest " in script)
         lines = [f"line {at}: s0 up, {sent} frames sent, {came} came" for at, line in enumerate(script.splitlines(), 1) if line and line[0] != "#"]
+        lines += [f"line {at}: s1 at clock {at}: S4, the site is up already" for at in range(1, 1 + self.refusals(script))]
         ends = ", ".join(f"s{at} normal in view 1" for at in range(sites))
         first = {3: "42 connections between 9 actors", 5: "80 connections between 11 actors", 7: "126 connections between 13 actors"}[sites]
         last_ones = [f"{all_came} frames came, and {broke} connections broke", f"{all_sent} envelopes were sent, and {lost} of them did not come"]
         return "\n".join([first, *lines, *last_ones, f"at the end {ends}"]) + "\n"
+
+    def refused(self, script):
+        """What is told at the end of lines that were refused."""
+        return self.live.REFUSED.get(script, "")
+
+    def refusals(self, script):
+        """How many of them are told where they come."""
+        return int(self.live.REFUSED.get(script, "")[:1] or 0)
 
     def script(self):
         return "payin ALFA USD 1200\ndeliver 1\nprint\n"
@@ -457,7 +466,22 @@ class Bank:
         if command == "play":
             return 0, self.books(sites), ""
         text = self.script() + "# audit yes\n" if "--script" in words else self.books(sites) + "audit yes\n"
-        return 0, text, self.told(sites, read(script)) if "--verbose" in words else ""
+        text_of = read(script)
+        return 0, text, (self.told(sites, text_of) if "--verbose" in words else "") + self.refused(text_of)
+
+
+class Unrefused(Bank):
+    """No line is told as refused at the end."""
+
+    def refused(self, script):
+        return ""
+
+
+class Uncounted(Bank):
+    """One refused line less is told where it comes."""
+
+    def refusals(self, script):
+        return max(0, super().refusals(script) - 1)
 
 
 class NoFrames(Bank):
@@ -527,11 +551,13 @@ def sees_live(seen):
         ("more are lost than were sent", Counts(live, hasty=(2, 0, 5, 0, 9, 14)), False),
         ("nothing is ever lost", Counts(live, hasty=(2, 0, 9, 0, 9, 0)), False),
         ("connections break", Counts(live, rested=(9, 9, 9, 1, 9, 0)), False),
+        ("no line is told as refused", Unrefused(live), False),
+        ("a refused line is not told where it comes", Uncounted(live), False),
     ):
         live.ran = bank.ran
         with contextlib.redirect_stdout(io.StringIO()) as told:
             status = live.main()
-        is_told_green = bool(re.fullmatch(r"21 passed, 0 failed", last(told.getvalue())))
+        is_told_green = bool(re.fullmatch(r"30 passed, 0 failed", last(told.getvalue())))
         seen.look(f"live, {name}", (status == 0, is_told_green) == (is_green, is_green), told.getvalue())
 
 
@@ -542,11 +568,16 @@ def sees_pictures(seen):
     pictures = script_of("pictures")
     trace = read(ROOT, "examples/failover/trace.txt")
     drawn = read(ROOT, "docs/failover.svg")
-    steps, envelopes = pictures.traced(trace)
-    seen.look("a picture as it should be", not [*pictures.faults(drawn, steps, envelopes, pictures.shown_by((), steps))])
+    trace = pictures.Trace(trace)
+    shown = pictures.shown_by((), trace.steps)
+    seen.look("a picture as it should be", not [*pictures.faults(drawn, trace, shown)])
     arrows = re.findall(r"<g>.*?</g>|<g [^>]*>.*?</g>", drawn, re.S)
     less = drawn.replace(next(it for it in arrows if "<title>" in it), "", 1)
-    seen.look("an arrow less", less != drawn and [*pictures.faults(less, steps, envelopes, pictures.shown_by((), steps))])
+    seen.look("an arrow less", less != drawn and [*pictures.faults(less, trace, shown)])
+    bare = re.sub(r'<rect class="apart" .*?/>\n', "", drawn, count=1)
+    seen.look("a band less", bare != drawn and [*pictures.faults(bare, trace, shown)])
+    unheld = drawn.replace(", held back by a cut", "", 1)
+    seen.look("an envelope that no cut held up", unheld != drawn and [*pictures.faults(unheld, trace, shown)])
     pictures.ran = lambda command, folder, *words: drawn if "--svg" in words else ""
     with contextlib.redirect_stdout(io.StringIO()):
         seen.look("a trace without a step", pictures.example("failover") == (0, 1))
