@@ -1,5 +1,8 @@
-"""Reads printed books, line by line as docs/formats.md has them, and says what in them does not come to what it has to."""
+"""Reads printed books, line by line as docs/formats.md has them, and says what in them does not come to what it has to; and what a live
+run tells at its end of lines that were refused."""
 import re
+
+REFUSED = re.compile(r"(?:1 line was refused: line \d+|(\d+) lines were refused: the first, line \d+), [A-Z]\d\n\Z")
 
 SITE = re.compile(r"site (\d+) (?:(?:normal|change) view \d+ log (\d+) done (\d+) cell \d+|(?:recovering|down) cell \d+)")
 NODE = re.compile(r"node (\w+) account (\d+) payins (\d+) payouts (\d+)(?: returned \d+)?")
@@ -87,3 +90,9 @@ def blocks_of(text):
     if text and not text.endswith("\n"):
         wrong.append("the last line has no end")
     return blocks, wrong + [it for block in blocks for it in block.faults()]
+
+
+def parted(told):
+    """What a live run told, without its last line where that is of refused lines, and of how many."""
+    found = REFUSED.search(told)
+    return (told[: found.start()], int(found[1] or 1)) if found else (told, 0)
