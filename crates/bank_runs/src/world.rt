@@ -1,6 +1,7 @@
 //! A list of steps of the whole bank, taken by one call. What each step does and reports: `.ci/texts`.
 use fixtures::setup::three_currencies;
-use pvp_world::{FallFault, Step, World, WorldFault};
+use pvp_types::Step;
+use pvp_world::{FallFault, World, WorldFault};
 use std::alloc::Global;
 use std::process::Abort;
 use std::test::Fail;

@@ -7,6 +7,7 @@ use Rattle.pvp_types.specs.declared.setup.Setup.{Setup}
 use Rattle.pvp_types.specs.declared.command.Cmd.{Cmd}
 use Rattle.pvp_types.specs.declared.command.Reply.{Reply as Answer}
 use Rattle.pvp_types.specs.declared.command.PayOrder.{PayOrder as PaymentOrder}
+use Rattle.pvp_types.specs.declared.step.Step.{Step}
 use Rattle.pvp_types.specs.Setup.{faults}
 use Rattle.vr_types.specs.declared.event.EventOf.{EventOf}
 use Rattle.vr_types.specs.declared.event.Why.{Why}
@@ -16,7 +17,6 @@ use Rattle.vr_types.specs.Site.{Site}
 use Rattle.vr_types.specs.Step as site
 use Rattle.agreement.specs.Worlds as worlds
 use Rattle.agreement.proofs.Unique.{one_step}
-use Rattle.headline.specs.declared.step.Step.{Step}
 use Rattle.headline.specs.declared.step.Turn.{Turn}
 use Rattle.headline.specs.declared.step.Turn.TheVariants.{OfSite, OfNode, OfClient}
 use Rattle.headline.specs.Bank.{Bank, turn}

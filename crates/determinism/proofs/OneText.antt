@@ -5,11 +5,10 @@ use Rattle.pvp_types.specs.declared.setup.Setup.{Setup}
 use Rattle.vr_types.specs.declared.cell.BootCell.{Ghosts as Cell}
 use Rattle.vr_types.specs.contracts.cell.MemCellBootCell.TheImpl.{ghosts as memory}
 use Rattle.rtgs_node.specs.Node.{Envelope}
-use Rattle.headline.specs.declared.step.Step.TheVariants as steps
 use Rattle.headline.specs.Bank.{Bank}
 use Rattle.pvp_text.specs.declared.script.Line.{Line}
 use Rattle.pvp_text.specs.declared.script.Statement.{Statement}
-use Rattle.pvp_text.specs.declared.script.Statement.TheVariants.{Do, Print, PayIn, Close, Beat, Timer, Crash, Restart, Deliver, Drain, Skip, Cut, Heal, Chaos, Rest}
+use Rattle.pvp_text.specs.declared.script.Statement.TheVariants.{Do, Print, Drain, Skip, Cut, Heal, Chaos, Rest}
 use Rattle.pvp_world.specs.declared.fault.WorldFault.{WorldFault}
 use Rattle.pvp_world.specs.World.{Shown as World}
 use Rattle.pvp_trace.specs.declared.attempt.Attempt.{Attempt}
@@ -38,15 +37,8 @@ module _ {B : Type 0} (c : Cell B) where
     }
 
     does-too : (s : Statement) (x : Does c s p p' told) (y : Does c s q q' other) → LineIsFree c s p p' told x → LineIsFree c s q q' other y → OneTold c told other p' q'
-    does-too (Do client cmd) x y free too = tries-too c p q twins p' q' (steps.Submit client cmd) told other x y free too
+    does-too (Do step) x y free too = tries-too c p q twins p' q' step told other x y free too
     does-too Print x y free too = stays-too p q twins _ _ refl x.0 y.0 x.1 y.1
-    does-too (PayIn member ccy amt) x y free too = tries-too c p q twins p' q' (steps.PayIn ccy member amt) told other x y free too
-    does-too (Close member ccy) x y free too = tries-too c p q twins p' q' (steps.Close ccy member) told other x y free too
-    does-too (Beat actor) x y free too = tries-too c p q twins p' q' (steps.Beat actor) told other x y free too
-    does-too (Timer site) x y free too = tries-too c p q twins p' q' (steps.Timer site) told other x y free too
-    does-too (Crash site) x y free too = tries-too c p q twins p' q' (steps.Crash site) told other x y free too
-    does-too (Restart site) x y free too = tries-too c p q twins p' q' (steps.Restart site) told other x y free too
-    does-too (Deliver envelope) x y free too = tries-too c p q twins p' q' (steps.Deliver envelope) told other x y free too
     does-too (Drain turns) x y free too = record { told = x.1 ∙ sym y.1; twins = drains-too c p q twins p' q' turns x.0 y.0 free too }
     does-too (Skip envelopes) x y free too = stays-too (skipped p envelopes) (skipped q envelopes) (skips-too c p q twins envelopes) _ _ refl x.0 y.0 x.1 y.1
     does-too (Cut actor) x y free too =
@@ -70,21 +62,8 @@ module _ {B : Type 0} (c : Cell B) where
       ∙ sym (books-same c.held b twins.other_at.list.bank twins.other_at.shows)
 
   print-too : (a b : World B) (twins : AreTwins c.held a b) (s : Statement) → print_text c.held s a ≡ print_text c.held s b
-  print-too a b twins (Do client cmd) = refl
   print-too a b twins Print = books-too a b twins
-  print-too a b twins (PayIn member ccy amt) = refl
-  print-too a b twins (Close member ccy) = refl
-  print-too a b twins (Beat actor) = refl
-  print-too a b twins (Timer site) = refl
-  print-too a b twins (Crash site) = refl
-  print-too a b twins (Restart site) = refl
-  print-too a b twins (Deliver envelope) = refl
-  print-too a b twins (Drain turns) = refl
-  print-too a b twins (Skip envelopes) = refl
-  print-too a b twins (Cut actor) = refl
-  print-too a b twins (Heal actor) = refl
-  print-too a b twins (Chaos seed turns) = refl
-  print-too a b twins (Rest milliseconds) = refl
+  print-too a b twins _ = refl
 
   passing-too : (s : Statement) (told : Option WorldFault) (from : ℕ) (p q : Position B) → AreTwinPlayers c.held p q → passing_text s told from p ≡ passing_text s told from q
   passing-too (Cut actor) told from p q twins = ap (λ (s : Setup). taken_text s (codes "cut") actor told) twins.worlds.setup
@@ -94,17 +73,7 @@ module _ {B : Type 0} (c : Cell B) where
       ap (λ (n : ℕ). held_text (filter (is_held p.cut p.world.post) (passed from n))) twins.cursor
       ∙ ap (λ (cut : List ℕ). held_text (filter (is_held cut p.world.post) (passed from q.cursor))) twins.cut
       ∙ ap (λ (es : List Envelope). held_text (filter (is_held q.cut es) (passed from q.cursor))) (twin-post c.held p.world q.world twins.worlds)
-  passing-too (Do client cmd) told from p q twins = refl
-  passing-too Print told from p q twins = refl
-  passing-too (PayIn member ccy amt) told from p q twins = refl
-  passing-too (Close member ccy) told from p q twins = refl
-  passing-too (Beat actor) told from p q twins = refl
-  passing-too (Timer site) told from p q twins = refl
-  passing-too (Crash site) told from p q twins = refl
-  passing-too (Restart site) told from p q twins = refl
-  passing-too (Deliver envelope) told from p q twins = refl
-  passing-too (Chaos seed turns) told from p q twins = refl
-  passing-too (Rest milliseconds) told from p q twins = refl
+  passing-too _ told from p q twins = refl
 
   text-too : (telling : Telling) (line : Line) (p q p' q' : Position B) (told other : Option WorldFault) → AreTwinPlayers c.held p q → OneTold c told other p' q'
       → line_text c.held telling line told p p' ≡ line_text c.held telling line other q q'

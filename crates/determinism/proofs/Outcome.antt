@@ -3,6 +3,7 @@ use Rattle.std.proofs.Common.{◌≡◌, ℕ, ◌+◌, ◌-◌, ◌==◌, Bool, 
 use Rattle.std.specs.Prelude.{option_and_then}
 use Rattle.pvp_types.specs.declared.setup.Setup.{Setup}
 use Rattle.pvp_types.specs.declared.command.Cmd.{Cmd}
+use Rattle.pvp_types.specs.declared.step.Step.{Step}
 use Rattle.pvp_types.specs.Setup.{faults}
 use Rattle.vr_types.specs.declared.cell.Boot.{Boot}
 use Rattle.vr_types.specs.declared.event.SiteFault.{SiteFault}
@@ -11,7 +12,6 @@ use Rattle.vr_types.specs.declared.event.Why.{Why}
 use Rattle.vr_types.specs.Site.{Site}
 use Rattle.vr_site.specs.Replica as replica
 use Rattle.rtgs_node.specs.Node.{Envelope}
-use Rattle.headline.specs.declared.step.Step.{Step}
 use Rattle.headline.specs.declared.step.Move.{Move}
 use Rattle.headline.specs.declared.step.Move.TheVariants.{Takes}
 use Rattle.headline.specs.Bank.{Bank, turn}

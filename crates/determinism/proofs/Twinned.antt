@@ -5,6 +5,8 @@ use Rattle.std.specs.List.{list_all, range_with_len}
 use Rattle.std.specs.Option.{option_map_or}
 use Rattle.pvp_types.specs.declared.setup.Setup.{Setup}
 use Rattle.pvp_types.specs.declared.command.Cmd.{Cmd}
+use Rattle.pvp_types.specs.declared.step.Step.{Step}
+use Rattle.pvp_types.specs.declared.step.Step.TheVariants as steps
 use Rattle.vr_types.specs.declared.cell.Boot.{Boot}
 use Rattle.vr_types.specs.declared.cell.BootCell.{Ghosts as Cell}
 use Rattle.vr_types.specs.declared.event.EventOf.TheVariants.{Beat}
@@ -13,8 +15,6 @@ use Rattle.vr_site.specs.Replica as replica
 use Rattle.rtgs_node.specs.Node.{Envelope}
 use Rattle.rtgs_node.specs.declared.event.NodeEvent.TheVariants as node_event
 use Rattle.headline.specs.declared.step.ClientEvent.TheVariants as client_event
-use Rattle.headline.specs.declared.step.Step.{Step}
-use Rattle.headline.specs.declared.step.Step.TheVariants as steps
 use Rattle.headline.specs.declared.step.Turn.{Turn}
 use Rattle.headline.specs.declared.step.Turn.TheVariants.{OfSite, OfNode, OfClient}
 use Rattle.headline.specs.Bank.{Bank, turn_of}

@@ -1,15 +1,15 @@
 -- Plays of a script that neither a refused growth nor a failed save hindered.
 use Rattle.std.specs.Prelude.{◌≡◌, ℕ, zero, suc, false, List, [], ◌∷◌, Option}
 use Rattle.pvp_types.specs.declared.setup.Setup.{Setup}
+use Rattle.pvp_types.specs.declared.step.Step.{Step}
 use Rattle.vr_types.specs.declared.cell.BootCell.{Ghosts as Cell}
 use Rattle.vr_types.specs.declared.cell.MemCell.{MemCell}
 use Rattle.vr_types.specs.contracts.cell.MemCellBootCell.TheImpl.{ghosts as memory}
 use Rattle.rand_pcg.specs.Lcg.{Lcg}
-use Rattle.headline.specs.declared.step.Step.{Step}
 use Rattle.pvp_world.specs.declared.fault.WorldFault.{WorldFault}
 use Rattle.pvp_text.specs.declared.script.Line.{Line}
 use Rattle.pvp_text.specs.declared.script.Statement.{Statement}
-use Rattle.pvp_text.specs.declared.script.Statement.TheVariants.{Do, Print, PayIn, Close, Beat, Timer, Crash, Restart, Deliver, Drain, Skip, Cut, Heal, Chaos, Rest}
+use Rattle.pvp_text.specs.declared.script.Statement.TheVariants.{Do, Drain, Chaos}
 use Rattle.pvp_play.specs.declared.cells.Fail.{Fail}
 use Rattle.pvp_play.specs.declared.chaos.Act.{Act}
 use Rattle.pvp_play.specs.declared.chaos.Act.TheVariants as act
@@ -40,21 +40,10 @@ TurnsAreFree c (suc n) old new turns =
 
 -- what a line does
 abbrev pub LineIsFree : {B : Type 0} (c : Cell B) (s : Statement) (old new : Position B) (told : Option WorldFault) → Does c s old new told → Type 0
-LineIsFree c (Do client cmd) old new told does = is_hindered does.attempt.result ≡ false
-LineIsFree c Print old new told does = Unit {0}
-LineIsFree c (PayIn member ccy amt) old new told does = is_hindered does.attempt.result ≡ false
-LineIsFree c (Close member ccy) old new told does = is_hindered does.attempt.result ≡ false
-LineIsFree c (Beat actor) old new told does = is_hindered does.attempt.result ≡ false
-LineIsFree c (Timer site) old new told does = is_hindered does.attempt.result ≡ false
-LineIsFree c (Crash site) old new told does = is_hindered does.attempt.result ≡ false
-LineIsFree c (Restart site) old new told does = is_hindered does.attempt.result ≡ false
-LineIsFree c (Deliver envelope) old new told does = is_hindered does.attempt.result ≡ false
+LineIsFree c (Do step) old new told does = IsFree c old new step told does
 LineIsFree c (Drain turns) old new told does = AreFree does.0.attempts
-LineIsFree c (Skip envelopes) old new told does = Unit {0}
-LineIsFree c (Cut actor) old new told does = Unit {0}
-LineIsFree c (Heal actor) old new told does = Unit {0}
 LineIsFree c (Chaos seed turns) old new told does = TurnsAreFree c turns (words_of seed, old) (does.0.0, new) does.0.1
-LineIsFree c (Rest milliseconds) old new told does = Unit {0}
+LineIsFree c _ old new told does = Unit {0}
 
 -- lines one after another
 abbrev pub PlaysFreely : {B : Type 0} (c : Cell B) (telling : Telling) (lines : List Line) (old new : Position B) (text : List ℕ) → Plays c telling lines old new text → Type 0

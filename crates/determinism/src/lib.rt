@@ -4,8 +4,8 @@
 
 ghost use Rattle.std.specs.Prelude.{◌≡◌, false, List, Result};
 ghost use Rattle.pvp_types.specs.declared.setup.Setup.{Setup};
+ghost use Rattle.pvp_types.specs.declared.step.Step.{Step};
 ghost use Rattle.pvp_types.specs.Setup.{faults};
-ghost use Rattle.headline.specs.declared.step.Step.{Step};
 ghost use Rattle.pvp_text.specs.declared.script.Line.{Line};
 ghost use Rattle.pvp_world.specs.World.{Shown, IsAt};
 ghost use Rattle.pvp_world.specs.Steps.{Applies};

@@ -13,6 +13,7 @@ use Rattle.pvp_types.specs.declared.command.Cmd.{Cmd}
 use Rattle.pvp_types.specs.declared.command.Cmd.TheVariants.{Paid, Returned}
 use Rattle.pvp_types.specs.declared.command.Reply.{Reply as Answer}
 use Rattle.pvp_types.specs.declared.command.PayOrder.{PayOrder as PaymentOrder}
+use Rattle.pvp_types.specs.declared.step.Step.TheVariants.{Deliver as Delivers, Beat as Beats}
 use Rattle.pvp_types.proofs.SetupLemmas.{valid-members, valid-currencies}
 use Rattle.vr_types.specs.declared.event.EventOf.TheVariants.{Deliver, Beat}
 use Rattle.vr_types.specs.declared.event.Status.{Status}
@@ -35,7 +36,6 @@ use Rattle.rtgs_node.specs.declared.fault.NodeFault.TheVariants as fault
 use Rattle.rtgs_node.specs.Node as nodes
 use Rattle.rtgs_node.specs.Node.{Envelope, Node, NodeStep, account, is_known, is_closed, is_full, notes, with_return, with_pay_out, on_return, on_pay_out, node_step}
 use Rattle.headline.specs.declared.step.ClientEvent.TheVariants as client
-use Rattle.headline.specs.declared.step.Step.TheVariants.{Deliver as Delivers, Beat as Beats}
 use Rattle.headline.specs.declared.step.Move.TheVariants.{Takes}
 use Rattle.headline.specs.declared.step.Turn.{Turn}
 use Rattle.headline.specs.declared.step.Turn.TheVariants.{OfSite, OfNode}
@@ -49,10 +49,10 @@ use Rattle.headline.proofs.Books.{held-is, held-setup, orders-ccy}
 use Rattle.headline.proofs.Invariant.{notices_of, Holds}
 use Rattle.headline.proofs.Reached.{legal-holds}
 use Rattle.headline.proofs.Laws.{never-short}
-use Rattle.headline.proofs.Lifts.{site_turn}
+use Rattle.headline.proofs.Turns.{turn_of_node, turn_of_site}
 use Rattle.headline.proofs.Runs.{longer}
 use Rattle.headline.proofs.Stages.{Comes, stays, comes_then}
-use Rattle.headline.proofs.Waits.{IsTold, notice_served, node_turn, HasNumber, numbered, set-other, if_yes, if_no}
+use Rattle.headline.proofs.Waits.{IsTold, notice_served, HasNumber, numbered, set-other, if_yes, if_no}
 use Rattle.headline.proofs.Known.{Knows, WasDue, legal_knows, same_number, end_says}
 use Rattle.headline.proofs.Settled.{here, HasPrimary, primary_here, works_rows, log_begins, once_whole, HasRow, heard_row, no_more}
 use Rattle.headline.proofs.Endings.{ends_now, ended_by, orders_same, IsMade, is_made, is_due}
@@ -161,7 +161,7 @@ module _ (setup : Setup) (f : ℕ) (some : 1 ≤ f) (list : LegalList setup f) (
     unfolding beaten told s p
     beats = record {
       turn_is = OfSite p Beat;
-      has_turn = ap (λ (u : Turn). Some u) (site_turn setup list.choose f p Beat node.Beats client.Beats);
+      has_turn = ap (λ (u : Turn). Some u) (turn_of_site Beat node.Beats client.Beats p);
       acts = record {
         before = lead.site;
         is_there = lead.at;
@@ -264,7 +264,7 @@ module _ (setup : Setup) (f : ℕ) (some : 1 ≤ f) (list : LegalList setup f) (
     number = numbered beaten mail (OfNode c (node.Takes mail)) posted to_node
       where
         to_node : turn_of mail.to (Deliver mail) (node.Takes mail) (client.Takes mail) ≡ OfNode c (node.Takes mail)
-        to_node = node_turn c (let h = few in omega arith) (Deliver mail) (node.Takes mail) (client.Takes mail)
+        to_node = turn_of_node (Deliver mail) (node.Takes mail) (client.Takes mail) c (let h = few in omega arith)
 
     takes : Leads setup list.choose f beaten (Takes (Delivers number.number)) noted
     unfolding noted

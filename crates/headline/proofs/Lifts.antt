@@ -8,6 +8,8 @@ use Rattle.pvp_types.specs.declared.setup.Setup.{Setup}
 use Rattle.pvp_types.specs.declared.command.Cmd.{Cmd}
 use Rattle.pvp_types.specs.declared.command.Reply.{Reply as Answer}
 use Rattle.pvp_types.specs.declared.command.PayOrder.{PayOrder as PaymentOrder}
+use Rattle.pvp_types.specs.declared.step.Step.{Step}
+use Rattle.pvp_types.specs.declared.step.Step.TheVariants.{Deliver as Delivers, Beat as Beats, Timer as Times, Restart as Restarts}
 use Rattle.vr_types.specs.declared.event.EventOf.{EventOf}
 use Rattle.vr_types.specs.declared.event.EventOf.TheVariants.{Deliver, Timer, Beat, Crash, Restart}
 use Rattle.vr_types.specs.declared.event.SiteFault.TheVariants.{NotUp, NotMine}
@@ -23,13 +25,12 @@ use Rattle.pvp_book.specs.Ledger.{opening}
 use Rattle.rtgs_node.specs.declared.event.NodeEvent.TheVariants as node
 use Rattle.rtgs_node.specs.Node.{Envelope}
 use Rattle.headline.specs.declared.step.ClientEvent.TheVariants as client
-use Rattle.headline.specs.declared.step.Step.{Step}
-use Rattle.headline.specs.declared.step.Step.TheVariants.{Deliver as Delivers, Beat as Beats, Timer as Times, Restart as Restarts}
 use Rattle.headline.specs.declared.step.Move.{Move}
 use Rattle.headline.specs.declared.step.Move.TheVariants.{Takes}
 use Rattle.headline.specs.declared.step.Turn.{Turn}
 use Rattle.headline.specs.declared.step.Turn.TheVariants.{OfSite}
 use Rattle.headline.specs.Machine.{book}
+use Rattle.headline.proofs.Turns.{turn_of_site}
 use Rattle.headline.specs.Bank.{Bank, delivery, turn, turn_of, with_site}
 use Rattle.headline.specs.Legal.{Leads, IsRun}
 use Rattle.headline.specs.Progress.{IsGentle}
@@ -74,11 +75,6 @@ module _ (setup : Setup) (choose : Choice Cmd) (f : ℕ) where
     pub nodes : after.nodes ≡ bank.nodes
     pub clients : after.clients ≡ bank.clients
     pub post : (e : Envelope) → Contains bank.post e → Contains after.post e
-
-  -- the turn of a site, by its actor's number
-  pub site_turn : (i : ℕ) (at_site : EventOf Cmd Answer PaymentOrder) (at_node : _) (at_client : _) → turn_of (actor_of i) at_site at_node at_client ≡ OfSite i at_site
-  site_turn i at_site at_node at_client =
-      if_true (nat_le 200 (200 + i)) _ _ (le_yes 200 (200 + i) (omega arith)) ∙ ap (λ (n : ℕ). OfSite n at_site) (let e : (200 + i) - 200 ≡ i = omega arith in e)
 
   -- an envelope that a site does not refuse is addressed to it
   addressed : (i : ℕ) (x : Site Cmd) (e : Envelope) → is_refused (site_step {R = Answer} {O = PaymentOrder} choose f i x (Deliver e)).ending ≡ false → e.to ≡ actor_of i
@@ -139,7 +135,7 @@ module _ (setup : Setup) (choose : Choice Cmd) (f : ℕ) where
         let t = place_of bank.post e posted in
         let to = addressed i x e allowed in
         by_move i (Deliver e) x there allowed (Delivers (t.0 + 1))
-        (numbered t.0 e t.1 ∙ ap (λ (u : Turn). Some u) (ap (λ (n : ℕ). turn_of n (Deliver e) (node.Takes e) (client.Takes e)) to ∙ site_turn i (Deliver e) (node.Takes e) (client.Takes e))) tt
+        (numbered t.0 e t.1 ∙ ap (λ (u : Turn). Some u) (ap (λ (n : ℕ). turn_of n (Deliver e) (node.Takes e) (client.Takes e)) to ∙ turn_of_site (Deliver e) (node.Takes e) (client.Takes e) i)) tt
       where
         numbered : (n : ℕ) (e : Envelope) → slice_get bank.post n ≡ Some e → turn bank.post (Delivers (n + 1)) ≡ Some (delivery e)
         numbered n e there = if_false (n + 1 == 0) _ _ (not_zero n) ∙ (ap (λ (m : ℕ). option_map delivery (slice_get bank.post m)) (let d : (n + 1) - 1 ≡ n = omega arith in d) ∙ ap (option_map delivery) there)
@@ -153,7 +149,7 @@ module _ (setup : Setup) (choose : Choice Cmd) (f : ℕ) where
         by_event (Deliver e) kind (inl request) allowed = absurd (true≢false (sym request ∙ kind))
         by_event (Deliver e) kind (inr sent) allowed = by_delivery h.site e p.before p.is_there (b.back e sent) allowed
         by_event Timer kind may allowed = by_move h.site Timer p.before p.is_there allowed (Times h.site) refl tt
-        by_event Beat kind may allowed = by_move h.site Beat p.before p.is_there allowed (Beats (actor_of h.site)) (ap (λ (u : Turn). Some u) (site_turn h.site Beat node.Beats client.Beats)) tt
+        by_event Beat kind may allowed = by_move h.site Beat p.before p.is_there allowed (Beats (actor_of h.site)) (ap (λ (u : Turn). Some u) (turn_of_site Beat node.Beats client.Beats h.site)) tt
         by_event Crash kind may allowed = absurd kind
         by_event Restart kind may allowed = by_move h.site Restart p.before p.is_there allowed (Restarts h.site) refl tt
 

@@ -3,6 +3,8 @@ use Rattle.std.proofs.Common.{◌≡◌, inr, ℕ, suc, ◌+◌, ◌-◌, ◌*�
 use Rattle.std.specs.Prelude.{Contains, ⊤}
 use Rattle.pvp_types.specs.declared.setup.Setup.{Setup}
 use Rattle.pvp_types.specs.declared.command.Cmd.{Cmd}
+use Rattle.pvp_types.specs.declared.step.Step.{Step}
+use Rattle.pvp_types.specs.declared.step.Step.TheVariants.{Deliver as Delivers, PayIn as PaysIn, Close as Closes, Submit as Submits, Beat as Beats, Timer as Times, Crash as Crashes, Restart as Restarts}
 use Rattle.vr_types.specs.declared.cell.Boot.{Boot}
 use Rattle.vr_types.specs.declared.event.EventOf.TheVariants.{Deliver, Beat}
 use Rattle.vr_types.specs.declared.event.Status.TheVariants.{Normal, Down}
@@ -14,13 +16,14 @@ use Rattle.rtgs_node.specs.declared.event.NodeEvent.TheVariants as node
 use Rattle.rtgs_node.specs.Node.{Envelope, Node, opening_node}
 use Rattle.headline.specs.declared.step.ClientEvent.TheVariants as client
 use Rattle.headline.specs.Client.{opening_client}
-use Rattle.headline.specs.declared.step.Step.{Step}
-use Rattle.headline.specs.declared.step.Step.TheVariants.{Deliver as Delivers, PayIn as PaysIn, Close as Closes, Submit as Submits, Beat as Beats, Timer as Times, Crash as Crashes, Restart as Restarts}
 use Rattle.headline.specs.declared.step.Move.{Move}
 use Rattle.headline.specs.declared.step.Move.TheVariants.{Takes, Falls}
 use Rattle.headline.specs.declared.step.Turn.{Turn}
 use Rattle.headline.specs.declared.step.Turn.TheVariants.{OfSite, OfNode, OfClient}
-use Rattle.headline.specs.Bank.{Bank, opening_bank, turn_of, delivery, turn}
+use Rattle.vr_types.specs.Actors.{id_of}
+use Rattle.vr_types.specs.declared.actors.ActorId.{ActorId}
+use Rattle.vr_types.specs.declared.actors.ActorId.TheVariants as actor_id
+use Rattle.headline.specs.Bank.{Bank, opening_bank, turn_at, turn_of, delivery, turn}
 use Rattle.headline.specs.Legal.{Acts, FallsBy, Leads, IsRun}
 use Rattle.headline.proofs.Basics.{none-some, some-same, there, map-has}
 use Rattle.agreement.proofs.Beginnings.{begins_itself, begins-trans}
@@ -90,20 +93,20 @@ Carries post (OfNode c event) = (e : Envelope) → event ≡ node.Takes e → Co
 Carries post (OfClient k event) = ⊤
 
 delivery-carries : (post : List Envelope) (d : Envelope) → Contains post d → Carries post (delivery d)
-delivery-carries post d in' = by (nat_le 200 d.to) (nat_le 101 d.to)
+delivery-carries post d in' = by (id_of d.to)
   where
-    by : (site bank : Bool) → Carries post (if site then OfSite (d.to - 200) (Deliver d) else if bank then OfNode (d.to - 101) (node.Takes d) else OfClient d.to (client.Takes d))
-    by true bank = λ e same. subst (λ (x : Envelope). Contains post x) (cc) in'
-    by false true = λ e same. subst (λ (x : Envelope). Contains post x) (cc) in'
-    by false false = tt
+    by : (id : ActorId) → Carries post (turn_at id (Deliver d) (node.Takes d) (client.Takes d))
+    by (actor_id.Site i) = λ e same. subst (λ (x : Envelope). Contains post x) (cc) in'
+    by (actor_id.Node c) = λ e same. subst (λ (x : Envelope). Contains post x) (cc) in'
+    by (actor_id.Client k) = tt
 
 beat-carries : (post : List Envelope) (actor : ℕ) → Carries post (turn_of actor Beat node.Beats client.Beats)
-beat-carries post actor = by (nat_le 200 actor) (nat_le 101 actor)
+beat-carries post actor = by (id_of actor)
   where
-    by : (site bank : Bool) → Carries post (if site then OfSite (actor - 200) Beat else if bank then OfNode (actor - 101) node.Beats else OfClient actor client.Beats)
-    by true bank = λ e same. absurd (cc)
-    by false true = λ e same. absurd (cc)
-    by false false = tt
+    by : (id : ActorId) → Carries post (turn_at id Beat node.Beats client.Beats)
+    by (actor_id.Site i) = λ e same. absurd (cc)
+    by (actor_id.Node c) = λ e same. absurd (cc)
+    by (actor_id.Client k) = tt
 
 pub carries : (post : List Envelope) (step : Step) (t : Turn) → turn post step ≡ Some t → Carries post t
 carries post (Delivers number) t is = by (number == 0) (slice_get post (number - 1)) refl is

@@ -10,6 +10,7 @@ use Rattle.pvp_types.specs.declared.setup.Setup.{Setup}
 use Rattle.pvp_types.specs.declared.command.Cmd.{Cmd}
 use Rattle.pvp_types.specs.declared.command.Reply.{Reply as Answer}
 use Rattle.pvp_types.specs.declared.command.PayOrder.{PayOrder as PaymentOrder}
+use Rattle.pvp_types.specs.declared.step.Step.TheVariants.{Deliver as Delivers, Beat as Beats}
 use Rattle.pvp_types.proofs.SetupLemmas.{valid-members, valid-currencies}
 use Rattle.vr_types.specs.declared.event.EventOf.TheVariants.{Deliver, Beat}
 use Rattle.vr_types.specs.declared.limits.TheConstants.{MAX_ROWS}
@@ -26,12 +27,12 @@ use Rattle.rtgs_node.specs.declared.event.NodeEvent.TheVariants as node
 use Rattle.rtgs_node.specs.Node as nodes
 use Rattle.rtgs_node.specs.Node.{Envelope, Node, NodeStep, to_sites, notice_out, node_step}
 use Rattle.headline.specs.declared.step.ClientEvent.TheVariants as client
-use Rattle.headline.specs.declared.step.Step.TheVariants.{Deliver as Delivers, Beat as Beats}
 use Rattle.headline.specs.declared.step.Move.TheVariants.{Takes}
 use Rattle.headline.specs.declared.step.Turn.{Turn}
 use Rattle.headline.specs.declared.step.Turn.TheVariants.{OfNode, OfClient}
 use Rattle.headline.specs.Client as clients
 use Rattle.headline.specs.Client.{Client, ClientStep, client_step, on_reply, on_beat}
+use Rattle.headline.proofs.Turns.{turn_of_client, turn_of_node}
 use Rattle.headline.specs.Bank.{Bank, delivery, turn, turn_of, with_client, with_node}
 use Rattle.headline.specs.Legal.{Leads, LegalList}
 use Rattle.agreement.specs.Progress.{runs_at, AreWorking}
@@ -66,15 +67,6 @@ within a b h = grind (arith, nat_tests, h)
 
 same_number : (n : ℕ) → (n == n) ≡ true
 same_number n = grind (arith)
-
--- the turn of a client, and of a node
-client_turn : (k : ℕ) → k < 101 → (e : _) (n : _) (c : _) → turn_of k e n c ≡ OfClient k c
-client_turn k small e n c = if_no (nat_le 200 k) _ _ (above 200 k (omega arith)) ∙ if_no (nat_le 101 k) _ _ (above 101 k (omega arith))
-
-pub node_turn : (c : ℕ) → c < 99 → (e : _) (n : _) (k : _) → turn_of (node_of c) e n k ≡ OfNode c n
-node_turn c small e n k =
-    if_no (nat_le 200 (101 + c)) _ _ (above 200 (101 + c) (omega arith)) ∙ (if_yes (nat_le 101 (101 + c)) _ _ (within 101 (101 + c) (omega arith))
-    ∙ ap (λ (m : ℕ). OfNode m n) (let d : (101 + c) - 101 ≡ c = omega arith in d))
 
 -- a delivery by its number
 pub record HasNumber (bank : Bank) (t : Turn) : Type 0 where
@@ -153,7 +145,7 @@ module _ (setup : Setup) (f : ℕ) (some : 1 ≤ f) (list : LegalList setup f) (
     asks : Leads setup list.choose f list.bank (Takes (Beats k)) asked
     asks = record {
       turn_is = OfClient k client.Beats;
-      has_turn = ap (λ (u : Turn). Some u) (client_turn k (let s = small in omega arith) Beat node.Beats client.Beats);
+      has_turn = ap (λ (u : Turn). Some u) (turn_of_client Beat node.Beats client.Beats k (let s = small in omega arith));
       acts = record {
         before = x;
         is_there = at;
@@ -191,7 +183,7 @@ module _ (setup : Setup) (f : ℕ) (some : 1 ≤ f) (list : LegalList setup f) (
     number : HasNumber told.after (OfClient k (client.Takes told.holds.reply))
     number = numbered told.after told.holds.reply (OfClient k (client.Takes told.holds.reply)) told.holds.posted
         (ap (λ (n : ℕ). turn_of n (Deliver told.holds.reply) (node.Takes told.holds.reply) (client.Takes told.holds.reply)) told.holds.is.to
-        ∙ client_turn k (let s = small in omega arith) (Deliver told.holds.reply) (node.Takes told.holds.reply) (client.Takes told.holds.reply))
+        ∙ turn_of_client (Deliver told.holds.reply) (node.Takes told.holds.reply) (client.Takes told.holds.reply) k (let s = small in omega arith))
 
     abbrev done : Bank
     done = with_client told.after k y []
@@ -258,7 +250,7 @@ module _ (setup : Setup) (f : ℕ) (some : 1 ≤ f) (list : LegalList setup f) (
     beats : Leads setup list.choose f list.bank (Takes (Beats (node_of c))) noted
     beats = record {
       turn_is = OfNode c node.Beats;
-      has_turn = ap (λ (u : Turn). Some u) (node_turn c (let s = few in omega arith) Beat node.Beats client.Beats);
+      has_turn = ap (λ (u : Turn). Some u) (turn_of_node Beat node.Beats client.Beats c (let s = few in omega arith));
       acts = record { before = x; is_there = at; allowed = refl; leads = refl };
     }
 
@@ -300,7 +292,7 @@ module _ (setup : Setup) (f : ℕ) (some : 1 ≤ f) (list : LegalList setup f) (
     node_number : HasNumber heard.after (OfNode c (node.Takes heard.holds.reply))
     node_number = numbered heard.after heard.holds.reply (OfNode c (node.Takes heard.holds.reply)) heard.holds.posted
         (ap (λ (n : ℕ). turn_of n (Deliver heard.holds.reply) (node.Takes heard.holds.reply) (client.Takes heard.holds.reply)) heard.holds.is.to
-        ∙ node_turn c (let s = few in omega arith) (Deliver heard.holds.reply) (node.Takes heard.holds.reply) (client.Takes heard.holds.reply))
+        ∙ turn_of_node (Deliver heard.holds.reply) (node.Takes heard.holds.reply) (client.Takes heard.holds.reply) c (let s = few in omega arith))
 
     abbrev ended : Bank
     ended = with_node heard.after c z (notice_out f c z)

@@ -1,10 +1,14 @@
 -- The bank in its world: sites, nodes, clients, and the post, which has all that was ever sent.
-use Rattle.std.specs.Prelude.{ℕ, ◌-◌, ◌==◌, nat_le, if◌then◌else◌, List, [], ◌∷◌, ◌++◌, map, slice_get, slice_set, Option, Some, None, option_map}
+use Rattle.std.specs.Prelude.{ℕ, ◌-◌, ◌==◌, if◌then◌else◌, List, [], ◌∷◌, ◌++◌, map, slice_get, slice_set, Option, Some, None, option_map}
 use Rattle.pvp_types.specs.declared.setup.Setup.{Setup}
 use Rattle.pvp_types.specs.declared.command.Cmd.{Cmd}
 use Rattle.pvp_types.specs.declared.command.Reply.{Reply as Answer}
 use Rattle.pvp_types.specs.declared.command.PayOrder.{PayOrder as PaymentOrder}
-use Rattle.vr_types.specs.Actors.{first_node, first_site}
+use Rattle.pvp_types.specs.declared.step.Step.{Step}
+use Rattle.pvp_types.specs.declared.step.Step.TheVariants.{Deliver as Delivers, PayIn as PaysIn, Close as Closes, Submit as Submits, Beat as Beats, Timer as Times, Crash as Crashes, Restart as Restarts}
+use Rattle.vr_types.specs.Actors.{id_of}
+use Rattle.vr_types.specs.declared.actors.ActorId.{ActorId}
+use Rattle.vr_types.specs.declared.actors.ActorId.TheVariants as actor_id
 use Rattle.vr_types.specs.declared.cell.Boot.{Boot}
 use Rattle.vr_types.specs.declared.event.EventOf.{EventOf}
 use Rattle.vr_types.specs.declared.event.EventOf.TheVariants.{Deliver, Timer, Beat, Crash, Restart}
@@ -12,9 +16,7 @@ use Rattle.vr_types.specs.Site.{Site, opening_site}
 use Rattle.rtgs_node.specs.declared.event.NodeEvent.TheVariants as node
 use Rattle.rtgs_node.specs.declared.event.NodeEvent.{NodeEvent}
 use Rattle.rtgs_node.specs.Node.{Envelope, Node, opening_node}
-use Rattle.headline.specs.declared.step.Step.{Step}
 -- a step's name here is a verb's, as an event of a site is called so already
-use Rattle.headline.specs.declared.step.Step.TheVariants.{Deliver as Delivers, PayIn as PaysIn, Close as Closes, Submit as Submits, Beat as Beats, Timer as Times, Crash as Crashes, Restart as Restarts}
 use Rattle.headline.specs.declared.step.Turn.{Turn}
 use Rattle.headline.specs.declared.step.Turn.TheVariants.{OfSite, OfNode, OfClient}
 use Rattle.headline.specs.declared.step.ClientEvent.TheVariants as client
@@ -36,12 +38,15 @@ opening_bank setup f cells = record {
   post = [];
 }
 
--- an actor's turn, by its number: clients from 0, nodes from 101, sites from 200
+-- an actor's turn, by its kind
+abbrev pub turn_at : ActorId → EventOf Cmd Answer PaymentOrder → NodeEvent → ClientEvent → Turn
+turn_at (actor_id.Site site) at_site at_node at_client = OfSite site at_site
+turn_at (actor_id.Node ccy) at_site at_node at_client = OfNode ccy at_node
+turn_at (actor_id.Client client) at_site at_node at_client = OfClient client at_client
+
+-- and by its number
 abbrev pub turn_of : ℕ → EventOf Cmd Answer PaymentOrder → NodeEvent → ClientEvent → Turn
-turn_of actor at_site at_node at_client =
-    if nat_le first_site actor then OfSite (actor - first_site) at_site
-    else if nat_le first_node actor then OfNode (actor - first_node) at_node
-    else OfClient actor at_client
+turn_of actor = turn_at (id_of actor)
 
 -- the envelope of a number comes to the actor that it is addressed to
 abbrev pub delivery : Envelope → Turn

@@ -4,6 +4,7 @@ use Rattle.pvp_types.specs.declared.setup.Setup.{Setup}
 use Rattle.pvp_types.specs.declared.command.Cmd.{Cmd}
 use Rattle.pvp_types.specs.declared.command.Reply.{Reply as Answer}
 use Rattle.pvp_types.specs.declared.command.PayOrder.{PayOrder as PaymentOrder}
+use Rattle.pvp_types.specs.declared.step.Step.{Step}
 use Rattle.pvp_types.specs.Setup.{IsValid}
 use Rattle.vr_types.specs.declared.cell.Boot.{Boot}
 use Rattle.vr_types.specs.declared.event.EventOf.{EventOf}
@@ -17,7 +18,6 @@ use Rattle.rtgs_node.specs.declared.event.NodeEvent.{NodeEvent}
 use Rattle.rtgs_node.specs.Node.{Node, node_step}
 use Rattle.headline.specs.declared.step.ClientEvent.{ClientEvent}
 use Rattle.headline.specs.Client.{Client, client_step}
-use Rattle.headline.specs.declared.step.Step.{Step}
 use Rattle.headline.specs.declared.step.Move.{Move}
 use Rattle.headline.specs.declared.step.Move.TheVariants.{Takes, Falls}
 use Rattle.headline.specs.declared.step.Turn.{Turn}

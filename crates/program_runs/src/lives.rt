@@ -156,34 +156,30 @@ do ALFA payout USD 5\nbeat s0\nrest 30\ntimer s1\nrest 30\ncrash s0\n";
 const LINES: &[&str] = &[
     "42 connections between 9 actors",
     "line 1: s2 at clock 1: sends 0",
-    "line 1: s0 up, s1 up, s2 down, 0 frames sent, 0 came",
+    "line 1: s0 normal in view 0, s1 normal in view 0, s2 down, 0 frames sent, 0 came",
     "line 2: s2 at clock 2: S3, the site is down",
-    "line 2: s0 up, s1 up, s2 down, 0 frames sent, 0 came",
+    "line 2: s0 normal in view 0, s1 normal in view 0, s2 down, 0 frames sent, 0 came",
     "line 3: rests 1 ms",
-    "line 3: s0 up, s1 up, s2 down, 0 frames sent, 0 came",
+    "line 3: s0 normal in view 0, s1 normal in view 0, s2 down, 0 frames sent, 0 came",
     "line 4: s1 at clock 1: sends 0",
-    "line 4: s0 up, s1 up, s2 down, 0 frames sent, 0 came",
+    "line 4: s0 normal in view 0, s1 normal in view 0, s2 down, 0 frames sent, 0 came",
     "line 5: s2 at clock 3: sends 2",
-    "line 5: s0 up, s1 up, s2 restarted, 0 frames sent, 0 came",
+    "line 5: s0 normal in view 0, s1 normal in view 0, s2 recovering, 0 frames sent, 0 came",
     "line 6: s9: G2, there is no such actor",
     "line 7: USD at clock 1: N3, the amount is not 1 to 1000000000000",
     "line 8: ALFA at clock 1: sends 3",
     "line 9: s0 at clock #: sends 2",
-    "line 9: s0 up in view 0, s1 up|s1 up in view 0, s2 restarted|s2 up|s2 up in view 0, # frames sent, # came",
+    "line 9: s0 normal in view 0, s1 normal in view 0, s2 recovering|s2 normal in view 0, # frames sent, # came",
     "line 10: rests 30 ms",
-    "line 10: s0 up in view 0, s1 up|s1 up in view 0, s2 restarted|s2 up|s2 up in view 0, # frames sent, # came",
+    "line 10: s0 normal in view 0, s1 normal in view 0, s2 recovering|s2 normal in view 0, # frames sent, # came",
     "line 11: s1 at clock #: sends 2",
-    "line 11: s0 up in view 0, s1 up and asked for view 1|s1 up in view 0 and asked for view 1, \
-s2 restarted|s2 up|s2 up in view 0, # frames sent, # came",
+    "line 11: s0 normal in view 0, s1 in change to view 1, s2 recovering|s2 normal in view 0, # frames sent, # came",
     "line 12: rests 30 ms",
-    "line 12: s0 up in view #|line 12: s0 up in view # and asked for view #, \
-s1 up and asked for view 1|s1 up in view #|s1 up in view 0 and asked for view 1, \
-s2 restarted|s2 up|s2 up in view #|s2 up and asked for view 1|s2 up in view 0 and asked for view 1, \
-# frames sent, # came",
+    "line 12: s0 normal in view #|line 12: s0 in change to view 1, s1 normal in view 1|s1 in change to view 1, \
+s2 recovering|s2 normal in view #|s2 in change to view 1, # frames sent, # came",
     "line 13: s0 at clock #: sends 0",
-    "line 13: s0 down, s1 up and asked for view 1|s1 up in view #|s1 up in view 0 and asked for view 1, \
-s2 restarted|s2 up|s2 up in view #|s2 up and asked for view 1|s2 up in view 0 and asked for view 1, \
-# frames sent, # came",
+    "line 13: s0 down, s1 normal in view 1|s1 in change to view 1, \
+s2 recovering|s2 normal in view #|s2 in change to view 1, # frames sent, # came",
     "# frames came, and 0 connections broke",
     "# envelopes were sent, and # of them did not come",
     "at the end s0 down, s1 normal in view #|s1 in change to view 1, s2 normal in view #|s2 in change to view 1|s2 recovering",

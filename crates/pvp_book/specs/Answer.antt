@@ -8,7 +8,7 @@ use Rattle.pvp_types.specs.declared.command.Reply.{Reply}
 use Rattle.pvp_types.specs.declared.command.Reply.TheVariants.{Done, Matched, Settled, Order, No}
 use Rattle.pvp_types.specs.declared.command.Reason.{Reason}
 use Rattle.pvp_types.specs.declared.command.Reason.TheVariants.{NotYours, UnknownMember, UnknownCurrency, BadAmount, Repeated, Mismatch, UnknownReference, Late, Short, TestFails, BankShort}
-use Rattle.vr_types.specs.Actors.{most_members}
+use Rattle.vr_types.specs.declared.limits.TheConstants.{MOST_MEMBERS}
 use Rattle.vr_types.specs.declared.row.RowOf.{RowOf}
 use Rattle.pvp_types.specs.Setup.{is_between}
 use Rattle.pvp_book.specs.declared.entry.Entry.{Entry}
@@ -31,7 +31,7 @@ has_currency setup c = nat_lt c (length setup.currencies)
 
 -- a number that a member may have
 abbrev pub is_member_number : ℕ → Bool
-is_member_number client = is_between 1 most_members client
+is_member_number client = is_between 1 MOST_MEMBERS client
 
 abbrev pub is_amount : ℕ → Bool
 is_amount amt = is_between 1 most_amount amt

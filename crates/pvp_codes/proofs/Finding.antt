@@ -16,7 +16,7 @@ use Rattle.pvp_text.specs.declared.script.LineCode.{LineCode}
 use Rattle.pvp_text.specs.declared.script.LineCode.TheVariants as line
 use Rattle.pvp_text.specs.Reading.{◌>>=◌}
 use Rattle.pvp_text.specs.ScriptFields.{has_leading_zero, is_number, number_at, reference_at, actor_at, site_at, Spelled, numbered, named, number_of, client_of, sender_number, sender_of, currency_of}
-use Rattle.pvp_text.specs.Script.{instruct_at, rescind_at, settle_at, fund_at, payout_at, order_at, paid_at, returned_at, do_at, print_at, prints, lone_actor_at, lone_site_at, lone_number_at, payin_at, close_at, beat_at, timer_at, crash_at, restart_at, move_at, deliver_at, drain_at, skip_at, cut_at, heal_at, chaos_at, play_at, rest_at, live_at, told_at, statement_at}
+use Rattle.pvp_text.specs.Script.{instruct_at, rescind_at, settle_at, fund_at, payout_at, order_at, paid_at, returned_at, do_at, print_at, prints, lone_actor_at, lone_site_at, lone_number_at, payin_at, close_at, move_at, chaos_at, play_at, live_at, told_at, statement_at}
 use Rattle.pvp_codes.specs.declared.fields.Field.{Field}
 use Rattle.pvp_codes.specs.declared.fields.Field.TheVariants.{First, Command, Amount, Number, Turns, Sender, Client, Currency, Actor, Site}
 use Rattle.pvp_codes.specs.declared.broken.Why.{Why}
@@ -328,46 +328,6 @@ returned_fine : (code : LineCode) (kind : Kind) (setup : Setup) (who : List ℕ)
 unfolding returned_at
 returned_fine code kind setup who fields other sends none = and_then code (order_at kind setup who fields) _ (order_fine code kind setup who fields other sends none) (λ _ _. tt)
 
-beat_fine : (code : LineCode) (kind : Kind) (setup : Setup) (fields : List (List ℕ)) → (code ≡ line.WordCount → length fields ≡ 1) → first_broken (breaks code kind setup) (Actor ∷ []) fields ≡ None → Fine code (beat_at setup fields)
-unfolding beat_at
-beat_fine code kind setup fields other none = and_then code (lone_actor_at setup fields) _ (lone_actor_fine code kind setup fields other none) (λ _ _. tt)
-
-cut_fine : (code : LineCode) (kind : Kind) (setup : Setup) (fields : List (List ℕ)) → (code ≡ line.WordCount → length fields ≡ 1) → first_broken (breaks code kind setup) (Actor ∷ []) fields ≡ None → Fine code (cut_at setup fields)
-unfolding cut_at
-cut_fine code kind setup fields other none = and_then code (lone_actor_at setup fields) _ (lone_actor_fine code kind setup fields other none) (λ _ _. tt)
-
-heal_fine : (code : LineCode) (kind : Kind) (setup : Setup) (fields : List (List ℕ)) → (code ≡ line.WordCount → length fields ≡ 1) → first_broken (breaks code kind setup) (Actor ∷ []) fields ≡ None → Fine code (heal_at setup fields)
-unfolding heal_at
-heal_fine code kind setup fields other none = and_then code (lone_actor_at setup fields) _ (lone_actor_fine code kind setup fields other none) (λ _ _. tt)
-
-timer_fine : (code : LineCode) (kind : Kind) (setup : Setup) (fields : List (List ℕ)) → (code ≡ line.WordCount → length fields ≡ 1) → first_broken (breaks code kind setup) (Site ∷ []) fields ≡ None → Fine code (timer_at fields)
-unfolding timer_at
-timer_fine code kind setup fields other none = and_then code (lone_site_at fields) _ (lone_site_fine code kind setup fields other none) (λ _ _. tt)
-
-crash_fine : (code : LineCode) (kind : Kind) (setup : Setup) (fields : List (List ℕ)) → (code ≡ line.WordCount → length fields ≡ 1) → first_broken (breaks code kind setup) (Site ∷ []) fields ≡ None → Fine code (crash_at fields)
-unfolding crash_at
-crash_fine code kind setup fields other none = and_then code (lone_site_at fields) _ (lone_site_fine code kind setup fields other none) (λ _ _. tt)
-
-restart_fine : (code : LineCode) (kind : Kind) (setup : Setup) (fields : List (List ℕ)) → (code ≡ line.WordCount → length fields ≡ 1) → first_broken (breaks code kind setup) (Site ∷ []) fields ≡ None → Fine code (restart_at fields)
-unfolding restart_at
-restart_fine code kind setup fields other none = and_then code (lone_site_at fields) _ (lone_site_fine code kind setup fields other none) (λ _ _. tt)
-
-deliver_fine : (code : LineCode) (kind : Kind) (setup : Setup) (fields : List (List ℕ)) → (code ≡ line.WordCount → length fields ≡ 1) → first_broken (breaks code kind setup) (Number ∷ []) fields ≡ None → Fine code (deliver_at fields)
-unfolding deliver_at
-deliver_fine code kind setup fields other none = and_then code (lone_number_at fields) _ (lone_number_fine code kind setup fields other none) (λ _ _. tt)
-
-drain_fine : (code : LineCode) (kind : Kind) (setup : Setup) (fields : List (List ℕ)) → (code ≡ line.WordCount → length fields ≡ 1) → first_broken (breaks code kind setup) (Number ∷ []) fields ≡ None → Fine code (drain_at fields)
-unfolding drain_at
-drain_fine code kind setup fields other none = and_then code (lone_number_at fields) _ (lone_number_fine code kind setup fields other none) (λ _ _. tt)
-
-skip_fine : (code : LineCode) (kind : Kind) (setup : Setup) (fields : List (List ℕ)) → (code ≡ line.WordCount → length fields ≡ 1) → first_broken (breaks code kind setup) (Number ∷ []) fields ≡ None → Fine code (skip_at fields)
-unfolding skip_at
-skip_fine code kind setup fields other none = and_then code (lone_number_at fields) _ (lone_number_fine code kind setup fields other none) (λ _ _. tt)
-
-rest_fine : (code : LineCode) (kind : Kind) (setup : Setup) (fields : List (List ℕ)) → (code ≡ line.WordCount → length fields ≡ 1) → first_broken (breaks code kind setup) (Number ∷ []) fields ≡ None → Fine code (rest_at fields)
-unfolding rest_at
-rest_fine code kind setup fields other none = and_then code (lone_number_at fields) _ (lone_number_fine code kind setup fields other none) (λ _ _. tt)
-
 -- ---- all lines
 
 same_or : (word text : List ℕ) → (word ≡ text) ⊎ (bytes_eq word text ≡ false)
@@ -433,16 +393,16 @@ move_fine code kind setup first rest other known none =
             | inl is ↦ rw is (close_fine code kind setup rest (rw is at other) (rw is at none))
             | inr no_close ↦
                 elim (same_or first (codes "beat")) [
-                  | inl is ↦ rw is (beat_fine code kind setup rest (rw is at other) (rw is at none))
+                  | inl is ↦ rw is (and_then code (lone_actor_at setup rest) _ (lone_actor_fine code kind setup rest (rw is at other) (rw is at none)) (λ _ _. tt))
                   | inr no_beat ↦
                       elim (same_or first (codes "timer")) [
-                        | inl is ↦ rw is (timer_fine code kind setup rest (rw is at other) (rw is at none))
+                        | inl is ↦ rw is (and_then code (lone_site_at rest) _ (lone_site_fine code kind setup rest (rw is at other) (rw is at none)) (λ _ _. tt))
                         | inr no_timer ↦
                             elim (same_or first (codes "crash")) [
-                              | inl is ↦ rw is (crash_fine code kind setup rest (rw is at other) (rw is at none))
+                              | inl is ↦ rw is (and_then code (lone_site_at rest) _ (lone_site_fine code kind setup rest (rw is at other) (rw is at none)) (λ _ _. tt))
                               | inr no_crash ↦
                                   elim (same_or first (codes "restart")) [
-                                    | inl is ↦ rw is (restart_fine code kind setup rest (rw is at other) (rw is at none))
+                                    | inl is ↦ rw is (and_then code (lone_site_at rest) _ (lone_site_fine code kind setup rest (rw is at other) (rw is at none)) (λ _ _. tt))
                                     | inr no_restart ↦
                                         rw (no_payin, no_close, no_beat, no_timer, no_crash, no_restart) (known)
                                   ]
@@ -457,24 +417,24 @@ play_fine : (code : LineCode) (kind : Kind) (setup : Setup) (first : List ℕ) (
 unfolding play_at
 play_fine code kind setup first rest other known none =
     elim (same_or first (codes "deliver")) [
-      | inl is ↦ rw is (deliver_fine code kind setup rest (rw is at other) (rw is at none))
+      | inl is ↦ rw is (and_then code (lone_number_at rest) _ (lone_number_fine code kind setup rest (rw is at other) (rw is at none)) (λ _ _. tt))
       | inr no_deliver ↦
           elim (same_or first (codes "drain")) [
-            | inl is ↦ rw is (drain_fine code kind setup rest (rw is at other) (rw is at none))
+            | inl is ↦ rw is (and_then code (lone_number_at rest) _ (lone_number_fine code kind setup rest (rw is at other) (rw is at none)) (λ _ _. tt))
             | inr no_drain ↦
                 elim (same_or first (codes "skip")) [
-                  | inl is ↦ rw is (skip_fine code kind setup rest (rw is at other) (rw is at none))
+                  | inl is ↦ rw is (and_then code (lone_number_at rest) _ (lone_number_fine code kind setup rest (rw is at other) (rw is at none)) (λ _ _. tt))
                   | inr no_skip ↦
                       elim (same_or first (codes "cut")) [
-                        | inl is ↦ rw is (cut_fine code kind setup rest (rw is at other) (rw is at none))
+                        | inl is ↦ rw is (and_then code (lone_actor_at setup rest) _ (lone_actor_fine code kind setup rest (rw is at other) (rw is at none)) (λ _ _. tt))
                         | inr no_cut ↦
                             elim (same_or first (codes "heal")) [
-                              | inl is ↦ rw is (heal_fine code kind setup rest (rw is at other) (rw is at none))
+                              | inl is ↦ rw is (and_then code (lone_actor_at setup rest) _ (lone_actor_fine code kind setup rest (rw is at other) (rw is at none)) (λ _ _. tt))
                               | inr no_heal ↦
                                   elim (same_or first (codes "chaos")) [
                                     | inl is ↦ rw is (chaos_fine code kind setup rest (rw is at other) (rw is at none))
                                     | inr no_chaos ↦
-                                        rw (no_deliver, no_drain, no_skip, no_cut, no_heal, no_chaos) (move_fine code kind setup first rest other known none)
+                                        rw (no_deliver, no_drain, no_skip, no_cut, no_heal, no_chaos) (and_then code (move_at setup first rest) _ (move_fine code kind setup first rest other known none) (λ _ _. tt))
                                   ]
                             ]
                       ]
@@ -487,9 +447,9 @@ live_fine : (code : LineCode) (kind : Kind) (setup : Setup) (first : List ℕ) (
 unfolding live_at
 live_fine code kind setup first rest other known none =
     elim (same_or first (codes "rest")) [
-      | inl is ↦ rw is (rest_fine code kind setup rest (rw is at other) (rw is at none))
+      | inl is ↦ rw is (and_then code (lone_number_at rest) _ (lone_number_fine code kind setup rest (rw is at other) (rw is at none)) (λ _ _. tt))
       | inr no_rest ↦
-          rw (no_rest) (move_fine code kind setup first rest other known none)
+          rw (no_rest) (and_then code (move_at setup first rest) _ (move_fine code kind setup first rest other known none) (λ _ _. tt))
     ]
 
 told_fine : (code : LineCode) (kind : Kind) (setup : Setup) (first : List ℕ) (rest : List (List ℕ)) → (code ≡ line.WordCount → length rest ≡ length (first_fields first)) → line.UnknownWord ≢ code
@@ -517,7 +477,7 @@ pub statement_fine : (code : LineCode) (kind : Kind) (setup : Setup) (first : Li
 unfolding statement_at
 statement_fine code kind setup first rest other none =
     elim (cases_Bool (bytes_eq first (codes "do"))) [
-      | inl is_do ↦ rw is_do (do_fine code kind setup first rest (rw is_do at other) (rw is_do at none))
+      | inl is_do ↦ rw is_do (and_then code (do_at kind setup rest) _ (do_fine code kind setup first rest (rw is_do at other) (rw is_do at none)) (λ _ _. tt))
       | inr not_do ↦
           let p = parted (breaks code kind setup) First (first_fields first) first rest (rw not_do at none) in
           let known = known_first code kind setup first not_do p.0 in

@@ -9,6 +9,7 @@ use Rattle.pvp_types.specs.declared.setup.Setup.{Setup}
 use Rattle.pvp_types.specs.declared.command.Cmd.{Cmd}
 use Rattle.pvp_types.specs.declared.command.Reply.{Reply as Answer}
 use Rattle.pvp_types.specs.declared.command.PayOrder.{PayOrder as PaymentOrder}
+use Rattle.pvp_types.specs.declared.step.Step.TheVariants.{Deliver}
 use Rattle.pvp_types.specs.Setup.{faults}
 use Rattle.vr_types.specs.declared.cell.Boot.{Boot}
 use Rattle.vr_types.specs.declared.event.EventOf.{EventOf}
@@ -29,7 +30,6 @@ use Rattle.rtgs_node.specs.Node.{Envelope, Node, refuses, on_message, node_step,
 use Rattle.rtgs_node.specs.Shown as node
 use Rattle.headline.specs.declared.step.ClientEvent.{ClientEvent}
 use Rattle.headline.specs.declared.step.ClientEvent.TheVariants as client_event
-use Rattle.headline.specs.declared.step.Step.TheVariants.{Deliver}
 use Rattle.headline.specs.declared.step.Move.{Move}
 use Rattle.headline.specs.declared.step.Move.TheVariants.{Takes, Falls}
 use Rattle.headline.specs.declared.step.Turn.{Turn}
@@ -40,6 +40,7 @@ use Rattle.headline.specs.Bank.{Bank, turn_of, delivery, turn, with_site, with_n
 use Rattle.headline.specs.Legal.{Leads, IsLegal}
 use Rattle.headline.proofs.Basics.{none-some, some-same, set-here}
 use Rattle.headline.proofs.Runs.{legal-more}
+use Rattle.headline.proofs.Turns.{turn_of_site, turn_of_node, turn_of_client}
 use Rattle.pvp_world.specs.Client as client
 use Rattle.pvp_rooms.specs.declared.message.Recorded.{Recorded}
 use Rattle.pvp_rooms.specs.declared.site.CameOf.TheVariants.{Did, Refused, Fell}
@@ -48,8 +49,8 @@ use Rattle.pvp_rooms.specs.Sites as sites
 use Rattle.pvp_rooms.proofs.Growing.{replay-push}
 use Rattle.pvp_rooms.proofs.SiteSteps.{ended_allowed}
 use Rattle.pvp_audit.specs.Runs.{Tagged, own, number_in, number_at, AreInOrder, AreOpenings}
-use Rattle.pvp_parties.specs.declared.party.Party.{Party}
-use Rattle.pvp_parties.specs.declared.party.Party.TheVariants as party_of
+use Rattle.pvp_parties.specs.Parties.{Party}
+use Rattle.pvp_parties.specs.declared.party.PartyOf.TheVariants as party_of
 use Rattle.pvp_parties.specs.declared.party.PartyEvent.{PartyEvent}
 use Rattle.pvp_parties.specs.declared.party.PartyEvent.TheVariants as party_event
 use Rattle.pvp_parties.specs.declared.party.PartyOutcome.{PartyOutcome}
@@ -78,27 +79,6 @@ number_is c low = ap (λ (k : ℕ). min k 255) (omega arith) ∙ least c low
   where
     least : (c : ℕ) → c < 99 → min c 255 ≡ c
     least c low = grind (arith, nat_tests)
-
-turn_site : (i : ℕ) (e : EventOf Cmd Answer PaymentOrder) (n : NodeEvent) (c : ClientEvent) → turn_of (200 + i) e n c ≡ OfSite i e
-turn_site i e n c =
-    let high : nat_le 200 (200 + i) ≡ true = grind (arith, nat_tests) in
-    let same : 200 + i - 200 ≡ i = omega arith in
-    ap (λ (b : Bool). if b then OfSite (200 + i - 200) e else if nat_le 101 (200 + i) then OfNode (200 + i - 101) n else OfClient (200 + i) c) high ∙ ap (λ (k : ℕ). OfSite k e) same
-
-turn_node : (k : ℕ) → k < 99 → (e : EventOf Cmd Answer PaymentOrder) (n : NodeEvent) (c : ClientEvent) → turn_of (101 + k) e n c ≡ OfNode k n
-turn_node k low e n c =
-    let first : nat_le 200 (101 + k) ≡ false = grind (arith, nat_tests) in
-    let second : nat_le 101 (101 + k) ≡ true = grind (arith, nat_tests) in
-    let same : 101 + k - 101 ≡ k = omega arith in
-    ap (λ (b : Bool). if b then OfSite (101 + k - 200) e else if nat_le 101 (101 + k) then OfNode (101 + k - 101) n else OfClient (101 + k) c) first
-    ∙ ap (λ (b : Bool). if b then OfNode (101 + k - 101) n else OfClient (101 + k) c) second ∙ ap (λ (j : ℕ). OfNode j n) same
-
-turn_client : (k : ℕ) → k < 101 → (e : EventOf Cmd Answer PaymentOrder) (n : NodeEvent) (c : ClientEvent) → turn_of k e n c ≡ OfClient k c
-turn_client k low e n c =
-    let first : nat_le 200 k ≡ false = grind (arith, nat_tests) in
-    let second : nat_le 101 k ≡ false = grind (arith, nat_tests) in
-    ap (λ (b : Bool). if b then OfSite (k - 200) e else if nat_le 101 k then OfNode (k - 101) n else OfClient k c) first
-    ∙ ap (λ (b : Bool). if b then OfNode (k - 101) n else OfClient k c) second
 
 -- the envelope of a number comes in this turn
 delivered : (post : List Envelope) (number : ℕ) (e : Envelope) (event : PartyEvent) (t : Turn) → delivers event ≡ Some e → Names post number event → delivery e ≡ t → turn post (Deliver number) ≡ Some t
@@ -216,9 +196,9 @@ module _ (setup : Setup) (choose : Choice Cmd) where
       → turn post (moves.site_step (200 + i) e number) ≡ Some (OfSite i e)
   site_turn post number i y (site.Deliver e) free at =
       delivered post number e (party_event.OfSite (site.Deliver e)) (OfSite i (site.Deliver e)) refl at
-      (ap (λ (to : ℕ). turn_of to (site.Deliver e) (node_event.Takes e) (client_event.Takes e)) (to_site i y e free) ∙ turn_site i (site.Deliver e) (node_event.Takes e) (client_event.Takes e))
+      (ap (λ (to : ℕ). turn_of to (site.Deliver e) (node_event.Takes e) (client_event.Takes e)) (to_site i y e free) ∙ turn_of_site (site.Deliver e) (node_event.Takes e) (client_event.Takes e) i)
   site_turn post number i y site.Timer free at = ap (λ (k : ℕ). Some (OfSite k site.Timer)) (omega arith)
-  site_turn post number i y site.Beat free at = ap (λ (t : Turn). Some t) (turn_site i site.Beat node_event.Beats client_event.Beats)
+  site_turn post number i y site.Beat free at = ap (λ (t : Turn). Some t) (turn_of_site site.Beat node_event.Beats client_event.Beats i)
   site_turn post number i y site.Crash free at = ap (λ (k : ℕ). Some (OfSite k site.Crash)) (omega arith)
   site_turn post number i y site.Restart free at = ap (λ (k : ℕ). Some (OfSite k site.Restart)) (omega arith)
 
@@ -237,16 +217,16 @@ module _ (setup : Setup) (choose : Choice Cmd) where
   node_turn post number c y (node_event.Closes member) low allowed at = ap (λ (k : ℕ). Some (OfNode k (node_event.Closes member))) (number_is c low)
   node_turn post number c y (node_event.Takes e) low allowed at =
       delivered post number e (party_event.OfNode (node_event.Takes e)) (OfNode c (node_event.Takes e)) refl at
-      (ap (λ (to : ℕ). turn_of to (site.Deliver e) (node_event.Takes e) (client_event.Takes e)) (to_node c y e allowed) ∙ turn_node c low (site.Deliver e) (node_event.Takes e) (client_event.Takes e))
-  node_turn post number c y node_event.Beats low allowed at = ap (λ (t : Turn). Some t) (turn_node c low site.Beat node_event.Beats client_event.Beats)
+      (ap (λ (to : ℕ). turn_of to (site.Deliver e) (node_event.Takes e) (client_event.Takes e)) (to_node c y e allowed) ∙ turn_of_node (site.Deliver e) (node_event.Takes e) (client_event.Takes e) c low)
+  node_turn post number c y node_event.Beats low allowed at = ap (λ (t : Turn). Some t) (turn_of_node site.Beat node_event.Beats client_event.Beats c low)
 
   client_turn : (post : List Envelope) (number k : ℕ) (e : ClientEvent) → k < 101 → ((letter : Envelope) → e ≡ client_event.Takes letter → letter.to ≡ k) → Names post number (party_event.OfClient e)
       → turn post (moves.client_step k e number) ≡ Some (OfClient k e)
   client_turn post number k (client_event.Submits cmd) low mine at = refl
   client_turn post number k (client_event.Takes e) low mine at =
       delivered post number e (party_event.OfClient (client_event.Takes e)) (OfClient k (client_event.Takes e)) refl at
-      (ap (λ (to : ℕ). turn_of to (site.Deliver e) (node_event.Takes e) (client_event.Takes e)) (mine e refl) ∙ turn_client k low (site.Deliver e) (node_event.Takes e) (client_event.Takes e))
-  client_turn post number k client_event.Beats low mine at = ap (λ (t : Turn). Some t) (turn_client k low site.Beat node_event.Beats client_event.Beats)
+      (ap (λ (to : ℕ). turn_of to (site.Deliver e) (node_event.Takes e) (client_event.Takes e)) (mine e refl) ∙ turn_of_client (site.Deliver e) (node_event.Takes e) (client_event.Takes e) k low)
+  client_turn post number k client_event.Beats low mine at = ap (λ (t : Turn). Some t) (turn_of_client site.Beat node_event.Beats client_event.Beats k low)
 
   -- THE BANK AFTER ONE EVENT MORE
 

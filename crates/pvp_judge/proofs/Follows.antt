@@ -28,8 +28,8 @@ use Rattle.pvp_rooms.specs.Nodes as nodes
 use Rattle.pvp_rooms.specs.Clients as clients
 use Rattle.pvp_audit.specs.Runs.{Tagged, own, history_in, history_of, AreInOrder}
 use Rattle.pvp_audit.specs.Ends.{AreAlike}
-use Rattle.pvp_parties.specs.declared.party.Party.{Party}
-use Rattle.pvp_parties.specs.declared.party.Party.TheVariants as party_of
+use Rattle.pvp_parties.specs.Parties.{Party}
+use Rattle.pvp_parties.specs.declared.party.PartyOf.TheVariants as party_of
 use Rattle.pvp_parties.specs.declared.party.PartyEvent.{PartyEvent}
 use Rattle.pvp_parties.specs.declared.party.PartyOutcome.{PartyOutcome}
 use Rattle.pvp_parties.specs.Made.{memory}
@@ -192,14 +192,14 @@ module _ (setup : Setup) (closed : List Left) where
       shown = shows_bank
 
       -- what an actor's calls show is of the state in which the bank's actor is
-      read_state : (k : ℕ) (c : Left) → slice_get closed k ≡ Some c → Reads c.end (replay after (own run k) (start_of setup p.choose closed k))
-      read_state k c is = subst (λ (l : List (Recorded PartyEvent PartyOutcome)). Reads c.end (replay after l (start_of setup p.choose closed k))) (sym (each k ∙ ap history_in is)) (alike k c is (slice_get_within closed k c is))
+      read_state : (k : ℕ) (c : Left) → slice_get closed k ≡ Some c → Reads memory c.end (replay after (own run k) (start_of setup p.choose closed k))
+      read_state k c is = subst (λ (l : List (Recorded PartyEvent PartyOutcome)). Reads memory c.end (replay after l (start_of setup p.choose closed k))) (sym (each k ∙ ap history_in is)) (alike k c is (slice_get_within closed k c is))
 
-      reads_by : (k : ℕ) (e : Party) (x : PartyState) → HasPlace setup e → IsThere setup p.choose p.bank e x → Reads e x → ReadsWorld world (number_of e) e
+      reads_by : (k : ℕ) (e : Party) (x : PartyState) → HasPlace setup e → IsThere setup p.choose p.bank e x → Reads memory e x → ReadsWorld world (number_of e) e
       reads_by k (party_of.Site q) x place there reads =
           let v = within p.bank.sites world.sites q.place there.0 (sym shown.sites.count) there.2 in
           let is = shown.sites.each q.place v.0 there.0 v.1 there.2 in
-          let r : Reads (party_of.Site q) (AtSite (site_at setup p.choose q.place there.0)) = subst (λ (y : PartyState). Reads (party_of.Site q) y) there.1 reads in (
+          let r : Reads memory (party_of.Site q) (AtSite (site_at setup p.choose q.place there.0)) = subst (λ (y : PartyState). Reads memory (party_of.Site q) y) there.1 reads in (
             v.0,
             ap (λ (i : ℕ). slice_get world.sites i) (omega arith) ∙ v.1,
             record {
@@ -215,7 +215,7 @@ module _ (setup : Setup) (closed : List Left) where
           let v = within p.bank.nodes world.nodes q.place there.0 (sym shown.nodes.count) there.2 in
           let is = shown.nodes.each q.place v.0 there.0 v.1 there.2 in
           let same : v.0 ≡ node_at setup p.choose q.place there.0 = is ∙ ap (λ (s : Setup). record { setup = s; ccy = q.place; node = there.0 }) p.made in
-          let r : Reads (party_of.Node q) (AtNode (node_at setup p.choose q.place there.0)) = subst (λ (y : PartyState). Reads (party_of.Node q) y) there.1 reads in (
+          let r : Reads memory (party_of.Node q) (AtNode (node_at setup p.choose q.place there.0)) = subst (λ (y : PartyState). Reads memory (party_of.Node q) y) there.1 reads in (
             v.0,
             ap (λ (i : ℕ). slice_get world.nodes i) (number_is q.place place.1) ∙ v.1,
             subst (λ (u : node.Shown). nodes.Reads q.now u) (sym same) r,
@@ -224,7 +224,7 @@ module _ (setup : Setup) (closed : List Left) where
           let v = within p.bank.clients world.clients q.place there.0 (sym shown.clients.count) there.2 in
           let is = shown.clients.each q.place v.0 there.0 v.1 there.2 in
           let same : v.0 ≡ client_at setup p.choose q.place there.0 = is ∙ ap (λ (s : Setup). record { f = faults s; me = q.place; client = there.0 }) p.made in
-          let r : Reads (party_of.Client q) (AtClient (client_at setup p.choose q.place there.0)) = subst (λ (y : PartyState). Reads (party_of.Client q) y) there.1 reads in (
+          let r : Reads memory (party_of.Client q) (AtClient (client_at setup p.choose q.place there.0)) = subst (λ (y : PartyState). Reads memory (party_of.Client q) y) there.1 reads in (
             v.0,
             v.1,
             subst (λ (u : client.Shown). clients.Reads q.now u) (sym same) r,

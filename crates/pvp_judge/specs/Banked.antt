@@ -2,12 +2,12 @@
 use Rattle.std.specs.Prelude.{◌≡◌, ℕ, ◌+◌, ◌*◌, ◌<◌, ◌≤◌, List, length, take, slice_get, Option, Some, None}
 use Rattle.pvp_types.specs.declared.setup.Setup.{Setup}
 use Rattle.pvp_types.specs.Setup.{faults}
-use Rattle.vr_types.specs.Actors.{first_node, first_site}
+use Rattle.vr_types.specs.declared.actors.TheConstants.{FIRST_NODE, FIRST_SITE}
 use Rattle.vr_types.specs.declared.cell.Boot.{Boot}
 use Rattle.pvp_audit.specs.Runs.{AreInOrder}
 use Rattle.pvp_audit.specs.Verdicts.{HoldOfAll}
-use Rattle.pvp_parties.specs.declared.party.Party.{Party}
-use Rattle.pvp_parties.specs.declared.party.Party.TheVariants.{Site, Node, Client}
+use Rattle.pvp_parties.specs.Parties.{Party}
+use Rattle.pvp_parties.specs.declared.party.PartyOf.TheVariants.{Site, Node, Client}
 use Rattle.pvp_parties.specs.Parties.{number_of, setup_of}
 use Rattle.pvp_judge.specs.Judged.{Left, openings}
 
@@ -22,7 +22,7 @@ OpenedOver _ _ = ⊥
 abbrev pub HasPlace : Setup → Party → Type 0
 HasPlace setup (Site p) = p.place < 2 * faults setup + 1
 HasPlace setup (Node p) = (p.place < length setup.currencies) × (p.place < 99)
-HasPlace setup (Client p) = (p.place ≤ length setup.members) × (p.place < first_node)
+HasPlace setup (Client p) = (p.place ≤ length setup.members) × (p.place < FIRST_NODE)
 
 -- what an actor of this bank left, under the number that its kind and its place give
 pub record IsOfBank (setup : Setup) (c : Left) : Type 0 where
@@ -41,7 +41,7 @@ actor_count setup = length setup.members + 1 + length setup.currencies + (2 * fa
 -- its sites are all there: where n of them stand before it, one has the number 200 + n
 pub record HasItsSites (setup : Setup) (closed : List Left) : Type 0 where
   pub all : length (openings closed) ≡ 2 * faults setup + 1
-  pub numbered : (k : ℕ) (c : Left) (boot : Boot) → slice_get closed k ≡ Some c → c.opening ≡ Some boot → c.number ≡ first_site + length (openings (take k closed))
+  pub numbered : (k : ℕ) (c : Left) (boot : Boot) → slice_get closed k ≡ Some c → c.opening ≡ Some boot → c.number ≡ FIRST_SITE + length (openings (take k closed))
 
 -- what all actors of one bank left: as many as it has, in order of their numbers, each of its setup
 pub record IsTheBank (setup : Setup) (closed : List Left) : Type 0 where
@@ -52,7 +52,7 @@ pub record IsTheBank (setup : Setup) (closed : List Left) : Type 0 where
 
 -- what the sites opened over stands in order of their numbers
 abbrev pub OpensInOrder : List Left → Type 0
-OpensInOrder closed = (k : ℕ) (c : Left) → slice_get closed k ≡ Some c → (site : ℕ) (boot : Boot) → c.number ≡ first_site + site → c.opening ≡ Some boot → slice_get (openings closed) site ≡ Some boot
+OpensInOrder closed = (k : ℕ) (c : Left) → slice_get closed k ≡ Some c → (site : ℕ) (boot : Boot) → c.number ≡ FIRST_SITE + site → c.opening ≡ Some boot → slice_get (openings closed) site ≡ Some boot
 
 -- each of these is so
 abbrev pub AllAre : {X : Type 0} → (X → Type 0) → List X → Type 0

@@ -1,7 +1,7 @@
 -- What the audit of a whole bank says.
 use Rattle.std.specs.Prelude.{◌≡◌, ℕ, ◌-◌, min, List, [], ◌∷◌, ◌++◌, slice_get, option_to_list, Option, Some}
 use Rattle.pvp_types.specs.declared.setup.Setup.{Setup}
-use Rattle.vr_types.specs.Actors.{first_node, first_site}
+use Rattle.vr_types.specs.declared.actors.TheConstants.{FIRST_NODE, FIRST_SITE}
 use Rattle.vr_types.specs.declared.cell.Boot.{Boot}
 use Rattle.vr_types.specs.declared.cell.MemCell.{MemCell}
 use Rattle.vr_types.specs.MemoryCell.{held_by}
@@ -16,8 +16,9 @@ use Rattle.pvp_audit.specs.declared.verdict.Verdict.{Verdict}
 use Rattle.pvp_audit.specs.declared.verdict.Verdict.TheVariants.{Yes as Passes, No as Fails}
 use Rattle.pvp_audit.specs.Runs.{AreOpenings}
 use Rattle.pvp_audit.specs.Verdicts.{Means}
-use Rattle.pvp_parties.specs.declared.party.Party.{Party}
-use Rattle.pvp_parties.specs.declared.party.Party.TheVariants.{Site, Node, Client}
+use Rattle.pvp_parties.specs.Made.{memory}
+use Rattle.pvp_parties.specs.Parties.{Party}
+use Rattle.pvp_parties.specs.declared.party.PartyOf.TheVariants.{Site, Node, Client}
 use Rattle.pvp_parties.specs.declared.party.PartyEvent.{PartyEvent}
 use Rattle.pvp_parties.specs.declared.party.PartyOutcome.{PartyOutcome}
 use Rattle.pvp_parties.specs.Alike as alike
@@ -33,7 +34,7 @@ Left = Closed Party (Option Boot) PartyEvent PartyOutcome
 
 -- the ghost members of an actor of the bank
 abbrev pub party : Ghosts Party (Option Boot) PartyEvent PartyOutcome
-party = record { State = PartyState; opens = Opens; shows = Shows; comes = Comes; after = after; reads = Reads; tells = λ old new event told. Tells told old new event; brings = Brings }
+party = record { State = PartyState; opens = Opens; shows = Shows memory; comes = Comes; after = after; reads = Reads memory; tells = λ old new event told. Tells memory told old new event; brings = Brings }
 
 -- what the sites opened over, in order
 abbrev pub openings : List Left → List Boot
@@ -50,8 +51,8 @@ AreSound closed = IsRightVerdict closed Passes
 
 -- what an actor's reading calls show is what those of the world's actor of this number show
 abbrev pub ReadsWorld : Shown MemCell → ℕ → Party → Type 0
-ReadsWorld world number (Site p) = (v : alike.Site) × (slice_get world.sites (number - first_site) ≡ Some v) × AreAlikeSites p.now v
-ReadsWorld world number (Node p) = (v : node.Shown) × (slice_get world.nodes (min (number - first_node) 255) ≡ Some v) × nodes.Reads p.now v
+ReadsWorld world number (Site p) = (v : alike.Site) × (slice_get world.sites (number - FIRST_SITE) ≡ Some v) × AreAlikeSites p.now v
+ReadsWorld world number (Node p) = (v : node.Shown) × (slice_get world.nodes (min (number - FIRST_NODE) 255) ≡ Some v) × nodes.Reads p.now v
 ReadsWorld world number (Client p) = (v : client.Shown) × (slice_get world.clients number ≡ Some v) × clients.Reads p.now v
 
 -- so of each actor

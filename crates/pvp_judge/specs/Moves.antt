@@ -3,15 +3,15 @@ use Rattle.std.specs.Prelude.{ℕ, ◌-◌, min, Option, Some, None, Ok}
 use Rattle.pvp_types.specs.declared.command.Cmd.{Cmd}
 use Rattle.pvp_types.specs.declared.command.Reply.{Reply as Answer}
 use Rattle.pvp_types.specs.declared.command.PayOrder.{PayOrder as PaymentOrder}
-use Rattle.vr_types.specs.Actors.{first_node, first_site}
+use Rattle.pvp_types.specs.declared.step.Step.{Step}
+use Rattle.pvp_types.specs.declared.step.Step.TheVariants.{Deliver, PayIn, Close, Submit, Beat, Timer, Crash, Restart}
+use Rattle.vr_types.specs.declared.actors.TheConstants.{FIRST_NODE, FIRST_SITE}
 use Rattle.vr_types.specs.declared.event.EventOf.{EventOf}
 use Rattle.vr_types.specs.declared.event.EventOf.TheVariants as site
 use Rattle.rtgs_node.specs.declared.event.NodeEvent.{NodeEvent}
 use Rattle.rtgs_node.specs.declared.event.NodeEvent.TheVariants as node
 use Rattle.headline.specs.declared.step.ClientEvent.{ClientEvent}
 use Rattle.headline.specs.declared.step.ClientEvent.TheVariants as client
-use Rattle.headline.specs.declared.step.Step.{Step}
-use Rattle.headline.specs.declared.step.Step.TheVariants.{Deliver, PayIn, Close, Submit, Beat, Timer, Crash, Restart}
 use Rattle.headline.specs.declared.step.Move.{Move}
 use Rattle.headline.specs.declared.step.Move.TheVariants.{Takes, Falls}
 use Rattle.pvp_rooms.specs.declared.message.Recorded.{Recorded}
@@ -26,14 +26,14 @@ use Rattle.pvp_parties.specs.declared.party.PartyOutcome.TheVariants as outcome
 
 abbrev pub site_step : ℕ → EventOf Cmd Answer PaymentOrder → ℕ → Step
 site_step actor (site.Deliver envelope) number = Deliver number
-site_step actor site.Timer number = Timer (actor - first_site)
+site_step actor site.Timer number = Timer (actor - FIRST_SITE)
 site_step actor site.Beat number = Beat actor
-site_step actor site.Crash number = Crash (actor - first_site)
-site_step actor site.Restart number = Restart (actor - first_site)
+site_step actor site.Crash number = Crash (actor - FIRST_SITE)
+site_step actor site.Restart number = Restart (actor - FIRST_SITE)
 
 abbrev pub node_step : ℕ → NodeEvent → ℕ → Step
-node_step actor (node.PaysIn member amt) number = PayIn (min (actor - first_node) 255) member amt
-node_step actor (node.Closes member) number = Close (min (actor - first_node) 255) member
+node_step actor (node.PaysIn member amt) number = PayIn (min (actor - FIRST_NODE) 255) member amt
+node_step actor (node.Closes member) number = Close (min (actor - FIRST_NODE) 255) member
 node_step actor (node.Takes envelope) number = Deliver number
 node_step actor node.Beats number = Beat actor
 

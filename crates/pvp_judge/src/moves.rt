@@ -2,10 +2,11 @@
 ghost use Rattle.std.specs.Prelude.{◌≡◌, ◌-◌, min};
 ghost use Rattle.pvp_judge.specs.Moves.{move_of, site_step, node_step, client_step};
 
-use headline::{ClientEvent, Move, Step};
+use headline::{ClientEvent, Move};
 use pvp_book::Book;
 use pvp_parties::{PartyEvent, PartyOutcome};
 use pvp_rooms::{CameOf, Recorded};
+use pvp_types::Step;
 use rtgs_node::NodeEvent;
 use vr_types::{Event, EventOf, FIRST_NODE, FIRST_SITE};
 

@@ -2,3 +2,5 @@
 pub mod Answering
 -- lines that were played so far
 pub mod PlayedLines
+-- looks at sites, one after another
+pub mod Looks

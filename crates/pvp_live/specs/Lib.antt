@@ -1,8 +1,7 @@
 pub mod Events
 pub mod Told
 pub mod Scripts
-pub mod Voices
-pub mod Followed
+pub mod Standings
 pub mod Effects
 pub mod Refusals
 pub mod Notes

@@ -1,15 +1,10 @@
--- What the event of a line came to: in words, and what that makes known of the sites.
+-- What the event of a line came to, in words.
 use Rattle.std.specs.Prelude.{ℕ, List, [], ◌++◌, Option, Some, None, codes, decimal}
-use Rattle.std.specs.Option.{option_map_or}
 use Rattle.pvp_types.specs.declared.setup.Setup.{Setup}
 use Rattle.pvp_trace.specs.Names.{actor_text}
-use Rattle.pvp_text.specs.declared.script.Statement.{Statement}
 use Rattle.pvp_rooms.specs.declared.message.Answer.{Answer}
 use Rattle.pvp_rooms.specs.declared.message.Answer.TheVariants.{Done, NoMemory, ClockSpent}
 use Rattle.pvp_parties.specs.declared.party.PartyOutcome.{PartyOutcome}
-use Rattle.pvp_parties.specs.declared.party.PartyOutcome.TheVariants.{OfSite, OfNode, OfClient, Stray}
-use Rattle.pvp_live.specs.declared.standing.Standing.{Standing}
-use Rattle.pvp_live.specs.Voices.{all_after, site_of}
 use Rattle.pvp_live.specs.Effects.{line_effect}
 use Rattle.pvp_live.specs.Notes.{effect_text}
 
@@ -27,11 +22,3 @@ answer_text answer = clock_text answer ++ codes ": " ++ effect_text (line_effect
 abbrev pub posted_text : Setup → ℕ → ℕ → Option (Answer PartyOutcome) → List ℕ
 posted_text setup line actor answer =
     codes "line " ++ decimal line ++ codes ": " ++ actor_text setup actor ++ answer_text answer ++ codes "\n"
-
--- what is known of all sites once the event of a line came out so at the actor of this number: what comes out at a node or a client says nothing of them
-abbrev pub seen_after : List Standing → ℕ → Statement → ℕ → PartyOutcome → List Standing
-seen_after standings actor statement clock (OfSite came) =
-    option_map_or (λ site. all_after standings site statement clock came) (site_of actor) standings
-seen_after standings actor statement clock (OfNode told) = standings
-seen_after standings actor statement clock (OfClient told) = standings
-seen_after standings actor statement clock Stray = standings

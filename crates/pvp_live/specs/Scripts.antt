@@ -2,8 +2,8 @@
 use Rattle.std.specs.Prelude.{ℕ, Bool, true, false, List, [], ◌++◌, length, nat_le, if◌then◌else◌, codes, decimal}
 use Rattle.std.specs.List.{flat_map, list_any}
 use Rattle.pvp_types.specs.declared.setup.Setup.{Setup}
-use Rattle.headline.specs.declared.step.Step.{Step}
-use Rattle.headline.specs.declared.step.Step.TheVariants.{Deliver, PayIn, Close, Submit, Beat, Timer, Crash, Restart}
+use Rattle.pvp_types.specs.declared.step.Step.{Step}
+use Rattle.pvp_types.specs.declared.step.Step.TheVariants.{Deliver}
 use Rattle.headline.specs.declared.step.Move.{Move}
 use Rattle.headline.specs.declared.step.Move.TheVariants.{Takes, Falls}
 use Rattle.pvp_trace.specs.Attempts.{step_text}
@@ -14,13 +14,7 @@ use Rattle.pvp_live.specs.Told.{judgement_text}
 -- the line that asks for a step: that of a delivery names no receiver
 abbrev pub asked_text : Setup → Step → List ℕ
 asked_text setup (Deliver number) = codes "deliver " ++ decimal number
-asked_text setup (PayIn ccy member amt) = step_text setup [] (PayIn ccy member amt)
-asked_text setup (Close ccy member) = step_text setup [] (Close ccy member)
-asked_text setup (Submit client cmd) = step_text setup [] (Submit client cmd)
-asked_text setup (Beat actor) = step_text setup [] (Beat actor)
-asked_text setup (Timer site) = step_text setup [] (Timer site)
-asked_text setup (Crash site) = step_text setup [] (Crash site)
-asked_text setup (Restart site) = step_text setup [] (Restart site)
+asked_text setup step = step_text setup [] step
 
 -- nothing asks for a fall, so it has no line
 abbrev pub line_text : Setup → Move → List ℕ

@@ -13,7 +13,6 @@ pub mod running;
 pub mod scripts;
 mod standing;
 pub mod told;
-mod voices;
 
 pub use refusals::Refused;
 pub use running::{LiveFault, Lived, live};

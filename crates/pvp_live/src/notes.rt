@@ -1,13 +1,13 @@
 //! What goes on in a live run, told line by line while it runs. Who listens may be slow or gone: what cannot be told is not.
 
 ghost use Rattle.std.specs.Prelude.{◌≡◌, ◌++◌, OnOk, option_copied, string_bytes};
-ghost use Rattle.pvp_live.specs.Notes.{count_text, effect_text, end_text, frames_text, refusal_text, site_text};
+ghost use Rattle.std.specs.List.{flat_map};
+ghost use Rattle.pvp_live.specs.Notes.{count_text, effect_text, end_text, frames_text, look_text, refusal_text, sites_text, standing_text};
 ghost use Rattle.pvp_live.specs.Outcomes.{answer_text, clock_text, posted_text};
 
-use crate::board::{Board, Frames};
+use crate::board::Frames;
 use crate::effects::{Effect, line_effect};
-use crate::standing::{Standing, push_standing};
-use crate::voices::Heard;
+use crate::standing::{Standing, standing_of};
 use pvp_parties::{Party, PartyOutcome};
 use pvp_peers::{PeerEnd, Served, Why};
 use pvp_rooms::{Answer, Closed};
@@ -45,24 +45,25 @@ pub fn tell_posted<N: Write>(
     }
 }
 
-/// Tells where the sites stand, as far as that is known, and how many frames went over the streams so far.
+/// Tells behind a line where the sites stood as they were looked at, and how many frames went over the streams so far.
 pub fn tell_sites<N: Write>(
     alloc: Global,
     notes: &mut N,
+    setup: &Setup,
     line: u32,
-    standings: &[Standing],
-    board: &Board,
+    looks: &[Option<Standing>],
+    frames: Frames,
 ) {
     let mut text = String::new(alloc);
-    if push_sites(&mut text, line, standings, board).is_ok() {
+    if push_sites(&mut text, setup, line, looks, frames).is_ok() {
         let _ = notes.write_all(text.as_str().as_bytes());
     }
 }
 
 /// Tells how many envelopes were sent in all, how many of these did not come, and where each site stands at the end.
-pub fn tell_left<N: Write>(alloc: Global, notes: &mut N, closed: &[Closed<Party>]) {
+pub fn tell_left<N: Write>(alloc: Global, notes: &mut N, setup: &Setup, closed: &[Closed<Party>]) {
     let mut text = String::new(alloc);
-    if push_left(&mut text, closed).is_ok() {
+    if push_left(&mut text, setup, closed).is_ok() {
         let _ = notes.write_all(text.as_str().as_bytes());
     }
 }
@@ -90,32 +91,56 @@ fn ended(end: Option<PeerEnd>) -> (usize, bool) {
     }
 }
 
-/// Appends where the sites stand, and how many frames went over the streams.
+/// Appends where the sites stood behind a line, and how many frames went over the streams.
 fn push_sites(
     text: &mut String,
+    setup: &Setup,
     line: u32,
-    standings: &[Standing],
-    board: &Board,
-) -> Result<(), AllocError> {
+    looks: &[Option<Standing>],
+    frames: Frames,
+) -> Result<(), AllocError>
+    ensures { OnOk result (string_bytes text.new
+        ≡ string_bytes text.old ++ sites_text setup.now line looks.now frames) }
+{
     write!(text, "line {line}: ")?;
-    for (site, (standing, voice)) in standings.iter().zip(board.voices()).enumerate() {
-        push_site(text, site, *standing, voice.heard())?;
-    }
-    push_frames(text, board.frames())
+    push_looks(text, setup, looks)?;
+    push_frames(text, frames)
 }
 
-/// Appends where a site of a list of all stands.
-fn push_site(
+/// Appends what each look showed.
+fn push_looks(
     text: &mut String,
-    site: usize,
-    standing: Standing,
-    heard: Heard,
+    setup: &Setup,
+    looks: &[Option<Standing>],
 ) -> Result<(), AllocError>
-    ensures { OnOk result (string_bytes text.new ≡ string_bytes text.old ++ site_text site standing heard) }
+    ensures { OnOk result (string_bytes text.new
+        ≡ string_bytes text.old ++ flat_map (look_text setup.now) looks.now) }
 {
-    write!(text, "s{site} ")?;
-    push_standing(text, standing, heard)?;
+    for look in looks {
+        push_look(text, setup, *look)?;
+    }
+    Ok(())
+}
+
+/// Appends what one of several looks showed.
+fn push_look(text: &mut String, setup: &Setup, look: Option<Standing>) -> Result<(), AllocError>
+    ensures { OnOk result (string_bytes text.new ≡ string_bytes text.old ++ look_text setup.now look) }
+{
+    let Some(standing) = look else {
+        return Ok(());
+    };
+    push_standing(text, setup, standing)?;
     text.push_str(", ")
+}
+
+/// Appends where a site stands.
+fn push_standing(text: &mut String, setup: &Setup, standing: Standing) -> Result<(), AllocError>
+    ensures { OnOk result (string_bytes text.new
+        ≡ string_bytes text.old ++ standing_text setup.now standing) }
+{
+    push_actor(text, setup, standing.actor)?;
+    text.push_str(" ")?;
+    push_end(text, standing.status, standing.view)
 }
 
 /// Appends how many frames went over the streams.
@@ -127,7 +152,7 @@ fn push_frames(text: &mut String, frames: Frames) -> Result<(), AllocError>
 }
 
 /// Appends how many envelopes were sent and how many of them did not come, and where each site stands at the end.
-fn push_left(text: &mut String, closed: &[Closed<Party>]) -> Result<(), AllocError> {
+fn push_left(text: &mut String, setup: &Setup, closed: &[Closed<Party>]) -> Result<(), AllocError> {
     let mut sent: usize = 0;
     let mut came: usize = 0;
     for one in closed {
@@ -139,7 +164,7 @@ fn push_left(text: &mut String, closed: &[Closed<Party>]) -> Result<(), AllocErr
         text,
         "{sent} envelopes were sent, and {lost} of them did not come\nat the end "
     )?;
-    push_ends(text, closed)
+    push_ends(text, setup, closed)
 }
 
 /// How many envelopes an actor sent in all.
@@ -161,21 +186,19 @@ fn came_to(closed: &Closed<Party>) -> usize {
 }
 
 /// Appends where each site stands at the end.
-fn push_ends(text: &mut String, closed: &[Closed<Party>]) -> Result<(), AllocError> {
-    let mut site: u16 = 0;
+fn push_ends(text: &mut String, setup: &Setup, closed: &[Closed<Party>]) -> Result<(), AllocError> {
+    let mut separator = "";
     for one in closed {
-        if let Party::Site(party) = &one.end {
-            text.push_str(if site == 0 { "" } else { ", " })?;
-            write!(text, "s{site} ")?;
-            let replica = party.replica();
-            push_end(text, replica.status(), replica.view())?;
-            site = site.saturating_add(1);
+        if let Some(standing) = standing_of(&one.end) {
+            text.push_str(separator)?;
+            push_standing(text, setup, standing)?;
+            separator = ", ";
         }
     }
     text.push_str("\n")
 }
 
-/// Appends where a site of this status and view stands at the end.
+/// Appends where a site of this status and view stands.
 fn push_end(text: &mut String, status: Status, view: u32) -> Result<(), AllocError>
     ensures { OnOk result (string_bytes text.new ≡ string_bytes text.old ++ end_text status view) }
 {

@@ -2,7 +2,6 @@
 
 ghost use Rattle.std.specs.Prelude.{◌≡◌, List, Some, option_copied};
 ghost use Rattle.pvp_rooms.specs.Gates.{Hears};
-ghost use Rattle.pvp_live.specs.Outcomes.{seen_after};
 ghost use Rattle.pvp_live.specs.Events as events;
 ghost use Rattle.pvp_live.specs.Effects.{fault_of, line_effect};
 ghost use Rattle.pvp_live.specs.Refusals.{refused_after};
@@ -13,8 +12,7 @@ use crate::effects::{fault_of, line_effect};
 use crate::events::{Post, posted};
 use crate::notes::{tell_posted, tell_rest, tell_sites};
 use crate::refusals::{Refused, refused_after};
-use crate::standing::{Standing, see};
-use crate::voices::site_of;
+use crate::standing::look_at_sites;
 use pvp_parties::{Party, PartyCell, PartyOutcome, PartySeat};
 use pvp_peers::{Outbox, Served};
 use pvp_rooms::{Actor, Answer, Gate, Input, Room};
@@ -26,6 +24,7 @@ use std::io::Write;
 use std::sync::Wait;
 use std::thread;
 use std::time::{Clock, Duration};
+use vr_types::is_site;
 
 /// A gate that is always open.
 #[derive(Drop)]
@@ -50,10 +49,8 @@ pub struct LinePlayer<'a, R, N> {
     /// By cell.
     pub seats: Vec<PartySeat>,
     pub lines: &'a [Line],
-    /// What the workers count and hear.
-    pub board: &'a Board,
-    /// By site.
-    pub standings: Vec<Standing>,
+    /// What the workers count.
+    pub board: &'a Board<'a>,
     /// Which lines were refused so far.
     pub refused: Option<Refused>,
 }
@@ -82,8 +79,8 @@ impl<R: Wait + Clock, N: Write> LinePlayer<'_, R, N> {
         }
     }
 
-    /// Posts the event of a line, and hands on what that sends. What came of it is told before, so that what is told rests on
-    /// nothing that it brought about.
+    /// Posts the event of a line, and hands on what that sends. What came of it is told before, and behind a line at a site
+    /// where all sites stand, so that nothing of this rests on what is handed on.
     fn post<O: Outbox>(&mut self, line: Line, post: Post, out: &mut O)
         ensures posted { HandsOver self.old.cells.now line.number (Some post)
             (keeps self.old.seats.items self.old.refused)
@@ -96,7 +93,7 @@ impl<R: Wait + Clock, N: Write> LinePlayer<'_, R, N> {
         let answer = self.answer_to(post);
         let told = answer.as_ref();
         self.note(line.number, actor, told);
-        self.hand_on(line, actor, told, out);
+        self.hand_on(actor, told, out);
     }
 
     /// Posts an event at its actor, from the seat there. `None` where there is no such actor.
@@ -115,7 +112,8 @@ impl<R: Wait + Clock, N: Write> LinePlayer<'_, R, N> {
         Some(cell.post(self.rt, self.alloc, seat, input, &mut Open))
     }
 
-    /// Tells what came of the event that a line posted, and counts the line where it was refused.
+    /// Tells what came of the event that a line posted, and behind one at a site where all sites stand. A line that was
+    /// refused is counted.
     fn note(&mut self, line: u32, actor: u16, answer: Option<&Answer<PartyOutcome>>)
         ensures refused { self.new.refused
             ≡ refused_after self.old.refused line (fault_of (line_effect (option_copied answer.entry))) }
@@ -125,16 +123,13 @@ impl<R: Wait + Clock, N: Write> LinePlayer<'_, R, N> {
     {
         tell_posted(self.alloc, self.notes, self.setup, line, actor, answer);
         self.refused = refused_after(self.refused, line, fault_of(line_effect(answer)));
+        if answer.is_some() && is_site(actor) {
+            self.tell(line);
+        }
     }
 
-    /// Hands on what an actor sent by the event of a line, and keeps what that makes known of a site.
-    fn hand_on<O: Outbox>(
-        &mut self,
-        line: Line,
-        actor: u16,
-        answer: Option<&Answer<PartyOutcome>>,
-        out: &mut O,
-    )
+    /// Hands on what an actor sent by the event of a line.
+    fn hand_on<O: Outbox>(&mut self, actor: u16, answer: Option<&Answer<PartyOutcome>>, out: &mut O)
         ensures handed { Hears O.got out.old out.new (handed_on actor (option_copied answer.entry)) }
         ensures seats { self.new.seats ≡ self.old.seats }
         ensures refused { self.new.refused ≡ self.old.refused }
@@ -143,7 +138,6 @@ impl<R: Wait + Clock, N: Write> LinePlayer<'_, R, N> {
     {
         match answer {
             Some(Answer::Done { clock, outcome }) => {
-                self.see(line, actor, *clock, outcome);
                 let sent = Party::sent(outcome);
                 out.put(self.rt, self.alloc, actor, *clock, sent);
             }
@@ -151,47 +145,23 @@ impl<R: Wait + Clock, N: Write> LinePlayer<'_, R, N> {
         }
     }
 
-    /// Keeps what is known of a site by what came of a line that was posted there, and tells where all stand. Of another
-    /// actor nothing is kept or told.
-    fn see(&mut self, line: Line, actor: u16, clock: u64, outcome: &PartyOutcome)
-        ensures standings { self.new.standings.items
-            ≡ seen_after self.old.standings.items actor line.statement clock outcome.now }
-        ensures seats { self.new.seats ≡ self.old.seats }
-        ensures refused { self.new.refused ≡ self.old.refused }
-        ensures cells { self.new.cells ≡ self.old.cells }
-        ensures lines { self.new.lines ≡ self.old.lines }
-    {
-        let (PartyOutcome::OfSite(came), Some(site)) = (outcome, site_of(actor)) else {
-            return;
-        };
-        for envelope in Party::sent(outcome) {
-            self.board.hear(actor, clock, &envelope.msg);
-        }
-        see(
-            self.standings.as_mut_slice(),
-            site,
-            line.statement,
-            clock,
-            came,
-        );
-        self.tell(line.number);
-    }
-
-    /// Tells where the sites stand, and how many frames went over the streams.
+    /// Looks at the sites, and tells where they stand, and how many frames went over the streams.
     fn tell(&mut self, line: u32)
-        ensures standings { self.new.standings ≡ self.old.standings }
         ensures seats { self.new.seats ≡ self.old.seats }
         ensures refused { self.new.refused ≡ self.old.refused }
         ensures cells { self.new.cells ≡ self.old.cells }
         ensures lines { self.new.lines ≡ self.old.lines }
     {
-        tell_sites(
-            self.alloc,
-            self.notes,
-            line,
-            self.standings.as_slice(),
-            self.board,
-        );
+        if let Ok(looks) = look_at_sites(self.rt, self.alloc, self.cells) {
+            tell_sites(
+                self.alloc,
+                self.notes,
+                self.setup,
+                line,
+                looks.as_slice(),
+                self.board.frames(),
+            );
+        }
     }
 }
 

@@ -1,21 +1,19 @@
 //! A live run, from the first connection to the judgement.
-ghost use Rattle.std.specs.Prelude.{◌≡◌, IfOk, replicate};
+ghost use Rattle.std.specs.Prelude.{◌≡◌, IfOk};
 ghost use Rattle.pvp_types.specs.Setup.{IsValid};
 ghost use Rattle.pvp_live.specs.Playing.{IsTally, WasTallied};
 ghost use Rattle.pvp_live.specs.Told.{WasJudged, net_told};
 
 use crate::actors::{Bank, numbers_of};
-use crate::board::{Board, Counter, Watched};
+use crate::board::{Board, Counter};
 use crate::notes::{tell_connected, tell_ends, tell_left};
 use crate::player::{LinePlayer, place_of};
 use crate::refusals::Refused;
-use crate::standing::Standing;
 use pvp_judge::{Judgement, judge};
 use pvp_parties::{Party, PartyCell, PartySeat};
 use pvp_rooms::Closed;
 use pvp_streams::{
-    Connected, Incoming, NetFault, Outgoing, Peer, Sending, Writer, Writers, connect_all,
-    serve_streams,
+    Connected, Incoming, NetFault, Peer, Sending, Writer, Writers, connect_all, serve_streams,
 };
 use pvp_text::script::Line;
 use pvp_types::Setup;
@@ -25,7 +23,6 @@ use std::net::Net;
 use std::sync::Wait;
 use std::thread::Threads;
 use std::time::Clock;
-use vr_types::FIRST_SITE;
 
 /// Why there is no judgement.
 #[derive(Clone, Copy, Debug, PartialEq, Eq)]
@@ -100,7 +97,7 @@ where
     };
     let Played { seats, refused } = run(rt, alloc, cells.as_slice(), seats, connected, script)?;
     let closed = close_all(alloc, cells, seats)?;
-    tell_left(alloc, notes, closed.as_slice());
+    tell_left(alloc, notes, setup, closed.as_slice());
     match judge(alloc, setup, closed.as_slice()) {
         Ok(judgement) => Ok(Lived { judgement, refused }),
         Err(_) => Err(LiveFault::Seats),
@@ -138,11 +135,10 @@ where
     R::Stream: Read + Write + Send + Drop,
     ensures { IfOk result (λ played. IsTally cells.now script.entry.lines.now played.refused) }
 {
-    let sites = site_count(cells);
-    let board = Board::new(alloc, sites)?;
     let Connected { incoming, outgoing } = connected;
     let mut out = Writers::new(alloc);
-    let mut writers = writers_of(alloc, &mut out, outgoing, &board)?;
+    let mut writers = writers_of(alloc, &mut out, outgoing)?;
+    let board = Board::new(&out);
     let mut peers = peers_of(alloc, cells, seats.as_mut_slice(), incoming, &board)?;
     let Script {
         setup,
@@ -158,7 +154,6 @@ where
         seats: own_seats(alloc, seats.as_mut_slice())?,
         lines,
         board: &board,
-        standings: all_up(alloc, sites)?,
         refused: None,
     };
     serve_streams(
@@ -181,56 +176,18 @@ where
     Ok(Played { seats, refused })
 }
 
-/// How many of these actors are sites.
-fn site_count(cells: &[PartyCell]) -> usize {
-    cells
-        .iter()
-        .filter(|cell| cell.number() >= FIRST_SITE)
-        .count()
-}
-
-/// All sites as they open.
-fn all_up(alloc: Global, sites: usize) -> Result<Vec<Standing>, AllocError>
-    ensures { IfOk result (λ standings. standings.items ≡ replicate sites (Standing.Up 0)) }
-{
-    let mut standings = Vec::with_capacity(alloc, sites)?;
-    for _ in 0..sites {
-        standings.push(Standing::Up(0))?;
-    }
-    Ok(standings)
-}
-
-/// A writer for each actor over its streams, which are heard on the board.
-fn writers_of<'a, S: Write + Drop>(
+/// A writer for each actor over its streams.
+fn writers_of<S: Write + Drop>(
     alloc: Global,
     out: &mut Writers,
     outgoing: Vec<Sending<S>>,
-    board: &'a Board,
-) -> Result<Vec<Writer<Watched<'a, S>>>, AllocError> {
+) -> Result<Vec<Writer<S>>, AllocError> {
     let mut writers = Vec::with_capacity(alloc, outgoing.len())?;
     for sending in outgoing {
         let Sending { actor, streams } = sending;
-        let streams = watched(alloc, streams, board)?;
         writers.push(out.add(alloc, actor, streams)?)?;
     }
     Ok(writers)
-}
-
-/// The streams of an actor, heard on the board.
-fn watched<'a, S: Write + Drop>(
-    alloc: Global,
-    streams: Vec<Outgoing<S>>,
-    board: &'a Board,
-) -> Result<Vec<Outgoing<Watched<'a, S>>>, AllocError> {
-    let mut watched = Vec::with_capacity(alloc, streams.len())?;
-    for one in streams {
-        let Outgoing { to, stream } = one;
-        watched.push(Outgoing {
-            to,
-            stream: Watched::new(alloc, stream, board),
-        })?;
-    }
-    Ok(watched)
 }
 
 /// A peer for each incoming stream, at the cell of its reader, with a seat of that cell.
@@ -239,7 +196,7 @@ fn peers_of<'a, S: Drop>(
     cells: &'a [PartyCell],
     seats: &mut [Vec<PartySeat>],
     incoming: Vec<Incoming<S>>,
-    board: &'a Board,
+    board: &'a Board<'a>,
 ) -> Result<Vec<Peer<'a, Party, S, Counter<'a>>>, LiveFault> {
     let mut peers = Vec::with_capacity(alloc, incoming.len())?;
     for stream in incoming {

@@ -9,7 +9,8 @@ use crate::told::push_judgement;
 use pvp_judge::Judgement;
 use pvp_text::book::{RunFault, write_text};
 use pvp_trace::attempt::push_step;
-use pvp_world::{Move, Step, World};
+use pvp_types::Step;
+use pvp_world::{Move, World};
 use std::alloc::{AllocError, Global};
 use std::io::Write;
 use vr_types::MemCell;
@@ -109,12 +110,6 @@ fn push_asked(text: &mut String, world: &World<MemCell>, step: Step) -> Result<(
 {
     match step {
         Step::Deliver(number) => write!(text, "deliver {number}"),
-        Step::PayIn { .. }
-        | Step::Close { .. }
-        | Step::Submit { .. }
-        | Step::Beat(_)
-        | Step::Timer(_)
-        | Step::Crash(_)
-        | Step::Restart(_) => push_step(text, world, step),
+        _ => push_step(text, world, step),
     }
 }

@@ -1,51 +1,53 @@
 -- Events of another kind of actor: nothing is done.
 use Rattle.std.proofs.Common.{◌≡◌, refl, sym, subst}
-use Rattle.pvp_parties.specs.declared.party.Party.{Party}
-use Rattle.pvp_parties.specs.declared.party.Party.TheVariants.{Site, Node, Client}
+use Rattle.vr_types.specs.declared.cell.BootCell.{Ghosts as Cell}
+use Rattle.pvp_parties.specs.declared.party.PartyOf.{PartyOf}
+use Rattle.pvp_parties.specs.declared.party.PartyOf.TheVariants.{Site, Node, Client}
 use Rattle.pvp_parties.specs.declared.party.PartyEvent.{PartyEvent}
 use Rattle.pvp_parties.specs.declared.party.PartyEvent.TheVariants.{OfSite, OfNode, OfClient}
 use Rattle.pvp_parties.specs.declared.party.PartyOutcome.{PartyOutcome}
 use Rattle.pvp_parties.specs.declared.party.PartyOutcome.TheVariants.{Stray}
 use Rattle.pvp_parties.specs.Parties.{PartyState, AtSite, AtNode, AtClient, Shows, Comes, after}
 
-at_site : (p : _) (event : PartyEvent) → ((e : _) → event ≡ OfSite e → ⊥) → (x : PartyState) → Shows (Site p) x → Comes x event Stray × Shows (Site p) (after x event Stray)
-at_site p (OfSite e) other x shows = absurd (other e refl)
-at_site p (OfNode e) other (AtSite y) shows = (tt, shows)
-at_site p (OfNode e) other (AtNode y) shows = absurd shows
-at_site p (OfNode e) other (AtClient y) shows = absurd shows
-at_site p (OfClient e) other (AtSite y) shows = (tt, shows)
-at_site p (OfClient e) other (AtNode y) shows = absurd shows
-at_site p (OfClient e) other (AtClient y) shows = absurd shows
+module _ {B : Type 0} (c : Cell B) where
+  at_site : (p : _) (event : PartyEvent) → ((e : _) → event ≡ OfSite e → ⊥) → (x : PartyState) → Shows c (Site p) x → Comes x event Stray × Shows c (Site p) (after x event Stray)
+  at_site p (OfSite e) other x shows = absurd (other e refl)
+  at_site p (OfNode e) other (AtSite y) shows = (tt, shows)
+  at_site p (OfNode e) other (AtNode y) shows = absurd shows
+  at_site p (OfNode e) other (AtClient y) shows = absurd shows
+  at_site p (OfClient e) other (AtSite y) shows = (tt, shows)
+  at_site p (OfClient e) other (AtNode y) shows = absurd shows
+  at_site p (OfClient e) other (AtClient y) shows = absurd shows
 
-pub stray_at_site : (v : Party) (p : _) (event : PartyEvent) (told : PartyOutcome) → v ≡ Site p → ((e : _) → event ≡ OfSite e → ⊥) → told ≡ Stray
-    → (x : PartyState) → Shows v x → Comes x event told × Shows (Site p) (after x event told)
-stray_at_site v p event told is other stray x shows =
-    subst (λ o. Comes x event o × Shows (Site p) (after x event o)) (sym stray) (at_site p event other x (subst (λ w. Shows w x) is shows))
+  pub stray_at_site : (v : PartyOf B) (p : _) (event : PartyEvent) (told : PartyOutcome) → v ≡ Site p → ((e : _) → event ≡ OfSite e → ⊥) → told ≡ Stray
+      → (x : PartyState) → Shows c v x → Comes x event told × Shows c (Site p) (after x event told)
+  stray_at_site v p event told is other stray x shows =
+      subst (λ o. Comes x event o × Shows c (Site p) (after x event o)) (sym stray) (at_site p event other x (subst (λ w. Shows c w x) is shows))
 
-at_node : (p : _) (event : PartyEvent) → ((e : _) → event ≡ OfNode e → ⊥) → (x : PartyState) → Shows (Node p) x → Comes x event Stray × Shows (Node p) (after x event Stray)
-at_node p (OfNode e) other x shows = absurd (other e refl)
-at_node p (OfSite e) other (AtSite y) shows = absurd shows
-at_node p (OfSite e) other (AtNode y) shows = (tt, shows)
-at_node p (OfSite e) other (AtClient y) shows = absurd shows
-at_node p (OfClient e) other (AtSite y) shows = absurd shows
-at_node p (OfClient e) other (AtNode y) shows = (tt, shows)
-at_node p (OfClient e) other (AtClient y) shows = absurd shows
+  at_node : (p : _) (event : PartyEvent) → ((e : _) → event ≡ OfNode e → ⊥) → (x : PartyState) → Shows c (Node p) x → Comes x event Stray × Shows c (Node p) (after x event Stray)
+  at_node p (OfNode e) other x shows = absurd (other e refl)
+  at_node p (OfSite e) other (AtSite y) shows = absurd shows
+  at_node p (OfSite e) other (AtNode y) shows = (tt, shows)
+  at_node p (OfSite e) other (AtClient y) shows = absurd shows
+  at_node p (OfClient e) other (AtSite y) shows = absurd shows
+  at_node p (OfClient e) other (AtNode y) shows = (tt, shows)
+  at_node p (OfClient e) other (AtClient y) shows = absurd shows
 
-pub stray_at_node : (v : Party) (p : _) (event : PartyEvent) (told : PartyOutcome) → v ≡ Node p → ((e : _) → event ≡ OfNode e → ⊥) → told ≡ Stray
-    → (x : PartyState) → Shows v x → Comes x event told × Shows (Node p) (after x event told)
-stray_at_node v p event told is other stray x shows =
-    subst (λ o. Comes x event o × Shows (Node p) (after x event o)) (sym stray) (at_node p event other x (subst (λ w. Shows w x) is shows))
+  pub stray_at_node : (v : PartyOf B) (p : _) (event : PartyEvent) (told : PartyOutcome) → v ≡ Node p → ((e : _) → event ≡ OfNode e → ⊥) → told ≡ Stray
+      → (x : PartyState) → Shows c v x → Comes x event told × Shows c (Node p) (after x event told)
+  stray_at_node v p event told is other stray x shows =
+      subst (λ o. Comes x event o × Shows c (Node p) (after x event o)) (sym stray) (at_node p event other x (subst (λ w. Shows c w x) is shows))
 
-at_client : (p : _) (event : PartyEvent) → ((e : _) → event ≡ OfClient e → ⊥) → (x : PartyState) → Shows (Client p) x → Comes x event Stray × Shows (Client p) (after x event Stray)
-at_client p (OfClient e) other x shows = absurd (other e refl)
-at_client p (OfSite e) other (AtSite y) shows = absurd shows
-at_client p (OfSite e) other (AtNode y) shows = absurd shows
-at_client p (OfSite e) other (AtClient y) shows = (tt, shows)
-at_client p (OfNode e) other (AtSite y) shows = absurd shows
-at_client p (OfNode e) other (AtNode y) shows = absurd shows
-at_client p (OfNode e) other (AtClient y) shows = (tt, shows)
+  at_client : (p : _) (event : PartyEvent) → ((e : _) → event ≡ OfClient e → ⊥) → (x : PartyState) → Shows c (Client p) x → Comes x event Stray × Shows c (Client p) (after x event Stray)
+  at_client p (OfClient e) other x shows = absurd (other e refl)
+  at_client p (OfSite e) other (AtSite y) shows = absurd shows
+  at_client p (OfSite e) other (AtNode y) shows = absurd shows
+  at_client p (OfSite e) other (AtClient y) shows = (tt, shows)
+  at_client p (OfNode e) other (AtSite y) shows = absurd shows
+  at_client p (OfNode e) other (AtNode y) shows = absurd shows
+  at_client p (OfNode e) other (AtClient y) shows = (tt, shows)
 
-pub stray_at_client : (v : Party) (p : _) (event : PartyEvent) (told : PartyOutcome) → v ≡ Client p → ((e : _) → event ≡ OfClient e → ⊥) → told ≡ Stray
-    → (x : PartyState) → Shows v x → Comes x event told × Shows (Client p) (after x event told)
-stray_at_client v p event told is other stray x shows =
-    subst (λ o. Comes x event o × Shows (Client p) (after x event o)) (sym stray) (at_client p event other x (subst (λ w. Shows w x) is shows))
+  pub stray_at_client : (v : PartyOf B) (p : _) (event : PartyEvent) (told : PartyOutcome) → v ≡ Client p → ((e : _) → event ≡ OfClient e → ⊥) → told ≡ Stray
+      → (x : PartyState) → Shows c v x → Comes x event told × Shows c (Client p) (after x event told)
+  stray_at_client v p event told is other stray x shows =
+      subst (λ o. Comes x event o × Shows c (Client p) (after x event o)) (sym stray) (at_client p event other x (subst (λ w. Shows c w x) is shows))

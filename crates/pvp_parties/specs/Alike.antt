@@ -3,6 +3,7 @@ use Rattle.std.specs.Prelude.{◌≡◌, ◌<◌, ℕ, true, length}
 use Rattle.pvp_types.specs.declared.setup.Setup.{Setup}
 use Rattle.pvp_types.specs.declared.command.Cmd.{Cmd}
 use Rattle.vr_types.specs.declared.cell.MemCell.{MemCell}
+use Rattle.vr_types.specs.declared.limits.TheConstants.{MOST_SITES}
 use Rattle.vr_types.specs.MemoryCell.{held_by}
 use Rattle.vr_types.specs.Site.{boot_of}
 use Rattle.vr_site.specs.Replica as replica
@@ -10,13 +11,16 @@ use Rattle.pvp_book.specs.Answer.{has_member}
 use Rattle.rtgs_node.specs.Node.{member_account}
 use Rattle.rtgs_node.specs.Shown as node
 
--- what a site of the bank shows
+-- what a site of the bank shows, over a cell of this kind, and over one in memory
+abbrev pub SiteOf : Type 0 → Type 0
+SiteOf B = replica.Shown Cmd Setup B
+
 abbrev pub Site : Type 0
-Site = replica.Shown Cmd Setup MemCell
+Site = SiteOf MemCell
 
 -- the same boots are known of each site
 abbrev pub KnowTheSame : Site → Site → Type 0
-KnowTheSame v w = (i : ℕ) → i < 7 → boot_of v.volatile.known i ≡ boot_of w.volatile.known i
+KnowTheSame v w = (i : ℕ) → i < MOST_SITES → boot_of v.volatile.known i ≡ boot_of w.volatile.known i
 
 pub record AreAlikeSites (v w : Site) : Type 0 where
   pub status : v.volatile.status ≡ w.volatile.status

@@ -7,7 +7,7 @@ use Rattle.vr_types.specs.declared.cell.MemCell.{MemCell}
 use Rattle.vr_types.specs.MemoryCell.{held_by, faults_of, IsReliable, after_save}
 use Rattle.rtgs_node.specs.Shown as node
 use Rattle.pvp_world.specs.Client as client
-use Rattle.pvp_parties.specs.Alike.{Site}
+use Rattle.pvp_parties.specs.Alike.{SiteOf}
 
 -- the ghost members of the cell in memory
 abbrev pub memory : Cell MemCell
@@ -21,7 +21,7 @@ pub record Made (A : Type 0) : Type 0 where
 
 -- an actor as it was made
 
-abbrev pub made_site : Made Site → Site
+abbrev pub made_site : {B : Type 0} → Made (SiteOf B) → SiteOf B
 made_site p = record p.now { f = faults p.setup; me = p.place; setup = p.setup }
 
 abbrev pub made_node : Made node.Shown → node.Shown

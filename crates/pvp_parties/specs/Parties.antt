@@ -4,6 +4,8 @@ use Rattle.std.specs.Option.{option_map_or}
 use Rattle.pvp_types.specs.declared.setup.Setup.{Setup}
 use Rattle.pvp_types.specs.declared.command.Cmd.{Cmd}
 use Rattle.vr_types.specs.declared.cell.Boot.{Boot}
+use Rattle.vr_types.specs.declared.cell.BootCell.{Ghosts as Cell}
+use Rattle.vr_types.specs.declared.cell.MemCell.{MemCell}
 use Rattle.vr_types.specs.declared.event.EventOf.TheVariants.{Deliver}
 use Rattle.vr_types.specs.Group.{actor_of}
 use Rattle.pvp_book.specs.Ledger.{Ledger, node_of}
@@ -20,13 +22,17 @@ use Rattle.pvp_rooms.specs.declared.site.CameOf.TheVariants.{Did}
 use Rattle.pvp_rooms.specs.Sites as sites
 use Rattle.pvp_rooms.specs.Nodes as nodes
 use Rattle.pvp_rooms.specs.Clients as clients
-use Rattle.pvp_parties.specs.declared.party.Party.{Party}
-use Rattle.pvp_parties.specs.declared.party.Party.TheVariants.{Site, Node, Client}
+use Rattle.pvp_parties.specs.declared.party.PartyOf.{PartyOf}
+use Rattle.pvp_parties.specs.declared.party.PartyOf.TheVariants.{Site, Node, Client}
 use Rattle.pvp_parties.specs.declared.party.PartyEvent.{PartyEvent}
 use Rattle.pvp_parties.specs.declared.party.PartyEvent.TheVariants.{OfSite, OfNode, OfClient}
 use Rattle.pvp_parties.specs.declared.party.PartyOutcome.{PartyOutcome}
 use Rattle.pvp_parties.specs.declared.party.PartyOutcome.TheVariants.{OfSite as SiteTold, OfNode as NodeTold, OfClient as ClientTold, Stray}
-use Rattle.pvp_parties.specs.Made.{memory, made_site, made_node, made_client}
+use Rattle.pvp_parties.specs.Made.{made_site, made_node, made_client}
+
+-- an actor over a cell in memory
+abbrev pub Party : Type 0
+Party = PartyOf MemCell
 
 -- the states of an actor of any kind
 pub data PartyState : Type 0 where
@@ -35,29 +41,29 @@ pub data PartyState : Type 0 where
   AtClient : client.Shown → PartyState
 
 -- the number of an actor: clients from 0, nodes from 101, sites from 200
-abbrev pub number_of : Party → ℕ
+abbrev pub number_of : {B : Type 0} → PartyOf B → ℕ
 number_of (Site p) = actor_of p.place
 number_of (Node p) = node_of p.place
 number_of (Client p) = p.place
 
 -- what the bank was set up with
-abbrev pub setup_of : Party → Setup
+abbrev pub setup_of : {B : Type 0} → PartyOf B → Setup
 setup_of (Site p) = p.setup
 setup_of (Node p) = p.setup
 setup_of (Client p) = p.setup
 
 -- a site opens over what its cell held, a node and a client over nothing
-abbrev pub Opens : Party → Option Boot → PartyState → Type 0
+abbrev pub Opens : {B : Type 0} → PartyOf B → Option Boot → PartyState → Type 0
 Opens (Site p) (Some boot) (AtSite x) = sites.Opens book (made_site p) boot x
 Opens (Node p) None (AtNode x) = nodes.Opens (made_node p) x
 Opens (Client p) None (AtClient x) = clients.Opens (made_client p) x
 Opens _ _ _ = ⊥
 
-abbrev pub Shows : Party → PartyState → Type 0
-Shows (Site p) (AtSite x) = sites.Shows book memory p.now x
-Shows (Node p) (AtNode x) = x ≡ p.now
-Shows (Client p) (AtClient x) = x ≡ p.now
-Shows _ _ = ⊥
+abbrev pub Shows : {B : Type 0} → Cell B → PartyOf B → PartyState → Type 0
+Shows c (Site p) (AtSite x) = sites.Shows book c p.now x
+Shows c (Node p) (AtNode x) = x ≡ p.now
+Shows c (Client p) (AtClient x) = x ≡ p.now
+Shows _ _ _ = ⊥
 
 -- an event of another kind of actor is a stray
 abbrev pub Comes : PartyState → PartyEvent → PartyOutcome → Type 0
@@ -80,19 +86,19 @@ after (AtClient x) (OfClient event) (ClientTold told) = AtClient (clients.after 
 after x _ _ = x
 
 -- what the actor's reading calls show is of this state
-abbrev pub Reads : Party → PartyState → Type 0
-Reads (Site p) (AtSite x) = sites.Reads memory p.now x
-Reads (Node p) (AtNode x) = nodes.Reads p.now x
-Reads (Client p) (AtClient x) = clients.Reads p.now x
-Reads _ _ = ⊥
+abbrev pub Reads : {B : Type 0} → Cell B → PartyOf B → PartyState → Type 0
+Reads c (Site p) (AtSite x) = sites.Reads c p.now x
+Reads c (Node p) (AtNode x) = nodes.Reads p.now x
+Reads c (Client p) (AtClient x) = clients.Reads p.now x
+Reads _ _ _ = ⊥
 
 -- a fall or a want of memory of an actor has its cause; a stray changes nothing
-abbrev pub Tells : PartyOutcome → Party → Party → PartyEvent → Type 0
-Tells Stray old new event = new ≡ old
-Tells (SiteTold came) (Site p) (Site q) (OfSite event) = sites.Tells book memory p.now q.now event came
-Tells (NodeTold told) (Node p) (Node q) (OfNode event) = nodes.Tells p.now q.now event told
-Tells (ClientTold told) (Client p) (Client q) (OfClient event) = clients.Tells p.now q.now event told
-Tells _ _ _ _ = ⊥
+abbrev pub Tells : {B : Type 0} → Cell B → PartyOutcome → PartyOf B → PartyOf B → PartyEvent → Type 0
+Tells c Stray old new event = new ≡ old
+Tells c (SiteTold came) (Site p) (Site q) (OfSite event) = sites.Tells book c p.now q.now event came
+Tells c (NodeTold told) (Node p) (Node q) (OfNode event) = nodes.Tells p.now q.now event told
+Tells c (ClientTold told) (Client p) (Client q) (OfClient event) = clients.Tells p.now q.now event told
+Tells _ _ _ _ _ = ⊥
 
 -- a copy of an envelope takes memory
 abbrev pub Brings : PartyEvent → Type 0
@@ -125,6 +131,6 @@ sent (ClientTold (Ok envelopes)) = envelopes
 sent _ = []
 
 -- A client takes only what is addressed to its own number. A site and a node see to that themselves.
-abbrev pub is_for : Party → PartyEvent → Bool
+abbrev pub is_for : {B : Type 0} → PartyOf B → PartyEvent → Bool
 is_for (Client p) event = option_map_or (λ envelope. envelope.to == p.place) (delivers event) true
 is_for _ _ = true

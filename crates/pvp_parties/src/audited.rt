@@ -2,15 +2,15 @@
 ghost use Rattle.std.specs.Prelude.{◌≡◌, ◌↔◌, IsTrue};
 
 use crate::letters::{letter_at, letter_of};
-use crate::party::{Party, PartyEvent, PartyOutcome};
-use crate::same::same_envelope;
+use crate::party::{Party, PartyEvent, PartyOf, PartyOutcome};
 use crate::told::{
     same_came, same_client_event, same_client_told, same_node_event, same_node_told,
     same_site_event,
 };
 use pvp_audit::Audited;
+use pvp_book::Book;
 use std::alloc::{AllocError, Global};
-use vr_types::Boot;
+use vr_types::{Boot, is_same_envelope};
 
 impl Audited for Party {
     ghost use Rattle.rtgs_node.specs.Node.{Envelope};
@@ -26,15 +26,15 @@ impl Audited for Party {
 
     fn reopen(&self, alloc: Global, opening: Option<Boot>) -> Result<Self, AllocError> {
         Ok(match self {
-            Party::Site(site) => {
+            PartyOf::Site(site) => {
                 let boot = match opening {
                     Some(boot) => boot,
                     None => Boot::new(),
                 };
-                Party::Site(site.reopened(alloc, boot)?)
+                PartyOf::Site(site.reopened(alloc, boot)?)
             }
-            Party::Node(node) => Party::Node(node.reopened(alloc)?),
-            Party::Client(client) => Party::Client(client.reopened()?),
+            PartyOf::Node(node) => PartyOf::Node(node.reopened(alloc)?),
+            PartyOf::Client(client) => PartyOf::Client(client.reopened()?),
         })
     }
 
@@ -45,21 +45,21 @@ impl Audited for Party {
         outcome: &PartyOutcome,
     ) -> Result<bool, AllocError> {
         match self {
-            Party::Site(site) => match event {
+            PartyOf::Site(site) => match event {
                 PartyEvent::OfSite(event) => match outcome {
                     PartyOutcome::OfSite(came) => site.follow(alloc, event, came),
                     _ => Ok(false),
                 },
                 _ => Ok(is_stray(outcome)),
             },
-            Party::Node(node) => match event {
+            PartyOf::Node(node) => match event {
                 PartyEvent::OfNode(event) => match outcome {
                     PartyOutcome::OfNode(told) => node.follow(alloc, event, told),
                     _ => Ok(false),
                 },
                 _ => Ok(is_stray(outcome)),
             },
-            Party::Client(client) => match event {
+            PartyOf::Client(client) => match event {
                 PartyEvent::OfClient(event) => match outcome {
                     PartyOutcome::OfClient(told) => client.follow(alloc, event, told),
                     _ => Ok(false),
@@ -94,23 +94,23 @@ impl Audited for Party {
 
     fn is_for(&self, event: &PartyEvent) -> bool {
         match (self, letter_of(event)) {
-            (Party::Client(client), Some(letter)) => letter.to == client.number(),
+            (PartyOf::Client(client), Some(letter)) => letter.to == client.number(),
             _ => true,
         }
     }
 
     fn is_sent(event: &PartyEvent, outcome: &PartyOutcome, at: usize) -> bool {
         match (letter_of(event), letter_at(outcome, at)) {
-            (Some(letter), Some(found)) => same_envelope(letter, found),
+            (Some(letter), Some(found)) => is_same_envelope::<Book>(letter, found),
             _ => false,
         }
     }
 
     fn is_like(&self, other: &Party) -> bool {
         match (self, other) {
-            (Party::Site(a), Party::Site(b)) => a.is_like(b),
-            (Party::Node(a), Party::Node(b)) => a.is_like(b),
-            (Party::Client(a), Party::Client(b)) => a.is_like(b),
+            (PartyOf::Site(a), PartyOf::Site(b)) => a.is_like(b),
+            (PartyOf::Node(a), PartyOf::Node(b)) => a.is_like(b),
+            (PartyOf::Client(a), PartyOf::Client(b)) => a.is_like(b),
             _ => false,
         }
     }

@@ -11,7 +11,6 @@ ghost use Rattle.pvp_book.specs.Ledger.{Ledger};
 ghost use Rattle.vr_types.specs.declared.event.EventOf.TheVariants.{Restart};
 ghost use Rattle.pvp_parties.specs.Made.{memory};
 
-use crate::same::{same_boot, same_fault, same_sent, same_why};
 use crate::told::{same_client_fault, same_node_fault};
 use headline::{ClientEvent, ClientFault};
 use pvp_book::Book;
@@ -20,7 +19,10 @@ use pvp_world::Client;
 use rtgs_node::{Node, NodeEvent, NodeFault};
 use std::alloc::{AllocError, Global};
 use vr_site::Replica;
-use vr_types::{Boot, Event, EventOf, MemCell, Sent, SiteFault, Why};
+use vr_types::{
+    Boot, Event, EventOf, MemCell, Sent, SiteFault, Why, is_same_boot, is_same_fault, is_same_sent,
+    is_same_why,
+};
 
 /// Takes an event at a node that came out so, and says whether it can. After `Err` or a no the node may only be dropped.
 pub fn follow_node(
@@ -48,7 +50,7 @@ fn follow_node_step(
 {
     let copy = Node::copy_event(alloc, event)?;
     match node.handle(copy) {
-        Ok(found) => Ok(same_sent(found.as_slice(), sent.as_slice())),
+        Ok(found) => Ok(is_same_sent::<Book>(found.as_slice(), sent.as_slice())),
         Err(NodeFault::NoMemory) => Err(AllocError),
         Err(_) => Ok(false),
     }
@@ -101,7 +103,7 @@ fn follow_client_step(
 {
     let copy = Client::copy_event(alloc, event)?;
     match client.handle(alloc, copy) {
-        Ok(found) => Ok(same_sent(found.as_slice(), sent.as_slice())),
+        Ok(found) => Ok(is_same_sent::<Book>(found.as_slice(), sent.as_slice())),
         Err(ClientFault::NoMemory) => Err(AllocError),
         Err(_) => Ok(false),
     }
@@ -149,7 +151,7 @@ fn is_refusal(site: &Replica<Book, MemCell>, event: &Event<Book>, why: SiteFault
 {
     match site.refuses(event) {
         None => false,
-        Some(found) => same_fault(found, why),
+        Some(found) => is_same_fault(found, why),
     }
 }
 
@@ -169,7 +171,8 @@ fn follow_step(
     let copy = event.copy(alloc)?;
     match site.handle(alloc, copy) {
         Ok(out) => Ok(
-            same_why(out.dropped, dropped) && same_sent(out.sent.as_slice(), sent.as_slice()),
+            is_same_why(out.dropped, dropped)
+                && is_same_sent::<Book>(out.sent.as_slice(), sent.as_slice()),
         ),
         Err(_) => Err(AllocError),
     }
@@ -201,7 +204,7 @@ fn follow_fall(
         return Err(AllocError);
     };
     site.fall();
-    Ok(same_boot(cell, site.boot()))
+    Ok(is_same_boot(cell, site.boot()))
 }
 
 /// Whether a site falls for this.
@@ -219,7 +222,7 @@ fn is_unsaved_restart(event: &Event<Book>, cell: Boot, held: Boot) -> bool
     ensures { IsTrue result ↔ ((event.now ≡ Restart) × (cell ≡ held)) }
 {
     match event {
-        EventOf::Restart => same_boot(cell, held),
+        EventOf::Restart => is_same_boot(cell, held),
         _ => false,
     }
 }

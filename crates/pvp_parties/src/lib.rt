@@ -9,10 +9,9 @@ pub mod like;
 pub mod made;
 pub mod order;
 pub mod party;
-pub mod same;
 mod served;
 mod told;
 
-pub use cells::{PartyCell, PartySeat, client_cell, node_cell, site_cell};
+pub use cells::{PartyCell, PartyCellOf, PartySeat, client_cell, node_cell, site_cell};
 pub use order::are_in_order;
-pub use party::{Party, PartyEvent, PartyOutcome};
+pub use party::{Party, PartyEvent, PartyOf, PartyOutcome};

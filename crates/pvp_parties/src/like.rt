@@ -4,16 +4,12 @@ ghost use Rattle.pvp_rooms.specs.Nodes.{Reads as ReadsNode};
 ghost use Rattle.pvp_rooms.specs.Clients.{Reads as ReadsClient};
 ghost use Rattle.pvp_parties.specs.Alike.{AreAlikeSites, KnowTheSame, HoldTheSame};
 
-use crate::same::{same_boot, same_order, same_reply, same_row};
 use pvp_book::Book;
 use pvp_types::{PayOrder, Reply};
 use pvp_world::Client;
 use rtgs_node::{Node, PayIn};
 use vr_site::Replica;
-use vr_types::{MemCell, Row};
-
-/// The most sites that a group has.
-const MOST_SITES: u16 = 7;
+use vr_types::{MOST_SITES, MemCell, Row, is_same_boot, is_same_order, is_same_reply, is_same_row};
 
 /// Whether the reading calls of two sites show the same.
 pub fn are_alike_sites(a: &Replica<Book, MemCell>, b: &Replica<Book, MemCell>) -> bool
@@ -22,7 +18,7 @@ pub fn are_alike_sites(a: &Replica<Book, MemCell>, b: &Replica<Book, MemCell>) -
     a.status() == b.status()
         && a.view() == b.view()
         && a.done() == b.done()
-        && same_boot(a.boot(), b.boot())
+        && is_same_boot(a.boot(), b.boot())
         && know_the_same(a, b)
         && have_one_log(a, b)
 }
@@ -60,7 +56,7 @@ fn same_place(a: Option<Row<Book>>, b: Option<Row<Book>>) -> bool
 {
     match (a, b) {
         (None, None) => true,
-        (Some(x), Some(y)) => same_row(x, y),
+        (Some(x), Some(y)) => is_same_row::<Book>(x, y),
         _ => false,
     }
 }
@@ -122,7 +118,7 @@ fn same_pay_outs(a: &[PayOrder], b: &[PayOrder]) -> bool
         return false;
     }
     for i in 0..a.len() {
-        if !same_order(a[i], b[i]) {
+        if !is_same_order::<Book>(a[i], b[i]) {
             return false;
         }
     }
@@ -142,7 +138,7 @@ fn same_answer(a: Option<Reply>, b: Option<Reply>) -> bool
 {
     match (a, b) {
         (None, None) => true,
-        (Some(x), Some(y)) => same_reply(x, y),
+        (Some(x), Some(y)) => is_same_reply::<Book>(x, y),
         _ => false,
     }
 }

@@ -26,36 +26,36 @@ use std::marker::Model;
 use vr_site::Replica;
 use vr_types::{Boot, BootCell, Config, Event, FIRST_SITE, MemCell};
 
-/// A site of the bank.
+/// A site of the bank, over a cell of this kind.
 #[derive(Drop)]
-pub struct SiteParty {
+pub struct SiteParty<C: BootCell> {
     setup: Setup,
     me: u16,
-    site: Replica<Book, MemCell>,
+    site: Replica<Book, C>,
 }
 
-impl Model for SiteParty {
+impl<C: BootCell> Model for SiteParty<C> {
     ghost use Rattle.pvp_types.specs.Setup.{IsValid, faults};
     ghost use Rattle.std.specs.Prelude.{◌*◌, ◌≤◌};
-    ghost use Rattle.pvp_parties.specs.Alike.{Site};
+    ghost use Rattle.pvp_parties.specs.Alike.{SiteOf};
     ghost use Rattle.pvp_parties.specs.Made.{Made};
 
-    ghost Value = { Made Site };
+    ghost Value = { Made (SiteOf C) };
 
     ghost view = { λ a. record { setup = a.setup; place = a.me; now = a.site } };
 
     ghost invariant = { λ a. IsValid a.setup × (a.me ≤ 2 * faults a.setup) };
 }
 
-impl SiteParty {
+impl<C: BootCell> SiteParty<C> {
     /// The site of this place in its group, over a cell. `Err` where memory is refused.
-    pub fn new(alloc: Global, setup: &Setup, me: u16, cell: MemCell) -> Result<Self, AllocError>
+    pub fn new(alloc: Global, setup: &Setup, me: u16, cell: C) -> Result<Self, AllocError>
         requires valid { IsValid setup.now }
         requires known { me ≤ 2 * faults setup.now }
         ensures setup { IfOk result (λ made. made.setup ≡ setup.now) }
         ensures place { IfOk result (λ made. made.place ≡ me) }
         ensures opens { IfOk result (λ made. (x : sites.SiteState Ledger AnyCmd) →
-            sites.Opens book (made_site made) (memory.held cell) x → sites.Shows book memory made.now x) }
+            sites.Opens book (made_site made) (C.held cell) x → sites.Shows book C.BootCell made.now x) }
     {
         let f = setup.faults();
         let config = Config { f, me };
@@ -64,14 +64,6 @@ impl SiteParty {
             me,
             site: Replica::new(alloc, config, setup.copy()?, cell)?,
         })
-    }
-
-    /// The same site as it opened over this.
-    pub fn reopened(&self, alloc: Global, boot: Boot) -> Result<Self, AllocError>
-        ensures { IfOk result (λ made. (x : sites.SiteState Ledger AnyCmd) →
-            sites.Opens book (made_site self.now) boot x → sites.Shows book memory made.now x) }
-    {
-        SiteParty::new(alloc, &self.setup, self.me, MemCell::of(boot))
     }
 
     /// Its number as an actor.
@@ -89,15 +81,39 @@ impl SiteParty {
         alloc: Global,
         event: Event<Book>,
     ) -> Result<Copies<Came<Book>>, AllocError>
-        ensures step { IfOk result (λ copies. (x : sites.SiteState Ledger AnyCmd) → sites.Shows book memory self.old.now x →
-            Takes (sites.Comes book) sites.after x event copies.answered (sites.Shows book memory self.new.now)) }
+        ensures step { IfOk result (λ copies. (x : sites.SiteState Ledger AnyCmd) → sites.Shows book C.BootCell self.old.now x →
+            Takes (sites.Comes book) sites.after x event copies.answered (sites.Shows book C.BootCell self.new.now)) }
         ensures kept { self.new ≡ record self.old { now = self.new.now } }
         ensures recorded { IfOk result (λ copies. copies.recorded ≡ copies.answered) }
         ensures receipted { IfOk result (λ copies. copies.receipted ≡ copies.answered) }
         ensures err { OnErr result (self.new ≡ self.old) }
-        ensures told { IfOk result (λ copies. sites.Tells book memory self.old.now self.new.now event copies.answered) }
+        ensures told { IfOk result (λ copies. sites.Tells book C.BootCell self.old.now self.new.now event copies.answered) }
     {
         Actor::take(&mut self.site, alloc, event)
+    }
+
+    /// What its bank was set up with.
+    pub fn setup(&self) -> &Setup
+        ensures { result.now ≡ self.now.setup }
+    {
+        &self.setup
+    }
+
+    /// The site itself.
+    pub fn replica(&self) -> &Replica<Book, C>
+        ensures { result.now ≡ self.now.now }
+    {
+        &self.site
+    }
+}
+
+impl SiteParty<MemCell> {
+    /// The same site as it opened over this.
+    pub fn reopened(&self, alloc: Global, boot: Boot) -> Result<Self, AllocError>
+        ensures { IfOk result (λ made. (x : sites.SiteState Ledger AnyCmd) →
+            sites.Opens book (made_site self.now) boot x → sites.Shows book memory made.now x) }
+    {
+        SiteParty::new(alloc, &self.setup, self.me, MemCell::of(boot))
     }
 
     /// Takes an event that came out so, and says whether it can. After `Err` or a no it may only be dropped.
@@ -113,22 +129,8 @@ impl SiteParty {
         follow_site(&mut self.site, alloc, event, came)
     }
 
-    /// What its bank was set up with.
-    pub fn setup(&self) -> &Setup
-        ensures { result.now ≡ self.now.setup }
-    {
-        &self.setup
-    }
-
-    /// The site itself.
-    pub fn replica(&self) -> &Replica<Book, MemCell>
-        ensures { result.now ≡ self.now.now }
-    {
-        &self.site
-    }
-
     /// Whether the reading calls of this site and of another show the same.
-    pub fn is_like(&self, other: &SiteParty) -> bool
+    pub fn is_like(&self, other: &SiteParty<MemCell>) -> bool
         ensures { IsTrue result ↔ AreAlikeSites self.now.now other.now.now }
     {
         are_alike_sites(&self.site, &other.site)

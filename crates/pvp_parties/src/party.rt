@@ -11,15 +11,18 @@ use pvp_world::Client;
 use rtgs_node::{Node, NodeEvent, NodeFault};
 use std::alloc::{AllocError, Global};
 use vr_site::Replica;
-use vr_types::{Boot, Event, MemCell};
+use vr_types::{Boot, BootCell, Event, MemCell};
 
-/// An actor of the bank.
+/// An actor of the bank, of whose sites the boot cells are of this kind.
 #[derive(Drop)]
-pub enum Party {
-    Site(SiteParty),
+pub enum PartyOf<C: BootCell> {
+    Site(SiteParty<C>),
     Node(NodeParty),
     Client(ClientParty),
 }
+
+/// An actor of the bank whose boot cell, where it has one, is in memory.
+pub type Party = PartyOf<MemCell>;
 
 /// What may happen to an actor of the bank.
 #[derive(Drop)]
@@ -39,7 +42,7 @@ pub enum PartyOutcome {
     Stray,
 }
 
-impl Actor for Party {
+impl<C: BootCell> Actor for PartyOf<C> {
     ghost use Rattle.pvp_parties.specs.Parties.{PartyState, Opens, Shows, Comes, Reads, Tells, Brings, after};
 
     /// What a site's cell held; a node and a client open over nothing.
@@ -53,15 +56,15 @@ impl Actor for Party {
 
     ghost opens = { Opens };
 
-    ghost shows = { Shows };
+    ghost shows = { Shows C.BootCell };
 
     ghost comes = { Comes };
 
     ghost after = { after };
 
-    ghost reads = { Reads };
+    ghost reads = { Reads C.BootCell };
 
-    ghost tells = { λ old new event told. Tells told old new event };
+    ghost tells = { λ old new event told. Tells C.BootCell told old new event };
 
     ghost brings = { Brings };
 
@@ -72,15 +75,15 @@ impl Actor for Party {
         event: PartyEvent,
     ) -> Result<Copies<PartyOutcome>, AllocError> {
         match self {
-            Party::Site(site) => match event {
+            PartyOf::Site(site) => match event {
                 PartyEvent::OfSite(event) => Ok(of_site(site.take(alloc, event)?)),
                 _ => Ok(stray()),
             },
-            Party::Node(node) => match event {
+            PartyOf::Node(node) => match event {
                 PartyEvent::OfNode(event) => Ok(of_node(node.take(alloc, event)?)),
                 _ => Ok(stray()),
             },
-            Party::Client(client) => match event {
+            PartyOf::Client(client) => match event {
                 PartyEvent::OfClient(event) => Ok(of_client(client.take(alloc, event)?)),
                 _ => Ok(stray()),
             },
@@ -90,7 +93,7 @@ impl Actor for Party {
     fn copy_event(alloc: Global, event: &PartyEvent) -> Result<PartyEvent, AllocError> {
         Ok(match event {
             PartyEvent::OfSite(event) => {
-                PartyEvent::OfSite(Replica::<Book, MemCell>::copy_event(alloc, event)?)
+                PartyEvent::OfSite(Replica::<Book, C>::copy_event(alloc, event)?)
             }
             PartyEvent::OfNode(event) => PartyEvent::OfNode(Node::copy_event(alloc, event)?),
             PartyEvent::OfClient(event) => {
@@ -167,22 +170,21 @@ fn stray() -> Copies<PartyOutcome>
     }
 }
 
-impl Party {
+impl<C: BootCell> PartyOf<C> {
     ghost use Rattle.std.specs.Prelude.{Some, None};
-    ghost use Rattle.vr_types.specs.MemoryCell.{held_by};
     ghost use Rattle.vr_types.specs.Group.{actor_of};
     ghost use Rattle.pvp_book.specs.Ledger.{node_of};
     ghost use Rattle.pvp_parties.specs.Parties.{PartyState, Opens, Shows, number_of, setup_of};
 
     /// The site of this place in its group, over a cell. `Err` where memory is refused.
-    pub fn site(alloc: Global, setup: &Setup, me: u16, cell: MemCell) -> Result<Self, AllocError>
+    pub fn site(alloc: Global, setup: &Setup, me: u16, cell: C) -> Result<Self, AllocError>
         requires valid { IsValid setup.now }
         requires known { me ≤ 2 * faults setup.now }
         ensures number { IfOk result (λ party. number_of party ≡ actor_of me) }
         ensures setup { IfOk result (λ party. setup_of party ≡ setup.now) }
-        ensures opens { IfOk result (λ party. (x : PartyState) → Opens party (Some (held_by cell)) x → Shows party x) }
+        ensures opens { IfOk result (λ party. (x : PartyState) → Opens party (Some (C.held cell)) x → Shows C.BootCell party x) }
     {
-        Ok(Party::Site(SiteParty::new(alloc, setup, me, cell)?))
+        Ok(PartyOf::Site(SiteParty::new(alloc, setup, me, cell)?))
     }
 
     /// The node of a currency. `Err` where memory is refused.
@@ -191,9 +193,9 @@ impl Party {
         requires known { ccy < length setup.now.currencies }
         ensures number { IfOk result (λ party. number_of party ≡ node_of ccy) }
         ensures setup { IfOk result (λ party. setup_of party ≡ setup.now) }
-        ensures opens { IfOk result (λ party. (x : PartyState) → Opens party None x → Shows party x) }
+        ensures opens { IfOk result (λ party. (x : PartyState) → Opens party None x → Shows C.BootCell party x) }
     {
-        Ok(Party::Node(NodeParty::new(alloc, setup, ccy)?))
+        Ok(PartyOf::Node(NodeParty::new(alloc, setup, ccy)?))
     }
 
     /// The client of this number, 0 for the operator or a member's. `Err` where memory is refused.
@@ -202,9 +204,9 @@ impl Party {
         requires known { number ≤ length setup.now.members }
         ensures number { IfOk result (λ party. number_of party ≡ number) }
         ensures setup { IfOk result (λ party. setup_of party ≡ setup.now) }
-        ensures opens { IfOk result (λ party. (x : PartyState) → Opens party None x → Shows party x) }
+        ensures opens { IfOk result (λ party. (x : PartyState) → Opens party None x → Shows C.BootCell party x) }
     {
-        Ok(Party::Client(ClientParty::new(setup, number)?))
+        Ok(PartyOf::Client(ClientParty::new(setup, number)?))
     }
 
     /// What its bank was set up with.
@@ -212,9 +214,9 @@ impl Party {
         ensures { result.now ≡ setup_of self.now }
     {
         match self {
-            Party::Site(site) => site.setup(),
-            Party::Node(node) => node.setup(),
-            Party::Client(client) => client.setup(),
+            PartyOf::Site(site) => site.setup(),
+            PartyOf::Node(node) => node.setup(),
+            PartyOf::Client(client) => client.setup(),
         }
     }
 
@@ -223,9 +225,9 @@ impl Party {
         ensures { result ≡ number_of self.now }
     {
         match self {
-            Party::Site(site) => site.number(),
-            Party::Node(node) => node.number(),
-            Party::Client(client) => client.number(),
+            PartyOf::Site(site) => site.number(),
+            PartyOf::Node(node) => node.number(),
+            PartyOf::Client(client) => client.number(),
         }
     }
 }

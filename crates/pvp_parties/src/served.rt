@@ -1,13 +1,13 @@
 //! How envelopes come to an actor of the bank.
-use crate::party::{Party, PartyEvent, PartyOutcome};
+use crate::party::{PartyEvent, PartyOf, PartyOutcome};
 use headline::ClientEvent;
 use pvp_book::Book;
 use pvp_peers::Served;
 use pvp_rooms::CameOf;
 use rtgs_node::NodeEvent;
-use vr_types::{Envelope, EventOf, FIRST_NODE, FIRST_SITE};
+use vr_types::{ActorId, BootCell, Envelope, EventOf};
 
-impl Served for Party {
+impl<C: BootCell> Served for PartyOf<C> {
     ghost use Rattle.pvp_parties.specs.Parties.{delivered, sent};
 
     ghost delivery = { delivered };
@@ -16,13 +16,10 @@ impl Served for Party {
 
     /// It comes as to the kind of actor that it is addressed to: to one of another kind it is a stray.
     fn deliver(envelope: Envelope<Book>) -> PartyEvent {
-        let to = envelope.to;
-        if to >= FIRST_SITE {
-            PartyEvent::OfSite(EventOf::Deliver(envelope))
-        } else if to >= FIRST_NODE {
-            PartyEvent::OfNode(NodeEvent::Takes(envelope))
-        } else {
-            PartyEvent::OfClient(ClientEvent::Takes(envelope))
+        match ActorId::of(envelope.to) {
+            ActorId::Site(_) => PartyEvent::OfSite(EventOf::Deliver(envelope)),
+            ActorId::Node(_) => PartyEvent::OfNode(NodeEvent::Takes(envelope)),
+            ActorId::Client(_) => PartyEvent::OfClient(ClientEvent::Takes(envelope)),
         }
     }
 

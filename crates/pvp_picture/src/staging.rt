@@ -9,9 +9,10 @@ use pvp_trace::Attempt;
 use pvp_trace::attempt::push_step;
 use pvp_trace::messages::{kind_name, push_envelope};
 use pvp_trace::names::push_actor;
-use pvp_world::{Report, Step, World, WorldFault};
+use pvp_types::Step;
+use pvp_world::{Report, World, WorldFault};
 use std::alloc::{AllocError, Global};
-use vr_types::{FIRST_NODE, FIRST_SITE, MemCell};
+use vr_types::{ActorId, FIRST_SITE, MemCell};
 
 /// A run: its world at the end, its steps, where the sites stood before the first and after each, and what its lines did
 /// apart from steps.
@@ -168,12 +169,12 @@ fn actor_of(world: &World<MemCell>, step: Step) -> Option<u16> {
     match step {
         Step::Deliver(number) => world.envelope(number).map(|envelope| envelope.to),
         Step::PayIn { ccy, .. } | Step::Close { ccy, .. } => {
-            Some(FIRST_NODE.saturating_add(u16::from(ccy)))
+            Some(ActorId::Node(u16::from(ccy)).number())
         }
         Step::Submit { client, .. } => Some(client),
         Step::Beat(actor) => Some(actor),
         Step::Timer(site) | Step::Crash(site) | Step::Restart(site) => {
-            Some(FIRST_SITE.saturating_add(site))
+            Some(ActorId::Site(site).number())
         }
     }
 }
@@ -410,7 +411,7 @@ fn push_sites(alloc: Global, actors: &mut Vec<Actor>, run: &Run) -> Result<(), A
         .saturating_mul(2)
         .saturating_add(1);
     for site in 0..sites {
-        let number = FIRST_SITE.saturating_add(site);
+        let number = ActorId::Site(site).number();
         push_new_actor(alloc, actors, run, number, Some(usize::from(site)))?;
     }
     Ok(())

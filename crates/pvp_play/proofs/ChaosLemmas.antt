@@ -2,7 +2,7 @@
 use Rattle.std.proofs.Common.{◌≡◌, ℕ, zero, suc, ◌+◌, ◌-◌, ◌<◌, ◌≤◌, Bool, true, List, ◌++◌, drop, Option, Some, refl, ap, sym, ◌∙◌, arith}
 use Rattle.std.specs.Prelude.{◌&&◌, ◌%◌, replicate, slice_get, unwrap_or}
 use Rattle.std.specs.List.{list_all, range_with_len}
-use Rattle.headline.specs.declared.step.Step.TheVariants.{Beat}
+use Rattle.pvp_types.specs.declared.step.Step.TheVariants.{Beat}
 use Rattle.rand_pcg.specs.Lcg.{Lcg}
 use Rattle.rand_pcg.specs.Pcg.{pcg32}
 use Rattle.pvp_world.specs.World.{Shown as World}

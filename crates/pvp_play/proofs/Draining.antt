@@ -5,8 +5,8 @@ use Rattle.std.specs.Prelude.{fold, is_some}
 use Rattle.std.specs.List.{cons_option, filter_map, enumerate_from, position_from}
 use Rattle.vr_types.specs.declared.cell.BootCell.{Ghosts as Cell}
 use Rattle.rtgs_node.specs.Node.{Envelope}
-use Rattle.headline.specs.declared.step.Step.{Step}
-use Rattle.headline.specs.declared.step.Step.TheVariants.{Deliver}
+use Rattle.pvp_types.specs.declared.step.Step.{Step}
+use Rattle.pvp_types.specs.declared.step.Step.TheVariants.{Deliver}
 use Rattle.headline.proofs.Basics.{none-some, some-same}
 use Rattle.pvp_world.specs.World.{Shown as World}
 use Rattle.pvp_trace.specs.declared.attempt.Attempt.{Attempt}

@@ -2,11 +2,11 @@
 use Rattle.std.proofs.Common.{◌≡◌, ℕ, zero, suc, Bool, true, false, if◌then◌else◌, List, [], ◌∷◌, Option, Some, None, refl, ap, ◌∙◌}
 use Rattle.std.specs.Prelude.{is_some}
 use Rattle.vr_types.specs.declared.cell.BootCell.{Ghosts as Cell}
-use Rattle.headline.specs.declared.step.Step.{Step}
+use Rattle.pvp_types.specs.declared.step.Step.{Step}
 use Rattle.rand_pcg.specs.Lcg.{Lcg}
 use Rattle.pvp_text.specs.declared.script.Line.{Line}
 use Rattle.pvp_text.specs.declared.script.Statement.{Statement}
-use Rattle.pvp_text.specs.declared.script.Statement.TheVariants.{Do, Print, PayIn, Close, Beat, Timer, Crash, Restart, Deliver, Drain, Skip, Cut, Heal, Chaos, Rest}
+use Rattle.pvp_text.specs.declared.script.Statement.TheVariants.{Do, Print, Drain, Skip, Cut, Heal, Chaos, Rest}
 use Rattle.pvp_world.specs.declared.fault.WorldFault.{WorldFault}
 use Rattle.pvp_world.specs.Steps.{has_number}
 use Rattle.pvp_trace.specs.declared.attempt.Attempt.{Attempt}
@@ -55,15 +55,8 @@ module _ {B : Type 0} (c : Cell B) where
       by false = refl
 
   line-notes : (statement : Statement) (old new : Position B) (told : Option WorldFault) → Does c statement old new told → Same old new
-  line-notes (Do client cmd) old new told does = tried-notes old new _ told does
+  line-notes (Do step) old new told does = tried-notes old new step told does
   line-notes Print old new told does = noted-by old new old does.0 refl
-  line-notes (PayIn member ccy amt) old new told does = tried-notes old new _ told does
-  line-notes (Close member ccy) old new told does = tried-notes old new _ told does
-  line-notes (Beat actor) old new told does = tried-notes old new _ told does
-  line-notes (Timer site) old new told does = tried-notes old new _ told does
-  line-notes (Crash site) old new told does = tried-notes old new _ told does
-  line-notes (Restart site) old new told does = tried-notes old new _ told does
-  line-notes (Deliver envelope) old new told does = tried-notes old new _ told does
   line-notes (Drain turns) old new told does = noted-with old new does.0.attempts does.0.noted
   line-notes (Skip envelopes) old new told does = noted-by old new _ does.0 refl
   line-notes (Cut actor) old new told does = cut-notes old new actor _ does.0

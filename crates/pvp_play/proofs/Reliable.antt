@@ -2,11 +2,11 @@
 use Rattle.std.proofs.Common.{◌≡◌, ◌≢◌, ℕ, zero, suc, Bool, true, false, if◌then◌else◌, List, [], ◌∷◌, Option, Some, None, Result, Ok, Err, refl, sym, ap, ◌∙◌, subst}
 use Rattle.vr_types.specs.declared.cell.BootCell.{Ghosts as Cell}
 use Rattle.vr_types.specs.declared.event.SiteFault.TheVariants.{CellFault}
-use Rattle.headline.specs.declared.step.Step.{Step}
+use Rattle.pvp_types.specs.declared.step.Step.{Step}
 use Rattle.rand_pcg.specs.Lcg.{Lcg}
 use Rattle.pvp_text.specs.declared.script.Line.{Line}
 use Rattle.pvp_text.specs.declared.script.Statement.{Statement}
-use Rattle.pvp_text.specs.declared.script.Statement.TheVariants.{Do, Print, PayIn, Close, Beat, Timer, Crash, Restart, Deliver, Drain, Skip, Cut, Heal, Chaos, Rest}
+use Rattle.pvp_text.specs.declared.script.Statement.TheVariants.{Do, Print, Drain, Skip, Cut, Heal, Chaos, Rest}
 use Rattle.pvp_world.specs.declared.fault.WorldFault.{WorldFault}
 use Rattle.pvp_world.specs.declared.fault.WorldFault.TheVariants.{Site, NoSuchActor}
 use Rattle.pvp_world.specs.declared.report.Report.{Report}
@@ -86,15 +86,8 @@ module _ {B : Type 0} (c : Cell B) where
 
   pub line-keeps : (statement : Statement) (old new : Position B) (told : Option WorldFault) → Does c statement old new told
       → AreReliable c old.world → AreReliable c new.world × (told ≢ Some (Site CellFault))
-  line-keeps (Do client cmd) old new told does = tried-keeps old new _ told does
+  line-keeps (Do step) old new told does = tried-keeps old new step told does
   line-keeps Print old new told does = quiet-keeps old.world new.world told (same-keeps old.world new.world (ap (λ (p : Position B). p.world) does.0)) does.1
-  line-keeps (PayIn member ccy amt) old new told does = tried-keeps old new _ told does
-  line-keeps (Close member ccy) old new told does = tried-keeps old new _ told does
-  line-keeps (Beat actor) old new told does = tried-keeps old new _ told does
-  line-keeps (Timer site) old new told does = tried-keeps old new _ told does
-  line-keeps (Crash site) old new told does = tried-keeps old new _ told does
-  line-keeps (Restart site) old new told does = tried-keeps old new _ told does
-  line-keeps (Deliver envelope) old new told does = tried-keeps old new _ told does
   line-keeps (Drain turns) old new told does = quiet-keeps old.world new.world told (delivered-keep does.0.delivered does.0.attempts old.world new.world does.0.are_delivered) does.1
   line-keeps (Skip envelopes) old new told does = quiet-keeps old.world new.world told (same-keeps old.world new.world (ap (λ (p : Position B). p.world) does.0)) does.1
   line-keeps (Cut actor) old new told does = cut-keeps old new actor _ told does.0 does.1

@@ -5,11 +5,11 @@ use Rattle.std.specs.Option.{option_map_or}
 use Rattle.pvp_types.specs.declared.setup.Setup.{Setup}
 use Rattle.pvp_types.specs.declared.command.Cmd.{Cmd}
 use Rattle.pvp_types.specs.declared.command.Cmd.TheVariants.{Instruct, Rescind, Settle, PayOut}
-use Rattle.vr_types.specs.Actors.{first_node, first_site}
+use Rattle.pvp_types.specs.declared.step.Step.{Step}
+use Rattle.pvp_types.specs.declared.step.Step.TheVariants.{Deliver, PayIn, Submit, Beat, Timer, Crash, Restart}
+use Rattle.vr_types.specs.declared.actors.TheConstants.{FIRST_NODE, FIRST_SITE}
 use Rattle.vr_types.specs.declared.cell.BootCell.{Ghosts as Cell}
 use Rattle.vr_types.specs.Site.{is_normal}
-use Rattle.headline.specs.declared.step.Step.{Step}
-use Rattle.headline.specs.declared.step.Step.TheVariants.{Deliver, PayIn, Submit, Beat, Timer, Crash, Restart}
 use Rattle.rand_pcg.specs.Lcg.{Lcg, started, increment_of}
 use Rattle.rand_pcg.specs.Pcg.{multiplier_64, pcg32}
 use Rattle.pvp_world.specs.declared.fault.WorldFault.{WorldFault}
@@ -35,8 +35,8 @@ any_currency setup b = (b / 64) % currency_count setup
 abbrev pub any_actor : Setup → ℕ → ℕ
 any_actor setup b =
     let k = b % (setup.sites + currency_count setup + 1 + length setup.members) in
-    if nat_lt k setup.sites then first_site + k
-    else if nat_lt k (setup.sites + currency_count setup) then first_node + (k - setup.sites)
+    if nat_lt k setup.sites then FIRST_SITE + k
+    else if nat_lt k (setup.sites + currency_count setup) then FIRST_NODE + (k - setup.sites)
     else k - (setup.sites + currency_count setup)
 
 -- THE TRADES that chaos has made, one a reference

@@ -12,7 +12,6 @@ use Rattle.vr_types.specs.contracts.cell.MemCellBootCell.TheImpl.{ghosts as memo
 use Rattle.vr_types.specs.Cell.{new_cell}
 use Rattle.vr_types.specs.MemoryCell.{held_by}
 use Rattle.vr_site.specs.Replica.{Shown as Replica}
-use Rattle.headline.specs.declared.step.Step.TheVariants as steps
 use Rattle.pvp_world.specs.declared.fault.WorldFault.{WorldFault}
 use Rattle.pvp_world.specs.declared.fault.WorldFault.TheVariants.{Site as OfSite}
 use Rattle.pvp_world.specs.Fault.{fault_text}
@@ -23,7 +22,7 @@ use Rattle.pvp_text.specs.declared.book.RunFault.TheVariants as run
 use Rattle.pvp_text.specs.declared.script.Line.{Line}
 use Rattle.pvp_text.specs.declared.script.LineFault.{LineFault}
 use Rattle.pvp_text.specs.declared.script.Statement.{Statement}
-use Rattle.pvp_text.specs.declared.script.Statement.TheVariants.{Do, Print, PayIn, Close, Beat, Timer, Crash, Restart, Deliver, Drain, Skip, Cut, Heal, Chaos, Rest}
+use Rattle.pvp_text.specs.declared.script.Statement.TheVariants.{Do, Print, Drain, Skip, Cut, Heal, Chaos, Rest}
 use Rattle.pvp_text.specs.BookText.{ScriptReading, Tells, IsNotBegun}
 use Rattle.pvp_trace.specs.declared.attempt.Attempt.{Attempt}
 use Rattle.pvp_play.specs.declared.cells.Fail.{Fail}
@@ -42,15 +41,8 @@ IsTaken told = told ≡ None
 
 -- WHAT A LINE DOES, and why it was refused, if it was
 abbrev pub Does : {B : Type 0} → Cell B → Statement → Position B → Position B → Option WorldFault → Type 0
-Does c (Do client cmd) old new told = Tries c old new (steps.Submit client cmd) told
+Does c (Do step) old new told = Tries c old new step told
 Does c Print old new told = (new ≡ old) × IsTaken told
-Does c (PayIn member ccy amt) old new told = Tries c old new (steps.PayIn ccy member amt) told
-Does c (Close member ccy) old new told = Tries c old new (steps.Close ccy member) told
-Does c (Beat actor) old new told = Tries c old new (steps.Beat actor) told
-Does c (Timer site) old new told = Tries c old new (steps.Timer site) told
-Does c (Crash site) old new told = Tries c old new (steps.Crash site) told
-Does c (Restart site) old new told = Tries c old new (steps.Restart site) told
-Does c (Deliver envelope) old new told = Tries c old new (steps.Deliver envelope) told
 Does c (Drain turns) old new told = Drains c turns old new × IsTaken told
 Does c (Skip envelopes) old new told = (new ≡ skipped old envelopes) × IsTaken told
 Does c (Cut actor) old new told = (new ≡ with_cut old actor (cut_off old.cut actor)) × (told ≡ unknown_actor old actor)
@@ -60,15 +52,8 @@ Does c (Rest milliseconds) old new told = (new ≡ old) × IsTaken told
 
 -- memory was refused for what a line does
 abbrev pub Stops : {B : Type 0} → Cell B → Statement → Position B → Position B → Type 0
-Stops c (Do client cmd) old new = Wants old new (steps.Submit client cmd)
+Stops c (Do step) old new = Wants old new step
 Stops c Print old new = ⊥
-Stops c (PayIn member ccy amt) old new = Wants old new (steps.PayIn ccy member amt)
-Stops c (Close member ccy) old new = Wants old new (steps.Close ccy member)
-Stops c (Beat actor) old new = Wants old new (steps.Beat actor)
-Stops c (Timer site) old new = Wants old new (steps.Timer site)
-Stops c (Crash site) old new = Wants old new (steps.Crash site)
-Stops c (Restart site) old new = Wants old new (steps.Restart site)
-Stops c (Deliver envelope) old new = Wants old new (steps.Deliver envelope)
 Stops c (Drain turns) old new = DrainStops c turns old new
 Stops c (Skip envelopes) old new = ⊥
 Stops c (Cut actor) old new = CutStops old new actor
@@ -84,20 +69,7 @@ refused_text number (Some fault) = codes "refused " ++ decimal number ++ codes "
 
 abbrev pub print_text : {B : Type 0} → (B → Boot) → Statement → World B → List ℕ
 print_text held Print world = books_text held world
-print_text held (Do client cmd) world = []
-print_text held (PayIn member ccy amt) world = []
-print_text held (Close member ccy) world = []
-print_text held (Beat actor) world = []
-print_text held (Timer site) world = []
-print_text held (Crash site) world = []
-print_text held (Restart site) world = []
-print_text held (Deliver envelope) world = []
-print_text held (Drain turns) world = []
-print_text held (Skip envelopes) world = []
-print_text held (Cut actor) world = []
-print_text held (Heal actor) world = []
-print_text held (Chaos seed turns) world = []
-print_text held (Rest milliseconds) world = []
+print_text held _ world = []
 
 -- WHERE STEPS ARE TOLD: each that was noted after so many before; and where none was, what was refused
 abbrev pub steps_text : {B : Type 0} → World B → ℕ → Option WorldFault → ℕ → List Attempt → List ℕ

@@ -3,8 +3,8 @@ use Rattle.std.specs.Prelude.{◌≡◌, ◌≢◌, ℕ, ◌+◌, ◌==◌, ◌|
 use Rattle.std.specs.List.{list_any, enumerate_from, filter_map}
 use Rattle.vr_types.specs.declared.cell.BootCell.{Ghosts as Cell}
 use Rattle.rtgs_node.specs.Node.{Envelope}
-use Rattle.headline.specs.declared.step.Step.{Step}
-use Rattle.headline.specs.declared.step.Step.TheVariants as steps
+use Rattle.pvp_types.specs.declared.step.Step.{Step}
+use Rattle.pvp_types.specs.declared.step.Step.TheVariants as steps
 use Rattle.pvp_world.specs.declared.fault.WorldFault.{WorldFault}
 use Rattle.pvp_world.specs.declared.fault.WorldFault.TheVariants.{NoSuchActor, NoMemory}
 use Rattle.pvp_world.specs.declared.report.Report.{Report}

@@ -2,7 +2,7 @@
 use Rattle.std.specs.Prelude.{◌≡◌, ℕ, [], ◌∷◌, zero, suc, ◌+◌, length, drop, Option, Some, None}
 use Rattle.std.specs.List.{position_from}
 use Rattle.vr_types.specs.declared.cell.BootCell.{Ghosts as Cell}
-use Rattle.headline.specs.declared.step.Step.TheVariants.{Deliver}
+use Rattle.pvp_types.specs.declared.step.Step.TheVariants.{Deliver}
 use Rattle.pvp_trace.specs.declared.attempt.Attempt.{Attempt}
 use Rattle.pvp_play.specs.Notes.{with_notes}
 use Rattle.pvp_play.specs.Player.{Position, TriesIn, Wants, is_open, with_cursor}

@@ -4,8 +4,7 @@ ghost use Rattle.pvp_types.specs.Setup.{IsValid};
 ghost use Rattle.pvp_play.specs.Chaos.{currency_count, any_member, any_currency, any_actor, any_reference, on_side, instruction, is_normal_at, are_normal, any_delivery, any_pay_in, any_pay_out, any_instruction, any_rescission, any_settlement, any_timer, any_crash, act_of, Does, Stops, Rages, RageStops};
 
 use crate::player::Player;
-use headline::Step;
-use pvp_types::{Cmd, Setup};
+use pvp_types::{Cmd, Setup, Step};
 use pvp_world::World;
 use rand_core::utils::NextWord;
 use rand_pcg::Lcg64Xsh32;

@@ -14,7 +14,6 @@ use crate::chaos::rage;
 use crate::notes::{Telling, push_notes};
 use crate::passing::push_passing;
 use crate::player::Player;
-use headline::Step;
 use pvp_text::book::{read_lines, write_text};
 use pvp_text::{Kind, Line, RunFault, Statement};
 use pvp_types::Setup;
@@ -233,16 +232,7 @@ pub fn do_line<C: BootCell>(
     ensures stopped { OnErr result (Stops C.BootCell statement player.old player.new) }
 {
     match statement {
-        Statement::Do { client, cmd } => player.step(alloc, Step::Submit { client, cmd }),
-        Statement::PayIn { member, ccy, amt } => {
-            player.step(alloc, Step::PayIn { ccy, member, amt })
-        }
-        Statement::Close { member, ccy } => player.step(alloc, Step::Close { ccy, member }),
-        Statement::Beat { actor } => player.step(alloc, Step::Beat(actor)),
-        Statement::Timer { site } => player.step(alloc, Step::Timer(site)),
-        Statement::Crash { site } => player.step(alloc, Step::Crash(site)),
-        Statement::Restart { site } => player.step(alloc, Step::Restart(site)),
-        Statement::Deliver { envelope } => player.step(alloc, Step::Deliver(envelope as usize)),
+        Statement::Do(step) => player.step(alloc, step),
         Statement::Drain { turns } => {
             player.drain(alloc, turns)?;
             Ok(None)
@@ -285,19 +275,6 @@ fn push_print<C: BootCell>(
 {
     match statement {
         Statement::Print => push_books(text, world),
-        Statement::Do { .. }
-        | Statement::PayIn { .. }
-        | Statement::Close { .. }
-        | Statement::Beat { .. }
-        | Statement::Timer { .. }
-        | Statement::Crash { .. }
-        | Statement::Restart { .. }
-        | Statement::Deliver { .. }
-        | Statement::Drain { .. }
-        | Statement::Skip { .. }
-        | Statement::Cut { .. }
-        | Statement::Heal { .. }
-        | Statement::Chaos { .. }
-        | Statement::Rest { .. } => Ok(()),
+        _ => Ok(()),
     }
 }

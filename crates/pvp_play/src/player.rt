@@ -3,9 +3,9 @@ ghost use Rattle.std.specs.Prelude.{◌≡◌, ◌≢◌, [], None, Some, IfOk, 
 ghost use Rattle.pvp_play.specs.Player.{healed};
 
 use crate::notes::{make_room, note};
-use headline::Step;
 use pvp_book::Book;
 use pvp_trace::{Attempt, try_step};
+use pvp_types::Step;
 use pvp_world::{World, WorldFault};
 use std::alloc::{AllocError, Global};
 use std::marker::Model;

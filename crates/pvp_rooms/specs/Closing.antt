@@ -11,6 +11,10 @@ pub record IsClosed {A N E O : Type 0} (m : Ghosts A N E O) (opening : N) (histo
   pub replayed : IsReplayed m opening end history
   pub rising : IsRising history 0
 
+-- so much is seen of an actor that a history of its own has left
+abbrev pub IsSeen : {A N E O S : Type 0} → Ghosts A N E O → (A → S → Type 0) → S → Type 0
+IsSeen {A} {N} {E} {O} m sees sight = (opening : N) × (history : List (Recorded E O)) × (actor : A) × IsClosed m opening history actor × sees actor sight
+
 -- these are all seats of this actor, numbered on from here, in order
 abbrev pub are_complete : {E O : Type 0} → List (Held E O) → ℕ → ℕ → Bool
 are_complete [] actor next = true

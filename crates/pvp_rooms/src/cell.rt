@@ -3,13 +3,14 @@ ghost use Rattle.std.specs.List.Sorted.{IsNonDecreasingBy};
 ghost use Rattle.pvp_rooms.specs.Seats.{AnswersStep};
 ghost use Rattle.pvp_rooms.specs.Rooms.{receipts_after};
 ghost use Rattle.pvp_rooms.specs.Gates.{Hears, passage};
-ghost use Rattle.pvp_rooms.specs.Closing.{IsClosed, are_complete, fresh_seats};
+ghost use Rattle.pvp_rooms.specs.Closing.{IsClosed, IsSeen, are_complete, fresh_seats};
 
 use crate::actor::Actor;
 use crate::gate::Gate;
 use crate::message::{Answer, Input, Recorded};
 use crate::room::Room;
 use crate::seat::Seat;
+use crate::sight::Sight;
 use std::alloc::{AllocError, Global};
 use std::marker::Model;
 use std::sync::{Mutex, Wait};
@@ -104,6 +105,14 @@ impl<A: Actor> ActorCell<A> {
         let answer = room.step_with_receipt(alloc, input, &mut seat.receipts);
         gate.leave(self.number, &*room, &answer);
         answer
+    }
+
+    /// Looks at the actor, once the lock is got: as a history of its own leaves it, and as it stays. It takes no memory.
+    pub fn look<R: Wait, S: Sight<A>>(&self, rt: &R, sight: &mut S)
+        ensures { IsSeen A.Actor S.sees sight.new }
+    {
+        let room = self.room.lock(rt);
+        room.show(sight);
     }
 
     /// Hands out what the actor left, where these are all its seats, each once; else E1, with cell and seats handed

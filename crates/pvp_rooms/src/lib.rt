@@ -10,6 +10,7 @@ pub mod node;
 mod requests;
 pub mod room;
 pub mod seat;
+pub mod sight;
 pub mod site;
 
 pub use actor::Actor;
@@ -19,6 +20,7 @@ pub use gate::Gate;
 pub use message::{Answer, Copies, Input, Recorded};
 pub use node::{NodeCell, NodeSeat};
 pub use requests::Told;
-pub use room::Room;
+pub use room::{Room, next_clock};
 pub use seat::Seat;
+pub use sight::Sight;
 pub use site::{Came, CameOf, SiteCell, SiteSeat};

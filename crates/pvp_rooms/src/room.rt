@@ -1,8 +1,10 @@
 ghost use Rattle.std.specs.Prelude.{◌≡◌, ◌++◌, ◌∷◌, [], IfOk};
 ghost use Rattle.pvp_rooms.specs.Rooms.{Told, clock_after, receipts_after};
+ghost use Rattle.pvp_rooms.specs.Closing.{IsSeen};
 
 use crate::actor::Actor;
 use crate::message::{Answer, Input, Recorded};
+use crate::sight::Sight;
 use pvp_wire::Stamp;
 use std::alloc::Global;
 use std::marker::Model;
@@ -99,6 +101,13 @@ impl<A: Actor> Room<A> {
         }
     }
 
+    /// Lends the actor to what looks at it.
+    pub fn show<S: Sight<A>>(&self, sight: &mut S)
+        ensures { IsSeen A.Actor S.sees sight.new }
+    {
+        sight.see(&self.actor);
+    }
+
     /// Hands out the opening, the history and the actor.
     pub fn into_parts(self) -> (A::Opening, Vec<Recorded<A::Event, A::Outcome>>, A)
         ensures opening { result.0 ≡ self.opening }
@@ -116,8 +125,8 @@ impl<A: Actor> Room<A> {
     }
 }
 
-/// The clock after an event with this stamp, where there is one.
-fn next_clock(own: u64, stamp: Option<Stamp>) -> Option<u64>
+/// The clock after an event with this stamp: the greater of its own and the stamp's, plus 1; `None` where that is no clock.
+pub fn next_clock(own: u64, stamp: Option<Stamp>) -> Option<u64>
     ensures { result ≡ clock_after own stamp }
 {
     let other = stamp.map_or(0, |stamp| stamp.clock);

@@ -32,6 +32,17 @@ impl<E, O> Seat<E, O> {
         }
     }
 
+    /// A seat of this number at an actor that holds these receipts, as they stand in what the actor left.
+    pub fn holding(actor: u16, number: u16, receipts: Vec<Recorded<E, O>>) -> Self
+        ensures { result ≡ record { actor = actor; number = number; receipts = receipts.items } }
+    {
+        Seat {
+            actor,
+            number,
+            receipts,
+        }
+    }
+
     /// The number of the actor.
     pub fn actor(&self) -> u16
         ensures { result ≡ self.now.actor }

@@ -1,15 +1,11 @@
 -- Which actors have a stream to which.
 use Rattle.std.specs.Prelude.{ℕ, ◌==◌, ◌&&◌, ◌||◌, Bool, not, nat_le, List, map, filter}
 use Rattle.std.specs.List.{flat_map}
-use Rattle.vr_types.specs.Actors.{first_site}
+use Rattle.vr_types.specs.Actors.{is_site}
 use Rattle.pvp_streams.specs.declared.sockets.Door.{Door}
 use Rattle.pvp_streams.specs.declared.sockets.Incoming.{Incoming}
 use Rattle.pvp_streams.specs.declared.sockets.Sending.{Sending}
 use Rattle.pvp_streams.specs.declared.writer.Outgoing.{Outgoing}
-
--- sites are numbered from 200 on, above all other actors
-abbrev pub is_site : ℕ → Bool
-is_site actor = nat_le first_site actor
 
 -- an actor may send to another: a site to any other, and any other to a site
 abbrev pub talks : ℕ → ℕ → Bool

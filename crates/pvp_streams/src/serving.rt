@@ -89,19 +89,19 @@ where
 {
     thread::join_mut(
         rt,
-        &mut || run_all(rt, writers),
+        &mut || run_all(rt, out, writers),
         &mut || play(rt, out, player),
     );
 }
 
 /// Runs each writer, in a thread of its own where one can be made.
-fn run_all<W, T>(rt: &T, writers: &mut [Writer<W>])
+fn run_all<W, T>(rt: &T, out: &Writers, writers: &mut [Writer<W>])
 where
     W: Write + Send + Drop,
     T: Threads + Wait + Sync,
 {
     let threads = writers.len().max(1);
-    thread::for_each_mut(rt, writers, threads, &|_, writer| writer.run(rt));
+    thread::for_each_mut(rt, writers, threads, &|_, writer| writer.run(rt, out));
 }
 
 /// Runs the player, and then tells the writers to stop.

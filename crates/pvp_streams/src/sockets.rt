@@ -1,13 +1,13 @@
 //! Streams between actors over the loopback of this machine.
 ghost use Rattle.std.specs.Prelude.{◌≡◌, ◌≢◌, ◌++◌, ◌∷◌, [], IfOk, OnOk};
-ghost use Rattle.pvp_streams.specs.Links.{is_site, talks, links, links_from, receivers, actors_of, ends_of, goals_of, lists_of, wanted};
+ghost use Rattle.pvp_streams.specs.Links.{talks, links, links_from, receivers, actors_of, ends_of, goals_of, lists_of, wanted};
 
 use crate::writer::Outgoing;
 use std::alloc::{AllocFailed, Global};
 use std::io::{self, ErrorKind};
 use std::net::{IpAddr, Ipv4Addr, Net, OpenListener, OpenStream, SocketAddr};
 use std::time::Duration;
-use vr_types::FIRST_SITE;
+use vr_types::is_site;
 
 /// The reading end of a stream.
 #[derive(Drop)]
@@ -88,13 +88,6 @@ pub fn may_send(from: u16, to: u16) -> bool
     ensures { result ≡ talks from to }
 {
     from != to && (is_site(from) || is_site(to))
-}
-
-/// Whether an actor is a site, by its number.
-fn is_site(actor: u16) -> bool
-    ensures { result ≡ is_site actor }
-{
-    actor >= FIRST_SITE
 }
 
 /// Opens a listener for each actor on 127.0.0.1, at a port that the system picks, makes a connection for each pair of

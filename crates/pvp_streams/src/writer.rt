@@ -7,6 +7,7 @@ use pvp_wire::encode;
 use std::alloc::{AllocError, Global};
 use std::io::Write;
 use std::sync::Wait;
+use std::sync::atomic::AtomicU64;
 
 /// A stream to another actor.
 #[derive(Drop)]
@@ -30,6 +31,7 @@ impl Writers {
     pub fn new(alloc: Global) -> Self {
         Writers {
             lanes: Vec::new(alloc),
+            written: AtomicU64::new(0),
         }
     }
 
@@ -53,27 +55,34 @@ impl Writers {
 impl<W: Write + Drop> Writer<W> {
     /// Writes until it is told to stop, and then closes its streams by letting them go. A stream to which a write failed
     /// is closed at once, since it may have taken part of a frame; what is for it from then on is lost.
-    pub(crate) fn run<T: Wait>(&mut self, rt: &T) {
+    pub(crate) fn run<T: Wait>(&mut self, rt: &T, out: &Writers) {
         for _ in rt.forever() {
             match self.from.recv(rt) {
-                Ok(Order::Send(frame)) => self.write(&frame),
+                Ok(Order::Send(frame)) => {
+                    if self.write(&frame) {
+                        out.count_written();
+                    }
+                }
                 Ok(Order::Stop) | Err(_) => break,
             }
         }
         self.streams.clear();
     }
 
-    /// Writes a frame to the stream of its receiver. Where memory for its bytes is refused the stream is closed too.
-    fn write(&mut self, frame: &Frame) {
+    /// Writes a frame to the stream of its receiver, and says whether it did so to its end. Where memory for its bytes is
+    /// refused the stream is closed too.
+    fn write(&mut self, frame: &Frame) -> bool {
         let stamped = frame.stamped();
         let to = stamped.envelope.to;
         let Some(at) = self.streams.iter().position(|out| out.to == to) else {
-            return;
+            return false;
         };
         self.bytes.clear();
         let out = &mut self.streams[at];
         if encode(stamped, &mut self.bytes).is_err() || out.stream.write_all(&self.bytes).is_err() {
             self.streams.swap_remove(at);
+            return false;
         }
+        true
     }
 }

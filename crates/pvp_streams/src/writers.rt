@@ -7,6 +7,7 @@ use pvp_peers::Outbox;
 use pvp_wire::{Stamp, Stamped};
 use std::alloc::Global;
 use std::sync::Wait;
+use std::sync::atomic::{AtomicU64, Ordering};
 use std::thread;
 use vr_types::Envelope;
 
@@ -21,9 +22,22 @@ pub(crate) struct Lane {
 #[derive(Drop)]
 pub struct Writers {
     pub(crate) lanes: Vec<Lane>,
+    /// How many frames they wrote.
+    pub(crate) written: AtomicU64,
 }
 
 impl Writers {
+    /// How many frames were written so far, each to its end, whether or not its receiver took it. One that is written may
+    /// not be counted yet.
+    pub fn written(&self) -> u64 {
+        self.written.load(Ordering::SeqCst)
+    }
+
+    /// Counts a frame that was written to its end.
+    pub(crate) fn count_written(&self) {
+        self.written.fetch_add(1, Ordering::SeqCst);
+    }
+
     /// Tells each writer to stop, again where memory for that is refused.
     pub(crate) fn stop<T: Wait>(&self, rt: &T) {
         for lane in self.lanes.as_slice() {

@@ -6,6 +6,7 @@ use Rattle.std.proofs.Common.{ℤ, to_z, of_z, w64, FitsSigned}
 use Rattle.std.proofs.lemmas.Int.{to_z-of_z}
 use Rattle.std.proofs.lemmas.List.{append-nil, take_more}
 use Rattle.pvp_types.specs.declared.setup.Member.{Member}
+use Rattle.pvp_types.specs.declared.step.Step.TheVariants.{Submit}
 use Rattle.pvp_types.proofs.Lists.{flat_map-range_with_len_more}
 use Rattle.pvp_book.specs.Ledger.{Ledger, balance, figure}
 use Rattle.std.specs.Io.KnownBytes.{Appends}
@@ -105,7 +106,7 @@ pub alone : (text new blank piece : List ℕ) → text ≡ new → new ≡ blank
 alone text new blank piece e appended nothing = e ∙ appended ∙ ap (λ b. b ++ piece) nothing
 
 applied-after : (held : Ledger) (statement : Statement) → (after_statement held statement).applied ≤ held.applied + 1
-applied-after held (Do client cmd) = omega arith
+applied-after held (Do (Submit client cmd)) = omega arith
 applied-after held _ = omega arith
 
 pub room-next : (held next : Ledger) (lines : List Line) (i : ℕ) (statement : Statement) → i < length lines

@@ -5,6 +5,7 @@ use Rattle.pvp_types.specs.declared.command.Cmd.TheVariants.{Instruct, Rescind, 
 use Rattle.pvp_types.specs.declared.setup.Currency.{Currency}
 use Rattle.pvp_types.specs.declared.setup.Member.{Member}
 use Rattle.pvp_types.specs.declared.setup.Setup.{Setup}
+use Rattle.pvp_types.specs.declared.step.Step.TheVariants.{Submit}
 use Rattle.pvp_text.specs.declared.script.Kind.TheVariants.{Book}
 use Rattle.pvp_text.specs.declared.script.Line.{Line}
 use Rattle.pvp_text.specs.declared.script.LineCode.{LineCode}
@@ -35,26 +36,26 @@ abbrev pub at : ℕ → Statement → Line
 at number statement = record { number = number; statement = statement }
 
 paid_out : script_at Book setup (codes "do USD fund USD 1 ALFA 1200" ++ lf ++ codes "do ALFA payout USD 200" ++ lf ++ codes "do USD paid USD 1" ++ lf ++ codes "print" ++ lf)
-    ≡ Ok (at 1 (Do 102 (Fund 1 1 1 1200)) ∷ at 2 (Do 1 (PayOut 1 200)) ∷ at 3 (Do 102 (Paid 1 1)) ∷ at 4 Print ∷ [])
+    ≡ Ok (at 1 (Do (Submit 102 (Fund 1 1 1 1200))) ∷ at 2 (Do (Submit 1 (PayOut 1 200))) ∷ at 3 (Do (Submit 102 (Paid 1 1))) ∷ at 4 Print ∷ [])
 unfolding script_where lines_at line_at statement_at do_at fund_at payout_at order_at paid_at
 paid_out = refl
 
-returned : script_at Book setup (codes "do USD returned USD 1" ++ lf) ≡ Ok (at 1 (Do 102 (Returned 1 1)) ∷ [])
+returned : script_at Book setup (codes "do USD returned USD 1" ++ lf) ≡ Ok (at 1 (Do (Submit 102 (Returned 1 1))) ∷ [])
 unfolding script_where lines_at line_at statement_at do_at order_at returned_at
 returned = refl
 
 settled : script_at Book setup (codes "do ALFA instruct 1 BETA USD 1100 EUR 1000" ++ lf ++ codes "do BETA instruct 1 @1 EUR 1000 @1 1100" ++ lf
     ++ codes "do OP settle 10" ++ lf ++ codes "do ALFA rescind 1" ++ lf)
-    ≡ Ok (at 1 (Do 1 (Instruct 1 2 1 1100 0 1000)) ∷ at 2 (Do 2 (Instruct 1 1 0 1000 1 1100)) ∷ at 3 (Do 0 (Settle 10)) ∷ at 4 (Do 1 (Rescind 1)) ∷ [])
+    ≡ Ok (at 1 (Do (Submit 1 (Instruct 1 2 1 1100 0 1000))) ∷ at 2 (Do (Submit 2 (Instruct 1 1 0 1000 1 1100))) ∷ at 3 (Do (Submit 0 (Settle 10))) ∷ at 4 (Do (Submit 1 (Rescind 1))) ∷ [])
 unfolding script_where lines_at line_at statement_at do_at instruct_at rescind_at settle_at
 settled = refl
 
 refused_by_the_book : script_at Book setup (codes "do BETA fund USD 1 ALFA 5" ++ lf ++ codes "do USD fund USD 1 @3 5" ++ lf ++ codes "do ALFA payout @3 1" ++ lf
     ++ codes "do USD fund USD 1 ALFA 1000000000001" ++ lf ++ codes "do USD fund USD 0 ALFA 5" ++ lf ++ codes "do USD fund USD 1 ALFA 1000000000000" ++ lf
     ++ codes "do USD fund USD 1 ALFA 5" ++ lf ++ codes "do BETA payout USD 1" ++ lf ++ codes "do USD paid USD 1" ++ lf)
-    ≡ Ok (at 1 (Do 2 (Fund 1 1 1 5)) ∷ at 2 (Do 102 (Fund 1 1 3 5)) ∷ at 3 (Do 1 (PayOut 3 1))
-    ∷ at 4 (Do 102 (Fund 1 1 1 1000000000001)) ∷ at 5 (Do 102 (Fund 1 0 1 5)) ∷ at 6 (Do 102 (Fund 1 1 1 1000000000000))
-    ∷ at 7 (Do 102 (Fund 1 1 1 5)) ∷ at 8 (Do 2 (PayOut 1 1)) ∷ at 9 (Do 102 (Paid 1 1)) ∷ [])
+    ≡ Ok (at 1 (Do (Submit 2 (Fund 1 1 1 5))) ∷ at 2 (Do (Submit 102 (Fund 1 1 3 5))) ∷ at 3 (Do (Submit 1 (PayOut 3 1)))
+    ∷ at 4 (Do (Submit 102 (Fund 1 1 1 1000000000001))) ∷ at 5 (Do (Submit 102 (Fund 1 0 1 5))) ∷ at 6 (Do (Submit 102 (Fund 1 1 1 1000000000000)))
+    ∷ at 7 (Do (Submit 102 (Fund 1 1 1 5))) ∷ at 8 (Do (Submit 2 (PayOut 1 1))) ∷ at 9 (Do (Submit 102 (Paid 1 1))) ∷ [])
 unfolding script_where lines_at line_at statement_at do_at fund_at payout_at order_at paid_at
 refused_by_the_book = refl
 
@@ -100,11 +101,11 @@ unfolding script_where lines_at line_at statement_at do_at instruct_at
 amount_before_name = refl
 
 -- the operator and a node are told by name wherever a client is, as the book refuses what they may not be
-operator_as_a_side : one (codes "do ALFA instruct 1 OP USD 1 EUR 1") ≡ Ok (at 1 (Do 1 (Instruct 1 0 1 1 0 1)) ∷ [])
+operator_as_a_side : one (codes "do ALFA instruct 1 OP USD 1 EUR 1") ≡ Ok (at 1 (Do (Submit 1 (Instruct 1 0 1 1 0 1))) ∷ [])
 unfolding script_where lines_at line_at statement_at do_at instruct_at
 operator_as_a_side = refl
 
-node_as_a_side : one (codes "do ALFA instruct 1 USD USD 1 EUR 1") ≡ Ok (at 1 (Do 1 (Instruct 1 102 1 1 0 1)) ∷ [])
+node_as_a_side : one (codes "do ALFA instruct 1 USD USD 1 EUR 1") ≡ Ok (at 1 (Do (Submit 1 (Instruct 1 102 1 1 0 1))) ∷ [])
 unfolding script_where lines_at line_at statement_at do_at instruct_at
 node_as_a_side = refl
 
@@ -124,11 +125,11 @@ negative_count : one (codes "do OP settle -1") ≡ fault Number
 unfolding script_where lines_at line_at statement_at do_at settle_at
 negative_count = refl
 
-operator_as_a_member : one (codes "do USD fund USD 1 OP 5") ≡ Ok (at 1 (Do 102 (Fund 1 1 0 5)) ∷ [])
+operator_as_a_member : one (codes "do USD fund USD 1 OP 5") ≡ Ok (at 1 (Do (Submit 102 (Fund 1 1 0 5))) ∷ [])
 unfolding script_where lines_at line_at statement_at do_at fund_at
 operator_as_a_member = refl
 
-node_as_a_member : one (codes "do USD fund USD 1 JPY 5") ≡ Ok (at 1 (Do 102 (Fund 1 1 103 5)) ∷ [])
+node_as_a_member : one (codes "do USD fund USD 1 JPY 5") ≡ Ok (at 1 (Do (Submit 102 (Fund 1 1 103 5))) ∷ [])
 unfolding script_where lines_at line_at statement_at do_at fund_at
 node_as_a_member = refl
 

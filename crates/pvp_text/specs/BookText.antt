@@ -3,6 +3,7 @@ use Rattle.std.specs.Prelude.{ℕ, ◌+◌, List, [], ◌∷◌, ◌++◌, lengt
 use Rattle.std.specs.Fmt.{signed_decimal}
 use Rattle.std.specs.List.{flat_map, range_with_len, enumerate_from}
 use Rattle.pvp_types.specs.declared.setup.Setup.{Setup}
+use Rattle.pvp_types.specs.declared.step.Step.TheVariants.{Submit}
 use Rattle.pvp_types.specs.declared.setup.Member.{Member}
 use Rattle.pvp_types.specs.declared.command.Cmd.{Cmd}
 use Rattle.pvp_types.specs.Reply.{reply_text}
@@ -16,7 +17,7 @@ use Rattle.pvp_text.specs.declared.book.RunFault.TheVariants as RunFaults
 use Rattle.pvp_text.specs.declared.script.Line.{Line}
 use Rattle.pvp_text.specs.declared.script.LineFault.{LineFault}
 use Rattle.pvp_text.specs.declared.script.Statement.{Statement}
-use Rattle.pvp_text.specs.declared.script.Statement.TheVariants.{Do, Print, PayIn, Close, Beat, Timer, Crash, Restart, Deliver, Drain, Skip, Cut, Heal, Chaos, Rest}
+use Rattle.pvp_text.specs.declared.script.Statement.TheVariants.{Do, Print}
 use Rattle.pvp_text.specs.Reading.{Faults}
 use Rattle.pvp_text.specs.Script.{line_fault_is_memory}
 
@@ -60,39 +61,14 @@ answer_line held client cmd = decimal (held.applied + 1) ++ codes " " ++ reply_t
 
 -- what a line of a script writes: a line that no script of one book has writes nothing
 abbrev pub statement_text : Ledger → Statement → List ℕ
-statement_text held (Do client cmd) = answer_line held client cmd
+statement_text held (Do (Submit client cmd)) = answer_line held client cmd
 statement_text held Print = block [] held
-statement_text held (PayIn member ccy amt) = []
-statement_text held (Close member ccy) = []
-statement_text held (Beat actor) = []
-statement_text held (Timer site) = []
-statement_text held (Crash site) = []
-statement_text held (Restart site) = []
-statement_text held (Deliver envelope) = []
-statement_text held (Drain turns) = []
-statement_text held (Skip envelopes) = []
-statement_text held (Cut actor) = []
-statement_text held (Heal actor) = []
-statement_text held (Chaos seed turns) = []
-statement_text held (Rest milliseconds) = []
+statement_text held _ = []
 
 -- what is held after it
 abbrev pub after_statement : Ledger → Statement → Ledger
-after_statement held (Do client cmd) = after held client cmd
-after_statement held Print = held
-after_statement held (PayIn member ccy amt) = held
-after_statement held (Close member ccy) = held
-after_statement held (Beat actor) = held
-after_statement held (Timer site) = held
-after_statement held (Crash site) = held
-after_statement held (Restart site) = held
-after_statement held (Deliver envelope) = held
-after_statement held (Drain turns) = held
-after_statement held (Skip envelopes) = held
-after_statement held (Cut actor) = held
-after_statement held (Heal actor) = held
-after_statement held (Chaos seed turns) = held
-after_statement held (Rest milliseconds) = held
+after_statement held (Do (Submit client cmd)) = after held client cmd
+after_statement held _ = held
 
 -- what the lines of a script write, one after another
 abbrev pub text_of : Ledger → List Line → List ℕ

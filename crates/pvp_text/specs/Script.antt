@@ -4,6 +4,8 @@ use Rattle.std.specs.Global.{Vec}
 use Rattle.std.specs.List.{list_all}
 use Rattle.pvp_types.specs.declared.command.Cmd.TheVariants.{Instruct, Rescind, Fund, Settle, PayOut, Paid, Returned}
 use Rattle.pvp_types.specs.declared.setup.Setup.{Setup}
+use Rattle.pvp_types.specs.declared.step.Step.{Step}
+use Rattle.pvp_types.specs.declared.step.Step.TheVariants.{Deliver, PayIn, Close, Submit, Beat, Timer, Crash, Restart}
 use Rattle.pvp_text.specs.declared.script.Kind.{Kind}
 use Rattle.pvp_text.specs.declared.script.Kind.TheVariants.{Book, Play, Live}
 use Rattle.pvp_text.specs.declared.script.Line.{Line}
@@ -11,7 +13,7 @@ use Rattle.pvp_text.specs.declared.script.LineCode.{LineCode}
 use Rattle.pvp_text.specs.declared.script.LineCode.TheVariants.{Byte, UnknownWord, WordCount, Number, UnknownName, LineLength, LineCount, NoMemory}
 use Rattle.pvp_text.specs.declared.script.LineFault.{LineFault}
 use Rattle.pvp_text.specs.declared.script.Statement.{Statement}
-use Rattle.pvp_text.specs.declared.script.Statement.TheVariants.{Do, Print, PayIn, Close, Beat, Timer, Crash, Restart, Deliver, Drain, Skip, Cut, Heal, Chaos, Rest}
+use Rattle.pvp_text.specs.declared.script.Statement.TheVariants.{Do, Print, Drain, Skip, Cut, Heal, Chaos, Rest}
 use Rattle.pvp_text.specs.Reading.{◌>>=◌}
 use Rattle.pvp_text.specs.ScriptFields.{number_at, reference_at, actor_at, site_at, client_of, sender_of, currency_of}
 use Rattle.pvp_text.specs.ScriptWords.{is_empty, lines, words}
@@ -20,7 +22,7 @@ use Rattle.pvp_text.specs.ScriptWords.{is_empty, lines, words}
 -- names are looked up.
 
 -- `do WHO instruct REF OTHER SELL AMT BUY AMT`
-unfoldable pub instruct_at : Kind → Setup → List ℕ → List (List ℕ) → Result Statement LineCode
+unfoldable pub instruct_at : Kind → Setup → List ℕ → List (List ℕ) → Result Step LineCode
 instruct_at kind setup who (reference ∷ other ∷ sell ∷ sell_amt ∷ buy ∷ buy_amt ∷ []) = do
   who ← reference_at (2 ^ 16) who
   reference ← number_at (2 ^ 32) reference
@@ -33,29 +35,29 @@ instruct_at kind setup who (reference ∷ other ∷ sell ∷ sell_amt ∷ buy �
   other ← client_of setup other
   sell ← currency_of setup sell
   buy ← currency_of setup buy
-  Ok (Do client (Instruct reference other sell sell_amt buy buy_amt))
+  Ok (Submit client (Instruct reference other sell sell_amt buy buy_amt))
 instruct_at kind setup who _ = Err WordCount
 
 -- `do WHO rescind REF`
-unfoldable pub rescind_at : Kind → Setup → List ℕ → List (List ℕ) → Result Statement LineCode
+unfoldable pub rescind_at : Kind → Setup → List ℕ → List (List ℕ) → Result Step LineCode
 rescind_at kind setup who (reference ∷ []) = do
   who ← reference_at (2 ^ 16) who
   reference ← number_at (2 ^ 32) reference
   client ← sender_of kind setup who
-  Ok (Do client (Rescind reference))
+  Ok (Submit client (Rescind reference))
 rescind_at kind setup who _ = Err WordCount
 
 -- `do WHO settle MOST`
-unfoldable pub settle_at : Kind → Setup → List ℕ → List (List ℕ) → Result Statement LineCode
+unfoldable pub settle_at : Kind → Setup → List ℕ → List (List ℕ) → Result Step LineCode
 settle_at kind setup who (most ∷ []) = do
   who ← reference_at (2 ^ 16) who
   most ← number_at (2 ^ 32) most
   client ← sender_of kind setup who
-  Ok (Do client (Settle most))
+  Ok (Submit client (Settle most))
 settle_at kind setup who _ = Err WordCount
 
 -- `do WHO fund CCY PAY MEMBER AMT`
-unfoldable pub fund_at : Kind → Setup → List ℕ → List (List ℕ) → Result Statement LineCode
+unfoldable pub fund_at : Kind → Setup → List ℕ → List (List ℕ) → Result Step LineCode
 fund_at kind setup who (ccy ∷ pay ∷ member ∷ amt ∷ []) = do
   who ← reference_at (2 ^ 16) who
   ccy ← reference_at (2 ^ 8) ccy
@@ -65,18 +67,18 @@ fund_at kind setup who (ccy ∷ pay ∷ member ∷ amt ∷ []) = do
   client ← sender_of kind setup who
   ccy ← currency_of setup ccy
   member ← client_of setup member
-  Ok (Do client (Fund ccy pay member amt))
+  Ok (Submit client (Fund ccy pay member amt))
 fund_at kind setup who _ = Err WordCount
 
 -- `do WHO payout CCY AMT`
-unfoldable pub payout_at : Kind → Setup → List ℕ → List (List ℕ) → Result Statement LineCode
+unfoldable pub payout_at : Kind → Setup → List ℕ → List (List ℕ) → Result Step LineCode
 payout_at kind setup who (ccy ∷ amt ∷ []) = do
   who ← reference_at (2 ^ 16) who
   ccy ← reference_at (2 ^ 8) ccy
   amt ← number_at (2 ^ 64) amt
   client ← sender_of kind setup who
   ccy ← currency_of setup ccy
-  Ok (Do client (PayOut ccy amt))
+  Ok (Submit client (PayOut ccy amt))
 payout_at kind setup who _ = Err WordCount
 
 -- a client, a currency and the number of an order, as `WHO .. CCY OUT` tells them
@@ -91,19 +93,19 @@ order_at kind setup who (ccy ∷ out ∷ []) = do
 order_at kind setup who _ = Err WordCount
 
 -- `do WHO paid CCY OUT`
-unfoldable pub paid_at : Kind → Setup → List ℕ → List (List ℕ) → Result Statement LineCode
+unfoldable pub paid_at : Kind → Setup → List ℕ → List (List ℕ) → Result Step LineCode
 paid_at kind setup who fields = do
   order ← order_at kind setup who fields
-  Ok (Do order.0 (Paid order.1 order.2))
+  Ok (Submit order.0 (Paid order.1 order.2))
 
 -- `do WHO returned CCY OUT`
-unfoldable pub returned_at : Kind → Setup → List ℕ → List (List ℕ) → Result Statement LineCode
+unfoldable pub returned_at : Kind → Setup → List ℕ → List (List ℕ) → Result Step LineCode
 returned_at kind setup who fields = do
   order ← order_at kind setup who fields
-  Ok (Do order.0 (Returned order.1 order.2))
+  Ok (Submit order.0 (Returned order.1 order.2))
 
 -- `do WHO`, the command's word and its fields
-unfoldable pub do_at : Kind → Setup → List (List ℕ) → Result Statement LineCode
+unfoldable pub do_at : Kind → Setup → List (List ℕ) → Result Step LineCode
 do_at kind setup (who ∷ command ∷ fields) =
     if bytes_eq command (codes "instruct") then instruct_at kind setup who fields
     else if bytes_eq command (codes "rescind") then rescind_at kind setup who fields
@@ -146,90 +148,36 @@ lone_number_at (n ∷ []) = number_at (2 ^ 32) n
 lone_number_at _ = Err WordCount
 
 -- `payin MEMBER CCY AMT`
-unfoldable pub payin_at : Setup → List (List ℕ) → Result Statement LineCode
+unfoldable pub payin_at : Setup → List (List ℕ) → Result Step LineCode
 payin_at setup (member ∷ ccy ∷ amt ∷ []) = do
   member ← reference_at (2 ^ 16) member
   ccy ← reference_at (2 ^ 8) ccy
   amt ← number_at (2 ^ 64) amt
   member ← client_of setup member
   ccy ← currency_of setup ccy
-  Ok (PayIn member ccy amt)
+  Ok (PayIn ccy member amt)
 payin_at setup _ = Err WordCount
 
 -- `close MEMBER CCY`
-unfoldable pub close_at : Setup → List (List ℕ) → Result Statement LineCode
+unfoldable pub close_at : Setup → List (List ℕ) → Result Step LineCode
 close_at setup (member ∷ ccy ∷ []) = do
   member ← reference_at (2 ^ 16) member
   ccy ← reference_at (2 ^ 8) ccy
   member ← client_of setup member
   ccy ← currency_of setup ccy
-  Ok (Close member ccy)
+  Ok (Close ccy member)
 close_at setup _ = Err WordCount
 
--- `beat ACTOR`
-unfoldable pub beat_at : Setup → List (List ℕ) → Result Statement LineCode
-beat_at setup fields = do
-  actor ← lone_actor_at setup fields
-  Ok (Beat actor)
-
--- `timer SITE`
-unfoldable pub timer_at : List (List ℕ) → Result Statement LineCode
-timer_at fields = do
-  site ← lone_site_at fields
-  Ok (Timer site)
-
--- `crash SITE`
-unfoldable pub crash_at : List (List ℕ) → Result Statement LineCode
-crash_at fields = do
-  site ← lone_site_at fields
-  Ok (Crash site)
-
--- `restart SITE`
-unfoldable pub restart_at : List (List ℕ) → Result Statement LineCode
-restart_at fields = do
-  site ← lone_site_at fields
-  Ok (Restart site)
-
--- what a bank of actors is told to do, however its envelopes go
-unfoldable pub move_at : Setup → List ℕ → List (List ℕ) → Result Statement LineCode
+-- the step that a bank of actors is told, however its envelopes go
+unfoldable pub move_at : Setup → List ℕ → List (List ℕ) → Result Step LineCode
 move_at setup first fields =
     if bytes_eq first (codes "payin") then payin_at setup fields
     else if bytes_eq first (codes "close") then close_at setup fields
-    else if bytes_eq first (codes "beat") then beat_at setup fields
-    else if bytes_eq first (codes "timer") then timer_at fields
-    else if bytes_eq first (codes "crash") then crash_at fields
-    else if bytes_eq first (codes "restart") then restart_at fields
+    else if bytes_eq first (codes "beat") then (lone_actor_at setup fields >>= λ actor. Ok (Beat actor))
+    else if bytes_eq first (codes "timer") then (lone_site_at fields >>= λ site. Ok (Timer site))
+    else if bytes_eq first (codes "crash") then (lone_site_at fields >>= λ site. Ok (Crash site))
+    else if bytes_eq first (codes "restart") then (lone_site_at fields >>= λ site. Ok (Restart site))
     else Err UnknownWord
-
--- `deliver E`
-unfoldable pub deliver_at : List (List ℕ) → Result Statement LineCode
-deliver_at fields = do
-  envelope ← lone_number_at fields
-  Ok (Deliver envelope)
-
--- `drain N`
-unfoldable pub drain_at : List (List ℕ) → Result Statement LineCode
-drain_at fields = do
-  turns ← lone_number_at fields
-  Ok (Drain turns)
-
--- `skip N`
-unfoldable pub skip_at : List (List ℕ) → Result Statement LineCode
-skip_at fields = do
-  envelopes ← lone_number_at fields
-  Ok (Skip envelopes)
-
--- `cut ACTOR`
-unfoldable pub cut_at : Setup → List (List ℕ) → Result Statement LineCode
-cut_at setup fields = do
-  actor ← lone_actor_at setup fields
-  Ok (Cut actor)
-
--- `heal ACTOR`
-unfoldable pub heal_at : Setup → List (List ℕ) → Result Statement LineCode
-heal_at setup fields = do
-  actor ← lone_actor_at setup fields
-  Ok (Heal actor)
 
 -- `chaos SEED COUNT`, of a million turns at most
 unfoldable pub chaos_at : List (List ℕ) → Result Statement LineCode
@@ -242,23 +190,19 @@ chaos_at _ = Err WordCount
 -- what a play is told: there each envelope goes as the script says
 unfoldable pub play_at : Setup → List ℕ → List (List ℕ) → Result Statement LineCode
 play_at setup first fields =
-    if bytes_eq first (codes "deliver") then deliver_at fields
-    else if bytes_eq first (codes "drain") then drain_at fields
-    else if bytes_eq first (codes "skip") then skip_at fields
-    else if bytes_eq first (codes "cut") then cut_at setup fields
-    else if bytes_eq first (codes "heal") then heal_at setup fields
+    if bytes_eq first (codes "deliver") then (lone_number_at fields >>= λ envelope. Ok (Do (Deliver envelope)))
+    else if bytes_eq first (codes "drain") then (lone_number_at fields >>= λ turns. Ok (Drain turns))
+    else if bytes_eq first (codes "skip") then (lone_number_at fields >>= λ envelopes. Ok (Skip envelopes))
+    else if bytes_eq first (codes "cut") then (lone_actor_at setup fields >>= λ actor. Ok (Cut actor))
+    else if bytes_eq first (codes "heal") then (lone_actor_at setup fields >>= λ actor. Ok (Heal actor))
     else if bytes_eq first (codes "chaos") then chaos_at fields
-    else move_at setup first fields
-
--- `rest MS`
-unfoldable pub rest_at : List (List ℕ) → Result Statement LineCode
-rest_at fields = do
-  milliseconds ← lone_number_at fields
-  Ok (Rest milliseconds)
+    else (move_at setup first fields >>= λ step. Ok (Do step))
 
 -- what a bank that runs live is told: there envelopes go by themselves, and time passes
 unfoldable pub live_at : Setup → List ℕ → List (List ℕ) → Result Statement LineCode
-live_at setup first fields = if bytes_eq first (codes "rest") then rest_at fields else move_at setup first fields
+live_at setup first fields =
+    if bytes_eq first (codes "rest") then (lone_number_at fields >>= λ milliseconds. Ok (Rest milliseconds))
+    else (move_at setup first fields >>= λ step. Ok (Do step))
 
 -- what is told by no command and no `print`; one book is told nothing else
 unfoldable pub told_at : Kind → Setup → List ℕ → List (List ℕ) → Result Statement LineCode
@@ -272,7 +216,7 @@ told_at Live setup first fields = live_at setup first fields
 unfoldable pub statement_at : Kind → Setup → List (List ℕ) → Result Statement LineCode
 statement_at kind setup [] = Err UnknownWord
 statement_at kind setup (first ∷ rest) =
-    if bytes_eq first (codes "do") then do_at kind setup rest
+    if bytes_eq first (codes "do") then (do_at kind setup rest >>= λ step. Ok (Do step))
     else if prints kind && bytes_eq first (codes "print") then print_at rest
     else told_at kind setup first rest
 

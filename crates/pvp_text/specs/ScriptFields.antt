@@ -5,7 +5,7 @@ use Rattle.std.specs.List.{list_all}
 use Rattle.std.specs.Str.Parse.{digits_value}
 use Rattle.pvp_types.specs.declared.setup.Setup.{Setup}
 use Rattle.pvp_types.specs.Names.{client_number, member_number, currency_number}
-use Rattle.vr_types.specs.Actors.{first_site}
+use Rattle.vr_types.specs.declared.actors.TheConstants.{FIRST_SITE}
 use Rattle.pvp_text.specs.declared.script.Kind.{Kind}
 use Rattle.pvp_text.specs.declared.script.Kind.TheVariants.{Book, Play, Live}
 use Rattle.pvp_text.specs.declared.script.LineCode.{LineCode}
@@ -39,7 +39,7 @@ reference_at limit word = if slice_index word 0 == 64 then (number_at limit (dro
 -- capitals, so no client is named with `s` in front.
 abbrev pub actor_at : List ℕ → Result Spelled LineCode
 actor_at word =
-    if slice_index word 0 == 115 then (number_at (2 ^ 8) (drop 1 word) >>= λ n. Ok (numbered (first_site + n)))
+    if slice_index word 0 == 115 then (number_at (2 ^ 8) (drop 1 word) >>= λ n. Ok (numbered (FIRST_SITE + n)))
     else reference_at (2 ^ 16) word
 
 -- A site, where no other actor may stand: `s` and its number. Neither `@` nor a name tells one: what begins with `@` is a

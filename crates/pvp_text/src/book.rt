@@ -11,7 +11,7 @@ ghost use Rattle.pvp_text.specs.BookText.{balances_text, counts_text, figures_te
 
 use crate::script::{Kind, Line, LineCode, LineFault, Statement, read_script};
 use pvp_book::{Book, PairState};
-use pvp_types::{Member, Setup};
+use pvp_types::{Member, Setup, Step};
 use std::alloc::{AllocError, Global};
 use std::io::Write;
 
@@ -115,25 +115,13 @@ fn push_statement(
     ensures after { OnOk result (book.new ≡ after_statement book.old statement) }
 {
     match statement {
-        Statement::Do { client, cmd } => {
+        Statement::Do(Step::Submit { client, cmd }) => {
             let reply = book.apply(client, cmd)?;
             let row = book.applied();
             write!(text, "{row} {reply}\n")
         }
         Statement::Print => push_block(text, "", book),
-        Statement::PayIn { .. }
-        | Statement::Close { .. }
-        | Statement::Beat { .. }
-        | Statement::Timer { .. }
-        | Statement::Crash { .. }
-        | Statement::Restart { .. }
-        | Statement::Deliver { .. }
-        | Statement::Drain { .. }
-        | Statement::Skip { .. }
-        | Statement::Cut { .. }
-        | Statement::Heal { .. }
-        | Statement::Chaos { .. }
-        | Statement::Rest { .. } => Ok(()),
+        _ => Ok(()),
     }
 }
 

@@ -53,7 +53,7 @@ mod words;
 use crate::script::forms::read_line;
 use crate::script::words::next_line;
 pub use fields::amount;
-use pvp_types::{Cmd, Setup};
+use pvp_types::{Setup, Step};
 use std::alloc::{AllocFailed, Global};
 use std::fmt;
 pub use words::{cut, next_word};
@@ -84,24 +84,10 @@ impl Kind {
 /// What one line asks for.
 #[derive(Clone, Copy, Debug, PartialEq, Eq)]
 pub enum Statement {
-    /// A client's command.
-    Do { client: u16, cmd: Cmd },
+    /// A step, of which a script of one book has a client's command alone.
+    Do(Step),
     /// To print the book.
     Print,
-    /// A member pays in at a currency's node.
-    PayIn { member: u16, ccy: u8, amt: u64 },
-    /// A member's account at a currency's node is closed.
-    Close { member: u16, ccy: u8 },
-    /// An actor beats.
-    Beat { actor: u16 },
-    /// A site's timer runs out.
-    Timer { site: u16 },
-    /// A site falls.
-    Crash { site: u16 },
-    /// A site that fell starts again.
-    Restart { site: u16 },
-    /// An envelope arrives, told by its number.
-    Deliver { envelope: u32 },
     /// Envelopes arrive for so many turns.
     Drain { turns: u32 },
     /// So many envelopes are passed over.

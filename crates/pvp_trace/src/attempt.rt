@@ -1,7 +1,7 @@
 //! Steps that were tried, in words: what each was, what came of it, what it changed of its site, and what it sent.
 
 ghost use Rattle.std.specs.Prelude.{◌≡◌, ◌++◌, string_bytes, OnOk};
-ghost use Rattle.headline.specs.declared.step.Step.TheVariants.{Deliver};
+ghost use Rattle.pvp_types.specs.declared.step.Step.TheVariants.{Deliver};
 ghost use Rattle.pvp_world.specs.Steps.{TellsFailures};
 ghost use Rattle.pvp_trace.specs.Attempts.{Attempts, fell_by, cell_of, step_text, kind_text, came_text, fell_text, sent_line, sent_text, told_text, attempt_text};
 
@@ -10,7 +10,8 @@ use crate::messages::{kind_name, push_envelope};
 use crate::names::{push_actor, push_currency};
 use crate::stand::{Stand, push_changes, site_of, stand_at};
 use crate::words::{push_amount, push_command};
-use pvp_world::{Move, Report, Step, World, WorldFault};
+use pvp_types::Step;
+use pvp_world::{Move, Report, World, WorldFault};
 use std::alloc::{AllocError, Global};
 use vr_types::{Boot, BootCell, SiteFault};
 

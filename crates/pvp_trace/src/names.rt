@@ -5,7 +5,7 @@ ghost use Rattle.pvp_trace.specs.Names.{currency_text, actor_text};
 
 use pvp_types::Setup;
 use std::alloc::AllocError;
-use vr_types::{FIRST_NODE, FIRST_SITE};
+use vr_types::ActorId;
 
 /// Appends a currency's code, and `@N` where the setup has no such currency.
 pub fn push_currency(text: &mut String, setup: &Setup, ccy: u8) -> Result<(), AllocError>
@@ -22,17 +22,11 @@ pub fn push_currency(text: &mut String, setup: &Setup, ccy: u8) -> Result<(), Al
 pub fn push_actor(text: &mut String, setup: &Setup, actor: u16) -> Result<(), AllocError>
     ensures { OnOk result (string_bytes text.new ≡ string_bytes text.old ++ actor_text setup.now actor) }
 {
-    if actor >= FIRST_SITE {
-        let site = actor - FIRST_SITE;
-        return write!(text, "s{site}");
-    }
-    if actor == 0 {
-        return text.push_str("OP");
-    }
-    let name = if actor >= FIRST_NODE {
-        code_of(setup, actor - FIRST_NODE)
-    } else {
-        member_of(setup, actor)
+    let name = match ActorId::of(actor) {
+        ActorId::Site(site) => return write!(text, "s{site}"),
+        ActorId::Client(0) => return text.push_str("OP"),
+        ActorId::Node(ccy) => code_of(setup, ccy),
+        ActorId::Client(member) => member_of(setup, member),
     };
     match name {
         Some(name) => text.push_str(name),

@@ -3,9 +3,10 @@
 ghost use Rattle.std.specs.Prelude.{◌≡◌, ◌++◌, ◌<◌, string_bytes, option_and_then, OnOk};
 ghost use Rattle.pvp_trace.specs.Stands.{stand_at, site_of as site_of_step, status_text, turned_text, places_text, executed_text, changes_text};
 
-use pvp_world::{Step, World};
+use pvp_types::Step;
+use pvp_world::World;
 use std::alloc::AllocError;
-use vr_types::{BootCell, FIRST_SITE, Status};
+use vr_types::{ActorId, BootCell, Status};
 
 /// Where a site stands.
 #[derive(Clone, Copy, Debug, PartialEq, Eq)]
@@ -24,9 +25,9 @@ pub fn site_of<C: BootCell>(world: &World<C>, step: Step) -> Option<u16>
     match step {
         Step::Deliver(number) => {
             let envelope = world.envelope(number)?;
-            envelope.to.checked_sub(FIRST_SITE)
+            ActorId::of(envelope.to).site()
         }
-        Step::Beat(actor) => actor.checked_sub(FIRST_SITE),
+        Step::Beat(actor) => ActorId::of(actor).site(),
         Step::Timer(site) | Step::Crash(site) | Step::Restart(site) => Some(site),
         Step::PayIn { .. } | Step::Close { .. } | Step::Submit { .. } => None,
     }

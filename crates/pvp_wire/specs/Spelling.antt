@@ -13,7 +13,8 @@ use Rattle.vr_types.specs.declared.message.MsgOf.{MsgOf}
 use Rattle.vr_types.specs.declared.message.MsgOf.TheVariants.{Request, Prepare, PrepareOk, Commit, StartViewChange, DoViewChange, StartView, GetState, NewState, Recovery, RecoveryResponse, Reply, PayOrder}
 use Rattle.vr_types.specs.declared.message.StateOf.{StateOf}
 use Rattle.vr_types.specs.declared.row.RowOf.{RowOf}
-use Rattle.vr_types.specs.Actors.{is_actor, is_client, most_sites}
+use Rattle.vr_types.specs.Actors.{is_actor, is_client}
+use Rattle.vr_types.specs.declared.limits.TheConstants.{MOST_SITES}
 use Rattle.vr_types.specs.Messages.{rows_in, known_in}
 use Rattle.pvp_wire.specs.declared.stamped.Stamp.{Stamp}
 use Rattle.pvp_wire.specs.declared.stamped.Stamped.{Stamped}
@@ -150,7 +151,7 @@ has_client r = is_client r.client
 
 -- a group has 1 to 7 sites
 abbrev pub is_site_count : ℕ → Bool
-is_site_count count = nat_le 1 count && nat_le count most_sites
+is_site_count count = nat_le 1 count && nat_le count MOST_SITES
 
 -- what a message tells of boots, where it tells of them, it tells of so many sites
 abbrev pub has_site_count : Option (List ℕ) → Bool

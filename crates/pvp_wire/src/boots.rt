@@ -1,6 +1,6 @@
 //! What a sender knew of the sites' boots.
 ghost use Rattle.std.specs.Prelude.{◌≤◌, false};
-ghost use Rattle.vr_types.specs.Actors.{most_sites};
+ghost use Rattle.vr_types.specs.declared.limits.TheConstants.{MOST_SITES};
 ghost use Rattle.pvp_wire.specs.Reading.{Finds, number_at, items_from, boots_at};
 
 use crate::fault::WireFault;
@@ -9,7 +9,7 @@ use vr_types::Known;
 
 /// The boot numbers of so many sites.
 fn boots_from(count: u8, bytes: &[u8]) -> Result<(Known, &[u8]), WireFault>
-    requires { count ≤ most_sites }
+    requires { count ≤ MOST_SITES }
     ensures { Finds (λ x. (x.0, x.1.now)) result (items_from (number_at 4) false count bytes.now) }
 {
     let mut known = Known::new();

@@ -1,6 +1,7 @@
 //! Fields that take no memory: each is read from the front of the bytes, and answered with the bytes after it.
 ghost use Rattle.std.specs.Prelude.{◌≡◌, ◌≤◌, IfOk};
-ghost use Rattle.vr_types.specs.Actors.{is_actor, is_client, most_sites};
+ghost use Rattle.vr_types.specs.Actors.{is_actor, is_client};
+ghost use Rattle.vr_types.specs.declared.limits.TheConstants.{MOST_SITES};
 ghost use Rattle.pvp_wire.specs.Spelling.{is_site_count};
 ghost use Rattle.pvp_wire.specs.Reading.{Finds, number_at, listed_at, instruct_at, fund_at, pay_out_at, paid_at, returned_at, command_at, reason_at, reply_at, order_at, row_at, view_and_place_at, stamp_at};
 
@@ -72,7 +73,7 @@ pub fn actor_at(bytes: &[u8]) -> Result<(u16, &[u8]), WireFault>
 /// How many sites are told of: 1 to 7.
 pub fn site_count_at(bytes: &[u8]) -> Result<(u8, &[u8]), WireFault>
     ensures finds { Finds (λ x. (x.0, x.1.now)) result (listed_at 1 is_site_count bytes.now) }
-    ensures few { IfOk result (λ x. x.0 ≤ most_sites) }
+    ensures few { IfOk result (λ x. x.0 ≤ MOST_SITES) }
 {
     let (count, rest) = u8_at(bytes)?;
     if !is_site_count(usize::from(count)) {

@@ -5,6 +5,7 @@ use Rattle.pvp_types.specs.Setup.{faults}
 use Rattle.pvp_types.specs.declared.command.Cmd.{Cmd}
 use Rattle.pvp_types.specs.declared.command.Reply.{Reply as Answer}
 use Rattle.pvp_types.specs.declared.command.PayOrder.{PayOrder as PaymentOrder}
+use Rattle.pvp_types.specs.declared.step.Step.{Step}
 use Rattle.vr_types.specs.declared.cell.Boot.{Boot}
 use Rattle.vr_types.specs.declared.cell.BootCell.{Ghosts as Cell}
 use Rattle.vr_types.specs.declared.event.EventOf.{EventOf}
@@ -14,7 +15,6 @@ use Rattle.vr_types.specs.Site.{Site, over}
 use Rattle.pvp_book.specs.Ledger.{opening}
 use Rattle.rtgs_node.specs.Node.{Envelope}
 use Rattle.vr_types.specs.declared.event.SiteFault.TheVariants as site_fault
-use Rattle.headline.specs.declared.step.Step.{Step}
 use Rattle.headline.specs.declared.step.Move.{Move}
 use Rattle.headline.specs.declared.step.Move.TheVariants.{Takes, Falls}
 use Rattle.headline.specs.declared.step.Turn.{Turn}

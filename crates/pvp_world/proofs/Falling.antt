@@ -4,11 +4,11 @@ use Rattle.pvp_types.specs.declared.command.Cmd.{Cmd}
 use Rattle.pvp_types.specs.declared.command.Reply.{Reply as Answer}
 use Rattle.pvp_types.specs.declared.command.PayOrder.{PayOrder as PaymentOrder}
 use Rattle.pvp_types.specs.declared.setup.Setup.{Setup}
+use Rattle.pvp_types.specs.declared.step.Step.{Step}
 use Rattle.vr_types.specs.declared.cell.Boot.{Boot}
 use Rattle.vr_types.specs.declared.cell.BootCell.{Ghosts as Cell}
 use Rattle.vr_types.specs.declared.event.EventOf.{EventOf}
 use Rattle.vr_site.specs.Replica as replica
-use Rattle.headline.specs.declared.step.Step.{Step}
 use Rattle.headline.specs.declared.step.Move.TheVariants.{Falls}
 use Rattle.headline.specs.declared.step.Turn.TheVariants.{OfSite}
 use Rattle.headline.specs.Bank.{turn}

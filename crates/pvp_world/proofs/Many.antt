@@ -1,7 +1,7 @@
 -- Many steps, one after another.
 use Rattle.std.proofs.Common.{◌≡◌, ℕ, zero, suc, ◌+◌, ◌≤◌, List, [], ◌∷◌, ◌++◌, length, map, take, drop, slice_get, Some, Err, refl, sym, ap, ◌∙◌, subst, append_assoc, append-nil, arith}
 use Rattle.vr_types.specs.declared.cell.BootCell.{Ghosts as Cell}
-use Rattle.headline.specs.declared.step.Step.{Step}
+use Rattle.pvp_types.specs.declared.step.Step.{Step}
 use Rattle.headline.specs.declared.step.Move.TheVariants.{Takes}
 use Rattle.headline.proofs.Basics.{none-some, some-same}
 use Rattle.pvp_world.specs.declared.fault.WorldFault.{WorldFault}

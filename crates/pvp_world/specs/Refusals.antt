@@ -5,6 +5,7 @@ use Rattle.pvp_types.specs.Setup.{faults}
 use Rattle.pvp_types.specs.declared.command.Cmd.{Cmd}
 use Rattle.pvp_types.specs.declared.command.Reply.{Reply as Answer}
 use Rattle.pvp_types.specs.declared.command.PayOrder.{PayOrder as PaymentOrder}
+use Rattle.pvp_types.specs.declared.step.Step.{Step}
 use Rattle.vr_types.specs.declared.event.EventOf.{EventOf}
 use Rattle.vr_types.specs.declared.event.SiteFault.{SiteFault}
 use Rattle.vr_types.specs.declared.event.SiteFault.TheVariants as site
@@ -15,7 +16,6 @@ use Rattle.rtgs_node.specs.declared.fault.NodeFault.{NodeFault}
 use Rattle.rtgs_node.specs.declared.fault.NodeFault.TheVariants as node
 use Rattle.rtgs_node.specs.Node.{Node, node_step}
 use Rattle.headline.specs.declared.step.ClientEvent.{ClientEvent}
-use Rattle.headline.specs.declared.step.Step.{Step}
 use Rattle.headline.specs.declared.step.Turn.{Turn}
 use Rattle.headline.specs.declared.step.Turn.TheVariants.{OfSite, OfNode, OfClient}
 use Rattle.headline.specs.Client.{Client, client_step}

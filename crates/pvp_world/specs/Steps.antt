@@ -4,6 +4,8 @@ use Rattle.pvp_types.specs.declared.setup.Setup.{Setup}
 use Rattle.pvp_types.specs.declared.command.Cmd.{Cmd}
 use Rattle.pvp_types.specs.declared.command.Reply.{Reply as Answer}
 use Rattle.pvp_types.specs.declared.command.PayOrder.{PayOrder as PaymentOrder}
+use Rattle.pvp_types.specs.declared.step.Step.{Step}
+use Rattle.pvp_types.specs.declared.step.Step.TheVariants.{Crash}
 use Rattle.pvp_types.specs.Setup.{faults}
 use Rattle.vr_types.specs.declared.cell.Boot.{Boot}
 use Rattle.vr_types.specs.declared.cell.BootCell.{Ghosts as Cell}
@@ -25,8 +27,6 @@ use Rattle.rtgs_node.specs.Shown as node
 use Rattle.headline.specs.declared.step.ClientEvent.TheVariants as client_event
 use Rattle.headline.specs.declared.step.ClientFault.{ClientFault}
 use Rattle.headline.specs.declared.step.ClientFault.TheVariants as client_fault
-use Rattle.headline.specs.declared.step.Step.{Step}
-use Rattle.headline.specs.declared.step.Step.TheVariants.{Crash}
 use Rattle.headline.specs.declared.step.Move.{Move}
 use Rattle.headline.specs.declared.step.Move.TheVariants.{Takes, Falls}
 use Rattle.headline.specs.declared.step.Turn.{Turn}

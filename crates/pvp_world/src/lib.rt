@@ -12,6 +12,6 @@ pub mod world;
 
 pub use client::Client;
 pub use fault::{FallFault, WorldFault};
-pub use headline::{Move, Step};
+pub use headline::Move;
 pub use report::Report;
 pub use world::World;

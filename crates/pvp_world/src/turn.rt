@@ -8,19 +8,16 @@ ghost use Rattle.headline.specs.Bank.{turn_of, delivery};
 use headline::{ClientEvent, Turn};
 use pvp_book::Book;
 use rtgs_node::NodeEvent;
-use vr_types::{Envelope, EventOf, FIRST_NODE, FIRST_SITE};
+use vr_types::{ActorId, Envelope, EventOf};
 
 /// An envelope comes to the actor that it is addressed to.
 pub fn delivery(envelope: Envelope<Book>) -> Turn
     ensures { result ≡ delivery envelope }
 {
-    let to = envelope.to;
-    if to >= FIRST_SITE {
-        Turn::OfSite(to - FIRST_SITE, EventOf::Deliver(envelope))
-    } else if to >= FIRST_NODE {
-        Turn::OfNode(to - FIRST_NODE, NodeEvent::Takes(envelope))
-    } else {
-        Turn::OfClient(to, ClientEvent::Takes(envelope))
+    match ActorId::of(envelope.to) {
+        ActorId::Site(site) => Turn::OfSite(site, EventOf::Deliver(envelope)),
+        ActorId::Node(ccy) => Turn::OfNode(ccy, NodeEvent::Takes(envelope)),
+        ActorId::Client(client) => Turn::OfClient(client, ClientEvent::Takes(envelope)),
     }
 }
 
@@ -28,11 +25,9 @@ pub fn delivery(envelope: Envelope<Book>) -> Turn
 pub fn beat(actor: u16) -> Turn
     ensures { result ≡ turn_of actor Beat node.Beats client.Beats }
 {
-    if actor >= FIRST_SITE {
-        Turn::OfSite(actor - FIRST_SITE, EventOf::Beat)
-    } else if actor >= FIRST_NODE {
-        Turn::OfNode(actor - FIRST_NODE, NodeEvent::Beats)
-    } else {
-        Turn::OfClient(actor, ClientEvent::Beats)
+    match ActorId::of(actor) {
+        ActorId::Site(site) => Turn::OfSite(site, EventOf::Beat),
+        ActorId::Node(ccy) => Turn::OfNode(ccy, NodeEvent::Beats),
+        ActorId::Client(client) => Turn::OfClient(client, ClientEvent::Beats),
     }
 }

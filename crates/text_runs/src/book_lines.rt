@@ -2,7 +2,7 @@
 use crate::script::{has_fault, has_lines};
 use fixtures::setup::three_currencies;
 use pvp_text::{Kind, Line, Statement};
-use pvp_types::Cmd;
+use pvp_types::{Cmd, Step};
 use std::process::Abort;
 use std::test::Fail;
 
@@ -13,7 +13,7 @@ fn says<R: Abort + AllocGlobal>(rt: &R, script: &str, want: &[Line]) -> Result<(
 
 /// A line that asks for a command.
 fn asks(number: u32, client: u16, cmd: Cmd) -> Line {
-    let statement = Statement::Do { client, cmd };
+    let statement = Statement::Do(Step::Submit { client, cmd });
     Line { number, statement }
 }
 

@@ -1,6 +1,6 @@
 use fixtures::setup::three_currencies;
 use pvp_text::{Kind, Line, LineFault, Statement, read_script};
-use pvp_types::{Cmd, Setup};
+use pvp_types::{Cmd, Setup, Step};
 use std::alloc::{AllocError, Global};
 use std::process::Abort;
 use std::test::Fail;
@@ -95,7 +95,7 @@ fn refuses<R: Abort + AllocGlobal>(
 
 /// A client's command.
 fn asks(client: u16, cmd: Cmd) -> Statement {
-    Statement::Do { client, cmd }
+    Statement::Do(Step::Submit { client, cmd })
 }
 
 /// Every command is read in a script of any kind; a node's are told by its number in each.
@@ -182,28 +182,28 @@ timer s255
 crash s1
 restart s2";
     let want = [
-        Statement::PayIn {
-            member: 1,
+        Statement::Do(Step::PayIn {
             ccy: 1,
+            member: 1,
             amt: 500,
-        },
-        Statement::PayIn {
-            member: 65535,
+        }),
+        Statement::Do(Step::PayIn {
             ccy: 255,
+            member: 65535,
             amt: u64::MAX,
-        },
-        Statement::Close { member: 2, ccy: 2 },
-        Statement::Close { member: 0, ccy: 3 },
-        Statement::Beat { actor: 0 },
-        Statement::Beat { actor: 2 },
-        Statement::Beat { actor: 102 },
-        Statement::Beat { actor: 65535 },
-        Statement::Beat { actor: 200 },
-        Statement::Beat { actor: 455 },
-        Statement::Timer { site: 0 },
-        Statement::Timer { site: 255 },
-        Statement::Crash { site: 1 },
-        Statement::Restart { site: 2 },
+        }),
+        Statement::Do(Step::Close { ccy: 2, member: 2 }),
+        Statement::Do(Step::Close { ccy: 3, member: 0 }),
+        Statement::Do(Step::Beat(0)),
+        Statement::Do(Step::Beat(2)),
+        Statement::Do(Step::Beat(102)),
+        Statement::Do(Step::Beat(65535)),
+        Statement::Do(Step::Beat(200)),
+        Statement::Do(Step::Beat(455)),
+        Statement::Do(Step::Timer(0)),
+        Statement::Do(Step::Timer(255)),
+        Statement::Do(Step::Crash(1)),
+        Statement::Do(Step::Restart(2)),
     ];
     for kind in [Kind::Play, Kind::Live] {
         reads(&rt, kind, script, want.as_slice())?;
@@ -223,7 +223,7 @@ heal @7
 chaos 18446744073709551615 1000000
 chaos 0 0";
     let want = [
-        Statement::Deliver { envelope: 0 },
+        Statement::Do(Step::Deliver(0)),
         Statement::Drain { turns: u32::MAX },
         Statement::Skip { envelopes: 3 },
         Statement::Cut { actor: 202 },

@@ -12,7 +12,7 @@ use Rattle.vr_types.proofs.Choosing.{goes_before, pick_of}
 use Rattle.vr_types.proofs.ChoosingPick.{pick-right, Contains-here, Contains-there, Contains-cases, Contains-none, IsNotBefore, not_before, not_before-trans, before_refuted, before_one_way, before_by_test}
 use Rattle.vr_log.specs.declared.running.VoteOf.{VoteOf}
 use Rattle.vr_log.specs.Running.{vote_of}
-use Rattle.vr_log.proofs.Rows.{take_next}
+use Rattle.vr_types.proofs.Lists.{take_next}
 use Rattle.vr_change.specs.Ballot.{is_left, votes_left, vote_at, goes_past}
 
 -- a test of what a list is mapped to

@@ -12,7 +12,8 @@ use Rattle.vr_types.specs.Rows.{last_of, newest}
 use Rattle.vr_log.specs.declared.kept.Kept.{Kept}
 use Rattle.vr_log.specs.Clients.{newest_in, reply_in}
 use Rattle.vr_log.specs.Kept.{IsKept, last_answer}
-use Rattle.vr_log.proofs.Rows.{take_next, last_of-snoc, last_of-placed, newest-snoc}
+use Rattle.vr_types.proofs.Lists.{take_next}
+use Rattle.vr_log.proofs.Rows.{last_of-snoc, last_of-placed, newest-snoc}
 
 module _ {H C R O S : Type 0} (m : Ghosts H C R O S) (start : H) where
   pub held_after-snoc : (rows : List (RowOf C)) (row : RowOf C) → held_after m start (rows ++ row ∷ []) ≡ m.after (held_after m start rows) row.client row.cmd

@@ -5,16 +5,13 @@ use Rattle.std.specs.Option.{option_map_or}
 use Rattle.std.proofs.lemmas.Option.{slice_get_within, get_or_from_slice_get}
 use Rattle.std.proofs.lemmas.List.{take_more, drop_more}
 use Rattle.std.proofs.lemmas.List.Elements.{filter_map-append}
+use Rattle.vr_types.proofs.Lists.{take_next}
 use Rattle.vr_types.specs.declared.row.RowOf.{RowOf}
 use Rattle.vr_types.specs.Pages.{page_rows, as_page}
 use Rattle.vr_types.specs.Rows.{last_of, newest}
 use Rattle.vr_types.specs.Step.{places_between}
 use Rattle.vr_log.specs.Clients.{rows_at}
 use Rattle.std.proofs.Math.Seq.{take-add}
-
--- the first n + 1 elements are the first n and the next
-pub take_next : {X : Type 0} (xs : List X) (n : ℕ) (x : X) → slice_get xs n ≡ Some x → take (n + 1) xs ≡ take n xs ++ x ∷ []
-take_next xs n x h = take_more xs n x (slice_get_within xs n x h) ∙ ap (λ y. take n xs ++ y ∷ []) (get_or_from_slice_get xs n x x h)
 
 -- what is left after n elements begins with the next
 pub drop_next : {X : Type 0} (xs : List X) (n : ℕ) (x : X) → slice_get xs n ≡ Some x → drop n xs ≡ x ∷ drop (n + 1) xs

@@ -3,7 +3,7 @@ use Rattle.std.proofs.Common.{◌≡◌, ℕ, zero, suc, ◌+◌, List, [], ◌�
 use Rattle.std.proofs.lemmas.List.{map-append}
 use Rattle.vr_log.specs.declared.clients.ClientOf.{ClientOf}
 use Rattle.vr_log.specs.Clients.{unknown}
-use Rattle.vr_log.proofs.Rows.{take_next}
+use Rattle.vr_types.proofs.Lists.{take_next}
 
 -- a client's answer stays, and its number goes
 abbrev pub unnumbered : {R : Type 0} → ClientOf R → ClientOf R

@@ -1,8 +1,10 @@
+pub mod ActorNumbers
 pub mod Choosing
 pub mod ChoosingPick
 pub mod ChoosingPlace
 pub mod ChoosingRight
 pub mod ChoosingState
+pub mod Lists
 pub mod Pages
 mod Runs
 pub mod Saving

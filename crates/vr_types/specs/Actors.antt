@@ -1,30 +1,37 @@
 -- How actors are numbered: the operator is 0, members follow from 1, nodes from 101, sites from 200.
-use Rattle.std.specs.Prelude.{ℕ, ◌+◌, ◌-◌, ◌&&◌, ◌||◌, Bool, nat_le}
+use Rattle.std.specs.Prelude.{ℕ, ◌+◌, ◌-◌, ◌^◌, ◌&&◌, ◌||◌, Bool, nat_le, min, Option, Some, None, if◌then◌else◌}
+use Rattle.vr_types.specs.declared.actors.ActorId.{ActorId}
+use Rattle.vr_types.specs.declared.actors.ActorId.TheVariants.{Client, Node, Site}
+use Rattle.vr_types.specs.declared.actors.TheConstants.{FIRST_NODE, FIRST_SITE}
+use Rattle.vr_types.specs.declared.limits.TheConstants.{MOST_MEMBERS, MOST_NODES, MOST_SITES}
 
--- the most members of a bank
-abbrev pub most_members : ℕ
-most_members = 64
+-- the actor of a number
+abbrev pub id_of : ℕ → ActorId
+id_of number =
+    if nat_le FIRST_SITE number then Site (number - FIRST_SITE)
+    else if nat_le FIRST_NODE number then Node (number - FIRST_NODE)
+    else Client number
 
--- the node of the first currency
-abbrev pub first_node : ℕ
-first_node = 101
+-- the number of an actor, which is 16 bits wide
+abbrev pub number_of : ActorId → ℕ
+number_of (Client client) = client
+number_of (Node ccy) = min (FIRST_NODE + ccy) (2 ^ 16 - 1)
+number_of (Site site) = min (FIRST_SITE + site) (2 ^ 16 - 1)
 
--- the most currencies of a bank, each with its node
-abbrev pub most_nodes : ℕ
-most_nodes = 8
+-- its number among the sites, where it is one
+abbrev pub site_in : ActorId → Option ℕ
+site_in (Site site) = Some site
+site_in (Node ccy) = None
+site_in (Client client) = None
 
--- site 0
-abbrev pub first_site : ℕ
-first_site = 200
-
--- the most sites of a group
-abbrev pub most_sites : ℕ
-most_sites = 7
+-- the numbers of sites are above all others
+abbrev pub is_site : ℕ → Bool
+is_site actor = nat_le FIRST_SITE actor
 
 -- the numbers of clients: the operator and the members, and the nodes
 abbrev pub is_client : ℕ → Bool
-is_client actor = nat_le actor most_members || (nat_le first_node actor && nat_le actor (first_node + most_nodes - 1))
+is_client actor = nat_le actor MOST_MEMBERS || (nat_le FIRST_NODE actor && nat_le actor (FIRST_NODE + MOST_NODES - 1))
 
 -- the numbers of all actors: clients and sites
 abbrev pub is_actor : ℕ → Bool
-is_actor actor = is_client actor || (nat_le first_site actor && nat_le actor (first_site + most_sites - 1))
+is_actor actor = is_client actor || (nat_le FIRST_SITE actor && nat_le actor (FIRST_SITE + MOST_SITES - 1))

@@ -1,13 +1,13 @@
 -- How the boot numbers of sites lie in an array.
 use Rattle.std.specs.Prelude.{◌≡◌, ℕ, ◌-◌, ◌≤◌, ◌++◌, List, length, take, drop, replicate}
 use Rattle.std.proofs.Common.{sym, ap, ◌∙◌, subst, take-append-drop, length-take-le}
-use Rattle.vr_types.specs.Actors.{most_sites}
+use Rattle.vr_types.specs.declared.limits.TheConstants.{MOST_SITES}
 
 -- the first so many are of sites, and the others are 0
 pub record AreBoots (boots : List ℕ) (sites : ℕ) : Type 0 where
-  pub places : length boots ≡ most_sites
-  pub most : sites ≤ most_sites
-  pub rest : drop sites boots ≡ replicate (most_sites - sites) 0
+  pub places : length boots ≡ MOST_SITES
+  pub most : sites ≤ MOST_SITES
+  pub rest : drop sites boots ≡ replicate (MOST_SITES - sites) 0
 
 -- so many sites are told of
 pub sites_back : (boots : List ℕ) (sites : ℕ) → AreBoots boots sites
@@ -17,8 +17,8 @@ sites_back boots sites are =
 
 -- the array is what is told, and zeros
 pub boots_back : (boots : List ℕ) (sites : ℕ) → AreBoots boots sites
-    → take sites boots ++ replicate (most_sites - length (take sites boots)) 0 ≡ boots
+    → take sites boots ++ replicate (MOST_SITES - length (take sites boots)) 0 ≡ boots
 boots_back boots sites are =
     let told = take sites boots in
-    ap (λ n. told ++ replicate (most_sites - n) 0) (sites_back boots sites are)
+    ap (λ n. told ++ replicate (MOST_SITES - n) 0) (sites_back boots sites are)
     ∙ ap (λ rest. told ++ rest) (sym are.rest) ∙ take-append-drop sites boots

@@ -1,9 +1,9 @@
 ghost use Rattle.std.specs.Prelude.{◌≡◌, ◌<◌, ◌≤◌, ◌==◌, ◌++◌, ◌∷◌, [], length, slice_set};
-ghost use Rattle.vr_types.specs.Actors.{most_sites};
+ghost use Rattle.vr_types.specs.declared.limits.TheConstants.{MOST_SITES};
 ghost use Rattle.vr_types.specs.Site.{boot_of, no_boots};
 ghost use Rattle.vr_types.specs.Step.{greater};
 
-use crate::actors::MOST_SITES;
+use crate::limits::MOST_SITES;
 use std::marker::Model;
 
 /// How many boot numbers there is room for.
@@ -19,7 +19,7 @@ pub struct Known {
 
 impl Model for Known {
     ghost use Rattle.std.specs.Prelude.{◌-◌, ◌++◌, List, ℕ, take, replicate, length};
-    ghost use Rattle.vr_types.specs.Actors.{most_sites};
+    ghost use Rattle.vr_types.specs.declared.limits.TheConstants.{MOST_SITES};
     ghost use Rattle.vr_types.specs.Boots.{AreBoots, sites_back, boots_back};
 
     ghost Value = { List ℕ };
@@ -29,7 +29,7 @@ impl Model for Known {
     ghost invariant = { λ a. AreBoots a.boots a.sites };
 
     ghost inverse = { λ known. record {
-      boots = known ++ replicate (most_sites - length known) 0;
+      boots = known ++ replicate (MOST_SITES - length known) 0;
       sites = length known;
     } };
 
@@ -66,7 +66,7 @@ impl Known {
     /// How many sites it tells of: seven at most.
     pub fn len(&self) -> usize
         ensures is { result ≡ length self.now }
-        ensures most { result ≤ most_sites }
+        ensures most { result ≤ MOST_SITES }
     {
         self.sites
     }
@@ -94,7 +94,7 @@ impl Known {
 
     /// Tells of one site more.
     pub fn push(&mut self, boot: u32)
-        requires { length self.old < most_sites }
+        requires { length self.old < MOST_SITES }
         ensures { self.new ≡ self.old ++ boot ∷ [] }
     {
         self.boots[self.sites] = boot;

@@ -12,7 +12,7 @@ use crate::script::fields::{
 use crate::script::moves::{read_live, read_play};
 use crate::script::words::{end, is, next_word, word};
 use crate::script::{Kind, LineCode, Statement};
-use pvp_types::{Cmd, Setup};
+use pvp_types::{Cmd, Setup, Step};
 
 /// How many bytes a line may have.
 const LINE_BYTES: usize = 256;
@@ -54,7 +54,7 @@ fn read_statement(
     ensures { result ≡ statement_at kind setup.now (first.now ∷ words rest.now) }
 {
     if is(first, "do") {
-        read_command(kind, setup, rest)
+        Ok(Statement::Do(read_command(kind, setup, rest)?))
     } else if kind.prints() && is(first, "print") {
         print(rest)
     } else {
@@ -84,7 +84,7 @@ fn print(rest: &[u8]) -> Result<Statement, LineCode>
 
 /// `do WHO COMMAND ..`
 #[tactic(auto, unfolding(crate::specs::Script::do_at))]
-fn read_command(kind: Kind, setup: &Setup, rest: &[u8]) -> Result<Statement, LineCode>
+fn read_command(kind: Kind, setup: &Setup, rest: &[u8]) -> Result<Step, LineCode>
     ensures { result ≡ do_at kind setup.now (words rest.now) }
 {
     let (who, rest) = word(rest)?;
@@ -110,7 +110,7 @@ fn read_command(kind: Kind, setup: &Setup, rest: &[u8]) -> Result<Statement, Lin
 
 /// `do WHO instruct REF OTHER SELL AMT BUY AMT`
 #[tactic(auto, unfolding(crate::specs::Script::instruct_at))]
-fn instruct(kind: Kind, setup: &Setup, who: &[u8], fields: &[u8]) -> Result<Statement, LineCode>
+fn instruct(kind: Kind, setup: &Setup, who: &[u8], fields: &[u8]) -> Result<Step, LineCode>
     ensures { result ≡ instruct_at kind setup.now who.now (words fields.now) }
 {
     let (reference, rest) = word(fields)?;
@@ -131,7 +131,7 @@ fn instruct(kind: Kind, setup: &Setup, who: &[u8], fields: &[u8]) -> Result<Stat
     let other = client_of(setup, other)?;
     let sell = currency_of(setup, sell)?;
     let buy = currency_of(setup, buy)?;
-    Ok(Statement::Do {
+    Ok(Step::Submit {
         client,
         cmd: Cmd::Instruct {
             reference,
@@ -146,7 +146,7 @@ fn instruct(kind: Kind, setup: &Setup, who: &[u8], fields: &[u8]) -> Result<Stat
 
 /// `do WHO rescind REF`
 #[tactic(auto, unfolding(crate::specs::Script::rescind_at))]
-fn rescind(kind: Kind, setup: &Setup, who: &[u8], fields: &[u8]) -> Result<Statement, LineCode>
+fn rescind(kind: Kind, setup: &Setup, who: &[u8], fields: &[u8]) -> Result<Step, LineCode>
     ensures { result ≡ rescind_at kind setup.now who.now (words fields.now) }
 {
     let (reference, rest) = word(fields)?;
@@ -154,7 +154,7 @@ fn rescind(kind: Kind, setup: &Setup, who: &[u8], fields: &[u8]) -> Result<State
     let who = client_reference(who)?;
     let reference = number(reference)?;
     let client = sender_of(kind, setup, who)?;
-    Ok(Statement::Do {
+    Ok(Step::Submit {
         client,
         cmd: Cmd::Rescind { reference },
     })
@@ -162,7 +162,7 @@ fn rescind(kind: Kind, setup: &Setup, who: &[u8], fields: &[u8]) -> Result<State
 
 /// `do WHO settle MOST`
 #[tactic(auto, unfolding(crate::specs::Script::settle_at))]
-fn settle(kind: Kind, setup: &Setup, who: &[u8], fields: &[u8]) -> Result<Statement, LineCode>
+fn settle(kind: Kind, setup: &Setup, who: &[u8], fields: &[u8]) -> Result<Step, LineCode>
     ensures { result ≡ settle_at kind setup.now who.now (words fields.now) }
 {
     let (most, rest) = word(fields)?;
@@ -170,7 +170,7 @@ fn settle(kind: Kind, setup: &Setup, who: &[u8], fields: &[u8]) -> Result<Statem
     let who = client_reference(who)?;
     let most = number(most)?;
     let client = sender_of(kind, setup, who)?;
-    Ok(Statement::Do {
+    Ok(Step::Submit {
         client,
         cmd: Cmd::Settle { most },
     })
@@ -178,7 +178,7 @@ fn settle(kind: Kind, setup: &Setup, who: &[u8], fields: &[u8]) -> Result<Statem
 
 /// `do WHO fund CCY PAY MEMBER AMT`
 #[tactic(auto, unfolding(crate::specs::Script::fund_at))]
-fn fund(kind: Kind, setup: &Setup, who: &[u8], fields: &[u8]) -> Result<Statement, LineCode>
+fn fund(kind: Kind, setup: &Setup, who: &[u8], fields: &[u8]) -> Result<Step, LineCode>
     ensures { result ≡ fund_at kind setup.now who.now (words fields.now) }
 {
     let (ccy, rest) = word(fields)?;
@@ -194,7 +194,7 @@ fn fund(kind: Kind, setup: &Setup, who: &[u8], fields: &[u8]) -> Result<Statemen
     let client = sender_of(kind, setup, who)?;
     let ccy = currency_of(setup, ccy)?;
     let member = client_of(setup, member)?;
-    Ok(Statement::Do {
+    Ok(Step::Submit {
         client,
         cmd: Cmd::Fund {
             ccy,
@@ -207,7 +207,7 @@ fn fund(kind: Kind, setup: &Setup, who: &[u8], fields: &[u8]) -> Result<Statemen
 
 /// `do WHO payout CCY AMT`
 #[tactic(auto, unfolding(crate::specs::Script::payout_at))]
-fn payout(kind: Kind, setup: &Setup, who: &[u8], fields: &[u8]) -> Result<Statement, LineCode>
+fn payout(kind: Kind, setup: &Setup, who: &[u8], fields: &[u8]) -> Result<Step, LineCode>
     ensures { result ≡ payout_at kind setup.now who.now (words fields.now) }
 {
     let (ccy, rest) = word(fields)?;
@@ -218,7 +218,7 @@ fn payout(kind: Kind, setup: &Setup, who: &[u8], fields: &[u8]) -> Result<Statem
     let amt = amount(amt)?;
     let client = sender_of(kind, setup, who)?;
     let ccy = currency_of(setup, ccy)?;
-    Ok(Statement::Do {
+    Ok(Step::Submit {
         client,
         cmd: Cmd::PayOut { ccy, amt },
     })
@@ -242,11 +242,11 @@ fn order(kind: Kind, setup: &Setup, who: &[u8], fields: &[u8]) -> Result<(u16, u
 
 /// `do WHO paid CCY OUT`
 #[tactic(auto, unfolding(crate::specs::Script::paid_at))]
-fn paid(kind: Kind, setup: &Setup, who: &[u8], fields: &[u8]) -> Result<Statement, LineCode>
+fn paid(kind: Kind, setup: &Setup, who: &[u8], fields: &[u8]) -> Result<Step, LineCode>
     ensures { result ≡ paid_at kind setup.now who.now (words fields.now) }
 {
     let (client, ccy, out) = order(kind, setup, who, fields)?;
-    Ok(Statement::Do {
+    Ok(Step::Submit {
         client,
         cmd: Cmd::Paid { ccy, out },
     })
@@ -254,11 +254,11 @@ fn paid(kind: Kind, setup: &Setup, who: &[u8], fields: &[u8]) -> Result<Statemen
 
 /// `do WHO returned CCY OUT`
 #[tactic(auto, unfolding(crate::specs::Script::returned_at))]
-fn returned(kind: Kind, setup: &Setup, who: &[u8], fields: &[u8]) -> Result<Statement, LineCode>
+fn returned(kind: Kind, setup: &Setup, who: &[u8], fields: &[u8]) -> Result<Step, LineCode>
     ensures { result ≡ returned_at kind setup.now who.now (words fields.now) }
 {
     let (client, ccy, out) = order(kind, setup, who, fields)?;
-    Ok(Statement::Do {
+    Ok(Step::Submit {
         client,
         cmd: Cmd::Returned { ccy, out },
     })

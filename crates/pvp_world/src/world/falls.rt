@@ -11,8 +11,9 @@ ghost use Rattle.pvp_world.specs.declared.fault.FallFault.TheVariants.{Step as O
 use crate::fault::{FallFault, WorldFault};
 use crate::post::{is_fall, note};
 use crate::world::World;
-use headline::{Move, Step, Turn};
+use headline::{Move, Turn};
 use pvp_book::Book;
+use pvp_types::Step;
 use std::alloc::Global;
 use vr_site::Replica;
 use vr_types::{Boot, BootCell, Event, EventOf, SiteFault};

@@ -25,6 +25,6 @@ returns c = λ x shows.
     let handles = subst (λ e. Handles book memory old handled e (Ok c.in-Ok._out)) is c.in-Ok.ensures.handles in
     let kept : c.args.cell ≡ held_by old.cell → held_by handled.cell ≡ held_by old.cell = λ h. ap held_by (c.handle.ensures.only_restart (λ r.
     let clash : true ≡ false = sym (c.is_unsaved_restart.ensures.1 (sym is ∙ r, h ∙ sym c.boot.ensures)) ∙ c.if-is_unsaved_restart.false in cc)) in
-    follows_by (Comes book) after x event (Fell c.args.why c.args.cell) (Shows book memory now) c.same_boot.result
-    (λ t. fell_so book memory old x event shows handled c.handle.ensures.place c.in-Ok._out handles now c.args.why c.args.cell c.fall-2.ensures (c.same_boot.ensures.0 t ∙ c.boot-2.ensures) of)
-    (λ comes. c.same_boot.ensures.1 (fell_only book memory old x event shows handled c.handle.ensures.place c.in-Ok._out handles now c.args.why c.args.cell c.fall-2.ensures kept comes ∙ sym c.boot-2.ensures))
+    follows_by (Comes book) after x event (Fell c.args.why c.args.cell) (Shows book memory now) c.is_same_boot.result
+    (λ t. fell_so book memory old x event shows handled c.handle.ensures.place c.in-Ok._out handles now c.args.why c.args.cell c.fall-2.ensures (c.is_same_boot.ensures.0 t ∙ c.boot-2.ensures) of)
+    (λ comes. c.is_same_boot.ensures.1 (fell_only book memory old x event shows handled c.handle.ensures.place c.in-Ok._out handles now c.args.why c.args.cell c.fall-2.ensures kept comes ∙ sym c.boot-2.ensures))

@@ -1,6 +1,6 @@
 use Rattle.std.proofs.Common.{ap, ◌∙◌, rules}
 use Rattle.pvp_types.specs.declared.setup.Setup.{Setup}
-use Rattle.headline.specs.declared.step.Step.TheVariants.{Beat}
+use Rattle.pvp_types.specs.declared.step.Step.TheVariants.{Beat}
 use Rattle.pvp_play.specs.declared.chaos.Act.TheVariants.{Tries}
 use Rattle.pvp_play.specs.Chaos.{any_actor}
 use Rattle.pvp_play.proofs.ChaosLemmas.{row-drains, row-delivers, row-beats}

@@ -1,24 +1,25 @@
-use Rattle.std.proofs.Common.{◌≡◌, ℕ, ◌-◌, ◌==◌, nat_le, Bool, true, false, if◌then◌else◌, Option, Some, None, option_map, slice_get, refl, sym, ap, ◌∙◌}
+use Rattle.std.proofs.Common.{◌≡◌, ℕ, ◌-◌, ◌==◌, Bool, true, false, if◌then◌else◌, Option, Some, None, option_map, slice_get, refl, sym, ap, ◌∙◌}
 use Rattle.vr_types.specs.declared.event.EventOf.TheVariants.{Deliver, Beat}
 use Rattle.rtgs_node.specs.declared.event.NodeEvent.TheVariants as node
 use Rattle.rtgs_node.specs.Node.{Envelope}
 use Rattle.headline.specs.declared.step.ClientEvent.TheVariants as client
-use Rattle.headline.specs.declared.step.Step.TheVariants.{Deliver as Delivers}
-use Rattle.headline.specs.declared.step.Turn.TheVariants.{OfSite, OfNode, OfClient}
-use Rattle.headline.specs.Bank.{delivery}
+use Rattle.pvp_types.specs.declared.step.Step.TheVariants.{Deliver as Delivers}
+use Rattle.vr_types.specs.Actors.{id_of}
+use Rattle.vr_types.specs.declared.actors.ActorId.{ActorId}
+use Rattle.vr_types.specs.declared.actors.ActorId.TheVariants as actor_id
+use Rattle.headline.specs.Bank.{delivery, turn_at}
 use Rattle.pvp_world.specs.World.{Shown}
 use Rattle.pvp_world.specs.Steps.{has_actor, has_number, IsTurn}
 use Rattle.pvp_world.proofs.world.World.arrival.Goals as goal
 
 -- an envelope's turn is that of the actor that it is addressed to
 has_actor-delivery : {B : Type 0} (world : Shown B) (e : Envelope) → has_actor world (delivery e) ≡ has_number world e.to
-has_actor-delivery world e = by (nat_le 200 e.to) (nat_le 101 e.to)
+has_actor-delivery world e = by (id_of e.to)
   where
-    by : (a b : Bool) → has_actor world (if a then OfSite (e.to - 200) (Deliver e) else if b then OfNode (e.to - 101) (node.Takes e) else OfClient e.to (client.Takes e))
-        ≡ has_actor world (if a then OfSite (e.to - 200) Beat else if b then OfNode (e.to - 101) node.Beats else OfClient e.to client.Beats)
-    by true b = refl
-    by false true = refl
-    by false false = refl
+    by : (id : ActorId) → has_actor world (turn_at id (Deliver e) (node.Takes e) (client.Takes e)) ≡ has_actor world (turn_at id Beat node.Beats client.Beats)
+    by (actor_id.Site i) = refl
+    by (actor_id.Node c) = refl
+    by (actor_id.Client k) = refl
 
 -- an envelope that was found makes the turn of its delivery
 delivered : (is_none : Bool) (found : Option Envelope) (e : Envelope) → Some e ≡ (if is_none then None else found) → (if is_none then None else option_map delivery found) ≡ Some (delivery e)
