@@ -441,9 +441,13 @@ class Bank:
         """Frames sent and come before the end, come in all, connections that broke, envelopes sent and lost."""
         return RESTED if rests else HASTY
 
+    def stand(self, sites, line):
+        """Where the sites are told to stand behind a line."""
+        return ", ".join(f"s{at} " + ("down" if line == f"crash s{at}" else "normal in view 0") for at in range(sites))
+
     def told(self, sites, script):
         sent, came, all_came, broke, all_sent, lost = self.counts("\nrest " in script)
-        lines = [f"line {at}: s0 up, {sent} frames sent, {came} came" for at, line in enumerate(script.splitlines(), 1) if line and line[0] != "#"]
+        lines = [f"line {at}: {self.stand(sites, line)}, {sent} frames sent, {came} came" for at, line in enumerate(script.splitlines(), 1) if line and line[0] != "#"]
         lines += [f"line {at}: s1 at clock {at}: S4, the site is up already" for at in range(1, 1 + self.refusals(script))]
         ends = ", ".join(f"s{at} normal in view 1" for at in range(sites))
         first = {3: "42 connections between 9 actors", 5: "80 connections between 11 actors", 7: "126 connections between 13 actors"}[sites]
@@ -515,6 +519,17 @@ class Counts(Bank):
         return self.rested if rests else self.hasty
 
 
+class Standing(Bank):
+    """The sites are told to stand where they stand behind another line, or one site less is told of."""
+
+    def __init__(self, live, line=None, less=0):
+        super().__init__(live)
+        self.line, self.less = line, less
+
+    def stand(self, sites, line):
+        return super().stand(sites - self.less, self.line or line)
+
+
 class Words(Bank):
     """The words of a run are taken for others."""
 
@@ -546,6 +561,9 @@ def sees_live(seen):
         ("seven sites are judged no", Once(live), False),
         ("none is counted as it comes", Counts(live, rested=(9, 0, 9, 0, 9, 0)), False),
         ("more have come than come in all", Counts(live, rested=(9, 10, 9, 0, 9, 0)), False),
+        ("each frame is counted twice", Counts(live, rested=(18, 9, 9, 0, 9, 0)), False),
+        ("a site is not told of", Standing(live, less=1), False),
+        ("a site that crashed is told as another", Standing(live, line="crash s1"), False),
         ("none comes", Counts(live, hasty=(2, 0, 0, 0, 9, 9)), False),
         ("none is told as lost", Counts(live, hasty=(2, 0, 5, 0, 9, 0)), False),
         ("more are lost than were sent", Counts(live, hasty=(2, 0, 5, 0, 9, 14)), False),

@@ -1,0 +1,10 @@
+pub mod Checksums
+pub mod Again
+pub mod Loop
+pub mod Framed
+pub mod Places
+pub mod Taken
+pub mod Sealed
+pub mod Journaled
+pub mod Spelled
+pub mod Partial

@@ -1,0 +1,6 @@
+pub mod Fault
+pub mod Spelling
+pub mod Fits
+pub mod Reading
+pub mod Journals
+pub mod Writing

@@ -1,0 +1,95 @@
+-- A room whose history stands in a journal.
+use Rattle.std.specs.Prelude.{◌≡◌, ℕ, List, [], ◌∷◌, ◌++◌, map, Option, Some, None, IfSome, IsSome, unwrap_or}
+use Rattle.pvp_rooms.specs.declared.actor.Actor.{Ghosts}
+use Rattle.pvp_rooms.specs.declared.message.Input.{Input}
+use Rattle.pvp_rooms.specs.declared.message.Recorded.{Recorded}
+use Rattle.pvp_rooms.specs.Rooms.{Shown, IsRoom, Took, receipt, clock_after}
+use Rattle.pvp_parties.specs.declared.party.PartyEvent.{PartyEvent}
+use Rattle.pvp_parties.specs.declared.party.PartyOutcome.{PartyOutcome}
+use Rattle.pvp_journal.specs.Spelling.{record_text, record_sum}
+use Rattle.pvp_logs.specs.declared.room.Letter.{Letter}
+use Rattle.pvp_logs.specs.declared.room.Posted.{Posted}
+use Rattle.pvp_logs.specs.declared.room.Posted.TheVariants.{Done, NoMemory, ClockSpent}
+
+-- the text of a record behind a checksum, and its own checksum
+pub record Texts (E O : Type 0) : Type 0 where
+  pub record_of : ℕ → Recorded E O → List ℕ
+  pub sum_of : ℕ → Recorded E O → ℕ
+
+-- the texts of the bank's journals
+abbrev pub bank_texts : ℕ → Texts PartyEvent PartyOutcome
+bank_texts me = record { record_of = record_text me; sum_of = record_sum me }
+
+-- records one behind another, and the checksum after them
+abbrev pub records : {E O : Type 0} → Texts E O → ℕ → List (Recorded E O) → List ℕ
+records t before [] = []
+records t before (r ∷ more) = t.record_of before r ++ records t (t.sum_of before r) more
+
+abbrev pub sum_after : {E O : Type 0} → Texts E O → ℕ → List (Recorded E O) → ℕ
+sum_after t before [] = before
+sum_after t before (r ∷ more) = sum_after t (t.sum_of before r) more
+
+-- what is to be sent of an event: at which clock, and how it came out
+abbrev pub letter : {E O : Type 0} → Recorded E O → Letter O
+letter r = record { clock = r.clock; outcome = r.outcome }
+
+-- what a room holds in memory
+pub record Held (N A O L : Type 0) : Type 0 where
+  pub number : ℕ
+  pub opening : N
+  pub actor : A
+  pub clock : ℕ
+  pub log : L
+  pub sum : ℕ
+  pub batch : List ℕ
+  pub waiting : List (Letter O)
+
+-- a history: what stands in the log before its records, with its checksum; what is written, and what is in the batch
+pub record Past (E O : Type 0) : Type 0 where
+  pub head : List ℕ
+  pub start : ℕ
+  pub written : List (Recorded E O)
+  pub pending : List (Recorded E O)
+
+-- the room of such a history
+abbrev pub shown : {N A E O L : Type 0} → Held N A O L → Past E O → Shown N A E O
+shown room past = record { opening = room.opening; actor = room.actor; clock = room.clock; history = past.written ++ past.pending }
+
+-- WHAT A ROOM KEEPS of a history: its actor is the replay of it; the log, where it is known, has the records that are
+-- written, and the batch those that are not; and what those sent waits
+pub record Keeps {N A E O L : Type 0} (m : Ghosts A N E O) (texts : ℕ → Texts E O) (seen : L → Option (List ℕ)) (room : Held N A O L) (past : Past E O) : Type 0 where
+  pub sound : IsRoom m (shown room past)
+  pub log : IfSome (seen room.log) (λ bytes. bytes ≡ past.head ++ records (texts room.number) past.start past.written)
+  pub batch : room.batch ≡ records (texts room.number) (sum_after (texts room.number) past.start past.written) past.pending
+  pub sum : room.sum ≡ sum_after (texts room.number) past.start (past.written ++ past.pending)
+  pub waiting : room.waiting ≡ map letter past.pending
+
+-- the history of a room that took nothing yet, over a log that has the head of a journal with this checksum
+abbrev pub nothing_taken : {E O : Type 0} → Option (List ℕ) → ℕ → Past E O
+nothing_taken seen start = record { head = unwrap_or seen []; start = start; written = []; pending = [] }
+
+-- one event more in the batch
+abbrev pub with_pending : {E O : Type 0} → Past E O → Recorded E O → Past E O
+with_pending past r = record past { pending = past.pending ++ r ∷ [] }
+
+-- and all of it written
+abbrev pub all_written : {E O : Type 0} → Past E O → Past E O
+all_written past = record past { written = past.written ++ past.pending; pending = [] }
+
+-- a room took an input: it goes on by one event
+abbrev pub TookOne : {N A E O L : Type 0} → Ghosts A N E O → (ℕ → Texts E O) → (L → Option (List ℕ)) → Input E → Held N A O L → Held N A O L → Past E O → ℕ → Type 0
+TookOne {O = O} m texts seen input old new past clock = (outcome : O)
+    × Took m input (shown old past) (shown new (with_pending past (receipt input clock outcome))) clock outcome
+    × Keeps m texts seen new (with_pending past (receipt input clock outcome))
+
+-- WHAT AN ANSWER TELLS of a room before and after, whatever history it has kept
+abbrev pub Steps : {N A E O L : Type 0} → Ghosts A N E O → (ℕ → Texts E O) → (L → Option (List ℕ)) → Input E → Held N A O L → Held N A O L → Posted → Type 0
+Steps {E = E} {O = O} m texts seen input old new (Done clock) =
+    (past : Past E O) → Keeps m texts seen old past → TookOne m texts seen input old new past clock
+Steps m texts seen input old new NoMemory = (new ≡ old) × IsSome (clock_after old.clock input.stamp)
+Steps m texts seen input old new ClockSpent = (new ≡ old) × (clock_after old.clock input.stamp ≡ None)
+
+-- WHAT A FLUSH HANDS OUT: what waited of the batch, whose records now stand in the log
+abbrev pub Flushes : {N A E O L : Type 0} → Ghosts A N E O → (ℕ → Texts E O) → (L → Option (List ℕ)) → Held N A O L → Held N A O L → List (Letter O) → Type 0
+Flushes {E = E} {O = O} m texts seen old new letters =
+    (past : Past E O) → Keeps m texts seen old past → (letters ≡ map letter past.pending) × Keeps m texts seen new (all_written past)

@@ -1,0 +1,44 @@
+//! Actors whose events have a text.
+ghost use Rattle.std.specs.Prelude.{◌≡◌, ◌++◌, ℕ, OnOk, OnErr, IfOk};
+ghost use Rattle.pvp_logs.specs.Rooms.{Texts};
+
+use pvp_journal::{WriteFault, write_record};
+use pvp_parties::{PartyEvent, PartyOf, PartyOutcome};
+use pvp_rooms::{Actor, Recorded};
+use std::alloc::Global;
+use vr_types::BootCell;
+
+/// An actor of which a journal has a record for each event, behind one another, each with a checksum that goes on from
+/// the one before.
+pub trait Journaled: Actor {
+    /// The texts of records at the actor of a number, and their checksums.
+    ghost texts: { ℕ → Texts Self.Event Self.Outcome };
+
+    /// Puts the record at the end of the bytes, and answers its checksum. After an `Err` the bytes are as they were.
+    fn write(
+        alloc: Global,
+        number: u16,
+        before: u64,
+        entry: &Recorded<Self::Event, Self::Outcome>,
+        out: &mut Vec<u8>,
+    ) -> Result<u64, WriteFault>
+        ensures written { OnOk result (out.new.items ≡ out.old.items ++ (texts number).record_of before entry.now) }
+        ensures sum { IfOk result (λ after. after ≡ (texts number).sum_of before entry.now) }
+        ensures err { OnErr result (out.new.items ≡ out.old.items) };
+}
+
+impl<C: BootCell> Journaled for PartyOf<C> {
+    ghost use Rattle.pvp_logs.specs.Rooms.{bank_texts};
+
+    ghost texts = { bank_texts };
+
+    fn write(
+        alloc: Global,
+        number: u16,
+        before: u64,
+        entry: &Recorded<PartyEvent, PartyOutcome>,
+        out: &mut Vec<u8>,
+    ) -> Result<u64, WriteFault> {
+        write_record(alloc, number, before, entry, out)
+    }
+}

@@ -1,0 +1,16 @@
+//! Actors whose history is no data in memory: it stands in a journal, on a log that only grows, written before anything
+//! that an actor sent leaves it.
+#![tactic(auto)]
+
+pub mod file;
+pub mod journaled;
+pub mod laws;
+pub mod log;
+pub mod memory;
+pub mod room;
+
+pub use file::FileLog;
+pub use journaled::Journaled;
+pub use log::{Log, LogFault};
+pub use memory::MemLog;
+pub use room::{JournalRoom, Letter, Posted};

@@ -1,0 +1,208 @@
+//! One actor whose history is no data in memory.
+ghost use Rattle.std.specs.Prelude.{◌≡◌, ◌==◌, IfOk, OnOk, IsTrue, length};
+ghost use Rattle.pvp_logs.specs.Log.{OutlivesAll, with_more};
+ghost use Rattle.pvp_logs.specs.Rooms.{Flushes, Steps};
+
+use crate::journaled::Journaled;
+use crate::log::{Log, LogFault};
+use pvp_journal::WriteFault;
+use pvp_rooms::{Input, Recorded, next_clock};
+use std::alloc::Global;
+use std::marker::Model;
+
+/// What came of an event, and at which clock: of what it sent the receivers hear once its record is written.
+#[derive(Drop)]
+pub struct Letter<O> {
+    pub clock: u64,
+    pub outcome: O,
+}
+
+/// Whether an event was taken.
+#[derive(Clone, Copy, Debug, PartialEq, Eq)]
+pub enum Posted {
+    /// It was taken at this clock, and its record is in the batch.
+    Done(u64),
+    /// Memory was refused, and nothing has changed.
+    NoMemory,
+    /// There is no greater clock, and nothing has changed.
+    ClockSpent,
+}
+
+/// An actor, its clock, and the batch of what it took since its log was last written. In clauses it keeps a history,
+/// which log and batch spell. What the batch sent waits in the room; only `flush` hands it out.
+#[derive(Drop)]
+pub struct JournalRoom<A: Journaled, L: Log> {
+    number: u16,
+    opening: A::Opening,
+    actor: A,
+    clock: u64,
+    log: L,
+    /// The checksum of the last record.
+    sum: u64,
+    /// The records that are not written yet.
+    batch: Vec<u8>,
+    waiting: Vec<Letter<A::Outcome>>,
+}
+
+impl<A: Journaled, L: Log> Model for JournalRoom<A, L> {
+    ghost use Rattle.pvp_logs.specs.Rooms.{Held, Keeps, Past};
+
+    ghost Value = { Held A.Opening A A.Outcome L };
+
+    ghost view = { λ a. record {
+      number = a.number;
+      opening = a.opening;
+      actor = a.actor;
+      clock = a.clock;
+      log = a.log;
+      sum = a.sum;
+      batch = a.batch.items;
+      waiting = a.waiting.items;
+    } };
+
+    ghost invariant = { λ a. (past : Past A.Event A.Outcome)
+        × Keeps A.Actor A.texts L.seen
+        (record {
+          number = a.number;
+          opening = a.opening;
+          actor = a.actor;
+          clock = a.clock;
+          log = a.log;
+          sum = a.sum;
+          batch = a.batch.items;
+          waiting = a.waiting.items;
+        }) past };
+}
+
+impl<A: Journaled, L: Log> JournalRoom<A, L> {
+    ghost use Rattle.pvp_logs.specs.Rooms.{Keeps, nothing_taken};
+
+    /// The room of an actor of this number that opens over this, at clock 0, over a log that has the head of its journal,
+    /// with this checksum, and no record. It takes no memory.
+    pub fn new(alloc: Global, number: u16, opening: A::Opening, actor: A, log: L, sum: u64) -> Self
+        requires { (x : A.State) → A.opens actor opening x → A.shows actor x }
+        ensures keeps { Keeps A.Actor A.texts L.seen result (nothing_taken (L.seen log) sum) }
+        ensures number { result.number ≡ number }
+        ensures opening { result.opening ≡ opening }
+        ensures log { result.log ≡ log }
+    {
+        JournalRoom {
+            number,
+            opening,
+            actor,
+            clock: 0,
+            log,
+            sum,
+            batch: Vec::new(alloc),
+            waiting: Vec::new(alloc),
+        }
+    }
+
+    /// The actor, as its history has left it.
+    pub fn actor(&self) -> &A
+        ensures { result.now ≡ self.now.actor }
+    {
+        &self.actor
+    }
+
+    /// The clock of the last event that was taken; 0 before the first.
+    pub fn clock(&self) -> u64
+        ensures { result ≡ self.now.clock }
+    {
+        self.clock
+    }
+
+    /// The log, as it was last written.
+    pub fn log(&self) -> &L
+        ensures { result.now ≡ self.now.log }
+    {
+        &self.log
+    }
+
+    /// Whether nothing waits for a flush.
+    pub fn is_flushed(&self) -> bool
+        ensures { result ≡ (length self.now.waiting == 0) }
+    {
+        self.waiting.is_empty()
+    }
+
+    /// Takes an event as `Room::step` does, but that its record goes into the batch, and what it sent waits. `Err` where
+    /// the record cannot be written: then the actor is ahead of its journal, and the room is gone, with all that waited.
+    pub fn step(self, alloc: Global, input: Input<A::Event>) -> Result<(Self, Posted), WriteFault>
+        ensures { IfOk result (λ after. Steps A.Actor A.texts L.seen input self after.0 after.1) }
+    {
+        let mut room = self;
+        let Some(clock) = next_clock(room.clock, input.stamp) else {
+            return Ok((room, Posted::ClockSpent));
+        };
+        if room.waiting.reserve(1).is_err() {
+            return Ok((room, Posted::NoMemory));
+        }
+        let Ok(event) = A::copy_event(alloc, &input.event) else {
+            return Ok((room, Posted::NoMemory));
+        };
+        let stamp = input.stamp;
+        let Ok(copies) = room.actor.take(alloc, input.event) else {
+            return Ok((room, Posted::NoMemory));
+        };
+        let entry = Recorded {
+            event,
+            stamp,
+            clock,
+            outcome: copies.answered,
+        };
+        room.sum = A::write(alloc, room.number, room.sum, &entry, &mut room.batch)?;
+        room.clock = clock;
+        room.waiting.push_reserved(Letter {
+            clock,
+            outcome: entry.outcome,
+        });
+        Ok((room, Posted::Done(clock)))
+    }
+
+    /// Writes the batch, has the log sync it where asked, and then hands out what waited, in order. `Err` where the log
+    /// refuses: then the room is gone, and nothing of the batch is ever handed out.
+    pub fn flush(
+        self,
+        alloc: Global,
+        syncs: bool,
+    ) -> Result<(Self, Vec<Letter<A::Outcome>>), LogFault>
+        ensures flushes { IfOk result (λ after. Flushes A.Actor A.texts L.seen self after.0 after.1.items) }
+        ensures synced { IfOk result (λ after. IsTrue syncs → OutlivesAll (L.seen after.0.log) (L.synced after.0.log)) }
+    {
+        let JournalRoom {
+            number,
+            opening,
+            actor,
+            clock,
+            mut log,
+            sum,
+            batch,
+            waiting,
+        } = self;
+        write_batch(&mut log, batch.as_slice(), syncs)?;
+        let room = JournalRoom {
+            number,
+            opening,
+            actor,
+            clock,
+            log,
+            sum,
+            batch: Vec::new(alloc),
+            waiting: Vec::new(alloc),
+        };
+        Ok((room, waiting))
+    }
+}
+
+/// Puts a batch into a log, and has it synced where asked.
+fn write_batch<L: Log>(log: &mut L, batch: &[u8], syncs: bool) -> Result<(), LogFault>
+    ensures seen { OnOk result (L.seen log.new ≡ with_more (L.seen log.old) batch.now) }
+    ensures synced { OnOk result (IsTrue syncs → OutlivesAll (L.seen log.new) (L.synced log.new)) }
+{
+    log.append(batch)?;
+    if syncs {
+        log.sync()?;
+    }
+    Ok(())
+}
