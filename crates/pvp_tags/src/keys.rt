@@ -1,0 +1,37 @@
+//! Keys that two actors share, and tags by them.
+ghost use Rattle.std.specs.Prelude.{◌≡◌, ◌++◌, []};
+ghost use Rattle.pvp_tags.specs.Keys.{key_of, tag_of, pair_text};
+
+use crate::code::hmac;
+use byteorder::{BigEndian, ByteOrder};
+
+/// How many bytes a tag has.
+pub const TAG_BYTES: usize = 16;
+
+/// The key that two actors of a bank share, by the bank's secret: the same whichever is named first.
+pub fn key_of(secret: &[u8], one: u16, other: u16) -> [u8; 32]
+    ensures { result ≡ key_of secret.now one other }
+{
+    hmac(secret, &pair_text(one, other), &[])
+}
+
+/// The numbers of two actors, the lower one first.
+fn pair_text(one: u16, other: u16) -> [u8; 4]
+    ensures { result ≡ pair_text one other }
+{
+    let mut text = [0; 4];
+    BigEndian::write_u16(&mut text[..2], one.min(other));
+    BigEndian::write_u16(&mut text[2..], one.max(other));
+    text
+}
+
+/// The tag of a frame that goes between two actors who share this key, in this life of their bank: half of the HMAC over
+/// the bank's id and the frame.
+pub fn tag_of(key: &[u8; 32], bank: &[u8; 32], frame: &[u8]) -> [u8; TAG_BYTES]
+    ensures { result ≡ tag_of key.now bank.now frame.now }
+{
+    let whole = hmac(key.as_slice(), bank.as_slice(), frame);
+    let mut tag = [0; TAG_BYTES];
+    tag.copy_from_slice(&whole[..TAG_BYTES]);
+    tag
+}
