@@ -12,10 +12,10 @@ use std::alloc::Global;
 use std::test::Fail;
 
 /// The operator's room.
-type Operator = JournalRoom<Party, MemLog>;
+pub(crate) type Operator = JournalRoom<Party, MemLog>;
 
 /// The operator's room, over a log of which the call of this number fails.
-fn operator(alloc: Global, failing: u64) -> Result<Operator, Fail> {
+pub(crate) fn operator(alloc: Global, failing: u64) -> Result<Operator, Fail> {
     let setup = three_currencies(alloc)?;
     let actor = Party::client(&setup, 0)?;
     let head = Head {
@@ -43,7 +43,11 @@ fn request(clock: u64) -> Input<PartyEvent> {
 }
 
 /// The operator's room takes such a request.
-fn settle(alloc: Global, room: Operator, clock: u64) -> Result<(Operator, Posted), Fail> {
+pub(crate) fn settle(
+    alloc: Global,
+    room: Operator,
+    clock: u64,
+) -> Result<(Operator, Posted), Fail> {
     match room.step(alloc, request(clock)) {
         Ok(stepped) => Ok(stepped),
         Err(_) => Err(Fail::new("it has no text")),

@@ -7,10 +7,12 @@ pub mod journaled;
 pub mod laws;
 pub mod log;
 pub mod memory;
+pub mod resume;
 pub mod room;
 
 pub use file::FileLog;
 pub use journaled::Journaled;
 pub use log::{Log, LogFault};
 pub use memory::MemLog;
+pub use resume::{Replayed, come_back, replay, rising_clock};
 pub use room::{JournalRoom, Letter, Posted};

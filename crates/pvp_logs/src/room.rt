@@ -1,10 +1,12 @@
 //! One actor whose history is no data in memory.
 ghost use Rattle.std.specs.Prelude.{◌≡◌, ◌==◌, IfOk, OnOk, IsTrue, length};
 ghost use Rattle.pvp_logs.specs.Log.{OutlivesAll, with_more};
-ghost use Rattle.pvp_logs.specs.Rooms.{Flushes, Steps};
+ghost use Rattle.pvp_logs.specs.Rooms.{Flushes, Past, Steps};
+ghost use Rattle.pvp_logs.specs.Resumed.{IsAgain, IsWritten, resumed};
 
 use crate::journaled::Journaled;
 use crate::log::{Log, LogFault};
+use crate::resume::Replayed;
 use pvp_journal::WriteFault;
 use pvp_rooms::{Input, Recorded, next_clock};
 use std::alloc::Global;
@@ -91,6 +93,36 @@ impl<A: Journaled, L: Log> JournalRoom<A, L> {
             opening,
             actor,
             clock: 0,
+            log,
+            sum,
+            batch: Vec::new(alloc),
+            waiting: Vec::new(alloc),
+        }
+    }
+
+    /// The room of an actor that took a history again, over the log that holds the records of that history behind the head
+    /// of its journal, with this checksum after them. It takes no memory.
+    pub fn resume(
+        alloc: Global,
+        number: u16,
+        opening: A::Opening,
+        again: Replayed<A>,
+        log: L,
+        sum: u64,
+    ) -> Self
+        requires { (past : Past A.Event A.Outcome) × IsAgain A.Actor opening again past.written
+            × IsWritten (A.texts number) (L.seen log) past sum }
+        ensures is { result ≡ resumed number opening again log sum }
+        ensures keeps { (past : Past A.Event A.Outcome) →
+            IsAgain A.Actor opening again past.written →
+            IsWritten (A.texts number) (L.seen log) past sum →
+            Keeps A.Actor A.texts L.seen result past }
+    {
+        JournalRoom {
+            number,
+            opening,
+            actor: again.actor,
+            clock: again.clock,
             log,
             sum,
             batch: Vec::new(alloc),

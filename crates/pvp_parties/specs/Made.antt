@@ -5,6 +5,7 @@ use Rattle.pvp_types.specs.Setup.{faults}
 use Rattle.vr_types.specs.declared.cell.BootCell.{Ghosts as Cell}
 use Rattle.vr_types.specs.declared.cell.MemCell.{MemCell}
 use Rattle.vr_types.specs.MemoryCell.{held_by, faults_of, IsReliable, after_save}
+use Rattle.vr_site.specs.Replica.{with_cell}
 use Rattle.rtgs_node.specs.Shown as node
 use Rattle.pvp_world.specs.Client as client
 use Rattle.pvp_parties.specs.Alike.{SiteOf}
@@ -18,6 +19,10 @@ pub record Made (A : Type 0) : Type 0 where
   pub setup : Setup
   pub place : ℕ
   pub now : A
+
+-- a site over another cell
+abbrev pub made_over : {B D : Type 0} → Made (SiteOf B) → D → Made (SiteOf D)
+made_over p cell = record { setup = p.setup; place = p.place; now = with_cell p.now cell }
 
 -- an actor as it was made
 

@@ -28,7 +28,7 @@ use Rattle.pvp_parties.specs.declared.party.PartyEvent.{PartyEvent}
 use Rattle.pvp_parties.specs.declared.party.PartyEvent.TheVariants.{OfSite, OfNode, OfClient}
 use Rattle.pvp_parties.specs.declared.party.PartyOutcome.{PartyOutcome}
 use Rattle.pvp_parties.specs.declared.party.PartyOutcome.TheVariants.{OfSite as SiteTold, OfNode as NodeTold, OfClient as ClientTold, Stray}
-use Rattle.pvp_parties.specs.Made.{made_site, made_node, made_client}
+use Rattle.pvp_parties.specs.Made.{made_site, made_node, made_client, made_over}
 
 -- an actor over a cell in memory
 abbrev pub Party : Type 0
@@ -51,6 +51,18 @@ abbrev pub setup_of : {B : Type 0} → PartyOf B → Setup
 setup_of (Site p) = p.setup
 setup_of (Node p) = p.setup
 setup_of (Client p) = p.setup
+
+-- what a site's cell holds; a node and a client have none
+abbrev pub held_of : {B : Type 0} → Cell B → PartyOf B → Option Boot
+held_of c (Site p) = Some (c.held p.now.cell)
+held_of c (Node p) = None
+held_of c (Client p) = None
+
+-- an actor over another cell, where it has one
+abbrev pub party_over : {B D : Type 0} → PartyOf B → D → PartyOf D
+party_over (Site p) cell = Site (made_over p cell)
+party_over (Node p) cell = Node p
+party_over (Client p) cell = Client p
 
 -- a site opens over what its cell held, a node and a client over nothing
 abbrev pub Opens : {B : Type 0} → PartyOf B → Option Boot → PartyState → Type 0

@@ -11,7 +11,7 @@ ghost use Rattle.pvp_rooms.specs.Nodes as nodes;
 ghost use Rattle.pvp_rooms.specs.Clients as clients;
 ghost use Rattle.pvp_rooms.specs.Sites as sites;
 ghost use Rattle.pvp_parties.specs.Alike.{AreAlikeSites};
-ghost use Rattle.pvp_parties.specs.Made.{memory, made_site, made_node, made_client};
+ghost use Rattle.pvp_parties.specs.Made.{memory, made_site, made_node, made_client, made_over};
 
 use crate::follow::{follow_client, follow_node, follow_site};
 use crate::like::{are_alike_clients, are_alike_nodes, are_alike_sites};
@@ -99,6 +99,25 @@ impl<C: BootCell> SiteParty<C> {
         &self.setup
     }
 
+    /// What its cell holds.
+    pub fn held(&self) -> Boot
+        ensures { result ≡ C.held self.now.now.cell }
+    {
+        self.site.boot()
+    }
+
+    /// The same site over another cell, which holds what its own does.
+    pub fn over<D: BootCell>(self, cell: D) -> SiteParty<D>
+        requires { D.held cell ≡ C.held self.now.cell }
+        ensures { result ≡ made_over self cell }
+    {
+        SiteParty {
+            setup: self.setup,
+            me: self.me,
+            site: self.site.over(cell),
+        }
+    }
+
     /// The site itself.
     pub fn replica(&self) -> &Replica<Book, C>
         ensures { result.now ≡ self.now.now }
@@ -123,8 +142,9 @@ impl SiteParty<MemCell> {
         event: &Event<Book>,
         came: &Came<Book>,
     ) -> Result<bool, AllocError>
-        ensures { IfOk result (λ can. (x : sites.SiteState Ledger AnyCmd) → sites.Shows book memory self.old.now x →
+        ensures step { IfOk result (λ can. (x : sites.SiteState Ledger AnyCmd) → sites.Shows book memory self.old.now x →
             Follows (sites.Comes book) sites.after x event.now came.now (sites.Shows book memory self.new.now) can) }
+        ensures kept { self.new ≡ record self.old { now = self.new.now } }
     {
         follow_site(&mut self.site, alloc, event, came)
     }
@@ -212,8 +232,9 @@ impl NodeParty {
         event: &NodeEvent,
         told: &Told<NodeFault>,
     ) -> Result<bool, AllocError>
-        ensures { IfOk result (λ can.
+        ensures step { IfOk result (λ can.
             Follows nodes.Comes nodes.after self.old.now event.now told.now (λ y. y ≡ self.new.now) can) }
+        ensures kept { self.new ≡ record self.old { now = self.new.now } }
     {
         follow_node(&mut self.node, alloc, event, told)
     }
@@ -315,8 +336,9 @@ impl ClientParty {
         event: &ClientEvent,
         told: &Told<ClientFault>,
     ) -> Result<bool, AllocError>
-        ensures { IfOk result (λ can.
+        ensures step { IfOk result (λ can.
             Follows clients.Comes clients.after self.old.now event.now told.now (λ y. y ≡ self.new.now) can) }
+        ensures kept { self.new ≡ record self.old { now = self.new.now } }
     {
         follow_client(&mut self.client, alloc, event, told)
     }

@@ -1,5 +1,5 @@
 //! An actor of the bank, of any kind.
-ghost use Rattle.std.specs.Prelude.{◌≡◌, ◌*◌, ◌<◌, ◌≤◌, length, IfOk};
+ghost use Rattle.std.specs.Prelude.{◌≡◌, ◌*◌, ◌<◌, ◌≤◌, length, IfOk, IfSome};
 ghost use Rattle.pvp_types.specs.Setup.{IsValid, faults};
 
 use crate::made::{ClientParty, NodeParty, SiteParty};
@@ -171,10 +171,10 @@ fn stray() -> Copies<PartyOutcome>
 }
 
 impl<C: BootCell> PartyOf<C> {
-    ghost use Rattle.std.specs.Prelude.{Some, None};
+    ghost use Rattle.std.specs.Prelude.{Option, Some, None};
     ghost use Rattle.vr_types.specs.Group.{actor_of};
     ghost use Rattle.pvp_book.specs.Ledger.{node_of};
-    ghost use Rattle.pvp_parties.specs.Parties.{PartyState, Opens, Shows, number_of, setup_of};
+    ghost use Rattle.pvp_parties.specs.Parties.{PartyState, Opens, Shows, held_of, number_of, party_over, setup_of};
 
     /// The site of this place in its group, over a cell. `Err` where memory is refused.
     pub fn site(alloc: Global, setup: &Setup, me: u16, cell: C) -> Result<Self, AllocError>
@@ -228,6 +228,33 @@ impl<C: BootCell> PartyOf<C> {
             PartyOf::Site(site) => site.number(),
             PartyOf::Node(node) => node.number(),
             PartyOf::Client(client) => client.number(),
+        }
+    }
+
+    /// What a site's cell holds; a node and a client have none.
+    pub fn held(&self) -> Option<Boot>
+        ensures { result ≡ held_of C.BootCell self.now }
+    {
+        match self {
+            PartyOf::Site(site) => Some(site.held()),
+            _ => None,
+        }
+    }
+
+    /// The same actor over another cell, which holds what a site's own does. A node and a client have none, and are the
+    /// same over any.
+    pub fn over<D: BootCell>(self, cell: D) -> PartyOf<D>
+        requires { IfSome (held_of C.BootCell self) (λ own. D.held cell ≡ own) }
+        ensures is { result ≡ party_over self cell }
+        ensures number { number_of result ≡ number_of self }
+        ensures setup { setup_of result ≡ setup_of self }
+        ensures shows { (x : PartyState) → Shows C.BootCell self x → Shows D.BootCell result x }
+        ensures opens { (opening : Option Boot) (x : PartyState) → Opens result opening x → Opens self opening x }
+    {
+        match self {
+            PartyOf::Site(site) => PartyOf::Site(site.over(cell)),
+            PartyOf::Node(node) => PartyOf::Node(node),
+            PartyOf::Client(client) => PartyOf::Client(client),
         }
     }
 }

@@ -35,6 +35,10 @@ pub record Shown (C S B : Type 0) : Type 0 where
 abbrev pub shown : {H C R O S B : Type 0} → ℕ → ℕ → S → B → Life H C R O S → Shown C S B
 shown f me setup cell life = record { f = f; me = me; setup = setup; cell = cell; volatile = volatile_of life }
 
+-- the same over another cell
+abbrev pub with_cell : {C S B D : Type 0} → Shown C S B → D → Shown C S D
+with_cell v cell = record { f = v.f; me = v.me; setup = v.setup; cell = cell; volatile = v.volatile }
+
 -- the site that is shown, where these acknowledgements came; held is what a cell holds
 abbrev pub site_shown : {C S B : Type 0} → (B → Boot) → Shown C S B → List Ack → Site C
 site_shown held v acks = site_with v.volatile acks (held v.cell)

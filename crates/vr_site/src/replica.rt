@@ -54,7 +54,7 @@ impl<M: Machine, C: BootCell> Replica<M, C> {
     ghost use Rattle.vr_types.specs.Saved.{IsSavedFor};
     ghost use Rattle.vr_types.specs.Site.{opening_site};
     ghost use Rattle.vr_types.specs.Step.{Dropped};
-    ghost use Rattle.vr_site.specs.Replica.{site_shown, KeepsPlace, Does, Falls, Handles, Serves, Awaits};
+    ghost use Rattle.vr_site.specs.Replica.{site_shown, with_cell, KeepsPlace, Does, Falls, Handles, Serves, Awaits};
 
     /// A site over a cell: over a new one it is normal in view 0 with an empty log, over any other it is down.
     pub fn new(alloc: Global, config: Config, setup: M::Setup, cell: C) -> Result<Self, AllocError>
@@ -78,6 +78,20 @@ impl<M: Machine, C: BootCell> Replica<M, C> {
             cell,
             life: Life::Up(running),
         })
+    }
+
+    /// The same site over another cell, which holds what its own does.
+    pub fn over<D: BootCell>(self, cell: D) -> Replica<M, D>
+        requires { D.held cell ≡ C.held self.cell }
+        ensures is { result ≡ with_cell self cell }
+        ensures site { (acks : List Ack) → site_shown D.held result acks ≡ site_shown C.held self acks }
+    {
+        Replica {
+            config: self.config,
+            setup: self.setup,
+            cell,
+            life: self.life,
+        }
     }
 
     /// Handles an event: takes the site's step, and answers the envelopes that it sends, in order, or why the event is

@@ -158,7 +158,7 @@ returns-then-not-branch-clause-followed g c = λ start opens.
     let within : k < length actors = (let w = next.within in let s = i.many in omega (arith, w, s)) in
     let x = replay m.after (take (slice_index at k) one.history.items) (start k) in
     let shown = p.shown k one c.index_mut.result.now np.0 (slice_get_read actors (length actors) k c.index_mut.result.now refl within c.index_mut.ensures.value) in
-    let never = subst (λ b. Follows m.comes m.after x r.event r.outcome (m.shows c.follow.new.self) b) c.if-not-branch.true (c.in_ok-follow.ensures x shown) in
+    let never = subst (λ b. Follows m.comes m.after x r.event r.outcome (m.shows c.follow.new.self) b) c.if-not-branch.true (c.in_ok-follow.ensures.step x shown) in
     cannot_come m a.delivers a.sent a.is_for closed c.requires.order c.requires.alone start at actors p k next one np.0 (place + 1) (ap (λ n. n + 1) (sym np.1)) named
     (λ comes. never (subst (λ (v : Recorded _ _). m.comes x v.event v.outcome) what comes))
 
@@ -209,7 +209,7 @@ loop-k-preserved g c =
           let within : k < length actors = (let w = next.within in let s = i.many in omega (arith, w, s)) in
           let x = replay m.after (take (slice_index at k) one.history.items) (start k) in
           let shown = p.shown k one c.index_mut.result.now np.0 (slice_get_read actors (length actors) k c.index_mut.result.now refl within c.index_mut.ensures.value) in
-          let did = subst (λ b. Follows m.comes m.after x r.event r.outcome (m.shows c.follow.new.self) b) c.if-not-branch.false (c.in_ok-follow.ensures x shown) in
+          let did = subst (λ b. Follows m.comes m.after x r.event r.outcome (m.shows c.follow.new.self) b) c.if-not-branch.false (c.in_ok-follow.ensures.step x shown) in
           let did2 = subst (λ (v : Recorded _ _). m.comes x v.event v.outcome × m.shows c.follow.new.self (m.after x v.event v.outcome)) (sym what) did in
           progress_next m a.delivers a.sent a.is_for closed c.requires.order c.requires.alone start at actors p k next one np.0 (slice_set at k (place + 1)) c.follow.new.self named did2.0 did2.1 within
           (stepped at k place (omega (arith, w, s)) c.index-place.ensures));

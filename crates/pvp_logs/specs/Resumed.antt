@@ -1,0 +1,68 @@
+-- A history that is taken again, and a room that goes on behind it.
+use Rattle.std.specs.Prelude.{◌≡◌, ℕ, List, [], ◌++◌, Option, Some, None, IfSome}
+use Rattle.pvp_rooms.specs.declared.actor.Actor.{Ghosts}
+use Rattle.pvp_rooms.specs.declared.message.Recorded.{Recorded}
+use Rattle.pvp_rooms.specs.Histories.{replay, AreSteps, IsRising, last_clock}
+use Rattle.pvp_rooms.specs.Rooms.{IsRoom}
+use Rattle.pvp_parties.specs.declared.party.PartyEvent.{PartyEvent}
+use Rattle.pvp_parties.specs.declared.party.PartyOutcome.{PartyOutcome}
+use Rattle.pvp_journal.specs.declared.journal.Journal.{Journal}
+use Rattle.pvp_journal.specs.Spelling.{head_text, head_sum}
+use Rattle.pvp_logs.specs.declared.resume.Replayed.{Replayed}
+use Rattle.pvp_logs.specs.Rooms.{Texts, Held, Past, records, sum_after}
+
+-- an actor took a history: from each state that it showed, each event can come out as it is recorded, and it shows the
+-- state after them all; and it is still what it was opened as
+pub record TookAll {A N E O : Type 0} (m : Ghosts A N E O) (old new : A) (history : List (Recorded E O)) : Type 0 where
+  pub steps : (x : m.State) → m.shows old x
+      → AreSteps m.comes m.after history x × m.shows new (replay m.after history x)
+  pub opens : (opening : N) (x : m.State) → m.opens new opening x → m.opens old opening x
+
+-- each event can come out as it is recorded, and the clocks rise
+abbrev pub CanHaveCome : {A N E O : Type 0} → (m : Ghosts A N E O) → List (Recorded E O) → m.State → Type 0
+CanHaveCome m history x = AreSteps m.comes m.after history x × IsRising history 0
+
+-- WHAT TAKING A HISTORY AGAIN FINDS: the actor after it, and its last clock; or that it cannot have come so from any
+-- state that the actor showed
+abbrev pub Replays : {A N E O : Type 0} → Ghosts A N E O → A → List (Recorded E O) → Option (Replayed A) → Type 0
+Replays m old history (Some again) =
+    TookAll m old again.actor history × IsRising history 0 × (last_clock history 0 ≡ again.clock)
+Replays m old history None = (x : m.State) → m.shows old x → ¬ CanHaveCome m history x
+
+-- an actor as it opened shows each state in which it opens
+abbrev pub IsOpened : {A N E O : Type 0} → Ghosts A N E O → A → N → Type 0
+IsOpened m actor opening = (x : m.State) → m.opens actor opening x → m.shows actor x
+
+-- the actor is the replay of a history, and its clock the last
+abbrev pub IsAgain : {A N E O : Type 0} → Ghosts A N E O → N → Replayed A → List (Recorded E O) → Type 0
+IsAgain m opening again history =
+    IsRoom m (record { opening = opening; actor = again.actor; clock = again.clock; history = history })
+
+-- what a room holds that goes on: nothing is in its batch, and nothing waits
+abbrev pub resumed : {N A O L : Type 0} → ℕ → N → Replayed A → L → ℕ → Held N A O L
+resumed number opening again log sum = record {
+  number = number;
+  opening = opening;
+  actor = again.actor;
+  clock = again.clock;
+  log = log;
+  sum = sum;
+  batch = [];
+  waiting = [];
+}
+
+-- a history is written, all of it: what was found holds its records behind a head, and this is the checksum after them
+pub record IsWritten {E O : Type 0} (t : Texts E O) (found : Option (List ℕ)) (past : Past E O) (last : ℕ)
+    : Type 0 where
+  pub log : IfSome found (λ bytes. bytes ≡ past.head ++ records t past.start past.written)
+  pub sum : last ≡ sum_after t past.start past.written
+  pub all : past.pending ≡ []
+
+-- the history of a journal that was read
+abbrev pub past_of : Journal → Past PartyEvent PartyOutcome
+past_of journal = record {
+  head = head_text journal.head;
+  start = head_sum journal.head;
+  written = journal.history.items;
+  pending = [];
+}
