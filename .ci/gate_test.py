@@ -294,8 +294,8 @@ def sees_counts(seen):
         lines = re.search(r"\*\*.* \| (\d+) \|", read(belief))[1]
         for name, path, old, new, why in (
             ("a number of lines", belief, f"`Replies.antt` | {lines} |", "`Replies.antt` | 7 |", f"where {lines} are counted"),
-            ("a number of codes", f"{room}/README.md", "of the 63 fault codes", "of the 64 fault codes", "where 63 are counted"),
-            ("a number that nobody finds", f"{room}/README.md", "of the 63 fault codes", "of all fault codes", "no number stands in"),
+            ("a number of codes", f"{room}/README.md", "of the 86 fault codes", "of the 87 fault codes", "where 86 are counted"),
+            ("a number that nobody finds", f"{room}/README.md", "of the 86 fault codes", "of all fault codes", "no number stands in"),
             ("a shared sentence", f"{room}/docs/operating.md", "down or recovering at once. A site", "down at once. A site", "with other words than in"),
             ("a call that carries the headline", f"{room}/crates/pvp_world/src/world/falls.rt", "ensures headline {", "ensures other {", "World::fall"),
             ("a code that no table has", f"{room}/docs/operating.md", "| `fault E1` |", "| `fault` |", "the code E1 is printed"),
@@ -465,10 +465,31 @@ class Bank:
     def script(self):
         return "payin ALFA USD 1200\ndeliver 1\nprint\n"
 
-    def ran(self, command, setup, script, *words):
+    def keep(self, folder, sites):
+        """Writes a journal of each actor, in which it crashes at clock 5 and sends nothing."""
+        for actor in range(sites + 6):
+            head = b"PVPJ\1" + actor.to_bytes(2, "big") + bytes(33)
+            body = (5).to_bytes(8, "big") + b"\4\1" + bytes(5)
+            self.live.write_journal(os.path.join(folder, f"{actor}.journal"), self.live.Journal(head, [body]))
+
+    def audited(self, sites, words):
+        """What the audit of journals says: the test that fails of a record that is another, where it is no cut."""
+        for name in words if "--cut" not in words else ():
+            journal = self.live.read_journal(name)
+            code = "A3" if journal.bodies[0].endswith(b"\x08") else "A2" if not any(journal.bodies[0][:8]) else None
+            if code:
+                return 3, f"audit no {journal.head[6]} 1 {code}\n", ""
+        return 0, self.books(sites) + "audit yes\n", ""
+
+    def ran(self, command, setup, *words):
         sites = int(re.search(r'"sites":(\d)', read(setup))[1])
         if command == "play":
             return 0, self.books(sites), ""
+        if command == "audit":
+            return self.audited(sites, words)
+        script = words[0]
+        if "--journal" in words:
+            self.keep(words[-1], sites)
         text = self.script() + "# audit yes\n" if "--script" in words else self.books(sites) + "audit yes\n"
         text_of = read(script)
         return 0, text, (self.told(sites, text_of) if "--verbose" in words else "") + self.refused(text_of)
@@ -537,16 +558,38 @@ class Words(Bank):
         super().__init__(live)
         self.taken = taken
 
-    def ran(self, command, setup, script, *words):
-        return super().ran(command, setup, script, *(it for word in words for it in self.taken.get(word, [word])))
+    def ran(self, command, setup, *words):
+        return super().ran(command, setup, *(it for word in words for it in self.taken.get(word, [word])))
 
 
 class Once(Bank):
     """Everything is shown in each run, and the audit says no in those over seven sites."""
 
-    def ran(self, command, setup, script, *words):
-        status, text, told = super().ran(command, setup, script, *words)
+    def ran(self, command, setup, *words):
+        status, text, told = super().ran(command, setup, *words)
         return (3, "audit no 206 1 A1\n", told) if '"sites":7' in read(setup) else (status, text, told)
+
+
+class Audits(Bank):
+    """Whole journals or their cuts are judged no, or forged ones yes."""
+
+    def __init__(self, live, which):
+        super().__init__(live)
+        self.which = which
+
+    def audited(self, sites, words):
+        status, text, told = super().audited(sites, words)
+        which = "cut" if "--cut" in words else "forged" if status else "whole"
+        if which != self.which:
+            return status, text, told
+        return (0, self.books(sites) + "audit yes\n", "") if status else (3, "audit no 0 1 A1\n", "")
+
+
+class Unkept(Bank):
+    """A journal less is kept."""
+
+    def keep(self, folder, sites):
+        super().keep(folder, sites - 1)
 
 
 def sees_live(seen):
@@ -571,11 +614,15 @@ def sees_live(seen):
         ("connections break", Counts(live, rested=(9, 9, 9, 1, 9, 0)), False),
         ("no line is told as refused", Unrefused(live), False),
         ("a refused line is not told where it comes", Uncounted(live), False),
+        ("journals are judged no", Audits(live, "whole"), False),
+        ("a cut is judged no", Audits(live, "cut"), False),
+        ("a forged record is let go", Audits(live, "forged"), False),
+        ("an actor has no journal", Unkept(live), False),
     ):
         live.ran = bank.ran
         with contextlib.redirect_stdout(io.StringIO()) as told:
             status = live.main()
-        is_told_green = bool(re.fullmatch(r"30 passed, 0 failed", last(told.getvalue())))
+        is_told_green = bool(re.fullmatch(r"33 passed, 0 failed", last(told.getvalue())))
         seen.look(f"live, {name}", (status == 0, is_told_green) == (is_green, is_green), told.getvalue())
 
 

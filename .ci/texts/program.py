@@ -49,11 +49,12 @@ class Runs(unittest.TestCase):
 
     maxDiff = None
 
-    def run_on(self, words, setup=SETUP, script=""):
-        """The status of a run, what it printed and what it told."""
+    def run_on(self, words, setup=SETUP, script="", files=None):
+        """The status of a run, what it printed and what it told; in the folder stand these files too, by their names."""
+        texts = {"setup.json": setup.encode(), "script.txt": script.encode(), **(files or {})}
         with tempfile.TemporaryDirectory() as folder:
-            for name, text in (("setup.json", setup), ("script.txt", script)):
-                with open(os.path.join(folder, name), "w", encoding="utf-8", newline="") as file:
+            for name, text in texts.items():
+                with open(os.path.join(folder, name), "wb") as file:
                     file.write(text)
             ran = subprocess.run([PROGRAM, *words], cwd=folder, stdin=subprocess.DEVNULL, capture_output=True, timeout=120)
         return ran.returncode, ran.stdout.decode(), ran.stderr.decode()

@@ -69,6 +69,29 @@ F5  a field has a value that it may not have
 F6  the fields end before the frame does, or after it
 F7  memory was refused
 E1  a seat of a live run did not come back, so its actors could not be audited
+M1  the bytes do not begin with PVPJ
+M2  the version is not 1
+M3  the head is cut off, or its opening has another flag
+M4  a record's length does not have its complement behind it
+M5  a record has another checksum
+M6  a record says nothing that its actor may do
+M7  memory was refused
+M8  an event has no text
+M9  memory was refused
+U1  no boot cell is there
+U2  what is there has not the length of a boot cell
+U3  a boot cell's count and its complement do not fit each other
+U4  a boot cell that is to be made is there already
+U5  the store of a boot cell failed
+U6  memory was refused
+V1  the journal is of a bank whose setup has another text
+V2  the journal is of another life of the bank than one before it
+V3  the bank has no such actor, or it opened over what such an actor does not
+V4  a journal before it is the same actor's
+V5  no journal is the actor's
+V6  there is no room left for a journal
+V7  a journal or its folder could not be made or written
+V8  there are files already where journals are to be put
 """
 
 

@@ -9,7 +9,12 @@ use Rattle.rtgs_node.specs.declared.fault.NodeFault.TheVariants as node
 use Rattle.pvp_world.specs.declared.fault.WorldFault.TheVariants as world
 use Rattle.pvp_audit.specs.declared.verdict.Why.TheVariants as audit
 use Rattle.pvp_wire.specs.declared.fault.WireFault.TheVariants as wire
-use Rattle.pvp_codes.specs.declared.code.Code.TheVariants.{Setup, Line, Refusal, Step, Audit, Frame, Seats}
+use Rattle.pvp_cell.specs.declared.fault.OpenFault.TheVariants as cell
+use Rattle.pvp_journal.specs.declared.fault.JournalWhy.TheVariants as journal
+use Rattle.pvp_journal.specs.declared.fault.WriteFault.TheVariants as write
+use Rattle.pvp_evidence.specs.declared.gather.EvidenceWhy.TheVariants as evidence
+use Rattle.pvp_evidence.specs.declared.shelf.ShelfFault.TheVariants as shelf
+use Rattle.pvp_codes.specs.declared.code.Code.TheVariants.{Setup, Line, Refusal, Step, Audit, Frame, Seats, Journal, Record, Cell, Evidence, Shelf}
 use Rattle.pvp_codes.specs.Codes.{EachIsTold}
 
 pub each-told : EachIsTold
@@ -77,3 +82,26 @@ each-told (Frame wire.Field) other = refl
 each-told (Frame wire.Length) other = refl
 each-told (Frame wire.NoMemory) other = refl
 each-told Seats other = refl
+each-told (Journal journal.Magic) other = refl
+each-told (Journal journal.Version) other = refl
+each-told (Journal journal.Head) other = refl
+each-told (Journal journal.Length) other = refl
+each-told (Journal journal.Checksum) other = refl
+each-told (Journal (journal.Record fault)) other = refl
+each-told (Journal journal.NoMemory) other = refl
+each-told (Record write.Unfit) other = refl
+each-told (Record write.NoMemory) other = refl
+each-told (Cell cell.Lost) other = refl
+each-told (Cell cell.Length) other = refl
+each-told (Cell cell.Damaged) other = refl
+each-told (Cell cell.Present) other = refl
+each-told (Cell cell.Store) other = refl
+each-told (Cell cell.NoMemory) other = refl
+each-told (Evidence evidence.Setup) other = refl
+each-told (Evidence evidence.Life) other = refl
+each-told (Evidence evidence.Stranger) other = refl
+each-told (Evidence evidence.Twice) other = refl
+each-told (Evidence evidence.Missing) other = refl
+each-told (Shelf shelf.Full) other = refl
+each-told (Shelf shelf.Failed) other = refl
+each-told (Shelf shelf.Present) other = refl

@@ -23,9 +23,23 @@ use Rattle.pvp_audit.specs.declared.verdict.Why.TheVariants as audit
 use Rattle.pvp_wire.specs.declared.fault.WireFault.{WireFault}
 use Rattle.pvp_wire.specs.declared.fault.WireFault.TheVariants as wire
 use Rattle.pvp_wire.specs.Fault.{fault_code_text}
+use Rattle.pvp_cell.specs.declared.fault.OpenFault.{OpenFault}
+use Rattle.pvp_cell.specs.declared.fault.OpenFault.TheVariants as cell
+use Rattle.pvp_cell.specs.Fault.{fault_code_text as cell_code}
+use Rattle.pvp_journal.specs.declared.fault.JournalWhy.{JournalWhy}
+use Rattle.pvp_journal.specs.declared.fault.JournalWhy.TheVariants as journal
+use Rattle.pvp_journal.specs.declared.fault.WriteFault.{WriteFault}
+use Rattle.pvp_journal.specs.declared.fault.WriteFault.TheVariants as write
+use Rattle.pvp_journal.specs.Fault.{why_code as journal_code, write_code}
+use Rattle.pvp_evidence.specs.declared.gather.EvidenceWhy.{EvidenceWhy}
+use Rattle.pvp_evidence.specs.declared.gather.EvidenceWhy.TheVariants as evidence
+use Rattle.pvp_evidence.specs.Gathered.{why_code as evidence_code}
+use Rattle.pvp_evidence.specs.declared.shelf.ShelfFault.{ShelfFault}
+use Rattle.pvp_evidence.specs.declared.shelf.ShelfFault.TheVariants as shelf
+use Rattle.pvp_evidence.specs.Shelves.{shelf_code}
 use Rattle.pvp_codes.specs.declared.code.Code.{Code}
-use Rattle.pvp_codes.specs.declared.code.Code.TheVariants.{Setup, Line, Refusal, Step, Audit, Frame, Seats}
-use Rattle.pvp_codes.specs.Meanings.{text_meaning, line_meaning, reason_meaning, audit_meaning, wire_meaning, seats_meaning}
+use Rattle.pvp_codes.specs.declared.code.Code.TheVariants.{Setup, Line, Refusal, Step, Audit, Frame, Seats, Journal, Record, Cell, Evidence, Shelf}
+use Rattle.pvp_codes.specs.Meanings.{text_meaning, line_meaning, reason_meaning, audit_meaning, wire_meaning, seats_meaning, journal_meaning, record_meaning, cell_meaning, evidence_meaning, shelf_meaning}
 
 -- ---- a code and its meaning
 
@@ -53,6 +67,11 @@ code_text (Step fault) = fault_text fault
 code_text (Audit why) = audit_code why
 code_text (Frame fault) = fault_code_text fault
 code_text Seats = codes "E1"
+code_text (Journal why) = journal_code why
+code_text (Record fault) = write_code fault
+code_text (Cell fault) = cell_code fault
+code_text (Evidence why) = evidence_code why
+code_text (Shelf fault) = shelf_code fault
 
 -- WHAT IT MEANS
 abbrev pub meaning : Code → List ℕ
@@ -63,6 +82,11 @@ meaning (Step fault) = step_meaning fault
 meaning (Audit why) = audit_meaning why
 meaning (Frame fault) = wire_meaning fault
 meaning Seats = seats_meaning
+meaning (Journal why) = journal_meaning why
+meaning (Record fault) = record_meaning fault
+meaning (Cell fault) = cell_meaning fault
+meaning (Evidence why) = evidence_meaning why
+meaning (Shelf fault) = shelf_meaning fault
 
 -- ---- all of them
 
@@ -89,7 +113,26 @@ audit_tests = audit.Stamped ∷ audit.Clock ∷ audit.Answered ∷ audit.End ∷
 abbrev pub frame_faults : List WireFault
 frame_faults = wire.Short ∷ wire.TooLong ∷ wire.Version ∷ wire.Kind ∷ wire.Field ∷ wire.Length ∷ wire.NoMemory ∷ []
 
--- setups, scripts, commands, steps of the world, of sites, nodes and clients, audits, frames, live runs
+-- M6 stands once, whatever is wrong in a record
+abbrev pub journal_whys : List JournalWhy
+journal_whys =
+    journal.Magic ∷ journal.Version ∷ journal.Head ∷ journal.Length ∷ journal.Checksum
+    ∷ journal.Record wire.Field ∷ journal.NoMemory ∷ []
+
+abbrev pub record_faults : List WriteFault
+record_faults = write.Unfit ∷ write.NoMemory ∷ []
+
+abbrev pub cell_faults : List OpenFault
+cell_faults = cell.Lost ∷ cell.Length ∷ cell.Damaged ∷ cell.Present ∷ cell.Store ∷ cell.NoMemory ∷ []
+
+abbrev pub evidence_whys : List EvidenceWhy
+evidence_whys = evidence.Setup ∷ evidence.Life ∷ evidence.Stranger ∷ evidence.Twice ∷ evidence.Missing ∷ []
+
+abbrev pub shelf_faults : List ShelfFault
+shelf_faults = shelf.Full ∷ shelf.Failed ∷ shelf.Present ∷ []
+
+-- setups, scripts, commands, steps of the world, of sites, nodes and clients, audits, frames, live runs, journals,
+-- records, boot cells, the journals of one bank, and where they are put
 abbrev pub all_codes : List Code
 all_codes =
     Setup text.NotJson ∷ Setup text.BadMember ∷ map (λ broken. Setup (text.BadSetup broken)) rules
@@ -100,7 +143,11 @@ all_codes =
     ++ map (λ fault. Step (world.Node fault)) node_faults
     ++ Step world.Spent ∷ map (λ why. Audit why) audit_tests
     ++ map (λ fault. Frame fault) frame_faults
-    ++ Seats ∷ []
+    ++ Seats ∷ map (λ why. Journal why) journal_whys
+    ++ map (λ fault. Record fault) record_faults
+    ++ map (λ fault. Cell fault) cell_faults
+    ++ map (λ why. Evidence why) evidence_whys
+    ++ map (λ fault. Shelf fault) shelf_faults
 
 -- a line: the code, two spaces, its meaning
 abbrev pub code_line : Code → List ℕ

@@ -1,5 +1,5 @@
--- What the codes mean that are printed of setups, scripts, commands, audits and frames, in words. What those of a step mean
--- is said in pvp_trace.
+-- What the codes mean that are printed of setups, scripts, commands, audits, frames, journals and boot cells, in words.
+-- What those of a step mean is said in pvp_trace.
 use Rattle.std.specs.Prelude.{ℕ, List, codes}
 use Rattle.pvp_types.specs.declared.setup.SetupFault.{SetupFault}
 use Rattle.pvp_types.specs.declared.setup.SetupFault.TheVariants.{SiteCount, CurrencyCount, CurrencyCode, Rate, Haircut, MemberCount, MemberName, ListLength, Limit}
@@ -13,6 +13,16 @@ use Rattle.pvp_audit.specs.declared.verdict.Why.{Why}
 use Rattle.pvp_audit.specs.declared.verdict.Why.TheVariants as audit
 use Rattle.pvp_wire.specs.declared.fault.WireFault.{WireFault}
 use Rattle.pvp_wire.specs.declared.fault.WireFault.TheVariants as wire
+use Rattle.pvp_cell.specs.declared.fault.OpenFault.{OpenFault}
+use Rattle.pvp_cell.specs.declared.fault.OpenFault.TheVariants as cell
+use Rattle.pvp_journal.specs.declared.fault.JournalWhy.{JournalWhy}
+use Rattle.pvp_journal.specs.declared.fault.JournalWhy.TheVariants as journal
+use Rattle.pvp_journal.specs.declared.fault.WriteFault.{WriteFault}
+use Rattle.pvp_journal.specs.declared.fault.WriteFault.TheVariants as write
+use Rattle.pvp_evidence.specs.declared.gather.EvidenceWhy.{EvidenceWhy}
+use Rattle.pvp_evidence.specs.declared.gather.EvidenceWhy.TheVariants as evidence
+use Rattle.pvp_evidence.specs.declared.shelf.ShelfFault.{ShelfFault}
+use Rattle.pvp_evidence.specs.declared.shelf.ShelfFault.TheVariants as shelf
 
 abbrev pub rule_meaning : SetupFault → List ℕ
 rule_meaning SiteCount = codes "the sites are not 3, 5 or 7"
@@ -74,3 +84,36 @@ wire_meaning wire.NoMemory = codes "memory was refused"
 -- of a live run whose actors cannot be audited
 abbrev pub seats_meaning : List ℕ
 seats_meaning = codes "a seat of a live run did not come back, so its actors could not be audited"
+
+abbrev pub journal_meaning : JournalWhy → List ℕ
+journal_meaning journal.Magic = codes "the bytes do not begin with PVPJ"
+journal_meaning journal.Version = codes "the version is not 1"
+journal_meaning journal.Head = codes "the head is cut off, or its opening has another flag"
+journal_meaning journal.Length = codes "a record's length does not have its complement behind it"
+journal_meaning journal.Checksum = codes "a record has another checksum"
+journal_meaning (journal.Record _) = codes "a record says nothing that its actor may do"
+journal_meaning journal.NoMemory = codes "memory was refused"
+
+abbrev pub record_meaning : WriteFault → List ℕ
+record_meaning write.Unfit = codes "an event has no text"
+record_meaning write.NoMemory = codes "memory was refused"
+
+abbrev pub cell_meaning : OpenFault → List ℕ
+cell_meaning cell.Lost = codes "no boot cell is there"
+cell_meaning cell.Length = codes "what is there has not the length of a boot cell"
+cell_meaning cell.Damaged = codes "a boot cell's count and its complement do not fit each other"
+cell_meaning cell.Present = codes "a boot cell that is to be made is there already"
+cell_meaning cell.Store = codes "the store of a boot cell failed"
+cell_meaning cell.NoMemory = codes "memory was refused"
+
+abbrev pub evidence_meaning : EvidenceWhy → List ℕ
+evidence_meaning evidence.Setup = codes "the journal is of a bank whose setup has another text"
+evidence_meaning evidence.Life = codes "the journal is of another life of the bank than one before it"
+evidence_meaning evidence.Stranger = codes "the bank has no such actor, or it opened over what such an actor does not"
+evidence_meaning evidence.Twice = codes "a journal before it is the same actor's"
+evidence_meaning evidence.Missing = codes "no journal is the actor's"
+
+abbrev pub shelf_meaning : ShelfFault → List ℕ
+shelf_meaning shelf.Full = codes "there is no room left for a journal"
+shelf_meaning shelf.Failed = codes "a journal or its folder could not be made or written"
+shelf_meaning shelf.Present = codes "there are files already where journals are to be put"

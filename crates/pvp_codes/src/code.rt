@@ -4,9 +4,13 @@ ghost use Rattle.std.specs.Prelude.{◌≡◌};
 ghost use Rattle.pvp_codes.specs.Codes.{audit_code as code_of_test};
 
 use crate::meanings::{
-    audit_meaning, line_meaning, reason_meaning, seats_meaning, text_meaning, wire_meaning,
+    audit_meaning, cell_meaning, evidence_meaning, journal_meaning, line_meaning, reason_meaning,
+    record_meaning, seats_meaning, shelf_meaning, text_meaning, wire_meaning,
 };
 use pvp_audit::Why;
+use pvp_cell::OpenFault;
+use pvp_evidence::{EvidenceWhy, ShelfFault};
+use pvp_journal::{JournalWhy, WriteFault};
 use pvp_text::{LineCode, TextFault};
 use pvp_trace::meanings::meaning;
 use pvp_types::Reason;
@@ -31,6 +35,16 @@ pub enum Code {
     Frame(WireFault),
     /// E1: of a live run whose actors cannot be audited.
     Seats,
+    /// M1 to M7: of bytes that are no journal.
+    Journal(JournalWhy),
+    /// M8 and M9: of an event that has no record.
+    Record(WriteFault),
+    /// U1 to U6: of a boot cell that is not opened or not made.
+    Cell(OpenFault),
+    /// V1 to V5: of journals that are not those of one bank.
+    Evidence(EvidenceWhy),
+    /// V6 to V8: of a journal that is not put where it should stand.
+    Shelf(ShelfFault),
 }
 
 impl Code {
@@ -48,6 +62,11 @@ impl Code {
             Code::Audit(why) => audit_meaning(why),
             Code::Frame(fault) => wire_meaning(fault),
             Code::Seats => seats_meaning(),
+            Code::Journal(why) => journal_meaning(why),
+            Code::Record(fault) => record_meaning(fault),
+            Code::Cell(fault) => cell_meaning(fault),
+            Code::Evidence(why) => evidence_meaning(why),
+            Code::Shelf(fault) => shelf_meaning(fault),
         }
     }
 }
@@ -71,6 +90,11 @@ impl fmt::Display for Code {
             Code::Audit(why) => f.write_str(audit_code(*why)),
             Code::Frame(fault) => write!(f, "{fault}"),
             Code::Seats => f.write_str("E1"),
+            Code::Journal(why) => write!(f, "{why}"),
+            Code::Record(fault) => write!(f, "{fault}"),
+            Code::Cell(fault) => write!(f, "{fault}"),
+            Code::Evidence(why) => write!(f, "{why}"),
+            Code::Shelf(fault) => write!(f, "{fault}"),
         }
     }
 }

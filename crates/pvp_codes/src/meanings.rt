@@ -1,10 +1,13 @@
-//! What the codes mean that are printed of setups, scripts, commands, audits and frames, in words. What those of a step mean
-//! is said in `pvp_trace`.
+//! What the codes mean that are printed of setups, scripts, commands, audits, frames, journals and boot cells, in words.
+//! What those of a step mean is said in `pvp_trace`.
 
 ghost use Rattle.std.specs.Prelude.{◌≡◌};
 ghost use Rattle.pvp_codes.specs.Meanings as spec;
 
 use pvp_audit::Why;
+use pvp_cell::OpenFault;
+use pvp_evidence::{EvidenceWhy, ShelfFault};
+use pvp_journal::{JournalWhy, WriteFault};
 use pvp_text::{LineCode, TextFault};
 use pvp_types::{Reason, SetupFault};
 use pvp_wire::WireFault;
@@ -125,4 +128,69 @@ pub fn seats_meaning() -> &'static str
     ensures { result.now ≡ spec.seats_meaning }
 {
     "a seat of a live run did not come back, so its actors could not be audited"
+}
+
+/// What it means that bytes are no journal.
+pub fn journal_meaning(why: JournalWhy) -> &'static str
+    ensures { result.now ≡ spec.journal_meaning why }
+{
+    match why {
+        JournalWhy::Magic => "the bytes do not begin with PVPJ",
+        JournalWhy::Version => "the version is not 1",
+        JournalWhy::Head => "the head is cut off, or its opening has another flag",
+        JournalWhy::Length => "a record's length does not have its complement behind it",
+        JournalWhy::Checksum => "a record has another checksum",
+        JournalWhy::Record(_) => "a record says nothing that its actor may do",
+        JournalWhy::NoMemory => "memory was refused",
+    }
+}
+
+/// What it means that an event has no record.
+pub fn record_meaning(fault: WriteFault) -> &'static str
+    ensures { result.now ≡ spec.record_meaning fault }
+{
+    match fault {
+        WriteFault::Unfit => "an event has no text",
+        WriteFault::NoMemory => "memory was refused",
+    }
+}
+
+/// What it means that a boot cell is not opened or not made.
+pub fn cell_meaning(fault: OpenFault) -> &'static str
+    ensures { result.now ≡ spec.cell_meaning fault }
+{
+    match fault {
+        OpenFault::Lost => "no boot cell is there",
+        OpenFault::Length => "what is there has not the length of a boot cell",
+        OpenFault::Damaged => "a boot cell's count and its complement do not fit each other",
+        OpenFault::Present => "a boot cell that is to be made is there already",
+        OpenFault::Store => "the store of a boot cell failed",
+        OpenFault::NoMemory => "memory was refused",
+    }
+}
+
+/// What it means that journals are not those of one bank.
+pub fn evidence_meaning(why: EvidenceWhy) -> &'static str
+    ensures { result.now ≡ spec.evidence_meaning why }
+{
+    match why {
+        EvidenceWhy::Setup => "the journal is of a bank whose setup has another text",
+        EvidenceWhy::Life => "the journal is of another life of the bank than one before it",
+        EvidenceWhy::Stranger => {
+            "the bank has no such actor, or it opened over what such an actor does not"
+        }
+        EvidenceWhy::Twice => "a journal before it is the same actor's",
+        EvidenceWhy::Missing => "no journal is the actor's",
+    }
+}
+
+/// What it means that a journal is not put where it should stand.
+pub fn shelf_meaning(fault: ShelfFault) -> &'static str
+    ensures { result.now ≡ spec.shelf_meaning fault }
+{
+    match fault {
+        ShelfFault::Full => "there is no room left for a journal",
+        ShelfFault::Failed => "a journal or its folder could not be made or written",
+        ShelfFault::Present => "there are files already where journals are to be put",
+    }
 }

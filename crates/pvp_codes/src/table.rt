@@ -8,6 +8,9 @@ ghost use Rattle.pvp_codes.specs.Codes.{code_line, codes_text};
 
 use crate::code::Code;
 use pvp_audit::Why;
+use pvp_cell::OpenFault;
+use pvp_evidence::{EvidenceWhy, ShelfFault};
+use pvp_journal::{JournalWhy, WriteFault};
 use pvp_text::book::{RunFault, write_text};
 use pvp_text::{LineCode, TextFault};
 use pvp_types::{Reason, SetupFault};
@@ -18,8 +21,8 @@ use std::alloc::{AllocError, Global};
 use std::io::Write;
 use vr_types::SiteFault;
 
-/// All codes, in the order in which they are told.
-const CODES: [Code; 63] = [
+/// All codes, in the order in which they are told. M6 stands once, whatever is wrong in a record.
+const CODES: [Code; 86] = [
     Code::Setup(TextFault::NotJson),
     Code::Setup(TextFault::BadMember),
     Code::Setup(TextFault::BadSetup(SetupFault::SiteCount)),
@@ -83,6 +86,29 @@ const CODES: [Code; 63] = [
     Code::Frame(WireFault::Length),
     Code::Frame(WireFault::NoMemory),
     Code::Seats,
+    Code::Journal(JournalWhy::Magic),
+    Code::Journal(JournalWhy::Version),
+    Code::Journal(JournalWhy::Head),
+    Code::Journal(JournalWhy::Length),
+    Code::Journal(JournalWhy::Checksum),
+    Code::Journal(JournalWhy::Record(WireFault::Field)),
+    Code::Journal(JournalWhy::NoMemory),
+    Code::Record(WriteFault::Unfit),
+    Code::Record(WriteFault::NoMemory),
+    Code::Cell(OpenFault::Lost),
+    Code::Cell(OpenFault::Length),
+    Code::Cell(OpenFault::Damaged),
+    Code::Cell(OpenFault::Present),
+    Code::Cell(OpenFault::Store),
+    Code::Cell(OpenFault::NoMemory),
+    Code::Evidence(EvidenceWhy::Setup),
+    Code::Evidence(EvidenceWhy::Life),
+    Code::Evidence(EvidenceWhy::Stranger),
+    Code::Evidence(EvidenceWhy::Twice),
+    Code::Evidence(EvidenceWhy::Missing),
+    Code::Shelf(ShelfFault::Full),
+    Code::Shelf(ShelfFault::Failed),
+    Code::Shelf(ShelfFault::Present),
 ];
 
 /// Writes a line for each code that the program or one of its parts prints: the code, and what it means. Where memory is

@@ -1,1 +1,2 @@
 pub mod FailsLemmas
+pub mod ReadingFiles

@@ -1,17 +1,22 @@
 -- The line that explains a fault, and what hinders that it is had.
-use Rattle.std.specs.Prelude.{◌≡◌, ◌⊎◌, ℕ, List, Option, Some, None, Result, Ok, Err, codes, option_map, IsSome, IfSome, IsOk}
+use Rattle.std.specs.Prelude.{◌≡◌, ◌⊎◌, ℕ, ◌-◌, ◌==◌, List, ◌++◌, Option, Some, None, Result, Ok, Err, codes, decimal, option_map, slice_get, IsSome, IfSome, IsOk, if◌then◌else◌}
 use Rattle.pvp_types.specs.declared.setup.Setup.{Setup}
 use Rattle.pvp_text.specs.SetupText.{setup_text}
 use Rattle.pvp_text.specs.declared.script.Kind.{Kind}
 use Rattle.pvp_text.specs.declared.script.LineFault.{LineFault}
 use Rattle.pvp_text.specs.declared.setup.TextFault.{TextFault}
 use Rattle.pvp_codes.specs.Explained.{setup_explained, line_explained}
-use Rattle.pvp_command.specs.declared.explain.Sources.{Sources}
+use Rattle.pvp_journal.specs.declared.fault.WriteFault.TheVariants.{Unfit}
+use Rattle.pvp_evidence.specs.declared.gather.EvidenceWhy.TheVariants.{Missing}
+use Rattle.pvp_codes.specs.declared.code.Code.{Code}
+use Rattle.pvp_codes.specs.declared.code.Code.TheVariants as code
+use Rattle.pvp_codes.specs.Codes.{meaning}
+use Rattle.pvp_command.specs.Sources.{Names}
 use Rattle.pvp_command.specs.declared.fault.Fault.{Fault}
 use Rattle.pvp_command.specs.declared.fault.Fault.TheVariants as told
 use Rattle.pvp_command.specs.declared.files.FileFault.{FileFault}
 use Rattle.pvp_command.specs.declared.files.Source.{Source}
-use Rattle.pvp_command.specs.declared.files.Source.TheVariants.{Setup as OfSetup, Script as OfScript}
+use Rattle.pvp_command.specs.declared.files.Source.TheVariants.{Setup as OfSetup, Script as OfScript, Journal as OfJournal}
 use Rattle.pvp_command.specs.Files.{file_line}
 use Rattle.pvp_command.specs.Request.{TellsFile, TellsSetup}
 
@@ -23,20 +28,31 @@ line_with fault kind (Err bad) script = None
 abbrev pub line_of_script : LineFault → Kind → List ℕ → List ℕ → Option (List ℕ)
 line_of_script fault kind setup script = line_with fault kind (setup_text setup) script
 
--- the name of the script, where there is one
-abbrev pub script_of : Sources → Option (List ℕ)
-script_of sources = option_map (λ name. name.now) sources.script
-
 -- the name of a file of a command
-abbrev pub name_of : Sources → Source → Option (List ℕ)
-name_of sources OfSetup = Some sources.setup.now
-name_of sources OfScript = script_of sources
+abbrev pub name_of : Names → Source → Option (List ℕ)
+name_of sources OfSetup = Some sources.setup
+name_of sources OfScript = sources.script
+name_of sources (OfJournal place) = if place == 0 then None else slice_get sources.journals (place - 1)
+
+-- the lines of a journal, of an actor without one, and of journals that were not kept
+abbrev pub journal_line : List ℕ → List ℕ → List ℕ
+journal_line name why = codes "journal \"" ++ name ++ codes "\": " ++ why ++ codes "\n"
+
+abbrev pub actor_line : ℕ → List ℕ
+actor_line actor = codes "actor " ++ decimal actor ++ codes ": " ++ meaning (code.Evidence Missing) ++ codes "\n"
+
+abbrev pub folder_line : List ℕ → List ℕ
+folder_line why = codes "journals: " ++ why ++ codes "\n"
+
+-- that of the journal at a place, of which this is told
+abbrev pub line_of_journal : Names → ℕ → Code → Option (List ℕ)
+line_of_journal sources place told = option_map (λ name. journal_line name (meaning told)) (name_of sources (OfJournal place))
 
 -- a fault on a script is explained where there is a script: by what is known of its bytes and of the setup's
-abbrev pub ExplainsLine : (List ℕ → Option (List ℕ)) → Sources → LineFault → Option (List ℕ) → Option (List ℕ) → Type 0
+abbrev pub ExplainsLine : (List ℕ → Option (List ℕ)) → Names → LineFault → Option (List ℕ) → Option (List ℕ) → Type 0
 ExplainsLine known sources fault None line = line ≡ None
 ExplainsLine known sources fault (Some script) line =
-    IsSome line × IfSome (known sources.setup.now) (λ setup_bytes. IfSome (known script) (λ script_bytes.
+    IsSome line × IfSome (known sources.setup) (λ setup_bytes. IfSome (known script) (λ script_bytes.
     line ≡ line_of_script fault sources.kind setup_bytes script_bytes))
 
 -- what a bank that runs by itself takes of the machine
@@ -45,16 +61,21 @@ net_line = codes "net: a listener could not be opened, or a connection not be ma
 
 -- THE LINE THAT EXPLAINS A FAULT of a run over these sources, of whose bytes so much is known: a fault on the setup has one, and
 -- so have one on the script that there is, a file that was not read, and the connections of a live run; no other has one
-abbrev pub Explains : (List ℕ → Option (List ℕ)) → Sources → Fault → Option (List ℕ) → Type 0
+abbrev pub Explains : (List ℕ → Option (List ℕ)) → Names → Fault → Option (List ℕ) → Type 0
 Explains known sources (told.Setup fault) line =
-    IsSome line × IfSome (known sources.setup.now) (λ bytes. line ≡ Some (setup_explained fault bytes))
+    IsSome line × IfSome (known sources.setup) (λ bytes. line ≡ Some (setup_explained fault bytes))
 Explains known sources (told.Line number code) line =
-    ExplainsLine known sources (record { line = number; code = code }) (script_of sources) line
+    ExplainsLine known sources (record { line = number; code = code }) sources.script line
 Explains known sources (told.NoSuchSite site) line = line ≡ None
 Explains known sources (told.File source why) line = line ≡ option_map (λ name. file_line source name why) (name_of sources source)
 Explains known sources told.Output line = line ≡ None
 Explains known sources told.Net line = line ≡ Some net_line
 Explains known sources told.Seats line = line ≡ None
+Explains known sources (told.Journal place why at) line = line ≡ line_of_journal sources place (code.Journal why)
+Explains known sources (told.Evidence place why) line = line ≡ line_of_journal sources place (code.Evidence why)
+Explains known sources (told.Missing actor) line = line ≡ Some (actor_line actor)
+Explains known sources (told.Shelf fault) line = line ≡ Some (folder_line (meaning (code.Shelf fault)))
+Explains known sources told.Unfit line = line ≡ Some (folder_line (meaning (code.Record Unfit)))
 Explains known sources told.NoMemory line = line ≡ None
 
 -- ---- what hinders that it is had
@@ -74,12 +95,17 @@ HindersScript known fails setup None why = ⊥
 HindersScript known fails setup (Some script) why = IfSome (known setup) (λ bytes. HindersLine (fails setup) bytes (fails script) why)
 
 -- WHAT HINDERS THE EXPLANATION of a fault: nothing where it has none
-abbrev pub Hinders : (List ℕ → Option (List ℕ)) → (List ℕ → FileFault → Type 0) → Sources → Fault → Fault → Type 0
-Hinders known fails sources (told.Setup fault) why = HindersFile OfSetup (fails sources.setup.now) why
-Hinders known fails sources (told.Line line code) why = HindersScript known fails sources.setup.now (script_of sources) why
+abbrev pub Hinders : (List ℕ → Option (List ℕ)) → (List ℕ → FileFault → Type 0) → Names → Fault → Fault → Type 0
+Hinders known fails sources (told.Setup fault) why = HindersFile OfSetup (fails sources.setup) why
+Hinders known fails sources (told.Line line code) why = HindersScript known fails sources.setup sources.script why
 Hinders known fails sources (told.NoSuchSite site) why = ⊥
 Hinders known fails sources (told.File source unread) why = why ≡ told.NoMemory
 Hinders known fails sources told.Output why = ⊥
 Hinders known fails sources told.Net why = why ≡ told.NoMemory
 Hinders known fails sources told.Seats why = ⊥
+Hinders known fails sources (told.Journal place it at) why = why ≡ told.NoMemory
+Hinders known fails sources (told.Evidence place it) why = why ≡ told.NoMemory
+Hinders known fails sources (told.Missing actor) why = why ≡ told.NoMemory
+Hinders known fails sources (told.Shelf fault) why = why ≡ told.NoMemory
+Hinders known fails sources told.Unfit why = why ≡ told.NoMemory
 Hinders known fails sources told.NoMemory why = ⊥

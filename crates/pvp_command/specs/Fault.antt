@@ -5,7 +5,14 @@ use Rattle.pvp_text.specs.declared.book.RunFault.TheVariants as run
 use Rattle.pvp_text.specs.declared.setup.TextFault.{TextFault}
 use Rattle.pvp_text.specs.declared.setup.TextFault.TheVariants as text
 use Rattle.pvp_command.specs.declared.fault.Fault.{Fault}
-use Rattle.pvp_command.specs.declared.fault.Fault.TheVariants.{Setup, Line, NoSuchSite, File, Output, Net, Seats, NoMemory}
+use Rattle.pvp_command.specs.declared.fault.Fault.TheVariants.{Setup, Line, NoSuchSite, File, Output, Net, Seats, Journal, Evidence, Missing, Shelf, Unfit, NoMemory}
+use Rattle.pvp_journal.specs.declared.fault.JournalFault.{JournalFault}
+use Rattle.pvp_journal.specs.declared.fault.JournalWhy.{JournalWhy}
+use Rattle.pvp_journal.specs.declared.fault.JournalWhy.TheVariants as bytes
+use Rattle.pvp_evidence.specs.declared.gather.EvidenceFault.{EvidenceFault}
+use Rattle.pvp_evidence.specs.declared.gather.EvidenceFault.TheVariants as evidence
+use Rattle.pvp_evidence.specs.declared.shelf.PutFault.{PutFault}
+use Rattle.pvp_evidence.specs.declared.shelf.PutFault.TheVariants as put
 use Rattle.pvp_command.specs.declared.files.FileFault.{FileFault}
 use Rattle.pvp_command.specs.declared.files.Source.{Source}
 use Rattle.pvp_live.specs.declared.running.LiveFault.{LiveFault}
@@ -33,6 +40,24 @@ live_told live.Net = Net
 live_told live.NoMemory = NoMemory
 live_told live.Seats = Seats
 
+-- what is wrong with the bytes of the journal at a place; want of memory is the same of each
+abbrev pub wrong_told : ℕ → ℕ → JournalWhy → Fault
+wrong_told place at bytes.NoMemory = NoMemory
+wrong_told place at why = Journal place why at
+
+abbrev pub journal_told : ℕ → JournalFault → Fault
+journal_told place fault = wrong_told place fault.at fault.why
+
+abbrev pub evidence_told : EvidenceFault → Fault
+evidence_told (evidence.Journal place why) = Evidence place why
+evidence_told (evidence.Missing actor) = Missing actor
+evidence_told evidence.NoMemory = NoMemory
+
+abbrev pub put_told : PutFault → Fault
+put_told (put.Shelf fault) = Shelf fault
+put_told put.Unfit = Unfit
+put_told put.NoMemory = NoMemory
+
 -- a site that is not there is a fault of the command line
 abbrev pub status_told : Fault → ℕ
 status_told (Setup fault) = 1
@@ -42,4 +67,9 @@ status_told (File source why) = 1
 status_told Output = 1
 status_told Net = 1
 status_told Seats = 1
+status_told (Journal place why at) = 1
+status_told (Evidence place why) = 1
+status_told (Missing actor) = 1
+status_told (Shelf fault) = 1
+status_told Unfit = 1
 status_told NoMemory = 1

@@ -8,3 +8,4 @@ pub mod Codes
 pub mod Explain
 pub mod Sources
 pub mod Files
+pub mod Audits

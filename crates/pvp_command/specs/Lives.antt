@@ -1,15 +1,21 @@
 -- What a live run writes, and which fault it tells, where the bytes of its files are known.
-use Rattle.std.specs.Prelude.{◌≡◌, ◌⊎◌, ℕ, List, Option, Ok, IsOk, IfSome}
+use Rattle.std.specs.Prelude.{◌≡◌, ◌⊎◌, ℕ, List, Option, Some, None, Ok, IsOk, IfSome, length, map, option_map}
 use Rattle.std.specs.Io.KnownBytes.{Appends}
 use Rattle.pvp_types.specs.declared.setup.Setup.{Setup}
 use Rattle.pvp_text.specs.declared.script.Line.{Line}
 use Rattle.pvp_text.specs.declared.script.Kind.TheVariants.{Live}
 use Rattle.pvp_text.specs.SetupText.{setup_text}
 use Rattle.pvp_text.specs.Script.{script_at}
+use Rattle.pvp_judge.specs.Judged.{Left}
 use Rattle.pvp_judge.specs.declared.judgement.Judgement.{Judgement}
 use Rattle.pvp_judge.specs.declared.judgement.Judgement.TheVariants.{Yes, No}
 use Rattle.pvp_live.specs.Told.{WasJudged, judgement_text}
 use Rattle.pvp_live.specs.Scripts.{script_text}
+use Rattle.pvp_evidence.specs.Bank.{bank_of}
+use Rattle.pvp_evidence.specs.Shelves.{File, Gets, file_of}
+use Rattle.pvp_evidence.specs.declared.shelf.PutFault.{PutFault}
+use Rattle.pvp_command.specs.declared.lives.Told.{Told}
+use Rattle.pvp_command.specs.Fault.{put_told}
 use Rattle.pvp_command.specs.declared.lives.Ending.{Ending}
 use Rattle.pvp_command.specs.declared.lives.Ending.TheVariants.{Books, Script}
 use Rattle.pvp_command.specs.declared.fault.Fault.{Fault}
@@ -32,25 +38,45 @@ abbrev pub ending_text : Ending → Judgement → List ℕ
 ending_text Books judgement = judgement_text judgement
 ending_text Script judgement = script_text judgement
 
--- what some actors of the bank left was judged, and that is written
-abbrev pub IsTold : Ending → Setup → Option (List ℕ) → Option (List ℕ) → ℕ → Type 0
-IsTold ending s old new status =
-    (judgement : Judgement) × WasJudged s judgement × Appends old new (ending_text ending judgement) × (status ≡ status_judged judgement)
+-- the name of the folder for journals, where there is one
+abbrev pub folder_of : Told → Option (List ℕ)
+folder_of told = option_map (λ name. name.now) told.journal
 
-abbrev pub LivesScript : Ending → Setup → List ℕ → Option (List ℕ) → Option (List ℕ) → ℕ → Type 0
-LivesScript ending s script old new status = (lines : List Line) × (script_at Live s script ≡ Ok lines) × IsTold ending s old new status
+-- the journals of what actors left were put into a folder, where one is named, with the id of some life of their bank
+abbrev pub KeptIn : Option (List ℕ) → List ℕ → Setup → List Left → Option (List File) → Option (List File) → Type 0
+KeptIn None text s closed before after = after ≡ before
+KeptIn (Some folder) text s closed before after =
+    (life : List ℕ) × (length life ≡ 16) × Gets (map (file_of folder s (bank_of text life)) closed) before after
 
-abbrev pub LiveWrites : Ending → List ℕ → List ℕ → Option (List ℕ) → Option (List ℕ) → ℕ → Type 0
-LiveWrites ending setup script old new status = (s : Setup) × (setup_text setup ≡ Ok s) × LivesScript ending s script old new status
+-- what all actors of the bank left was judged, their journals were kept where that is asked for, and the judgement is written
+pub record IsTold (told : Told) (text : List ℕ) (s : Setup) (before after : Option (List File)) (old new : Option (List ℕ)) (status : ℕ) : Type 0 where
+  pub closed : List Left
+  pub judgement : Judgement
+  pub judged : WasJudged s closed judgement
+  pub kept : KeptIn (folder_of told) text s closed before after
+  pub written : Appends old new (ending_text told.ending judgement)
+  pub ended : status ≡ status_judged judgement
+
+abbrev pub LivesScript : Told → List ℕ → Setup → List ℕ → Option (List File) → Option (List File) → Option (List ℕ) → Option (List ℕ) → ℕ → Type 0
+LivesScript told text s script before after old new status =
+    (lines : List Line) × (script_at Live s script ≡ Ok lines) × IsTold told text s before after old new status
+
+abbrev pub LiveWrites : Told → List ℕ → List ℕ → Option (List File) → Option (List File) → Option (List ℕ) → Option (List ℕ) → ℕ → Type 0
+LiveWrites told setup script before after old new status =
+    (s : Setup) × (setup_text setup ≡ Ok s) × LivesScript told setup s script before after old new status
 
 -- a text was not written: memory was refused, or the writer failed
 abbrev pub IsTextFault : Fault → Type 0
 IsTextFault told = (told ≡ NoMemory) ⊎ (told ≡ Output)
 
--- what may end a live run once its script is read: that it could not be run, and then nothing is written; want of memory,
--- or that the writer failed
+-- journals were not put into their folder
+abbrev pub IsPutFault : Fault → Type 0
+IsPutFault told = (fault : PutFault) × (told ≡ put_told fault)
+
+-- what may end a live run once its script is read: that it could not be run, or its journals not be kept, and then nothing is
+-- written; want of memory, or that the writer failed
 abbrev pub LifeStops : {W : Type 0} → W → W → Fault → Type 0
-LifeStops old new told = (((told ≡ Net) ⊎ (told ≡ Seats)) × (new ≡ old)) ⊎ IsTextFault told
+LifeStops old new told = (((told ≡ Net) ⊎ (told ≡ Seats) ⊎ IsPutFault told) × (new ≡ old)) ⊎ IsTextFault told
 
 -- the fault of a live script, where its bytes are known: its file's or its first faulty line, and then nothing is written;
 -- or, of one that reads right, what ended the run

@@ -1,14 +1,17 @@
 //! Faults on setups and scripts, and on their files, explained.
 ghost use Rattle.std.specs.Prelude.{◌≡◌, Some, option_map, IfOk, IfErr, IfSome};
 ghost use Rattle.pvp_codes.specs.Explained.{setup_explained};
-ghost use Rattle.pvp_command.specs.Explain.{Explains, Hinders, HindersFile, HindersLine, line_of_script, name_of};
+ghost use Rattle.pvp_command.specs.Explain.{Explains, Hinders, HindersFile, HindersLine, actor_line, folder_line, journal_line, line_of_script, name_of};
+ghost use Rattle.pvp_command.specs.Sources.{names_of};
 ghost use Rattle.pvp_command.specs.Files.{file_line};
 ghost use Rattle.pvp_command.specs.declared.fault.Fault.TheVariants.{NoMemory};
-ghost use Rattle.pvp_command.specs.declared.files.Source.TheVariants.{Setup as OfSetup};
+ghost use Rattle.pvp_command.specs.declared.files.Source.TheVariants.{Setup as OfSetup, Journal as OfJournal};
 
 use crate::fault::Fault;
 use crate::files::{Files, Source, Unread, read_source};
-use pvp_codes::{explain_line, explain_setup};
+use pvp_codes::{Code, explain_line, explain_setup};
+use pvp_evidence::EvidenceWhy;
+use pvp_journal::WriteFault;
 use pvp_text::{Kind, LineFault, TextFault, read_setup};
 use std::alloc::Global;
 
@@ -19,6 +22,8 @@ pub struct Sources<'a> {
     pub setup: &'a str,
     /// `None` for a command that has no script.
     pub script: Option<&'a str>,
+    /// `None` for a command that has no journals.
+    pub journals: Option<&'a [&'a str]>,
 }
 
 /// What is told of a live run whose connections could not be made.
@@ -39,8 +44,8 @@ pub fn explained<F: Files>(
     fault: Fault,
 ) -> Result<Option<Vec<u8>>, Fault>
     ensures ok { IfOk result (λ line.
-        Explains (F.known files.now) sources.entry fault (option_map (λ text. text.items) line)) }
-    ensures err { IfErr result (Hinders (F.known files.now) (F.fails files.now) sources.entry fault) }
+        Explains (F.known files.now) (names_of sources.entry) fault (option_map (λ text. text.items) line)) }
+    ensures err { IfErr result (Hinders (F.known files.now) (F.fails files.now) (names_of sources.entry) fault) }
 {
     match fault {
         Fault::Setup(fault) => explained_setup(alloc, files, sources.setup, fault).map(Some),
@@ -53,6 +58,15 @@ pub fn explained<F: Files>(
         }
         Fault::File(source, why) => file_line(alloc, sources, source, why),
         Fault::Net => Ok(Some(Vec::from_slice(alloc, NET.as_bytes())?)),
+        Fault::Journal { place, why, .. } => {
+            journal_line(alloc, sources, place, Code::Journal(why).meaning())
+        }
+        Fault::Evidence { place, why } => {
+            journal_line(alloc, sources, place, Code::Evidence(why).meaning())
+        }
+        Fault::Missing(actor) => actor_line(alloc, actor).map(Some),
+        Fault::Shelf(fault) => folder_line(alloc, Code::Shelf(fault).meaning()).map(Some),
+        Fault::Unfit => folder_line(alloc, Code::Record(WriteFault::Unfit).meaning()).map(Some),
         Fault::NoSuchSite(_) | Fault::Output | Fault::Seats | Fault::NoMemory => Ok(None),
     }
 }
@@ -65,7 +79,7 @@ fn file_line(
     why: Unread,
 ) -> Result<Option<Vec<u8>>, Fault>
     ensures ok { IfOk result (λ line. option_map (λ text. text.items) line
-        ≡ option_map (λ name. file_line source name why) (name_of sources.entry source)) }
+        ≡ option_map (λ name. file_line source name why) (name_of (names_of sources.entry) source)) }
     ensures err { IfErr result (λ fault. fault ≡ NoMemory) }
 {
     let told = match (source, sources.script) {
@@ -75,8 +89,57 @@ fn file_line(
         }
         (Source::Script, Some(name)) => format!(in alloc; "script \"{name}\": {why}\n")?,
         (Source::Script, None) => return Ok(None),
+        (Source::Journal(place), _) => match journal_at(sources, place) {
+            Some(name) => format!(in alloc; "journal \"{name}\": {why}\n")?,
+            None => return Ok(None),
+        },
     };
     Ok(Some(told.into_bytes()))
+}
+
+/// The name of the journal at a place, counted from 1.
+fn journal_at<'a>(sources: Sources<'a>, place: usize) -> Option<&'a str>
+    ensures { option_map (λ name. name.now) result ≡ name_of (names_of sources.entry) (OfJournal place) }
+{
+    let name = sources.journals?.get(place.checked_sub(1)?)?;
+    Some(*name)
+}
+
+/// The line of a journal that is not one of the bank's, or is damaged: its name, and what that means.
+fn journal_line(
+    alloc: Global,
+    sources: Sources<'_>,
+    place: usize,
+    meaning: &str,
+) -> Result<Option<Vec<u8>>, Fault>
+    ensures ok { IfOk result (λ line. option_map (λ text. text.items) line
+        ≡ option_map (λ name. journal_line name meaning.now) (name_of (names_of sources.entry) (OfJournal place))) }
+    ensures err { IfErr result (λ fault. fault ≡ NoMemory) }
+{
+    let Some(name) = journal_at(sources, place) else {
+        return Ok(None);
+    };
+    let told = format!(in alloc; "journal \"{name}\": {meaning}\n")?;
+    Ok(Some(told.into_bytes()))
+}
+
+/// The line of an actor of whom there is no journal.
+fn actor_line(alloc: Global, actor: u16) -> Result<Vec<u8>, Fault>
+    ensures ok { IfOk result (λ line. line.items ≡ actor_line actor) }
+    ensures err { IfErr result (λ fault. fault ≡ NoMemory) }
+{
+    let meaning = Code::Evidence(EvidenceWhy::Missing).meaning();
+    let told = format!(in alloc; "actor {actor}: {meaning}\n")?;
+    Ok(told.into_bytes())
+}
+
+/// The line of journals that were not put into their folder.
+fn folder_line(alloc: Global, meaning: &str) -> Result<Vec<u8>, Fault>
+    ensures ok { IfOk result (λ line. line.items ≡ folder_line meaning.now) }
+    ensures err { IfErr result (λ fault. fault ≡ NoMemory) }
+{
+    let told = format!(in alloc; "journals: {meaning}\n")?;
+    Ok(told.into_bytes())
 }
 
 /// The line that explains a fault on a setup, whose file is read again for it.

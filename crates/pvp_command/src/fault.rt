@@ -1,9 +1,11 @@
 //! What ends a run of the program, as it is told on standard error.
 
 use crate::files::{FileFault, Source, Unread};
+use pvp_evidence::{EvidenceFault, EvidenceWhy, PutFault, ShelfFault};
+use pvp_journal::{JournalFault, JournalWhy};
 use pvp_live::LiveFault;
 use pvp_text::{LineCode, RunFault, TextFault};
-use std::alloc::AllocError;
+use std::alloc::{AllocError, AllocFailed};
 use thiserror::Error;
 
 /// Why a run ended, printed as the line that tells it.
@@ -14,7 +16,10 @@ pub enum Fault {
     Setup(TextFault),
     /// A line of the script is faulty.
     #[error("fault line {line} {code}")]
-    Line { line: u32, code: LineCode },
+    Line {
+        line: u32,
+        code: LineCode,
+    },
     /// A save is to fail of a site that the setup lacks.
     #[error("error: the setup has no site {0}, of which a save is to fail")]
     NoSuchSite(u16),
@@ -30,6 +35,28 @@ pub enum Fault {
     /// E1: a seat of a live run did not come back.
     #[error("fault E1")]
     Seats,
+    /// M1 to M6: the journal at a place, counted from 1, is damaged or none, where the head or record at this byte begins.
+    #[error("fault journal {place} {why} {at}")]
+    Journal {
+        place: usize,
+        why: JournalWhy,
+        at: usize,
+    },
+    /// V1 to V4: the journal at a place, counted from 1, is not one of the bank's.
+    #[error("fault journal {place} {why}")]
+    Evidence {
+        place: usize,
+        why: EvidenceWhy,
+    },
+    /// V5: no journal is this actor's.
+    #[error("fault actor {0} V5")]
+    Missing(u16),
+    /// V6 to V8: the journals of a live run could not be put into their folder.
+    #[error("fault journals {0}")]
+    Shelf(ShelfFault),
+    /// M8: what an actor took has no text.
+    #[error("fault journals M8")]
+    Unfit,
     /// Memory was refused, in whichever part.
     #[error("fault memory")]
     NoMemory,
@@ -78,6 +105,17 @@ impl From<AllocError> for Fault {
     }
 }
 
+impl<T: Drop> From<AllocFailed<T>> for Fault {
+    ghost use Rattle.std.specs.Prelude.{◌≡◌};
+    ghost use Rattle.pvp_command.specs.declared.fault.Fault.TheVariants.{NoMemory};
+
+    ghost from_gives = { λ _ told. told ≡ NoMemory };
+
+    fn from(_refused: AllocFailed<T>) -> Fault {
+        Fault::NoMemory
+    }
+}
+
 impl Fault {
     ghost use Rattle.std.specs.Prelude.{◌≡◌};
     ghost use Rattle.pvp_command.specs.Fault.{file_told};
@@ -89,6 +127,55 @@ impl Fault {
         match fault {
             FileFault::Unread(why) => Fault::File(source, why),
             FileFault::NoMemory => Fault::NoMemory,
+        }
+    }
+}
+
+impl Fault {
+    ghost use Rattle.std.specs.Prelude.{◌≡◌};
+    ghost use Rattle.pvp_command.specs.Fault.{journal_told};
+
+    /// What is wrong with the bytes of the journal at a place.
+    pub fn of_journal(place: usize, fault: JournalFault) -> Self
+        ensures { result ≡ journal_told place fault }
+    {
+        match fault.why {
+            JournalWhy::NoMemory => Fault::NoMemory,
+            why => Fault::Journal {
+                place,
+                why,
+                at: fault.at,
+            },
+        }
+    }
+}
+
+impl From<EvidenceFault> for Fault {
+    ghost use Rattle.std.specs.Prelude.{◌≡◌};
+    ghost use Rattle.pvp_command.specs.Fault.{evidence_told};
+
+    ghost from_gives = { λ fault told. told ≡ evidence_told fault };
+
+    fn from(fault: EvidenceFault) -> Fault {
+        match fault {
+            EvidenceFault::Journal { place, why } => Fault::Evidence { place, why },
+            EvidenceFault::Missing(actor) => Fault::Missing(actor),
+            EvidenceFault::NoMemory => Fault::NoMemory,
+        }
+    }
+}
+
+impl From<PutFault> for Fault {
+    ghost use Rattle.std.specs.Prelude.{◌≡◌};
+    ghost use Rattle.pvp_command.specs.Fault.{put_told};
+
+    ghost from_gives = { λ fault told. told ≡ put_told fault };
+
+    fn from(fault: PutFault) -> Fault {
+        match fault {
+            PutFault::Shelf(fault) => Fault::Shelf(fault),
+            PutFault::Unfit => Fault::Unfit,
+            PutFault::NoMemory => Fault::NoMemory,
         }
     }
 }

@@ -90,6 +90,8 @@ impl fmt::Display for Unread {
 pub enum Source {
     Setup,
     Script,
+    /// The journal at this place of those that are named, counted from 1.
+    Journal(usize),
 }
 
 /// The most bytes that a file may have.

@@ -1,6 +1,7 @@
 //! The program behind `pvpsim`, over its words, its files and its two outputs; `pvpsim` itself only hands these over.
 #![tactic(auto)]
 
+pub mod audits;
 pub mod explain;
 pub mod fails;
 pub mod fault;

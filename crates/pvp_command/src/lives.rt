@@ -1,13 +1,16 @@
 //! Banks that run by themselves.
-ghost use Rattle.std.specs.Prelude.{◌≡◌, OnOk, IfOk, IfErr, IfSome};
+ghost use Rattle.std.specs.Prelude.{◌≡◌, OnOk, IfOk, IfErr, IfSome, option_map};
 ghost use Rattle.std.specs.Io.KnownBytes.{Appends};
 ghost use Rattle.pvp_types.specs.Setup.{IsValid};
-ghost use Rattle.pvp_command.specs.Lives.{LiveWrites, LiveTells, LivesScript, TellsLive, IsTold, IsFaultless, IsTextFault, LifeStops, ending_text, status_judged};
+ghost use Rattle.pvp_command.specs.Lives.{LiveWrites, LiveTells, LivesScript, TellsLive, IsTold, IsFaultless, IsTextFault, IsPutFault, KeptIn, LifeStops, ending_text, status_judged};
 
 use crate::fault::Fault;
 use crate::files::{Files, Source, read_source};
+use pvp_evidence::{PutFault, Shelf, ShelfFault, bank_of, put_journals};
 use pvp_judge::Judgement;
 use pvp_live::{live as run_live, print_judgement, print_script};
+use pvp_parties::Party;
+use pvp_rooms::Closed;
 use pvp_text::book::read_lines;
 use pvp_text::read_setup;
 use pvp_text::script::{Kind, Line};
@@ -15,6 +18,7 @@ use pvp_types::Setup;
 use std::alloc::Global;
 use std::io::{Read, Write, sink};
 use std::net::Net;
+use std::random::RandomSource;
 use std::sync::Wait;
 use std::thread::Threads;
 use std::time::Clock;
@@ -32,39 +36,55 @@ pub enum Ending {
 }
 
 /// How a live run is told.
-#[derive(Clone, Copy, Debug, PartialEq, Eq)]
-pub struct Told {
+#[derive(Clone, Copy, Debug)]
+pub struct Told<'a> {
     pub ending: Ending,
     /// Whether it is told what goes on.
     pub verbose: bool,
+    /// The folder into which the journals of its actors are put.
+    pub journal: Option<&'a str>,
 }
 
-/// Runs a bank by itself while a script is played, prints how it was judged, and answers the status. At the end `err` is told
-/// which lines were refused, and where that is asked for it is told what goes on, while it does.
-pub fn live<R, F: Files, O: Write, E: Write>(
+/// What a bank is set up with, and the text that says so.
+#[derive(Clone, Copy)]
+pub(crate) struct Rules<'a> {
+    pub setup: &'a Setup,
+    pub text: &'a [u8],
+}
+
+/// Runs a bank by itself while a script is played, prints how it was judged, and answers the status. Where a folder is named
+/// the journals of its actors are put there first. At the end `err` is told which lines were refused, and where that is asked
+/// for it is told what goes on, while it does.
+pub fn live<R, F: Files, K: Shelf, O: Write, E: Write>(
     rt: &R,
     alloc: Global,
     files: &F,
-    told: Told,
+    shelf: &mut K,
+    told: Told<'_>,
     setup: &str,
     script: &str,
     out: &mut O,
     err: &mut E,
 ) -> Result<u8, Fault>
 where
-    R: Threads + Wait + Clock + Net + Sync,
+    R: Threads + Wait + Clock + Net + RandomSource + Sync,
     R::Stream: Read + Write + Send + Drop,
     ensures ok { IfOk result (λ status. IfSome (F.known files.now setup.now) (λ setup_bytes.
         IfSome (F.known files.now script.now) (λ script_bytes.
-        LiveWrites told.ending setup_bytes script_bytes (O.contents out.old) (O.contents out.new) status))) }
+        LiveWrites told.entry setup_bytes script_bytes (K.files shelf.old) (K.files shelf.new)
+        (O.contents out.old) (O.contents out.new) status))) }
     ensures faultless { IfOk result IsFaultless }
     ensures err { IfErr result (λ fault. IfSome (F.known files.now setup.now) (λ setup_bytes.
         LiveTells (F.fails files.now setup.now) setup_bytes (F.fails files.now script.now) (F.known files.now script.now)
         out.old out.new fault)) }
 {
-    let setup = read_source(alloc, files, Source::Setup, setup)?;
-    let setup = read_setup(alloc, setup.as_slice())?;
-    live_script(rt, alloc, files, told, &setup, script, out, err)
+    let text = read_source(alloc, files, Source::Setup, setup)?;
+    let setup = read_setup(alloc, text.as_slice())?;
+    let rules = Rules {
+        setup: &setup,
+        text: text.as_slice(),
+    };
+    live_script(rt, alloc, files, shelf, told, rules, script, out, err)
 }
 
 /// Judges setup and script of a bank that is to run by itself, and then tells that there is no net.
@@ -105,54 +125,68 @@ fn script_without_net<F: Files, O>(
     Err(Fault::Net)
 }
 
-/// Runs a bank of a setup by itself while a script is played.
-fn live_script<R, F: Files, O: Write, E: Write>(
+/// Runs a bank with these rules by itself while a script is played.
+fn live_script<R, F: Files, K: Shelf, O: Write, E: Write>(
     rt: &R,
     alloc: Global,
     files: &F,
-    told: Told,
-    setup: &Setup,
+    shelf: &mut K,
+    told: Told<'_>,
+    rules: Rules<'_>,
     script: &str,
     out: &mut O,
     err: &mut E,
 ) -> Result<u8, Fault>
 where
-    R: Threads + Wait + Clock + Net + Sync,
+    R: Threads + Wait + Clock + Net + RandomSource + Sync,
     R::Stream: Read + Write + Send + Drop,
-    requires { IsValid setup.now }
+    requires { IsValid rules.setup.now }
     ensures ok { IfOk result (λ status. IfSome (F.known files.now script.now) (λ bytes.
-        LivesScript told.ending setup.now bytes (O.contents out.old) (O.contents out.new) status)) }
+        LivesScript told.entry rules.entry.text.now rules.entry.setup.now bytes
+        (K.files shelf.old) (K.files shelf.new) (O.contents out.old) (O.contents out.new) status)) }
     ensures faultless { IfOk result IsFaultless }
-    ensures err { IfErr result (TellsLive (F.fails files.now script.now) setup.now (F.known files.now script.now) out.old out.new) }
+    ensures err { IfErr result (TellsLive (F.fails files.now script.now) rules.entry.setup.now
+        (F.known files.now script.now) out.old out.new) }
 {
     let script = read_source(alloc, files, Source::Script, script)?;
-    let lines = read_lines(alloc, setup, Kind::Live, script.as_slice())?;
-    live_lines(rt, alloc, told, setup, lines.as_slice(), out, err)
+    let lines = read_lines(alloc, rules.setup, Kind::Live, script.as_slice())?;
+    live_lines(rt, alloc, shelf, told, rules, lines.as_slice(), out, err)
 }
 
-/// Runs a bank of a setup by itself while lines are played.
-fn live_lines<R, O: Write, E: Write>(
+/// Runs a bank with these rules by itself while lines are played.
+fn live_lines<R, K: Shelf, O: Write, E: Write>(
     rt: &R,
     alloc: Global,
-    told: Told,
-    setup: &Setup,
+    shelf: &mut K,
+    told: Told<'_>,
+    rules: Rules<'_>,
     lines: &[Line],
     out: &mut O,
     err: &mut E,
 ) -> Result<u8, Fault>
 where
-    R: Threads + Wait + Clock + Net + Sync,
+    R: Threads + Wait + Clock + Net + RandomSource + Sync,
     R::Stream: Read + Write + Send + Drop,
-    requires { IsValid setup.now }
-    ensures ok { IfOk result (IsTold told.ending setup.now (O.contents out.old) (O.contents out.new)) }
+    requires { IsValid rules.setup.now }
+    ensures ok { IfOk result (IsTold told.entry rules.entry.text.now rules.entry.setup.now
+        (K.files shelf.old) (K.files shelf.new) (O.contents out.old) (O.contents out.new)) }
     ensures faultless { IfOk result IsFaultless }
     ensures err { IfErr result (LifeStops out.old out.new) }
 {
+    open_folder(shelf, told.journal)?;
     let lived = if told.verbose {
-        run_live(rt, alloc, setup, lines, err)?
+        run_live(rt, alloc, rules.setup, lines, err)?
     } else {
-        run_live(rt, alloc, setup, lines, &mut sink())?
+        run_live(rt, alloc, rules.setup, lines, &mut sink())?
     };
+    keep(
+        rt,
+        alloc,
+        shelf,
+        told.journal,
+        rules,
+        lived.closed.as_slice(),
+    )?;
     let status = tell(alloc, told.ending, &lived.judgement, out)?;
     if let Some(refused) = lived.refused {
         let _ = write!(err, "{refused}\n");
@@ -160,8 +194,53 @@ where
     Ok(status)
 }
 
-/// Prints how a live run was judged, and answers the status.
-fn tell<O: Write>(
+/// Makes the folder of journals, where one is named: a run whose journals cannot be put there does not begin.
+fn open_folder<K: Shelf>(shelf: &mut K, folder: Option<&str>) -> Result<(), Fault>
+    ensures same { K.files shelf.new ≡ K.files shelf.old }
+    ensures err { IfErr result IsPutFault }
+{
+    let Some(folder) = folder else {
+        return Ok(());
+    };
+    match shelf.open(folder) {
+        Ok(()) => Ok(()),
+        Err(fault) => Err(Fault::from(PutFault::Shelf(fault))),
+    }
+}
+
+/// Puts the journals of what actors left into a folder, where one is named, as those of a new life of their bank.
+fn keep<R: RandomSource, K: Shelf>(
+    rt: &R,
+    alloc: Global,
+    shelf: &mut K,
+    folder: Option<&str>,
+    rules: Rules<'_>,
+    closed: &[Closed<Party>],
+) -> Result<(), Fault>
+    ensures ok { OnOk result (KeptIn (option_map (λ name. name.now) folder.entry) rules.entry.text.now rules.entry.setup.now
+        closed.now (K.files shelf.old) (K.files shelf.new)) }
+    ensures err { IfErr result IsPutFault }
+{
+    let Some(folder) = folder else {
+        return Ok(());
+    };
+    let mut life = [0; 16];
+    if rt.fill_bytes(&mut life).is_err() {
+        return Err(Fault::from(PutFault::Shelf(ShelfFault::Failed)));
+    }
+    put_journals(
+        alloc,
+        shelf,
+        folder,
+        rules.setup,
+        bank_of(rules.text, life),
+        closed,
+    )?;
+    Ok(())
+}
+
+/// Prints how a run was judged, and answers the status.
+pub(crate) fn tell<O: Write>(
     alloc: Global,
     ending: Ending,
     judgement: &Judgement,

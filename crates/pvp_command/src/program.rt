@@ -14,17 +14,19 @@ ghost use Rattle.pvp_command.specs.Runs.{Writes, Tells, Ends, Stops, IsWritten, 
 ghost use Rattle.pvp_command.specs.Lives.{IsFaultless};
 ghost use Rattle.pvp_command.specs.Request.{CheckWrites, CheckTells, BookWrites, BookTells, BooksScript, PlayWrites, PlayTells, ShowsScript, TellsRun, TellsScript};
 
+use crate::audits::audit;
 use crate::explain::{Sources, explained};
 use crate::fails::unknown_site;
 use crate::fault::Fault;
 use crate::files::{Files, Source, read_source};
-use crate::lives::{Told, live, without_net};
+use crate::lives::{live, without_net};
 use crate::output::Audience;
 use crate::request::{Asked, Request, parse};
 use crate::shows::Show;
 use clap::Error;
 use clap::error::ErrorKind as Refusal;
 use pvp_codes::print_codes;
+use pvp_evidence::Shelf;
 use pvp_picture::picture::picture;
 use pvp_play::{Fail, Telling, play_failing, trace};
 use pvp_text::{read_setup, run_book};
@@ -33,6 +35,7 @@ use std::alloc::Global;
 use std::convert::AsStr;
 use std::io::{ErrorKind, Read, Write};
 use std::net::Net;
+use std::random::RandomSource;
 use std::sync::Wait;
 use std::thread::Threads;
 use std::time::Clock;
@@ -47,32 +50,33 @@ const FAULT: u8 = 1;
 const NO_FORM: u8 = 2;
 
 /// Does what the words ask for, and answers the status of the program: 0, or 1 for a fault, or 2
-/// for words of no form, for help and for the version, or 3 where the audit of a live run says no. Faults, and why words have
-/// no form, go to `err`, all else to `out`. Where the reader of `out` is gone, as that of a closed pipe is, nothing is told.
-/// At 0 and at 3 the whole text of a request is written, where the bytes of its files are known; that it is the request
-/// which the words ask for is not said here.
-pub fn command_on<R, S: AsStr, F: Files, O: Write + Audience, E: Write>(
+/// for words of no form, for help and for the version, or 3 where an audit says no. Faults, and why words have
+/// no form, go to `err`, the journals of a live run to `shelf`, all else to `out`. Where the reader of `out` is gone, as that of
+/// a closed pipe is, nothing is told. At 0 and at 3 the whole text of a request is written, where the bytes of its files are
+/// known; that it is the request which the words ask for is not said here.
+pub fn command_on<R, S: AsStr, F: Files, K: Shelf, O: Write + Audience, E: Write>(
     rt: &R,
     alloc: Global,
     words: &[S],
     files: &F,
+    shelf: &mut K,
     out: &mut O,
     err: &mut E,
 ) -> u8
 where
-    R: Threads + Wait + Clock + Net + Sync,
+    R: Threads + Wait + Clock + Net + RandomSource + Sync,
     R::Stream: Read + Write + Send + Drop,
-    ensures done { IsFaultless result → HasEnded (F.known files.now) (O.contents out.old) (O.contents out.new) result }
+    ensures done { IsFaultless result → HasEnded (F.known files.now) (K.files shelf.old) (K.files shelf.new)
+        (O.contents out.old) (O.contents out.new) result }
     ensures status { result ≤ 3 }
 {
     match parse(alloc, words) {
         Ok(Some(Asked { request, explains })) => {
-            let sources = request.sources();
-            let told = run_on(rt, alloc, request, files, out, err);
+            let told = run_on(rt, alloc, &request, files, shelf, out, err);
             if out.has_left() {
                 return status_of(told);
             }
-            tell_more(alloc, told, explains, files, sources, err)
+            tell_more(alloc, told, explains, files, request.sources(), err)
         }
         Ok(None) => NO_FORM,
         Err(refusal) => refuse(&refusal, out, err),
@@ -80,7 +84,7 @@ where
 }
 
 /// Does what the words ask for as `command_on` does, on a machine without threads and net: a live run whose setup and
-/// script read right is told as `fault net`, and the status is never 3.
+/// script read right is told as `fault net`.
 pub fn command<S: AsStr, F: Files, O: Write + Audience, E: Write>(
     alloc: Global,
     words: &[S],
@@ -88,17 +92,16 @@ pub fn command<S: AsStr, F: Files, O: Write + Audience, E: Write>(
     out: &mut O,
     err: &mut E,
 ) -> u8
-    ensures done { result ≡ 0 → IsWritten (F.known files.now) (O.contents out.old) (O.contents out.new) }
-    ensures status { result ≤ 2 }
+    ensures done { IsFaultless result → IsWritten (F.known files.now) (O.contents out.old) (O.contents out.new) result }
+    ensures status { result ≤ 3 }
 {
     match parse(alloc, words) {
         Ok(Some(Asked { request, explains })) => {
-            let sources = request.sources();
-            let told = run(alloc, request, files, out);
+            let told = run(alloc, &request, files, out, err);
             if out.has_left() {
                 return status_of(told);
             }
-            tell_more(alloc, told, explains, files, sources, err)
+            tell_more(alloc, told, explains, files, request.sources(), err)
         }
         Ok(None) => NO_FORM,
         Err(refusal) => refuse(&refusal, out, err),
@@ -189,54 +192,61 @@ pub fn no_words<E: Write>(refusal: ErrorKind, err: &mut E) -> u8
 }
 
 /// Does what was asked for on a machine with threads and net, where a bank can run by itself, and answers the status.
-fn run_on<R, F: Files, O: Write, E: Write>(
+fn run_on<R, F: Files, K: Shelf, O: Write, E: Write>(
     rt: &R,
     alloc: Global,
-    request: Request<'_>,
+    request: &Request<'_>,
     files: &F,
+    shelf: &mut K,
     out: &mut O,
     err: &mut E,
 ) -> Result<u8, Fault>
 where
-    R: Threads + Wait + Clock + Net + Sync,
+    R: Threads + Wait + Clock + Net + RandomSource + Sync,
     R::Stream: Read + Write + Send + Drop,
-    ensures ok { IfOk result (λ status. IsFaultless status × Ends (F.known files.now) request.entry (O.contents out.old) (O.contents out.new) status) }
-    ensures err { IfErr result (Stops (F.known files.now) (F.fails files.now) request.entry out.old out.new) }
+    ensures ok { IfOk result (λ status. IsFaultless status × Ends (F.known files.now) request.now
+        (K.files shelf.old) (K.files shelf.new) (O.contents out.old) (O.contents out.new) status) }
+    ensures err { IfErr result (Stops (F.known files.now) (F.fails files.now) request.now out.old out.new) }
 {
     match request {
         Request::Live {
-            ending,
-            verbose,
+            told,
             setup,
             script,
-        } => {
-            let told = Told { ending, verbose };
-            live(rt, alloc, files, told, setup, script, out, err)
-        }
-        asked => run(alloc, asked, files, out),
+        } => live(rt, alloc, files, shelf, *told, *setup, *script, out, err),
+        asked => run(alloc, asked, files, out, err),
     }
 }
 
 /// Does what was asked for, and answers the status: the setup first, then the script, and the first fault ends it.
-fn run<F: Files, O: Write>(
+fn run<F: Files, O: Write, E: Write>(
     alloc: Global,
-    request: Request<'_>,
+    request: &Request<'_>,
     files: &F,
     out: &mut O,
+    err: &mut E,
 ) -> Result<u8, Fault>
-    ensures ok { IfOk result (λ status. (status ≡ 0) × Writes (F.known files.now) request.entry (O.contents out.old) (O.contents out.new)) }
-    ensures err { IfErr result (Tells (F.known files.now) (F.fails files.now) request.entry out.old out.new) }
+    ensures ok { IfOk result (λ status. IsFaultless status
+        × Writes (F.known files.now) request.now (O.contents out.old) (O.contents out.new) status) }
+    ensures err { IfErr result (Tells (F.known files.now) (F.fails files.now) request.now out.old out.new) }
 {
     match request {
-        Request::Check { setup } => check(alloc, files, setup, out)?,
-        Request::Book { setup, script } => book(alloc, files, setup, script, out)?,
+        Request::Check { setup } => check(alloc, files, *setup, out)?,
+        Request::Book { setup, script } => book(alloc, files, *setup, *script, out)?,
         Request::Play {
             show,
             setup,
             script,
             fails,
-        } => play(alloc, files, show, setup, script, fails.as_slice(), out)?,
-        Request::Live { setup, script, .. } => return without_net(alloc, files, setup, script, out),
+        } => play(alloc, files, *show, *setup, *script, fails.as_slice(), out)?,
+        Request::Live { setup, script, .. } => return without_net(
+            alloc, files, *setup, *script, out,
+        ),
+        Request::Audit {
+            how,
+            setup,
+            journals,
+        } => return audit(alloc, files, *how, *setup, journals.as_slice(), out, err),
         Request::Codes => codes(alloc, out)?,
     }
     Ok(DONE)

@@ -2,10 +2,12 @@
 
 ghost use Rattle.std.specs.Prelude.{◌≡◌, ◌≢◌, true, false, map};
 ghost use Rattle.pvp_command.specs.Codes.{asks_for_codes};
+ghost use Rattle.pvp_command.specs.Sources.{journals_in, journals_of};
 
+use crate::audits::Auditing;
 use crate::explain::Sources;
 use crate::fails::read_fails;
-use crate::lives::Ending;
+use crate::lives::{Ending, Told};
 use crate::shows::{Show, show_at};
 use clap::error::ErrorKind;
 use clap::{Arg, ArgAction, ArgMatches, Command, Error};
@@ -33,26 +35,32 @@ pub enum Request<'a> {
         script: &'a str,
         fails: Vec<Fail>,
     },
-    /// A bank that runs by itself while a script is played, how that is told at its end, and whether it is told what goes on.
+    /// A bank that runs by itself while a script is played, and how that is told.
     Live {
-        ending: Ending,
-        verbose: bool,
+        told: Told<'a>,
         setup: &'a str,
         script: &'a str,
+    },
+    /// The journals of all actors of a bank, judged, and how.
+    Audit {
+        how: Auditing,
+        setup: &'a str,
+        journals: Vec<&'a str>,
     },
     /// What each fault code means.
     Codes,
 }
 
-impl<'a> Request<'a> {
-    ghost use Rattle.pvp_command.specs.Sources.{sources_of};
+impl Request<'_> {
+    ghost use Rattle.std.specs.Prelude.{option_map};
+    ghost use Rattle.pvp_command.specs.Sources.{names_of, sources_of};
 
     /// What it reads; `None` where it reads no file.
-    pub fn sources(&self) -> Option<Sources<'a>>
-        ensures { result ≡ sources_of self.now }
+    pub fn sources(&self) -> Option<Sources<'_>>
+        ensures { option_map names_of result ≡ sources_of self.now }
     {
         let (kind, setup, script) = match self {
-            Request::Check { setup } => (Kind::Book, *setup, None),
+            Request::Check { setup } | Request::Audit { setup, .. } => (Kind::Book, *setup, None),
             Request::Book { setup, script } => (Kind::Book, *setup, Some(*script)),
             Request::Play { setup, script, .. } => (Kind::Play, *setup, Some(*script)),
             Request::Live { setup, script, .. } => (Kind::Live, *setup, Some(*script)),
@@ -62,7 +70,18 @@ impl<'a> Request<'a> {
             kind,
             setup,
             script,
+            journals: self.journals(),
         })
+    }
+
+    /// The journals that it reads; `None` where it reads none.
+    fn journals(&self) -> Option<&[&str]>
+        ensures { journals_in result ≡ journals_of self.now }
+    {
+        match self {
+            Request::Audit { journals, .. } => Some(journals.as_slice()),
+            _ => None,
+        }
     }
 }
 
@@ -110,6 +129,7 @@ fn parse_command<'a>(
         "play" => parse_play(alloc, program, Show::Told(Telling::Books), words),
         "trace" => parse_trace(alloc, program, words),
         "live" => Ok(parse_live(words)),
+        "audit" => parse_audit(alloc, words),
         _ => Ok(None),
     }
 }
@@ -118,17 +138,41 @@ fn parse_command<'a>(
 fn parse_live<'a>(words: &ArgMatches<'a>) -> Option<Request<'a>> {
     let setup = words.get_str("setup")?;
     let script = words.get_str("script")?;
-    let ending = if words.get_flag("script-again") {
-        Ending::Script
-    } else {
-        Ending::Books
+    let told = Told {
+        ending: ending_at(words),
+        verbose: words.get_flag("verbose"),
+        journal: words.get_str("journal"),
     };
     Some(Request::Live {
-        ending,
-        verbose: words.get_flag("verbose"),
+        told,
         setup,
         script,
     })
+}
+
+/// How a run is to be told at its end.
+fn ending_at(words: &ArgMatches<'_>) -> Ending {
+    if words.get_flag("script-again") {
+        Ending::Script
+    } else {
+        Ending::Books
+    }
+}
+
+/// The audit that the words are.
+fn parse_audit<'a>(alloc: Global, words: &ArgMatches<'a>) -> Result<Option<Request<'a>>, Error> {
+    let (Some(setup), Some(names)) = (words.get_str("setup"), words.get_strs("journal")) else {
+        return Ok(None);
+    };
+    let how = Auditing {
+        ending: ending_at(words),
+        cuts: words.get_flag("cut"),
+    };
+    Ok(Some(Request::Audit {
+        how,
+        setup,
+        journals: Vec::from_slice(alloc, names)?,
+    }))
 }
 
 /// Whether the words ask what the fault codes mean: `help codes` after the program's own name. The reader of the words has
@@ -236,6 +280,19 @@ const TRACE_ABOUT: &str =
     "Plays a script as `play` does, and prints each step that it tries, what came of it, and the envelopes that it sent, \
 by their numbers";
 
+const JOURNAL_HELP: &str =
+    "Puts a journal of each actor into this folder, which is made where it is not there: all that the actor took, as NAME.journal; \
+`audit` judges them";
+
+const JOURNALS_HELP: &str = "A journal of each actor of the bank, in any order";
+
+const CUT_HELP: &str =
+    "Judges the greatest part of the journals in which all that came to an actor was sent by its sender: for journals that were \
+copied while the bank ran, or of which one lost its end; tells on standard error how many events are cut off";
+
+const AUDIT_ABOUT: &str =
+    "Judges the journals of all actors of a bank: prints the books and `audit yes` where all that the actors did is one legal run, and else the first test that fails";
+
 const LIVE_ABOUT: &str =
     "Runs a bank by itself while a script is played, each actor in threads of its own with streams over the loopback of this machine: prints the books and `audit yes` where all that the actors did is one legal run, and else the first test that fails";
 
@@ -250,7 +307,8 @@ fn program<'a>(alloc: Global) -> Result<Command<'a>, AllocError> {
         .subcommand(with_script(alloc, "book", BOOK_ABOUT)?)?
         .subcommand(with_fails(alloc, "play", PLAY_ABOUT)?)?
         .subcommand(with_picture(alloc)?)?
-        .subcommand(with_ending(alloc)?)
+        .subcommand(with_ending(alloc)?)?
+        .subcommand(with_journals(alloc)?)
 }
 
 /// A command that takes a setup.
@@ -289,7 +347,16 @@ fn with_picture<'a>(alloc: Global) -> Result<Command<'a>, AllocError> {
 fn with_ending<'a>(alloc: Global) -> Result<Command<'a>, AllocError> {
     with_script(alloc, "live", LIVE_ABOUT)?
         .arg(flag(alloc, "script-again", AGAIN_HELP).long("script"))?
-        .arg(flag(alloc, "verbose", VERBOSE_HELP))
+        .arg(flag(alloc, "verbose", VERBOSE_HELP))?
+        .arg(folder(alloc))
+}
+
+/// The audit, which takes journals.
+fn with_journals<'a>(alloc: Global) -> Result<Command<'a>, AllocError> {
+    with_setup(alloc, "audit", AUDIT_ABOUT)?
+        .arg(journals(alloc))?
+        .arg(flag(alloc, "script-again", AGAIN_HELP).long("script"))?
+        .arg(flag(alloc, "cut", CUT_HELP))
 }
 
 /// A file that has to be named.
@@ -297,6 +364,24 @@ fn file<'a>(alloc: Global, id: &'a str, help: &'a str) -> Arg<'a> {
     Arg::new(alloc, id)
         .help(help)
         .required(true)
+        .action(ArgAction::Set)
+}
+
+/// Files that have to be named, one or more.
+fn journals<'a>(alloc: Global) -> Arg<'a> {
+    Arg::new(alloc, "journal")
+        .help(JOURNALS_HELP)
+        .required(true)
+        .num_args(1..)
+        .action(ArgAction::Append)
+}
+
+/// A folder that may be named.
+fn folder<'a>(alloc: Global) -> Arg<'a> {
+    Arg::new(alloc, "journal")
+        .long("journal")
+        .value_name("DIR")
+        .help(JOURNAL_HELP)
         .action(ArgAction::Set)
 }
 

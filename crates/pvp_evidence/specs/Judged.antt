@@ -1,5 +1,5 @@
 -- What the judgement of histories says.
-use Rattle.std.specs.Prelude.{◌≡◌, ◌⊎◌, ℕ, List, [], ◌∷◌}
+use Rattle.std.specs.Prelude.{◌≡◌, ◌⊎◌, List, [], ◌∷◌}
 use Rattle.pvp_types.specs.declared.setup.Setup.{Setup}
 use Rattle.pvp_audit.specs.declared.verdict.Why.TheVariants as why
 use Rattle.pvp_judge.specs.declared.judgement.Judgement.{Judgement}

@@ -1,1 +1,5 @@
+pub mod Bank
+pub mod Cut
+pub mod Gathered
 pub mod Judged
+pub mod Shelves

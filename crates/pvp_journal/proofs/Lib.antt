@@ -8,3 +8,4 @@ pub mod Sealed
 pub mod Journaled
 pub mod Spelled
 pub mod Partial
+pub mod Written

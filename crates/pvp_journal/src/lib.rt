@@ -17,4 +17,4 @@ pub mod writing;
 pub use fault::{JournalFault, JournalWhy, WriteFault};
 pub use head::Head;
 pub use journal::{Entry, Journal, Left, read_journal};
-pub use writing::{write_head, write_record};
+pub use writing::{write_head, write_journal, write_record};

@@ -3,7 +3,7 @@ ghost use Rattle.std.specs.Prelude.{◌≡◌, ◌++◌, ◌∷◌, [], length, 
 ghost use Rattle.pvp_wire.specs.Spelling.{number, spelling};
 ghost use Rattle.pvp_wire.specs.Fits.{Fits, IsSpelled};
 ghost use Rattle.pvp_journal.specs.declared.fault.WriteFault.TheVariants.{Unfit};
-ghost use Rattle.pvp_journal.specs.Fits.{IsHead, OpeningFits, DeliveryFits, EventFits, FramesFit, SentFits, OutcomeFits, BodyFits, IsJournalable};
+ghost use Rattle.pvp_journal.specs.Fits.{AreJournalable, IsHead, OpeningFits, DeliveryFits, EventFits, FramesFit, SentFits, OutcomeFits, BodyFits, IsJournalable};
 ghost use Rattle.pvp_journal.specs.Spelling as spell;
 ghost use Rattle.pvp_journal.specs.Writing.{Puts};
 
@@ -34,6 +34,27 @@ pub fn write_head(alloc: Global, head: &Head, out: &mut Vec<u8>) -> Result<u64, 
     put_head(head, &mut text)?;
     out.extend_from_slice(text.as_slice())?;
     Ok(checksum(0, text.as_slice()))
+}
+
+/// Puts a whole journal at the end of the bytes: its head, and a record of each event. After an `Err` a front of it may
+/// stand there.
+pub fn write_journal(
+    alloc: Global,
+    head: &Head,
+    history: &[Entry],
+    out: &mut Vec<u8>,
+) -> Result<(), WriteFault>
+    ensures written { OnOk result
+        (out.new.items ≡ out.old.items ++ spell.journal_text head.now history.now) }
+    // So `read_journal` reads it again.
+    ensures journalable { OnOk result (AreJournalable head.now history.now) }
+    ensures unfit { result ≡ Err Unfit → AreJournalable head.now history.now → ⊥ }
+{
+    let mut sum = write_head(alloc, head, out)?;
+    for entry in history {
+        sum = write_record(alloc, head.actor, sum, entry, out)?;
+    }
+    Ok(())
 }
 
 /// Puts the record of an event of an actor at the end of the bytes, behind a record or a head with this checksum, and

@@ -20,8 +20,7 @@ judgement_text (Yes world) = books_text held_by world ++ codes "audit yes\n"
 judgement_text (No actor event why) = codes "audit no " ++ decimal actor ++ codes " " ++ decimal event ++ codes " " ++ code_text (Audit why) ++ codes "\n"
 
 -- what all actors of the bank left was judged so
-pub record WasJudged (setup : Setup) (judgement : Judgement) : Type 0 where
-  pub closed : List Left
+pub record WasJudged (setup : Setup) (closed : List Left) (judgement : Judgement) : Type 0 where
   pub bank : IsTheBank setup closed
   pub judged : Judges setup closed judgement
 

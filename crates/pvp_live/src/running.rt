@@ -62,7 +62,9 @@ impl From<NetFault> for LiveFault {
 /// What a live run leaves.
 #[derive(Drop)]
 pub struct Lived {
-    /// How what its actors did was judged.
+    /// What its actors left.
+    pub closed: Vec<Closed<Party>>,
+    /// How that was judged.
     pub judgement: Judgement,
     /// Which lines of its script were refused.
     pub refused: Option<Refused>,
@@ -83,7 +85,7 @@ where
     R: Threads + Wait + Clock + Net + Sync,
     R::Stream: Read + Write + Send + Drop,
     requires { IsValid setup.now }
-    ensures judged { IfOk result (λ lived. WasJudged setup.now lived.judgement) }
+    ensures judged { IfOk result (λ lived. WasJudged setup.now lived.closed.items lived.judgement) }
     ensures tally { IfOk result (λ lived. WasTallied lines.now lived.refused) }
 {
     let actors = numbers_of(alloc, setup)?;
@@ -99,7 +101,11 @@ where
     let closed = close_all(alloc, cells, seats)?;
     tell_left(alloc, notes, setup, closed.as_slice());
     match judge(alloc, setup, closed.as_slice()) {
-        Ok(judgement) => Ok(Lived { judgement, refused }),
+        Ok(judgement) => Ok(Lived {
+            closed,
+            judgement,
+            refused,
+        }),
         Err(_) => Err(LiveFault::Seats),
     }
 }

@@ -2,6 +2,7 @@
 #![tactic(auto)]
 
 use pvp_command::{Disk, Piped, command_on, no_words};
+use pvp_evidence::DiskShelf;
 use std::process::ExitCode;
 use std::{env, io};
 
@@ -13,6 +14,7 @@ fn main(rt: HostRuntime) -> ExitCode {
             rt.alloc(),
             words.as_slice(),
             &files,
+            &mut DiskShelf::new(&rt),
             &mut Piped::new(rt.stdout()),
             &mut rt.stderr(),
         ),

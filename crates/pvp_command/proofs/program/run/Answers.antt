@@ -1,0 +1,19 @@
+use Rattle.std.proofs.Common.{IfErr, IfSome, map, subst}
+use Rattle.std.proofs.lemmas.Result.{IfErr-weaker}
+use Rattle.pvp_command.specs.Audits.{AuditTells}
+use Rattle.pvp_command.proofs.program.run.Goals as goal
+
+-- src/program.rt
+pub returns-in-Live-clause-err : goal.returns-in-Live-clause-err
+returns-in-Live-clause-err g c =
+    rw c.in-Live.is (IfErr-weaker c.without_net.result _ _ (λ told live. (live, c.without_net.ensures.unwritten)) c.without_net.ensures.err)
+
+-- src/program.rt
+pub returns-in-Audit-clause-err : goal.returns-in-Audit-clause-err
+returns-in-Audit-clause-err g c =
+    let known = g.F.Files.known c.args.files.now in
+    let fails = g.F.Files.fails c.args.files.now in
+    let setup = c.in-Audit.setup.now in
+    rw c.in-Audit.is (subst
+    (λ names. IfErr c.audit.result (λ told. IfSome (known setup) (λ rules. AuditTells known fails setup rules (map (λ name. name.now) names) c.args.out.now c.audit.new.out told)))
+    c.as_slice-in-Audit.ensures.value c.audit.ensures.err)

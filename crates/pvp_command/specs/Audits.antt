@@ -1,0 +1,98 @@
+-- What an audit of journals writes, and which fault it tells, where the bytes of its files are known.
+use Rattle.std.specs.Prelude.{◌≡◌, ◌⊎◌, ℕ, ◌+◌, Bool, true, false, List, [], ◌∷◌, ◌++◌, take, slice_get, Option, Some, Result, Ok, Err, codes, decimal, IfSome}
+use Rattle.std.specs.Io.KnownBytes.{Appends}
+use Rattle.pvp_types.specs.declared.setup.Setup.{Setup}
+use Rattle.pvp_text.specs.SetupText.{setup_text}
+use Rattle.pvp_trace.specs.Names.{actor_text}
+use Rattle.pvp_journal.specs.declared.fault.JournalFault.{JournalFault}
+use Rattle.pvp_journal.specs.declared.journal.Journal.{Journal}
+use Rattle.pvp_journal.specs.Journals.{IsRead, ReadsJournal}
+use Rattle.pvp_judge.specs.declared.judgement.Judgement.{Judgement}
+use Rattle.pvp_evidence.specs.declared.history.History.{History}
+use Rattle.pvp_evidence.specs.declared.gather.EvidenceFault.{EvidenceFault}
+use Rattle.pvp_evidence.specs.Bank.{mark_of}
+use Rattle.pvp_evidence.specs.Gathered.{AreOneBank, GatherFails}
+use Rattle.pvp_evidence.specs.Cut.{IsGreatestCut}
+use Rattle.pvp_evidence.specs.Judged.{JudgesHistories}
+use Rattle.pvp_command.specs.declared.audits.Auditing.{Auditing}
+use Rattle.pvp_command.specs.declared.fault.Fault.{Fault}
+use Rattle.pvp_command.specs.declared.fault.Fault.TheVariants.{Seats, NoMemory}
+use Rattle.pvp_command.specs.declared.files.FileFault.{FileFault}
+use Rattle.pvp_command.specs.declared.files.Source.TheVariants.{Setup as OfSetup, Journal as OfJournal}
+use Rattle.pvp_command.specs.Fault.{journal_told, evidence_told}
+use Rattle.pvp_command.specs.Lives.{IsTextFault, ending_text, status_judged}
+use Rattle.pvp_command.specs.Request.{TellsFile, TellsSetup}
+
+-- ---- the journals
+
+-- the file of a name reads as a journal, where its bytes are known
+abbrev pub ReadsFile : (List ℕ → Option (List ℕ)) → List ℕ → Journal → Type 0
+ReadsFile known name journal = IfSome (known name) (λ bytes. IsRead bytes journal)
+
+-- so of each, in order
+abbrev pub AreReadFrom : (List ℕ → Option (List ℕ)) → List (List ℕ) → List Journal → Type 0
+AreReadFrom known [] [] = Unit {0}
+AreReadFrom known (name ∷ names) (journal ∷ more) = ReadsFile known name journal × AreReadFrom known names more
+AreReadFrom known _ _ = ⊥
+
+-- the file of a name is not read, or its bytes are no journal, or want of memory is told
+abbrev pub IsBadFile : (List ℕ → Option (List ℕ)) → (List ℕ → FileFault → Type 0) → ℕ → List ℕ → Fault → Type 0
+IsBadFile known fails place name told =
+    TellsFile (OfJournal place) (fails name) told
+    ⊎ ((fault : JournalFault) × (told ≡ journal_told place fault) × IfSome (known name) (λ bytes. ReadsJournal bytes (Err fault)))
+
+-- the first that is bad, at a place counted from 1
+pub record IsBadAt (known : List ℕ → Option (List ℕ)) (fails : List ℕ → FileFault → Type 0) (names : List (List ℕ)) (told : Fault) : Type 0 where
+  pub before : ℕ
+  pub name : List ℕ
+  pub journals : List Journal
+  pub there : slice_get names before ≡ Some name
+  pub read : AreReadFrom known (take before names) journals
+  pub bad : IsBadFile known fails (before + 1) name told
+
+abbrev pub IsBadAmong : (List ℕ → Option (List ℕ)) → (List ℕ → FileFault → Type 0) → List (List ℕ) → Fault → Type 0
+IsBadAmong known fails names told = IsBadAt known fails names told ⊎ (told ≡ NoMemory)
+
+-- ---- the judgement
+
+-- the histories themselves are judged, or their greatest cut
+abbrev pub IsTaken : Bool → List History → List History → Type 0
+IsTaken true histories judged = IsGreatestCut judged histories
+IsTaken false histories judged = judged ≡ histories
+
+abbrev pub IsJudgedSo : Auditing → Setup → List History → Option (List ℕ) → Option (List ℕ) → ℕ → Type 0
+IsJudgedSo how s histories old new status =
+    (judged : List History) × (judgement : Judgement) × IsTaken how.cuts histories judged × JudgesHistories s judged judgement
+    × Appends old new (ending_text how.ending judgement) × (status ≡ status_judged judgement)
+
+-- WHAT AN AUDIT WRITES: its files read as journals, these are all of one bank, and how their histories were judged is written
+abbrev pub AuditsBank : Auditing → (List ℕ → Option (List ℕ)) → Setup → List ℕ → List (List ℕ) → Option (List ℕ) → Option (List ℕ) → ℕ → Type 0
+AuditsBank how known s mark names old new status =
+    (journals : List Journal) × (histories : List History) × AreReadFrom known names journals × AreOneBank s mark journals histories
+    × IsJudgedSo how s histories old new status
+
+abbrev pub AuditWrites : Auditing → (List ℕ → Option (List ℕ)) → List ℕ → List (List ℕ) → Option (List ℕ) → Option (List ℕ) → ℕ → Type 0
+AuditWrites how known setup names old new status =
+    (s : Setup) × (setup_text setup ≡ Ok s) × AuditsBank how known s (mark_of setup) names old new status
+
+-- ---- its faults
+
+-- a judgement was not had or not written
+abbrev pub JudgeStops : Fault → Type 0
+JudgeStops told = (told ≡ Seats) ⊎ IsTextFault told
+
+-- the first bad journal, or why these are not all of one bank, and then nothing is written; or what stopped the judgement
+abbrev pub BankStops : {W : Type 0} → (List ℕ → Option (List ℕ)) → (List ℕ → FileFault → Type 0) → Setup → List ℕ → List (List ℕ) → W → W → Fault → Type 0
+BankStops known fails s mark names old new told =
+    (IsBadAmong known fails names told × (new ≡ old))
+    ⊎ ((journals : List Journal) × AreReadFrom known names journals
+    × (((fault : EvidenceFault) × (told ≡ evidence_told fault) × GatherFails s mark journals fault × (new ≡ old)) ⊎ JudgeStops told))
+
+abbrev pub AuditTells : {W : Type 0} → (List ℕ → Option (List ℕ)) → (List ℕ → FileFault → Type 0) → List ℕ → List ℕ → List (List ℕ) → W → W → Fault → Type 0
+AuditTells known fails setup text names old new told =
+    ((TellsFile OfSetup (fails setup) told ⊎ TellsSetup text told) × (new ≡ old))
+    ⊎ ((s : Setup) × (setup_text text ≡ Ok s) × BankStops known fails s (mark_of text) names old new told)
+
+-- how many of an actor's events are cut off, in words
+abbrev pub cut_text : Setup → ℕ → ℕ → ℕ → List ℕ
+cut_text s actor count lost = actor_text s actor ++ codes ": " ++ decimal lost ++ codes " of " ++ decimal count ++ codes " events are cut off\n"
