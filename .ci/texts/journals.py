@@ -116,7 +116,7 @@ class Journals(Runs):
         self.audits(forged, (3, "audit no 201 2 A1\n", ""), "--cut")
 
     def test_a_torn_record_is_told(self):
-        """Its bytes are a front of a record: it never was written whole, and nothing of it was sent."""
+        """Its bytes are a front of a record, which is left out."""
         whole = journal(201, (5, CRASH, SENT_NOTHING))
         for left in (len(whole) - 1, len(head(201)) + 1):
             told = f"journal 8 is torn at byte {len(head(201))}\n"
