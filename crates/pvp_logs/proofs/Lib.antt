@@ -1,3 +1,4 @@
 pub mod Batches
+pub mod Going
 pub mod Journals
 pub mod Replaying

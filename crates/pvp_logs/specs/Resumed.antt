@@ -1,15 +1,27 @@
 -- A history that is taken again, and a room that goes on behind it.
-use Rattle.std.specs.Prelude.{◌≡◌, ℕ, List, [], ◌++◌, Option, Some, None, IfSome}
+use Rattle.std.specs.Prelude.{◌≡◌, ◌==◌, ℕ, ◌+◌, Bool, true, false, not, List, [], ◌∷◌, ◌++◌, Option, Some, None, IfSome, if◌then◌else◌}
+use Rattle.vr_types.specs.declared.cell.Boot.{Boot}
+use Rattle.vr_types.specs.declared.event.EventOf.TheVariants.{Crash, Restart}
+use Rattle.vr_types.specs.declared.event.SiteFault.TheVariants.{CellFault}
+use Rattle.vr_types.specs.Site.{is_down}
+use Rattle.pvp_rooms.specs.declared.site.CameOf.TheVariants.{Fell}
 use Rattle.pvp_rooms.specs.declared.actor.Actor.{Ghosts}
 use Rattle.pvp_rooms.specs.declared.message.Recorded.{Recorded}
 use Rattle.pvp_rooms.specs.Histories.{replay, AreSteps, IsRising, last_clock}
 use Rattle.pvp_rooms.specs.Rooms.{IsRoom}
+use Rattle.pvp_parties.specs.declared.party.PartyOf.{PartyOf}
+use Rattle.pvp_parties.specs.declared.party.PartyOf.TheVariants.{Site, Node, Client}
 use Rattle.pvp_parties.specs.declared.party.PartyEvent.{PartyEvent}
+use Rattle.pvp_parties.specs.declared.party.PartyEvent.TheVariants.{OfSite}
 use Rattle.pvp_parties.specs.declared.party.PartyOutcome.{PartyOutcome}
+use Rattle.pvp_parties.specs.declared.party.PartyOutcome.TheVariants.{OfSite as SiteTold}
+use Rattle.pvp_parties.specs.Parties.{party_over}
 use Rattle.pvp_journal.specs.declared.journal.Journal.{Journal}
 use Rattle.pvp_journal.specs.Spelling.{head_text, head_sum}
 use Rattle.pvp_logs.specs.declared.resume.Replayed.{Replayed}
-use Rattle.pvp_logs.specs.Rooms.{Texts, Held, Past, records, sum_after}
+use Rattle.pvp_logs.specs.declared.ways.WayBack.{WayBack}
+use Rattle.pvp_logs.specs.declared.ways.WayBack.TheVariants.{Again, Restarts, FellAndRestarts}
+use Rattle.pvp_logs.specs.Rooms.{Texts, Held, Mark, Past, records, sum_after}
 
 -- an actor took a history: from each state that it showed, each event can come out as it is recorded, and it shows the
 -- state after them all; and it is still what it was opened as
@@ -66,3 +78,58 @@ past_of journal = record {
   written = journal.history.items;
   pending = [];
 }
+
+-- a room of the same actor over another cell
+abbrev pub room_over : {N B D O L : Type 0} → Held N (PartyOf B) O L → D → Held N (PartyOf D) O L
+room_over room cell = record {
+  number = room.number;
+  opening = room.opening;
+  actor = party_over room.actor cell;
+  clock = room.clock;
+  log = room.log;
+  sum = room.sum;
+  batch = room.batch;
+  waiting = room.waiting;
+}
+
+-- HOW A SITE COMES BACK: its journal knows of so many boots, and its cell holds so many. A restart saves before it is
+-- recorded, so the cell may be one ahead; by more, or behind, it is another site's.
+abbrev pub way_back : Boot → Boot → Bool → Option WayBack
+way_back known held trusted =
+    if held.boots == known.boots then Some (if trusted then Again else Restarts)
+    else if held.boots == known.boots + 1 then Some FellAndRestarts
+    else None
+
+abbrev pub is_again : WayBack → Bool
+is_again Again = true
+is_again Restarts = false
+is_again FellAndRestarts = false
+
+-- this is a way back for an actor whose own cell holds this, over one that holds that; who has no cell only goes on
+abbrev pub IsWay : WayBack → Option Boot → Boot → Type 0
+IsWay way (Some known) held = way_back known held (is_again way) ≡ Some way
+IsWay way None held = way ≡ Again
+
+-- an actor is a site that is not down
+abbrev pub is_up : {B : Type 0} → PartyOf B → Bool
+is_up (Site p) = not (is_down p.now.volatile.status)
+is_up (Node p) = false
+is_up (Client p) = false
+
+-- a crash of a site that is up
+abbrev pub crash_of : Bool → List (Mark PartyEvent PartyOutcome)
+crash_of up = if up then record { event = OfSite Crash; came = None } ∷ [] else []
+
+-- a restart, however it comes out
+abbrev pub a_restart : Mark PartyEvent PartyOutcome
+a_restart = record { event = OfSite Restart; came = None }
+
+-- a restart that saved this and fell
+abbrev pub a_fall : Boot → Mark PartyEvent PartyOutcome
+a_fall held = record { event = OfSite Restart; came = Some (SiteTold (Fell CellFault held)) }
+
+-- THE EVENTS BY WHICH A SITE COMES BACK, over a cell that holds this
+abbrev pub events_back : WayBack → Bool → Boot → List (Mark PartyEvent PartyOutcome)
+events_back Again up held = []
+events_back Restarts up held = crash_of up ++ a_restart ∷ []
+events_back FellAndRestarts up held = crash_of up ++ a_fall held ∷ a_restart ∷ []

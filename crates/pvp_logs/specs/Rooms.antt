@@ -1,8 +1,9 @@
 -- A room whose history stands in a journal.
-use Rattle.std.specs.Prelude.{◌≡◌, ℕ, List, [], ◌∷◌, ◌++◌, map, Option, Some, None, IfSome, IsSome, unwrap_or}
+use Rattle.std.specs.Prelude.{◌≡◌, ◌⊎◌, ℕ, List, [], ◌∷◌, ◌++◌, map, Option, Some, None, IfSome, IsSome, unwrap_or}
 use Rattle.pvp_rooms.specs.declared.actor.Actor.{Ghosts}
 use Rattle.pvp_rooms.specs.declared.message.Input.{Input}
 use Rattle.pvp_rooms.specs.declared.message.Recorded.{Recorded}
+use Rattle.pvp_rooms.specs.Histories.{Takes}
 use Rattle.pvp_rooms.specs.Rooms.{Shown, IsRoom, Took, receipt, clock_after}
 use Rattle.pvp_parties.specs.declared.party.PartyEvent.{PartyEvent}
 use Rattle.pvp_parties.specs.declared.party.PartyOutcome.{PartyOutcome}
@@ -93,3 +94,49 @@ Steps m texts seen input old new ClockSpent = (new ≡ old) × (clock_after old.
 abbrev pub Flushes : {N A E O L : Type 0} → Ghosts A N E O → (ℕ → Texts E O) → (L → Option (List ℕ)) → Held N A O L → Held N A O L → List (Letter O) → Type 0
 Flushes {E = E} {O = O} m texts seen old new letters =
     (past : Past E O) → Keeps m texts seen old past → (letters ≡ map letter past.pending) × Keeps m texts seen new (all_written past)
+
+-- an event without a stamp that came out so
+abbrev pub noted : {E O : Type 0} → E → ℕ → O → Recorded E O
+noted event clock outcome = record { event = event; stamp = None; clock = clock; outcome = outcome }
+
+-- a room noted such an event: its actor goes on by it, and whatever history the room has kept, by its record
+pub record NotedOne {N A E O L : Type 0} (m : Ghosts A N E O) (texts : ℕ → Texts E O) (seen : L → Option (List ℕ)) (event : E) (outcome : O) (old new : Held N A O L) : Type 0 where
+  pub number : new.number ≡ old.number
+  pub opening : new.opening ≡ old.opening
+  pub log : new.log ≡ old.log
+  pub next : clock_after old.clock None ≡ Some new.clock
+  pub step : (x : m.State) → m.shows old.actor x → Takes m.comes m.after x event outcome (m.shows new.actor)
+  pub keeps : (past : Past E O) → Keeps m texts seen old past → Keeps m texts seen new (with_pending past (noted event new.clock outcome))
+
+-- WHAT NOTING AN EVENT TELLS: it is in the history; or it cannot have come out so, or there is no greater clock
+abbrev pub Notes : {N A E O L : Type 0} → Ghosts A N E O → (ℕ → Texts E O) → (L → Option (List ℕ)) → E → O → Held N A O L → Option (Held N A O L) → Type 0
+Notes m texts seen event outcome old (Some new) = NotedOne m texts seen event outcome old new
+Notes m texts seen event outcome old None =
+    (clock_after old.clock None ≡ None) ⊎ ((x : m.State) → m.shows old.actor x → ¬ m.comes x event outcome)
+
+-- an event without a stamp, and how it comes out where that is said
+pub record Mark (E O : Type 0) : Type 0 where
+  pub event : E
+  pub came : Option O
+
+abbrev pub AreMarked : {E O : Type 0} → List (Recorded E O) → List (Mark E O) → Type 0
+AreMarked [] [] = Unit {0}
+AreMarked (r ∷ more) (mark ∷ marks) = (r.event ≡ mark.event) × (r.stamp ≡ None) × IfSome mark.came (λ came. r.outcome ≡ came) × AreMarked more marks
+AreMarked [] (mark ∷ marks) = ⊥
+AreMarked (r ∷ more) [] = ⊥
+
+-- more events in the batch
+abbrev pub with_all : {E O : Type 0} → Past E O → List (Recorded E O) → Past E O
+with_all past more = record past { pending = past.pending ++ more }
+
+-- a room went on by these events, behind a history that it kept
+pub record WentOn {N A B E O L : Type 0} (n : Ghosts B N E O) (texts : ℕ → Texts E O) (seen : L → Option (List ℕ)) (old : Held N A O L) (new : Held N B O L) (past : Past E O) (marks : List (Mark E O)) : Type 0 where
+  pub more : List (Recorded E O)
+  pub are : AreMarked more marks
+  pub opening : new.opening ≡ old.opening
+  pub keeps : Keeps n texts seen new (with_all past more)
+
+-- A ROOM GOES ON BY THESE EVENTS, over another actor: whatever history it has kept is the front of the one that it keeps
+abbrev pub GoesOn : {N A B E O L : Type 0} → Ghosts A N E O → Ghosts B N E O → (ℕ → Texts E O) → (L → Option (List ℕ)) → Held N A O L → Held N B O L → List (Mark E O) → Type 0
+GoesOn {E = E} {O = O} m n texts seen old new marks =
+    (past : Past E O) → Keeps m texts seen old past → WentOn n texts seen old new past marks

@@ -9,6 +9,7 @@ pub mod log;
 pub mod memory;
 pub mod resume;
 pub mod room;
+pub mod ways;
 
 pub use file::FileLog;
 pub use journaled::Journaled;
@@ -16,3 +17,4 @@ pub use log::{Log, LogFault};
 pub use memory::MemLog;
 pub use resume::{Replayed, come_back, replay, rising_clock};
 pub use room::{JournalRoom, Letter, Posted};
+pub use ways::{RestartFault, WayBack, restart, way_back};

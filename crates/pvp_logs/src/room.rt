@@ -1,16 +1,20 @@
 //! One actor whose history is no data in memory.
-ghost use Rattle.std.specs.Prelude.{◌≡◌, ◌==◌, IfOk, OnOk, IsTrue, length};
+ghost use Rattle.std.specs.Prelude.{◌≡◌, ◌==◌, IfOk, IfSome, OnOk, IsTrue, length};
+ghost use Rattle.pvp_parties.specs.Parties.{held_of};
 ghost use Rattle.pvp_logs.specs.Log.{OutlivesAll, with_more};
-ghost use Rattle.pvp_logs.specs.Rooms.{Flushes, Past, Steps};
-ghost use Rattle.pvp_logs.specs.Resumed.{IsAgain, IsWritten, resumed};
+ghost use Rattle.pvp_logs.specs.Rooms.{Flushes, Keeps, Notes, Past, Steps, bank_texts};
+ghost use Rattle.pvp_logs.specs.Resumed.{IsAgain, IsWritten, resumed, room_over};
 
 use crate::journaled::Journaled;
 use crate::log::{Log, LogFault};
 use crate::resume::Replayed;
+use pvp_audit::Audited;
 use pvp_journal::WriteFault;
-use pvp_rooms::{Input, Recorded, next_clock};
+use pvp_parties::{PartyEvent, PartyOf, PartyOutcome};
+use pvp_rooms::{Actor, Input, Recorded, next_clock};
 use std::alloc::Global;
 use std::marker::Model;
+use vr_types::BootCell;
 
 /// What came of an event, and at which clock: of what it sent the receivers hear once its record is written.
 #[derive(Drop)]
@@ -77,7 +81,7 @@ impl<A: Journaled, L: Log> Model for JournalRoom<A, L> {
 }
 
 impl<A: Journaled, L: Log> JournalRoom<A, L> {
-    ghost use Rattle.pvp_logs.specs.Rooms.{Keeps, nothing_taken};
+    ghost use Rattle.pvp_logs.specs.Rooms.{nothing_taken};
 
     /// The room of an actor of this number that opens over this, at clock 0, over a log that has the head of its journal,
     /// with this checksum, and no record. It takes no memory.
@@ -224,6 +228,74 @@ impl<A: Journaled, L: Log> JournalRoom<A, L> {
             waiting: Vec::new(alloc),
         };
         Ok((room, waiting))
+    }
+}
+
+impl<A: Journaled + Audited, L: Log> JournalRoom<A, L> {
+    /// Notes an event without a stamp that came out so, as one that the actor took: its record goes into the batch, and what
+    /// it sent waits. `None` where it cannot have come out so, or there is no greater clock; `Err` where memory is refused or
+    /// the record cannot be written. After `None` and `Err` the room is gone, with all that waited.
+    pub fn note(
+        self,
+        alloc: Global,
+        event: A::Event,
+        outcome: A::Outcome,
+    ) -> Result<Option<Self>, WriteFault>
+        ensures { IfOk result (λ found. Notes A.Actor A.texts L.seen event outcome self found) }
+    {
+        let mut ahead = self;
+        let Some(next) = next_clock(ahead.clock, None) else {
+            return Ok(None);
+        };
+        ahead.waiting.reserve(1)?;
+        if !ahead.actor.follow(alloc, &event, &outcome)? {
+            return Ok(None);
+        }
+        let entry = Recorded {
+            event,
+            stamp: None,
+            clock: next,
+            outcome,
+        };
+        ahead.sum = A::write(alloc, ahead.number, ahead.sum, &entry, &mut ahead.batch)?;
+        ahead.clock = next;
+        ahead.waiting.push_reserved(Letter {
+            clock: next,
+            outcome: entry.outcome,
+        });
+        Ok(Some(ahead))
+    }
+}
+
+impl<C: BootCell, L: Log> JournalRoom<PartyOf<C>, L> {
+    /// The same room, of its actor over another cell, which holds what a site's own does.
+    pub fn over<D: BootCell>(self, cell: D) -> JournalRoom<PartyOf<D>, L>
+        requires { IfSome (held_of C.BootCell self.actor) (λ own. D.held cell ≡ own) }
+        ensures is { result ≡ room_over self cell }
+        ensures keeps { (past : Past PartyEvent PartyOutcome) →
+            Keeps ⟦<PartyOf<C> as Actor>⟧ bank_texts L.seen self past →
+            Keeps ⟦<PartyOf<D> as Actor>⟧ bank_texts L.seen result past }
+    {
+        let JournalRoom {
+            number,
+            opening,
+            actor,
+            clock,
+            log,
+            sum,
+            batch,
+            waiting,
+        } = self;
+        JournalRoom {
+            number,
+            opening,
+            actor: actor.over(cell),
+            clock,
+            log,
+            sum,
+            batch,
+            waiting,
+        }
     }
 }
 
