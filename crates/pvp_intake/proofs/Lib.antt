@@ -1,0 +1,7 @@
+pub mod Differences
+pub mod Sealed
+pub mod Again
+pub mod Found
+pub mod Lasts
+pub mod Never
+pub mod WorkedFronts

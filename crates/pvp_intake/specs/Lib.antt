@@ -1,0 +1,3 @@
+pub mod Sealing
+pub mod Fronts
+pub mod Intakes

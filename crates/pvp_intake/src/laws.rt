@@ -1,0 +1,52 @@
+//! What holds of the two ends of a link: functions that do nothing, whose contracts say it.
+ghost use Rattle.std.specs.Prelude.{◌≡◌, ◌≢◌, ◌+◌, ℕ, true, false, List, ◌++◌, Ok, Err, Some, None};
+ghost use Rattle.pvp_wire.specs.declared.stamped.Stamped.{Stamped};
+ghost use Rattle.pvp_wire.specs.Fits.{IsBytes, IsSpelled};
+ghost use Rattle.pvp_wire.specs.Spelling.{spelling};
+ghost use Rattle.pvp_intake.specs.declared.link.Link.{Link};
+ghost use Rattle.pvp_intake.specs.Sealing.{AreEnds, IsSized, sealed, hello_text, hello_length, ping_text, tag_size};
+ghost use Rattle.pvp_intake.specs.Fronts.{Lives, Says, IsFoundAt, BeginsWith, IsHeard, caller_at, hello_at, front};
+
+use crate::fault::LinkFault;
+
+/// What is put at one end of a link is found at the other, whatever follows it: an envelope from the one to the other, a
+/// ping, and the hello.
+pub fn again()
+    ensures frame { (near far : Link) (stamped : Stamped) (rest : List ℕ) → AreEnds near far →
+        IsSpelled stamped → stamped.envelope.from ≡ near.me → stamped.envelope.to ≡ near.peer →
+        IsFoundAt far near (spelling stamped) rest (Says stamped) }
+    ensures ping { (near far : Link) (rest : List ℕ) → AreEnds near far →
+        IsFoundAt far near ping_text rest Lives }
+    ensures caller { (near far : Link) (rest : List ℕ) → AreEnds near far → IsSized near →
+        caller_at far.bank (sealed near (hello_text near.me near.bank) ++ rest)
+        ≡ Ok (Some near.me) }
+    ensures hello { (near far : Link) (rest : List ℕ) → AreEnds near far → IsSized near →
+        hello_at far (sealed near (hello_text near.me near.bank) ++ rest) ≡ Ok true }
+{}
+
+/// What is found was put so, to the byte, with its tag: an envelope of the link's peer to this end, a ping, and the hello
+/// of the peer.
+pub fn found()
+    ensures frame { (link : Link) (bytes : List ℕ) (stamped : Stamped) (size : ℕ) → IsBytes bytes →
+        front link bytes ≡ Ok (Some (Says stamped, size)) → IsHeard link stamped size bytes }
+    ensures ping { (link : Link) (bytes : List ℕ) (size : ℕ) → IsBytes bytes →
+        front link bytes ≡ Ok (Some (Lives, size)) → BeginsWith link ping_text size bytes }
+    ensures hello { (link : Link) (bytes : List ℕ) → IsBytes bytes → hello_at link bytes ≡ Ok true →
+        BeginsWith link (hello_text link.peer link.bank) (4 + hello_length + tag_size link) bytes }
+{}
+
+/// More bytes change nothing of what stands at the front, once it is whole or wrong: so it does not matter how a stream
+/// was cut.
+pub fn lasts()
+    ensures front { (link : Link) (bytes more : List ℕ) → front link bytes ≢ Ok None →
+        front link (bytes ++ more) ≡ front link bytes }
+    ensures caller { (bank bytes more : List ℕ) → caller_at bank bytes ≢ Ok None →
+        caller_at bank (bytes ++ more) ≡ caller_at bank bytes }
+    ensures hello { (link : Link) (bytes more : List ℕ) → hello_at link bytes ≢ Ok false →
+        hello_at link (bytes ++ more) ≡ hello_at link bytes }
+{}
+
+/// Want of memory is no fault of a stream: it is told only where memory was refused for the rows of a frame.
+pub fn memory()
+    ensures { (link : Link) (bytes : List ℕ) → front link bytes ≢ Err LinkFault.NoMemory }
+{}
