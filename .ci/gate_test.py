@@ -74,13 +74,14 @@ FILES = {
     "the program's own test": ".ci/program_test.py",
     PROOFS: "rt",
     "live runs": ".ci/live",
+    "banks of processes": ".ci/serve",
     "examples": ".ci/examples",
     "pictures": ".ci/pictures",
     TEXTS: ".ci/texts",
     "refused memory and saves that fail": ".ci/memory",
     BODIES: ".ci/edits",
 }
-BESIDE = [name for name in FILES if name not in (APPLY, PROOFS, BODIES, TEXTS, "live runs")]
+BESIDE = [name for name in FILES if name not in (APPLY, PROOFS, BODIES, TEXTS, "live runs", "banks of processes")]
 ALL = sum(least for least, name in PARTS if name != APPLY)
 
 KILLED = "kill -9 $$"
@@ -294,8 +295,8 @@ def sees_counts(seen):
         lines = re.search(r"\*\*.* \| (\d+) \|", read(belief))[1]
         for name, path, old, new, why in (
             ("a number of lines", belief, f"`Replies.antt` | {lines} |", "`Replies.antt` | 7 |", f"where {lines} are counted"),
-            ("a number of codes", f"{room}/README.md", "of the 86 fault codes", "of the 87 fault codes", "where 86 are counted"),
-            ("a number that nobody finds", f"{room}/README.md", "of the 86 fault codes", "of all fault codes", "no number stands in"),
+            ("a number of codes", f"{room}/README.md", "of the 99 fault codes", "of the 87 fault codes", "where 99 are counted"),
+            ("a number that nobody finds", f"{room}/README.md", "of the 99 fault codes", "of all fault codes", "no number stands in"),
             ("a shared sentence", f"{room}/docs/operating.md", "down or recovering at once. A site", "down at once. A site", "with other words than in"),
             ("a call that carries the headline", f"{room}/crates/pvp_world/src/world/falls.rt", "ensures headline {", "ensures other {", "World::fall"),
             ("a code that no table has", f"{room}/docs/operating.md", "| `fault E1` |", "| `fault` |", "the code E1 is printed"),

@@ -92,6 +92,19 @@ V5  no journal is the actor's
 V6  there is no room left for a journal
 V7  a journal or its folder could not be made or written
 V8  there are files already where journals are to be put
+Q1  a line is not two words with one space between them
+Q2  the bank has no actor of this name that may stand here
+Q3  an address is not HOST:PORT with a port from 1 to 65535
+Q4  a key is not 64 digits of 0 to 9 and a to f
+Q5  a name stands a second time
+Q6  the actor has no line, and needs one
+X1  the bank has no such actor
+X2  the folder could not be made, or a file there not be read or written
+X3  another process serves the folder
+X4  the end of the journal may be lost, and a node or a client cannot recover it from others
+X5  the boot cell and the journal are not of one site
+X6  no actor can have taken what the journal tells
+X7  without keys a site listens on this machine alone, unless the network is trusted
 """
 
 

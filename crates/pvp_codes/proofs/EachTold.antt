@@ -14,7 +14,9 @@ use Rattle.pvp_journal.specs.declared.fault.JournalWhy.TheVariants as journal
 use Rattle.pvp_journal.specs.declared.fault.WriteFault.TheVariants as write
 use Rattle.pvp_evidence.specs.declared.gather.EvidenceWhy.TheVariants as evidence
 use Rattle.pvp_evidence.specs.declared.shelf.ShelfFault.TheVariants as shelf
-use Rattle.pvp_codes.specs.declared.code.Code.TheVariants.{Setup, Line, Refusal, Step, Audit, Frame, Seats, Journal, Record, Cell, Evidence, Shelf}
+use Rattle.pvp_places.specs.declared.fault.PlaceWhy.TheVariants as place
+use Rattle.pvp_places.specs.declared.fault.FolderWhy.TheVariants as folder
+use Rattle.pvp_codes.specs.declared.code.Code.TheVariants.{Setup, Line, Refusal, Step, Audit, Frame, Seats, Journal, Record, Cell, Evidence, Shelf, Place, Folder}
 use Rattle.pvp_codes.specs.Codes.{EachIsTold}
 
 pub each-told : EachIsTold
@@ -105,3 +107,16 @@ each-told (Evidence evidence.Missing) other = refl
 each-told (Shelf shelf.Full) other = refl
 each-told (Shelf shelf.Failed) other = refl
 each-told (Shelf shelf.Present) other = refl
+each-told (Place place.Form) other = refl
+each-told (Place place.Name) other = refl
+each-told (Place place.Address) other = refl
+each-told (Place place.Key) other = refl
+each-told (Place place.Twice) other = refl
+each-told (Place place.Missing) other = refl
+each-told (Folder folder.Actor) other = refl
+each-told (Folder folder.Failed) other = refl
+each-told (Folder folder.Locked) other = refl
+each-told (Folder folder.Unsynced) other = refl
+each-told (Folder folder.Cell) other = refl
+each-told (Folder folder.History) other = refl
+each-told (Folder folder.Open) other = refl

@@ -37,9 +37,14 @@ use Rattle.pvp_evidence.specs.Gathered.{why_code as evidence_code}
 use Rattle.pvp_evidence.specs.declared.shelf.ShelfFault.{ShelfFault}
 use Rattle.pvp_evidence.specs.declared.shelf.ShelfFault.TheVariants as shelf
 use Rattle.pvp_evidence.specs.Shelves.{shelf_code}
+use Rattle.pvp_places.specs.declared.fault.PlaceWhy.{PlaceWhy}
+use Rattle.pvp_places.specs.declared.fault.PlaceWhy.TheVariants as place
+use Rattle.pvp_places.specs.declared.fault.FolderWhy.{FolderWhy}
+use Rattle.pvp_places.specs.declared.fault.FolderWhy.TheVariants as folder
+use Rattle.pvp_places.specs.Fault.{place_code, folder_code}
 use Rattle.pvp_codes.specs.declared.code.Code.{Code}
-use Rattle.pvp_codes.specs.declared.code.Code.TheVariants.{Setup, Line, Refusal, Step, Audit, Frame, Seats, Journal, Record, Cell, Evidence, Shelf}
-use Rattle.pvp_codes.specs.Meanings.{text_meaning, line_meaning, reason_meaning, audit_meaning, wire_meaning, seats_meaning, journal_meaning, record_meaning, cell_meaning, evidence_meaning, shelf_meaning}
+use Rattle.pvp_codes.specs.declared.code.Code.TheVariants.{Setup, Line, Refusal, Step, Audit, Frame, Seats, Journal, Record, Cell, Evidence, Shelf, Place, Folder}
+use Rattle.pvp_codes.specs.Meanings.{text_meaning, line_meaning, reason_meaning, audit_meaning, wire_meaning, seats_meaning, journal_meaning, record_meaning, cell_meaning, evidence_meaning, shelf_meaning, place_meaning, folder_meaning}
 
 -- ---- a code and its meaning
 
@@ -72,6 +77,8 @@ code_text (Record fault) = write_code fault
 code_text (Cell fault) = cell_code fault
 code_text (Evidence why) = evidence_code why
 code_text (Shelf fault) = shelf_code fault
+code_text (Place why) = place_code why
+code_text (Folder why) = folder_code why
 
 -- WHAT IT MEANS
 abbrev pub meaning : Code → List ℕ
@@ -87,6 +94,8 @@ meaning (Record fault) = record_meaning fault
 meaning (Cell fault) = cell_meaning fault
 meaning (Evidence why) = evidence_meaning why
 meaning (Shelf fault) = shelf_meaning fault
+meaning (Place why) = place_meaning why
+meaning (Folder why) = folder_meaning why
 
 -- ---- all of them
 
@@ -131,6 +140,12 @@ evidence_whys = evidence.Setup ∷ evidence.Life ∷ evidence.Stranger ∷ evide
 abbrev pub shelf_faults : List ShelfFault
 shelf_faults = shelf.Full ∷ shelf.Failed ∷ shelf.Present ∷ []
 
+abbrev pub place_whys : List PlaceWhy
+place_whys = place.Form ∷ place.Name ∷ place.Address ∷ place.Key ∷ place.Twice ∷ place.Missing ∷ []
+
+abbrev pub folder_whys : List FolderWhy
+folder_whys = folder.Actor ∷ folder.Failed ∷ folder.Locked ∷ folder.Unsynced ∷ folder.Cell ∷ folder.History ∷ folder.Open ∷ []
+
 -- setups, scripts, commands, steps of the world, of sites, nodes and clients, audits, frames, live runs, journals,
 -- records, boot cells, the journals of one bank, and where they are put
 abbrev pub all_codes : List Code
@@ -148,6 +163,8 @@ all_codes =
     ++ map (λ fault. Cell fault) cell_faults
     ++ map (λ why. Evidence why) evidence_whys
     ++ map (λ fault. Shelf fault) shelf_faults
+    ++ map (λ why. Place why) place_whys
+    ++ map (λ why. Folder why) folder_whys
 
 -- a line: the code, two spaces, its meaning
 abbrev pub code_line : Code → List ℕ

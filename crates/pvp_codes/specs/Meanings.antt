@@ -23,6 +23,12 @@ use Rattle.pvp_evidence.specs.declared.gather.EvidenceWhy.{EvidenceWhy}
 use Rattle.pvp_evidence.specs.declared.gather.EvidenceWhy.TheVariants as evidence
 use Rattle.pvp_evidence.specs.declared.shelf.ShelfFault.{ShelfFault}
 use Rattle.pvp_evidence.specs.declared.shelf.ShelfFault.TheVariants as shelf
+use Rattle.pvp_places.specs.declared.fault.PlaceWhy.{PlaceWhy}
+use Rattle.pvp_places.specs.declared.fault.PlaceWhy.TheVariants as place
+use Rattle.pvp_places.specs.declared.fault.FolderWhy.{FolderWhy}
+use Rattle.pvp_places.specs.declared.fault.FolderWhy.TheVariants as folder
+use Rattle.pvp_places.specs.declared.serving.ServeFault.{ServeFault}
+use Rattle.pvp_places.specs.declared.serving.ServeFault.TheVariants as serve
 
 abbrev pub rule_meaning : SetupFault → List ℕ
 rule_meaning SiteCount = codes "the sites are not 3, 5 or 7"
@@ -117,3 +123,38 @@ abbrev pub shelf_meaning : ShelfFault → List ℕ
 shelf_meaning shelf.Full = codes "there is no room left for a journal"
 shelf_meaning shelf.Failed = codes "a journal or its folder could not be made or written"
 shelf_meaning shelf.Present = codes "there are files already where journals are to be put"
+
+-- a line of a peers file or a keys file
+abbrev pub place_meaning : PlaceWhy → List ℕ
+place_meaning place.Form = codes "a line is not two words with one space between them"
+place_meaning place.Name = codes "the bank has no actor of this name that may stand here"
+place_meaning place.Address = codes "an address is not HOST:PORT with a port from 1 to 65535"
+place_meaning place.Key = codes "a key is not 64 digits of 0 to 9 and a to f"
+place_meaning place.Twice = codes "a name stands a second time"
+place_meaning place.Missing = codes "the actor has no line, and needs one"
+
+-- an actor or its folder that no process can serve
+abbrev pub folder_meaning : FolderWhy → List ℕ
+folder_meaning folder.Actor = codes "the bank has no such actor"
+folder_meaning folder.Failed = codes "the folder could not be made, or a file there not be read or written"
+folder_meaning folder.Locked = codes "another process serves the folder"
+folder_meaning folder.Unsynced = codes "the end of the journal may be lost, and a node or a client cannot recover it from others"
+folder_meaning folder.Cell = codes "the boot cell and the journal are not of one site"
+folder_meaning folder.History = codes "no actor can have taken what the journal tells"
+folder_meaning folder.Open = codes "without keys a site listens on this machine alone, unless the network is trusted"
+
+-- why a process does not serve, whatever code tells it
+abbrev pub served_meaning : ServeFault → List ℕ
+served_meaning (serve.Setup fault) = text_meaning fault
+served_meaning (serve.File paper) = codes "a file that it needs could not be read"
+served_meaning (serve.Line paper line why) = place_meaning why
+served_meaning (serve.Missing paper actor) = place_meaning place.Missing
+served_meaning (serve.Folder why) = folder_meaning why
+served_meaning (serve.Journal why at) = journal_meaning why
+served_meaning (serve.Other why) = evidence_meaning why
+served_meaning (serve.Cell fault) = cell_meaning fault
+served_meaning (serve.Log fault) = shelf_meaning fault
+served_meaning serve.Unfit = record_meaning write.Unfit
+served_meaning serve.Net = codes "there is no thread to be had, or no listener at the site's address"
+served_meaning serve.Clock = codes "there is no greater clock"
+served_meaning serve.NoMemory = codes "memory was refused"

@@ -4,13 +4,15 @@ ghost use Rattle.std.specs.Prelude.{◌≡◌};
 ghost use Rattle.pvp_codes.specs.Codes.{audit_code as code_of_test};
 
 use crate::meanings::{
-    audit_meaning, cell_meaning, evidence_meaning, journal_meaning, line_meaning, reason_meaning,
-    record_meaning, seats_meaning, shelf_meaning, text_meaning, wire_meaning,
+    audit_meaning, cell_meaning, evidence_meaning, folder_meaning, journal_meaning, line_meaning,
+    place_meaning, reason_meaning, record_meaning, seats_meaning, shelf_meaning, text_meaning,
+    wire_meaning,
 };
 use pvp_audit::Why;
 use pvp_cell::OpenFault;
 use pvp_evidence::{EvidenceWhy, ShelfFault};
 use pvp_journal::{JournalWhy, WriteFault};
+use pvp_places::{FolderWhy, PlaceWhy};
 use pvp_text::{LineCode, TextFault};
 use pvp_trace::meanings::meaning;
 use pvp_types::Reason;
@@ -45,6 +47,10 @@ pub enum Code {
     Evidence(EvidenceWhy),
     /// V6 to V8: of a journal that is not put where it should stand.
     Shelf(ShelfFault),
+    /// Q1 to Q6: of a line of a peers file or a keys file.
+    Place(PlaceWhy),
+    /// X1 to X7: of an actor or its folder that no process can serve.
+    Folder(FolderWhy),
 }
 
 impl Code {
@@ -67,6 +73,8 @@ impl Code {
             Code::Cell(fault) => cell_meaning(fault),
             Code::Evidence(why) => evidence_meaning(why),
             Code::Shelf(fault) => shelf_meaning(fault),
+            Code::Place(why) => place_meaning(why),
+            Code::Folder(why) => folder_meaning(why),
         }
     }
 }
@@ -95,6 +103,8 @@ impl fmt::Display for Code {
             Code::Cell(fault) => write!(f, "{fault}"),
             Code::Evidence(why) => write!(f, "{why}"),
             Code::Shelf(fault) => write!(f, "{fault}"),
+            Code::Place(why) => write!(f, "{why}"),
+            Code::Folder(why) => write!(f, "{why}"),
         }
     }
 }

@@ -8,6 +8,7 @@ use pvp_audit::Why;
 use pvp_cell::OpenFault;
 use pvp_evidence::{EvidenceWhy, ShelfFault};
 use pvp_journal::{JournalWhy, WriteFault};
+use pvp_places::{FolderWhy, PlaceWhy, ServeFault};
 use pvp_text::{LineCode, TextFault};
 use pvp_types::{Reason, SetupFault};
 use pvp_wire::WireFault;
@@ -192,5 +193,57 @@ pub fn shelf_meaning(fault: ShelfFault) -> &'static str
         ShelfFault::Full => "there is no room left for a journal",
         ShelfFault::Failed => "a journal or its folder could not be made or written",
         ShelfFault::Present => "there are files already where journals are to be put",
+    }
+}
+
+/// What is wrong with a line of a peers file or a keys file.
+pub fn place_meaning(why: PlaceWhy) -> &'static str
+    ensures { result.now ≡ spec.place_meaning why }
+{
+    match why {
+        PlaceWhy::Form => "a line is not two words with one space between them",
+        PlaceWhy::Name => "the bank has no actor of this name that may stand here",
+        PlaceWhy::Address => "an address is not HOST:PORT with a port from 1 to 65535",
+        PlaceWhy::Key => "a key is not 64 digits of 0 to 9 and a to f",
+        PlaceWhy::Twice => "a name stands a second time",
+        PlaceWhy::Missing => "the actor has no line, and needs one",
+    }
+}
+
+/// Why an actor or its folder is none that a process can serve.
+pub fn folder_meaning(why: FolderWhy) -> &'static str
+    ensures { result.now ≡ spec.folder_meaning why }
+{
+    match why {
+        FolderWhy::Actor => "the bank has no such actor",
+        FolderWhy::Failed => "the folder could not be made, or a file there not be read or written",
+        FolderWhy::Locked => "another process serves the folder",
+        FolderWhy::Unsynced =>
+            "the end of the journal may be lost, and a node or a client cannot recover it from others",
+        FolderWhy::Cell => "the boot cell and the journal are not of one site",
+        FolderWhy::History => "no actor can have taken what the journal tells",
+        FolderWhy::Open =>
+            "without keys a site listens on this machine alone, unless the network is trusted",
+    }
+}
+
+/// Why a process does not serve, whatever code tells it.
+pub fn served_meaning(fault: ServeFault) -> &'static str
+    ensures { result.now ≡ spec.served_meaning fault }
+{
+    match fault {
+        ServeFault::Setup(fault) => text_meaning(fault),
+        ServeFault::File(_) => "a file that it needs could not be read",
+        ServeFault::Line { why, .. } => place_meaning(why),
+        ServeFault::Missing { .. } => place_meaning(PlaceWhy::Missing),
+        ServeFault::Folder(why) => folder_meaning(why),
+        ServeFault::Journal { why, .. } => journal_meaning(why),
+        ServeFault::Other(why) => evidence_meaning(why),
+        ServeFault::Cell(fault) => cell_meaning(fault),
+        ServeFault::Log(fault) => shelf_meaning(fault),
+        ServeFault::Unfit => record_meaning(WriteFault::Unfit),
+        ServeFault::Net => "there is no thread to be had, or no listener at the site's address",
+        ServeFault::Clock => "there is no greater clock",
+        ServeFault::NoMemory => "memory was refused",
     }
 }

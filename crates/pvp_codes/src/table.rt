@@ -11,6 +11,7 @@ use pvp_audit::Why;
 use pvp_cell::OpenFault;
 use pvp_evidence::{EvidenceWhy, ShelfFault};
 use pvp_journal::{JournalWhy, WriteFault};
+use pvp_places::{FolderWhy, PlaceWhy};
 use pvp_text::book::{RunFault, write_text};
 use pvp_text::{LineCode, TextFault};
 use pvp_types::{Reason, SetupFault};
@@ -22,7 +23,7 @@ use std::io::Write;
 use vr_types::SiteFault;
 
 /// All codes, in the order in which they are told. M6 stands once, whatever is wrong in a record.
-const CODES: [Code; 86] = [
+const CODES: [Code; 99] = [
     Code::Setup(TextFault::NotJson),
     Code::Setup(TextFault::BadMember),
     Code::Setup(TextFault::BadSetup(SetupFault::SiteCount)),
@@ -109,6 +110,19 @@ const CODES: [Code; 86] = [
     Code::Shelf(ShelfFault::Full),
     Code::Shelf(ShelfFault::Failed),
     Code::Shelf(ShelfFault::Present),
+    Code::Place(PlaceWhy::Form),
+    Code::Place(PlaceWhy::Name),
+    Code::Place(PlaceWhy::Address),
+    Code::Place(PlaceWhy::Key),
+    Code::Place(PlaceWhy::Twice),
+    Code::Place(PlaceWhy::Missing),
+    Code::Folder(FolderWhy::Actor),
+    Code::Folder(FolderWhy::Failed),
+    Code::Folder(FolderWhy::Locked),
+    Code::Folder(FolderWhy::Unsynced),
+    Code::Folder(FolderWhy::Cell),
+    Code::Folder(FolderWhy::History),
+    Code::Folder(FolderWhy::Open),
 ];
 
 /// Writes a line for each code that the program or one of its parts prints: the code, and what it means. Where memory is

@@ -16,7 +16,7 @@ use Rattle.pvp_command.specs.declared.fault.Fault.{Fault}
 use Rattle.pvp_command.specs.declared.fault.Fault.TheVariants as told
 use Rattle.pvp_command.specs.declared.files.FileFault.{FileFault}
 use Rattle.pvp_command.specs.declared.files.Source.{Source}
-use Rattle.pvp_command.specs.declared.files.Source.TheVariants.{Setup as OfSetup, Script as OfScript, Journal as OfJournal}
+use Rattle.pvp_command.specs.declared.files.Source.TheVariants.{Setup as OfSetup, Script as OfScript, Journal as OfJournal, Secret as OfSecret}
 use Rattle.pvp_command.specs.Files.{file_line}
 use Rattle.pvp_command.specs.Request.{TellsFile, TellsSetup}
 
@@ -32,6 +32,7 @@ line_of_script fault kind setup script = line_with fault kind (setup_text setup)
 abbrev pub name_of : Names → Source → Option (List ℕ)
 name_of sources OfSetup = Some sources.setup
 name_of sources OfScript = sources.script
+name_of sources OfSecret = None
 name_of sources (OfJournal place) = if place == 0 then None else slice_get sources.journals (place - 1)
 
 -- the lines of a journal, of an actor without one, and of journals that were not kept

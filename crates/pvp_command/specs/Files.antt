@@ -7,7 +7,7 @@ use Rattle.pvp_command.specs.declared.files.FileFault.TheVariants as fault
 use Rattle.pvp_command.specs.declared.files.Unread.{Unread}
 use Rattle.pvp_command.specs.declared.files.Unread.TheVariants.{Missing, Forbidden, Folder, NoFolder, Name, Size, Other}
 use Rattle.pvp_command.specs.declared.files.Source.{Source}
-use Rattle.pvp_command.specs.declared.files.Source.TheVariants.{Setup, Script, Journal}
+use Rattle.pvp_command.specs.declared.files.Source.TheVariants.{Setup, Script, Journal, Secret}
 
 -- what an error of the system tells of a file
 abbrev pub unread_of : ErrorKind → Unread
@@ -42,6 +42,7 @@ abbrev pub source_text : Source → List ℕ
 source_text Setup = codes "setup"
 source_text Script = codes "script"
 source_text (Journal place) = codes "journal"
+source_text Secret = codes "secret"
 
 -- THE LINE OF A FILE that was not read: which it is, its name, and why
 abbrev pub file_line : Source → List ℕ → Unread → List ℕ

@@ -3,10 +3,10 @@ use Rattle.std.specs.Prelude.{◌≡◌, ◌⊎◌, ℕ, List, map, Option, IfSo
 use Rattle.std.specs.Io.KnownBytes.{Appends}
 use Rattle.pvp_codes.specs.Codes.{codes_text}
 use Rattle.pvp_command.specs.declared.fault.Fault.{Fault}
-use Rattle.pvp_command.specs.declared.fault.Fault.TheVariants.{NoMemory, Output}
+use Rattle.pvp_command.specs.declared.fault.Fault.TheVariants.{Net, NoMemory, Output}
 use Rattle.pvp_command.specs.declared.files.FileFault.{FileFault}
 use Rattle.pvp_command.specs.declared.request.Request.{Request}
-use Rattle.pvp_command.specs.declared.request.Request.TheVariants.{Check, Book, Play, Live, Audit, Codes}
+use Rattle.pvp_command.specs.declared.request.Request.TheVariants.{Check, Book, Play, Live, Audit, Keys, Serve, Codes}
 use Rattle.pvp_command.specs.Request.{CheckWrites, CheckTells, BookWrites, BookTells, PlayWrites, PlayTells}
 use Rattle.pvp_command.specs.Lives.{LiveWrites, LiveTells}
 use Rattle.pvp_command.specs.Audits.{AuditWrites, AuditTells}
@@ -22,12 +22,16 @@ Writes known (Play show setup script fails) old new status =
 Writes known (Live told setup script) old new status = ⊥
 Writes known (Audit how setup journals) old new status =
     IfSome (known setup.now) (λ rules. AuditWrites how known rules (map (λ name. name.now) journals.items) old new status)
+Writes known (Keys setup secret folder) old new status = ⊥
+Writes known (Serve order) old new status = ⊥
 Writes known Codes old new status = (status ≡ 0) × Appends old new codes_text
 
 -- on any machine, where journals may be put on a shelf too
 abbrev pub Ends : (List ℕ → Option (List ℕ)) → Request → Option (List File) → Option (List File) → Option (List ℕ) → Option (List ℕ) → ℕ → Type 0
 Ends known (Live told setup script) before after old new status =
     IfSome (known setup.now) (λ rules. IfSome (known script.now) (λ bytes. LiveWrites told rules bytes before after old new status))
+-- keys are put on a shelf
+Ends known (Keys setup secret folder) before after old new status = (new ≡ old) × (status ≡ 0)
 Ends known request before after old new status = (after ≡ before) × Writes known request old new status
 
 -- A REQUEST WAS DONE: its whole text is written, where the bytes of its files are known, and it has this status
@@ -49,10 +53,13 @@ Tells known fails (Live told_how setup script) old new told =
     IfSome (known setup.now) (λ rules. LiveTells (fails setup.now) rules (fails script.now) (known script.now) old new told) × (new ≡ old)
 Tells known fails (Audit how setup journals) old new told =
     IfSome (known setup.now) (λ rules. AuditTells known fails setup.now rules (map (λ name. name.now) journals.items) old new told)
+Tells known fails (Keys setup secret folder) old new told = (told ≡ Output) × (new ≡ old)
+Tells known fails (Serve order) old new told = (told ≡ Net) × (new ≡ old)
 Tells known fails Codes old new told = (told ≡ NoMemory) ⊎ (told ≡ Output)
 
 -- which fault it tells on any machine
 abbrev pub Stops : {W : Type 0} → (List ℕ → Option (List ℕ)) → (List ℕ → FileFault → Type 0) → Request → W → W → Fault → Type 0
 Stops known fails (Live told_how setup script) old new told =
     IfSome (known setup.now) (λ rules. LiveTells (fails setup.now) rules (fails script.now) (known script.now) old new told)
+Stops known fails (Keys setup secret folder) old new told = new ≡ old
 Stops known fails request old new told = Tells known fails request old new told

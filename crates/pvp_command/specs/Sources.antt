@@ -40,4 +40,6 @@ sources_of (asked.Play show setup script fails) = Some (record { kind = kinds.Pl
 sources_of (asked.Live told setup script) = Some (record { kind = kinds.Live; setup = setup.now; script = Some script.now; journals = [] })
 sources_of (asked.Audit how setup journals) =
     Some (record { kind = kinds.Book; setup = setup.now; script = None; journals = map (λ name. name.now) journals.items })
+sources_of (asked.Keys setup secret folder) = Some (record { kind = kinds.Book; setup = setup.now; script = None; journals = [] })
+sources_of (asked.Serve order) = Some (record { kind = kinds.Live; setup = order.setup.now; script = None; journals = [] })
 sources_of asked.Codes = None

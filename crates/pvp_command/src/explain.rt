@@ -88,7 +88,7 @@ fn file_line(
             format!(in alloc; "setup \"{name}\": {why}\n")?
         }
         (Source::Script, Some(name)) => format!(in alloc; "script \"{name}\": {why}\n")?,
-        (Source::Script, None) => return Ok(None),
+        (Source::Script, None) | (Source::Secret, _) => return Ok(None),
         (Source::Journal(place), _) => match journal_at(sources, place) {
             Some(name) => format!(in alloc; "journal \"{name}\": {why}\n")?,
             None => return Ok(None),

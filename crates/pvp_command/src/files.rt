@@ -92,6 +92,8 @@ pub enum Source {
     Script,
     /// The journal at this place of those that are named, counted from 1.
     Journal(usize),
+    /// The secret of a bank, from which its keys are made.
+    Secret,
 }
 
 /// The most bytes that a file may have.

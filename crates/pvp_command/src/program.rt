@@ -19,6 +19,7 @@ use crate::explain::{Sources, explained};
 use crate::fails::unknown_site;
 use crate::fault::Fault;
 use crate::files::{Files, Source, read_source};
+use crate::keys::put_keys;
 use crate::lives::{live, without_net};
 use crate::output::Audience;
 use crate::request::{Asked, Request, parse};
@@ -51,7 +52,8 @@ const NO_FORM: u8 = 2;
 
 /// Does what the words ask for, and answers the status of the program: 0, or 1 for a fault, or 2
 /// for words of no form, for help and for the version, or 3 where an audit says no. Faults, and why words have
-/// no form, go to `err`, the journals of a live run to `shelf`, all else to `out`. Where the reader of `out` is gone, as that of
+/// no form, go to `err`, the journals of a live run and keys to `shelf`, all else to
+/// `out`. An actor is served by another call: words that ask for that are told as `fault net` here. Where the reader of `out` is gone, as that of
 /// a closed pipe is, nothing is told. At 0 and at 3 the whole text of a request is written, where the bytes of its files are
 /// known; that it is the request which the words ask for is not said here.
 pub fn command_on<R, S: AsStr, F: Files, K: Shelf, O: Write + Audience, E: Write>(
@@ -214,6 +216,14 @@ where
             setup,
             script,
         } => live(rt, alloc, files, shelf, *told, *setup, *script, out, err),
+        Request::Keys {
+            setup,
+            secret,
+            folder,
+        } => {
+            put_keys(alloc, files, shelf, *setup, *secret, *folder)?;
+            Ok(DONE)
+        }
         asked => run(alloc, asked, files, out, err),
     }
 }
@@ -242,6 +252,8 @@ fn run<F: Files, O: Write, E: Write>(
         Request::Live { setup, script, .. } => return without_net(
             alloc, files, *setup, *script, out,
         ),
+        Request::Keys { .. } => return Err(Fault::Output),
+        Request::Serve(_) => return Err(Fault::Net),
         Request::Audit {
             how,
             setup,

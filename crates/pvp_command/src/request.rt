@@ -8,9 +8,11 @@ use crate::audits::Auditing;
 use crate::explain::Sources;
 use crate::fails::read_fails;
 use crate::lives::{Ending, Told};
+use crate::serves::{NO_ORDER, order_at};
 use crate::shows::{Show, show_at};
 use clap::error::ErrorKind;
 use clap::{Arg, ArgAction, ArgMatches, Command, Error};
+use pvp_places::Order;
 use pvp_play::{Fail, Telling};
 use pvp_text::Kind;
 use std::alloc::{AllocError, Global};
@@ -47,6 +49,14 @@ pub enum Request<'a> {
         setup: &'a str,
         journals: Vec<&'a str>,
     },
+    /// Keys files for all actors of a bank, put into a folder.
+    Keys {
+        setup: &'a str,
+        secret: &'a str,
+        folder: &'a str,
+    },
+    /// One actor of a bank, served as a process of its own.
+    Serve(Order<'a>),
     /// What each fault code means.
     Codes,
 }
@@ -60,10 +70,12 @@ impl Request<'_> {
         ensures { option_map names_of result ≡ sources_of self.now }
     {
         let (kind, setup, script) = match self {
-            Request::Check { setup } | Request::Audit { setup, .. } => (Kind::Book, *setup, None),
+            Request::Check { setup } | Request::Audit { setup, .. } | Request::Keys { setup, .. } =>
+                (Kind::Book, *setup, None),
             Request::Book { setup, script } => (Kind::Book, *setup, Some(*script)),
             Request::Play { setup, script, .. } => (Kind::Play, *setup, Some(*script)),
             Request::Live { setup, script, .. } => (Kind::Live, *setup, Some(*script)),
+            Request::Serve(order) => (Kind::Live, order.setup, None),
             Request::Codes => return None,
         };
         Some(Sources {
@@ -130,6 +142,11 @@ fn parse_command<'a>(
         "trace" => parse_trace(alloc, program, words),
         "live" => Ok(parse_live(words)),
         "audit" => parse_audit(alloc, words),
+        "keys" => Ok(parse_keys(words)),
+        "serve" => match order_at(words) {
+            Some(order) => Ok(Some(Request::Serve(order))),
+            None => Err(program.error(ErrorKind::ValueValidation, NO_ORDER)?),
+        },
         _ => Ok(None),
     }
 }
@@ -173,6 +190,15 @@ fn parse_audit<'a>(alloc: Global, words: &ArgMatches<'a>) -> Result<Option<Reque
         setup,
         journals: Vec::from_slice(alloc, names)?,
     }))
+}
+
+/// The keys that the words are.
+fn parse_keys<'a>(words: &ArgMatches<'a>) -> Option<Request<'a>> {
+    Some(Request::Keys {
+        setup: words.get_str("setup")?,
+        secret: words.get_str("secret")?,
+        folder: words.get_str("into").unwrap_or("keys"),
+    })
 }
 
 /// Whether the words ask what the fault codes mean: `help codes` after the program's own name. The reader of the words has
@@ -293,6 +319,46 @@ copied while the bank ran, or of which one lost its end; tells on standard error
 const AUDIT_ABOUT: &str =
     "Judges the journals of all actors of a bank: prints the books and `audit yes` where all that the actors did is one legal run, and else the first test that fails";
 
+const KEYS_ABOUT: &str =
+    "Makes a keys file for each actor of a bank, NAME.keys, by a secret of the bank";
+
+const SECRET_HELP: &str =
+    "A file with the bank's secret, of any bytes; who has it can speak for every actor, so it is kept apart from the bank";
+
+const INTO_HELP: &str = "The folder for the keys files, which is new or empty; else `keys`";
+
+const SERVE_ABOUT: &str =
+    "Serves one actor of a bank as a process of its own: takes what comes from other processes and from the terminal, writes it into its journal, and only then sends what came of it";
+
+const SITE_HELP: &str = "Serves the site of this number";
+
+const NODE_HELP: &str =
+    "Serves the node of this currency: takes `payin MEMBER CCY AMT` and `close MEMBER CCY` at the terminal";
+
+const CLIENT_HELP: &str =
+    "Serves OP or the member of this name: takes commands at the terminal, as they stand behind `do NAME` in a script, and prints the number and the answer of each";
+
+const PEERS_HELP: &str =
+    "Where the sites listen: a line `s0 HOST:PORT` for each, and `bank NAME` for a name of this life of the bank";
+
+const DATA_HELP: &str =
+    "The folder of the actor, in which its journal stands; it is made where it is not there";
+
+const KEYS_HELP: &str =
+    "The keys that the actor shares with others: a line `NAME HEX` for each; then each frame is tagged by one";
+
+const BEAT_HELP: &str = "Milliseconds from beat to beat, 5 to 60000; else 50";
+
+const PATIENCE_HELP: &str =
+    "After how many beats without a word of the primary a site's timer runs out at the least, 2 to 1000; else 6";
+
+const SYNC_HELP: &str =
+    "Has the device keep each batch of the journal before anything of it leaves, so that the actor comes back from a power cut as from a kill";
+
+const STAY_HELP: &str = "Serves on once the terminal has ended, until it is killed";
+
+const TRUST_HELP: &str = "Lets a site listen beyond this machine without keys";
+
 const LIVE_ABOUT: &str =
     "Runs a bank by itself while a script is played, each actor in threads of its own with streams over the loopback of this machine: prints the books and `audit yes` where all that the actors did is one legal run, and else the first test that fails";
 
@@ -308,7 +374,9 @@ fn program<'a>(alloc: Global) -> Result<Command<'a>, AllocError> {
         .subcommand(with_fails(alloc, "play", PLAY_ABOUT)?)?
         .subcommand(with_picture(alloc)?)?
         .subcommand(with_ending(alloc)?)?
-        .subcommand(with_journals(alloc)?)
+        .subcommand(with_journals(alloc)?)?
+        .subcommand(with_secret(alloc)?)?
+        .subcommand(with_order(alloc)?)
 }
 
 /// A command that takes a setup.
@@ -357,6 +425,38 @@ fn with_journals<'a>(alloc: Global) -> Result<Command<'a>, AllocError> {
         .arg(journals(alloc))?
         .arg(flag(alloc, "script-again", AGAIN_HELP).long("script"))?
         .arg(flag(alloc, "cut", CUT_HELP))
+}
+
+/// The making of keys.
+fn with_secret<'a>(alloc: Global) -> Result<Command<'a>, AllocError> {
+    with_setup(alloc, "keys", KEYS_ABOUT)?
+        .arg(file(alloc, "secret", SECRET_HELP))?
+        .arg(value(alloc, "into", "DIR", INTO_HELP))
+}
+
+/// The serving of one actor.
+fn with_order<'a>(alloc: Global) -> Result<Command<'a>, AllocError> {
+    with_setup(alloc, "serve", SERVE_ABOUT)?
+        .arg(value(alloc, "site", "I", SITE_HELP))?
+        .arg(value(alloc, "node", "CCY", NODE_HELP))?
+        .arg(value(alloc, "client", "NAME", CLIENT_HELP))?
+        .arg(value(alloc, "peers", "FILE", PEERS_HELP).required(true))?
+        .arg(value(alloc, "data", "DIR", DATA_HELP).required(true))?
+        .arg(value(alloc, "keys", "FILE", KEYS_HELP))?
+        .arg(value(alloc, "beat", "MS", BEAT_HELP))?
+        .arg(value(alloc, "patience", "N", PATIENCE_HELP))?
+        .arg(flag(alloc, "sync", SYNC_HELP))?
+        .arg(flag(alloc, "stay", STAY_HELP))?
+        .arg(flag(alloc, "trust-network", TRUST_HELP))
+}
+
+/// A word of a command that stands behind a name.
+fn value<'a>(alloc: Global, name: &'a str, word: &'a str, help: &'a str) -> Arg<'a> {
+    Arg::new(alloc, name)
+        .long(name)
+        .value_name(word)
+        .help(help)
+        .action(ArgAction::Set)
 }
 
 /// A file that has to be named.

@@ -11,6 +11,7 @@ use std::alloc::{AllocError, Global};
 use std::fmt;
 use std::fs::{self, OpenOptions};
 use std::io::{self, ErrorKind, Write};
+use std::os::unix::fs::OpenOptionsExt;
 use std::rt::Files;
 
 /// Why a journal was not put where it should stand.
@@ -127,11 +128,15 @@ fn fault_of(fault: io::Error) -> ShelfFault {
     }
 }
 
+/// What a file's owner may do with it, and nobody else: a journal tells the whole business of an actor, and keys speak for it.
+const OWNERS: u32 = 0o600;
+
 /// Writes a file that is not there yet.
 fn write_new<R: Files>(rt: &R, name: &str, bytes: &[u8]) -> io::Result<()> {
     let mut file = OpenOptions::new()
         .write(true)
         .create_new(true)
+        .mode(OWNERS)
         .open(rt, name)?;
     file.write_all(bytes)
 }

@@ -1,26 +1,30 @@
-//! `pvpsim`: runs scripts on a settlement bank and prints its books.
+//! `pvpsim`: runs scripts on a settlement bank and prints its books, and serves actors of a bank.
 #![tactic(auto)]
 
-use pvp_command::{Disk, Piped, command_on, no_words};
+use pvp_command::{Disk, Piped, Served, command_on, no_words, served_by, tell_served};
 use pvp_evidence::DiskShelf;
+use pvp_serve::serve;
 use std::process::ExitCode;
 use std::{env, io};
 
 fn main(rt: HostRuntime) -> ExitCode {
-    let files = Disk { rt: &rt };
-    let status = match words(&rt) {
-        Ok(words) => command_on(
-            &rt,
-            rt.alloc(),
-            words.as_slice(),
-            &files,
-            &mut DiskShelf::new(&rt),
-            &mut Piped::new(rt.stdout()),
-            &mut rt.stderr(),
-        ),
-        Err(refusal) => no_words(refusal.kind(), &mut rt.stderr()),
+    let words = match words(&rt) {
+        Ok(words) => words,
+        Err(refusal) => return ExitCode::from(no_words(refusal.kind(), &mut rt.stderr())),
     };
-    ExitCode::from(status)
+    if let Some(Served { order, explains }) = served_by(rt.alloc(), words.as_slice()) {
+        let told = serve(rt, rt.reader(), &order);
+        return ExitCode::from(tell_served(told, explains, &mut rt.stderr()));
+    }
+    ExitCode::from(command_on(
+        &rt,
+        rt.alloc(),
+        words.as_slice(),
+        &Disk { rt: &rt },
+        &mut DiskShelf::new(&rt),
+        &mut Piped::new(rt.stdout()),
+        &mut rt.stderr(),
+    ))
 }
 
 /// The words of the command line, the program's own name first.

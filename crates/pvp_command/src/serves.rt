@@ -1,0 +1,100 @@
+//! The words that ask for an actor to be served, and what is told where it is served no longer.
+
+ghost use Rattle.std.specs.Prelude.{◌≡◌, IfErr, OnOk};
+
+use crate::request::{Asked, Request, parse};
+use clap::ArgMatches;
+use pvp_codes::meanings::served_meaning;
+use pvp_places::{Order, ServeFault, Who};
+use std::alloc::Global;
+use std::convert::AsStr;
+use std::io::Write;
+
+/// What is to be served, and whether a fault is to be explained.
+#[derive(Clone, Copy, Debug)]
+pub struct Served<'a> {
+    pub order: Order<'a>,
+    pub explains: bool,
+}
+
+/// What the words ask to be served; `None` where they ask for something else, or for nothing.
+pub fn served_by<'a, S: AsStr>(alloc: Global, words: &'a [S]) -> Option<Served<'a>> {
+    match parse(alloc, words) {
+        Ok(
+            Some(
+                Asked {
+                    request: Request::Serve(order),
+                    explains,
+                },
+            ),
+        ) => Some(Served { order, explains }),
+        _ => None,
+    }
+}
+
+/// Tells why an actor is served no longer, and where that is asked for what it means. Answers the status: 0 where its terminal
+/// has ended, and 1 for a fault.
+pub fn tell_served<E: Write>(told: Result<(), ServeFault>, explains: bool, err: &mut E) -> u8
+    ensures ok { OnOk told (result ≡ 0) }
+    ensures err { IfErr told (λ fault. result ≡ 1) }
+{
+    let Err(fault) = told else {
+        return 0;
+    };
+    let _ = write!(err, "{fault}\n");
+    if explains {
+        let _ = write!(err, "serve: {}\n", served_meaning(fault));
+    }
+    1
+}
+
+/// What is told of words that name no actor, or no number where one stands.
+pub const NO_ORDER: &str =
+    "`serve` takes one of `--site I`, `--node CCY` and `--client NAME`; `--beat` a number from 5 to 60000, and `--patience` one from 2 \
+to 1000, without a leading zero";
+
+/// The least and the most milliseconds from beat to beat, and those that are meant where none stand.
+const BEATS: (u32, u32, u32) = (5, 60_000, 50);
+
+/// The same of a site's patience.
+const PATIENCES: (u32, u32, u32) = (2, 1000, 6);
+
+/// What the words ask to be served, and how.
+pub fn order_at<'a>(words: &ArgMatches<'a>) -> Option<Order<'a>> {
+    Some(Order {
+        who: who_at(words)?,
+        setup: words.get_str("setup")?,
+        peers: words.get_str("peers")?,
+        data: words.get_str("data")?,
+        keys: words.get_str("keys"),
+        beat: number_at(words.get_str("beat"), BEATS)?,
+        patience: number_at(words.get_str("patience"), PATIENCES)?,
+        syncs: words.get_flag("sync"),
+        stays: words.get_flag("stay"),
+        trusts_network: words.get_flag("trust-network"),
+    })
+}
+
+/// Who is to be served: one actor.
+fn who_at<'a>(words: &ArgMatches<'a>) -> Option<Who<'a>> {
+    let site = words.get_str("site");
+    let node = words.get_str("node");
+    let client = words.get_str("client");
+    match (site, node, client) {
+        (Some(site), None, None) => Some(Who::Site(site)),
+        (None, Some(code), None) => Some(Who::Node(code)),
+        (None, None, Some(name)) => Some(Who::Client(name)),
+        _ => None,
+    }
+}
+
+/// The number that a word is, from the least to the most; the third where there is no word.
+fn number_at(word: Option<&str>, (least, most, other): (u32, u32, u32)) -> Option<u32> {
+    let Some(word) = word else {
+        return Some(other);
+    };
+    match word.parse::<u32>() {
+        Ok(number) if least <= number && number <= most && !word.starts_with('0') => Some(number),
+        _ => None,
+    }
+}

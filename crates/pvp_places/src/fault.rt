@@ -1,0 +1,111 @@
+//! What is wrong with a file that tells a process of its surroundings.
+
+use std::alloc::{AllocError, AllocFailed};
+use std::fmt;
+
+/// Why a line of a peers file or of a keys file is refused, or which line is missing.
+#[derive(Clone, Copy, Debug, PartialEq, Eq)]
+pub enum PlaceWhy {
+    /// Q1: a line is not two words with one space between them.
+    Form,
+    /// Q2: the bank has no actor of this name that could stand there.
+    Name,
+    /// Q3: an address is not `HOST:PORT`.
+    Address,
+    /// Q4: a key is not 64 digits of 0 to 9 and a to f.
+    Key,
+    /// Q5: a name stands a second time.
+    Twice,
+    /// Q6: a name is missing that has to stand there.
+    Missing,
+}
+
+/// Writes the code as `Q1` to `Q6`.
+impl fmt::Display for PlaceWhy {
+    ghost use Rattle.std.specs.Prelude.{Some};
+    ghost use Rattle.pvp_places.specs.Fault.{place_code};
+
+    ghost output = { λ why. Some (place_code why) };
+
+    fn fmt<W: fmt::Write>(&self, f: &mut fmt::Formatter<W>) -> fmt::Result {
+        f.write_str(match self {
+            PlaceWhy::Form => "Q1",
+            PlaceWhy::Name => "Q2",
+            PlaceWhy::Address => "Q3",
+            PlaceWhy::Key => "Q4",
+            PlaceWhy::Twice => "Q5",
+            PlaceWhy::Missing => "Q6",
+        })
+    }
+}
+
+/// Why such a file was not read.
+#[derive(Clone, Copy, Debug, PartialEq, Eq)]
+pub enum PlaceFault {
+    /// Q1 to Q5: the line of this number, counted from 1, is wrong.
+    Line { line: u32, why: PlaceWhy },
+    /// Q6: no line is this actor's.
+    Missing(u16),
+    NoMemory,
+}
+
+impl From<AllocError> for PlaceFault {
+    ghost use Rattle.std.specs.Prelude.{◌≡◌};
+    ghost use Rattle.pvp_places.specs.declared.fault.PlaceFault.TheVariants.{NoMemory};
+
+    ghost from_gives = { λ _ told. told ≡ NoMemory };
+
+    fn from(_refused: AllocError) -> PlaceFault {
+        PlaceFault::NoMemory
+    }
+}
+
+impl<T: Drop> From<AllocFailed<T>> for PlaceFault {
+    ghost use Rattle.std.specs.Prelude.{◌≡◌};
+    ghost use Rattle.pvp_places.specs.declared.fault.PlaceFault.TheVariants.{NoMemory};
+
+    ghost from_gives = { λ _ told. told ≡ NoMemory };
+
+    fn from(_refused: AllocFailed<T>) -> PlaceFault {
+        PlaceFault::NoMemory
+    }
+}
+
+/// Why an actor or its folder is none that a process can serve.
+#[derive(Clone, Copy, Debug, PartialEq, Eq)]
+pub enum FolderWhy {
+    /// X1: the bank has no such actor.
+    Actor,
+    /// X2: the folder cannot be made, or a file there not be read or written.
+    Failed,
+    /// X3: another process serves the folder.
+    Locked,
+    /// X4: of a node's or a client's journal an end may be lost, and it cannot recover from others.
+    Unsynced,
+    /// X5: the boot cell does not fit the journal.
+    Cell,
+    /// X6: no actor can have taken what the journal tells.
+    History,
+    /// X7: the site would listen beyond this machine without keys.
+    Open,
+}
+
+/// Writes the code as `X1` to `X7`.
+impl fmt::Display for FolderWhy {
+    ghost use Rattle.std.specs.Prelude.{Some};
+    ghost use Rattle.pvp_places.specs.Fault.{folder_code};
+
+    ghost output = { λ why. Some (folder_code why) };
+
+    fn fmt<W: fmt::Write>(&self, f: &mut fmt::Formatter<W>) -> fmt::Result {
+        f.write_str(match self {
+            FolderWhy::Actor => "X1",
+            FolderWhy::Failed => "X2",
+            FolderWhy::Locked => "X3",
+            FolderWhy::Unsynced => "X4",
+            FolderWhy::Cell => "X5",
+            FolderWhy::History => "X6",
+            FolderWhy::Open => "X7",
+        })
+    }
+}

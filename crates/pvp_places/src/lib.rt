@@ -1,0 +1,22 @@
+//! What a process of the bank is told of its surroundings: where the sites listen, by which keys frames are tagged, and
+//! whether the journal in its folder is whole.
+#![tactic(auto)]
+
+pub mod address;
+pub mod fault;
+pub mod keys;
+pub mod mark;
+pub mod names;
+pub mod order;
+pub mod peers;
+pub mod serving;
+pub mod words;
+
+pub use address::Address;
+pub use fault::{FolderWhy, PlaceFault, PlaceWhy};
+pub use keys::{Keys, read_keys, write_keys};
+pub use mark::{Mark, read_mark};
+pub use names::actor_named;
+pub use order::{Order, Who};
+pub use peers::{Peers, Place, read_peers};
+pub use serving::{Paper, ServeFault};

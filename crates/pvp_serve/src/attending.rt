@@ -1,0 +1,38 @@
+//! What a loop does with what comes.
+
+use crate::desk::TerminalDesk;
+use crate::host::Host;
+use crate::inbox::Inbox;
+use crate::serving::Serving;
+use crate::site::SiteDesk;
+use pvp_places::ServeFault;
+use vr_types::BootCell;
+
+/// What decides of each item what becomes of it, by the kind of the actor.
+#[derive(Drop)]
+pub enum Desk {
+    Site(SiteDesk),
+    /// Of a node or a client.
+    Terminal(TerminalDesk),
+}
+
+impl Desk {
+    /// Takes what came. `false` where the process is to end.
+    pub fn take<R: Host, C: BootCell>(
+        &mut self,
+        serving: &mut Serving<R, C>,
+        item: Inbox,
+    ) -> Result<bool, ServeFault> {
+        match self {
+            Desk::Site(desk) => desk.take(serving, item),
+            Desk::Terminal(desk) => desk.take(serving, item),
+        }
+    }
+
+    /// Tells where a site stands, where that is new. Others tell at once, as things come.
+    pub fn tell<R: Host, C: BootCell>(&mut self, serving: &Serving<R, C>) {
+        if let Desk::Site(desk) = self {
+            desk.tell(serving);
+        }
+    }
+}

@@ -1,0 +1,344 @@
+//! A node or a client that is served: what it is asked for at a terminal, and what it answers there.
+
+use crate::host::{Host, Wires};
+use crate::inbox::Inbox;
+use crate::serving::Serving;
+use headline::ClientEvent;
+use pvp_logs::Letter;
+use pvp_parties::{PartyEvent, PartyOf, PartyOutcome};
+use pvp_places::ServeFault;
+use pvp_text::script::{Kind, LineCode, Statement, read_script};
+use pvp_trace::names::push_actor;
+use pvp_types::{Setup, Step};
+use rtgs_node::NodeEvent;
+use std::alloc::{AllocError, Global};
+use std::collections::VecDeque;
+use vr_types::{ActorId, BootCell};
+
+/// At every which tick a client that waits says so.
+const TELLING_TICKS: u32 = 100;
+
+/// A line that was read at the terminal, and its number there, counted from 1.
+#[derive(Drop)]
+struct Asked {
+    number: u32,
+    text: Vec<u8>,
+}
+
+/// What a node's or a client's loop keeps beside the actor itself.
+#[derive(Drop)]
+pub struct TerminalDesk {
+    setup: Setup,
+    lines: VecDeque<Asked>,
+    /// How many lines came.
+    number: u32,
+    /// Whether its answer is awaited, or its beat may say something.
+    waits: bool,
+    ended: bool,
+    stays: bool,
+    ticks: u32,
+}
+
+impl TerminalDesk {
+    /// The desk of an actor that was asked for nothing at this terminal. It says there where a client stands.
+    pub fn new<R: Host, C: BootCell>(setup: Setup, stays: bool, serving: &Serving<R, C>) -> Self {
+        let desk = TerminalDesk {
+            setup,
+            lines: VecDeque::new(serving.alloc),
+            number: 0,
+            waits: is_waiting(serving),
+            ended: false,
+            stays,
+            ticks: 0,
+        };
+        desk.greet(serving);
+        desk
+    }
+
+    /// Says how a client's last request stands.
+    fn greet<R: Host, C: BootCell>(&self, serving: &Serving<R, C>) {
+        let rt = serving.rt;
+        let Some(PartyOf::Client(party)) = serving.actor() else {
+            return;
+        };
+        let client = party.client();
+        let number = client.number();
+        if let Some(reply) = client.answer() {
+            let _told = println!(rt; "last {number} {reply}");
+        } else if number > 0 {
+            let _told = println!(rt; "waits {number}");
+        }
+    }
+
+    /// Whether nothing is left to be done at this terminal.
+    fn is_done<R: Wires, C: BootCell>(&self, serving: &Serving<R, C>) -> bool {
+        let is_open = match serving.actor() {
+            Some(PartyOf::Client(_)) => self.waits,
+            _ => false,
+        };
+        self.ended && !self.stays && !is_open && self.lines.is_empty()
+    }
+
+    /// A client whose answer came tells it, once that is in its journal. A node may have something to say from now on.
+    fn hears<R: Host, C: BootCell>(
+        &mut self,
+        serving: &mut Serving<R, C>,
+    ) -> Result<(), ServeFault> {
+        let rt = serving.rt;
+        let answer = match serving.actor() {
+            Some(PartyOf::Client(party)) => {
+                let client = party.client();
+                match client.answer() {
+                    Some(reply) if self.waits => (client.number(), reply),
+                    _ => return Ok(()),
+                }
+            }
+            _ => {
+                self.waits = true;
+                return Ok(());
+            }
+        };
+        self.waits = false;
+        self.ticks = 0;
+        let _letters = serving.flush()?;
+        let (number, reply) = answer;
+        let _told = println!(rt; "{number} {reply}");
+        Ok(())
+    }
+
+    /// A tick goes by: what may have been lost is said again. An idle actor writes nothing.
+    fn tick<R: Host, C: BootCell>(
+        &mut self,
+        serving: &mut Serving<R, C>,
+    ) -> Result<(), ServeFault> {
+        if !self.waits {
+            return Ok(());
+        }
+        match ActorId::of(serving.me) {
+            ActorId::Node(_) => {
+                serving.take_event(PartyEvent::OfNode(NodeEvent::Beats))?;
+                let letters = serving.flush()?;
+                self.waits = has_sent(letters.as_slice());
+            }
+            _ => {
+                serving.take_event(PartyEvent::OfClient(ClientEvent::Beats))?;
+                self.tell_waiting(serving);
+            }
+        }
+        Ok(())
+    }
+
+    /// Tells now and then that a client waits.
+    fn tell_waiting<R: Host, C: BootCell>(&mut self, serving: &Serving<R, C>) {
+        self.ticks = self.ticks.saturating_add(1);
+        if self.ticks < TELLING_TICKS {
+            return;
+        }
+        self.ticks = 0;
+        let rt = serving.rt;
+        if let Some(PartyOf::Client(party)) = serving.actor() {
+            let number = party.client().number();
+            let _told = eprintln!(rt; "waits {number}");
+        }
+    }
+
+    /// Asks for what is next, one at a time.
+    fn ask<R: Host, C: BootCell>(&mut self, serving: &mut Serving<R, C>) -> Result<(), ServeFault> {
+        for _ in 0..u32::MAX {
+            if self.is_busy(serving) {
+                break;
+            }
+            let Some(asked) = self.lines.pop_front() else {
+                break;
+            };
+            self.ask_one(serving, &asked)?;
+        }
+        Ok(())
+    }
+
+    /// Whether a client waits for an answer.
+    fn is_busy<R: Wires, C: BootCell>(&self, serving: &Serving<R, C>) -> bool {
+        match serving.actor() {
+            Some(PartyOf::Client(_)) => self.waits,
+            _ => false,
+        }
+    }
+
+    /// Does what a line asks for, or tells what is wrong with it.
+    fn ask_one<R: Host, C: BootCell>(
+        &mut self,
+        serving: &mut Serving<R, C>,
+        asked: &Asked,
+    ) -> Result<(), ServeFault> {
+        let rt = serving.rt;
+        match event_of(
+            serving.alloc,
+            &self.setup,
+            serving.me,
+            asked.text.as_slice(),
+        )? {
+            Ok(None) => Ok(()),
+            Ok(Some(event)) => {
+                serving.take_event(event)?;
+                let letters = serving.flush()?;
+                self.waits = true;
+                self.tell_outcome(serving, letters.as_slice());
+                Ok(())
+            }
+            Err(code) => {
+                let number = asked.number;
+                let _told = eprintln!(rt; "fault line {number} {code}");
+                Ok(())
+            }
+        }
+    }
+
+    /// Tells how what was asked for came out at a node, or that a client may not ask for it.
+    fn tell_outcome<R: Host, C: BootCell>(
+        &mut self,
+        serving: &Serving<R, C>,
+        letters: &[Letter<PartyOutcome>],
+    ) {
+        let rt = serving.rt;
+        match letters.last() {
+            Some(
+                Letter {
+                    outcome: PartyOutcome::OfNode(Ok(_)),
+                    ..
+                },
+            ) => {
+                let _told = println!(rt; "done");
+            }
+            Some(
+                Letter {
+                    outcome: PartyOutcome::OfNode(Err(fault)),
+                    ..
+                },
+            ) => {
+                let _told = println!(rt; "refused {fault}");
+            }
+            Some(
+                Letter {
+                    outcome: PartyOutcome::OfClient(Err(_)),
+                    ..
+                },
+            ) => {
+                self.waits = is_waiting(serving);
+                let _told = println!(rt; "refused");
+            }
+            _ => {}
+        }
+    }
+
+    /// Takes what came. `false` where the process is to end.
+    pub fn take<R: Host, C: BootCell>(
+        &mut self,
+        serving: &mut Serving<R, C>,
+        item: Inbox,
+    ) -> Result<bool, ServeFault> {
+        match item {
+            Inbox::Frame(arrival) => {
+                serving.take_frame(arrival)?;
+                self.hears(serving)?;
+            }
+            Inbox::Tick => self.tick(serving)?,
+            Inbox::Came(lane) => serving.meets(lane)?,
+            Inbox::Gone { peer, stream } => {
+                let _stood = serving.loses(peer, stream);
+            }
+            Inbox::Ping(_) => {}
+            Inbox::Line(text) => {
+                self.number = self.number.saturating_add(1);
+                self.lines.push_back(Asked {
+                    number: self.number,
+                    text,
+                })?;
+            }
+            Inbox::End => self.ended = true,
+        }
+        self.ask(serving)?;
+        Ok(!self.is_done(serving))
+    }
+}
+
+/// Whether a client waits for an answer; of a node whether its beat may say something, which is so at the start.
+fn is_waiting<R: Wires, C: BootCell>(serving: &Serving<R, C>) -> bool {
+    match serving.actor() {
+        Some(PartyOf::Client(party)) => {
+            let client = party.client();
+            client.number() > 0 && client.answer().is_none()
+        }
+        _ => true,
+    }
+}
+
+/// Whether the last event sent anything.
+fn has_sent(letters: &[Letter<PartyOutcome>]) -> bool {
+    match letters.last() {
+        Some(
+            Letter {
+                outcome: PartyOutcome::OfNode(Ok(sent)),
+                ..
+            },
+        ) => !sent.is_empty(),
+        _ => true,
+    }
+}
+
+/// What a line asks this actor for; `Ok(None)` for a line that asks for nothing, `Err` with what is wrong with it. A client's
+/// line is what stands behind its name in a script.
+fn event_of(
+    alloc: Global,
+    setup: &Setup,
+    me: u16,
+    line: &[u8],
+) -> Result<Result<Option<PartyEvent>, LineCode>, AllocError> {
+    let text = script_of(alloc, setup, me, line)?;
+    let lines = match read_script(alloc, setup, Kind::Live, text.as_slice()) {
+        Ok(lines) => lines,
+        Err(fault) if fault.code == LineCode::NoMemory => return Err(AllocError),
+        Err(fault) => return Ok(Err(fault.code)),
+    };
+    let Some(first) = lines.first() else {
+        return Ok(Ok(None));
+    };
+    match first.statement {
+        Statement::Do(step) => Ok(
+            asked_of(me, step)
+                .ok_or(LineCode::UnknownWord)
+                .map(|it| Some(it)),
+        ),
+        _ => Ok(Err(LineCode::UnknownWord)),
+    }
+}
+
+/// What a step asks this actor for; `None` where it is another's, or none that is asked for at a terminal.
+fn asked_of(me: u16, step: Step) -> Option<PartyEvent> {
+    match (ActorId::of(me), step) {
+        (ActorId::Client(_), Step::Submit { client, cmd }) if client == me => {
+            Some(PartyEvent::OfClient(ClientEvent::Submits(cmd)))
+        }
+        (ActorId::Node(own), Step::PayIn { ccy, member, amt }) if u16::from(ccy) == own => {
+            Some(PartyEvent::OfNode(NodeEvent::PaysIn { member, amt }))
+        }
+        (ActorId::Node(own), Step::Close { ccy, member }) if u16::from(ccy) == own => {
+            Some(PartyEvent::OfNode(NodeEvent::Closes(member)))
+        }
+        _ => None,
+    }
+}
+
+/// The line of a script that a line at a terminal stands for.
+fn script_of(alloc: Global, setup: &Setup, me: u16, line: &[u8]) -> Result<Vec<u8>, AllocError> {
+    let mut text = Vec::new(alloc);
+    let says_nothing = line.is_empty() || line[0] == b'#';
+    if let (ActorId::Client(_), false) = (ActorId::of(me), says_nothing) {
+        let mut name = String::new(alloc);
+        push_actor(&mut name, setup, me)?;
+        text.extend_from_slice(b"do ")?;
+        text.extend_from_slice(name.as_str().as_bytes())?;
+        text.extend_from_slice(b" ")?;
+    }
+    text.extend_from_slice(line)?;
+    Ok(text)
+}

@@ -1,0 +1,118 @@
+//! Streams that an actor opens: to each site that listens for it.
+
+use crate::host::Wires;
+use crate::inbox::Inbox;
+use crate::streams::{announce, read_all, write_all};
+use crossbeam_channel::Sender;
+use pvp_intake::{Intake, Link, put_hello};
+use pvp_places::Address;
+use std::io::{self, ErrorKind, Write};
+use std::net::{IpAddr, Ipv4Addr, SocketAddr, TcpStream};
+use std::thread;
+use std::time::Duration;
+
+/// How long a connection is waited for.
+const CONNECT_SECONDS: u64 = 1;
+
+/// How long a write may wait for room before its stream is given up.
+const WRITE_SECONDS: u64 = 10;
+
+/// The pauses between two tries, in milliseconds: they grow.
+const FIRST_PAUSE: u64 = 20;
+
+const LAST_PAUSE: u64 = 200;
+
+/// How many addresses of a host are looked at.
+const MOST_ADDRESSES: usize = 4;
+
+/// Whom a thread dials, and over which link.
+#[derive(Drop)]
+pub struct Dialed {
+    pub address: Address,
+    pub link: Link,
+}
+
+/// Connects to a site, again and again, and writes what is for it while the stream stands. It ends with the process.
+pub fn dial<R: Wires>(rt: R, dialed: Dialed, inbox: Sender<Inbox>) {
+    let mut pause = FIRST_PAUSE;
+    let mut number = 0u64;
+    for _ in rt.forever() {
+        number = number.saturating_add(1);
+        match connect(rt, &dialed.address) {
+            Err(_) => {
+                thread::sleep(&rt, Duration::from_millis(pause));
+                pause = pause.saturating_mul(2).min(LAST_PAUSE);
+            }
+            Ok(stream) => {
+                pause = FIRST_PAUSE;
+                let _ended = hold(rt, stream, number, &dialed.link, &inbox);
+                thread::sleep(&rt, Duration::from_millis(FIRST_PAUSE));
+            }
+        }
+    }
+}
+
+/// A stream to an address of a host, the first that answers.
+fn connect<R: Wires>(rt: R, address: &Address) -> io::Result<TcpStream> {
+    let mut found = [SocketAddr::new(IpAddr::V4(Ipv4Addr::LOCALHOST), 0); MOST_ADDRESSES];
+    let count = addresses_of(rt, address, &mut found)?;
+    for at in 0..MOST_ADDRESSES {
+        if at >= count {
+            break;
+        }
+        let wait = Duration::from_secs(CONNECT_SECONDS);
+        if let Ok(stream) = TcpStream::connect_timeout(&rt, &found[at], wait) {
+            stream.set_nodelay(true)?;
+            stream.set_write_timeout(Some(Duration::from_secs(WRITE_SECONDS)))?;
+            return Ok(stream);
+        }
+    }
+    Err(io::Error::from(ErrorKind::NotConnected))
+}
+
+/// The addresses of a host: the one that it is, or those that the system knows by its name.
+pub fn addresses_of<R: Wires>(
+    rt: R,
+    address: &Address,
+    found: &mut [SocketAddr],
+) -> io::Result<usize> {
+    let host = address.host.as_str();
+    if let Ok(ip) = IpAddr::parse_ascii(host.as_bytes()) {
+        if let Some(first) = found.first_mut() {
+            *first = SocketAddr::new(ip, address.port);
+            return Ok(1);
+        }
+    }
+    rt.lookup_host(host, address.port, found)
+}
+
+/// Says who speaks, has the loop know of the stream, and serves it to its end.
+fn hold<R: Wires>(
+    rt: R,
+    stream: TcpStream,
+    number: u64,
+    link: &Link,
+    inbox: &Sender<Inbox>,
+) -> io::Result<()> {
+    let alloc = rt.alloc();
+    let mut stream = stream;
+    let mut hello = Vec::new(alloc);
+    put_hello(link, &mut hello)?;
+    stream.write_all(hello.as_slice())?;
+    let theirs = stream.try_clone()?;
+    let Ok(told) = inbox.clone() else {
+        return Err(io::Error::from(ErrorKind::OutOfMemory));
+    };
+    let Some(outgoing) = announce(rt, inbox, link.peer(), number) else {
+        return Err(io::Error::from(ErrorKind::OutOfMemory));
+    };
+    let read = *link;
+    let reader = thread::spawn(&rt, move || {
+        read_all(rt, theirs, number, read, Intake::new(alloc), told)
+    });
+    if reader.is_err() {
+        return Err(io::Error::from(ErrorKind::OutOfMemory));
+    }
+    write_all(rt, stream, *link, outgoing);
+    Ok(())
+}

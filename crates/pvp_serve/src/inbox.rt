@@ -1,0 +1,23 @@
+//! What comes to the loop of a process.
+
+use crate::lanes::Lane;
+use pvp_intake::Arrival;
+
+/// What the loop takes, one after another.
+#[derive(Drop)]
+pub enum Inbox {
+    /// An envelope that came over a link.
+    Frame(Arrival),
+    /// This actor serves its view.
+    Ping(u16),
+    /// A stream between this actor and another stands, and frames can be sent over it.
+    Came(Lane),
+    /// The stream of this number, of this actor, has ended.
+    Gone { peer: u16, stream: u64 },
+    /// A beat of the clock.
+    Tick,
+    /// A line of the terminal.
+    Line(Vec<u8>),
+    /// The terminal has ended.
+    End,
+}

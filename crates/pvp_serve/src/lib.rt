@@ -1,0 +1,22 @@
+//! One actor of the bank as a process of its own: a loop owns it, takes what comes over streams, from a clock and from the
+//! terminal, writes that into its journal, and only then sends what came of it.
+#![tactic(auto)]
+
+pub mod attending;
+pub mod desk;
+pub mod dialing;
+pub mod folder;
+pub mod host;
+pub mod inbox;
+pub mod lanes;
+pub mod listening;
+pub mod opening;
+pub mod patience;
+pub mod process;
+pub mod serving;
+pub mod site;
+pub mod streams;
+pub mod ticking;
+
+pub use host::Host;
+pub use process::serve;

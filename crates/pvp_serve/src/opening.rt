@@ -1,0 +1,408 @@
+//! What is done before an actor is served: from its folder to its room.
+ghost use Rattle.std.specs.Prelude.{◌≡◌, None, Some, IfOk};
+ghost use Rattle.pvp_types.specs.Setup.{IsValid};
+ghost use Rattle.pvp_journal.specs.Journals.{IsRead};
+ghost use Rattle.pvp_journal.specs.declared.journal.Left.TheVariants.{Nothing};
+ghost use Rattle.pvp_logs.specs.Resumed.{IsAgain};
+
+use crate::folder::{is_whole, open_journal, put_in, put_mark, read_in};
+use crate::host::Host;
+use pvp_cell::{DirStore, FileCell, OpenFault, read_cell};
+use pvp_evidence::{EvidenceWhy, ShelfFault};
+use pvp_journal::{Entry, Head, Journal, JournalWhy, Left, read_journal, write_head};
+use pvp_logs::{
+    FileLog, JournalRoom, Log, LogFault, Replayed, RestartFault, WayBack, come_back, replay,
+    restart, way_back,
+};
+use pvp_parties::{Party, PartyOf};
+use pvp_places::{FolderWhy, ServeFault};
+use pvp_rooms::Actor;
+use pvp_types::Setup;
+use std::alloc::Global;
+use std::fs::File;
+use vr_types::{ActorId, Boot, BootCell, MemCell};
+
+/// The boot cell of a site that is served.
+pub type SiteCell<R> = FileCell<DirStore<R>>;
+
+/// The room of an actor that is served.
+pub type Room<C> = JournalRoom<PartyOf<C>, FileLog<File>>;
+
+/// Whom a room is opened for, and where.
+#[derive(Drop)]
+pub struct Place<'a> {
+    pub setup: &'a Setup,
+    pub bank: [u8; 32],
+    pub me: u16,
+    pub folder: &'a str,
+    pub syncs: bool,
+    ghost valid: { IsValid setup.now },
+}
+
+impl<'a> Place<'a> {
+    /// The place of an actor of a bank, whose folder this is.
+    pub fn new(setup: &'a Setup, bank: [u8; 32], me: u16, folder: &'a str, syncs: bool) -> Self
+        requires { IsValid setup.now }
+    {
+        Place {
+            setup,
+            bank,
+            me,
+            folder,
+            syncs,
+        }
+    }
+}
+
+/// The room of a site: as its journal left it, or by a crash and a restart where that may not be whole; a new one where
+/// the site was never there.
+pub fn open_site<R: Host>(
+    rt: R,
+    place: &Place<'_>,
+    site: u16,
+) -> Result<Room<SiteCell<R>>, ServeFault> {
+    let store = DirStore::new(rt, rt.alloc(), place.folder)?;
+    match read_in(rt, place.folder, "journal")? {
+        None => open_new(rt, place, site, store),
+        Some(bytes) => open_again(rt, place, bytes, store),
+    }
+}
+
+/// The room of a node or of a client, as its journal left it; a new one where there is none.
+pub fn open_other<R: Host>(rt: R, place: &Place<'_>) -> Result<Room<MemCell>, ServeFault> {
+    match read_in(rt, place.folder, "journal")? {
+        None => {
+            let (log, sum) = begin(rt, place, None)?;
+            new_other(rt.alloc(), place, log, sum)
+        }
+        Some(bytes) => open_same(rt, place, bytes),
+    }
+}
+
+/// Writes what a room took as it was opened, and only then marks its folder for what is written from now on. What it sent is
+/// lost, as no stream stands yet.
+pub fn settle<R: Host, C: BootCell>(
+    rt: R,
+    place: &Place<'_>,
+    room: Room<C>,
+) -> Result<Room<C>, ServeFault> {
+    match room.flush(rt.alloc(), place.syncs) {
+        Ok((room, _letters)) => marked(rt, place, room),
+        Err(fault) => Err(log_fault(fault)),
+    }
+}
+
+fn marked<R: Host, C: BootCell>(
+    rt: R,
+    place: &Place<'_>,
+    room: Room<C>,
+) -> Result<Room<C>, ServeFault> {
+    match put_mark(rt, place.folder, place.syncs) {
+        Ok(()) => Ok(room),
+        Err(fault) => Err(fault),
+    }
+}
+
+/// Why a journal cannot be written on.
+pub fn log_fault(fault: LogFault) -> ServeFault {
+    ServeFault::Log(match fault {
+        LogFault::Full => ShelfFault::Full,
+        LogFault::Failed => ShelfFault::Failed,
+    })
+}
+
+/// Why a site does not come back.
+fn fault_of(fault: RestartFault) -> ServeFault {
+    match fault {
+        RestartFault::Misfit => ServeFault::Folder(FolderWhy::Cell),
+        RestartFault::ClockSpent => ServeFault::Clock,
+        RestartFault::Unwritten(fault) => fault.into(),
+    }
+}
+
+/// The room of a site that has no journal. One that has a cell was there before.
+fn open_new<R: Host>(
+    rt: R,
+    place: &Place<'_>,
+    site: u16,
+    store: DirStore<R>,
+) -> Result<Room<SiteCell<R>>, ServeFault> {
+    let mut store = store;
+    match read_cell(rt.alloc(), &mut store) {
+        Err(OpenFault::Lost) => open_first(rt, place, site, store),
+        _ => open_forgetful(rt, place, site, store),
+    }
+}
+
+/// The room of a site that was never there. Its cell is made before its journal.
+fn open_first<R: Host>(
+    rt: R,
+    place: &Place<'_>,
+    site: u16,
+    store: DirStore<R>,
+) -> Result<Room<SiteCell<R>>, ServeFault> {
+    let alloc = rt.alloc();
+    let cell = FileCell::create(alloc, store)?;
+    let (log, sum) = begin(rt, place, Some(cell.load()))?;
+    new_site(alloc, place, site, cell, log, sum)
+}
+
+/// The room of a site that has a cell and no journal: it has forgotten what it told, and restarts.
+fn open_forgetful<R: Host>(
+    rt: R,
+    place: &Place<'_>,
+    site: u16,
+    store: DirStore<R>,
+) -> Result<Room<SiteCell<R>>, ServeFault> {
+    let alloc = rt.alloc();
+    let cell = FileCell::open(alloc, store)?;
+    let boot = cell.load();
+    let (log, sum) = begin(rt, place, Some(boot))?;
+    let room = new_site(alloc, place, site, MemCell::of(boot), log, sum)?;
+    restart(alloc, room, cell, WayBack::Restarts).map_err(fault_of)
+}
+
+/// The room of a site that took its journal again, over its own cell.
+fn open_again<R: Host>(
+    rt: R,
+    place: &Place<'_>,
+    bytes: Vec<u8>,
+    store: DirStore<R>,
+) -> Result<Room<SiteCell<R>>, ServeFault> {
+    let alloc = rt.alloc();
+    let bytes = untorn(alloc, bytes)?;
+    let cell = FileCell::open(alloc, store)?;
+    let is_whole = is_whole(rt, place.folder)?;
+    let room = again(rt, place, bytes.as_slice())?;
+    back(alloc, is_whole, room, cell)
+}
+
+/// The room of a node or a client that took its journal again, which has to be whole.
+fn open_same<R: Host>(
+    rt: R,
+    place: &Place<'_>,
+    bytes: Vec<u8>,
+) -> Result<Room<MemCell>, ServeFault> {
+    let bytes = untorn(rt.alloc(), bytes)?;
+    let room = again(rt, place, bytes.as_slice())?;
+    match is_whole(rt, place.folder) {
+        Ok(true) => Ok(room),
+        Ok(false) => Err(ServeFault::Folder(FolderWhy::Unsynced)),
+        Err(fault) => Err(fault),
+    }
+}
+
+/// The way back of a site over its own cell.
+fn back<C: BootCell>(
+    alloc: Global,
+    is_whole: bool,
+    room: Room<MemCell>,
+    cell: C,
+) -> Result<Room<C>, ServeFault> {
+    let held = cell.load();
+    let known = room.actor().held().unwrap_or(held);
+    match way_back(known, held, is_whole) {
+        Some(way) => restart(alloc, room, cell, way).map_err(fault_of),
+        None => Err(ServeFault::Folder(FolderWhy::Cell)),
+    }
+}
+
+/// The room of a site that opens over a cell, at a new journal.
+fn new_site<C: BootCell>(
+    alloc: Global,
+    place: &Place<'_>,
+    site: u16,
+    cell: C,
+    log: FileLog<File>,
+    sum: u64,
+) -> Result<Room<C>, ServeFault> {
+    if site > 2 * place.setup.faults() {
+        return Err(ServeFault::Folder(FolderWhy::Actor));
+    }
+    let opening = Some(cell.load());
+    let party = PartyOf::site(alloc, place.setup, site, cell)?;
+    Ok(JournalRoom::new(alloc, place.me, opening, party, log, sum))
+}
+
+/// The room of a node or a client, at a new journal.
+fn new_other(
+    alloc: Global,
+    place: &Place<'_>,
+    log: FileLog<File>,
+    sum: u64,
+) -> Result<Room<MemCell>, ServeFault> {
+    match ActorId::of(place.me) {
+        ActorId::Node(ccy) if ccy < u16::from(place.setup.currency_count()) => {
+            let party = PartyOf::node(alloc, place.setup, ccy as u8)?;
+            Ok(JournalRoom::new(alloc, place.me, None, party, log, sum))
+        }
+        ActorId::Client(client) if client <= place.setup.member_count() => {
+            let party = PartyOf::client(place.setup, client)?;
+            Ok(JournalRoom::new(alloc, place.me, None, party, log, sum))
+        }
+        _ => Err(ServeFault::Folder(FolderWhy::Actor)),
+    }
+}
+
+/// Begins a journal of an actor that opens over this, and answers its log and its checksum.
+fn begin<R: Host>(
+    rt: R,
+    place: &Place<'_>,
+    opening: Option<Boot>,
+) -> Result<(FileLog<File>, u64), ServeFault> {
+    let alloc = rt.alloc();
+    let head = Head {
+        actor: place.me,
+        opening,
+        bank: place.bank,
+    };
+    let mut bytes = Vec::new(alloc);
+    let sum = write_head(alloc, &head, &mut bytes)?;
+    put_in(rt, place.folder, "journal", bytes.as_slice())?;
+    let file = open_journal(rt, place.folder, bytes.len())?;
+    Ok((FileLog::new(file), sum))
+}
+
+/// The bytes of a journal without the record that was cut off at their end.
+fn untorn(alloc: Global, bytes: Vec<u8>) -> Result<Vec<u8>, ServeFault> {
+    let mut bytes = bytes;
+    if let Left::Torn(at) = read_journal(alloc, bytes.as_slice())?.left {
+        bytes.truncate(at);
+    }
+    Ok(bytes)
+}
+
+/// What is wrong with the head of a journal in this place.
+fn wrong_in(place: &Place<'_>, head: &Head) -> Option<EvidenceWhy> {
+    if head.bank[..16] != place.bank[..16] {
+        return Some(EvidenceWhy::Setup);
+    }
+    if head.bank != place.bank {
+        return Some(EvidenceWhy::Life);
+    }
+    if head.actor != place.me {
+        return Some(EvidenceWhy::Stranger);
+    }
+    None
+}
+
+/// The room of an actor that took the journal of these bytes again in memory.
+fn again<R: Host>(rt: R, place: &Place<'_>, bytes: &[u8]) -> Result<Room<MemCell>, ServeFault> {
+    let journal = read_journal(rt.alloc(), bytes)?;
+    if let Some(why) = wrong_in(place, &journal.head) {
+        return Err(ServeFault::Other(why));
+    }
+    match journal.left {
+        Left::Nothing => again_at(rt, place, bytes, &journal),
+        Left::Torn(at) => Err(ServeFault::Journal {
+            why: JournalWhy::Length,
+            at,
+        }),
+    }
+}
+
+/// The same of a journal that was read from these bytes to their end.
+fn again_at<R: Host>(
+    rt: R,
+    place: &Place<'_>,
+    bytes: &[u8],
+    journal: &Journal,
+) -> Result<Room<MemCell>, ServeFault>
+    requires read { IsRead bytes.now journal.now }
+    requires whole { journal.now.left ≡ Nothing }
+{
+    let file = open_journal(rt, place.folder, bytes.len())?;
+    let again = again_of(rt.alloc(), place, journal)?;
+    Ok(come_back(rt.alloc(), bytes, journal, again, FileLog::new(file)))
+}
+
+/// The actor of a place after the history of its journal.
+fn again_of(
+    alloc: Global,
+    place: &Place<'_>,
+    journal: &Journal,
+) -> Result<Replayed<Party>, ServeFault>
+    ensures { IfOk result (λ again. IsAgain ⟦<Party as Actor>⟧ journal.now.head.opening again
+        journal.now.history.items) }
+{
+    let history = journal.history.as_slice();
+    match journal.head.opening {
+        Some(boot) => site_again(alloc, place, boot, history),
+        None => other_again(alloc, place, history),
+    }
+}
+
+/// The node or the client of a place after a history.
+fn other_again(
+    alloc: Global,
+    place: &Place<'_>,
+    history: &[Entry],
+) -> Result<Replayed<Party>, ServeFault>
+    ensures { IfOk result (λ again. IsAgain ⟦<Party as Actor>⟧ None again history.now) }
+{
+    match ActorId::of(place.me) {
+        ActorId::Node(ccy) => node_again(alloc, place, ccy, history),
+        ActorId::Client(client) => client_again(alloc, place, client, history),
+        ActorId::Site(_) => Err(ServeFault::Other(EvidenceWhy::Stranger)),
+    }
+}
+
+/// The site of a place after a history.
+fn site_again(
+    alloc: Global,
+    place: &Place<'_>,
+    boot: Boot,
+    history: &[Entry],
+) -> Result<Replayed<Party>, ServeFault>
+    ensures { IfOk result (λ again. IsAgain ⟦<Party as Actor>⟧ (Some boot) again history.now) }
+{
+    let ActorId::Site(site) = ActorId::of(place.me) else {
+        return Err(ServeFault::Other(EvidenceWhy::Stranger));
+    };
+    if site > 2 * place.setup.faults() {
+        return Err(ServeFault::Folder(FolderWhy::Actor));
+    }
+    let party = Party::site(alloc, place.setup, site, MemCell::of(boot))?;
+    match replay(alloc, party, history)? {
+        Some(again) => Ok(again),
+        None => Err(ServeFault::Folder(FolderWhy::History)),
+    }
+}
+
+/// The node of a currency after a history.
+fn node_again(
+    alloc: Global,
+    place: &Place<'_>,
+    ccy: u16,
+    history: &[Entry],
+) -> Result<Replayed<Party>, ServeFault>
+    ensures { IfOk result (λ again. IsAgain ⟦<Party as Actor>⟧ None again history.now) }
+{
+    if ccy >= u16::from(place.setup.currency_count()) {
+        return Err(ServeFault::Folder(FolderWhy::Actor));
+    }
+    let party = Party::node(alloc, place.setup, ccy as u8)?;
+    match replay(alloc, party, history)? {
+        Some(again) => Ok(again),
+        None => Err(ServeFault::Folder(FolderWhy::History)),
+    }
+}
+
+/// The operator or a member after a history.
+fn client_again(
+    alloc: Global,
+    place: &Place<'_>,
+    client: u16,
+    history: &[Entry],
+) -> Result<Replayed<Party>, ServeFault>
+    ensures { IfOk result (λ again. IsAgain ⟦<Party as Actor>⟧ None again history.now) }
+{
+    if client > place.setup.member_count() {
+        return Err(ServeFault::Folder(FolderWhy::Actor));
+    }
+    let party = Party::client(place.setup, client)?;
+    match replay(alloc, party, history)? {
+        Some(again) => Ok(again),
+        None => Err(ServeFault::Folder(FolderWhy::History)),
+    }
+}

@@ -1,0 +1,166 @@
+//! When a site beats, and when its timer runs out.
+ghost use Rattle.std.specs.Prelude.{◌≡◌, ◌+◌, ◌/◌, ◌≤◌, ◌⊎◌, ◌↔◌, false, IsTrue};
+ghost use Rattle.vr_types.specs.declared.event.Status.TheVariants as status;
+ghost use Rattle.pvp_serve.specs.Patience.{IsOut, Waits};
+
+use vr_types::Status;
+
+/// For how many beats after its last change a primary says where it stands.
+const BEATS_AFTER: u32 = 6;
+
+/// At which of its ticks a recovering site asks again: each answer may be a whole log.
+const RECOVERING_TICKS: u32 = 8;
+
+/// How many ticks a primary whose stream has ended is given to be heard over another.
+const TICKS_LEFT: u32 = 2;
+
+/// What a site looks like at a tick.
+#[derive(Clone, Copy, Debug)]
+pub struct Look {
+    pub status: Status,
+    /// Whether it is the primary of its view.
+    pub is_primary: bool,
+    /// How many rows it has executed.
+    pub done: usize,
+    /// Whether rows wait for their acknowledgements, or orders for their nodes.
+    pub owes: bool,
+}
+
+/// What a site does at a tick.
+#[derive(Clone, Copy, Debug, PartialEq, Eq)]
+pub enum Due {
+    Nothing,
+    /// It comes up again.
+    Restart,
+    Beat,
+    /// It says that it serves its view, which is no event.
+    Ping,
+    /// It has not heard of its primary for too long.
+    Timer,
+}
+
+/// What a site knows of time.
+#[derive(Debug, Drop)]
+pub struct Patience {
+    /// How many ticks it waits at the least.
+    least: u32,
+    /// How many ticks it waits this time.
+    limit: u32,
+    /// How many went by since its primary was heard of.
+    quiet: u32,
+    /// How many went by in all, up to the greatest number.
+    ticks: u32,
+    /// How many rows were executed at the last beat, and how many ticks since then had nothing new.
+    done: usize,
+    same: u32,
+}
+
+impl Patience {
+    /// That of a site that waits so many ticks at the least.
+    pub fn new(least: u32) -> Self {
+        Patience {
+            least,
+            limit: least,
+            quiet: 0,
+            ticks: 0,
+            done: 0,
+            same: 0,
+        }
+    }
+
+    /// The primary of its view serves it.
+    pub fn hears(&mut self)
+        ensures { self.new ≡ record self.old { quiet = 0 } }
+    {
+        self.quiet = 0;
+    }
+
+    /// A stream to another actor stands: what was said before did not go over it, so it is said again at the next tick.
+    pub fn meets(&mut self) {
+        self.same = 0;
+        self.ticks = RECOVERING_TICKS - 1;
+    }
+
+    /// The stream of the primary has ended: it is given a little longer.
+    pub fn misses(&mut self)
+        ensures quiet { self.old.quiet ≤ self.new.quiet }
+        ensures left { self.new.limit ≤ self.new.quiet + 2 }
+        ensures limit { self.new.limit ≡ self.old.limit }
+    {
+        self.quiet = self.quiet.max(self.limit.saturating_sub(TICKS_LEFT));
+    }
+
+    /// How long it waits the next time, by a number drawn from 0 to 255.
+    pub fn draws(&mut self, drawn: u8)
+        ensures least { self.new.least ≡ self.old.least }
+        ensures long { self.new.least ≤ self.new.limit }
+        ensures short { self.new.limit ≤ self.new.least + self.new.least / 2 + 1 }
+        ensures quiet { self.new.quiet ≡ self.old.quiet }
+    {
+        let more = u64::from(self.least / 2 + 1) * u64::from(drawn) / 256;
+        self.limit = self.least.saturating_add(more as u32);
+    }
+
+    /// A tick goes by at a site that looks so.
+    pub fn tick(&mut self, look: Look) -> Due
+        ensures down { look.status ≡ status.Down → result ≡ Due.Restart }
+        ensures primary { look.status ≡ status.Normal → IsTrue look.is_primary →
+            (result ≡ Due.Beat) ⊎ (result ≡ Due.Ping) }
+        ensures owes { look.status ≡ status.Normal → IsTrue look.is_primary → IsTrue look.owes →
+            result ≡ Due.Beat }
+        ensures timer { result ≡ Due.Timer → Waits look × IsOut self.old × (self.new.quiet ≡ 0) }
+        ensures due { Waits look → IsOut self.old → result ≡ Due.Timer }
+        ensures limit { self.new.limit ≡ self.old.limit }
+    {
+        let is_out = self.is_out();
+        self.ticks = self.ticks.wrapping_add(1);
+        self.quiet = self.quiet.saturating_add(1);
+        match look.status {
+            Status::Down => Due::Restart,
+            Status::Normal if look.is_primary => self.primary(look),
+            Status::Normal => self.waits(is_out, Due::Nothing),
+            Status::Change => self.waits(is_out, Due::Beat),
+            Status::Recovering if self.ticks % RECOVERING_TICKS == 0 => Due::Beat,
+            Status::Recovering => Due::Nothing,
+        }
+    }
+
+    /// Whether it has heard nothing for as long as it waits, with the tick that comes.
+    fn is_out(&self) -> bool
+        ensures { IsTrue result ↔ IsOut self.now }
+    {
+        self.limit == 0 || self.limit - 1 <= self.quiet
+    }
+
+    /// Its timer, where it has waited long enough, and else this.
+    fn waits(&mut self, is_out: bool, due: Due) -> Due
+        ensures out { IsTrue is_out →
+            (result ≡ Due.Timer) × (self.new ≡ record self.old { quiet = 0 }) }
+        ensures in_time { is_out ≡ false → (result ≡ due) × (self.new ≡ self.old) }
+    {
+        if !is_out {
+            return due;
+        }
+        self.quiet = 0;
+        Due::Timer
+    }
+
+    /// A beat where it may have something to say, and else a ping.
+    fn primary(&mut self, look: Look) -> Due
+        ensures beats { (result ≡ Due.Beat) ⊎ (result ≡ Due.Ping) }
+        ensures owes { IsTrue look.owes → result ≡ Due.Beat }
+        ensures limit { self.new.limit ≡ self.old.limit }
+    {
+        if look.owes || look.done != self.done {
+            self.done = look.done;
+            self.same = 0;
+        } else {
+            self.same = self.same.saturating_add(1);
+        }
+        if self.same < BEATS_AFTER {
+            Due::Beat
+        } else {
+            Due::Ping
+        }
+    }
+}

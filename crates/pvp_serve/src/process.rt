@@ -1,0 +1,416 @@
+//! A process of the bank, from its words to its end.
+ghost use Rattle.pvp_types.specs.Setup.{IsValid};
+
+use crate::attending::Desk;
+use crate::desk::TerminalDesk;
+use crate::dialing::{Dialed, addresses_of, dial};
+use crate::folder::{read_paper, take_folder};
+use crate::host::{Host, Wires};
+use crate::inbox::Inbox;
+use crate::listening::{Door, accept_all};
+use crate::opening::{Place, SiteCell, open_other, open_site, settle};
+use crate::serving::Serving;
+use crate::site::SiteDesk;
+use crate::ticking::{read_lines, tick};
+use crossbeam_channel::{Receiver, Sender, bounded};
+use pvp_evidence::bank_of;
+use pvp_intake::Link;
+use pvp_places::names::site_named;
+use pvp_places::{
+    Address, FolderWhy, Keys, Order, Paper, Peers, ServeFault, Who, read_keys, read_peers,
+};
+use pvp_tags::hmac;
+use pvp_text::read_setup;
+use pvp_types::Setup;
+use std::alloc::Global;
+use std::io::BufRead;
+use std::net::{IpAddr, Ipv4Addr, SocketAddr, TcpListener};
+use std::sync::Arc;
+use std::sync::atomic::AtomicU64;
+use std::thread;
+use vr_types::{ActorId, BootCell, MemCell};
+
+/// How many items may wait for the loop before who brings more has to wait.
+const MOST_ITEMS: usize = 1024;
+
+/// How many items go into one batch.
+const BATCH: u32 = 512;
+
+/// What a process was told of its bank.
+#[derive(Drop)]
+struct Bank {
+    setup: Setup,
+    id: [u8; 32],
+    peers: Peers,
+    ghost valid: { IsValid setup },
+}
+
+/// Serves one actor of a bank until its terminal ends, or a fault.
+pub fn serve<R: Host, L: BufRead + Drop + Send + 'static>(
+    rt: R,
+    terminal: L,
+    order: &Order<'_>,
+) -> Result<(), ServeFault> {
+    let text = read_paper(rt, Paper::Setup, order.setup)?;
+    let bank = bank_at(rt, order, text.as_slice())?;
+    serve_bank(rt, terminal, order, &bank)
+}
+
+/// What the bank of a setup with this text is.
+fn bank_at<R: Host>(rt: R, order: &Order<'_>, text: &[u8]) -> Result<Bank, ServeFault> {
+    let setup = read_setup(rt.alloc(), text)?;
+    let peers = peers_of(rt, &setup, order.peers)?;
+    let id = bank_of(text, life_of(peers.life.as_slice()));
+    Ok(Bank { setup, id, peers })
+}
+
+/// Serves one actor of a bank.
+fn serve_bank<R: Host, L: BufRead + Drop + Send + 'static>(
+    rt: R,
+    terminal: L,
+    order: &Order<'_>,
+    bank: &Bank,
+) -> Result<(), ServeFault> {
+    let me = actor_of(&bank.setup, order.who)?;
+    let keys = keys_of(rt, &bank.setup, order.keys)?;
+    let _lock = take_folder(rt, order.data)?;
+    match ActorId::of(me) {
+        ActorId::Site(site) => serve_site(rt, terminal, order, bank, keys, me, site),
+        _ => serve_other(rt, terminal, order, bank, keys, me),
+    }
+}
+
+/// The actor that is to be served.
+fn actor_of(setup: &Setup, who: Who<'_>) -> Result<u16, ServeFault> {
+    let found = match who {
+        Who::Site(word) => site_at(setup, word.as_bytes()),
+        Who::Node(code) => setup
+            .currency(code.as_bytes())
+            .map(|ccy| ActorId::Node(u16::from(ccy)).number()),
+        Who::Client(name) => client_at(setup, name.as_bytes()),
+    };
+    match found {
+        Some(actor) => Ok(actor),
+        None => Err(ServeFault::Folder(FolderWhy::Actor)),
+    }
+}
+
+/// The site of this place, with or without an `s` before it.
+fn site_at(setup: &Setup, word: &[u8]) -> Option<u16> {
+    let site = match word {
+        [digit] => site_named(setup, &[b's', *digit])?,
+        _ => site_named(setup, word)?,
+    };
+    Some(ActorId::Site(site).number())
+}
+
+/// The operator, or a member.
+fn client_at(setup: &Setup, name: &[u8]) -> Option<u16> {
+    let number = setup.client(name)?;
+    match ActorId::of(number) {
+        ActorId::Client(_) => Some(number),
+        _ => None,
+    }
+}
+
+/// What tells this life of the bank from others, by its name.
+fn life_of(name: &[u8]) -> [u8; 16] {
+    let whole = hmac(b"life", name, &[]);
+    let mut life = [0; 16];
+    life.copy_from_slice(&whole[..16]);
+    life
+}
+
+fn peers_of<R: Host>(rt: R, setup: &Setup, name: &str) -> Result<Peers, ServeFault> {
+    let text = read_paper(rt, Paper::Peers, name)?;
+    match read_peers(rt.alloc(), setup, text.as_slice()) {
+        Ok(peers) => Ok(peers),
+        Err(fault) => Err(ServeFault::of_place(Paper::Peers, fault)),
+    }
+}
+
+fn keys_of<R: Host>(rt: R, setup: &Setup, name: Option<&str>) -> Result<Option<Keys>, ServeFault> {
+    let Some(name) = name else {
+        return Ok(None);
+    };
+    let text = read_paper(rt, Paper::Keys, name)?;
+    match read_keys(rt.alloc(), setup, text.as_slice()) {
+        Ok(keys) => Ok(Some(keys)),
+        Err(fault) => Err(ServeFault::of_place(Paper::Keys, fault)),
+    }
+}
+
+/// Serves a site.
+fn serve_site<R: Host, L: BufRead + Drop + Send + 'static>(
+    rt: R,
+    terminal: L,
+    order: &Order<'_>,
+    bank: &Bank,
+    keys: Option<Keys>,
+    me: u16,
+    site: u16,
+) -> Result<(), ServeFault> {
+    let listener = listener_of(rt, order, &bank.peers, site)?;
+    let serving = site_of(rt, order, bank, me, site)?;
+    let inbox = open_streams(rt, terminal, order, bank, keys, me, site, listener)?;
+    let desk = SiteDesk::new(2 * bank.setup.faults() + 1, order.patience, order.stays);
+    attend_site(rt, inbox, desk, serving)
+}
+
+/// A site, as its folder has it.
+fn site_of<R: Host>(
+    rt: R,
+    order: &Order<'_>,
+    bank: &Bank,
+    me: u16,
+    site: u16,
+) -> Result<Serving<R, SiteCell<R>>, ServeFault> {
+    let place = Place::new(&bank.setup, bank.id, me, order.data, order.syncs);
+    let room = open_site(rt, &place, site)?;
+    let room = settle(rt, &place, room)?;
+    Ok(Serving::new(rt, me, order.syncs, room))
+}
+
+/// A node or a client, as its folder has it.
+fn other_of<R: Host>(
+    rt: R,
+    order: &Order<'_>,
+    bank: &Bank,
+    me: u16,
+) -> Result<Serving<R, MemCell>, ServeFault> {
+    let place = Place::new(&bank.setup, bank.id, me, order.data, order.syncs);
+    let room = open_other(rt, &place)?;
+    let room = settle(rt, &place, room)?;
+    Ok(Serving::new(rt, me, order.syncs, room))
+}
+
+/// Has threads dial the sites before a site, listen for others, and bring ticks and lines. Answers what they bring.
+fn open_streams<R: Host, L: BufRead + Drop + Send + 'static>(
+    rt: R,
+    terminal: L,
+    order: &Order<'_>,
+    bank: &Bank,
+    keys: Option<Keys>,
+    me: u16,
+    site: u16,
+    listener: TcpListener,
+) -> Result<Receiver<Inbox>, ServeFault> {
+    let (sender, inbox) = bounded(rt.alloc(), MOST_ITEMS)?;
+    dial_sites(rt, bank, &keys, me, site, &sender)?;
+    listen(rt, listener, bank.id, keys, me, &sender)?;
+    start_ticking(rt, order.beat, terminal, &sender)?;
+    Ok(inbox)
+}
+
+/// Attends to a site until it is done.
+fn attend_site<R: Host, C: BootCell>(
+    rt: R,
+    inbox: Receiver<Inbox>,
+    desk: SiteDesk,
+    serving: Serving<R, C>,
+) -> Result<(), ServeFault> {
+    let mut desk = Desk::Site(desk);
+    let mut serving = serving;
+    let _letters = serving.flush()?;
+    desk.tell(&serving);
+    attend(rt, &inbox, &mut desk, &mut serving)
+}
+
+/// Serves a node or a client.
+fn serve_other<R: Host, L: BufRead + Drop + Send + 'static>(
+    rt: R,
+    terminal: L,
+    order: &Order<'_>,
+    bank: &Bank,
+    keys: Option<Keys>,
+    me: u16,
+) -> Result<(), ServeFault> {
+    let serving = other_of(rt, order, bank, me)?;
+    let inbox = dial_all(rt, terminal, order, bank, &keys, me)?;
+    attend_other(rt, inbox, bank.setup.copy()?, order.stays, serving)
+}
+
+/// Has threads dial all sites, and bring ticks and lines. Answers what they bring.
+fn dial_all<R: Host, L: BufRead + Drop + Send + 'static>(
+    rt: R,
+    terminal: L,
+    order: &Order<'_>,
+    bank: &Bank,
+    keys: &Option<Keys>,
+    me: u16,
+) -> Result<Receiver<Inbox>, ServeFault> {
+    let (sender, inbox) = bounded(rt.alloc(), MOST_ITEMS)?;
+    dial_sites(rt, bank, keys, me, 2 * bank.setup.faults() + 1, &sender)?;
+    start_ticking(rt, order.beat, terminal, &sender)?;
+    Ok(inbox)
+}
+
+/// Attends to a node or a client until it is done.
+fn attend_other<R: Host, C: BootCell>(
+    rt: R,
+    inbox: Receiver<Inbox>,
+    setup: Setup,
+    stays: bool,
+    serving: Serving<R, C>,
+) -> Result<(), ServeFault> {
+    let mut serving = serving;
+    let mut desk = Desk::Terminal(TerminalDesk::new(setup, stays, &serving));
+    attend(rt, &inbox, &mut desk, &mut serving)
+}
+
+/// Takes what comes, batch by batch, until the desk is done or a fault: each batch is written, and only then sent.
+fn attend<R: Host, C: BootCell>(
+    rt: R,
+    inbox: &Receiver<Inbox>,
+    desk: &mut Desk,
+    serving: &mut Serving<R, C>,
+) -> Result<(), ServeFault> {
+    for _ in rt.forever() {
+        let Ok(first) = inbox.recv(&rt) else {
+            break;
+        };
+        let goes_on = take_batch(rt, inbox, first, desk, serving)?;
+        let _letters = serving.flush()?;
+        desk.tell(serving);
+        if !goes_on {
+            break;
+        }
+    }
+    Ok(())
+}
+
+/// Takes what waits, up to a batch. `false` where the desk is done.
+fn take_batch<R: Host, C: BootCell>(
+    rt: R,
+    inbox: &Receiver<Inbox>,
+    first: Inbox,
+    desk: &mut Desk,
+    serving: &mut Serving<R, C>,
+) -> Result<bool, ServeFault> {
+    if !desk.take(serving, first)? {
+        return Ok(false);
+    }
+    for _ in 1..BATCH {
+        let Ok(next) = inbox.try_recv(&rt) else {
+            break;
+        };
+        if !desk.take(serving, next)? {
+            return Ok(false);
+        }
+    }
+    Ok(true)
+}
+
+/// Has a thread for each site before a place dial it.
+fn dial_sites<R: Wires>(
+    rt: R,
+    bank: &Bank,
+    keys: &Option<Keys>,
+    me: u16,
+    before: u16,
+    inbox: &Sender<Inbox>,
+) -> Result<(), ServeFault> {
+    for place in bank.peers.places.as_slice() {
+        if place.site >= before {
+            continue;
+        }
+        let peer = ActorId::Site(place.site).number();
+        let key = key_with(keys, peer)?;
+        let Some(link) = Link::new(me, peer, bank.id, key) else {
+            continue;
+        };
+        let address = Address {
+            host: String::from_str(rt.alloc(), place.address.host.as_str())?,
+            port: place.address.port,
+        };
+        start_dialing(rt, Dialed { address, link }, inbox)?;
+    }
+    Ok(())
+}
+
+/// The key with a peer; none where frames are not tagged.
+fn key_with(keys: &Option<Keys>, peer: u16) -> Result<Option<[u8; 32]>, ServeFault> {
+    match keys {
+        None => Ok(None),
+        Some(keys) => match keys.with(peer) {
+            None => Err(ServeFault::Missing {
+                paper: Paper::Keys,
+                actor: peer,
+            }),
+            key => Ok(key),
+        },
+    }
+}
+
+fn start_dialing<R: Wires>(rt: R, dialed: Dialed, inbox: &Sender<Inbox>) -> Result<(), ServeFault> {
+    let inbox = inbox.clone()?;
+    match thread::spawn(&rt, move || dial(rt, dialed, inbox)) {
+        Ok(_thread) => Ok(()),
+        Err(_) => Err(ServeFault::Net),
+    }
+}
+
+/// Has a thread put ticks, and another lines of the terminal, into the inbox.
+fn start_ticking<R: Wires, L: BufRead + Drop + Send + 'static>(
+    rt: R,
+    beat: u32,
+    terminal: L,
+    inbox: &Sender<Inbox>,
+) -> Result<(), ServeFault> {
+    let ticks = inbox.clone()?;
+    let lines = inbox.clone()?;
+    let ticker = thread::spawn(&rt, move || tick(rt, beat, ticks));
+    let reader = thread::spawn(&rt, move || read_lines(rt, terminal, lines));
+    match (ticker, reader) {
+        (Ok(_ticks), Ok(_lines)) => Ok(()),
+        _ => Err(ServeFault::Net),
+    }
+}
+
+/// The listener of a site, at its own address. Without keys it is of this machine alone, unless the network is trusted.
+fn listener_of<R: Wires>(
+    rt: R,
+    order: &Order<'_>,
+    peers: &Peers,
+    site: u16,
+) -> Result<TcpListener, ServeFault> {
+    let Some(own) = peers.places.iter().find(|place| place.site == site) else {
+        return Err(ServeFault::Folder(FolderWhy::Actor));
+    };
+    let mut found = [SocketAddr::new(IpAddr::V4(Ipv4Addr::LOCALHOST), 0); 1];
+    match addresses_of(rt, &own.address, &mut found) {
+        Ok(count) if count > 0 => {}
+        _ => return Err(ServeFault::Net),
+    }
+    if order.keys.is_none() && !order.trusts_network && !found[0].ip().is_loopback() {
+        return Err(ServeFault::Folder(FolderWhy::Open));
+    }
+    match TcpListener::bind(&rt, found[0]) {
+        Ok(listener) => Ok(listener),
+        Err(_) => Err(ServeFault::Net),
+    }
+}
+
+/// Has a thread take the streams that others open.
+fn listen<R: Wires>(
+    rt: R,
+    listener: TcpListener,
+    bank: [u8; 32],
+    keys: Option<Keys>,
+    me: u16,
+    inbox: &Sender<Inbox>,
+) -> Result<(), ServeFault> {
+    let door = Door {
+        me,
+        bank,
+        keys,
+        open: AtomicU64::new(0),
+        turned_away: AtomicU64::new(0),
+    };
+    let door: Arc<Door, Global> = Arc::new(rt.alloc(), door)?;
+    let inbox = inbox.clone()?;
+    match thread::spawn(&rt, move || accept_all(rt, listener, door, inbox)) {
+        Ok(_thread) => Ok(()),
+        Err(_) => Err(ServeFault::Net),
+    }
+}
