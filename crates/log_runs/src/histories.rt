@@ -1,8 +1,12 @@
 //! The histories of a whole bank, judged.
 
 use fixtures::setup::three_currencies;
+use headline::ClientEvent;
+use pvp_audit::{Verdict, Why};
 use pvp_evidence::{History, judge_histories};
 use pvp_judge::Judgement;
+use pvp_parties::{PartyEvent, PartyOutcome};
+use pvp_rooms::Recorded;
 use std::alloc::Global;
 use std::test::Fail;
 use vr_types::{ActorId, Boot};
@@ -32,36 +36,74 @@ fn nothing_of(alloc: Global, actor: ActorId) -> History {
     }
 }
 
-/// How the histories of these actors are judged: yes or no, or as no bank's.
-fn judged(alloc: Global, actors: &[ActorId]) -> Result<Option<bool>, Fail> {
-    let setup = three_currencies(alloc)?;
+/// The empty histories of these actors.
+fn at_rest(alloc: Global, actors: &[ActorId]) -> Result<Vec<History>, Fail> {
     let mut histories = Vec::new(alloc);
     for actor in actors {
         histories.push(nothing_of(alloc, *actor))?;
     }
+    Ok(histories)
+}
+
+/// How histories are judged: yes, or by which test not, or as no bank's.
+fn judged(alloc: Global, histories: Vec<History>) -> Result<Option<Verdict>, Fail> {
+    let setup = three_currencies(alloc)?;
     Ok(match judge_histories(alloc, &setup, histories) {
-        Ok(Judgement::Yes(_)) => Some(true),
-        Ok(Judgement::No { .. }) => Some(false),
+        Ok(Judgement::Yes(_)) => Some(Verdict::Yes),
+        Ok(Judgement::No { actor, event, why }) => Some(Verdict::No { actor, event, why }),
         Err(_) => None,
     })
 }
 
+/// How the empty histories of these actors are judged.
+fn judged_at_rest(alloc: Global, actors: &[ActorId]) -> Result<Option<Verdict>, Fail> {
+    judged(alloc, at_rest(alloc, actors)?)
+}
+
+/// How a bank at rest is judged but for one event of its first member: a beat at this clock, told as a stray.
+fn judged_with_a_stray(alloc: Global, clock: u64) -> Result<Option<Verdict>, Fail> {
+    let mut histories = at_rest(alloc, &ACTORS)?;
+    if let Some(history) = histories.get_mut(1) {
+        history.entries.push(Recorded {
+            event: PartyEvent::OfClient(ClientEvent::Beats),
+            stamp: None,
+            clock,
+            outcome: PartyOutcome::Stray,
+        })?;
+    }
+    judged(alloc, histories)
+}
+
 #[test]
 fn a_bank_that_did_nothing_is_one_run(rt: HostRuntime) -> Result<(), Fail> {
-    assert_eq!(rt; judged(rt.alloc(), &ACTORS)?, Some(true));
+    assert_eq!(rt; judged_at_rest(rt.alloc(), &ACTORS)?, Some(Verdict::Yes));
     Ok(())
 }
 
 #[test]
 fn an_actor_is_missing(rt: HostRuntime) -> Result<(), Fail> {
-    assert_eq!(rt; judged(rt.alloc(), &ACTORS[1..])?, None);
+    assert_eq!(rt; judged_at_rest(rt.alloc(), &ACTORS[1..])?, None);
     Ok(())
 }
 
 #[test]
 fn a_stranger_is_no_actor_of_the_bank(rt: HostRuntime) -> Result<(), Fail> {
-    assert_eq!(rt; judged(rt.alloc(), &[ActorId::Site(3)])?, None);
-    assert_eq!(rt; judged(rt.alloc(), &[ActorId::Node(3)])?, None);
-    assert_eq!(rt; judged(rt.alloc(), &[ActorId::Client(3)])?, None);
+    assert_eq!(rt; judged_at_rest(rt.alloc(), &[ActorId::Site(3)])?, None);
+    assert_eq!(rt; judged_at_rest(rt.alloc(), &[ActorId::Node(3)])?, None);
+    assert_eq!(rt; judged_at_rest(rt.alloc(), &[ActorId::Client(3)])?, None);
+    Ok(())
+}
+
+/// The first test that fails is told, of a clock that does not rise and of what cannot come out so.
+#[test]
+fn a_history_that_cannot_be_is_told(rt: HostRuntime) -> Result<(), Fail> {
+    for (clock, why) in [(0, Why::Clock), (1, Why::Answered)] {
+        let no = Verdict::No {
+            actor: 1,
+            event: 1,
+            why,
+        };
+        assert_eq!(rt; judged_with_a_stray(rt.alloc(), clock)?, Some(no));
+    }
     Ok(())
 }

@@ -11,7 +11,7 @@ use Rattle.pvp_rooms.proofs.Growing.{replay-push}
 use Rattle.pvp_rooms.specs.declared.cell.Closed.{Closed}
 use Rattle.pvp_audit.specs.Runs.{Tagged, own, history_in, history_of, number_in, AreInOrder, AreBefore, WasSent, Arrives, IsLegal, IsReached}
 use Rattle.pvp_audit.specs.Named.{IsSent, IsNamed}
-use Rattle.pvp_audit.specs.Verdicts.{IsAlone, HoldOfAll, FailsAt, CannotArrive, CannotCome}
+use Rattle.pvp_audit.specs.Verdicts.{ClocksRise, FailsAt, CannotArrive, CannotCome}
 use Rattle.pvp_audit.specs.Merging.{IsNextActor, IsMerged, IsProgress, AreEnds}
 use Rattle.pvp_audit.proofs.Together.{take_next, IsStepped}
 use Rattle.pvp_audit.proofs.Looks.{slice_get-first, get_set_same, get_set_other}
@@ -58,7 +58,7 @@ module _ {A N E O L : Type 0} (delivers : E → Option L) (sent : O → List L) 
   arrives_named actor r n = elim n [ inl e ↦ inl e | inr w ↦ inr (w.0, w.1, w.2, sent_named w.0 r.event w.3) ]
 
 -- THE NEXT EVENT OF ALL IS THE MERGED LIST'S NEXT
-module _ {A N E O : Type 0} (closed : List (Closed A N E O)) (order : AreInOrder closed) (alone : HoldOfAll closed (λ _ c. IsAlone c)) (at : List ℕ) (run : List (Tagged E O)) (merged : IsMerged closed run at) where
+module _ {A N E O : Type 0} (closed : List (Closed A N E O)) (order : AreInOrder closed) (clocks : ClocksRise closed) (at : List ℕ) (run : List (Tagged E O)) (merged : IsMerged closed run at) where
   module _ (k : ℕ) (next : IsNextActor closed at k) (now : List ℕ) (stepped : IsStepped at now k) where
     each_next : (j : ℕ) (b : Bool) → (k == j) ≡ b → own run j ++ (if b then next.what ∷ [] else []) ≡ take (slice_index now j) (history_of closed j)
     each_next j true e =
@@ -69,12 +69,12 @@ module _ {A N E O : Type 0} (closed : List (Closed A N E O)) (order : AreInOrder
     ahead_next : (j i : ℕ) (r : Recorded E O) (b : Bool) → (k == j) ≡ b → slice_index now j ≤ i → slice_get (history_of closed j) i ≡ Some r → AreBefore closed (record { by = k; what = next.what } ∷ run) (record { by = j; what = r })
     ahead_next j i r true e =
         let P : ℕ → Type 0 = λ n. slice_index now n ≤ i → slice_get (history_of closed n) i ≡ Some r → AreBefore closed (record { by = k; what = next.what } ∷ run) (record { by = n; what = r }) in
-        subst P (eqb-true k j e) (λ low there. (let h = stepped.here in (is_after_own closed alone at k next i r (omega (arith, low, h)) there, merged.ahead k i r (omega (arith, low, h)) there)))
+        subst P (eqb-true k j e) (λ low there. (let h = stepped.here in (is_after_own closed clocks at k next i r (omega (arith, low, h)) there, merged.ahead k i r (omega (arith, low, h)) there)))
     ahead_next j i r false e = λ low there.
         let other = eqb-false k j e in
         let o = stepped.others j other in
         let low2 : slice_index at j ≤ i = omega (arith, low, o) in
-        (is_after closed alone at k next order j i r other low2 there, merged.ahead j i r low2 there)
+        (is_after closed clocks at k next order j i r other low2 there, merged.ahead j i r low2 there)
 
     pub merged_next : IsMerged closed (record { by = k; what = next.what } ∷ run) now
     merged_next = record {
@@ -95,11 +95,11 @@ merged_none closed at none = record {
   ahead = λ k i r low there. tt;
 }
 
-module _ {A N E O L : Type 0} (m : Ghosts A N E O) (delivers : E → Option L) (sent : O → List L) (is_for : A → E → Bool) (closed : List (Closed A N E O)) (order : AreInOrder closed) (alone : HoldOfAll closed (λ _ c. IsAlone c)) (start : ℕ → m.State) (at : List ℕ) (actors : List A) (p : IsProgress m delivers sent is_for closed start at actors) where
+module _ {A N E O L : Type 0} (m : Ghosts A N E O) (delivers : E → Option L) (sent : O → List L) (is_for : A → E → Bool) (closed : List (Closed A N E O)) (order : AreInOrder closed) (clocks : ClocksRise closed) (start : ℕ → m.State) (at : List ℕ) (actors : List A) (p : IsProgress m delivers sent is_for closed start at actors) where
   -- at the end of all histories
   pub legal_all : ((k : ℕ) → length (history_of closed k) ≤ slice_index at k) → length actors ≡ length closed → IsLegal m delivers sent is_for closed start × AreEnds m closed start actors
   legal_all done many = (
-    record { run = p.run; sorted = p.merged.sorted; each = merged_all closed order alone at p.run p.merged done; legal = p.legal },
+    record { run = p.run; sorted = p.merged.sorted; each = merged_all closed order clocks at p.run p.merged done; legal = p.legal },
     (
       many,
       λ k c actor is there.
@@ -115,7 +115,7 @@ module _ {A N E O L : Type 0} (m : Ghosts A N E O) (delivers : E → Option L) (
       legal = p.legal;
       before = p.merged.ahead k (slice_index at k) next.what (omega arith) next.next;
       each = p.merged.each;
-      not_before = not_earlier closed alone at k next;
+      not_before = not_earlier closed clocks at k next;
     }
 
     module _ (c : Closed A N E O) (is : slice_get closed k ≡ Some c) where
@@ -161,7 +161,7 @@ module _ {A N E O L : Type 0} (m : Ghosts A N E O) (delivers : E → Option L) (
         pub progress_next : IsProgress m delivers sent is_for closed start now (slice_set actors k a)
         progress_next = record {
           run = record { by = k; what = next.what } ∷ p.run;
-          merged = merged_next closed order alone at p.run p.merged k next now stepped;
+          merged = merged_next closed order clocks at p.run p.merged k next now stepped;
           legal = (p.legal, record { who = c; is = is; arrives = named_arrives delivers sent is_for closed at p.run p.merged.each c.end next.what named; comes = subst (λ h. m.comes (replay m.after h (start k)) next.what.event next.what.outcome) (sym own_is) comes });
           shown = λ j d actor hd ha. shown_next j d actor hd ha (k == j) refl;
         }

@@ -6,7 +6,7 @@ use Rattle.pvp_rooms.specs.declared.message.Recorded.{Recorded}
 use Rattle.pvp_rooms.specs.Histories.{IsRising}
 use Rattle.pvp_rooms.specs.declared.cell.Closed.{Closed}
 use Rattle.pvp_audit.specs.Runs.{history_in, history_of, AreInOrder, IsBefore}
-use Rattle.pvp_audit.specs.Verdicts.{IsAlone, HoldOfAll}
+use Rattle.pvp_audit.specs.Verdicts.{ClocksRise}
 use Rattle.pvp_audit.specs.Merging.{IsNextActor}
 
 pub same_some : {X : Type 0} (x y : X) → Some x ≡ Some y → x ≡ y
@@ -35,7 +35,7 @@ who_took {A = A} {N = N} {E = E} {O = O} closed j i r e = go (slice_get closed j
     go None is = let none : None ≡ Some r = ap (λ o. slice_get (history_in o) i) (sym is) ∙ e in cc
     go (Some c) is = (c, is, ap (λ o. slice_get (history_in o) i) (sym is) ∙ e)
 
-module _ {A N E O : Type 0} (closed : List (Closed A N E O)) (alone : HoldOfAll closed (λ _ c. IsAlone c)) where
+module _ {A N E O : Type 0} (closed : List (Closed A N E O)) (clocks : ClocksRise closed) where
   -- a later event of the same actor, or the same, has no lesser clock
   pub no_lower : (j i k : ℕ) (r s : Recorded E O) → i ≤ k → slice_get (history_of closed j) i ≡ Some r → slice_get (history_of closed j) k ≡ Some s → r.clock ≤ s.clock
   no_lower j i k r s below e f = elim (cases_order i k) [
@@ -50,13 +50,13 @@ module _ {A N E O : Type 0} (closed : List (Closed A N E O)) (alone : HoldOfAll 
       greater j i k r s less e f =
           let w = who_took closed j i r e in
           let f2 : slice_get w.0.history.items k ≡ Some s = ap (λ o. slice_get (history_in o) k) (sym w.1) ∙ f in
-          apart w.0.history.items 0 i k r s (alone j w.0 w.1).clocks less w.2 f2
+          apart w.0.history.items 0 i k r s (clocks j w.0 w.1) less w.2 f2
 
   pub is_greater : (j i k : ℕ) (r s : Recorded E O) → i < k → slice_get (history_of closed j) i ≡ Some r → slice_get (history_of closed j) k ≡ Some s → r.clock < s.clock
   is_greater j i k r s less e f =
       let w = who_took closed j i r e in
       let f2 : slice_get w.0.history.items k ≡ Some s = ap (λ o. slice_get (history_in o) k) (sym w.1) ∙ f in
-      apart w.0.history.items 0 i k r s (alone j w.0 w.1).clocks less w.2 f2
+      apart w.0.history.items 0 i k r s (clocks j w.0 w.1) less w.2 f2
 
   module _ (at : List ℕ) (k : ℕ) (next : IsNextActor closed at k) where
     -- there is a next event of an actor that has a later one

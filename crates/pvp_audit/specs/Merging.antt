@@ -9,7 +9,7 @@ use Rattle.pvp_audit.specs.declared.verdict.Why.TheVariants.{Stamped, Clock, Ans
 use Rattle.pvp_audit.specs.declared.merge.Followed.{Followed}
 use Rattle.pvp_audit.specs.declared.merge.Followed.TheVariants.{All as Whole, Failed}
 use Rattle.pvp_audit.specs.Runs.{Tagged, own, history_of, IsBefore, AreBefore, IsSorted, IsRun, IsLegal}
-use Rattle.pvp_audit.specs.Verdicts.{FailsAt, CannotArrive, CannotCome}
+use Rattle.pvp_audit.specs.Verdicts.{FailsAt, CannotArrive, CannotCome, IsOfRun}
 
 -- No actor's next event comes before that of the one at this place.
 pub record IsNextActor {A N E O : Type 0} (closed : List (Closed A N E O)) (at : List ℕ) (k : ℕ) : Type 0 where
@@ -53,7 +53,7 @@ abbrev pub IsFollowed : {A N E O L : Type 0} → (m : Ghosts A N E O) → (E →
 IsFollowed m delivers sent is_for closed start (Whole actors) = IsLegal m delivers sent is_for closed start × AreEnds m closed start actors.items
 IsFollowed m delivers sent is_for closed start (Failed place event why) = HasFailed m delivers sent is_for closed start place event why
 
--- the actors that are handed out are as many as there are, and the place of one that failed is there
+-- the actors that are handed out are as many as there are, and the place of one that failed is there, by a test of the run
 abbrev pub IsWithin : {A N E O : Type 0} → List (Closed A N E O) → Followed A → Type 0
 IsWithin closed (Whole actors) = length actors.items ≡ length closed
-IsWithin closed (Failed place event why) = place < length closed
+IsWithin closed (Failed place event why) = (place < length closed) × IsOfRun why

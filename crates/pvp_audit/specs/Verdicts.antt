@@ -54,10 +54,14 @@ pub record ClockFails {E O : Type 0} (history : List (Recorded E O)) (event : �
   pub rising : IsRising (take many history) 0
   pub fails : ¬ IsRising (take (many + 1) history) 0
 
+-- the clocks of an actor's history rise
+abbrev pub HasRisingClocks : {A N E O : Type 0} → Closed A N E O → Type 0
+HasRisingClocks c = IsRising c.history.items 0
+
 -- the tests of an actor alone
 pub record IsAlone {A N E O : Type 0} (c : Closed A N E O) : Type 0 where
   pub receipts : AreTogether c.history.items c.seats.items
-  pub clocks : IsRising c.history.items 0
+  pub clocks : HasRisingClocks c
 
 -- what holds of each actor before a place
 abbrev pub HoldBelow : {A N E O : Type 0} → List (Closed A N E O) → ℕ → (Closed A N E O → Type 0) → Type 0
@@ -66,16 +70,21 @@ HoldBelow {A} {N} {E} {O} closed k P = (j : ℕ) (c : Closed A N E O) → slice_
 abbrev pub HoldOfAll : {A N E O : Type 0} → List (Closed A N E O) → (ℕ → Closed A N E O → Type 0) → Type 0
 HoldOfAll {A} {N} {E} {O} closed P = (j : ℕ) (c : Closed A N E O) → slice_get closed j ≡ Some c → P j c
 
+-- the clocks of each history rise
+abbrev pub ClocksRise : {A N E O : Type 0} → List (Closed A N E O) → Type 0
+ClocksRise closed = HoldOfAll closed (λ _ c. HasRisingClocks c)
+
 -- the actor of this number, at its place
 pub record IsActor {A N E O : Type 0} (closed : List (Closed A N E O)) (actor k : ℕ) (c : Closed A N E O) : Type 0 where
   pub is : slice_get closed k ≡ Some c
   pub number : c.number ≡ actor
 
-pub record FailsAlone {A N E O : Type 0} (closed : List (Closed A N E O)) (actor : ℕ) (failing : Closed A N E O → Type 0) : Type 0 where
+-- An actor alone fails, and each before it passes what an actor alone has to pass.
+pub record FailsAlone {A N E O : Type 0} (passes : Closed A N E O → Type 0) (closed : List (Closed A N E O)) (actor : ℕ) (failing : Closed A N E O → Type 0) : Type 0 where
   pub place : ℕ
   pub who : Closed A N E O
   pub is : IsActor closed actor place who
-  pub before : HoldBelow closed place IsAlone
+  pub before : HoldBelow closed place passes
   pub fails : failing who
 
 -- A test of the merged list fails at an event of the actor at a place, counted from 1, and the events before it are a run.
@@ -99,10 +108,10 @@ abbrev pub CannotCome : {A N E O L : Type 0} → (m : Ghosts A N E O) → (E →
 CannotCome m delivers sent is_for closed start who past t = Arrives delivers sent is_for closed past who.end t.what × ¬ m.comes (replay m.after (own past t.by) (start t.by)) t.what.event t.what.outcome
 
 -- Such a test fails, and each actor alone passes.
-pub record FailsMerged {A N E O : Type 0} (closed : List (Closed A N E O)) (actor : ℕ) (fails_at : ℕ → Type 0) : Type 0 where
+pub record FailsMerged {A N E O : Type 0} (passes : Closed A N E O → Type 0) (closed : List (Closed A N E O)) (actor : ℕ) (fails_at : ℕ → Type 0) : Type 0 where
   pub place : ℕ
   pub number : number_at closed place ≡ actor
-  pub alone : HoldOfAll closed (λ _ c. IsAlone c)
+  pub alone : HoldOfAll closed (λ _ c. passes c)
   pub fails : fails_at place
 
 -- An end state differs from the replay, and no end state before it; all other tests pass.
@@ -113,20 +122,62 @@ pub record FailsEnd {A N E O L : Type 0} (m : Ghosts A N E O) (delivers : E → 
   pub legal : IsLegal m delivers sent is_for closed start
   pub unlike : IsFirstUnlike m closed start place
 
--- Each test passes.
-pub record IsSound {A N E O L : Type 0} (m : Ghosts A N E O) (delivers : E → Option L) (sent : O → List L) (is_for : A → E → Bool) (closed : List (Closed A N E O)) (start : ℕ → m.State) : Type 0 where
-  pub alone : HoldOfAll closed (λ _ c. IsAlone c)
+-- The histories are one run: their clocks rise, and all their events, merged, are legal.
+pub record IsOneRun {A N E O L : Type 0} (m : Ghosts A N E O) (delivers : E → Option L) (sent : O → List L) (is_for : A → E → Bool) (closed : List (Closed A N E O)) (start : ℕ → m.State) : Type 0 where
+  pub clocks : ClocksRise closed
   pub legal : IsLegal m delivers sent is_for closed start
+
+-- Each test passes: of each actor the receipts are together its history, the histories are one run, and the ends read like the replays.
+pub record IsSound {A N E O L : Type 0} (m : Ghosts A N E O) (delivers : E → Option L) (sent : O → List L) (is_for : A → E → Bool) (closed : List (Closed A N E O)) (start : ℕ → m.State) : Type 0 where
+  pub receipts : HoldOfAll closed (λ _ c. AreTogether c.history.items c.seats.items)
+  pub run : IsOneRun m delivers sent is_for closed start
   pub ends : AreAlike m closed start (length closed)
 
 abbrev pub MeansNo : {A N E O L : Type 0} → (m : Ghosts A N E O) → (E → Option L) → (O → List L) → (A → E → Bool) → List (Closed A N E O) → (ℕ → m.State) → ℕ → ℕ → Why → Type 0
-MeansNo m delivers sent is_for closed start actor event Receipts = FailsAlone closed actor (λ c. ReceiptsFail c.history.items c.seats.items event)
-MeansNo m delivers sent is_for closed start actor event Clock = FailsAlone closed actor (λ c. AreTogether c.history.items c.seats.items × ClockFails c.history.items event)
-MeansNo m delivers sent is_for closed start actor event Stamped = FailsMerged closed actor (λ place. FailsAt m delivers sent is_for closed start place event (CannotArrive delivers sent is_for closed))
-MeansNo m delivers sent is_for closed start actor event Answered = FailsMerged closed actor (λ place. FailsAt m delivers sent is_for closed start place event (CannotCome m delivers sent is_for closed start))
+MeansNo m delivers sent is_for closed start actor event Receipts = FailsAlone IsAlone closed actor (λ c. ReceiptsFail c.history.items c.seats.items event)
+MeansNo m delivers sent is_for closed start actor event Clock = FailsAlone IsAlone closed actor (λ c. AreTogether c.history.items c.seats.items × ClockFails c.history.items event)
+MeansNo m delivers sent is_for closed start actor event Stamped = FailsMerged IsAlone closed actor (λ place. FailsAt m delivers sent is_for closed start place event (CannotArrive delivers sent is_for closed))
+MeansNo m delivers sent is_for closed start actor event Answered = FailsMerged IsAlone closed actor (λ place. FailsAt m delivers sent is_for closed start place event (CannotCome m delivers sent is_for closed start))
 MeansNo m delivers sent is_for closed start actor event End = (event ≡ 0) × FailsEnd m delivers sent is_for closed start actor
 MeansNo m delivers sent is_for closed start actor event NoMemory = (actor ≡ 0) × (event ≡ 0)
 
+-- WHAT AN AUDIT SAYS, both ways
 abbrev pub Means : {A N E O L : Type 0} → (m : Ghosts A N E O) → (E → Option L) → (O → List L) → (A → E → Bool) → List (Closed A N E O) → (ℕ → m.State) → Verdict → Type 0
 Means m delivers sent is_for closed start Yes = IsSound m delivers sent is_for closed start
 Means m delivers sent is_for closed start (No actor event why) = MeansNo m delivers sent is_for closed start actor event why
+
+-- ---- histories alone, whatever receipts and ends there are
+
+abbrev pub MeansNoRun : {A N E O L : Type 0} → (m : Ghosts A N E O) → (E → Option L) → (O → List L) → (A → E → Bool) → List (Closed A N E O) → (ℕ → m.State) → ℕ → ℕ → Why → Type 0
+MeansNoRun m delivers sent is_for closed start actor event Clock = FailsAlone HasRisingClocks closed actor (λ c. ClockFails c.history.items event)
+MeansNoRun m delivers sent is_for closed start actor event Stamped = FailsMerged HasRisingClocks closed actor (λ place. FailsAt m delivers sent is_for closed start place event (CannotArrive delivers sent is_for closed))
+MeansNoRun m delivers sent is_for closed start actor event Answered = FailsMerged HasRisingClocks closed actor (λ place. FailsAt m delivers sent is_for closed start place event (CannotCome m delivers sent is_for closed start))
+MeansNoRun m delivers sent is_for closed start actor event Receipts = ⊥
+MeansNoRun m delivers sent is_for closed start actor event End = ⊥
+MeansNoRun m delivers sent is_for closed start actor event NoMemory = ⊥
+
+-- WHAT AN AUDIT OF HISTORIES SAYS, both ways
+abbrev pub MeansRun : {A N E O L : Type 0} → (m : Ghosts A N E O) → (E → Option L) → (O → List L) → (A → E → Bool) → List (Closed A N E O) → (ℕ → m.State) → Verdict → Type 0
+MeansRun m delivers sent is_for closed start Yes = IsOneRun m delivers sent is_for closed start
+MeansRun m delivers sent is_for closed start (No actor event why) = MeansNoRun m delivers sent is_for closed start actor event why
+
+-- ---- which tests a verdict is of
+
+-- a test of the run alone: A1, A2 or A3
+abbrev pub IsOfRun : Why → Type 0
+IsOfRun Stamped = Unit {0}
+IsOfRun Clock = Unit {0}
+IsOfRun Answered = Unit {0}
+IsOfRun End = ⊥
+IsOfRun Receipts = ⊥
+IsOfRun NoMemory = ⊥
+
+-- a test, and not that memory was refused
+abbrev pub IsOfTest : Why → Type 0
+IsOfTest NoMemory = ⊥
+IsOfTest _ = Unit {0}
+
+-- a No is of such a test
+abbrev pub NamesWhy : (Why → Type 0) → Verdict → Type 0
+NamesWhy Is Yes = Unit {0}
+NamesWhy Is (No actor event why) = Is why

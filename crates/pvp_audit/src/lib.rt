@@ -10,4 +10,4 @@ pub mod sent;
 pub mod verdict;
 
 pub use audited::Audited;
-pub use verdict::{Verdict, Why, audit};
+pub use verdict::{Verdict, Why, audit, run_of, verdict_of};

@@ -1,6 +1,6 @@
 ghost use Rattle.std.specs.Prelude.{◌≡◌, ℕ, ◌<◌, ◌≤◌, IfOk, IfSome, IfNone, Some, length, slice_get, slice_index};
 ghost use Rattle.pvp_audit.specs.Runs.{AreInOrder, AreOpenings, history_of};
-ghost use Rattle.pvp_audit.specs.Verdicts.{HoldOfAll, IsAlone};
+ghost use Rattle.pvp_audit.specs.Verdicts.{ClocksRise};
 ghost use Rattle.pvp_audit.specs.Merging.{IsNextActor, IsFollowed, IsWithin};
 
 use crate::audited::Audited;
@@ -74,7 +74,7 @@ pub fn follow_all<A: Audited>(
     closed: &[Closed<A>],
 ) -> Result<Followed<A>, AllocError>
     requires order { AreInOrder closed.now }
-    requires alone { HoldOfAll closed.now (λ _ c. IsAlone c) }
+    requires clocks { ClocksRise closed.now }
     ensures within { IfOk result (λ r. IsWithin closed.now r) }
     ensures followed { (start : ℕ → A.State) → AreOpenings A.Actor closed.now start → IfOk result (λ r. IsFollowed A.Actor A.delivers A.sent A.is_for closed.now start r) }
 {

@@ -1,7 +1,7 @@
 ghost use Rattle.std.specs.Prelude.{◌≡◌, ◌↔◌, IsTrue, length};
 ghost use Rattle.pvp_rooms.specs.Histories.{IsRising};
 ghost use Rattle.pvp_audit.specs.Runs.{AreInOrder};
-ghost use Rattle.pvp_audit.specs.Verdicts.{HoldOfAll, IsAlone};
+ghost use Rattle.pvp_audit.specs.Verdicts.{ClocksRise};
 ghost use Rattle.pvp_audit.specs.Named.{IsPlaceOf, IsSentBy, IsSent, IsNamed};
 
 use crate::audited::Audited;
@@ -43,7 +43,7 @@ fn is_sent_by<A: Audited>(one: &Closed<A>, upto: usize, stamp: Stamp, event: &A:
 fn is_sent<A: Audited>(closed: &[Closed<A>], at: &[usize], stamp: Stamp, event: &A::Event) -> bool
     requires same { length at.now ≡ length closed.now }
     requires order { AreInOrder closed.now }
-    requires alone { HoldOfAll closed.now (λ _ c. IsAlone c) }
+    requires clocks { ClocksRise closed.now }
     ensures { IsTrue result ↔ IsSent A.delivers A.sent closed.now at.now stamp event.now }
 {
     let place = place_of(closed, stamp.actor);
@@ -62,7 +62,7 @@ pub(crate) fn is_named<A: Audited>(
 ) -> bool
     requires same { length at.now ≡ length closed.now }
     requires order { AreInOrder closed.now }
-    requires alone { HoldOfAll closed.now (λ _ c. IsAlone c) }
+    requires clocks { ClocksRise closed.now }
     ensures { IsTrue result ↔ IsNamed A.delivers A.sent A.is_for closed.now at.now actor.now event.now }
 {
     if !A::is_delivery(&event.event) {

@@ -1,7 +1,7 @@
 ghost use Rattle.std.specs.Prelude.{◌≡◌, ℕ, IfOk, IfSome, IfNone};
 ghost use Rattle.pvp_audit.specs.Alone.{AloneMeans};
 ghost use Rattle.pvp_audit.specs.Runs.{AreInOrder, AreOpenings};
-ghost use Rattle.pvp_audit.specs.Verdicts.{Means, HoldOfAll, IsAlone};
+ghost use Rattle.pvp_audit.specs.Verdicts.{Means, MeansRun, HoldOfAll, IsAlone, HasRisingClocks, ClocksRise, ClockFails, FailsAlone, NamesWhy, IsOfTest, IsOfRun};
 
 use crate::audited::Audited;
 use crate::clocks::rising;
@@ -40,33 +40,91 @@ pub enum Verdict {
 /// Whether what actors left, in order of their numbers, is one run of them all, with a receipt of each event; or the
 /// first test that fails. Of each actor in order first its receipts are tested, then its clocks; then each event of all,
 /// by clock and then by actor number: that what it delivers was sent, and that it can come out as it is recorded; then
-/// each end state. `NoMemory` comes where memory is refused.
+/// each end state. `NoMemory` comes where `verdict_of` answers `Err`.
 pub fn audit<A: Audited>(alloc: Global, closed: &[Closed<A>]) -> Verdict
     requires { AreInOrder closed.now }
-    ensures means { (start : ℕ → A.State) → AreOpenings A.Actor closed.now start → Means A.Actor A.delivers A.sent A.is_for closed.now start result }
+    ensures means { (start : ℕ → A.State) → AreOpenings A.Actor closed.now start →
+        Means A.Actor A.delivers A.sent A.is_for closed.now start result }
     ensures alone { result ≡ Verdict.Yes → HoldOfAll closed.now (λ _ c. IsAlone c) }
 {
-    match first_alone(alloc, closed) {
-        Err(_) => return no_memory(),
-        Ok(Some(verdict)) => return verdict,
-        Ok(None) => {}
-    }
-    match follow_all(alloc, closed) {
+    match verdict_of(alloc, closed) {
+        Ok(verdict) => verdict,
         Err(_) => no_memory(),
-        Ok(Followed::Failed { place, event, why }) => Verdict::No {
+    }
+}
+
+/// What `audit` says, and never `NoMemory`: `Err` where memory is refused.
+pub fn verdict_of<A: Audited>(alloc: Global, closed: &[Closed<A>]) -> Result<Verdict, AllocError>
+    requires { AreInOrder closed.now }
+    ensures means { IfOk result (λ verdict. (start : ℕ → A.State) →
+        AreOpenings A.Actor closed.now start →
+        Means A.Actor A.delivers A.sent A.is_for closed.now start verdict) }
+    ensures alone { IfOk result (λ verdict. verdict ≡ Verdict.Yes →
+        HoldOfAll closed.now (λ _ c. IsAlone c)) }
+    ensures tests { IfOk result (NamesWhy IsOfTest) }
+{
+    if let Some(verdict) = first_alone(alloc, closed)? {
+        return Ok(verdict);
+    }
+    match follow_all(alloc, closed)? {
+        Followed::Failed { place, event, why } => Ok(Verdict::No {
             actor: closed[place].number,
             event,
             why,
-        },
-        Ok(Followed::All(actors)) => match first_unlike(closed, actors.as_slice()) {
-            None => Verdict::Yes,
-            Some(place) => Verdict::No {
+        }),
+        Followed::All(actors) => match first_unlike(closed, actors.as_slice()) {
+            None => Ok(Verdict::Yes),
+            Some(place) => Ok(Verdict::No {
                 actor: closed[place].number,
                 event: 0,
                 why: Why::End,
-            },
+            }),
         },
     }
+}
+
+/// Whether the histories of actors, in order of their numbers, are one run of them all, or the first test that fails. Of
+/// each actor in order its clocks are tested; then each event of all, by clock and then by actor number, as `audit` does.
+/// Seats and ends are not looked at: it never answers `Receipts` or `End`, nor `NoMemory`, as it is `Err` where memory is
+/// refused.
+pub fn run_of<A: Audited>(alloc: Global, closed: &[Closed<A>]) -> Result<Verdict, AllocError>
+    requires { AreInOrder closed.now }
+    ensures means { IfOk result (λ verdict. (start : ℕ → A.State) →
+        AreOpenings A.Actor closed.now start →
+        MeansRun A.Actor A.delivers A.sent A.is_for closed.now start verdict) }
+    ensures clocks { IfOk result (λ verdict. verdict ≡ Verdict.Yes → ClocksRise closed.now) }
+    ensures tests { IfOk result (NamesWhy IsOfRun) }
+{
+    if let Some((actor, event)) = first_clock(closed) {
+        return Ok(Verdict::No {
+            actor,
+            event,
+            why: Why::Clock,
+        });
+    }
+    match follow_all(alloc, closed)? {
+        Followed::Failed { place, event, why } => Ok(Verdict::No {
+            actor: closed[place].number,
+            event,
+            why,
+        }),
+        Followed::All(_) => Ok(Verdict::Yes),
+    }
+}
+
+/// The first actor, in order, whose clocks do not rise, and the event, counted from 1.
+fn first_clock<A: Audited>(closed: &[Closed<A>]) -> Option<(u16, usize)>
+    ensures some { IfSome result (λ at. FailsAlone HasRisingClocks closed.now at.0
+        (λ c. ClockFails c.history.items at.1)) }
+    ensures none { IfNone result (ClocksRise closed.now) }
+{
+    for k in 0..closed.len() {
+        let one = &closed[k];
+        if let Err(at) = rising(one.history.as_slice()) {
+            return Some((one.number, at + 1));
+        }
+    }
+    None
 }
 
 /// The first actor, in order, of which a test of its own fails.

@@ -1,3 +1,4 @@
 pub mod Cutting
 pub mod Gathering
 pub mod Leaving
+pub mod Seating

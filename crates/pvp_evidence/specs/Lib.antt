@@ -1,3 +1,4 @@
+pub mod Actors
 pub mod Bank
 pub mod Cut
 pub mod Gathered

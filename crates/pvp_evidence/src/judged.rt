@@ -1,32 +1,43 @@
 //! The judgement of the histories of a whole bank.
-ghost use Rattle.std.specs.Prelude.{IfOk};
+ghost use Rattle.std.specs.Prelude.{◌≡◌, IfOk, IfErr};
 ghost use Rattle.pvp_types.specs.Setup.{IsValid};
-ghost use Rattle.pvp_evidence.specs.Judged.{JudgesHistories, AreLeftBy};
+ghost use Rattle.pvp_audit.specs.Verdicts.{IsOfRun};
+ghost use Rattle.pvp_judge.specs.Banked.{AreOfBank};
+ghost use Rattle.pvp_judge.specs.Judged.{TellsWhy};
+ghost use Rattle.pvp_evidence.specs.Actors.{AreOfTheBank};
+ghost use Rattle.pvp_evidence.specs.Judged.{JudgesHistories, JudgesLeft, AreLeftBy, IsOfHistories};
 
+use crate::actors::are_of_the_bank;
 use crate::history::History;
-use crate::opened::{Unopened, closed_of};
+use crate::opened::closed_of;
 use pvp_audit::Why;
-use pvp_judge::{Judgement, NotTheBank, judge};
+use pvp_judge::{Judgement, NotTheBank, judge_run};
 use pvp_parties::Party;
 use pvp_rooms::Closed;
 use pvp_types::Setup;
-use std::alloc::Global;
+use std::alloc::{AllocError, Global};
 
-/// Judges the histories of all actors of a bank, in order of their numbers, as `pvp_judge::judge` does what the actors
-/// left: each is taken to hold a receipt of each event, and to have ended where its events lead. `No` with `NoMemory`
-/// where memory is refused; and `Err` where these are not the bank's actors.
+/// Judges the histories of all actors of a bank, in order of their numbers: whether they are one run, or which of A1 to A3
+/// fails first. As `pvp_judge::judge` does it, but that there are neither receipts nor ends: it never answers A4 or A5.
+/// `Err` where these are not the histories of the bank's actors, which takes no memory; then `No` with `NoMemory` where
+/// memory is refused.
 pub fn judge_histories(
     alloc: Global,
     setup: &Setup,
     histories: Vec<History>,
 ) -> Result<Judgement, NotTheBank>
     requires { IsValid setup.now }
-    ensures { IfOk result (JudgesHistories setup.now histories.items) }
+    ensures judges { IfOk result (JudgesHistories setup.now histories.items) }
+    ensures tests { IfOk result (TellsWhy IsOfHistories) }
+    ensures bank { IfOk result (λ _. AreOfTheBank setup.now histories.items) }
+    ensures stranger { IfErr result (λ _. AreOfTheBank setup.now histories.items → ⊥) }
 {
-    match all_closed(alloc, setup, histories) {
-        Ok(closed) => judge(alloc, setup, closed.as_slice()),
-        Err(Unopened::Stranger) => Err(NotTheBank),
-        Err(Unopened::NoMemory) => Ok(Judgement::No {
+    if !are_of_the_bank(setup, histories.as_slice()) {
+        return Err(NotTheBank);
+    }
+    match judged(alloc, setup, histories) {
+        Ok(judgement) => Ok(judgement),
+        Err(_) => Ok(Judgement::No {
             actor: 0,
             event: 0,
             why: Why::NoMemory,
@@ -34,14 +45,27 @@ pub fn judge_histories(
     }
 }
 
-/// What all these actors left.
+/// The judgement of the histories of a bank's actors. `Err` where memory is refused.
+fn judged(alloc: Global, setup: &Setup, histories: Vec<History>) -> Result<Judgement, AllocError>
+    requires valid { IsValid setup.now }
+    requires bank { AreOfTheBank setup.now histories.items }
+    ensures judges { IfOk result (JudgesLeft setup.now histories.items) }
+    ensures tests { IfOk result (TellsWhy IsOfRun) }
+{
+    let closed = all_closed(alloc, setup, histories)?;
+    judge_run(alloc, setup, closed.as_slice())
+}
+
+/// What the actors of a bank left that have these histories. `Err` where memory is refused.
 fn all_closed(
     alloc: Global,
     setup: &Setup,
     histories: Vec<History>,
-) -> Result<Vec<Closed<Party>>, Unopened>
-    requires { IsValid setup.now }
-    ensures { IfOk result (λ closed. AreLeftBy closed.items histories.items) }
+) -> Result<Vec<Closed<Party>>, AllocError>
+    requires valid { IsValid setup.now }
+    requires bank { AreOfTheBank setup.now histories.items }
+    ensures left { IfOk result (λ closed. AreLeftBy closed.items histories.items) }
+    ensures bank { IfOk result (λ closed. AreOfBank setup.now closed.items) }
 {
     let mut closed = Vec::with_capacity(alloc, histories.len())?;
     for history in histories {

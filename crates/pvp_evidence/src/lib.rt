@@ -2,8 +2,8 @@
 //! and histories, judged as what the actors themselves leave is judged.
 #![tactic(auto)]
 
+mod actors;
 pub mod bank;
-mod copies;
 pub mod cut;
 pub mod gather;
 pub mod history;

@@ -80,6 +80,7 @@ fn frames_from(
         keep(&mut sent, envelope)?;
         rest = after;
     }
+    sent.shrink_to_fit();
     Ok((SentOf::new(sent), rest))
 }
 

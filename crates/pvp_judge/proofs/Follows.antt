@@ -1,6 +1,5 @@
 -- A world that goes through the merged list beside the actors: it takes each event that can come, or memory is refused.
 use Rattle.std.proofs.Common.{◌≡◌, ◌⊎◌, ℕ, zero, suc, ◌+◌, ◌*◌, ◌<◌, ◌≤◌, List, [], ◌∷◌, ◌++◌, length, map, slice_get, true, Option, Some, None, refl, sym, ap, subst, ◌∙◌, arith}
-use Rattle.std.proofs.lemmas.Option.{slice_get_within}
 use Rattle.pvp_types.specs.declared.setup.Setup.{Setup}
 use Rattle.pvp_types.specs.declared.command.Cmd.{Cmd}
 use Rattle.pvp_types.specs.Setup.{IsValid, faults}
@@ -8,7 +7,8 @@ use Rattle.vr_types.specs.declared.cell.Boot.{Boot}
 use Rattle.vr_types.specs.declared.cell.MemCell.{MemCell}
 use Rattle.vr_types.specs.MemoryCell.{held_by}
 use Rattle.vr_types.specs.Choice.{Choice, IsRight}
-use Rattle.vr_types.specs.Site.{Site, opening_site, boot_of}
+use Rattle.vr_types.specs.Site.{opening_site}
+use Rattle.pvp_book.specs.Ledger.{opening}
 use Rattle.rtgs_node.specs.Node.{Envelope, opening_node}
 use Rattle.rtgs_node.specs.Shown as node
 use Rattle.headline.specs.declared.step.Move.{Move}
@@ -24,21 +24,18 @@ use Rattle.pvp_world.proofs.Refused.{within}
 use Rattle.pvp_world.proofs.Allowed.{shows-other}
 use Rattle.pvp_rooms.specs.declared.message.Recorded.{Recorded}
 use Rattle.pvp_rooms.specs.Histories.{replay}
-use Rattle.pvp_rooms.specs.Nodes as nodes
-use Rattle.pvp_rooms.specs.Clients as clients
 use Rattle.pvp_audit.specs.Runs.{Tagged, own, history_in, history_of, AreInOrder}
-use Rattle.pvp_audit.specs.Ends.{AreAlike}
 use Rattle.pvp_parties.specs.Parties.{Party}
 use Rattle.pvp_parties.specs.declared.party.PartyOf.TheVariants as party_of
 use Rattle.pvp_parties.specs.declared.party.PartyEvent.{PartyEvent}
 use Rattle.pvp_parties.specs.declared.party.PartyOutcome.{PartyOutcome}
 use Rattle.pvp_parties.specs.Made.{memory}
-use Rattle.pvp_parties.specs.Parties.{PartyState, AtSite, AtNode, AtClient, Comes, Reads, after, delivers, is_for, number_of}
-use Rattle.pvp_judge.specs.Judged.{Left, party, openings, ReadsWorld, EndsAgree}
+use Rattle.pvp_parties.specs.Parties.{PartyState, Comes, after, delivers, is_for, number_of}
+use Rattle.pvp_judge.specs.Judged.{Left, openings, ShowsState, AreReplayed}
 use Rattle.pvp_judge.specs.Moves.{move_of}
 use Rattle.pvp_judge.specs.Retold.{Names, GoesBy}
 use Rattle.pvp_judge.specs.Banked.{AreOfBank, OpenedOver, HasPlace, OpensInOrder}
-use Rattle.pvp_judge.proofs.Agrees.{site_at, node_at, client_at, opened, start_in, start_of, number_is, IsThere, Agrees, Goes, takes_next}
+use Rattle.pvp_judge.proofs.Agrees.{node_at, client_at, opened, openings_are, start_in, start_of, number_is, IsThere, Agrees, Goes, takes_next}
 
 module _ (setup : Setup) (closed : List Left) where
   -- a world of this setup, over cells no save of which fails, that went through a run as the actors did
@@ -187,50 +184,42 @@ module _ (setup : Setup) (closed : List Left) where
 
     -- THE END
 
-    module _ (each : (k : ℕ) → own run k ≡ history_of closed k) (alike : AreAlike party closed (start_of setup p.choose closed) (length closed)) where
+    module _ (each : (k : ℕ) → own run k ≡ history_of closed k) where
       shown : ShowsBank held_by world p.bank
       shown = shows_bank
 
-      -- what an actor's calls show is of the state in which the bank's actor is
-      read_state : (k : ℕ) (c : Left) → slice_get closed k ≡ Some c → Reads memory c.end (replay after (own run k) (start_of setup p.choose closed k))
-      read_state k c is = subst (λ (l : List (Recorded PartyEvent PartyOutcome)). Reads memory c.end (replay after l (start_of setup p.choose closed k))) (sym (each k ∙ ap history_in is)) (alike k c is (slice_get_within closed k c is))
-
-      reads_by : (k : ℕ) (e : Party) (x : PartyState) → HasPlace setup e → IsThere setup p.choose p.bank e x → Reads memory e x → ReadsWorld world (number_of e) e
-      reads_by k (party_of.Site q) x place there reads =
+      -- the world's actor is where the bank's is
+      shows_by : (e : Party) (x : PartyState) → HasPlace setup e → IsThere setup p.choose p.bank e x → ShowsState world (number_of e) x
+      shows_by (party_of.Site q) x place there =
           let v = within p.bank.sites world.sites q.place there.0 (sym shown.sites.count) there.2 in
           let is = shown.sites.each q.place v.0 there.0 v.1 there.2 in
-          let r : Reads memory (party_of.Site q) (AtSite (site_at setup p.choose q.place there.0)) = subst (λ (y : PartyState). Reads memory (party_of.Site q) y) there.1 reads in (
+          subst (λ (y : PartyState). ShowsState world (number_of {B = MemCell} (party_of.Site q)) y) (sym there.1) (
             v.0,
             ap (λ (i : ℕ). slice_get world.sites i) (omega arith) ∙ v.1,
             record {
-              status = r.status ∙ ap (λ (s : Site Cmd). s.status) is.site;
-              view = r.view ∙ ap (λ (s : Site Cmd). s.view) is.site;
-              log = r.log ∙ ap (λ (s : Site Cmd). s.log) is.site;
-              done = r.done ∙ ap (λ (s : Site Cmd). s.done) is.site;
-              known = λ i low. r.known i low ∙ ap (λ (s : Site Cmd). boot_of s.known i) is.site;
-              cell = r.cell ∙ ap (λ (s : Site Cmd). s.cell) is.site;
+              is = record { f = sym (is.f ∙ ap faults p.made); me = sym is.me; start = ap opening (sym (is.made_from ∙ p.made)); right = p.right };
+              acks = is.acks;
+              site = is.site;
             },
           )
-      reads_by k (party_of.Node q) x place there reads =
+      shows_by (party_of.Node q) x place there =
           let v = within p.bank.nodes world.nodes q.place there.0 (sym shown.nodes.count) there.2 in
           let is = shown.nodes.each q.place v.0 there.0 v.1 there.2 in
           let same : v.0 ≡ node_at setup p.choose q.place there.0 = is ∙ ap (λ (s : Setup). record { setup = s; ccy = q.place; node = there.0 }) p.made in
-          let r : Reads memory (party_of.Node q) (AtNode (node_at setup p.choose q.place there.0)) = subst (λ (y : PartyState). Reads memory (party_of.Node q) y) there.1 reads in (
-            v.0,
-            ap (λ (i : ℕ). slice_get world.nodes i) (number_is q.place place.1) ∙ v.1,
-            subst (λ (u : node.Shown). nodes.Reads q.now u) (sym same) r,
-          )
-      reads_by k (party_of.Client q) x place there reads =
+          subst (λ (y : PartyState). ShowsState world (number_of {B = MemCell} (party_of.Node q)) y) (sym there.1)
+          (ap (λ (i : ℕ). slice_get world.nodes i) (number_is q.place place.1) ∙ v.1 ∙ ap (λ (u : node.Shown). Some u) same)
+      shows_by (party_of.Client q) x place there =
           let v = within p.bank.clients world.clients q.place there.0 (sym shown.clients.count) there.2 in
           let is = shown.clients.each q.place v.0 there.0 v.1 there.2 in
           let same : v.0 ≡ client_at setup p.choose q.place there.0 = is ∙ ap (λ (s : Setup). record { f = faults s; me = q.place; client = there.0 }) p.made in
-          let r : Reads memory (party_of.Client q) (AtClient (client_at setup p.choose q.place there.0)) = subst (λ (y : PartyState). Reads memory (party_of.Client q) y) there.1 reads in (
-            v.0,
-            v.1,
-            subst (λ (u : client.Shown). clients.Reads q.now u) (sym same) r,
-          )
+          subst (λ (y : PartyState). ShowsState world (number_of {B = MemCell} (party_of.Client q)) y) (sym there.1) (v.1 ∙ ap (λ (u : client.Shown). Some u) same)
 
-      pub ends_agree : EndsAgree closed world
-      ends_agree k c is =
-          subst (λ (n : ℕ). ReadsWorld world n c.end) (sym (all k c is).number)
-          (reads_by k c.end (replay after (own run k) (start_of setup p.choose closed k)) (all k c is).place (p.agrees.there k c is) (read_state k c is))
+      pub replayed : AreReplayed closed world
+      replayed = record {
+        start = start_of setup p.choose closed;
+        opens = openings_are setup p.choose p.right closed all;
+        shown = λ k c is.
+            subst (λ (n : ℕ). ShowsState world n (replay after c.history.items (start_of setup p.choose closed k))) (sym (all k c is).number)
+            (subst (λ (l : List (Recorded PartyEvent PartyOutcome)). ShowsState world (number_of c.end) (replay after l (start_of setup p.choose closed k))) (each k ∙ ap history_in is)
+            (shows_by c.end (replay after (own run k) (start_of setup p.choose closed k)) (all k c is).place (p.agrees.there k c is)));
+      }

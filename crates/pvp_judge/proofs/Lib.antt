@@ -1,7 +1,7 @@
 -- the merged list with one event more, and the world after it
 mod Telling
 -- what sites opened over, one actor further
-mod Furthers
+pub mod Furthers
 -- a merged list of first events ends the merged list of all
 mod Endings
 -- a bank that goes through the merged list beside the actors
@@ -16,3 +16,5 @@ mod Numbering
 mod Naming
 -- a world that takes the merged list again
 mod Retelling
+-- ends that read like where the histories lead
+mod Ends

@@ -8,7 +8,7 @@ use Rattle.pvp_rooms.specs.declared.actor.Actor.{Ghosts}
 use Rattle.pvp_rooms.specs.declared.cell.Closed.{Closed}
 use Rattle.pvp_rooms.specs.Histories.{IsRising, stamp_clock}
 use Rattle.pvp_audit.specs.Runs.{Tagged, own, history_in, history_of, number_in, AreInOrder, Arrives, CanCome, IsRun, IsLegal}
-use Rattle.pvp_audit.specs.Verdicts.{HoldOfAll, IsAlone}
+use Rattle.pvp_audit.specs.Verdicts.{ClocksRise}
 use Rattle.pvp_audit.specs.Merging.{IsMerged, IsNextActor}
 use Rattle.pvp_audit.specs.Named.{IsNamed}
 use Rattle.pvp_audit.proofs.Looks.{get_pushed, slice_get-first}
@@ -21,16 +21,16 @@ use Rattle.pvp_judge.specs.Numbered.{post_of, AreNumbered, IsFound}
 use Rattle.pvp_judge.proofs.Numbering.{get_left, number_found}
 
 -- THE NUMBER THAT IS FOUND NAMES WHAT IS DELIVERED, where its stamp names an event of the run that sent it
-pub number_names : {A N : Type 0} (is_for : A → PartyEvent → Bool) (closed : List (Closed A N PartyEvent PartyOutcome)) → AreInOrder closed → HoldOfAll closed (λ _ c. IsAlone c)
+pub number_names : {A N : Type 0} (is_for : A → PartyEvent → Bool) (closed : List (Closed A N PartyEvent PartyOutcome)) → AreInOrder closed → ClocksRise closed
     → (at : List ℕ) (run : List (Tagged PartyEvent PartyOutcome)) → IsMerged closed run at → (numbers : List (List ℕ)) → AreNumbered sent run numbers
     → (post : List Envelope) → post ≡ post_of sent run → length post < 2 ^ 64
     → (actor : A) (r : Recorded PartyEvent PartyOutcome) → Arrives delivers sent is_for closed run actor r → (number : ℕ) → IsFound closed numbers r.stamp number → Names post number r.event
-number_names is_for closed order alone at run merged numbers numbered post is fits actor r arrives number found = elim arrives [
+number_names is_for closed order clocks at run merged numbers numbered post is fits actor r arrives number found = elim arrives [
   | inl none ↦ inl none
   | inr w ↦ (
       let was = w.3 in
       let s = was.sends in
-      let f = number_found sent closed order alone at run merged numbers numbered w.0 was.by was.place was.what was.there was.number was.clock s.0 s.2
+      let f = number_found sent closed order clocks at run merged numbers numbered w.0 was.by was.place was.what was.there was.number was.clock s.0 s.2
       (subst (λ (l : List Envelope). length l < 2 ^ 64) is fits) number (subst (λ (o : Option Stamp). IsFound closed numbers o number) w.1 found) in
       inr (f.0, ap (λ (l : List Envelope). slice_get l (number - 1)) is ∙ f.1 ∙ sym s.1))
 ]
@@ -41,14 +41,14 @@ above_stamp [] last i r rising is = cc
 above_stamp (x ∷ xs) last zero r rising is = subst (λ (q : Recorded _ _). stamp_clock q.stamp < q.clock) (same_some x r is) rising.1
 above_stamp (x ∷ xs) last (suc i) r rising is = above_stamp xs x.clock i r rising.2 is
 
-module _ {A N E O : Type 0} (closed : List (Closed A N E O)) (alone : HoldOfAll closed (λ _ c. IsAlone c)) (at : List ℕ) (run : List (Tagged E O)) (merged : IsMerged closed run at) (k : ℕ) (next : IsNextActor closed at k) where
+module _ {A N E O : Type 0} (closed : List (Closed A N E O)) (clocks : ClocksRise closed) (at : List ℕ) (run : List (Tagged E O)) (merged : IsMerged closed run at) (k : ℕ) (next : IsNextActor closed at k) where
   -- AN EVENT OF A LOWER CLOCK THAN THE NEXT ONE'S IS IN THE RUN SO FAR
   pub next_comes : (by place : ℕ) (what : Recorded E O) → slice_get (history_of closed by) place ≡ Some what → what.clock < next.what.clock → slice_get (own run by) place ≡ Some what
   next_comes by place what there less = elim (cases_order place (slice_index at by)) [
-    | inl e ↦ absurd (not_earlier closed alone at k next by place what (omega (arith, e)) there (inl less))
+    | inl e ↦ absurd (not_earlier closed clocks at k next by place what (omega (arith, e)) there (inl less))
     | inr w ↦ elim w [
       | inl low ↦ ap (λ l. slice_get l place) (merged.each by) ∙ slice_get-first (history_of closed by) (slice_index at by) place low ∙ there
-      | inr high ↦ absurd (not_earlier closed alone at k next by place what (omega (arith, high)) there (inl less))
+      | inr high ↦ absurd (not_earlier closed clocks at k next by place what (omega (arith, high)) there (inl less))
     ]
   ]
 
@@ -57,7 +57,7 @@ module _ {A N E O : Type 0} (closed : List (Closed A N E O)) (alone : HoldOfAll 
     pub named_comes : (stamp : Stamp) → next.what.stamp ≡ Some stamp → (by place : ℕ) (what : Recorded E O) → slice_get (history_of closed by) place ≡ Some what → what.clock ≡ stamp.clock → slice_get (own run by) place ≡ Some what
     named_comes stamp stamped by place what there clock =
         let kept : slice_get who.history.items (slice_index at k) ≡ Some next.what = ap (λ o. slice_get (history_in o) (slice_index at k)) (sym is) ∙ next.next in
-        let above = above_stamp who.history.items 0 (slice_index at k) next.what (alone k who is).clocks kept in
+        let above = above_stamp who.history.items 0 (slice_index at k) next.what (clocks k who is) kept in
         let same : stamp_clock next.what.stamp ≡ stamp.clock = ap stamp_clock stamped in
         next_comes by place what there (omega (arith, clock, same, above))
 
@@ -112,9 +112,9 @@ module _ {A N E O L : Type 0} (m : Ghosts A N E O) (delivers : E → Option L) (
       go false e so there = further (so (ap (λ l. slice_get l i) (sym (append-nil (own past k))) ∙ there))
 
   -- WHAT THE NEXT EVENT DELIVERS WAS SENT IN THE RUN SO FAR, where the whole is legal
-  pub next_arrives : IsLegal m delivers sent is_for closed start → HoldOfAll closed (λ _ c. IsAlone c) → (at : List ℕ) (run : List (Tagged E O)) → IsMerged closed run at → (k : ℕ) (next : IsNextActor closed at k)
+  pub next_arrives : IsLegal m delivers sent is_for closed start → ClocksRise closed → (at : List ℕ) (run : List (Tagged E O)) → IsMerged closed run at → (k : ℕ) (next : IsNextActor closed at k)
       → (who : Closed A N E O) → slice_get closed k ≡ Some who → Arrives delivers sent is_for closed run who.end next.what
-  next_arrives legal alone at run merged k next who is =
+  next_arrives legal clocks at run merged k next who is =
       let i = slice_index at k in
       let c = could_come legal.run legal.legal k i next.what (ap (λ l. slice_get l i) (legal.each k) ∙ next.next) in
       let same : c.comes.who ≡ who = same_some c.comes.who who (sym c.comes.is ∙ is) in
@@ -133,7 +133,7 @@ module _ {A N E O L : Type 0} (m : Ghosts A N E O) (delivers : E → Option L) (
                 by = was.by;
                 place = was.place;
                 what = was.what;
-                there = named_comes closed alone at run merged k next who is w.0 w.1 was.by was.place was.what there was.clock;
+                there = named_comes closed clocks at run merged k next who is w.0 w.1 was.by was.place was.what there was.clock;
                 number = was.number;
                 clock = was.clock;
                 sends = was.sends;

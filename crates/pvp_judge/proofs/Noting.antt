@@ -6,7 +6,7 @@ use Rattle.pvp_wire.specs.declared.stamped.Stamp.{Stamp}
 use Rattle.pvp_rooms.specs.declared.message.Recorded.{Recorded}
 use Rattle.pvp_rooms.specs.declared.cell.Closed.{Closed}
 use Rattle.pvp_audit.specs.Runs.{AreInOrder}
-use Rattle.pvp_audit.specs.Verdicts.{HoldOfAll, IsAlone}
+use Rattle.pvp_audit.specs.Verdicts.{ClocksRise}
 use Rattle.pvp_audit.proofs.Order.{same_some}
 use Rattle.pvp_audit.proofs.Halving.{Rises, clocks_rise, numbers_rise}
 use Rattle.pvp_judge.specs.Numbered.{noted_of, IsEventOf, IsNumber, NamesNone}
@@ -54,7 +54,7 @@ one_place key xs rises i j x y is there same = elim (cases_order i j) [
   ]
 ]
 
-module _ {A N E O : Type 0} (closed : List (Closed A N E O)) (order : AreInOrder closed) (alone : HoldOfAll closed (λ _ c. IsAlone c)) (stamp : Stamp) where
+module _ {A N E O : Type 0} (closed : List (Closed A N E O)) (order : AreInOrder closed) (clocks : ClocksRise closed) (stamp : Stamp) where
   -- a stamp names one event
   pub one_event : (by place j i : ℕ) → IsEventOf closed stamp by place → IsEventOf closed stamp j i → (by ≡ j) × (place ≡ i)
   one_event by place j i e d =
@@ -62,7 +62,7 @@ module _ {A N E O : Type 0} (closed : List (Closed A N E O)) (order : AreInOrder
       let one : d.who ≡ e.who = same_some d.who e.who (sym d.is ∙ ap (slice_get closed) (sym here) ∙ e.is) in
       let there : slice_get e.who.history.items i ≡ Some d.what = ap (λ (c : Closed A N E O). slice_get c.history.items i) (sym one) ∙ d.there in (
         here,
-        one_place (λ (r : Recorded E O). r.clock) e.who.history.items (clocks_rise e.who.history.items (alone by e.who e.is).clocks) place i e.what d.what e.there there (e.clock ∙ sym d.clock),
+        one_place (λ (r : Recorded E O). r.clock) e.who.history.items (clocks_rise e.who.history.items (clocks by e.who e.is)) place i e.what d.what e.there there (e.clock ∙ sym d.clock),
       )
 
   module _ (numbers : List (List ℕ)) (by place : ℕ) (event : IsEventOf closed stamp by place) where

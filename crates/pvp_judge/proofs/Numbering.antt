@@ -6,7 +6,7 @@ use Rattle.pvp_wire.specs.declared.stamped.Stamp.{Stamp}
 use Rattle.pvp_rooms.specs.declared.message.Recorded.{Recorded}
 use Rattle.pvp_rooms.specs.declared.cell.Closed.{Closed}
 use Rattle.pvp_audit.specs.Runs.{Tagged, own, number_in, history_of, AreInOrder}
-use Rattle.pvp_audit.specs.Verdicts.{HoldOfAll, IsAlone}
+use Rattle.pvp_audit.specs.Verdicts.{ClocksRise}
 use Rattle.pvp_audit.specs.Merging.{IsMerged}
 use Rattle.pvp_audit.proofs.Looks.{get_pushed, get_set_other}
 use Rattle.pvp_audit.proofs.Order.{who_took}
@@ -106,7 +106,7 @@ module _ {E O L : Type 0} (sent : O → List L) where
       go false e = ap (λ o. unwrap_or o []) (get_set_other numbers t.by k (noted_of numbers t.by ++ (length (post_of sent run) + 1) ∷ []) (eqb-false t.by k e)) ∙ so k ∙ sym (append-nil (firsts_of sent run k))
 
 -- what was sent in a run is what was found
-module _ {A N E O L : Type 0} (sent : O → List L) (closed : List (Closed A N E O)) (order : AreInOrder closed) (alone : HoldOfAll closed (λ _ c. IsAlone c)) (at : List ℕ) (run : List (Tagged E O)) (merged : IsMerged closed run at) (numbers : List (List ℕ)) (numbered : AreNumbered sent run numbers) where
+module _ {A N E O L : Type 0} (sent : O → List L) (closed : List (Closed A N E O)) (order : AreInOrder closed) (clocks : ClocksRise closed) (at : List ℕ) (run : List (Tagged E O)) (merged : IsMerged closed run at) (numbers : List (List ℕ)) (numbered : AreNumbered sent run numbers) where
   -- an event of the run is an event of its actor
   of_history : (k i : ℕ) (r : Recorded E O) → slice_get (own run k) i ≡ Some r → slice_get (history_of closed k) i ≡ Some r
   of_history k i r there = taken (history_of closed k) (slice_index at k) i (ap (λ l. slice_get l i) (sym (merged.each k)) ∙ there)
@@ -135,7 +135,7 @@ module _ {A N E O L : Type 0} (sent : O → List L) (closed : List (Closed A N E
         let within = slice_get_within (post_of sent run) (f.0 + stamp.index - 1) letter stands in
         elim found [
           | inl n ↦ (
-              let is = names_no_other closed order alone stamp numbers by place event_named f.0 number noted n in
+              let is = names_no_other closed order clocks stamp numbers by place event_named f.0 number noted n in
               (omega (arith, is, counted), ap (λ m. slice_get (post_of sent run) (m - 1)) is ∙ stands))
-          | inr w ↦ absurd (w.1 (f.0 + stamp.index) (omega (arith, within, fits, counted)) (names_one closed order alone stamp numbers by place event_named f.0 noted))
+          | inr w ↦ absurd (w.1 (f.0 + stamp.index) (omega (arith, within, fits, counted)) (names_one closed order clocks stamp numbers by place event_named f.0 noted))
         ]

@@ -13,7 +13,7 @@ use Rattle.pvp_world.specs.Steps.{AreReliable}
 use Rattle.pvp_world.specs.Refusals.{IsAllowed}
 use Rattle.pvp_rooms.specs.declared.message.Recorded.{Recorded}
 use Rattle.pvp_audit.specs.Runs.{history_of, AreInOrder, Arrives, CanCome}
-use Rattle.pvp_audit.specs.Verdicts.{HoldOfAll, IsAlone, IsSound}
+use Rattle.pvp_audit.specs.Verdicts.{ClocksRise, IsOneRun}
 use Rattle.pvp_audit.specs.Merging.{IsNextActor}
 use Rattle.pvp_audit.proofs.Together.{IsStepped}
 use Rattle.pvp_audit.proofs.Grows.{merged_next, merged_all}
@@ -22,14 +22,14 @@ use Rattle.pvp_parties.specs.declared.party.PartyOutcome.{PartyOutcome}
 use Rattle.pvp_parties.specs.Alike.{Site}
 use Rattle.pvp_parties.specs.Made.{memory}
 use Rattle.pvp_parties.specs.Parties.{PartyState, delivers, sent, is_for}
-use Rattle.pvp_judge.specs.Judged.{Left, party, openings, AreSound, EndsAgree}
+use Rattle.pvp_judge.specs.Judged.{Left, party, openings, AreOneRun, AreReplayed}
 use Rattle.pvp_judge.specs.Moves.{move_of}
 use Rattle.pvp_judge.specs.Numbered.{noted_of, post_of, AreNumbered, IsFound}
 use Rattle.pvp_judge.specs.Retold.{Names, GoesBy, IsTelling, WentThrough}
 use Rattle.pvp_judge.specs.Banked.{AreOfBank, OpensInOrder, AllAre}
 use Rattle.pvp_judge.proofs.Agrees.{start_of, openings_are}
 use Rattle.pvp_judge.proofs.Endings.{could_come}
-use Rattle.pvp_judge.proofs.Follows.{Follows, follows_none, shows_bank, may_take, follows_next, ends_agree}
+use Rattle.pvp_judge.proofs.Follows.{Follows, follows_none, shows_bank, may_take, follows_next, replayed}
 use Rattle.pvp_judge.proofs.Naming.{number_names}
 use Rattle.pvp_judge.proofs.Numbering.{numbered_none, numbered_next}
 use Rattle.pvp_judge.proofs.Telling.{telling_none, telling_next, telling_all}
@@ -50,7 +50,7 @@ reliable_sites sites cells over all i v is = all i v.cell (ap (λ l. slice_get l
     mapped (y ∷ xs) zero e = ap (λ (z : Site). Some z.cell) (some-same y v e)
     mapped (y ∷ xs) (suc i) e = mapped xs i e
 
-module _ (setup : Setup) (closed : List Left) (order : AreInOrder closed) (all : AreOfBank setup closed) (alone : HoldOfAll closed (λ _ c. IsAlone c)) (sound : AreSound closed)
+module _ (setup : Setup) (closed : List Left) (order : AreInOrder closed) (all : AreOfBank setup closed) (clocks : ClocksRise closed) (one_run : AreOneRun closed)
     (one_bank : (setup : Setup) (f : ℕ) (a b : LegalList setup f) → a.cells ≡ b.cells → a.moves ≡ b.moves → a.bank ≡ b.bank) where
   pub retelling_none : OpensInOrder closed → (at : List ℕ) (numbers : List (List ℕ)) (world : Shown MemCell) → ((k : ℕ) → slice_index at k ≡ 0) → numbers ≡ replicate (length closed) []
       → world.setup ≡ setup → world.opening ≡ openings closed → world.trail ≡ [] → IsProved held_by world → AreReliable memory world → IsRetelling setup closed at numbers world
@@ -68,8 +68,8 @@ module _ (setup : Setup) (closed : List Left) (order : AreInOrder closed) (all :
     abbrev start : ℕ → PartyState
     start = start_of setup p.follows.choose closed
 
-    sound_so : IsSound party delivers sent is_for closed start
-    sound_so = sound start (openings_are setup p.follows.choose p.follows.right closed all)
+    run_so : IsOneRun party delivers sent is_for closed start
+    run_so = one_run start (openings_are setup p.follows.choose p.follows.right closed all)
 
     post_is : world.post ≡ post_of sent p.tells.run
     post_is = (shows_bank setup closed order all p.tells.run world p.follows one_bank).post ∙ p.follows.agrees.post
@@ -77,7 +77,7 @@ module _ (setup : Setup) (closed : List Left) (order : AreInOrder closed) (all :
     module _ (fits : length world.post < 2 ^ 64) (k : ℕ) (next : IsNextActor closed at k) (now : List ℕ) (stepped : IsStepped at now k) (one : Left) (is : slice_get closed k ≡ Some one) (number : ℕ) where
       -- the next event can come after those before it
       can : CanCome party delivers sent is_for closed start p.tells.run (record { by = k; what = next.what })
-      can = could_come party delivers sent is_for closed start sound_so.legal (record { by = k; what = next.what }) p.tells.run now (merged_next closed order alone at p.tells.run p.tells.merged k next now stepped)
+      can = could_come party delivers sent is_for closed start run_so.legal (record { by = k; what = next.what }) p.tells.run now (merged_next closed order clocks at p.tells.run p.tells.merged k next now stepped)
 
       arrives : Arrives delivers sent is_for closed p.tells.run one.end next.what
       arrives = subst (λ (c : Left). Arrives delivers sent is_for closed p.tells.run c.end next.what) (some-same can.who one (sym can.is ∙ is)) can.arrives
@@ -86,7 +86,7 @@ module _ (setup : Setup) (closed : List Left) (order : AreInOrder closed) (all :
       here = elim arrives [ inl none ↦ inl none | inr w ↦ inr w.2 ]
 
       named : IsFound closed numbers next.what.stamp number → Names world.post number next.what.event
-      named found = number_names is_for closed order alone at p.tells.run p.tells.merged numbers p.numbered world.post post_is fits one.end next.what arrives number found
+      named found = number_names is_for closed order clocks at p.tells.run p.tells.merged numbers p.numbered world.post post_is fits one.end next.what arrives number found
 
       may : IsFound closed numbers next.what.stamp number → (move : Move) → move_of one.number next.what number ≡ Some move → IsAllowed world move
       may found = may_take setup closed order all p.tells.run world p.follows one_bank k one is next.what number can.comes here (named found)
@@ -104,7 +104,7 @@ module _ (setup : Setup) (closed : List Left) (order : AreInOrder closed) (all :
           let low = next.within in
           let count = p.counted in
           record {
-            tells = telling_next setup (openings closed) closed order alone at world p.tells k next now stepped one is next.what refl number new (named found_here) goes_here;
+            tells = telling_next setup (openings closed) closed order clocks at world p.tells k next now stepped one is next.what refl number new (named found_here) goes_here;
             follows = follows_next setup closed order all p.tells.run world p.follows one_bank k one is next.what number can.comes here (named found_here) new goes_here proved reliable;
             numbered = subst (λ (l : List (List ℕ)). AreNumbered sent (record { by = k; what = next.what } ∷ p.tells.run) l)
                 (ap (λ (post : List Envelope). slice_set numbers k (noted_of numbers k ++ (length post + 1) ∷ [])) (sym post_is) ∙ sym is_more)
@@ -114,7 +114,7 @@ module _ (setup : Setup) (closed : List Left) (order : AreInOrder closed) (all :
 
     module _ (done : (k : ℕ) → length (history_of closed k) ≤ slice_index at k) where
       pub retelling_went : WentThrough setup (openings closed) closed world
-      retelling_went = telling_all setup (openings closed) closed order alone at world p.tells done
+      retelling_went = telling_all setup (openings closed) closed order clocks at world p.tells done
 
-      pub retelling_ends : EndsAgree closed world
-      retelling_ends = ends_agree setup closed order all p.tells.run world p.follows one_bank (merged_all closed order alone at p.tells.run p.tells.merged done) sound_so.ends
+      pub retelling_replayed : AreReplayed closed world
+      retelling_replayed = replayed setup closed order all p.tells.run world p.follows one_bank (merged_all closed order clocks at p.tells.run p.tells.merged done)

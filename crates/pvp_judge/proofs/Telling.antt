@@ -8,7 +8,7 @@ use Rattle.pvp_world.specs.World.{Shown}
 use Rattle.pvp_rooms.specs.declared.cell.Closed.{Closed}
 use Rattle.pvp_rooms.specs.declared.message.Recorded.{Recorded}
 use Rattle.pvp_audit.specs.Runs.{history_of, number_in, AreInOrder}
-use Rattle.pvp_audit.specs.Verdicts.{HoldOfAll, IsAlone}
+use Rattle.pvp_audit.specs.Verdicts.{ClocksRise}
 use Rattle.pvp_audit.specs.Merging.{IsNextActor}
 use Rattle.pvp_audit.proofs.Together.{IsStepped}
 use Rattle.pvp_audit.proofs.Grows.{merged_none, merged_next, merged_all}
@@ -31,7 +31,7 @@ module _ {A N : Type 0} (setup : Setup) (cells : List Boot) (closed : List (Clos
     told = refl;
   }
 
-  module _ (order : AreInOrder closed) (alone : HoldOfAll closed (λ _ c. IsAlone c)) (at : List ℕ) (world : Shown MemCell) (p : IsTelling setup cells closed at world) where
+  module _ (order : AreInOrder closed) (clocks : ClocksRise closed) (at : List ℕ) (world : Shown MemCell) (p : IsTelling setup cells closed at world) where
     -- the next event of all
     abbrev pub telling_next : (k : ℕ) (next : IsNextActor closed at k) (now : List ℕ) → IsStepped at now k → (one : Closed A N PartyEvent PartyOutcome) → slice_get closed k ≡ Some one
         → (r : Recorded PartyEvent PartyOutcome) → next.what ≡ r → (number : ℕ) (after : Shown MemCell)
@@ -43,7 +43,7 @@ module _ {A N : Type 0} (setup : Setup) (cells : List Boot) (closed : List (Clos
       opening = p.opening;
       nothing = p.nothing;
       run = record { by = k; what = next.what } ∷ p.run;
-      merged = merged_next closed order alone at p.run p.merged k next now stepped;
+      merged = merged_next closed order clocks at p.run p.merged k next now stepped;
       told = (
         world,
         p.told,
@@ -65,6 +65,6 @@ module _ {A N : Type 0} (setup : Setup) (cells : List Boot) (closed : List (Clos
       nothing = p.nothing;
       run = p.run;
       sorted = p.merged.sorted;
-      each = merged_all closed order alone at p.run p.merged done;
+      each = merged_all closed order clocks at p.run p.merged done;
       told = p.told;
     }

@@ -24,12 +24,16 @@ HasPlace setup (Site p) = p.place < 2 * faults setup + 1
 HasPlace setup (Node p) = (p.place < length setup.currencies) × (p.place < 99)
 HasPlace setup (Client p) = (p.place ≤ length setup.members) × (p.place < FIRST_NODE)
 
--- what an actor of this bank left, under the number that its kind and its place give
-pub record IsOfBank (setup : Setup) (c : Left) : Type 0 where
-  pub made_from : setup_of c.end ≡ setup
-  pub number : c.number ≡ number_of c.end
-  pub opened : OpenedOver c.end c.opening
-  pub place : HasPlace setup c.end
+-- an actor of this bank, with the number that its kind and its place give, that opened over this
+pub record IsActorOf (setup : Setup) (called : ℕ) (opening : Option Boot) (actor : Party) : Type 0 where
+  pub made_from : setup_of actor ≡ setup
+  pub number : called ≡ number_of actor
+  pub opened : OpenedOver actor opening
+  pub place : HasPlace setup actor
+
+-- what an actor of this bank left
+abbrev pub IsOfBank : Setup → Left → Type 0
+IsOfBank setup c = IsActorOf setup c.number c.opening c.end
 
 abbrev pub AreOfBank : Setup → List Left → Type 0
 AreOfBank setup closed = HoldOfAll closed (λ _ c. IsOfBank setup c)

@@ -6,16 +6,20 @@ use Rattle.vr_types.specs.declared.cell.Boot.{Boot}
 use Rattle.vr_types.specs.declared.cell.MemCell.{MemCell}
 use Rattle.vr_types.specs.MemoryCell.{held_by}
 use Rattle.rtgs_node.specs.Shown as node
+use Rattle.headline.specs.Machine.{book}
 use Rattle.pvp_world.specs.Client as client
 use Rattle.pvp_world.specs.World.{Shown, IsProved}
 use Rattle.pvp_rooms.specs.declared.actor.Actor.{Ghosts}
 use Rattle.pvp_rooms.specs.declared.cell.Closed.{Closed}
+use Rattle.pvp_rooms.specs.Histories.{replay}
 use Rattle.pvp_rooms.specs.Nodes as nodes
 use Rattle.pvp_rooms.specs.Clients as clients
+use Rattle.pvp_rooms.specs.Sites as sites
 use Rattle.pvp_audit.specs.declared.verdict.Verdict.{Verdict}
 use Rattle.pvp_audit.specs.declared.verdict.Verdict.TheVariants.{Yes as Passes, No as Fails}
 use Rattle.pvp_audit.specs.Runs.{AreOpenings}
-use Rattle.pvp_audit.specs.Verdicts.{Means}
+use Rattle.pvp_audit.specs.declared.verdict.Why.{Why}
+use Rattle.pvp_audit.specs.Verdicts.{Means, MeansRun}
 use Rattle.pvp_parties.specs.Made.{memory}
 use Rattle.pvp_parties.specs.Parties.{Party}
 use Rattle.pvp_parties.specs.declared.party.PartyOf.TheVariants.{Site, Node, Client}
@@ -23,7 +27,7 @@ use Rattle.pvp_parties.specs.declared.party.PartyEvent.{PartyEvent}
 use Rattle.pvp_parties.specs.declared.party.PartyOutcome.{PartyOutcome}
 use Rattle.pvp_parties.specs.Alike as alike
 use Rattle.pvp_parties.specs.Alike.{AreAlikeSites}
-use Rattle.pvp_parties.specs.Parties.{PartyState, Opens, Shows, Comes, Reads, Tells, Brings, after, delivers, sent, is_for}
+use Rattle.pvp_parties.specs.Parties.{PartyState, AtSite, AtNode, AtClient, Opens, Shows, Comes, Reads, Tells, Brings, after, delivers, sent, is_for}
 use Rattle.pvp_judge.specs.declared.judgement.Judgement.{Judgement}
 use Rattle.pvp_judge.specs.declared.judgement.Judgement.TheVariants.{Yes, No}
 use Rattle.pvp_judge.specs.Retold.{WentThrough}
@@ -49,6 +53,33 @@ IsRightVerdict closed verdict = (start : ℕ → PartyState) → AreOpenings par
 abbrev pub AreSound : List Left → Type 0
 AreSound closed = IsRightVerdict closed Passes
 
+-- the verdict of histories alone is right, whatever right choices the sites take
+abbrev pub IsRightOfRun : List Left → Verdict → Type 0
+IsRightOfRun closed verdict = (start : ℕ → PartyState) → AreOpenings party closed start → MeansRun party delivers sent is_for closed start verdict
+
+-- the histories are one run
+abbrev pub AreOneRun : List Left → Type 0
+AreOneRun closed = IsRightOfRun closed Passes
+
+-- the world's actor of this number is in this state; of a site's it shows what its reading calls show
+abbrev pub ShowsState : Shown MemCell → ℕ → PartyState → Type 0
+ShowsState world number (AtSite x) = (v : alike.Site) × (slice_get world.sites (number - FIRST_SITE) ≡ Some v) × sites.Shows book memory v x
+ShowsState world number (AtNode x) = slice_get world.nodes (min (number - FIRST_NODE) 255) ≡ Some x
+ShowsState world number (AtClient x) = slice_get world.clients number ≡ Some x
+
+-- THE WORLD'S ACTORS ARE WHERE THE HISTORIES LEAD, from where the actors opened, by right choices of the sites
+pub record AreReplayed (closed : List Left) (world : Shown MemCell) : Type 0 where
+  pub start : ℕ → PartyState
+  pub opens : AreOpenings party closed start
+  pub shown : (k : ℕ) (c : Left) → slice_get closed k ≡ Some c → ShowsState world c.number (replay after c.history.items (start k))
+
+-- THE RUN WAS TAKEN AGAIN: the world went through the merged list from a new one, over what the sites opened over; its
+-- actors are where the histories lead; and the headline holds of it
+pub record IsTakenAgain (setup : Setup) (closed : List Left) (world : Shown MemCell) : Type 0 where
+  pub went : WentThrough setup (openings closed) closed world
+  pub replayed : AreReplayed closed world
+  pub headline : IsProved held_by world
+
 -- what an actor's reading calls show is what those of the world's actor of this number show
 abbrev pub ReadsWorld : Shown MemCell → ℕ → Party → Type 0
 ReadsWorld world number (Site p) = (v : alike.Site) × (slice_get world.sites (number - FIRST_SITE) ≡ Some v) × AreAlikeSites p.now v
@@ -59,14 +90,26 @@ ReadsWorld world number (Client p) = (v : client.Shown) × (slice_get world.clie
 abbrev pub EndsAgree : List Left → Shown MemCell → Type 0
 EndsAgree closed world = (k : ℕ) (c : Left) → slice_get closed k ≡ Some c → ReadsWorld world c.number c.end
 
--- A YES: all tests pass; the world went through the merged list from a new one, over what the sites opened over; each actor
--- ended as the world's; and the headline holds of the world
+-- A YES: all tests pass; the run was taken again by this world; and each actor ended as the world's
 pub record IsYes (setup : Setup) (closed : List Left) (world : Shown MemCell) : Type 0 where
   pub sound : AreSound closed
-  pub went : WentThrough setup (openings closed) closed world
+  pub again : IsTakenAgain setup closed world
   pub ends : EndsAgree closed world
-  pub headline : IsProved held_by world
 
 abbrev pub Judges : Setup → List Left → Judgement → Type 0
 Judges setup closed (Yes world) = IsYes setup closed world
 Judges setup closed (No actor event why) = IsRightVerdict closed (Fails actor event why)
+
+-- A YES OF HISTORIES, whatever receipts and ends there are: they are one run, and it was taken again by this world
+pub record IsYesOfRun (setup : Setup) (closed : List Left) (world : Shown MemCell) : Type 0 where
+  pub run : AreOneRun closed
+  pub again : IsTakenAgain setup closed world
+
+abbrev pub JudgesRun : Setup → List Left → Judgement → Type 0
+JudgesRun setup closed (Yes world) = IsYesOfRun setup closed world
+JudgesRun setup closed (No actor event why) = IsRightOfRun closed (Fails actor event why)
+
+-- a No is of such a test
+abbrev pub TellsWhy : (Why → Type 0) → Judgement → Type 0
+TellsWhy Is (Yes world) = Unit {0}
+TellsWhy Is (No actor event why) = Is why

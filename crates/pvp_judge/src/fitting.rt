@@ -1,5 +1,5 @@
 //! Whether actors are those of a bank, and the cells over which its sites opened.
-ghost use Rattle.std.specs.Prelude.{◌≡◌, ◌+◌, ◌↔◌, IsTrue, IfOk, map};
+ghost use Rattle.std.specs.Prelude.{◌≡◌, ◌+◌, ◌≤◌, ◌↔◌, IsTrue, IfOk, map};
 ghost use Rattle.pvp_types.specs.Setup.{IsValid};
 ghost use Rattle.vr_types.specs.MemoryCell.{held_by, IsReliable};
 ghost use Rattle.pvp_judge.specs.Judged.{openings};
@@ -18,16 +18,17 @@ pub fn is_the_bank(setup: &Setup, closed: &[Closed<Party>]) -> bool
     requires { IsValid setup.now }
     ensures { IsTrue result ↔ IsTheBank setup.now closed.now }
 {
-    if closed.len() != count_of(setup) || !are_in_order(closed) || !are_of_bank(setup, closed) {
+    if closed.len() != actor_count(setup) || !are_in_order(closed) || !are_of_bank(setup, closed) {
         return false;
     }
     sites_are_numbered(setup, closed)
 }
 
 /// How many actors a bank has: the operator, the members, the nodes and the sites.
-fn count_of(setup: &Setup) -> usize
+pub fn actor_count(setup: &Setup) -> usize
     requires { IsValid setup.now }
-    ensures { result ≡ actor_count setup.now }
+    ensures count { result ≡ actor_count setup.now }
+    ensures few { result ≤ 80 }
 {
     let clients = usize::from(setup.member_count()) + 1;
     let nodes = usize::from(setup.currency_count());

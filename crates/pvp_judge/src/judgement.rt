@@ -1,26 +1,24 @@
 //! What the audit of a whole bank says.
-ghost use Rattle.std.specs.Prelude.{◌≡◌, ◌+◌, ◌*◌, IfOk, IfErr, length, map};
-ghost use Rattle.pvp_types.specs.Setup.{IsValid, faults};
-ghost use Rattle.vr_types.specs.MemoryCell.{held_by, IsReliable};
-ghost use Rattle.pvp_audit.specs.Runs.{AreInOrder};
-ghost use Rattle.pvp_audit.specs.Verdicts.{HoldOfAll, IsAlone};
-ghost use Rattle.pvp_judge.specs.Banked.{AreOfBank, OpensInOrder, AllAre, IsTheBank};
-ghost use Rattle.pvp_judge.specs.Judged.{Judges, AreSound, openings};
+ghost use Rattle.std.specs.Prelude.{◌≡◌, IfOk, IfErr};
+ghost use Rattle.pvp_types.specs.Setup.{IsValid};
+ghost use Rattle.pvp_audit.specs.Verdicts.{ClocksRise, IsOfRun, IsOfTest};
+ghost use Rattle.pvp_judge.specs.Banked.{IsTheBank};
+ghost use Rattle.pvp_judge.specs.Judged.{AreOneRun, IsTakenAgain, Judges, JudgesRun, TellsWhy};
 
 use crate::fitting::{cells_of, is_the_bank};
 use crate::replay::retell;
-use pvp_audit::{Verdict, Why, audit};
+use pvp_audit::{Verdict, Why, run_of, verdict_of};
 use pvp_parties::Party;
 use pvp_rooms::Closed;
 use pvp_types::Setup;
 use pvp_world::World;
-use std::alloc::Global;
+use std::alloc::{AllocError, Global};
 use vr_types::MemCell;
 
 /// What the audit says of all that the actors of a bank left.
 #[derive(Drop)]
 pub enum Judgement {
-    /// It is one run. This world went through it, and each actor ended as the world's.
+    /// It is one run. This world went through it, and is where the histories lead.
     Yes(World<MemCell>),
     /// This test fails at this event of this actor, counted from 1, or at 0 where it is of no event.
     No { actor: u16, event: usize, why: Why },
@@ -33,8 +31,8 @@ pub struct NotTheBank;
 
 /// Judges what all actors of a bank left, in order of their numbers: whether it is one run of them all, with a receipt of
 /// each event, or which test fails first (`pvp_audit` has their order). A run is taken again in a new world, which follows
-/// it to its end, and of which the headline holds. `No` with `NoMemory` where memory is refused; and `Err` where these are
-/// not the bank's actors.
+/// it to its end, and of which the headline holds. `No` with `NoMemory` where `judgement_of` answers `Err`; and `Err` where
+/// these are not the bank's actors.
 pub fn judge(
     alloc: Global,
     setup: &Setup,
@@ -48,38 +46,63 @@ pub fn judge(
     if !is_the_bank(setup, closed) {
         return Err(NotTheBank);
     }
-    let Ok(cells) = cells_of(alloc, closed) else {
-        return Ok(no_memory());
-    };
-    match audit(alloc, closed) {
-        Verdict::No { actor, event, why } => Ok(Judgement::No { actor, event, why }),
-        Verdict::Yes => Ok(taken_again(alloc, setup, closed, cells)),
+    match judgement_of(alloc, setup, closed) {
+        Ok(judgement) => Ok(judgement),
+        Err(_) => Ok(no_memory()),
     }
 }
 
-/// The judgement of actors that pass each test.
+/// What `judge` says of the bank's actors, and never `NoMemory`: `Err` where memory is refused.
+pub fn judgement_of(
+    alloc: Global,
+    setup: &Setup,
+    closed: &[Closed<Party>],
+) -> Result<Judgement, AllocError>
+    requires valid { IsValid setup.now }
+    requires bank { IsTheBank setup.now closed.now }
+    ensures judges { IfOk result (Judges setup.now closed.now) }
+    ensures tests { IfOk result (TellsWhy IsOfTest) }
+{
+    match verdict_of(alloc, closed)? {
+        Verdict::No { actor, event, why } => Ok(Judgement::No { actor, event, why }),
+        Verdict::Yes => Ok(Judgement::Yes(taken_again(alloc, setup, closed)?)),
+    }
+}
+
+/// What is said of the histories of the bank's actors, whatever receipts and ends there are: whether they are one run, or
+/// which of A1 to A3 fails first. `Err` where memory is refused.
+pub fn judge_run(
+    alloc: Global,
+    setup: &Setup,
+    closed: &[Closed<Party>],
+) -> Result<Judgement, AllocError>
+    requires valid { IsValid setup.now }
+    requires bank { IsTheBank setup.now closed.now }
+    ensures judges { IfOk result (JudgesRun setup.now closed.now) }
+    ensures tests { IfOk result (TellsWhy IsOfRun) }
+{
+    if let Verdict::No { actor, event, why } = run_of(alloc, closed)? {
+        return Ok(Judgement::No { actor, event, why });
+    }
+    Ok(Judgement::Yes(taken_again(alloc, setup, closed)?))
+}
+
+/// The world that takes a run of the bank's actors again. `Err` where memory is refused.
 fn taken_again(
     alloc: Global,
     setup: &Setup,
     closed: &[Closed<Party>],
-    cells: Vec<MemCell>,
-) -> Judgement
+) -> Result<World<MemCell>, AllocError>
     requires valid { IsValid setup.now }
-    requires sites { length cells.items ≡ 2 * faults setup.now + 1 }
-    requires held { map held_by cells.items ≡ openings closed.now }
-    requires reliable { AllAre IsReliable cells.items }
-    requires order { AreInOrder closed.now }
-    requires bank { AreOfBank setup.now closed.now }
-    requires opened { OpensInOrder closed.now }
-    requires alone { HoldOfAll closed.now (λ _ c. IsAlone c) }
-    requires sound { AreSound closed.now }
-    ensures { Judges setup.now closed.now result }
+    requires bank { IsTheBank setup.now closed.now }
+    requires clocks { ClocksRise closed.now }
+    requires run { AreOneRun closed.now }
+    ensures { IfOk result (IsTakenAgain setup.now closed.now) }
 {
-    let Ok(world) = retell(alloc, setup, closed, cells) else {
-        return no_memory();
-    };
+    let cells = cells_of(alloc, closed)?;
+    let world = retell(alloc, setup, closed, cells)?;
     world.is_proved();
-    Judgement::Yes(world)
+    Ok(world)
 }
 
 /// What is said where memory is refused.

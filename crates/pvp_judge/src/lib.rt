@@ -9,4 +9,5 @@ mod numbers;
 mod replay;
 mod setups;
 
-pub use judgement::{Judgement, NotTheBank, judge};
+pub use fitting::actor_count;
+pub use judgement::{Judgement, NotTheBank, judge, judge_run, judgement_of};

@@ -1,7 +1,7 @@
 //! Which number on the post an envelope has that a stamp names.
 ghost use Rattle.std.specs.Prelude.{◌≡◌, ℕ, [], ◌∷◌, ◌++◌, IfOk, OnOk, OnErr, IfSome, IfNone, replicate, slice_set};
 ghost use Rattle.pvp_audit.specs.Runs.{AreInOrder};
-ghost use Rattle.pvp_audit.specs.Verdicts.{HoldOfAll, IsAlone};
+ghost use Rattle.pvp_audit.specs.Verdicts.{ClocksRise};
 ghost use Rattle.pvp_judge.specs.Numbered.{noted_of, IsEventOf, IsNumber, NamesNone, IsFound};
 
 use pvp_audit::Audited;
@@ -52,7 +52,7 @@ impl Numbers {
     /// The number of the envelope that a stamp names, as far as events were noted; 0 where it names none.
     pub fn find<A: Audited>(&self, closed: &[Closed<A>], stamp: Option<Stamp>) -> usize
         requires order { AreInOrder closed.now }
-        requires alone { HoldOfAll closed.now (λ _ c. IsAlone c) }
+        requires clocks { ClocksRise closed.now }
         ensures { IsFound closed.now self.now stamp result }
     {
         match stamp {
@@ -64,7 +64,7 @@ impl Numbers {
     /// The number of the envelope that a stamp names.
     fn named<A: Audited>(&self, closed: &[Closed<A>], stamp: Stamp) -> Option<usize>
         requires order { AreInOrder closed.now }
-        requires alone { HoldOfAll closed.now (λ _ c. IsAlone c) }
+        requires clocks { ClocksRise closed.now }
         ensures some { IfSome result (IsNumber closed.now self.now stamp) }
         ensures none { IfNone result (NamesNone closed.now self.now stamp) }
     {
@@ -77,7 +77,7 @@ impl Numbers {
 /// The place of the actor that a stamp names, and in its history that of the event.
 fn event_of<A: Audited>(closed: &[Closed<A>], stamp: Stamp) -> Option<(usize, usize)>
     requires order { AreInOrder closed.now }
-    requires alone { HoldOfAll closed.now (λ _ c. IsAlone c) }
+    requires clocks { ClocksRise closed.now }
     ensures some { IfSome result (λ at. IsEventOf closed.now stamp at.0 at.1) }
     ensures none { IfNone result ((by place : ℕ) → ¬ IsEventOf closed.now stamp by place) }
 {

@@ -7,10 +7,10 @@ ghost use Rattle.pvp_world.specs.Steps.{AreReliable};
 ghost use Rattle.pvp_world.specs.Refusals.{IsAllowed, wants_fall};
 ghost use Rattle.headline.specs.declared.step.Move.{Move as AnyMove};
 ghost use Rattle.pvp_audit.specs.Runs.{AreInOrder};
-ghost use Rattle.pvp_audit.specs.Verdicts.{HoldOfAll, IsAlone};
+ghost use Rattle.pvp_audit.specs.Verdicts.{ClocksRise};
 ghost use Rattle.pvp_parties.specs.Made.{memory};
 ghost use Rattle.pvp_judge.specs.Banked.{AreOfBank, OpensInOrder, AllAre};
-ghost use Rattle.pvp_judge.specs.Judged.{AreSound, EndsAgree, openings};
+ghost use Rattle.pvp_judge.specs.Judged.{AreOneRun, AreReplayed, openings};
 ghost use Rattle.pvp_judge.specs.Moves.{move_of};
 ghost use Rattle.pvp_judge.specs.Retold.{GoesBy, WentThrough};
 
@@ -26,8 +26,8 @@ use pvp_world::{FallFault, World};
 use std::alloc::{AllocError, Global};
 use vr_types::MemCell;
 
-/// The world that goes through the events of all actors, by clock and then by actor number, and ends as they did. `Err`
-/// where memory is refused.
+/// The world that goes through the events of all actors, by clock and then by actor number, and is then where their
+/// histories lead. `Err` where memory is refused.
 pub fn retell(
     alloc: Global,
     setup: &Setup,
@@ -41,10 +41,10 @@ pub fn retell(
     requires order { AreInOrder closed.now }
     requires bank { AreOfBank setup.now closed.now }
     requires opened { OpensInOrder closed.now }
-    requires alone { HoldOfAll closed.now (λ _ c. IsAlone c) }
-    requires sound { AreSound closed.now }
+    requires clocks { ClocksRise closed.now }
+    requires run { AreOneRun closed.now }
     ensures went { IfOk result (WentThrough setup.now (openings closed.now) closed.now) }
-    ensures ends { IfOk result (EndsAgree closed.now) }
+    ensures replayed { IfOk result (AreReplayed closed.now) }
 {
     headline::one_bank();
     let mut at = zeros(alloc, closed.len())?;

@@ -28,7 +28,7 @@ returns-in_default-clause-followed g c = λ start opens.
     let a = g.A.Audited in
     let closed = c.args.closed.now in
     let at = c.loop-k.at.items in
-    legal_all m a.delivers a.sent a.is_for closed c.requires.order c.requires.alone start at c.loop-k.actors.items (c.loop-k.invariant.so start opens)
+    legal_all m a.delivers a.sent a.is_for closed c.requires.order c.requires.clocks start at c.loop-k.actors.items (c.loop-k.invariant.so start opens)
     (subst (λ l. (k : ℕ) → length (history_of closed k) ≤ slice_index l k) c.as_slice.ensures.value c.in_default.ensures.none) c.loop-k.invariant.many
 
 pub offset_bounds-as_slice-place : goal.offset_bounds-as_slice-place
@@ -132,7 +132,7 @@ returns-then-not-is_named-clause-followed g c = λ start opens.
     let list = c.as_slice-in-loop-k.result.now in
     let r = c.index-as_slice-place.result in
     let what : next.what ≡ r = event_is closed at k place one next list r np.2 c.as_slice-in-loop-k.ensures.value c.index-as_slice-place.is in
-    cannot_arrive m a.delivers a.sent a.is_for closed c.requires.order c.requires.alone start at actors (i.so start opens) k next one np.0 (place + 1) (ap (λ n. n + 1) (sym np.1)) (λ named.
+    cannot_arrive m a.delivers a.sent a.is_for closed c.requires.order c.requires.clocks start at actors (i.so start opens) k next one np.0 (place + 1) (ap (λ n. n + 1) (sym np.1)) (λ named.
     let here = subst (λ l. IsNamed a.delivers a.sent a.is_for closed l one.end r) (sym c.as_slice-in-loop-k-2.ensures.value) (subst (λ (v : Recorded _ _). IsNamed a.delivers a.sent a.is_for closed at one.end v) what named) in
     let clash : true ≡ false = sym (c.is_named.ensures.1 here) ∙ c.if-not-is_named.true in cc)
 
@@ -159,7 +159,7 @@ returns-then-not-branch-clause-followed g c = λ start opens.
     let x = replay m.after (take (slice_index at k) one.history.items) (start k) in
     let shown = p.shown k one c.index_mut.result.now np.0 (slice_get_read actors (length actors) k c.index_mut.result.now refl within c.index_mut.ensures.value) in
     let never = subst (λ b. Follows m.comes m.after x r.event r.outcome (m.shows c.follow.new.self) b) c.if-not-branch.true (c.in_ok-follow.ensures.step x shown) in
-    cannot_come m a.delivers a.sent a.is_for closed c.requires.order c.requires.alone start at actors p k next one np.0 (place + 1) (ap (λ n. n + 1) (sym np.1)) named
+    cannot_come m a.delivers a.sent a.is_for closed c.requires.order c.requires.clocks start at actors p k next one np.0 (place + 1) (ap (λ n. n + 1) (sym np.1)) named
     (λ comes. never (subst (λ (v : Recorded _ _). m.comes x v.event v.outcome) what comes))
 
 pub loop-k-smaller : goal.loop-k-smaller
@@ -211,6 +211,6 @@ loop-k-preserved g c =
           let shown = p.shown k one c.index_mut.result.now np.0 (slice_get_read actors (length actors) k c.index_mut.result.now refl within c.index_mut.ensures.value) in
           let did = subst (λ b. Follows m.comes m.after x r.event r.outcome (m.shows c.follow.new.self) b) c.if-not-branch.false (c.in_ok-follow.ensures.step x shown) in
           let did2 = subst (λ (v : Recorded _ _). m.comes x v.event v.outcome × m.shows c.follow.new.self (m.after x v.event v.outcome)) (sym what) did in
-          progress_next m a.delivers a.sent a.is_for closed c.requires.order c.requires.alone start at actors p k next one np.0 (slice_set at k (place + 1)) c.follow.new.self named did2.0 did2.1 within
+          progress_next m a.delivers a.sent a.is_for closed c.requires.order c.requires.clocks start at actors p k next one np.0 (slice_set at k (place + 1)) c.follow.new.self named did2.0 did2.1 within
           (stepped at k place (omega (arith, w, s)) c.index-place.ensures));
     }

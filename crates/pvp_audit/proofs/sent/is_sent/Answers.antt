@@ -1,4 +1,4 @@
-use Rattle.std.proofs.Common.{◌≡◌, Some, length, slice_get, slice_index, refl, subst, sym, ap, ◌∙◌, arith}
+use Rattle.std.proofs.Common.{length, slice_get, slice_index, refl, subst, sym, ap, ◌∙◌, arith}
 use Rattle.std.specs.Option.{is_some}
 use Rattle.std.proofs.lemmas.Bool.{ltb-true, ltb-false}
 use Rattle.std.proofs.lemmas.Option.{slice_get_read, slice_get_within}
@@ -11,7 +11,7 @@ pub is_sent_by-requires : goal.is_sent_by-requires
 is_sent_by-requires g c =
     let closed = c.args.closed.now in
     let seen = slice_get_read closed (length closed) c.place_of-place.result c.in-Some.one.now refl (ltb-true _ _ (sym c.in-Some.ensures.lookup.0)) c.in-Some.ensures.lookup.1 in
-    (c.requires.alone c.place_of-place.result c.in-Some.one.now seen).clocks
+    c.requires.clocks c.place_of-place.result c.in-Some.one.now seen
 
 pub returns-in-Some : goal.returns-in-Some
 returns-in-Some g c =

@@ -1,6 +1,10 @@
+use Rattle.pvp_judge.specs.Banked.{AreOfBank}
 use Rattle.pvp_evidence.specs.Judged.{AreLeftBy}
 use Rattle.pvp_evidence.proofs.judged.all_closed.Given as goal
 
--- the histories so far have their actors
+-- the histories so far have their actors, which are the bank's
 abbrev pub invariant-loop-history : goal.invariant-loop-history
-invariant-loop-history l = AreLeftBy l.closed.items l.yielded
+invariant-loop-history l = record {
+  left : AreLeftBy l.closed.items l.yielded;
+  bank : AreOfBank l.setup l.closed.items;
+}

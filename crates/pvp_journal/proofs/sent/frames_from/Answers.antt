@@ -14,4 +14,4 @@ loop-place-preserved c =
 
 pub returns : goal.returns
 returns c =
-    rw c.new.ensures (is_done c.args.me c.args.clock c.loop-place.sent.items c.args.count c.loop-place.place c.loop-place.rest.now (frames_from c.args.me c.args.clock c.args.count 0 c.args.bytes.now) c.loop-place-test.false c.loop-place.invariant)
+    rw c.new.ensures (rw c.shrink_to_fit.ensures.items (is_done c.args.me c.args.clock c.loop-place.sent.items c.args.count c.loop-place.place c.loop-place.rest.now (frames_from c.args.me c.args.clock c.args.count 0 c.args.bytes.now) c.loop-place-test.false c.loop-place.invariant))

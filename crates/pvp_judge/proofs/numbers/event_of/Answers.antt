@@ -23,7 +23,7 @@ place_at-event-requires g c =
     let here = c.place_of-place.result in
     let one = c.in_ok-one.one.now in
     let seen = slice_get_read closed (length closed) here one refl (ltb-true _ _ (sym c.in_ok-one.ensures.lookup.0)) c.in_ok-one.ensures.lookup.1 in
-    subst (λ l. IsRising l 0) (sym c.as_slice-history.ensures.value) (c.requires.alone here one seen).clocks
+    subst (λ l. IsRising l 0) (sym c.as_slice-history.ensures.value) (c.requires.clocks here one seen)
 
 pub returns-in_err-get-clause-none : goal.returns-in_err-get-clause-none
 returns-in_err-get-clause-none g c = rw c.from_residual-in_err-get.ensures (λ by place e.
