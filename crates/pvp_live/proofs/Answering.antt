@@ -12,7 +12,8 @@ use Rattle.pvp_live.specs.declared.events.Post.{Post}
 use Rattle.pvp_live.specs.declared.refusals.Refused.{Refused}
 use Rattle.pvp_live.specs.Effects.{line_effect, fault_of}
 use Rattle.pvp_live.specs.Refusals.{refused_after}
-use Rattle.pvp_live.specs.Playing.{BankSeat, Kept, Answers, Posts, handed_on, input_of, place_of}
+use Rattle.pvp_live.specs.Seating.{BankSeat}
+use Rattle.pvp_live.specs.Playing.{Kept, Answers, Posts, handed_on, input_of, place_of}
 
 -- what is written back as it was read changes nothing
 set_back : (seats : List BankSeat) (at : ℕ) (seat : BankSeat) → slice_get seats at ≡ Some seat → slice_set seats at seat ≡ seats

@@ -1,3 +1,6 @@
+pub mod Bank
+pub mod Seating
+pub mod Faults
 pub mod Events
 pub mod Told
 pub mod Scripts
@@ -5,5 +8,6 @@ pub mod Standings
 pub mod Effects
 pub mod Refusals
 pub mod Notes
+pub mod Counts
 pub mod Outcomes
 pub mod Playing

@@ -1,25 +1,24 @@
 -- What the player of a live script posts, and what it hands on.
-use Rattle.std.specs.Prelude.{◌≡◌, ℕ, ◌==◌, List, [], ◌∷◌, ◌++◌, position, slice_get, slice_set, option_and_then, Option, Some, None}
+use Rattle.std.specs.Prelude.{◌≡◌, ℕ, ◌==◌, List, [], ◌∷◌, ◌++◌, position, slice_get, slice_set, option_and_then, Contains, Option, Some, None}
 use Rattle.pvp_rooms.specs.declared.message.Input.{Input}
 use Rattle.pvp_rooms.specs.declared.message.Answer.{Answer}
 use Rattle.pvp_rooms.specs.declared.message.Answer.TheVariants.{Done, NoMemory, ClockSpent}
 use Rattle.pvp_rooms.specs.Rooms.{receipt}
 use Rattle.pvp_rooms.specs.Gates.{Hears}
-use Rattle.pvp_rooms.specs.Seats.{Place, Held}
+use Rattle.pvp_rooms.specs.Seats.{Place}
 use Rattle.pvp_peers.specs.Puts.{Put}
 use Rattle.pvp_text.specs.declared.script.Line.{Line}
+use Rattle.std.specs.Global.{Vec}
 use Rattle.pvp_parties.specs.declared.party.PartyEvent.{PartyEvent}
 use Rattle.pvp_parties.specs.declared.party.PartyOutcome.{PartyOutcome}
 use Rattle.pvp_parties.specs.Parties.{sent}
 use Rattle.pvp_live.specs.declared.events.Post.{Post}
 use Rattle.pvp_live.specs.declared.refusals.Refused.{Refused}
+use Rattle.pvp_judge.specs.Judged.{Left}
+use Rattle.pvp_live.specs.Seating.{BankSeat, AreNew, IsAmong, IsKept}
 use Rattle.pvp_live.specs.Events.{posted}
 use Rattle.pvp_live.specs.Effects.{line_effect, fault_of}
 use Rattle.pvp_live.specs.Refusals.{refused_after}
-
--- a seat at an actor of the bank
-abbrev pub BankSeat : Type 0
-BankSeat = Held PartyEvent PartyOutcome
 
 -- what the player keeps: a seat at each actor, and which lines were refused
 pub record Kept : Type 0 where
@@ -98,14 +97,22 @@ pub record IsPlaying {B : Type 0} (cells : List Place) (lines : List Line) (old 
   pub plays : Plays cells lines old new puts
   pub handed : Hears got before after puts
 
--- THE TALLY of a script: it was played so from some seats on, where no line was refused before
-pub record IsTally (cells : List Place) (lines : List Line) (refused : Option Refused) : Type 0 where
+-- THE TALLY of a script: it was played so from new seats at these actors, where no line was refused before, and the player's
+-- seats are among those that were left
+pub record IsTally (cells : List Place) (lines : List Line) (refused : Option Refused) (left : List (Vec BankSeat)) : Type 0 where
   pub before : List BankSeat
   pub after : List BankSeat
   pub puts : List Put
+  pub new : AreNew cells before
   pub plays : Plays cells lines (keeps before None) (keeps after refused) puts
+  pub among : (seat : BankSeat) → Contains after seat → IsAmong left seat
 
--- so at some actors
-pub record WasTallied (lines : List Line) (refused : Option Refused) : Type 0 where
+-- so at some actors, and the player's seats stand in what those left who were judged, with the receipts of its lines
+pub record WasTallied (lines : List Line) (closed : List Left) (refused : Option Refused) : Type 0 where
   pub cells : List Place
-  pub tally : IsTally cells lines refused
+  pub before : List BankSeat
+  pub after : List BankSeat
+  pub puts : List Put
+  pub new : AreNew cells before
+  pub plays : Plays cells lines (keeps before None) (keeps after refused) puts
+  pub kept : (seat : BankSeat) → Contains after seat → IsKept closed seat

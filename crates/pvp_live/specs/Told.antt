@@ -9,22 +9,15 @@ use Rattle.pvp_judge.specs.declared.judgement.Judgement.{Judgement}
 use Rattle.pvp_judge.specs.declared.judgement.Judgement.TheVariants.{Yes, No}
 use Rattle.pvp_judge.specs.Banked.{IsTheBank}
 use Rattle.pvp_judge.specs.Judged.{Left, Judges}
-use Rattle.pvp_streams.specs.declared.sockets.NetFault.{NetFault}
-use Rattle.pvp_streams.specs.declared.sockets.NetFault.TheVariants as net
-use Rattle.pvp_live.specs.declared.running.LiveFault.{LiveFault}
-use Rattle.pvp_live.specs.declared.running.LiveFault.TheVariants as faults
+use Rattle.pvp_live.specs.Bank.{BeganNew}
 
 -- the books of a Yes and a line, or the line of a No
 abbrev pub judgement_text : Judgement → List ℕ
 judgement_text (Yes world) = books_text held_by world ++ codes "audit yes\n"
 judgement_text (No actor event why) = codes "audit no " ++ decimal actor ++ codes " " ++ decimal event ++ codes " " ++ code_text (Audit why) ++ codes "\n"
 
--- what all actors of the bank left was judged so
+-- what all actors of the bank left, whose sites began with new cells, was judged so
 pub record WasJudged (setup : Setup) (closed : List Left) (judgement : Judgement) : Type 0 where
   pub bank : IsTheBank setup closed
+  pub began : BeganNew setup closed
   pub judged : Judges setup closed judgement
-
--- what a fault of the net is told as
-abbrev pub net_told : NetFault → LiveFault
-net_told net.Net = faults.Net
-net_told net.NoMemory = faults.NoMemory

@@ -1,8 +1,13 @@
 //! The actors of a bank, in order of their numbers.
-ghost use Rattle.std.specs.Prelude.{◌≡◌};
+ghost use Rattle.std.specs.Prelude.{◌≡◌, ◌+◌, ◌≤◌, ◌++◌, IfOk, OnOk};
+ghost use Rattle.std.specs.List.{list_all, range_with_len};
 ghost use Rattle.pvp_types.specs.Setup.{IsValid};
+ghost use Rattle.pvp_rooms.specs.Closing.{fresh_seats};
+ghost use Rattle.pvp_live.specs.Bank.{numbers_of, opened_new};
+ghost use Rattle.pvp_live.specs.Seating.{AreNew};
 
-use pvp_parties::{PartyCell, PartySeat, client_cell, node_cell, site_cell};
+use pvp_parties::{Party, PartyCell, PartySeat, client_cell, node_cell, site_cell};
+use pvp_rooms::Closed;
 use pvp_types::Setup;
 use std::alloc::{AllocError, Global};
 use vr_types::{FIRST_NODE, FIRST_SITE, MemCell};
@@ -12,7 +17,9 @@ use vr_types::{FIRST_NODE, FIRST_SITE, MemCell};
 pub struct Bank {
     /// In order of their numbers.
     pub cells: Vec<PartyCell>,
-    /// By cell.
+    /// The seats for the script, by cell.
+    pub own: Vec<PartySeat>,
+    /// The others, by cell.
     pub seats: Vec<Vec<PartySeat>>,
 }
 
@@ -20,9 +27,11 @@ impl Bank {
     /// The actors of a bank as they open, the sites over new boot cells. `Err` where memory is refused.
     pub fn open(alloc: Global, setup: &Setup) -> Result<Self, AllocError>
         requires { IsValid setup.now }
+        ensures { IfOk result (λ bank. AreNew bank.cells.items bank.own.items) }
     {
         let mut bank = Bank {
             cells: Vec::new(alloc),
+            own: Vec::new(alloc),
             seats: Vec::new(alloc),
         };
         let seats = count_of(setup);
@@ -32,16 +41,27 @@ impl Bank {
         Ok(bank)
     }
 
-    fn add(&mut self, made: (PartyCell, Vec<PartySeat>)) -> Result<(), AllocError> {
-        let (cell, seats) = made;
+    /// Adds a cell with its seats, of which the last is for the script.
+    fn add(&mut self, made: (PartyCell, Vec<PartySeat>)) -> Result<(), AllocError>
+        requires some { 1 ≤ made.0.seats }
+        requires fresh { made.1.items ≡ fresh_seats made.0.seats made.0.number }
+        requires new { AreNew self.old.cells.items self.old.own.items }
+        ensures { OnOk result (AreNew self.new.cells.items self.new.own.items) }
+    {
+        let (cell, mut seats) = made;
+        let own = seats.pop().unwrap();
         self.cells.push(cell)?;
+        self.own.push(own)?;
         self.seats.push(seats)?;
         Ok(())
     }
 
     /// Adds the operator and the members.
     fn add_clients(&mut self, alloc: Global, setup: &Setup, seats: u16) -> Result<(), AllocError>
-        requires { IsValid setup.now }
+        requires valid { IsValid setup.now }
+        requires some { 1 ≤ seats }
+        requires new { AreNew self.old.cells.items self.old.own.items }
+        ensures { OnOk result (AreNew self.new.cells.items self.new.own.items) }
     {
         for client in 0..setup.member_count() + 1 {
             self.add(client_cell(alloc, setup, client, seats)?)?;
@@ -51,7 +71,10 @@ impl Bank {
 
     /// Adds the nodes.
     fn add_nodes(&mut self, alloc: Global, setup: &Setup, seats: u16) -> Result<(), AllocError>
-        requires { IsValid setup.now }
+        requires valid { IsValid setup.now }
+        requires some { 1 ≤ seats }
+        requires new { AreNew self.old.cells.items self.old.own.items }
+        ensures { OnOk result (AreNew self.new.cells.items self.new.own.items) }
     {
         for ccy in 0..setup.currency_count() {
             self.add(node_cell(alloc, setup, ccy, seats)?)?;
@@ -61,7 +84,10 @@ impl Bank {
 
     /// Adds the sites.
     fn add_sites(&mut self, alloc: Global, setup: &Setup, seats: u16) -> Result<(), AllocError>
-        requires { IsValid setup.now }
+        requires valid { IsValid setup.now }
+        requires some { 1 ≤ seats }
+        requires new { AreNew self.old.cells.items self.old.own.items }
+        ensures { OnOk result (AreNew self.new.cells.items self.new.own.items) }
     {
         for site in 0..2 * setup.faults() + 1 {
             self.add(site_cell(alloc, setup, site, MemCell::new(), seats)?)?;
@@ -73,6 +99,7 @@ impl Bank {
 /// The numbers of a bank's actors: the operator and the members, the nodes, the sites. `Err` where memory is refused.
 pub fn numbers_of(alloc: Global, setup: &Setup) -> Result<Vec<u16>, AllocError>
     requires { IsValid setup.now }
+    ensures { IfOk result (λ numbers. numbers.items ≡ numbers_of setup.now) }
 {
     let mut numbers = Vec::new(alloc);
     add_range(&mut numbers, 0, setup.member_count() + 1)?;
@@ -84,14 +111,35 @@ pub fn numbers_of(alloc: Global, setup: &Setup) -> Result<Vec<u16>, AllocError>
 /// How many actors a bank has.
 fn count_of(setup: &Setup) -> u16
     requires { IsValid setup.now }
+    ensures { 1 ≤ result }
 {
     setup.member_count() + 1 + u16::from(setup.currency_count()) + 2 * setup.faults() + 1
 }
 
 /// Adds so many numbers from one on.
-fn add_range(numbers: &mut Vec<u16>, first: u16, count: u16) -> Result<(), AllocError> {
+fn add_range(numbers: &mut Vec<u16>, first: u16, count: u16) -> Result<(), AllocError>
+    requires { first + count ≤ 65535 }
+    ensures { OnOk result (numbers.new.items ≡ numbers.old.items ++ range_with_len first count) }
+{
     for at in 0..count {
-        numbers.push(first.saturating_add(at))?;
+        numbers.push(first + at)?;
     }
     Ok(())
+}
+
+/// Whether each site of a bank opened over a new cell.
+pub fn began_new(closed: &[Closed<Party>]) -> bool
+    ensures { result ≡ list_all opened_new closed.now }
+{
+    closed.iter().all(opened_new)
+}
+
+/// Whether it opened over a new cell, if over any.
+fn opened_new(one: &Closed<Party>) -> bool
+    ensures { result ≡ opened_new one.now }
+{
+    match one.opening {
+        Some(boot) => boot.is_new(),
+        None => true,
+    }
 }

@@ -4,6 +4,7 @@
 
 pub mod actors;
 mod board;
+mod counts;
 mod effects;
 pub mod events;
 mod notes;

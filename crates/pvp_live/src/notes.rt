@@ -1,15 +1,16 @@
 //! What goes on in a live run, told line by line while it runs. Who listens may be slow or gone: what cannot be told is not.
 
-ghost use Rattle.std.specs.Prelude.{◌≡◌, ◌++◌, OnOk, option_copied, string_bytes};
+ghost use Rattle.std.specs.Prelude.{◌≡◌, ◌++◌, true, OnOk, option_copied, string_bytes};
 ghost use Rattle.std.specs.List.{flat_map};
 ghost use Rattle.pvp_live.specs.Notes.{count_text, effect_text, end_text, frames_text, look_text, refusal_text, sites_text, standing_text};
+ghost use Rattle.pvp_live.specs.Counts.{ended_text, left_text, lost_text, separator, standings, stands_text};
 ghost use Rattle.pvp_live.specs.Outcomes.{answer_text, clock_text, posted_text};
 
 use crate::board::Frames;
+use crate::counts::{broken, came_in_all, frames_taken, sent_in_all};
 use crate::effects::{Effect, line_effect};
 use crate::standing::{Standing, standing_of};
 use pvp_parties::{Party, PartyOutcome};
-use pvp_peers::{PeerEnd, Served, Why};
 use pvp_rooms::{Answer, Closed};
 use pvp_streams::Peer;
 use pvp_trace::meanings::{meaning, reason};
@@ -69,26 +70,21 @@ pub fn tell_left<N: Write>(alloc: Global, notes: &mut N, setup: &Setup, closed: 
 }
 
 /// Tells how many frames were taken over all streams, and how many of these ended before their end.
-pub fn tell_ends<N: Write, S, G>(notes: &mut N, peers: &[Peer<'_, Party, S, G>]) {
-    let mut frames: usize = 0;
-    let mut broken: usize = 0;
-    for peer in peers {
-        let (taken, is_broken) = ended(peer.end);
-        frames = frames.saturating_add(taken);
-        broken = broken.saturating_add(usize::from(is_broken));
+pub fn tell_ends<N: Write, S, G>(alloc: Global, notes: &mut N, peers: &[Peer<'_, Party, S, G>]) {
+    let mut text = String::new(alloc);
+    if push_ended(&mut text, frames_taken(peers), broken(peers)).is_ok() {
+        let _ = notes.write_all(text.as_str().as_bytes());
     }
-    let _ = write!(
-        notes,
-        "{frames} frames came, and {broken} connections broke\n"
-    );
 }
 
-/// How many frames were taken of a stream, and whether it ended before its end.
-fn ended(end: Option<PeerEnd>) -> (usize, bool) {
-    match end {
-        Some(PeerEnd { frames, why }) => (frames, why != Why::End),
-        None => (0, true),
-    }
+/// Appends how many frames were taken, and how many streams ended before their end.
+fn push_ended(text: &mut String, frames: usize, broken: usize) -> Result<(), AllocError>
+    ensures { OnOk result (string_bytes text.new ≡ string_bytes text.old ++ ended_text frames broken) }
+{
+    write!(
+        text,
+        "{frames} frames came, and {broken} connections broke\n"
+    )
 }
 
 /// Appends where the sites stood behind a line, and how many frames went over the streams.
@@ -152,50 +148,55 @@ fn push_frames(text: &mut String, frames: Frames) -> Result<(), AllocError>
 }
 
 /// Appends how many envelopes were sent and how many of them did not come, and where each site stands at the end.
-fn push_left(text: &mut String, setup: &Setup, closed: &[Closed<Party>]) -> Result<(), AllocError> {
-    let mut sent: usize = 0;
-    let mut came: usize = 0;
-    for one in closed {
-        sent = sent.saturating_add(sent_by(one));
-        came = came.saturating_add(came_to(one));
-    }
-    let lost = sent.saturating_sub(came);
-    write!(
-        text,
-        "{sent} envelopes were sent, and {lost} of them did not come\nat the end "
-    )?;
+fn push_left(text: &mut String, setup: &Setup, closed: &[Closed<Party>]) -> Result<(), AllocError>
+    ensures { OnOk result (string_bytes text.new ≡ string_bytes text.old ++ left_text setup.now closed.now) }
+{
+    let sent = sent_in_all(closed);
+    let lost = sent.saturating_sub(came_in_all(closed));
+    push_lost(text, sent, lost)?;
+    text.push_str("at the end ")?;
     push_ends(text, setup, closed)
 }
 
-/// How many envelopes an actor sent in all.
-fn sent_by(closed: &Closed<Party>) -> usize {
-    let mut sent: usize = 0;
-    for recorded in closed.history.as_slice() {
-        sent = sent.saturating_add(Party::sent(&recorded.outcome).len());
-    }
-    sent
-}
-
-/// How many envelopes an actor took: those of its events that have a stamp.
-fn came_to(closed: &Closed<Party>) -> usize {
-    closed
-        .history
-        .iter()
-        .filter(|recorded| recorded.stamp.is_some())
-        .count()
+/// Appends how many envelopes were sent, and how many of them did not come.
+fn push_lost(text: &mut String, sent: usize, lost: usize) -> Result<(), AllocError>
+    ensures { OnOk result (string_bytes text.new ≡ string_bytes text.old ++ lost_text sent lost) }
+{
+    write!(
+        text,
+        "{sent} envelopes were sent, and {lost} of them did not come\n"
+    )
 }
 
 /// Appends where each site stands at the end.
-fn push_ends(text: &mut String, setup: &Setup, closed: &[Closed<Party>]) -> Result<(), AllocError> {
-    let mut separator = "";
+fn push_ends(text: &mut String, setup: &Setup, closed: &[Closed<Party>]) -> Result<(), AllocError>
+    ensures { OnOk result (string_bytes text.new
+        ≡ string_bytes text.old ++ stands_text setup.now true (standings closed.now)) }
+{
+    let mut is_first = true;
     for one in closed {
         if let Some(standing) = standing_of(&one.end) {
-            text.push_str(separator)?;
-            push_standing(text, setup, standing)?;
-            separator = ", ";
+            push_next(text, setup, is_first, standing)?;
+            is_first = false;
         }
     }
     text.push_str("\n")
+}
+
+/// Appends where a site stands, the first of several or another.
+fn push_next(
+    text: &mut String,
+    setup: &Setup,
+    is_first: bool,
+    standing: Standing,
+) -> Result<(), AllocError>
+    ensures { OnOk result (string_bytes text.new
+        ≡ string_bytes text.old ++ separator is_first ++ standing_text setup.now standing) }
+{
+    if !is_first {
+        text.push_str(", ")?;
+    }
+    push_standing(text, setup, standing)
 }
 
 /// Appends where a site of this status and view stands.

@@ -1,15 +1,19 @@
 //! A live run, from the first connection to the judgement.
-ghost use Rattle.std.specs.Prelude.{◌≡◌, IfOk};
+ghost use Rattle.std.specs.Prelude.{◌≡◌, IfErr, IfOk, IsPermutation, OnOk};
 ghost use Rattle.pvp_types.specs.Setup.{IsValid};
+ghost use Rattle.pvp_judge.specs.Banked.{IsTheBank};
+ghost use Rattle.pvp_live.specs.Bank.{BeganNew, numbers_of};
+ghost use Rattle.pvp_live.specs.Faults.{AreWanting, Ends, IsLate};
 ghost use Rattle.pvp_live.specs.Playing.{IsTally, WasTallied};
-ghost use Rattle.pvp_live.specs.Told.{WasJudged, net_told};
+ghost use Rattle.pvp_live.specs.Seating.{AreNew, Keeps, TakesBack, TakesOne};
+ghost use Rattle.pvp_live.specs.Told.{WasJudged};
 
-use crate::actors::{Bank, numbers_of};
+use crate::actors::{Bank, began_new, numbers_of};
 use crate::board::{Board, Counter};
 use crate::notes::{tell_connected, tell_ends, tell_left};
 use crate::player::{LinePlayer, place_of};
 use crate::refusals::Refused;
-use pvp_judge::{Judgement, judge};
+use pvp_judge::{Judgement, NotTheBank, judge};
 use pvp_parties::{Party, PartyCell, PartySeat};
 use pvp_rooms::Closed;
 use pvp_streams::{
@@ -31,11 +35,20 @@ pub enum LiveFault {
     Net,
     /// Memory was refused.
     NoMemory,
-    /// A seat did not come back.
+    /// A seat did not come back, or a site had not begun with a new cell.
     Seats,
 }
 
+/// A seat or a cell is not where it has to be.
+#[derive(Clone, Copy, Debug, PartialEq, Eq)]
+struct Misplaced;
+
 impl From<AllocError> for LiveFault {
+    ghost use Rattle.std.specs.Prelude.{◌≡◌};
+    ghost use Rattle.pvp_live.specs.declared.running.LiveFault.TheVariants.{NoMemory};
+
+    ghost from_gives = { λ _ told. told ≡ NoMemory };
+
     fn from(_refused: AllocError) -> Self {
         LiveFault::NoMemory
     }
@@ -43,12 +56,20 @@ impl From<AllocError> for LiveFault {
 
 /// A refusal of memory is told as that.
 impl<T: Drop> From<AllocFailed<T>> for LiveFault {
+    ghost use Rattle.std.specs.Prelude.{◌≡◌};
+    ghost use Rattle.pvp_live.specs.declared.running.LiveFault.TheVariants.{NoMemory};
+
+    ghost from_gives = { λ _ told. told ≡ NoMemory };
+
     fn from(_refused: AllocFailed<T>) -> Self {
         LiveFault::NoMemory
     }
 }
 
 impl From<NetFault> for LiveFault {
+    ghost use Rattle.std.specs.Prelude.{◌≡◌};
+    ghost use Rattle.pvp_live.specs.Faults.{net_told};
+
     ghost from_gives = { λ fault told. told ≡ net_told fault };
 
     fn from(fault: NetFault) -> Self {
@@ -56,6 +77,17 @@ impl From<NetFault> for LiveFault {
             NetFault::Net => LiveFault::Net,
             NetFault::NoMemory => LiveFault::NoMemory,
         }
+    }
+}
+
+impl From<Misplaced> for LiveFault {
+    ghost use Rattle.std.specs.Prelude.{◌≡◌};
+    ghost use Rattle.pvp_live.specs.declared.running.LiveFault.TheVariants.{Seats};
+
+    ghost from_gives = { λ _ told. told ≡ Seats };
+
+    fn from(_seat: Misplaced) -> Self {
+        LiveFault::Seats
     }
 }
 
@@ -86,27 +118,50 @@ where
     R::Stream: Read + Write + Send + Drop,
     requires { IsValid setup.now }
     ensures judged { IfOk result (λ lived. WasJudged setup.now lived.closed.items lived.judgement) }
-    ensures tally { IfOk result (λ lived. WasTallied lines.now lived.refused) }
+    ensures tally { IfOk result (λ lived. WasTallied lines.now lived.closed.items lived.refused) }
+    ensures fault { IfErr result (Ends R.Stream (numbers_of setup.now) notes.old notes.new) }
 {
     let actors = numbers_of(alloc, setup)?;
     let connected = connect_all(rt, alloc, actors.as_slice())?;
     tell_connected(notes, actors.len(), connected.incoming.len());
-    let Bank { cells, seats } = Bank::open(alloc, setup)?;
+    let Bank { cells, own, seats } = Bank::open(alloc, setup)?;
     let script = Script {
         setup,
         lines,
         notes: &mut *notes,
     };
-    let Played { seats, refused } = run(rt, alloc, cells.as_slice(), seats, connected, script)?;
+    let Played { seats, refused } = run(
+        rt,
+        alloc,
+        cells.as_slice(),
+        own,
+        seats,
+        connected,
+        script,
+    )?;
     let closed = close_all(alloc, cells, seats)?;
     tell_left(alloc, notes, setup, closed.as_slice());
-    match judge(alloc, setup, closed.as_slice()) {
-        Ok(judgement) => Ok(Lived {
-            closed,
-            judgement,
-            refused,
-        }),
-        Err(_) => Err(LiveFault::Seats),
+    let judgement = judged(alloc, setup, closed.as_slice())?;
+    Ok(Lived {
+        closed,
+        judgement,
+        refused,
+    })
+}
+
+/// Judges what all actors left. `Err` exactly where these are not the bank's, or a site had not begun with a new cell.
+fn judged(alloc: Global, setup: &Setup, closed: &[Closed<Party>]) -> Result<Judgement, Misplaced>
+    requires { IsValid setup.now }
+    ensures judged { IfOk result (WasJudged setup.now closed.now) }
+    ensures stranger { IfErr result (λ _.
+        IsTheBank setup.now closed.now → BeganNew setup.now closed.now → ⊥) }
+{
+    if !began_new(closed) {
+        return Err(Misplaced);
+    }
+    match judge(alloc, setup, closed) {
+        Ok(judgement) => Ok(judgement),
+        Err(NotTheBank) => Err(Misplaced),
     }
 }
 
@@ -127,11 +182,12 @@ struct Played {
     refused: Option<Refused>,
 }
 
-/// Plays the script while all workers are at work, and answers the seats of each cell.
+/// Plays the script from seats of the player's own while all workers are at work, and answers the seats of each cell.
 fn run<R, N: Write>(
     rt: &R,
     alloc: Global,
     cells: &[PartyCell],
+    own: Vec<PartySeat>,
     mut seats: Vec<Vec<PartySeat>>,
     connected: Connected<R::Stream>,
     script: Script<'_, N>,
@@ -139,7 +195,10 @@ fn run<R, N: Write>(
 where
     R: Threads + Wait + Clock + Net + Sync,
     R::Stream: Read + Write + Send + Drop,
-    ensures { IfOk result (λ played. IsTally cells.now script.entry.lines.now played.refused) }
+    requires { AreNew cells.now own.items }
+    ensures tally { IfOk result (λ played.
+        IsTally cells.now script.entry.lines.now played.refused played.seats.items) }
+    ensures late { IfErr result IsLate }
 {
     let Connected { incoming, outgoing } = connected;
     let mut out = Writers::new(alloc);
@@ -157,7 +216,7 @@ where
         setup,
         notes,
         cells,
-        seats: own_seats(alloc, seats.as_mut_slice())?,
+        seats: own,
         lines,
         board: &board,
         refused: None,
@@ -176,9 +235,9 @@ where
         refused,
         ..
     } = player;
-    tell_ends(notes, peers.as_slice());
-    give_back(cells, seats.as_mut_slice(), own)?;
-    give_back(cells, seats.as_mut_slice(), seats_of(alloc, peers)?)?;
+    tell_ends(alloc, notes, peers.as_slice());
+    give_back(cells, &mut seats, own)?;
+    give_back(cells, &mut seats, seats_of(alloc, peers)?)?;
     Ok(Played { seats, refused })
 }
 
@@ -203,14 +262,13 @@ fn peers_of<'a, S: Drop>(
     seats: &mut [Vec<PartySeat>],
     incoming: Vec<Incoming<S>>,
     board: &'a Board<'a>,
-) -> Result<Vec<Peer<'a, Party, S, Counter<'a>>>, LiveFault> {
+) -> Result<Vec<Peer<'a, Party, S, Counter<'a>>>, LiveFault>
+    ensures { IfErr result IsLate }
+{
     let mut peers = Vec::with_capacity(alloc, incoming.len())?;
     for stream in incoming {
         let Incoming { to, stream, .. } = stream;
-        let place = place_of(cells, to).ok_or(LiveFault::Seats)?;
-        let cell = cells.get(place).ok_or(LiveFault::Seats)?;
-        let free = seats.get_mut(place).ok_or(LiveFault::Seats)?;
-        let seat = free.pop().ok_or(LiveFault::Seats)?;
+        let (cell, seat) = seat_at(cells, seats, to)?;
         peers.push(Peer {
             cell,
             seat,
@@ -222,13 +280,17 @@ fn peers_of<'a, S: Drop>(
     Ok(peers)
 }
 
-/// A seat of each cell, for the player.
-fn own_seats(alloc: Global, seats: &mut [Vec<PartySeat>]) -> Result<Vec<PartySeat>, LiveFault> {
-    let mut own = Vec::with_capacity(alloc, seats.len())?;
-    for free in seats {
-        own.push(free.pop().ok_or(LiveFault::Seats)?)?;
-    }
-    Ok(own)
+/// The cell of the actor of a number, and a seat there that is free.
+fn seat_at<'a>(
+    cells: &'a [PartyCell],
+    seats: &mut [Vec<PartySeat>],
+    actor: u16,
+) -> Result<(&'a PartyCell, PartySeat), Misplaced> {
+    let place = place_of(cells, actor).ok_or(Misplaced)?;
+    let cell = cells.get(place).ok_or(Misplaced)?;
+    let free = seats.get_mut(place).ok_or(Misplaced)?;
+    let seat = free.pop().ok_or(Misplaced)?;
+    Ok((cell, seat))
 }
 
 /// The seats of peers.
@@ -247,14 +309,32 @@ fn seats_of<S: Drop>(
 /// Gives seats back, each to its cell.
 fn give_back(
     cells: &[PartyCell],
-    seats: &mut [Vec<PartySeat>],
+    seats: &mut Vec<Vec<PartySeat>>,
     given: Vec<PartySeat>,
-) -> Result<(), LiveFault> {
+) -> Result<(), LiveFault>
+    ensures back { OnOk result (TakesBack seats.old.items given.items seats.new.items) }
+    ensures late { IfErr result IsLate }
+{
     for seat in given {
-        let place = place_of(cells, seat.actor()).ok_or(LiveFault::Seats)?;
-        let own = seats.get_mut(place).ok_or(LiveFault::Seats)?;
-        own.push(seat)?;
+        put_back(cells, seats, seat)?;
     }
+    Ok(())
+}
+
+/// Gives a seat back to its cell.
+fn put_back(
+    cells: &[PartyCell],
+    seats: &mut Vec<Vec<PartySeat>>,
+    seat: PartySeat,
+) -> Result<(), LiveFault>
+    ensures back { OnOk result (TakesOne seats.old.items seat seats.new.items) }
+    ensures late { IfErr result IsLate }
+{
+    let place = place_of(cells, seat.actor()).ok_or(Misplaced)?;
+    if place >= seats.len() {
+        return Err(Misplaced.into());
+    }
+    seats[place].push(seat)?;
     Ok(())
 }
 
@@ -263,15 +343,26 @@ fn close_all(
     alloc: Global,
     cells: Vec<PartyCell>,
     seats: Vec<Vec<PartySeat>>,
-) -> Result<Vec<Closed<Party>>, LiveFault> {
+) -> Result<Vec<Closed<Party>>, LiveFault>
+    ensures kept { IfOk result (λ closed. Keeps seats.items closed.items) }
+    ensures late { IfErr result IsLate }
+{
     let mut closed = Vec::with_capacity(alloc, cells.len())?;
-    let mut seats = seats.into_iter();
-    for cell in cells {
-        let own = seats.next().ok_or(LiveFault::Seats)?;
-        match cell.close(own) {
-            Ok(one) => closed.push(one)?,
-            Err(_) => return Err(LiveFault::Seats),
-        }
+    let mut cells = cells.into_iter();
+    for own in seats {
+        let cell = cells.next().ok_or(Misplaced)?;
+        closed.push(close_one(cell, own)?)?;
     }
     Ok(closed)
+}
+
+/// Closes a cell with its seats. `Err` only where these are not all its seats, each once.
+fn close_one(cell: PartyCell, seats: Vec<PartySeat>) -> Result<Closed<Party>, Misplaced>
+    ensures kept { IfOk result (λ closed. IsPermutation seats.items closed.seats.items) }
+    ensures wanting { IfErr result (λ _. AreWanting cell seats.items) }
+{
+    match cell.close(seats) {
+        Ok(closed) => Ok(closed),
+        Err(_) => Err(Misplaced),
+    }
 }

@@ -1,2 +1,4 @@
+pub mod Faults
 pub mod Links
 pub mod Serving
+pub mod Writing

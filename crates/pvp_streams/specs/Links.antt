@@ -1,5 +1,5 @@
 -- Which actors have a stream to which.
-use Rattle.std.specs.Prelude.{ℕ, ◌==◌, ◌&&◌, ◌||◌, Bool, not, nat_le, List, map, filter}
+use Rattle.std.specs.Prelude.{ℕ, ◌==◌, ◌&&◌, ◌||◌, Bool, not, List, map, filter}
 use Rattle.std.specs.List.{flat_map}
 use Rattle.vr_types.specs.Actors.{is_site}
 use Rattle.pvp_streams.specs.declared.sockets.Door.{Door}

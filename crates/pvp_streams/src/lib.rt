@@ -3,6 +3,7 @@
 #![tactic(auto)]
 
 pub mod frame;
+pub mod laws;
 pub mod peer;
 pub mod player;
 pub mod serving;

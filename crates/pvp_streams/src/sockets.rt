@@ -1,5 +1,5 @@
 //! Streams between actors over the loopback of this machine.
-ghost use Rattle.std.specs.Prelude.{◌≡◌, ◌≢◌, ◌++◌, ◌∷◌, [], IfOk, OnOk};
+ghost use Rattle.std.specs.Prelude.{◌≡◌, ◌++◌, ◌∷◌, [], IfOk, OnOk};
 ghost use Rattle.pvp_streams.specs.Links.{talks, links, links_from, receivers, actors_of, ends_of, goals_of, lists_of, wanted};
 
 use crate::writer::Outgoing;
@@ -43,10 +43,11 @@ pub enum NetFault {
 }
 
 impl NetFault {
+    ghost use Rattle.pvp_streams.specs.Faults.{Tells};
+
     /// What it means that a call of the system failed with an error of this kind.
     pub fn of(kind: ErrorKind) -> Self
-        ensures memory { kind ≡ ErrorKind.OutOfMemory → result ≡ NetFault.NoMemory }
-        ensures net { kind ≢ ErrorKind.OutOfMemory → result ≡ NetFault.Net }
+        ensures { Tells kind result }
     {
         match kind {
             ErrorKind::OutOfMemory => NetFault::NoMemory,
@@ -57,6 +58,11 @@ impl NetFault {
 
 /// What a failed call of the system means.
 impl From<io::Error> for NetFault {
+    ghost use Rattle.std.specs.IoError.{error_kind};
+    ghost use Rattle.pvp_streams.specs.Faults.{Tells};
+
+    ghost from_gives = { λ failed fault. Tells (error_kind failed) fault };
+
     fn from(failed: io::Error) -> NetFault {
         NetFault::of(failed.kind())
     }
@@ -64,6 +70,11 @@ impl From<io::Error> for NetFault {
 
 /// A refusal of memory is told as that.
 impl<T: Drop> From<AllocFailed<T>> for NetFault {
+    ghost use Rattle.std.specs.Prelude.{◌≡◌};
+    ghost use Rattle.pvp_streams.specs.declared.sockets.NetFault.TheVariants.{NoMemory};
+
+    ghost from_gives = { λ _ fault. fault ≡ NoMemory };
+
     fn from(_refused: AllocFailed<T>) -> NetFault {
         NetFault::NoMemory
     }

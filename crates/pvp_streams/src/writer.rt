@@ -1,11 +1,15 @@
 //! The worker that writes what one actor sends.
+ghost use Rattle.std.specs.Prelude.{◌≡◌, [], true, OnOk};
+ghost use Rattle.std.specs.Io.KnownBytes.{Appends};
+ghost use Rattle.pvp_wire.specs.Spelling.{is_wireable, spelling};
+ghost use Rattle.pvp_streams.specs.Writing.{place_of, Writes, HasWritten};
 
 use crate::frame::{Frame, Order};
 use crate::writers::{Lane, Writers};
 use crossbeam_channel::{Receiver, unbounded};
-use pvp_wire::encode;
+use pvp_wire::{Stamped, encode};
 use std::alloc::{AllocError, Global};
-use std::io::Write;
+use std::io::{self, Write};
 use std::sync::Wait;
 use std::sync::atomic::AtomicU64;
 
@@ -53,9 +57,19 @@ impl Writers {
 }
 
 impl<W: Write + Drop> Writer<W> {
-    /// Writes until it is told to stop, and then closes its streams by letting them go. A stream to which a write failed
-    /// is closed at once, since it may have taken part of a frame; what is for it from then on is lost.
-    pub(crate) fn run<T: Wait>(&mut self, rt: &T, out: &Writers) {
+    /// Writes until it is told to stop, and then closes its streams by letting them go.
+    pub(crate) fn run<T: Wait>(&mut self, rt: &T, out: &Writers)
+        ensures { self.new.streams.items ≡ [] }
+    {
+        self.write_on(rt, out);
+        self.streams.clear();
+    }
+
+    /// Writes until it is told to stop. A stream to which a write failed is closed at once, since it may have taken part of
+    /// a frame; what is for it from then on is lost.
+    fn write_on<T: Wait>(&mut self, rt: &T, out: &Writers)
+        ensures { HasWritten (λ w. W.contents w) self.old.streams.items self.new.streams.items }
+    {
         for _ in rt.forever() {
             match self.from.recv(rt) {
                 Ok(Order::Send(frame)) => {
@@ -66,23 +80,41 @@ impl<W: Write + Drop> Writer<W> {
                 Ok(Order::Stop) | Err(_) => break,
             }
         }
-        self.streams.clear();
     }
 
     /// Writes a frame to the stream of its receiver, and says whether it did so to its end. Where memory for its bytes is
     /// refused the stream is closed too.
-    fn write(&mut self, frame: &Frame) -> bool {
+    fn write(&mut self, frame: &Frame) -> bool
+        ensures { Writes (λ w. W.contents w) frame.now.stamped self.old.streams.items
+            self.new.streams.items result }
+    {
         let stamped = frame.stamped();
-        let to = stamped.envelope.to;
-        let Some(at) = self.streams.iter().position(|out| out.to == to) else {
+        let Some(at) = place_of(self.streams.as_slice(), stamped.envelope.to) else {
             return false;
         };
-        self.bytes.clear();
-        let out = &mut self.streams[at];
-        if encode(stamped, &mut self.bytes).is_err() || out.stream.write_all(&self.bytes).is_err() {
+        let stream = &mut self.streams[at].stream;
+        if write_frame(stamped, &mut self.bytes, stream).is_err() {
             self.streams.swap_remove(at);
             return false;
         }
         true
     }
+}
+
+/// The place of the stream to an actor.
+fn place_of<W>(streams: &[Outgoing<W>], to: u16) -> Option<usize>
+    ensures { result ≡ place_of streams.now to }
+{
+    streams.iter().position(|out| out.to == to)
+}
+
+/// Writes a frame to a stream in one write. The bytes before do not matter, and stay as those of the frame.
+fn write_frame<W: Write>(stamped: &Stamped, bytes: &mut Vec<u8>, stream: &mut W) -> io::Result<()>
+    requires { is_wireable stamped.now ≡ true }
+    ensures { OnOk result
+        (Appends (W.contents stream.old) (W.contents stream.new) (spelling stamped.now)) }
+{
+    bytes.clear();
+    encode(stamped, bytes)?;
+    stream.write_all(bytes.as_slice())
 }

@@ -1,0 +1,75 @@
+-- What is told of a live run when it has ended: how many envelopes were sent, how many came, and where the sites stand.
+use Rattle.std.specs.Prelude.{ℕ, ◌+◌, ◌-◌, ◌^◌, min, Bool, true, false, not, List, [], ◌∷◌, ◌++◌, length, option_to_list, Option, Some, None, codes, decimal}
+use Rattle.std.specs.List.{sum_by, count_by, flat_map}
+use Rattle.pvp_types.specs.declared.setup.Setup.{Setup}
+use Rattle.pvp_peers.specs.declared.peer.PeerEnd.{PeerEnd}
+use Rattle.pvp_peers.specs.declared.peer.Why.{Why}
+use Rattle.pvp_peers.specs.declared.peer.Why.TheVariants.{End}
+use Rattle.pvp_streams.specs.declared.peer.Peer.{Peer}
+use Rattle.pvp_parties.specs.Parties.{sent}
+use Rattle.pvp_judge.specs.Judged.{Left}
+use Rattle.pvp_live.specs.declared.standing.Standing.{Standing}
+use Rattle.pvp_live.specs.Notes.{standing_text}
+use Rattle.pvp_live.specs.Standings.{standing_of}
+
+-- a sum as a counter holds it, which goes no further
+abbrev pub counted : ℕ → ℕ
+counted n = min n (2 ^ 64 - 1)
+
+-- HOW MANY ENVELOPES an actor sent, and how many all these did
+abbrev pub sent_by : Left → ℕ
+sent_by one = counted (sum_by (λ recorded. length (sent recorded.outcome)) one.history.items)
+
+abbrev pub sent_in_all : List Left → ℕ
+sent_in_all closed = counted (sum_by sent_by closed)
+
+-- HOW MANY CAME: of the events that an actor took those with a stamp
+abbrev pub came_to : Left → ℕ
+came_to one = counted (sum_by (λ recorded. length (option_to_list recorded.stamp)) one.history.items)
+
+abbrev pub came_in_all : List Left → ℕ
+came_in_all closed = counted (sum_by came_to closed)
+
+abbrev pub lost_text : ℕ → ℕ → List ℕ
+lost_text all lost = decimal all ++ codes " envelopes were sent, and " ++ decimal lost ++ codes " of them did not come\n"
+
+-- where the sites among these actors stand
+abbrev pub standings : List Left → List Standing
+standings closed = flat_map (λ one. option_to_list (standing_of one.end)) closed
+
+-- what stands before one of them
+abbrev pub separator : Bool → List ℕ
+separator true = []
+separator false = codes ", "
+
+-- one after another, from the first on or behind others
+abbrev pub stands_text : Setup → Bool → List Standing → List ℕ
+stands_text setup is_first [] = codes "\n"
+stands_text setup is_first (standing ∷ more) = separator is_first ++ standing_text setup standing ++ stands_text setup false more
+
+-- what is lost is what was sent and did not come
+abbrev pub left_text : Setup → List Left → List ℕ
+left_text setup closed =
+    lost_text (sent_in_all closed) (sent_in_all closed - came_in_all closed) ++ codes "at the end " ++ stands_text setup true (standings closed)
+
+-- OVER STREAMS: how many frames were taken of one that ended so, and whether that was before its end
+abbrev pub frames_at : Option PeerEnd → ℕ
+frames_at (Some end) = end.frames
+frames_at None = 0
+
+abbrev pub is_end : Why → Bool
+is_end End = true
+is_end _ = false
+
+abbrev pub is_broken : Option PeerEnd → Bool
+is_broken (Some end) = not (is_end end.why)
+is_broken None = true
+
+abbrev pub frames_taken : {A R G N E O : Type 0} → List (Peer A R G N E O) → ℕ
+frames_taken peers = counted (sum_by (λ peer. frames_at peer.end) peers)
+
+abbrev pub broken : {A R G N E O : Type 0} → List (Peer A R G N E O) → ℕ
+broken peers = count_by (λ peer. is_broken peer.end) peers
+
+abbrev pub ended_text : ℕ → ℕ → List ℕ
+ended_text frames streams = decimal frames ++ codes " frames came, and " ++ decimal streams ++ codes " connections broke\n"
