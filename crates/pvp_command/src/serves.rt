@@ -1,6 +1,7 @@
 //! The words that ask for an actor to be served, and what is told where it is served no longer.
 
-ghost use Rattle.std.specs.Prelude.{◌≡◌, IfErr, OnOk};
+ghost use Rattle.std.specs.Prelude.{◌≡◌, true, map, IfErr, IfSome, OnOk};
+ghost use Rattle.pvp_command.specs.Codes.{begins_with_serve};
 
 use crate::request::{Asked, Request, parse};
 use clap::ArgMatches;
@@ -18,7 +19,12 @@ pub struct Served<'a> {
 }
 
 /// What the words ask to be served; `None` where they ask for something else, or for nothing.
-pub fn served_by<'a, S: AsStr>(alloc: Global, words: &'a [S]) -> Option<Served<'a>> {
+pub fn served_by<'a, S: AsStr>(alloc: Global, words: &'a [S]) -> Option<Served<'a>>
+    ensures { IfSome result (λ served. begins_with_serve (map S.text words.now) ≡ true) }
+{
+    if !begins_with_serve(words) {
+        return None;
+    }
     match parse(alloc, words) {
         Ok(
             Some(
@@ -29,6 +35,16 @@ pub fn served_by<'a, S: AsStr>(alloc: Global, words: &'a [S]) -> Option<Served<'
             ),
         ) => Some(Served { order, explains }),
         _ => None,
+    }
+}
+
+/// Whether the first word behind the program's own name is `serve`: others are not read here, as they are read elsewhere.
+fn begins_with_serve<S: AsStr>(words: &[S]) -> bool
+    ensures { result ≡ begins_with_serve (map S.text words.now) }
+{
+    match words {
+        [_, first, ..] => first.as_str() == "serve",
+        _ => false,
     }
 }
 

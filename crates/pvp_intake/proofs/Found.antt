@@ -63,10 +63,10 @@ size-is link bytes n e =
     let c = sized-is size (sealed_at link size bytes) n b.1 in
     record { long = ltb-false _ _ a.0; counts = sym c.1; there = ap (λ (m : ℕ). sealed_at link m bytes) (sym c.1) ∙ c.0 }
 
-record IsFront (link : Link) (bytes : List ℕ) (s : Said) (size n : ℕ) : Type 0 where
-  is_size : size_at link bytes ≡ Ok (Some n)
-  says : said_in false link (take n bytes) ≡ Ok s
-  whole : size ≡ n + tag_size link
+pub record IsFront (link : Link) (bytes : List ℕ) (s : Said) (size n : ℕ) : Type 0 where
+  pub is_size : size_at link bytes ≡ Ok (Some n)
+  pub says : said_in false link (take n bytes) ≡ Ok s
+  pub whole : size ≡ n + tag_size link
 
 abbrev found_as : Said × ℕ → Result (Option (Said × ℕ)) LinkFault
 found_as x = Ok (Some x)
@@ -88,7 +88,7 @@ front_of-is link bytes (Ok (Some n)) s size e =
 front_of-is link bytes (Ok None) s size e = absurd cc
 front_of-is link bytes (Err why) s size e = absurd cc
 
-front-is : (link : Link) (bytes : List ℕ) (s : Said) (size : ℕ) → front link bytes ≡ Ok (Some (s, size)) → (n : ℕ) × IsFront link bytes s size n
+pub front-is : (link : Link) (bytes : List ℕ) (s : Said) (size : ℕ) → front link bytes ≡ Ok (Some (s, size)) → (n : ℕ) × IsFront link bytes s size n
 unfolding front_where
 front-is link bytes s size e =
     let f = front_of-is link bytes (size_at link bytes) s size e in

@@ -4,4 +4,5 @@ pub mod Again
 pub mod Found
 pub mod Lasts
 pub mod Never
+pub mod HeardOut
 pub mod WorkedFronts

@@ -1,3 +1,5 @@
 pub mod Sealing
 pub mod Fronts
 pub mod Intakes
+pub mod Hearing
+pub mod Words

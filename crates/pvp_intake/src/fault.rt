@@ -1,6 +1,7 @@
 //! Why a stream is read no longer.
 
 use pvp_wire::WireFault;
+use std::fmt;
 
 /// Why a stream is read no longer.
 #[derive(Clone, Copy, Debug, PartialEq, Eq)]
@@ -21,4 +22,25 @@ pub enum LinkFault {
     Receiver,
     /// Memory was refused.
     NoMemory,
+}
+
+/// Writes a word, and of a frame that says nothing its code, `F2` to `F6`.
+impl fmt::Display for LinkFault {
+    ghost use Rattle.std.specs.Prelude.{Some};
+    ghost use Rattle.pvp_intake.specs.Words.{fault_word};
+
+    ghost output = { λ fault. Some (fault_word fault) };
+
+    fn fmt<W: fmt::Write>(&self, f: &mut fmt::Formatter<W>) -> fmt::Result {
+        match self {
+            LinkFault::Hello => f.write_str("no hello"),
+            LinkFault::Stranger => f.write_str("a stranger"),
+            LinkFault::Length => f.write_str("no length"),
+            LinkFault::Tag => f.write_str("another tag"),
+            LinkFault::Wire(fault) => write!(f, "{fault}"),
+            LinkFault::Sender => f.write_str("another sender"),
+            LinkFault::Receiver => f.write_str("another receiver"),
+            LinkFault::NoMemory => f.write_str("no memory"),
+        }
+    }
 }

@@ -43,6 +43,13 @@ impl Intake {
         }
     }
 
+    /// How many bytes came and are not taken yet.
+    pub fn left(&self) -> usize
+        ensures { result ≡ length self.now }
+    {
+        self.held.len() - self.used
+    }
+
     /// Takes a piece of the stream. `Err` where memory is refused, and then nothing has changed. What is taken already is
     /// let go once it is the larger part: so no more bytes are ever moved than were taken.
     pub fn push(&mut self, bytes: &[u8]) -> Result<(), AllocError>

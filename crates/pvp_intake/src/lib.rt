@@ -4,6 +4,7 @@
 
 pub mod arrival;
 pub mod fault;
+pub mod hearing;
 pub mod hello;
 pub mod intake;
 pub mod laws;
@@ -14,6 +15,7 @@ mod seal;
 
 pub use arrival::{Arrival, Piece};
 pub use fault::LinkFault;
+pub use hearing::{Hearer, LinkEnd, hear_all};
 pub use intake::Intake;
 pub use link::Link;
 pub use putting::{put_frame, put_hello, put_ping};

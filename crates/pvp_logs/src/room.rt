@@ -155,6 +155,13 @@ impl<A: Journaled, L: Log> JournalRoom<A, L> {
         &self.log
     }
 
+    /// What waits for a flush, in order.
+    pub fn waiting(&self) -> &[Letter<A::Outcome>]
+        ensures { result.now ≡ self.now.waiting }
+    {
+        self.waiting.as_slice()
+    }
+
     /// Whether nothing waits for a flush.
     pub fn is_flushed(&self) -> bool
         ensures { result ≡ (length self.now.waiting == 0) }
@@ -204,6 +211,7 @@ impl<A: Journaled, L: Log> JournalRoom<A, L> {
         syncs: bool,
     ) -> Result<(Self, Vec<Letter<A::Outcome>>), LogFault>
         ensures flushes { IfOk result (λ after. Flushes A.Actor A.texts L.seen self after.0 after.1.items) }
+        ensures letters { IfOk result (λ after. after.1.items ≡ self.waiting) }
         ensures synced { IfOk result (λ after. IsTrue syncs → OutlivesAll (L.seen after.0.log) (L.synced after.0.log)) }
     {
         let JournalRoom {

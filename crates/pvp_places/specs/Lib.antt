@@ -1,3 +1,10 @@
 pub mod Fault
 pub mod Keys
 pub mod Serving
+pub mod Names
+pub mod Mark
+pub mod Address
+pub mod Reading
+pub mod KeysFile
+pub mod PeersFile
+pub mod Told

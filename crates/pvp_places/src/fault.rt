@@ -1,4 +1,6 @@
 //! What is wrong with a file that tells a process of its surroundings.
+ghost use Rattle.std.specs.Prelude.{◌≡◌};
+ghost use Rattle.pvp_places.specs.Reading.{fault_at};
 
 use std::alloc::{AllocError, AllocFailed};
 use std::fmt;
@@ -39,36 +41,67 @@ impl fmt::Display for PlaceWhy {
     }
 }
 
+/// Why a line of such a file was not read.
+#[derive(Clone, Copy, Debug, PartialEq, Eq)]
+pub enum LineFault {
+    /// Q1 to Q5: it is wrong.
+    Wrong(PlaceWhy),
+    NoMemory,
+}
+
+impl LineFault {
+    /// The same fault of the file, in the line of this number.
+    pub fn at(self, line: usize) -> PlaceFault
+        ensures { result ≡ fault_at line self }
+    {
+        match self {
+            LineFault::Wrong(why) => PlaceFault::Line { line, why },
+            LineFault::NoMemory => PlaceFault::NoMemory,
+        }
+    }
+}
+
+impl From<PlaceWhy> for LineFault {
+    ghost use Rattle.std.specs.Prelude.{◌≡◌};
+    ghost use Rattle.pvp_places.specs.declared.fault.LineFault.TheVariants.{Wrong};
+
+    ghost from_gives = { λ why told. told ≡ Wrong why };
+
+    fn from(why: PlaceWhy) -> LineFault {
+        LineFault::Wrong(why)
+    }
+}
+
+impl From<AllocError> for LineFault {
+    ghost use Rattle.std.specs.Prelude.{◌≡◌};
+    ghost use Rattle.pvp_places.specs.declared.fault.LineFault.TheVariants.{NoMemory};
+
+    ghost from_gives = { λ _ told. told ≡ NoMemory };
+
+    fn from(_refused: AllocError) -> LineFault {
+        LineFault::NoMemory
+    }
+}
+
+impl<T: Drop> From<AllocFailed<T>> for LineFault {
+    ghost use Rattle.std.specs.Prelude.{◌≡◌};
+    ghost use Rattle.pvp_places.specs.declared.fault.LineFault.TheVariants.{NoMemory};
+
+    ghost from_gives = { λ _ told. told ≡ NoMemory };
+
+    fn from(_refused: AllocFailed<T>) -> LineFault {
+        LineFault::NoMemory
+    }
+}
+
 /// Why such a file was not read.
 #[derive(Clone, Copy, Debug, PartialEq, Eq)]
 pub enum PlaceFault {
     /// Q1 to Q5: the line of this number, counted from 1, is wrong.
-    Line { line: u32, why: PlaceWhy },
+    Line { line: usize, why: PlaceWhy },
     /// Q6: no line is this actor's.
     Missing(u16),
     NoMemory,
-}
-
-impl From<AllocError> for PlaceFault {
-    ghost use Rattle.std.specs.Prelude.{◌≡◌};
-    ghost use Rattle.pvp_places.specs.declared.fault.PlaceFault.TheVariants.{NoMemory};
-
-    ghost from_gives = { λ _ told. told ≡ NoMemory };
-
-    fn from(_refused: AllocError) -> PlaceFault {
-        PlaceFault::NoMemory
-    }
-}
-
-impl<T: Drop> From<AllocFailed<T>> for PlaceFault {
-    ghost use Rattle.std.specs.Prelude.{◌≡◌};
-    ghost use Rattle.pvp_places.specs.declared.fault.PlaceFault.TheVariants.{NoMemory};
-
-    ghost from_gives = { λ _ told. told ≡ NoMemory };
-
-    fn from(_refused: AllocFailed<T>) -> PlaceFault {
-        PlaceFault::NoMemory
-    }
 }
 
 /// Why an actor or its folder is none that a process can serve.

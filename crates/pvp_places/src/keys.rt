@@ -1,10 +1,14 @@
 //! The keys file of a process: the keys that it shares with others.
-ghost use Rattle.std.specs.Prelude.{◌≡◌, ◌≤◌, ◌++◌, IfSome, OnOk, string_bytes};
+ghost use Rattle.std.specs.Prelude.{◌≡◌, ◌==◌, ◌≤◌, [], ◌∷◌, ◌++◌, Ok, Err, OnOk, MatchResult, find, string_bytes};
 ghost use Rattle.pvp_places.specs.Keys.{byte_text, digit_at, hex_text, key_line, keys_text};
+ghost use Rattle.pvp_places.specs.KeysFile.{is_shared, key_with, keys_in, shared_in, with_key};
+ghost use Rattle.pvp_places.specs.Reading.{AddsLine, Reads, of_two, with_line};
+ghost use Rattle.pvp_text.specs.ScriptWords.{words};
 
-use crate::fault::{PlaceFault, PlaceWhy};
+use crate::fault::{LineFault, PlaceFault, PlaceWhy};
 use crate::names::actor_named;
-use crate::words::two_words;
+use crate::words::{is_skipped, next_line, two_words};
+use hex::FromHex;
 use pvp_streams::may_send;
 use pvp_tags::key_of;
 use pvp_trace::names::push_actor;
@@ -26,74 +30,80 @@ pub struct Keys {
 
 impl Keys {
     /// The key that is shared with an actor; `None` where there is none.
-    pub fn with(&self, actor: u16) -> Option<[u8; 32]> {
-        self.shared
-            .as_slice()
-            .iter()
-            .find(|shared| shared.actor == actor)
-            .map(|shared| shared.key)
+    pub fn with(&self, actor: u16) -> Option<[u8; 32]>
+        ensures { result ≡ key_with self.now.shared.items actor }
+    {
+        match shared_with(self.shared.as_slice(), actor) {
+            Some(shared) => Some(shared.key),
+            None => None,
+        }
     }
 }
 
-/// Reads a keys file: a line `NAME HEX` for each actor that shares a key with this one. Empty lines and those that begin
-/// with `#` say nothing. The first line that is wrong is told.
-pub fn read_keys(alloc: Global, setup: &Setup, bytes: &[u8]) -> Result<Keys, PlaceFault> {
+/// What is shared with an actor.
+fn shared_with(shared: &[Shared], actor: u16) -> Option<Shared>
+    ensures { result ≡ find (λ s. s.actor == actor) shared.now }
+{
+    shared.iter().copied().find(|one| one.actor == actor)
+}
+
+/// Reads a keys file: a line `NAME HEX` for each actor that shares a key with this one. Lines without words and those that
+/// begin with `#` say nothing. The first line that is wrong is told.
+pub fn read_keys(alloc: Global, setup: &Setup, bytes: &[u8]) -> Result<Keys, PlaceFault>
+    ensures { Reads shared_in result (keys_in setup.now bytes.now) }
+{
     let mut shared: Vec<Shared> = Vec::new(alloc);
-    let mut number = 0u32;
-    for line in bytes.split(|byte| *byte == b'\n') {
-        number = number.saturating_add(1);
-        if line.is_empty() || line[0] == b'#' {
-            continue;
+    let mut number = 1;
+    let mut rest = bytes;
+    while let Some((line, after)) = next_line(rest) {
+        if let Err(fault) = read_line(setup, line, &mut shared) {
+            return Err(fault.at(number));
         }
-        match shared_at(setup, line) {
-            Err(why) => return Err(PlaceFault::Line { line: number, why }),
-            Ok(found) if shared.iter().any(|one| one.actor == found.actor) => {
-                let why = PlaceWhy::Twice;
-                return Err(PlaceFault::Line { line: number, why });
-            }
-            Ok(found) => shared.push(found)?,
-        }
+        number += 1;
+        rest = after;
     }
     Ok(Keys { shared })
 }
 
-/// What a line says.
-fn shared_at(setup: &Setup, line: &[u8]) -> Result<Shared, PlaceWhy> {
+/// Keeps what a line says, behind what was read before it.
+fn read_line(setup: &Setup, line: &[u8], shared: &mut Vec<Shared>) -> Result<(), LineFault>
+    ensures { AddsLine result shared.new.items
+        (with_line (with_key setup.now) shared.old.items line.now) }
+{
+    if is_skipped(line) {
+        return Ok(());
+    }
+    let found = key_at(setup, shared.as_slice(), line)?;
+    shared.push(found)?;
+    Ok(())
+}
+
+/// What a line that says something says, behind these.
+fn key_at(setup: &Setup, shared: &[Shared], line: &[u8]) -> Result<Shared, PlaceWhy>
+    ensures { MatchResult result
+        (λ found. of_two (with_key setup.now shared.now) (words line.now) ≡ Ok (shared.now ++ found ∷ []))
+        (λ why. of_two (with_key setup.now shared.now) (words line.now) ≡ Err why) }
+{
     let Some((name, digits)) = two_words(line) else {
         return Err(PlaceWhy::Form);
     };
     let Some(actor) = actor_named(setup, name) else {
         return Err(PlaceWhy::Name);
     };
-    match key_at(digits) {
-        Some(key) => Ok(Shared { actor, key }),
-        None => Err(PlaceWhy::Key),
+    let Ok(key) = <[u8; 32] as FromHex>::from_hex(digits) else {
+        return Err(PlaceWhy::Key);
+    };
+    if is_shared(shared, actor) {
+        return Err(PlaceWhy::Twice);
     }
+    Ok(Shared { actor, key })
 }
 
-/// The key that 64 digits are.
-fn key_at(digits: &[u8]) -> Option<[u8; 32]> {
-    if digits.len() != 64 {
-        return None;
-    }
-    let mut key = [0; 32];
-    for at in 0..32 {
-        let high = digit_of(digits[2 * at])?;
-        let low = digit_of(digits[2 * at + 1])?;
-        key[at] = high * 16 + low;
-    }
-    Some(key)
-}
-
-/// What a digit counts, 0 to 15.
-fn digit_of(digit: u8) -> Option<u8>
-    ensures { IfSome result (λ value. value ≤ 15) }
+/// Whether a key is shared with an actor.
+fn is_shared(shared: &[Shared], actor: u16) -> bool
+    ensures { result ≡ is_shared shared.now actor }
 {
-    match digit {
-        b'0'..=b'9' => Some(digit - b'0'),
-        b'a'..=b'f' => Some(digit - b'a' + 10),
-        _ => None,
-    }
+    shared.iter().any(|one| one.actor == actor)
 }
 
 /// Writes the keys file of an actor behind what is there: a line for each of these with which it talks, in their order.

@@ -1,4 +1,6 @@
 //! The mark of a folder: how far the journal there can be trusted.
+ghost use Rattle.std.specs.Prelude.{◌≡◌, ◌≢◌, ◌↔◌, IfOk, IfSome, IfNone, IsTrue};
+ghost use Rattle.pvp_places.specs.Mark.{IsWhole, Said, mark_text, said_by};
 
 use std::alloc::{AllocError, Global};
 
@@ -13,15 +15,19 @@ pub enum Mark<'a> {
 
 impl Mark<'_> {
     /// Whether the journal is whole in this run of the machine, which has this name; nothing where it has none.
-    pub fn is_whole_in(&self, run: &[u8]) -> bool {
+    pub fn is_whole_in(&self, run: &[u8]) -> bool
+        ensures { IsTrue result ↔ IsWhole (said_by self.now) run.now }
+    {
         match self {
             Mark::Synced => true,
             Mark::Written(other) => !run.is_empty() && *other == run,
         }
     }
 
-    /// The text of the mark.
-    pub fn text(&self, alloc: Global) -> Result<Vec<u8>, AllocError> {
+    /// The text of the mark. `Err` where memory is refused.
+    pub fn text(&self, alloc: Global) -> Result<Vec<u8>, AllocError>
+        ensures { IfOk result (λ text. text.items ≡ mark_text (said_by self.now)) }
+    {
         let mut text = Vec::new(alloc);
         match self {
             Mark::Synced => text.extend_from_slice(b"synced\n")?,
@@ -36,21 +42,13 @@ impl Mark<'_> {
 }
 
 /// The mark that a text is; `None` where it is none.
-pub fn read_mark(text: &[u8]) -> Option<Mark<'_>> {
-    match text {
-        b"synced\n" => Some(Mark::Synced),
-        [
-            b'w',
-            b'r',
-            b'i',
-            b't',
-            b't',
-            b'e',
-            b'n',
-            b' ',
-            run @ ..,
-            b'\n',
-        ] => { Some(Mark::Written(run)) }
-        _ => None,
+pub fn read_mark(text: &[u8]) -> Option<Mark<'_>>
+    ensures some { IfSome result (λ mark. mark_text (said_by mark) ≡ text.now) }
+    ensures none { IfNone result ((said : Said) → mark_text said ≢ text.now) }
+{
+    if text == b"synced\n".as_slice() {
+        return Some(Mark::Synced);
     }
+    let run = text.strip_prefix(b"written ".as_slice())?;
+    Some(Mark::Written(run.strip_suffix(b"\n".as_slice())?))
 }

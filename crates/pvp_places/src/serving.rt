@@ -27,7 +27,7 @@ pub enum ServeFault {
     /// Q1 to Q5: this line of a peers file or a keys file is wrong.
     Line {
         paper: Paper,
-        line: u32,
+        line: usize,
         why: PlaceWhy,
     },
     /// Q6: there no line is this actor's.
@@ -113,6 +113,11 @@ impl From<JournalFault> for ServeFault {
 }
 
 impl From<WriteFault> for ServeFault {
+    ghost use Rattle.std.specs.Prelude.{◌≡◌};
+    ghost use Rattle.pvp_places.specs.Told.{write_told};
+
+    ghost from_gives = { λ fault told. told ≡ write_told fault };
+
     fn from(fault: WriteFault) -> ServeFault {
         match fault {
             WriteFault::Unfit => ServeFault::Unfit,

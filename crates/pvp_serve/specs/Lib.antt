@@ -1,1 +1,3 @@
 pub mod Patience
+pub mod Serving
+pub mod Doors

@@ -3,7 +3,7 @@
 use crate::desk::TerminalDesk;
 use crate::host::Host;
 use crate::inbox::Inbox;
-use crate::serving::Serving;
+use crate::opening::Process;
 use crate::site::SiteDesk;
 use pvp_places::ServeFault;
 use vr_types::BootCell;
@@ -20,19 +20,20 @@ impl Desk {
     /// Takes what came. `false` where the process is to end.
     pub fn take<R: Host, C: BootCell>(
         &mut self,
-        serving: &mut Serving<R, C>,
+        rt: R,
+        serving: &mut Process<C>,
         item: Inbox,
     ) -> Result<bool, ServeFault> {
         match self {
-            Desk::Site(desk) => desk.take(serving, item),
-            Desk::Terminal(desk) => desk.take(serving, item),
+            Desk::Site(desk) => desk.take(rt, serving, item),
+            Desk::Terminal(desk) => desk.take(rt, serving, item),
         }
     }
 
     /// Tells where a site stands, where that is new. Others tell at once, as things come.
-    pub fn tell<R: Host, C: BootCell>(&mut self, serving: &Serving<R, C>) {
+    pub fn tell<R: Host, C: BootCell>(&mut self, rt: R, serving: &Process<C>) {
         if let Desk::Site(desk) = self {
-            desk.tell(serving);
+            desk.tell(rt, serving);
         }
     }
 }

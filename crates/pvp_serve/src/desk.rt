@@ -1,19 +1,20 @@
 //! A node or a client that is served: what it is asked for at a terminal, and what it answers there.
 
-use crate::host::{Host, Wires};
+use crate::host::Host;
 use crate::inbox::Inbox;
-use crate::serving::Serving;
+use crate::opening::Process;
 use headline::ClientEvent;
+use pvp_intake::Arrival;
 use pvp_logs::Letter;
 use pvp_parties::{PartyEvent, PartyOf, PartyOutcome};
 use pvp_places::ServeFault;
 use pvp_text::script::{Kind, LineCode, Statement, read_script};
 use pvp_trace::names::push_actor;
-use pvp_types::{Setup, Step};
+use pvp_types::{Reply, Setup, Step};
 use rtgs_node::NodeEvent;
 use std::alloc::{AllocError, Global};
 use std::collections::VecDeque;
-use vr_types::{ActorId, BootCell};
+use vr_types::{ActorId, BootCell, MsgOf};
 
 /// At every which tick a client that waits says so.
 const TELLING_TICKS: u32 = 100;
@@ -36,28 +37,36 @@ pub struct TerminalDesk {
     waits: bool,
     ended: bool,
     stays: bool,
+    /// How many beats a client has waited.
     ticks: u32,
+    /// The number and the answer of a request, where it came and is not told yet.
+    owes: Option<(u32, Reply)>,
 }
 
 impl TerminalDesk {
     /// The desk of an actor that was asked for nothing at this terminal. It says there where a client stands.
-    pub fn new<R: Host, C: BootCell>(setup: Setup, stays: bool, serving: &Serving<R, C>) -> Self {
+    pub fn new<R: Host, C: BootCell>(
+        rt: R,
+        setup: Setup,
+        stays: bool,
+        serving: &Process<C>,
+    ) -> Self {
         let desk = TerminalDesk {
             setup,
-            lines: VecDeque::new(serving.alloc),
+            lines: VecDeque::new(rt.alloc()),
             number: 0,
             waits: is_waiting(serving),
             ended: false,
             stays,
             ticks: 0,
+            owes: None,
         };
-        desk.greet(serving);
+        desk.greet(rt, serving);
         desk
     }
 
     /// Says how a client's last request stands.
-    fn greet<R: Host, C: BootCell>(&self, serving: &Serving<R, C>) {
-        let rt = serving.rt;
+    fn greet<R: Host, C: BootCell>(&self, rt: R, serving: &Process<C>) {
         let Some(PartyOf::Client(party)) = serving.actor() else {
             return;
         };
@@ -71,71 +80,82 @@ impl TerminalDesk {
     }
 
     /// Whether nothing is left to be done at this terminal.
-    fn is_done<R: Wires, C: BootCell>(&self, serving: &Serving<R, C>) -> bool {
-        let is_open = match serving.actor() {
-            Some(PartyOf::Client(_)) => self.waits,
-            _ => false,
-        };
-        self.ended && !self.stays && !is_open && self.lines.is_empty()
+    fn is_done<C: BootCell>(&self, serving: &Process<C>) -> bool {
+        self.ended && !self.stays && !self.is_busy(serving) && self.lines.is_empty()
     }
 
-    /// A client whose answer came tells it, once that is in its journal. A node may have something to say from now on.
-    fn hears<R: Host, C: BootCell>(
+    /// Takes an envelope. A client asks next the site that answered it; and a node may have something to say from now on.
+    fn take_frame<R: Host, C: BootCell>(
         &mut self,
-        serving: &mut Serving<R, C>,
+        rt: R,
+        serving: &mut Process<C>,
+        arrival: Arrival,
     ) -> Result<(), ServeFault> {
-        let rt = serving.rt;
-        let answer = match serving.actor() {
-            Some(PartyOf::Client(party)) => {
-                let client = party.client();
-                match client.answer() {
-                    Some(reply) if self.waits => (client.number(), reply),
-                    _ => return Ok(()),
-                }
-            }
-            _ => {
-                self.waits = true;
-                return Ok(());
-            }
-        };
-        self.waits = false;
-        self.ticks = 0;
-        let _letters = serving.flush()?;
-        let (number, reply) = answer;
-        let _told = println!(rt; "{number} {reply}");
+        let site = arrival.peer();
+        let is_reply = matches!(arrival.stamped().envelope.msg, MsgOf::Reply(_));
+        if let (true, ActorId::Client(_)) = (is_reply, ActorId::of(serving.me())) {
+            serving.out_mut().favours(Some(site));
+        }
+        serving.take_frame(rt.alloc(), arrival)?;
+        self.hears(serving);
         Ok(())
+    }
+
+    /// A client whose answer came owes it to the terminal.
+    fn hears<C: BootCell>(&mut self, serving: &Process<C>) {
+        let Some(PartyOf::Client(party)) = serving.actor() else {
+            self.waits = true;
+            return;
+        };
+        let client = party.client();
+        if let (Some(reply), true) = (client.answer(), self.waits) {
+            self.waits = false;
+            self.ticks = 0;
+            self.owes = Some((client.number(), reply));
+        }
+    }
+
+    /// Tells the answer that came. It is in the journal.
+    fn tell_answer<R: Host>(&mut self, rt: R) {
+        if let Some((number, reply)) = self.owes.take() {
+            let _told = println!(rt; "{number} {reply}");
+        }
     }
 
     /// A tick goes by: what may have been lost is said again. An idle actor writes nothing.
     fn tick<R: Host, C: BootCell>(
         &mut self,
-        serving: &mut Serving<R, C>,
+        rt: R,
+        serving: &mut Process<C>,
     ) -> Result<(), ServeFault> {
         if !self.waits {
             return Ok(());
         }
-        match ActorId::of(serving.me) {
+        match ActorId::of(serving.me()) {
             ActorId::Node(_) => {
-                serving.take_event(PartyEvent::OfNode(NodeEvent::Beats))?;
-                let letters = serving.flush()?;
+                serving.take_event(rt.alloc(), PartyEvent::OfNode(NodeEvent::Beats))?;
+                let letters = serving.flush(&rt, rt.alloc(), false)?;
                 self.waits = has_sent(letters.as_slice());
             }
+            // The tick that follows a request is too early.
+            _ if self.ticks == 0 => self.ticks = 1,
             _ => {
-                serving.take_event(PartyEvent::OfClient(ClientEvent::Beats))?;
-                self.tell_waiting(serving);
+                let _letters = serving.flush(&rt, rt.alloc(), false)?;
+                serving.out_mut().favours(None);
+                serving.take_event(rt.alloc(), PartyEvent::OfClient(ClientEvent::Beats))?;
+                self.tell_waiting(rt, serving);
             }
         }
         Ok(())
     }
 
     /// Tells now and then that a client waits.
-    fn tell_waiting<R: Host, C: BootCell>(&mut self, serving: &Serving<R, C>) {
+    fn tell_waiting<R: Host, C: BootCell>(&mut self, rt: R, serving: &Process<C>) {
         self.ticks = self.ticks.saturating_add(1);
         if self.ticks < TELLING_TICKS {
             return;
         }
         self.ticks = 0;
-        let rt = serving.rt;
         if let Some(PartyOf::Client(party)) = serving.actor() {
             let number = party.client().number();
             let _told = eprintln!(rt; "waits {number}");
@@ -143,7 +163,11 @@ impl TerminalDesk {
     }
 
     /// Asks for what is next, one at a time.
-    fn ask<R: Host, C: BootCell>(&mut self, serving: &mut Serving<R, C>) -> Result<(), ServeFault> {
+    fn ask<R: Host, C: BootCell>(
+        &mut self,
+        rt: R,
+        serving: &mut Process<C>,
+    ) -> Result<(), ServeFault> {
         for _ in 0..u32::MAX {
             if self.is_busy(serving) {
                 break;
@@ -151,13 +175,13 @@ impl TerminalDesk {
             let Some(asked) = self.lines.pop_front() else {
                 break;
             };
-            self.ask_one(serving, &asked)?;
+            self.ask_one(rt, serving, &asked)?;
         }
         Ok(())
     }
 
     /// Whether a client waits for an answer.
-    fn is_busy<R: Wires, C: BootCell>(&self, serving: &Serving<R, C>) -> bool {
+    fn is_busy<C: BootCell>(&self, serving: &Process<C>) -> bool {
         match serving.actor() {
             Some(PartyOf::Client(_)) => self.waits,
             _ => false,
@@ -167,22 +191,19 @@ impl TerminalDesk {
     /// Does what a line asks for, or tells what is wrong with it.
     fn ask_one<R: Host, C: BootCell>(
         &mut self,
-        serving: &mut Serving<R, C>,
+        rt: R,
+        serving: &mut Process<C>,
         asked: &Asked,
     ) -> Result<(), ServeFault> {
-        let rt = serving.rt;
-        match event_of(
-            serving.alloc,
-            &self.setup,
-            serving.me,
-            asked.text.as_slice(),
-        )? {
+        let alloc = rt.alloc();
+        match event_of(alloc, &self.setup, serving.me(), asked.text.as_slice())? {
             Ok(None) => Ok(()),
             Ok(Some(event)) => {
-                serving.take_event(event)?;
-                let letters = serving.flush()?;
+                serving.take_event(alloc, event)?;
+                let letters = serving.flush(&rt, alloc, true)?;
+                self.tell_answer(rt);
                 self.waits = true;
-                self.tell_outcome(serving, letters.as_slice());
+                self.tell_outcome(rt, serving, letters.as_slice());
                 Ok(())
             }
             Err(code) => {
@@ -196,10 +217,10 @@ impl TerminalDesk {
     /// Tells how what was asked for came out at a node, or that a client may not ask for it.
     fn tell_outcome<R: Host, C: BootCell>(
         &mut self,
-        serving: &Serving<R, C>,
+        rt: R,
+        serving: &Process<C>,
         letters: &[Letter<PartyOutcome>],
     ) {
-        let rt = serving.rt;
         match letters.last() {
             Some(
                 Letter {
@@ -233,20 +254,18 @@ impl TerminalDesk {
     /// Takes what came. `false` where the process is to end.
     pub fn take<R: Host, C: BootCell>(
         &mut self,
-        serving: &mut Serving<R, C>,
+        rt: R,
+        serving: &mut Process<C>,
         item: Inbox,
     ) -> Result<bool, ServeFault> {
         match item {
-            Inbox::Frame(arrival) => {
-                serving.take_frame(arrival)?;
-                self.hears(serving)?;
+            Inbox::Frame(arrival) => self.take_frame(rt, serving, arrival)?,
+            Inbox::Tick => self.tick(rt, serving)?,
+            Inbox::Came(lane) => serving.out_mut().meets(lane)?,
+            Inbox::Gone { peer, stream, .. } => {
+                let _stood = serving.out_mut().loses(peer, stream);
             }
-            Inbox::Tick => self.tick(serving)?,
-            Inbox::Came(lane) => serving.meets(lane)?,
-            Inbox::Gone { peer, stream } => {
-                let _stood = serving.loses(peer, stream);
-            }
-            Inbox::Ping(_) => {}
+            Inbox::Ping(_) | Inbox::Away(_) => {}
             Inbox::Line(text) => {
                 self.number = self.number.saturating_add(1);
                 self.lines.push_back(Asked {
@@ -256,13 +275,17 @@ impl TerminalDesk {
             }
             Inbox::End => self.ended = true,
         }
-        self.ask(serving)?;
+        self.ask(rt, serving)?;
+        if self.owes.is_some() {
+            let _letters = serving.flush(&rt, rt.alloc(), true)?;
+            self.tell_answer(rt);
+        }
         Ok(!self.is_done(serving))
     }
 }
 
 /// Whether a client waits for an answer; of a node whether its beat may say something, which is so at the start.
-fn is_waiting<R: Wires, C: BootCell>(serving: &Serving<R, C>) -> bool {
+fn is_waiting<C: BootCell>(serving: &Process<C>) -> bool {
     match serving.actor() {
         Some(PartyOf::Client(party)) => {
             let client = party.client();

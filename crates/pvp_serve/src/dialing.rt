@@ -2,7 +2,7 @@
 
 use crate::host::Wires;
 use crate::inbox::Inbox;
-use crate::streams::{announce, read_all, write_all};
+use crate::streams::{announce, read_all, settle, write_all};
 use crossbeam_channel::Sender;
 use pvp_intake::{Intake, Link, put_hello};
 use pvp_places::Address;
@@ -13,9 +13,6 @@ use std::time::Duration;
 
 /// How long a connection is waited for.
 const CONNECT_SECONDS: u64 = 1;
-
-/// How long a write may wait for room before its stream is given up.
-const WRITE_SECONDS: u64 = 10;
 
 /// The pauses between two tries, in milliseconds: they grow.
 const FIRST_PAUSE: u64 = 20;
@@ -62,8 +59,7 @@ fn connect<R: Wires>(rt: R, address: &Address) -> io::Result<TcpStream> {
         }
         let wait = Duration::from_secs(CONNECT_SECONDS);
         if let Ok(stream) = TcpStream::connect_timeout(&rt, &found[at], wait) {
-            stream.set_nodelay(true)?;
-            stream.set_write_timeout(Some(Duration::from_secs(WRITE_SECONDS)))?;
+            settle(&stream)?;
             return Ok(stream);
         }
     }

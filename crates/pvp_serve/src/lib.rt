@@ -16,6 +16,7 @@ pub mod process;
 pub mod serving;
 pub mod site;
 pub mod streams;
+pub mod telling;
 pub mod ticking;
 
 pub use host::Host;

@@ -1,27 +1,30 @@
 //! Streams that others open to a site.
+ghost use Rattle.std.specs.Prelude.{IfOk, IfSome};
+ghost use Rattle.pvp_serve.specs.Doors.{IsLetIn};
 
 use crate::host::Wires;
 use crate::inbox::Inbox;
-use crate::streams::{announce, read_all, write_all};
+use crate::streams::{announce, read_all, settle, write_all};
 use crossbeam_channel::Sender;
 use pvp_intake::{Intake, Link, LinkFault};
 use pvp_places::Keys;
 use std::alloc::Global;
+use std::collections::VecDeque;
 use std::io::{self, Read};
-use std::net::{TcpListener, TcpStream};
+use std::net::{Shutdown, TcpListener, TcpStream};
 use std::sync::Arc;
-use std::sync::atomic::{AtomicU64, Ordering};
+use std::sync::atomic::{AtomicBool, AtomicU64, Ordering};
 use std::thread;
 use std::time::Duration;
 
 /// How many streams are read at once; further ones are closed.
 const MOST_STREAMS: u64 = 256;
 
+/// How many of them may be of openers who have not said yet who they are.
+const MOST_STRANGERS: usize = 64;
+
 /// How many seconds a stranger has to say who it is.
 const HELLO_SECONDS: u64 = 5;
-
-/// How long a write may wait for room before its stream is given up.
-const WRITE_SECONDS: u64 = 10;
 
 /// How many bytes a hello has at most, with its tag.
 const HELLO_BYTES: usize = 64;
@@ -34,8 +37,44 @@ pub struct Door {
     pub keys: Option<Keys>,
     /// How many streams are read.
     pub open: AtomicU64,
-    /// How many streams were turned away.
-    pub turned_away: AtomicU64,
+}
+
+/// A stream whose opener may not have said yet who it is.
+#[derive(Drop)]
+struct Stranger {
+    stream: TcpStream,
+    is_known: Arc<AtomicBool, Global>,
+}
+
+/// The streams that were opened last, the oldest first.
+#[derive(Drop)]
+struct Strangers {
+    all: VecDeque<Stranger>,
+}
+
+impl Strangers {
+    /// A stream more. Where there are too many the oldest is closed, if its opener has not said who it is: so who opens many
+    /// and says nothing keeps nobody out who speaks at once.
+    fn comes(&mut self, stream: &TcpStream, is_known: &Arc<AtomicBool, Global>) -> io::Result<()> {
+        if self.all.len() >= MOST_STRANGERS {
+            if let Some(oldest) = self.all.pop_front() {
+                oldest.leaves();
+            }
+        }
+        self.all.push_back(Stranger {
+            stream: stream.try_clone()?,
+            is_known: Arc::try_clone(is_known)?,
+        })?;
+        Ok(())
+    }
+}
+
+impl Stranger {
+    fn leaves(self) {
+        if !self.is_known.load(Ordering::SeqCst) {
+            let _closed = self.stream.shutdown(Shutdown::Both);
+        }
+    }
 }
 
 /// Takes each stream that is opened to a site, in a thread of its own. It ends with the process.
@@ -46,73 +85,115 @@ pub fn accept_all<R: Wires>(
     inbox: Sender<Inbox>,
 ) {
     let mut number = 0u64;
+    let mut strangers = Strangers {
+        all: VecDeque::new(rt.alloc()),
+    };
     for _ in rt.forever() {
         let Ok((stream, _address)) = listener.accept() else {
             thread::sleep(&rt, Duration::from_millis(10));
             continue;
         };
         number = number.saturating_add(1);
-        take(rt, stream, number, &door, &inbox);
+        let _taken = take(rt, stream, number, &door, &inbox, &mut strangers);
     }
 }
 
-/// Serves a stream in a thread of its own, where there are not too many.
+/// Serves a stream in a thread of its own, where there are not too many. `Err` where memory is refused: then it is closed.
 fn take<R: Wires>(
     rt: R,
     stream: TcpStream,
     number: u64,
     door: &Arc<Door, Global>,
     inbox: &Sender<Inbox>,
-) {
-    let told: Result<_, _> = inbox.clone();
-    let (Ok(theirs), Ok(told)) = (Arc::try_clone(door), told) else {
-        return;
-    };
+    strangers: &mut Strangers,
+) -> io::Result<()> {
+    let theirs = Arc::try_clone(door)?;
+    let told = inbox.clone()?;
+    let is_known = Arc::new(rt.alloc(), AtomicBool::new(false))?;
     if door.open.load(Ordering::SeqCst) >= MOST_STREAMS {
-        door.turned_away.fetch_add(1, Ordering::SeqCst);
-        return;
+        let _told = told.send(&rt, Inbox::Away(None));
+        return Ok(());
     }
+    strangers.comes(&stream, &is_known)?;
     door.open.fetch_add(1, Ordering::SeqCst);
     let spawned = thread::spawn(&rt, move || {
-        if welcome(rt, stream, number, &theirs, told).is_err() {
-            theirs.turned_away.fetch_add(1, Ordering::SeqCst);
-        }
+        receive(rt, stream, number, &theirs, told, is_known);
         theirs.open.fetch_sub(1, Ordering::SeqCst);
     });
     if spawned.is_err() {
         door.open.fetch_sub(1, Ordering::SeqCst);
     }
+    Ok(())
 }
 
-/// Hears who speaks, and serves the stream to its end. `Err` where that is no actor that may talk to this one.
+/// Serves a stream, and tells the loop where it is turned away.
+fn receive<R: Wires>(
+    rt: R,
+    stream: TcpStream,
+    number: u64,
+    door: &Door,
+    inbox: Sender<Inbox>,
+    is_known: Arc<AtomicBool, Global>,
+) {
+    let Ok(told) = inbox.clone() else {
+        return;
+    };
+    if let Err(why) = welcome(rt, stream, number, door, inbox, is_known) {
+        let _told = told.send(&rt, Inbox::Away(Some(why)));
+    }
+}
+
+/// Hears who speaks, and serves the stream to its end. `Err` where that is no actor that may talk to this one, or memory is
+/// refused: then the stream is closed, of which another holds an end too.
 fn welcome<R: Wires>(
     rt: R,
     stream: TcpStream,
     number: u64,
     door: &Door,
     inbox: Sender<Inbox>,
+    is_known: Arc<AtomicBool, Global>,
 ) -> Result<(), LinkFault> {
     let mut stream = stream;
     let mut intake = Intake::new(rt.alloc());
+    match attend(rt, &mut stream, number, &mut intake, door, &inbox) {
+        Err(why) => {
+            let _closed = stream.shutdown(Shutdown::Both);
+            Err(why)
+        }
+        Ok(link) => {
+            is_known.store(true, Ordering::SeqCst);
+            read_all(rt, stream, number, link, intake, inbox);
+            Ok(())
+        }
+    }
+}
+
+/// Hears who speaks, has the loop know of the stream, and has a thread write it.
+fn attend<R: Wires>(
+    rt: R,
+    stream: &mut TcpStream,
+    number: u64,
+    intake: &mut Intake,
+    door: &Door,
+    inbox: &Sender<Inbox>,
+) -> Result<Link, LinkFault> {
     let wait = Some(Duration::from_secs(HELLO_SECONDS));
     if stream.set_read_timeout(wait).is_err() {
         return Err(LinkFault::Hello);
     }
-    let link = hear(rt, &mut stream, &mut intake, door)?;
+    let link = hear(rt, stream, intake, door)?;
     let _shared = stream.set_read_timeout(None);
-    let _prompt = stream.set_nodelay(true);
-    let _bounded = stream.set_write_timeout(Some(Duration::from_secs(WRITE_SECONDS)));
+    let _settled = settle(stream);
     let Ok(theirs) = stream.try_clone() else {
         return Err(LinkFault::NoMemory);
     };
-    let Some(outgoing) = announce(rt, &inbox, link.peer(), number) else {
+    let Some(outgoing) = announce(rt, inbox, link.peer(), number) else {
         return Err(LinkFault::NoMemory);
     };
-    if thread::spawn(&rt, move || write_all(rt, theirs, link, outgoing)).is_err() {
-        return Err(LinkFault::NoMemory);
+    match thread::spawn(&rt, move || write_all(rt, theirs, link, outgoing)) {
+        Ok(_thread) => Ok(link),
+        Err(_) => Err(LinkFault::NoMemory),
     }
-    read_all(rt, stream, number, link, intake, inbox);
-    Ok(())
 }
 
 /// Reads the hello with which a stream opens, and answers the link that it opens.
@@ -158,7 +239,9 @@ fn is_late<R: Wires>(rt: R, began: &io::Result<Duration>) -> bool {
 }
 
 /// The link that a caller opens, once it is known who it is.
-fn caller_of(intake: &Intake, door: &Door) -> Result<Option<Link>, LinkFault> {
+fn caller_of(intake: &Intake, door: &Door) -> Result<Option<Link>, LinkFault>
+    ensures { IfOk result (λ found. IfSome found (λ link. IsLetIn door.now intake.now link)) }
+{
     let Some(caller) = intake.caller(&door.bank)? else {
         return Ok(None);
     };

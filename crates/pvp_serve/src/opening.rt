@@ -7,6 +7,8 @@ ghost use Rattle.pvp_logs.specs.Resumed.{IsAgain};
 
 use crate::folder::{is_whole, open_journal, put_in, put_mark, read_in};
 use crate::host::Host;
+use crate::lanes::Lanes;
+use crate::serving::Serving;
 use pvp_cell::{DirStore, FileCell, OpenFault, read_cell};
 use pvp_evidence::{EvidenceWhy, ShelfFault};
 use pvp_journal::{Entry, Head, Journal, JournalWhy, Left, read_journal, write_head};
@@ -27,6 +29,9 @@ pub type SiteCell<R> = FileCell<DirStore<R>>;
 
 /// The room of an actor that is served.
 pub type Room<C> = JournalRoom<PartyOf<C>, FileLog<File>>;
+
+/// An actor that is served, over a file of its folder and the streams of the process.
+pub type Process<C> = Serving<C, FileLog<File>, Lanes>;
 
 /// Whom a room is opened for, and where.
 #[derive(Drop)]
@@ -244,7 +249,8 @@ fn new_other(
     }
 }
 
-/// Begins a journal of an actor that opens over this, and answers its log and its checksum.
+/// Begins a journal of an actor that opens over this, and answers its log and its checksum. The mark goes before the journal:
+/// so a journal that a kill leaves here can be trusted, and an actor whose start was killed starts again.
 fn begin<R: Host>(
     rt: R,
     place: &Place<'_>,
@@ -258,6 +264,7 @@ fn begin<R: Host>(
     };
     let mut bytes = Vec::new(alloc);
     let sum = write_head(alloc, &head, &mut bytes)?;
+    put_mark(rt, place.folder, place.syncs)?;
     put_in(rt, place.folder, "journal", bytes.as_slice())?;
     let file = open_journal(rt, place.folder, bytes.len())?;
     Ok((FileLog::new(file), sum))

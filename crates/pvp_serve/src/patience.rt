@@ -1,7 +1,13 @@
 //! When a site beats, and when its timer runs out.
-ghost use Rattle.std.specs.Prelude.{◌≡◌, ◌+◌, ◌/◌, ◌≤◌, ◌⊎◌, ◌↔◌, false, IsTrue};
-ghost use Rattle.vr_types.specs.declared.event.Status.TheVariants as status;
-ghost use Rattle.pvp_serve.specs.Patience.{IsOut, Waits};
+ghost use Rattle.std.specs.Prelude.{◌≡◌, ◌-◌, max, if◌then◌else◌};
+ghost use Rattle.pvp_serve.specs.Patience.{
+  after_tick,
+  due,
+  is_out,
+  limit_by,
+  primary_due,
+  same_after,
+};
 
 use vr_types::Status;
 
@@ -48,7 +54,7 @@ pub struct Patience {
     limit: u32,
     /// How many went by since its primary was heard of.
     quiet: u32,
-    /// How many went by in all, up to the greatest number.
+    /// The number of the last tick, which goes round, and is set back where a stream comes to stand.
     ticks: u32,
     /// How many rows were executed at the last beat, and how many ticks since then had nothing new.
     done: usize,
@@ -57,7 +63,9 @@ pub struct Patience {
 
 impl Patience {
     /// That of a site that waits so many ticks at the least.
-    pub fn new(least: u32) -> Self {
+    pub fn new(least: u32) -> Self
+        ensures { result ≡ record { least = least; limit = least; quiet = 0; ticks = 0; done = 0; same = 0 } }
+    {
         Patience {
             least,
             limit: least,
@@ -76,26 +84,23 @@ impl Patience {
     }
 
     /// A stream to another actor stands: what was said before did not go over it, so it is said again at the next tick.
-    pub fn meets(&mut self) {
+    pub fn meets(&mut self)
+        ensures { self.new ≡ record self.old { same = 0; ticks = RECOVERING_TICKS - 1 } }
+    {
         self.same = 0;
         self.ticks = RECOVERING_TICKS - 1;
     }
 
     /// The stream of the primary has ended: it is given a little longer.
     pub fn misses(&mut self)
-        ensures quiet { self.old.quiet ≤ self.new.quiet }
-        ensures left { self.new.limit ≤ self.new.quiet + 2 }
-        ensures limit { self.new.limit ≡ self.old.limit }
+        ensures { self.new ≡ record self.old { quiet = max self.old.quiet (self.old.limit - TICKS_LEFT) } }
     {
         self.quiet = self.quiet.max(self.limit.saturating_sub(TICKS_LEFT));
     }
 
     /// How long it waits the next time, by a number drawn from 0 to 255.
     pub fn draws(&mut self, drawn: u8)
-        ensures least { self.new.least ≡ self.old.least }
-        ensures long { self.new.least ≤ self.new.limit }
-        ensures short { self.new.limit ≤ self.new.least + self.new.least / 2 + 1 }
-        ensures quiet { self.new.quiet ≡ self.old.quiet }
+        ensures { self.new ≡ record self.old { limit = limit_by self.old.least drawn } }
     {
         let more = u64::from(self.least / 2 + 1) * u64::from(drawn) / 256;
         self.limit = self.least.saturating_add(more as u32);
@@ -103,14 +108,8 @@ impl Patience {
 
     /// A tick goes by at a site that looks so.
     pub fn tick(&mut self, look: Look) -> Due
-        ensures down { look.status ≡ status.Down → result ≡ Due.Restart }
-        ensures primary { look.status ≡ status.Normal → IsTrue look.is_primary →
-            (result ≡ Due.Beat) ⊎ (result ≡ Due.Ping) }
-        ensures owes { look.status ≡ status.Normal → IsTrue look.is_primary → IsTrue look.owes →
-            result ≡ Due.Beat }
-        ensures timer { result ≡ Due.Timer → Waits look × IsOut self.old × (self.new.quiet ≡ 0) }
-        ensures due { Waits look → IsOut self.old → result ≡ Due.Timer }
-        ensures limit { self.new.limit ≡ self.old.limit }
+        ensures due { result ≡ due self.old look }
+        ensures after { self.new ≡ after_tick self.old look }
     {
         let is_out = self.is_out();
         self.ticks = self.ticks.wrapping_add(1);
@@ -118,8 +117,8 @@ impl Patience {
         match look.status {
             Status::Down => Due::Restart,
             Status::Normal if look.is_primary => self.primary(look),
-            Status::Normal => self.waits(is_out, Due::Nothing),
-            Status::Change => self.waits(is_out, Due::Beat),
+            Status::Normal => self.waiting(is_out, Due::Nothing),
+            Status::Change => self.waiting(is_out, Due::Beat),
             Status::Recovering if self.ticks % RECOVERING_TICKS == 0 => Due::Beat,
             Status::Recovering => Due::Nothing,
         }
@@ -127,19 +126,18 @@ impl Patience {
 
     /// Whether it has heard nothing for as long as it waits, with the tick that comes.
     fn is_out(&self) -> bool
-        ensures { IsTrue result ↔ IsOut self.now }
+        ensures { result ≡ is_out self.now }
     {
         self.limit == 0 || self.limit - 1 <= self.quiet
     }
 
     /// Its timer, where it has waited long enough, and else this.
-    fn waits(&mut self, is_out: bool, due: Due) -> Due
-        ensures out { IsTrue is_out →
-            (result ≡ Due.Timer) × (self.new ≡ record self.old { quiet = 0 }) }
-        ensures in_time { is_out ≡ false → (result ≡ due) × (self.new ≡ self.old) }
+    fn waiting(&mut self, is_out: bool, otherwise: Due) -> Due
+        ensures due { result ≡ (if is_out then Due.Timer else otherwise) }
+        ensures quiet { self.new ≡ record self.old { quiet = if is_out then 0 else self.old.quiet } }
     {
         if !is_out {
-            return due;
+            return otherwise;
         }
         self.quiet = 0;
         Due::Timer
@@ -147,9 +145,8 @@ impl Patience {
 
     /// A beat where it may have something to say, and else a ping.
     fn primary(&mut self, look: Look) -> Due
-        ensures beats { (result ≡ Due.Beat) ⊎ (result ≡ Due.Ping) }
-        ensures owes { IsTrue look.owes → result ≡ Due.Beat }
-        ensures limit { self.new.limit ≡ self.old.limit }
+        ensures due { result ≡ primary_due self.old look }
+        ensures same { self.new ≡ record self.old { done = look.done; same = same_after self.old look } }
     {
         if look.owes || look.done != self.done {
             self.done = look.done;

@@ -1,5 +1,9 @@
 //! A process of the bank, from its words to its end.
+ghost use Rattle.std.specs.Prelude.{◌≡◌, codes, ok_or, take};
+ghost use Rattle.pvp_tags.specs.Hmac.{hmac};
 ghost use Rattle.pvp_types.specs.Setup.{IsValid};
+ghost use Rattle.pvp_places.specs.Names.{actor_asked};
+ghost use Rattle.pvp_serve.specs.Doors.{IsKeyWith};
 
 use crate::attending::Desk;
 use crate::desk::TerminalDesk;
@@ -7,17 +11,18 @@ use crate::dialing::{Dialed, addresses_of, dial};
 use crate::folder::{read_paper, take_folder};
 use crate::host::{Host, Wires};
 use crate::inbox::Inbox;
+use crate::lanes::Lanes;
 use crate::listening::{Door, accept_all};
-use crate::opening::{Place, SiteCell, open_other, open_site, settle};
+use crate::opening::{Place, Process, Room, SiteCell, open_other, open_site, settle};
 use crate::serving::Serving;
 use crate::site::SiteDesk;
 use crate::ticking::{read_lines, tick};
 use crossbeam_channel::{Receiver, Sender, bounded};
 use pvp_evidence::bank_of;
 use pvp_intake::Link;
-use pvp_places::names::site_named;
 use pvp_places::{
-    Address, FolderWhy, Keys, Order, Paper, Peers, ServeFault, Who, read_keys, read_peers,
+    Address, FolderWhy, Keys, Order, Paper, Peers, ServeFault, Who, actor_asked, read_keys,
+    read_peers,
 };
 use pvp_tags::hmac;
 use pvp_text::read_setup;
@@ -80,41 +85,20 @@ fn serve_bank<R: Host, L: BufRead + Drop + Send + 'static>(
     }
 }
 
-/// The actor that is to be served.
-fn actor_of(setup: &Setup, who: Who<'_>) -> Result<u16, ServeFault> {
-    let found = match who {
-        Who::Site(word) => site_at(setup, word.as_bytes()),
-        Who::Node(code) => setup
-            .currency(code.as_bytes())
-            .map(|ccy| ActorId::Node(u16::from(ccy)).number()),
-        Who::Client(name) => client_at(setup, name.as_bytes()),
-    };
-    match found {
+/// The actor that is to be served. `Err` where the bank has none (X1).
+fn actor_of(setup: &Setup, who: Who<'_>) -> Result<u16, ServeFault>
+    ensures { result ≡ ok_or (actor_asked setup.now who.entry) (ServeFault.Folder FolderWhy.Actor) }
+{
+    match actor_asked(setup, who) {
         Some(actor) => Ok(actor),
         None => Err(ServeFault::Folder(FolderWhy::Actor)),
     }
 }
 
-/// The site of this place, with or without an `s` before it.
-fn site_at(setup: &Setup, word: &[u8]) -> Option<u16> {
-    let site = match word {
-        [digit] => site_named(setup, &[b's', *digit])?,
-        _ => site_named(setup, word)?,
-    };
-    Some(ActorId::Site(site).number())
-}
-
-/// The operator, or a member.
-fn client_at(setup: &Setup, name: &[u8]) -> Option<u16> {
-    let number = setup.client(name)?;
-    match ActorId::of(number) {
-        ActorId::Client(_) => Some(number),
-        _ => None,
-    }
-}
-
 /// What tells this life of the bank from others, by its name.
-fn life_of(name: &[u8]) -> [u8; 16] {
+fn life_of(name: &[u8]) -> [u8; 16]
+    ensures { result ≡ take 16 (hmac (codes "life") name.now) }
+{
     let whole = hmac(b"life", name, &[]);
     let mut life = [0; 16];
     life.copy_from_slice(&whole[..16]);
@@ -153,7 +137,8 @@ fn serve_site<R: Host, L: BufRead + Drop + Send + 'static>(
     let listener = listener_of(rt, order, &bank.peers, site)?;
     let serving = site_of(rt, order, bank, me, site)?;
     let inbox = open_streams(rt, terminal, order, bank, keys, me, site, listener)?;
-    let desk = SiteDesk::new(2 * bank.setup.faults() + 1, order.patience, order.stays);
+    let sites = 2 * bank.setup.faults() + 1;
+    let desk = SiteDesk::new(bank.setup.copy()?, sites, order.patience, order.stays);
     attend_site(rt, inbox, desk, serving)
 }
 
@@ -164,11 +149,11 @@ fn site_of<R: Host>(
     bank: &Bank,
     me: u16,
     site: u16,
-) -> Result<Serving<R, SiteCell<R>>, ServeFault> {
+) -> Result<Process<SiteCell<R>>, ServeFault> {
     let place = Place::new(&bank.setup, bank.id, me, order.data, order.syncs);
     let room = open_site(rt, &place, site)?;
     let room = settle(rt, &place, room)?;
-    Ok(Serving::new(rt, me, order.syncs, room))
+    Ok(process_of(rt, &place, room))
 }
 
 /// A node or a client, as its folder has it.
@@ -177,11 +162,16 @@ fn other_of<R: Host>(
     order: &Order<'_>,
     bank: &Bank,
     me: u16,
-) -> Result<Serving<R, MemCell>, ServeFault> {
+) -> Result<Process<MemCell>, ServeFault> {
     let place = Place::new(&bank.setup, bank.id, me, order.data, order.syncs);
     let room = open_other(rt, &place)?;
     let room = settle(rt, &place, room)?;
-    Ok(Serving::new(rt, me, order.syncs, room))
+    Ok(process_of(rt, &place, room))
+}
+
+/// A room that is served, over no stream yet.
+fn process_of<R: Wires, C: BootCell>(rt: R, place: &Place<'_>, room: Room<C>) -> Process<C> {
+    Serving::new(place.me, place.syncs, room, Lanes::new(rt.alloc()))
 }
 
 /// Has threads dial the sites before a site, listen for others, and bring ticks and lines. Answers what they bring.
@@ -207,12 +197,12 @@ fn attend_site<R: Host, C: BootCell>(
     rt: R,
     inbox: Receiver<Inbox>,
     desk: SiteDesk,
-    serving: Serving<R, C>,
+    serving: Process<C>,
 ) -> Result<(), ServeFault> {
     let mut desk = Desk::Site(desk);
     let mut serving = serving;
-    let _letters = serving.flush()?;
-    desk.tell(&serving);
+    let _letters = serving.flush(&rt, rt.alloc(), false)?;
+    desk.tell(rt, &serving);
     attend(rt, &inbox, &mut desk, &mut serving)
 }
 
@@ -251,10 +241,10 @@ fn attend_other<R: Host, C: BootCell>(
     inbox: Receiver<Inbox>,
     setup: Setup,
     stays: bool,
-    serving: Serving<R, C>,
+    serving: Process<C>,
 ) -> Result<(), ServeFault> {
     let mut serving = serving;
-    let mut desk = Desk::Terminal(TerminalDesk::new(setup, stays, &serving));
+    let mut desk = Desk::Terminal(TerminalDesk::new(rt, setup, stays, &serving));
     attend(rt, &inbox, &mut desk, &mut serving)
 }
 
@@ -263,15 +253,15 @@ fn attend<R: Host, C: BootCell>(
     rt: R,
     inbox: &Receiver<Inbox>,
     desk: &mut Desk,
-    serving: &mut Serving<R, C>,
+    serving: &mut Process<C>,
 ) -> Result<(), ServeFault> {
     for _ in rt.forever() {
         let Ok(first) = inbox.recv(&rt) else {
             break;
         };
         let goes_on = take_batch(rt, inbox, first, desk, serving)?;
-        let _letters = serving.flush()?;
-        desk.tell(serving);
+        let _letters = serving.flush(&rt, rt.alloc(), false)?;
+        desk.tell(rt, serving);
         if !goes_on {
             break;
         }
@@ -285,16 +275,16 @@ fn take_batch<R: Host, C: BootCell>(
     inbox: &Receiver<Inbox>,
     first: Inbox,
     desk: &mut Desk,
-    serving: &mut Serving<R, C>,
+    serving: &mut Process<C>,
 ) -> Result<bool, ServeFault> {
-    if !desk.take(serving, first)? {
+    if !desk.take(rt, serving, first)? {
         return Ok(false);
     }
     for _ in 1..BATCH {
         let Ok(next) = inbox.try_recv(&rt) else {
             break;
         };
-        if !desk.take(serving, next)? {
+        if !desk.take(rt, serving, next)? {
             return Ok(false);
         }
     }
@@ -329,7 +319,9 @@ fn dial_sites<R: Wires>(
 }
 
 /// The key with a peer; none where frames are not tagged.
-fn key_with(keys: &Option<Keys>, peer: u16) -> Result<Option<[u8; 32]>, ServeFault> {
+fn key_with(keys: &Option<Keys>, peer: u16) -> Result<Option<[u8; 32]>, ServeFault>
+    ensures { IsKeyWith keys.now peer result }
+{
     match keys {
         None => Ok(None),
         Some(keys) => match keys.with(peer) {
@@ -405,7 +397,6 @@ fn listen<R: Wires>(
         bank,
         keys,
         open: AtomicU64::new(0),
-        turned_away: AtomicU64::new(0),
     };
     let door: Arc<Door, Global> = Arc::new(rt.alloc(), door)?;
     let inbox = inbox.clone()?;

@@ -1,52 +1,84 @@
-//! An actor that is served: its room, and the lanes over which what it sends goes out.
+//! An actor that is served: its room, and where what it sends goes.
+ghost use Rattle.std.specs.Prelude.{◌≡◌, ◌≢◌, ◌↔◌, true, [], Some, Err, IfOk, OnOk, IsOk, IsTrue};
+ghost use Rattle.std.specs.List.{list_any};
+ghost use Rattle.pvp_rooms.specs.Gates.{Hears};
+ghost use Rattle.pvp_logs.specs.Rooms.{bank_texts};
+ghost use Rattle.pvp_serve.specs.Serving.{
+  HasFlushed,
+  IsFar,
+  IsSpent,
+  OutlivesIn,
+  leaves,
+  sends,
+  TakesIn,
+  input_of,
+  own_input,
+  puts_in,
+  puts_of,
+};
 
-use crate::host::Wires;
-use crate::lanes::Lane;
-use crate::opening::{Room, log_fault};
+use crate::opening::log_fault;
 use pvp_intake::Arrival;
-use pvp_logs::{Letter, Posted};
-use pvp_parties::{PartyEvent, PartyOf, PartyOutcome};
-use pvp_peers::Served;
+use pvp_logs::{JournalRoom, Letter, Log, Posted};
+use pvp_parties::{Party, PartyEvent, PartyOf, PartyOutcome};
+use pvp_peers::{Outbox, Served};
 use pvp_places::ServeFault;
-use pvp_rooms::Input;
-use pvp_wire::{Stamp, Stamped, encode, wireable};
+use pvp_rooms::{Actor, Input};
+use pvp_wire::Stamped;
 use std::alloc::Global;
-use vr_types::{ActorId, BootCell};
+use std::sync::Wait;
+use vr_types::BootCell;
 
 /// How far ahead of its own clock an actor believes a stamp: what is further is lost, so that nobody can spend the clocks
 /// of the whole bank with one frame.
 const HORIZON: u64 = 1 << 40;
 
-/// An actor, its journal, and the streams that stand.
+/// An actor, its journal, and where what it sends goes.
 #[derive(Drop)]
-pub struct Serving<R: Wires, C: BootCell> {
-    pub rt: R,
-    pub alloc: Global,
-    pub me: u16,
+pub struct Serving<C: BootCell, L: Log, O: Outbox + Drop> {
+    me: u16,
     syncs: bool,
     /// It is gone once it could not be written.
-    room: Option<Room<C>>,
-    lanes: Vec<Lane>,
+    room: Option<JournalRoom<PartyOf<C>, L>>,
+    out: O,
     /// How many frames were lost since their clocks were too far ahead.
     unbelieved: u64,
 }
 
-impl<R: Wires, C: BootCell> Serving<R, C> {
-    /// A room that is served, over no stream yet.
-    pub fn new(rt: R, me: u16, syncs: bool, room: Room<C>) -> Self {
-        let alloc = rt.alloc();
+impl<C: BootCell, L: Log, O: Outbox + Drop> Serving<C, L, O> {
+    /// A room that is served.
+    pub fn new(me: u16, syncs: bool, room: JournalRoom<PartyOf<C>, L>, out: O) -> Self
+        ensures { result ≡ record { me = me; syncs = syncs; room = Some room; out = out; unbelieved = 0 } }
+    {
         Serving {
-            rt,
-            alloc,
             me,
             syncs,
             room: Some(room),
-            lanes: Vec::new(alloc),
+            out,
             unbelieved: 0,
         }
     }
 
-    /// The actor, as its history has left it.
+    /// The number of the actor.
+    pub fn me(&self) -> u16
+        ensures { result ≡ self.now.me }
+    {
+        self.me
+    }
+
+    /// Where what the actor sends goes.
+    pub fn out(&self) -> &O
+        ensures { result.now ≡ self.now.out }
+    {
+        &self.out
+    }
+
+    /// Where what the actor sends goes, to be changed.
+    pub fn out_mut(&mut self) -> &mut O {
+        &mut self.out
+    }
+
+    /// The actor, as its history has left it; `None` where its room is gone.
     pub fn actor(&self) -> Option<&PartyOf<C>> {
         match &self.room {
             Some(room) => Some(room.actor()),
@@ -55,38 +87,70 @@ impl<R: Wires, C: BootCell> Serving<R, C> {
     }
 
     /// How many frames were lost since their clocks were too far ahead.
-    pub fn unbelieved(&self) -> u64 {
+    pub fn unbelieved(&self) -> u64
+        ensures { result ≡ self.now.unbelieved }
+    {
         self.unbelieved
     }
+}
 
-    /// Takes an envelope that came.
-    pub fn take_frame(&mut self, arrival: Arrival) -> Result<(), ServeFault> {
+impl<C: BootCell, L: Log, O: Outbox + Drop> Serving<C, L, O> {
+    /// Takes an envelope that came, with its stamp; one with a clock too far ahead is lost. What it sends waits for `flush`.
+    pub fn take_frame(&mut self, alloc: Global, arrival: Arrival) -> Result<(), ServeFault>
+        ensures far { IsFar self.old.room arrival.stamped.stamp.clock →
+            IsOk result × (self.new.room ≡ self.old.room) }
+        ensures near { ¬ IsFar self.old.room arrival.stamped.stamp.clock → OnOk result (
+            TakesIn ⟦<PartyOf<C> as Actor>⟧ bank_texts L.seen (input_of arrival.stamped)
+            self.old.room self.new.room) }
+        ensures out { self.new.out ≡ self.old.out }
+        ensures me { self.new.me ≡ self.old.me }
+    {
         let Stamped { stamp, envelope } = arrival.into_stamped();
-        let clock = match &self.room {
-            Some(room) => room.clock(),
-            None => 0,
-        };
-        if stamp.clock > clock.saturating_add(HORIZON) {
+        if self.is_far(stamp.clock) {
             self.unbelieved = self.unbelieved.saturating_add(1);
             return Ok(());
         }
-        self.take(Input {
-            event: PartyOf::<C>::deliver(envelope),
-            stamp: Some(stamp),
-        })
+        self.take(
+            alloc,
+            Input {
+                event: PartyOf::<C>::deliver(envelope),
+                stamp: Some(stamp),
+            },
+        )
     }
 
-    /// Takes an event of its own.
-    pub fn take_event(&mut self, event: PartyEvent) -> Result<(), ServeFault> {
-        self.take(Input { event, stamp: None })
+    /// Takes an event of its own. What it sends waits for `flush`.
+    pub fn take_event(&mut self, alloc: Global, event: PartyEvent) -> Result<(), ServeFault>
+        ensures takes { OnOk result (TakesIn ⟦<PartyOf<C> as Actor>⟧ bank_texts L.seen (own_input event)
+            self.old.room self.new.room) }
+        ensures out { self.new.out ≡ self.old.out }
+        ensures me { self.new.me ≡ self.old.me }
+    {
+        self.take(alloc, Input { event, stamp: None })
     }
 
-    fn take(&mut self, input: Input<PartyEvent>) -> Result<(), ServeFault> {
+    /// Whether a clock is too far ahead of the actor's own to be believed.
+    fn is_far(&self, clock: u64) -> bool
+        ensures { IsTrue result ↔ IsFar self.now.room clock }
+    {
+        match &self.room {
+            Some(room) => clock > room.clock().saturating_add(HORIZON),
+            None => false,
+        }
+    }
+
+    fn take(&mut self, alloc: Global, input: Input<PartyEvent>) -> Result<(), ServeFault>
+        ensures takes { OnOk result (TakesIn ⟦<PartyOf<C> as Actor>⟧ bank_texts L.seen input
+            self.old.room self.new.room) }
+        ensures spent { result ≡ Err ServeFault.Clock → IsSpent self.old.room input.stamp }
+        ensures out { self.new.out ≡ self.old.out }
+        ensures me { self.new.me ≡ self.old.me }
+    {
         let Some(room) = self.room.take() else {
             return Err(ServeFault::Unfit);
         };
-        let (room, posted) = room.step(self.alloc, input)?;
-        self.room = Some(room);
+        let (room, posted) = room.step(alloc, input)?;
+        self.put_back(room);
         match posted {
             Posted::Done(_) => Ok(()),
             Posted::NoMemory => Err(ServeFault::NoMemory),
@@ -94,78 +158,74 @@ impl<R: Wires, C: BootCell> Serving<R, C> {
         }
     }
 
-    /// Writes what was taken into the journal, and only then sends what came of it. Answers how the events came out.
-    pub fn flush(&mut self) -> Result<Vec<Letter<PartyOutcome>>, ServeFault> {
+    /// Writes what was taken into the journal, has it synced where asked and where something leaves, and only then hands out
+    /// what came of it. Something leaves where an event sent something, and where what was taken is told at the terminal.
+    /// Answers how the events came out. After `Err` the room is gone, and nothing of the batch was handed out.
+    pub fn flush<T: Wait>(
+        &mut self,
+        rt: &T,
+        alloc: Global,
+        is_told: bool,
+    ) -> Result<Vec<Letter<PartyOutcome>>, ServeFault>
+        ensures written { IfOk result (λ letters. HasFlushed ⟦<PartyOf<C> as Actor>⟧ bank_texts L.seen
+            self.old.room self.new.room letters.items) }
+        ensures synced { IfOk result (λ letters. IsTrue self.old.syncs → letters.items ≢ [] →
+            leaves is_told letters.items ≡ true → OutlivesIn L.seen L.synced self.new.room) }
+        ensures handed { Hears O.got self.old.out self.new.out (puts_of self.old.me result) }
+        ensures me { self.new.me ≡ self.old.me }
+    {
         let Some(room) = self.room.take() else {
             return Err(ServeFault::Unfit);
         };
         if room.is_flushed() {
-            self.room = Some(room);
-            return Ok(Vec::new(self.alloc));
+            self.put_back(room);
+            return Ok(Vec::new(alloc));
         }
-        let (room, letters) = match room.flush(self.alloc, self.syncs) {
+        let syncs = self.syncs && leaves(is_told, room.waiting());
+        let (room, letters) = match room.flush(alloc, syncs) {
             Ok(flushed) => flushed,
             Err(fault) => return Err(log_fault(fault)),
         };
-        self.room = Some(room);
-        for letter in letters.as_slice() {
-            self.send(letter);
-        }
+        self.put_back(room);
+        self.hand_out(rt, alloc, letters.as_slice());
         Ok(letters)
     }
 
-    /// Sends what came of an event, each envelope over its receiver's stream. What has none is lost.
-    fn send(&self, letter: &Letter<PartyOutcome>) {
-        let mut index = 0u32;
-        for envelope in PartyOf::<C>::sent(&letter.outcome) {
-            let stamp = Stamp {
-                actor: self.me,
-                clock: letter.clock,
-                index,
-            };
-            if let Some(lane) = self.lane(envelope.to) {
-                if let Ok(envelope) = envelope.copy(self.alloc) {
-                    self.send_one(lane, &Stamped { stamp, envelope });
-                }
-            }
-            index = index.saturating_add(1);
+    /// The room stands there again that was taken.
+    fn put_back(&mut self, room: JournalRoom<PartyOf<C>, L>)
+        ensures { self.new ≡ record self.old { room = Some room } }
+    {
+        self.room = Some(room);
+    }
+
+    /// Hands out what these events sent, in order.
+    fn hand_out<T: Wait>(&mut self, rt: &T, alloc: Global, letters: &[Letter<PartyOutcome>])
+        ensures handed { Hears O.got self.old.out self.new.out (puts_in self.old.me letters.now) }
+        ensures rest { self.new ≡ record self.old { out = self.new.out } }
+    {
+        for letter in letters {
+            let sent = PartyOf::<C>::sent(&letter.outcome);
+            self.out.put(rt, alloc, self.me, letter.clock, sent);
         }
     }
+}
 
-    /// Sends a frame. An envelope without a spelling is lost.
-    fn send_one(&self, lane: &Lane, stamped: &Stamped) {
-        let mut frame = Vec::new(self.alloc);
-        if wireable(stamped) && encode(stamped, &mut frame).is_ok() {
-            lane.send(self.rt, frame);
-        }
-    }
+/// Whether something leaves: what happened is told, or an event sent something.
+fn leaves(is_told: bool, letters: &[Letter<PartyOutcome>]) -> bool
+    ensures { result ≡ leaves is_told letters.now }
+{
+    is_told || send_any(letters)
+}
 
-    fn lane(&self, peer: u16) -> Option<&Lane> {
-        self.lanes.as_slice().iter().find(|lane| lane.peer == peer)
-    }
+fn send_any(letters: &[Letter<PartyOutcome>]) -> bool
+    ensures { result ≡ list_any sends letters.now }
+{
+    letters.iter().any(|letter| sends(letter))
+}
 
-    /// A stream stands. One that stood between the same two is let go.
-    pub fn meets(&mut self, lane: Lane) -> Result<(), ServeFault> {
-        let peer = lane.peer;
-        self.lanes.retain(|other| other.peer != peer);
-        self.lanes.push(lane)?;
-        Ok(())
-    }
-
-    /// A stream has ended. Answers whether it was the one that stands between the two.
-    pub fn loses(&mut self, peer: u16, stream: u64) -> bool {
-        let before = self.lanes.len();
-        self.lanes
-            .retain(|other| other.peer != peer || other.stream != stream);
-        self.lanes.len() < before
-    }
-
-    /// Says to the other sites that this one serves its view, which is no event.
-    pub fn ping_sites(&self) {
-        for lane in self.lanes.as_slice() {
-            if let ActorId::Site(_) = ActorId::of(lane.peer) {
-                lane.send(self.rt, Vec::new(self.alloc));
-            }
-        }
-    }
+/// Whether an event sent something.
+fn sends(letter: &Letter<PartyOutcome>) -> bool
+    ensures { result ≡ sends letter.now }
+{
+    !Party::sent(&letter.outcome).is_empty()
 }

@@ -1,43 +1,44 @@
 //! A site that is served.
 
-use crate::host::{Host, Wires};
+use crate::host::Host;
 use crate::inbox::Inbox;
 use crate::lanes::Lane;
+use crate::opening::Process;
 use crate::patience::{Due, Look, Patience};
-use crate::serving::Serving;
+use crate::telling::Teller;
 use pvp_intake::Arrival;
 use pvp_parties::{PartyEvent, PartyOf};
 use pvp_places::ServeFault;
-use vr_types::{ActorId, BootCell, EventOf, Machine, MsgOf, Status};
+use pvp_types::Setup;
+use std::alloc::Global;
+use vr_types::{ActorId, BootCell, EventOf, Machine, MsgOf};
 
 /// What a site's loop keeps beside the site itself.
 #[derive(Drop)]
 pub struct SiteDesk {
     sites: u16,
     patience: Patience,
-    /// Where the site stood when that was last told.
-    status: Status,
-    view: u32,
+    teller: Teller,
     stays: bool,
 }
 
 impl SiteDesk {
-    /// That of a site of a bank with so many, which waits so many ticks at the least.
-    pub fn new(sites: u16, patience: u32, stays: bool) -> Self {
+    /// That of a site of a bank of this setup with so many sites, which waits so many ticks at the least.
+    pub fn new(setup: Setup, sites: u16, patience: u32, stays: bool) -> Self {
         SiteDesk {
             sites,
             patience: Patience::new(patience),
-            status: Status::Down,
-            view: 0,
+            teller: Teller::new(setup),
             stays,
         }
     }
 
     /// Takes an envelope. Only what serves the view counts as heard of the primary: one that asks for what it lost does not
     /// serve it.
-    fn take_frame<R: Wires, C: BootCell>(
+    fn take_frame<C: BootCell>(
         &mut self,
-        serving: &mut Serving<R, C>,
+        alloc: Global,
+        serving: &mut Process<C>,
         arrival: Arrival,
     ) -> Result<(), ServeFault> {
         let serves = matches!(
@@ -47,24 +48,19 @@ impl SiteDesk {
         if serves {
             self.hears(serving, arrival.stamped().envelope.from);
         }
-        serving.take_frame(arrival)
+        serving.take_frame(alloc, arrival)
     }
 
     /// An actor serves its view.
-    fn hears<R: Wires, C: BootCell>(&mut self, serving: &Serving<R, C>, peer: u16) {
+    fn hears<C: BootCell>(&mut self, serving: &Process<C>, peer: u16) {
         if is_primary(serving, self.sites, peer) {
             self.patience.hears();
         }
     }
 
     /// A stream has ended.
-    fn loses<R: Wires, C: BootCell>(
-        &mut self,
-        serving: &mut Serving<R, C>,
-        peer: u16,
-        stream: u64,
-    ) {
-        if serving.loses(peer, stream) && is_primary(serving, self.sites, peer) {
+    fn loses<C: BootCell>(&mut self, serving: &mut Process<C>, peer: u16, stream: u64) {
+        if serving.out_mut().loses(peer, stream) && is_primary(serving, self.sites, peer) {
             self.patience.misses();
         }
     }
@@ -72,99 +68,94 @@ impl SiteDesk {
     /// A tick goes by.
     fn tick<R: Host, C: BootCell>(
         &mut self,
-        serving: &mut Serving<R, C>,
+        rt: R,
+        serving: &mut Process<C>,
     ) -> Result<(), ServeFault> {
         let Some(look) = look_at(serving, self.sites) else {
             return Ok(());
         };
-        match self.patience.tick(look) {
-            Due::Nothing => Ok(()),
-            Due::Restart => serving.take_event(PartyEvent::OfSite(EventOf::Restart)),
-            Due::Beat => serving.take_event(PartyEvent::OfSite(EventOf::Beat)),
+        let event = match self.patience.tick(look) {
+            Due::Nothing => return Ok(()),
             Due::Ping => {
-                serving.ping_sites();
-                Ok(())
+                serving.out().ping_sites(&rt, rt.alloc());
+                return Ok(());
             }
+            Due::Restart => EventOf::Restart,
+            Due::Beat => EventOf::Beat,
             Due::Timer => {
-                self.patience.draws(drawn(serving.rt));
-                serving.take_event(PartyEvent::OfSite(EventOf::Timer))
+                self.patience.draws(drawn(rt));
+                EventOf::Timer
             }
-        }
+        };
+        serving.take_event(rt.alloc(), PartyEvent::OfSite(event))
     }
 
     /// Takes what came. `false` where the process is to end.
     pub fn take<R: Host, C: BootCell>(
         &mut self,
-        serving: &mut Serving<R, C>,
+        rt: R,
+        serving: &mut Process<C>,
         item: Inbox,
     ) -> Result<bool, ServeFault> {
         let goes_on = self.stays || !matches!(&item, Inbox::End);
-        self.handle(serving, item)?;
+        self.handle(rt, serving, item)?;
         Ok(goes_on)
     }
 
     fn handle<R: Host, C: BootCell>(
         &mut self,
-        serving: &mut Serving<R, C>,
+        rt: R,
+        serving: &mut Process<C>,
         item: Inbox,
     ) -> Result<(), ServeFault> {
         match item {
-            Inbox::Frame(arrival) => self.take_frame(serving, arrival),
-            Inbox::Tick => self.tick(serving),
+            Inbox::Frame(arrival) => self.take_frame(rt.alloc(), serving, arrival),
+            Inbox::Tick => {
+                self.teller.ticks(rt, serving.unbelieved());
+                self.tick(rt, serving)
+            }
             Inbox::Came(lane) => self.meets(serving, lane),
             Inbox::Ping(peer) => {
                 self.hears(serving, peer);
                 Ok(())
             }
-            Inbox::Gone { peer, stream } => {
+            Inbox::Gone { peer, stream, end } => {
+                self.teller.ends(rt, peer, end);
                 self.loses(serving, peer, stream);
                 Ok(())
             }
-            Inbox::Line(_) | Inbox::End => Ok(()),
+            Inbox::Away(why) => {
+                self.teller.turns_away(why);
+                Ok(())
+            }
+            Inbox::Line(text) => {
+                if text.as_slice() == b"status".as_slice() {
+                    self.teller.answers(rt, serving);
+                }
+                Ok(())
+            }
+            Inbox::End => Ok(()),
         }
     }
 
     /// A stream stands.
-    fn meets<R: Wires, C: BootCell>(
+    fn meets<C: BootCell>(
         &mut self,
-        serving: &mut Serving<R, C>,
+        serving: &mut Process<C>,
         lane: Lane,
     ) -> Result<(), ServeFault> {
         self.patience.meets();
-        serving.meets(lane)
+        Ok(serving.out_mut().meets(lane)?)
     }
 
     /// Tells on standard error where the site stands, where that is new.
-    pub fn tell<R: Host, C: BootCell>(&mut self, serving: &Serving<R, C>) {
-        let Some(PartyOf::Site(site)) = serving.actor() else {
-            return;
-        };
-        let site = site.replica();
-        let (status, view) = (site.status(), site.view());
-        if status == self.status && view == self.view {
-            return;
-        }
-        self.status = status;
-        self.view = view;
-        let log = site.log_len();
-        let word = word_of(status);
-        let rt = serving.rt;
-        let _told = eprintln!(rt; "{word} view {view} log {log}");
-    }
-}
-
-/// The word for where a site stands.
-fn word_of(status: Status) -> &'static str {
-    match status {
-        Status::Normal => "normal",
-        Status::Change => "change",
-        Status::Recovering => "recovering",
-        Status::Down => "down",
+    pub fn tell<R: Host, C: BootCell>(&mut self, rt: R, serving: &Process<C>) {
+        self.teller.stands(rt, serving);
     }
 }
 
 /// The site, as its timers see it.
-fn look_at<R: Wires, C: BootCell>(serving: &Serving<R, C>, sites: u16) -> Option<Look> {
+fn look_at<C: BootCell>(serving: &Process<C>, sites: u16) -> Option<Look> {
     let Some(PartyOf::Site(site)) = serving.actor() else {
         return None;
     };
@@ -176,14 +167,14 @@ fn look_at<R: Wires, C: BootCell>(serving: &Serving<R, C>, sites: u16) -> Option
     };
     Some(Look {
         status: site.status(),
-        is_primary: primary_of(site.view(), sites) == serving.me,
+        is_primary: primary_of(site.view(), sites) == serving.me(),
         done,
         owes: owes || site.log_len() > done,
     })
 }
 
 /// Whether an actor is the primary of the view in which the site is.
-fn is_primary<R: Wires, C: BootCell>(serving: &Serving<R, C>, sites: u16, actor: u16) -> bool {
+fn is_primary<C: BootCell>(serving: &Process<C>, sites: u16, actor: u16) -> bool {
     match serving.actor() {
         Some(PartyOf::Site(site)) => primary_of(site.replica().view(), sites) == actor,
         _ => false,

@@ -4,16 +4,24 @@ use crate::host::Wires;
 use crate::inbox::Inbox;
 use crate::lanes::{Outgoing, lane_to};
 use crossbeam_channel::Sender;
-use pvp_intake::{Intake, Link, LinkFault, Piece, put_frame, put_ping};
+use pvp_intake::{Hearer, Intake, Link, Piece, hear_all, put_frame, put_ping};
 use std::alloc::AllocError;
-use std::io::{Read, Write};
+use std::io::{self, Write};
 use std::net::{Shutdown, TcpStream};
+use std::sync::Wait;
+use std::time::Duration;
 
 /// How many bytes go in one write, or a few more.
 const MOST_BYTES: usize = 65_536;
 
-/// How many bytes are read at once.
-const PIECE_BYTES: usize = 16_384;
+/// How long a write may wait for room before its stream is given up.
+const WRITE_SECONDS: u64 = 10;
+
+/// Has a stream send at once what is written, and give up a write for which no room comes.
+pub fn settle(stream: &TcpStream) -> io::Result<()> {
+    stream.set_nodelay(true)?;
+    stream.set_write_timeout(Some(Duration::from_secs(WRITE_SECONDS)))
+}
 
 /// Tells the loop that a stream stands, and answers the frames that are to go over it; `None` where the process ends, or
 /// memory is refused.
@@ -78,8 +86,29 @@ fn put(link: &Link, frame: &[u8], bytes: &mut Vec<u8>) -> Result<(), AllocError>
     }
 }
 
-/// Reads a stream to its end, or to what is no frame of its link, and hands each frame and ping to the loop; then tells it
-/// that the stream has ended.
+/// Who hands what comes over a link to the loop.
+#[derive(Drop)]
+struct ToLoop<'a> {
+    peer: u16,
+    inbox: &'a Sender<Inbox>,
+}
+
+/// Nothing more is wanted once the loop has ended, or where memory is refused.
+impl Hearer for ToLoop<'_> {
+    /// Nothing is known of what has come through.
+    ghost got = { λ to all. Unit {0} };
+
+    fn hear<T: Wait>(&mut self, rt: &T, piece: Piece) -> bool {
+        let item = match piece {
+            Piece::Ping => Inbox::Ping(self.peer),
+            Piece::Frame(arrival) => Inbox::Frame(arrival),
+        };
+        self.inbox.send(rt, item).is_ok()
+    }
+}
+
+/// Reads a stream to its end, or to what is none of its link's, and hands each frame and ping to the loop; then tells it that
+/// the stream has ended, and why.
 pub fn read_all<R: Wires>(
     rt: R,
     stream: TcpStream,
@@ -89,46 +118,19 @@ pub fn read_all<R: Wires>(
     inbox: Sender<Inbox>,
 ) {
     let mut stream = stream;
-    let mut intake = intake;
-    let mut buffer = [0u8; PIECE_BYTES];
-    for _ in rt.forever() {
-        if hand_on(rt, &link, &mut intake, &inbox).is_err() {
-            break;
-        }
-        let Ok(got) = stream.read(&mut buffer) else {
-            break;
-        };
-        if got == 0 || intake.push(&buffer[..got]).is_err() {
-            break;
-        }
-    }
-    let _closed = stream.shutdown(Shutdown::Both);
     let peer = link.peer();
-    let _ended = inbox.send(
+    let mut to_loop = ToLoop {
+        peer,
+        inbox: &inbox,
+    };
+    let end = hear_all(&rt, rt.alloc(), &link, intake, &mut stream, &mut to_loop);
+    let _closed = stream.shutdown(Shutdown::Both);
+    let _told = inbox.send(
         &rt,
         Inbox::Gone {
             peer,
             stream: number,
+            end,
         },
     );
-}
-
-/// Hands all that is whole to the loop.
-fn hand_on<R: Wires>(
-    rt: R,
-    link: &Link,
-    intake: &mut Intake,
-    inbox: &Sender<Inbox>,
-) -> Result<(), LinkFault> {
-    for _ in rt.forever() {
-        let item = match intake.next(rt.alloc(), link)? {
-            None => break,
-            Some(Piece::Ping) => Inbox::Ping(link.peer()),
-            Some(Piece::Frame(arrival)) => Inbox::Frame(arrival),
-        };
-        if inbox.send(&rt, item).is_err() {
-            return Err(LinkFault::NoMemory);
-        }
-    }
-    Ok(())
 }

@@ -3,7 +3,9 @@
 
 use pvp_command::{Disk, Piped, Served, command_on, no_words, served_by, tell_served};
 use pvp_evidence::DiskShelf;
+use pvp_places::ServeFault;
 use pvp_serve::serve;
+use std::io::BufReader;
 use std::process::ExitCode;
 use std::{env, io};
 
@@ -13,7 +15,10 @@ fn main(rt: HostRuntime) -> ExitCode {
         Err(refusal) => return ExitCode::from(no_words(refusal.kind(), &mut rt.stderr())),
     };
     if let Some(Served { order, explains }) = served_by(rt.alloc(), words.as_slice()) {
-        let told = serve(rt, rt.reader(), &order);
+        let told = match BufReader::new(rt.alloc(), rt.stdin()) {
+            Ok(terminal) => serve(rt, terminal, &order),
+            Err(_) => Err(ServeFault::NoMemory),
+        };
         return ExitCode::from(tell_served(told, explains, &mut rt.stderr()));
     }
     ExitCode::from(command_on(

@@ -1,0 +1,4 @@
+pub mod Hosts
+pub mod Lines
+pub mod Places
+pub mod Marks

@@ -1,0 +1,153 @@
+//! What a site tells its operator: on standard error where that is new, and on standard output where it is asked.
+
+use crate::host::Host;
+use crate::opening::Process;
+use pvp_intake::{LinkEnd, LinkFault};
+use pvp_parties::PartyOf;
+use pvp_trace::names::push_actor;
+use pvp_types::Setup;
+use std::alloc::{AllocError, Global};
+use vr_types::{BootCell, MAX_ROWS, Status};
+
+/// At every which tick it tells what was turned away or lost since.
+const TELLING_TICKS: u32 = 100;
+
+/// Where a site stands, as it is told.
+#[derive(Clone, Copy, Debug, PartialEq, Eq)]
+struct Standing {
+    status: Status,
+    view: u32,
+    is_full: bool,
+}
+
+/// What a site has told, so that it does not tell it again.
+#[derive(Drop)]
+pub struct Teller {
+    setup: Setup,
+    stood: Option<Standing>,
+    /// The stream that ended last with something wrong: whose, and why.
+    ended: Option<(u16, LinkFault)>,
+    /// How many streams were turned away, and why the last.
+    away: u64,
+    why: Option<LinkFault>,
+    /// How many of them, and how many lost frames, were told.
+    told: (u64, u64),
+    ticks: u32,
+}
+
+impl Teller {
+    /// That of a site of a bank of this setup, which has told nothing.
+    pub fn new(setup: Setup) -> Self {
+        Teller {
+            setup,
+            stood: None,
+            ended: None,
+            away: 0,
+            why: None,
+            told: (0, 0),
+            ticks: 0,
+        }
+    }
+
+    /// A stream was turned away that a stranger opened.
+    pub fn turns_away(&mut self, why: Option<LinkFault>) {
+        self.away = self.away.saturating_add(1);
+        if why.is_some() {
+            self.why = why;
+        }
+    }
+
+    /// A stream has ended: what was wrong with it is told, but not the same again and again.
+    pub fn ends<R: Host>(&mut self, rt: R, peer: u16, end: LinkEnd) {
+        let LinkEnd::Wrong(why) = end else {
+            return;
+        };
+        if self.ended == Some((peer, why)) {
+            return;
+        }
+        self.ended = Some((peer, why));
+        let mut name = String::new(rt.alloc());
+        let _named = push_actor(&mut name, &self.setup, peer);
+        let _told = eprintln!(rt; "stream of {} ends: {why}", name.as_str());
+    }
+
+    /// A tick goes by: now and then it tells how many streams were turned away, and how many frames were lost since their
+    /// clocks were too far ahead, where that is more than was told.
+    pub fn ticks<R: Host>(&mut self, rt: R, unbelieved: u64) {
+        self.ticks = self.ticks.saturating_add(1);
+        let now = (self.away, unbelieved);
+        if self.ticks < TELLING_TICKS || now == self.told {
+            return;
+        }
+        self.ticks = 0;
+        self.told = now;
+        let away = self.away;
+        let _told = eprintln!(rt;
+            "turned away {away} streams, lost {unbelieved} frames of far clocks"
+        );
+        if let Some(why) = self.why {
+            let _also = eprintln!(rt; "turned away the last: {why}");
+        }
+    }
+
+    /// Tells where the site stands, where that is new.
+    pub fn stands<R: Host, C: BootCell>(&mut self, rt: R, process: &Process<C>) {
+        let Some(PartyOf::Site(site)) = process.actor() else {
+            return;
+        };
+        let site = site.replica();
+        let log = site.log_len();
+        let standing = Standing {
+            status: site.status(),
+            view: site.view(),
+            is_full: log >= MAX_ROWS,
+        };
+        if self.stood == Some(standing) {
+            return;
+        }
+        self.stood = Some(standing);
+        let (word, view) = (word_of(standing.status), standing.view);
+        let full = if standing.is_full { " full" } else { "" };
+        let _told = eprintln!(rt; "{word} view {view} log {log}{full}");
+    }
+
+    /// Answers where the site stands, and with whom it has a stream.
+    pub fn answers<R: Host, C: BootCell>(&self, rt: R, process: &Process<C>) {
+        let Some(PartyOf::Site(site)) = process.actor() else {
+            return;
+        };
+        let site = site.replica();
+        let (word, view, log) = (word_of(site.status()), site.view(), site.log_len());
+        let done = site.done();
+        if let Ok(peers) = self.peers_of(rt.alloc(), process) {
+            let _told = println!(rt;
+                "{word} view {view} log {log} done {done} hears{}",
+                peers.as_str()
+            );
+        }
+    }
+
+    /// The names of those with whom a stream stands, each behind a space.
+    fn peers_of<C: BootCell>(
+        &self,
+        alloc: Global,
+        process: &Process<C>,
+    ) -> Result<String, AllocError> {
+        let mut names = String::new(alloc);
+        for lane in process.out().all() {
+            names.push_str(" ")?;
+            push_actor(&mut names, &self.setup, lane.peer)?;
+        }
+        Ok(names)
+    }
+}
+
+/// The word for where a site stands.
+fn word_of(status: Status) -> &'static str {
+    match status {
+        Status::Normal => "normal",
+        Status::Change => "change",
+        Status::Recovering => "recovering",
+        Status::Down => "down",
+    }
+}
