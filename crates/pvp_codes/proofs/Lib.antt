@@ -4,3 +4,4 @@ pub mod BrokenWords
 pub mod Finding
 pub mod TreeFinding
 pub mod ByteFinding
+pub mod Commons

@@ -15,6 +15,8 @@ use Rattle.pvp_codes.specs.declared.broken.Why.{Why}
 use Rattle.pvp_codes.specs.declared.broken.Why.TheVariants.{BeginsNoLine, OtherKind, NoCommand, NoDigits, LeadingZero, NotDigits, Above, NoSender, OfNode, NoClient, NoCurrency, NoActor, NoSite}
 use Rattle.pvp_codes.specs.declared.kinds.Kinds.{Kinds}
 use Rattle.pvp_codes.specs.Kinds.{kinds_of, kinds_text, kind_text}
+use Rattle.pvp_codes.specs.declared.near.Known.{Known}
+use Rattle.pvp_codes.specs.Near.{known_text, first, commands, nearest}
 
 -- `@` and `s` tell a number after them
 abbrev pub begins_with : ℕ → List ℕ → Bool
@@ -24,13 +26,13 @@ begins_with byte (first ∷ rest) = first == byte
 -- ---- a word that is unknown
 
 -- a first word of lines of other kinds of script, or of none
-abbrev pub unknown_first : Kind → Option Kinds → Why
-unknown_first kind (Some kinds) = OtherKind kinds kind
-unknown_first kind None = BeginsNoLine
+abbrev pub unknown_first : Kind → Option Kinds → Option Known → Why
+unknown_first kind (Some kinds) near = OtherKind kinds kind
+unknown_first kind None near = BeginsNoLine near
 
 abbrev pub unknown_word : Kind → Field → List ℕ → Option Why
-unknown_word kind First word = if bytes_eq word (codes "do") then None else Some (unknown_first kind (kinds_of word))
-unknown_word kind Command word = Some NoCommand
+unknown_word kind First word = if bytes_eq word (codes "do") then None else Some (unknown_first kind (kinds_of word) (nearest word first))
+unknown_word kind Command word = Some (NoCommand (nearest word commands))
 unknown_word kind _ word = None
 
 -- ---- a number that is malformed or too large
@@ -101,10 +103,15 @@ first_broken breaks _ _ = None
 
 -- ---- in words
 
+-- the word that may have been meant
+abbrev pub near_text : Option Known → List ℕ
+near_text None = []
+near_text (Some known) = codes ": did you mean " ++ known_text known ++ codes "?"
+
 abbrev pub why_text : Why → List ℕ
-why_text BeginsNoLine = codes "begins no line of such a script"
+why_text (BeginsNoLine near) = codes "begins no line of such a script" ++ near_text near
 why_text (OtherKind kinds kind) = codes "is a line of " ++ kinds_text kinds ++ codes ", not of " ++ kind_text kind
-why_text NoCommand = codes "is no command"
+why_text (NoCommand near) = codes "is no command" ++ near_text near
 why_text NoDigits = codes "is no number: no digits"
 why_text LeadingZero = codes "is no number: a leading zero"
 why_text NotDigits = codes "is no number: a byte that is no digit"

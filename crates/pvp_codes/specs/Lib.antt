@@ -2,6 +2,7 @@ pub mod Meanings
 pub mod Codes
 pub mod Fields
 pub mod Kinds
+pub mod Near
 pub mod Broken
 pub mod Parts
 pub mod Tree

@@ -7,9 +7,11 @@ ghost use Rattle.pvp_text.specs.ScriptFields.{sender_number};
 ghost use Rattle.pvp_text.specs.ScriptWords.{words};
 ghost use Rattle.pvp_codes.specs.Broken as spec;
 ghost use Rattle.pvp_codes.specs.Kinds.{kinds_of};
+ghost use Rattle.pvp_codes.specs.Near.{first, nearest};
 
 use crate::fields::{Field, is};
 use crate::kinds::{Kinds, kind_name, kinds_of};
+use crate::near::{Known, near_command, near_first};
 use pvp_text::{Kind, LineCode, amount, next_word};
 use pvp_types::Setup;
 use std::fmt;
@@ -17,12 +19,12 @@ use std::fmt;
 /// Why a word may not stand where it does.
 #[derive(Clone, Copy, Debug, PartialEq, Eq)]
 pub enum Why {
-    /// It begins no line of any script.
-    BeginsNoLine,
+    /// It begins no line of any script; and which word does that is one slip away, where one is.
+    BeginsNoLine(Option<Known>),
     /// It begins lines of these kinds of script, and this script is of another.
     OtherKind(Kinds, Kind),
-    /// It is no command.
-    NoCommand,
+    /// It is no command; and which command is one slip away, where one is.
+    NoCommand(Option<Known>),
     /// A number without digits.
     NoDigits,
     /// A number with a zero in front.
@@ -51,11 +53,15 @@ impl fmt::Display for Why {
 
     fn fmt<W: fmt::Write>(&self, f: &mut fmt::Formatter<W>) -> fmt::Result {
         match self {
-            Why::BeginsNoLine => f.write_str("begins no line of such a script"),
+            Why::BeginsNoLine(None) => f.write_str("begins no line of such a script"),
+            Why::BeginsNoLine(Some(near)) => {
+                write!(f, "begins no line of such a script: did you mean {near}?")
+            }
             Why::OtherKind(kinds, kind) => {
                 write!(f, "is a line of {kinds}, not of {}", kind_name(*kind))
             }
-            Why::NoCommand => f.write_str("is no command"),
+            Why::NoCommand(None) => f.write_str("is no command"),
+            Why::NoCommand(Some(near)) => write!(f, "is no command: did you mean {near}?"),
             Why::NoDigits => f.write_str("is no number: no digits"),
             Why::LeadingZero => f.write_str("is no number: a leading zero"),
             Why::NotDigits => f.write_str("is no number: a byte that is no digit"),
@@ -122,18 +128,18 @@ fn unknown_word(kind: Kind, field: Field, word: &[u8]) -> Option<Why>
     match field {
         Field::First if is(word, "do") => None,
         Field::First => Some(unknown_first(kind, word)),
-        Field::Command => Some(Why::NoCommand),
+        Field::Command => Some(Why::NoCommand(near_command(word))),
         _ => None,
     }
 }
 
 /// Why a first word is unknown: it begins lines of other kinds of script, or of none.
 fn unknown_first(kind: Kind, word: &[u8]) -> Why
-    ensures { result ≡ spec.unknown_first kind (kinds_of word.now) }
+    ensures { result ≡ spec.unknown_first kind (kinds_of word.now) (nearest word.now first) }
 {
     match kinds_of(word) {
         Some(kinds) => Why::OtherKind(kinds, kind),
-        None => Why::BeginsNoLine,
+        None => Why::BeginsNoLine(near_first(word)),
     }
 }
 

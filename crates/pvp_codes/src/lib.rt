@@ -8,6 +8,7 @@ mod fields;
 mod kinds;
 pub mod laws;
 pub mod meanings;
+mod near;
 mod parts;
 pub mod table;
 mod tree;
