@@ -70,6 +70,11 @@ class Lines(Explained):
         self.tells_lines(BOOK, [
             ("print\n\n# no such word\nsettle\nprint\n", 4, "L2", '"settle" begins no line of such a script'),
             ("do ALFA pay USD 1", 1, "L2", '"pay" is no command'),
+            ("do ALFA payot USD 1", 1, "L2", '"payot" is no command: did you mean payout?'),
+            ("do ALFA instrukt 1", 1, "L2", '"instrukt" is no command: did you mean instruct?'),
+            ("pirnt", 1, "L2", '"pirnt" begins no line of such a script: did you mean print?'),
+            ("prints", 1, "L2", '"prints" begins no line of such a script: did you mean print?'),
+            ("o", 1, "L2", '"o" begins no line of such a script: did you mean do?'),
         ])
         self.tells_lines(PLAY, [("drained 5\n", 1, "L2", '"drained" begins no line of such a script')])
 

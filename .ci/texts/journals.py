@@ -1,9 +1,14 @@
 """Audits of journals that are spelled here byte by byte, from the page that describes them."""
 import hashlib
+import os
 import struct
+import sys
 
-from plays import NEW_SITE
-from program import FOUR_SITES, SETUP, Runs
+sys.path.append(os.path.join(os.path.dirname(os.path.abspath(__file__)), ".."))
+
+import records  # noqa: E402
+from plays import NEW_SITE  # noqa: E402
+from program import FOUR_SITES, SETUP, Runs  # noqa: E402
 
 LIFE = bytes(range(16))
 CLIENTS, NODES, SITES = [0, 1, 2], [101, 102, 103], [200, 201, 202]
@@ -34,10 +39,6 @@ def frame(kind, actor, clock, to, body):
     return struct.pack(">I", len(text)) + text
 
 
-def checksum(before, text):
-    return hashlib.sha256(struct.pack(">Q", before) + text).digest()[:8]
-
-
 def head(actor, setup=SETUP, life=LIFE, opening=None):
     if opening is None:
         opening = b"\1" + bytes(4) if actor >= 200 else b"\0"
@@ -46,14 +47,7 @@ def head(actor, setup=SETUP, life=LIFE, opening=None):
 
 def journal(actor, *events, **of):
     """The journal of an actor that took these events, each with its clock and how it came out."""
-    text = head(actor, **of)
-    before = checksum(0, text)
-    for clock, event, outcome in events:
-        body = struct.pack(">Q", clock) + event + outcome
-        measured = struct.pack(">II", len(body), 0xFFFFFFFF - len(body)) + body
-        before = checksum(*struct.unpack(">Q", before), measured)
-        text += measured + before
-    return text
+    return records.journal(head(actor, **of), [struct.pack(">Q", clock) + event + outcome for clock, event, outcome in events])
 
 
 def name(actor):
