@@ -14,7 +14,7 @@ sys.dont_write_bytecode = True
 HERE = os.path.dirname(os.path.abspath(__file__))
 sys.path.insert(0, HERE)
 
-from wrong import prover, record
+from wrong import prover, reach, record
 from wrong.bodies import edits_of, functions_in, read
 from wrong.trying import Verdict, verdict
 
@@ -250,35 +250,170 @@ def tries_of(room):
 
 def keys(room):
     crate, tries = tries_of(room)
+    reach.files_of.cache_clear()
     return record.keys_of(crate, tries.folder, tries.edits)
 
 
+def wrong_key(way, is_another, wanted):
+    return [] if is_another == wanted else [f"with another text of {way} the key is {'another' if is_another else 'the same'}"]
+
+
 def wrong_keys(room):
-    """Whether what could make a wrong body right gives it another key, and nothing else does."""
-    wrong, file, name = [], f"{room}/crates/counter/src/lib.rt", "counter/next_adds_two.edit"
+    """Whether what could make a wrong body right gives it another key, and a text that it does not reach leaves it as it is."""
+    wrong, file, name = [], f"{room}/crates/counter/src/lib.rt", "counter/after_next_forgets_one.edit"
     before = keys(room)[name]
     for way, old, new, is_another in (
         ("a comment", "One more", "One more than that", False),
         ("another body", "4 + 5", "5 + 4", False),
-        ("its own body", "    n + 1", "    1 + n", True),
-        ("its own contract", "requires { n < 255 }", "requires { n < 254 }", True),
-        ("another contract", "result ≡ n + 2", "result ≡ 2 + n", True),
-        ("a type", "pub held: A", "pub held: A, pub count: u8", True),
-        ("a string", '= " "', '= "  "', True),
+        ("its own body", "next(next(n))\n", "next(next(n)) \n+ 0", True),
+        ("its own contract", "requires { n < 254 }", "requires { n < 253 }", True),
+        ("the contract of what it calls", "result ≡ n + 1", "result ≡ 1 + n", True),
+        ("the contract of another", "result ≤ b", "b ≥ result", False),
+        ("a type of another", "pub held: A", "pub held: A, pub count: u8", False),
     ):
         write(file, SOURCE.replace(old, new))
-        if (keys(room).get(name) != before) != is_another:
-            wrong.append(f"with another text of {way} the key is {'the same' if is_another else 'another'}")
+        wrong += wrong_key(way, keys(room).get(name) != before, is_another)
     write(file, SOURCE)
-    for way, path, is_another in (("its own proof", "next", True), ("another proof", "smaller", False)):
+    for way, path, is_another in (("its own proof", "after_next", True), ("another proof", "smaller", False)):
         write(f"{room}/crates/counter/proofs/{path}/Answers.antt", "-- nothing\n")
-        if (keys(room)[name] != before) != is_another:
-            wrong.append(f"with {way} the key is {'the same' if is_another else 'another'}")
+        wrong += wrong_key(way, keys(room)[name] != before, is_another)
         shutil.rmtree(f"{room}/crates/counter/proofs/{path}")
-    write(f"{room}/crates/counter/specs/Lib.antt", "pub mod Counts\n")
-    if keys(room)[name] == before:
-        wrong.append("with another definition the key is the same")
-    shutil.rmtree(f"{room}/crates/counter/specs")
+    before = keys(room)
+    write(file, SOURCE.replace("result ≤ b", "b ≥ result"))
+    outside = "counter/limit_is_said_otherwise.edit"
+    wrong += wrong_key("all of the crate of a change outside of bodies", keys(room)[outside] != before[outside], True)
+    write(file, SOURCE)
+    return wrong
+
+
+FAR = {
+    "specs/Lib.antt": "pub mod Counts\npub mod Bases\npub mod Ways\n",
+    "specs/Counts.antt": """-- Counts.
+use Rattle.std.specs.Prelude.{ℕ}
+use Rattle.far.specs.Bases.{base as ground-floor, unused}
+use Rattle.far.specs.Ways.{◌⊕◌}
+
+abbrev pub doubled : ℕ → ℕ
+doubled 0 = ground-floor
+doubled n = n ⊕ n
+
+abbrev pub apart : ℕ
+apart = 7
+""",
+    "specs/Bases.antt": "abbrev pub base : ℕ\nbase = 1\n\nabbrev pub unused : ℕ\nunused = 2\n",
+    "specs/Ways.antt": "infixl 10 ◌⊕◌\nabbrev pub ◌⊕◌ : ℕ → ℕ → ℕ\na ⊕ b = a + b\n",
+    "src/lib.rt": """ghost use Rattle.far.specs.Counts.{doubled as twice};
+
+use crate::held::{spare, Holder as Keeper};
+
+pub mod held;
+
+const LIMIT: [u8; 2] = [1, 2];
+
+const OTHER: u8 = 3;
+
+pub fn tried(keeper: &Keeper) -> u8
+    ensures { result ≡ twice 3 }
+{
+    keeper.shown() + LIMIT[0]
+}
+""",
+    "src/held.rt": """pub struct Inner {
+    pub count: u8,
+}
+
+pub struct Holder {
+    inner: Inner,
+}
+
+pub struct Lone;
+
+impl Holder {
+    pub fn shown(&self) -> u8
+        ensures { result ≡ self.now.inner.count }
+    {
+        self.inner.count
+    }
+
+    pub fn hidden(&self) -> u8
+        ensures { result ≡ 4 }
+    {
+        4
+    }
+}
+
+impl Shows for Holder {
+    fn shows(&self) -> u8
+        ensures { result ≡ 5 }
+    {
+        5
+    }
+}
+
+impl Shows for Lone {
+    fn shows(&self) -> u8
+        ensures { result ≡ 6 }
+    {
+        6
+    }
+}
+
+pub fn spare() -> u8
+    ensures { result ≡ 8 }
+{
+    8
+}
+
+pub fn of_an_array(x: [u8; 2]) -> u8
+    ensures { result ≡ 9 }
+{
+    9
+}
+""",
+}
+
+
+def wrong_reach(room):
+    """Whether a key has what its function's words reach: by imports under other names, by types, by blocks of traits, by the kit's
+    operators; and not what they do not reach."""
+    wrong, folder = [], f"{room}/far"
+    for file, text in FAR.items():
+        write(f"{folder}/{file}", text)
+    write(f"{folder}/wrong/it_shows_less.edit", "file: src/lib.rt\nold:     keeper.shown() + LIMIT[0]\nnew:     keeper.shown()\n")
+    crate = SimpleNamespace(name="far", folder=folder, below=lambda: [])
+
+    def key():
+        reach.files_of.cache_clear()
+        return record.keys_of(crate, folder, edits_of(folder, functions_in(folder)))["far/it_shows_less.edit"]
+
+    before = key()
+    for way, file, old, new, is_another in (
+        ("a definition under another name", "specs/Bases.antt", "base = 1", "base = 0", True),
+        ("a definition that is imported and not used", "specs/Bases.antt", "unused = 2", "unused = 3", False),
+        ("another definition of a file", "specs/Counts.antt", "apart = 7", "apart = 8", False),
+        ("an operator", "specs/Ways.antt", "a ⊕ b = a + b", "a ⊕ b = b + a", True),
+        ("a comment of definitions", "specs/Counts.antt", "-- Counts.", "-- Counted.", False),
+        ("a type below its types", "src/held.rt", "pub count: u8", "pub count: u16", True),
+        ("a type that it does not reach", "src/held.rt", "struct Lone;", "struct Lone {}", False),
+        ("a method", "src/held.rt", "result ≡ self.now.inner.count", "self.now.inner.count ≡ result", True),
+        ("the body of a method", "src/held.rt", "        self.inner.count", "        self.inner.count + 0", False),
+        ("a method that it does not call", "src/held.rt", "result ≡ 4", "4 ≡ result", False),
+        ("a block of a trait of its types", "src/held.rt", "result ≡ 5", "5 ≡ result", True),
+        ("a block of a trait of another", "src/held.rt", "result ≡ 6", "6 ≡ result", False),
+        ("a constant", "src/lib.rt", "[1, 2]", "[2, 2]", True),
+        ("another constant", "src/lib.rt", "u8 = 3", "u8 = 4", False),
+        ("a function that is imported and not called", "src/held.rt", "result ≡ 8", "8 ≡ result", False),
+        ("what is no item", "src/held.rt", "result ≡ 9", "9 ≡ result", True),
+    ):
+        write(f"{folder}/{file}", FAR[file].replace(old, new))
+        wrong += wrong_key(way, key() != before, is_another)
+        write(f"{folder}/{file}", FAR[file])
+    write(f"{folder}/specs/Counts.antt", FAR["specs/Counts.antt"].replace("far.specs.Bases", "far.specs.Gone"))
+    try:
+        key()
+        wrong.append("an import of nothing is let go")
+    except LookupError:
+        pass
     return wrong
 
 
@@ -345,6 +480,7 @@ def main():
     with tempfile.TemporaryDirectory(prefix="edits-test-") as room:
         make(room)
         wrong += wrong_keys(room)
+        wrong += wrong_reach(room)
         wrong += wrong_imports(room)
         wrong += wrong_of(run(room), "over its own proof", EDITS, len(EDITS))
         taken = [it for it in EDITS if is_taken(EDITS[it][2])]
@@ -367,7 +503,7 @@ def main():
         wrong += wrong_false_record(room)
     if wrong:
         print("\n".join(wrong))
-    print(f"{max(0, count + 17 - len(wrong))} passed, {len(wrong)} failed")
+    print(f"{max(0, count + 34 - len(wrong))} passed, {len(wrong)} failed")
     return 1 if wrong else 0
 
 

@@ -105,6 +105,7 @@ class Tree:
                 self.write_command(file, do[name])
         self.write_command(".ci/edits", f'echo "edits $*" >>"$SAID"; if [ "$1" = --apply ]; then {do[APPLY]}; else {do[BODIES]}; fi')
         self.write_command(".ci/program", f'echo "program $*, in $PWD" >>"$SAID"; {keep}')
+        self.write_command(".ci/minutes", 'echo "== of process $2" >"$1"')
         self.write_command("bin/rt", f'echo "rt $*" >>"$SAID"; if [ "$1" = help ]; then {help_}; else {do[PROOFS]}; fi')
         write(self.at(".ci/texts"), f"import subprocess, os\nstatus = subprocess.run(['bash', '-c', {do[TEXTS]!r}]).returncode\nstatus < 0 and os.kill(os.getpid(), -status)\nraise SystemExit(status)\n")
         for name in COMMANDS:
@@ -166,6 +167,7 @@ def sees_sums(seen):
     status, text, said = over_a_tree()
     seen.look("all green", (status, last(text)) == (0, f"{ALL} passed, 0 failed"), text)
     seen.look("each part stands in the table", all(re.search(rf"(?m)^== {re.escape(name)} +\d+ +\d+$", text) for name in FLOORS), text)
+    seen.look("what each crate took is told", re.search(r"(?m)^== of process \d+$", text), text)
     seen.look("the program is kept, from the tree's own top", re.search(r"(?m)^program keep /\S+, in /\S+$", said) and "--all" not in said, said)
     status, text, _ = over_a_tree(keep="exit 1")
     seen.look("a program that is not kept changes no verdict", (status, last(text)) == (0, f"{ALL} passed, 0 failed") and "is not kept" in text, text)
@@ -181,6 +183,30 @@ def sees_sums(seen):
     seen.look("what a part failed is counted", (status, last(text)) == (1, f"{ALL - FLOORS[BODIES] + 998} passed, 2 failed"), text)
     status, text, _ = over_a_tree(do={PROOFS: "echo '35 passed, 1 failed'; exit 1"})
     seen.look("what did not run is told", status == 1 and "== live runs did not run\n" in text and f"== {BODIES} did not run\n" in text, text)
+
+
+def sees_minutes(seen):
+    """What each crate takes is told of the checks below a process, by what they are of; of no others."""
+    minutes, spin = script_of("minutes"), "import time\nend = time.time() + 20\nwhile time.time() < end: pass"
+    with tempfile.TemporaryDirectory(prefix="edits-") as room:
+        ways = (["--crate-name", "book"], "/"), (["--crate-name", "book", "--test"], "/"), (["--crate-name", "book"], room), ([], "/")
+        them = [subprocess.Popen(["rattle", "-c", spin, *words], executable=sys.executable, cwd=cwd) for words, cwd in ways]
+        try:
+            found, others = {}, {}
+            while len(found) < 3 or not all(seconds for *_, seconds in found.values()):
+                there = minutes.look(found, os.getpid()), minutes.look(others, them[0].pid)
+        finally:
+            for it in them:
+                it.kill()
+                it.wait()
+    kinds = sorted((crate, kind) for crate, kind, _ in found.values())
+    seen.look("checks are told by what they are of", kinds == [("book", it) for it in sorted(minutes.KINDS)], str(found))
+    seen.look("of another process only its own are told", there == (True, True) and {it for it, _ in others} == {them[0].pid}, str(others))
+    seen.look("a process that has ended is told so", not minutes.look({}, them[0].pid))
+    table = minutes.table({1: ("book", "crate", 90), 2: ("book", "tests", 30), 3: ("node", "wrong bodies", 150)})
+    rows = [line.split()[1:] for line in table.splitlines()[1:]]
+    wanted = [["all", "1.5", "0.5", "2.5"], ["node", "0.0", "0.0", "2.5"], ["book", "1.5", "0.5", "0.0"]]
+    seen.look("the dearest crate comes first", rows == wanted, table)
 
 
 def sees_words(seen):
@@ -495,6 +521,19 @@ class Bank:
         text_of = read(script)
         return 0, text, (self.told(sites, text_of) if "--verbose" in words else "") + self.refused(text_of)
 
+    def example(self, room):
+        """What the example of journals shows."""
+        ends = "audit yes", "status 0", "fault journal 8 M5 44", "status 1", "audit no 200 8 A1", "status 3", "audit yes", "status 0"
+        return 0, "".join(f"  {line}\n" for line in ends), ""
+
+
+class Unchanged(Bank):
+    """A changed byte of a journal is let go in the example."""
+
+    def example(self, room):
+        status, text, told = super().example(room)
+        return status, text.replace("fault journal 8 M5 44", "audit yes").replace("status 1", "status 0"), told
+
 
 class Unrefused(Bank):
     """No line is told as refused at the end."""
@@ -619,11 +658,12 @@ def sees_live(seen):
         ("a cut is judged no", Audits(live, "cut"), False),
         ("a forged record is let go", Audits(live, "forged"), False),
         ("an actor has no journal", Unkept(live), False),
+        ("a changed byte is let go in the example", Unchanged(live), False),
     ):
-        live.ran = bank.ran
+        live.ran, live.example = bank.ran, bank.example
         with contextlib.redirect_stdout(io.StringIO()) as told:
             status = live.main()
-        is_told_green = bool(re.fullmatch(r"33 passed, 0 failed", last(told.getvalue())))
+        is_told_green = bool(re.fullmatch(r"34 passed, 0 failed", last(told.getvalue())))
         seen.look(f"live, {name}", (status == 0, is_told_green) == (is_green, is_green), told.getvalue())
 
 
@@ -655,6 +695,7 @@ def main():
     for part in (
         sees_plants,
         sees_sums,
+        sees_minutes,
         sees_words,
         sees_empty_folders,
         sees_a_silent_program,

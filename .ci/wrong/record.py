@@ -1,11 +1,12 @@
 """What stands in the repository of wrong bodies that the prover was seen to refuse.
 
 A wrong body stays wrong as long as nothing changes that could make it right. Its key is a sum over all of that: the text that tries
-and judges wrong bodies, its own text, the functions that it edits with their contracts and proof files, the rest of its crate but for
-the bodies of other functions, all definitions of its crate, and of each crate below the definitions and what is public, without
-bodies. A caller relies on what a function promises and not on its body; a proof makes nothing true that was false. Comments and
-white space of code are no part of it. A body that its contract admits may be refused for want of a lemma, and its key stays when
-that lemma comes: only the sample, and a run over all, see that.
+and judges wrong bodies, its own text, the functions that it edits with their contracts and proof files, and all that the words of
+these reach in its crate and in those below, as reach.py finds it: definitions, types, traits, constants, and functions with their
+contracts and without their bodies. A caller relies on what a function promises and not on its body; a proof makes nothing true that
+was false. What changes outside of bodies has all of its crate and the public text of those below in its key. Comments and white space
+of code are no part of it. A body that its contract admits may be refused for want of a lemma, and its key stays when that lemma comes:
+only the sample, and a run over all, see that.
 """
 import functools
 import hashlib
@@ -13,6 +14,7 @@ import os
 import re
 
 from wrong.bodies import RECORD, changed, edits_of, functions_in, functions_of, read, write
+from wrong.reach import House, files_of, uncommented
 
 HERE = os.path.dirname(os.path.abspath(__file__))
 HEAD = "# The wrong bodies of this crate that the prover was seen to refuse, written by .ci/edits alone: of each its key, the kit, and what was told.\n"
@@ -29,12 +31,6 @@ def judging():
 
 
 # --- What a key is made of -------------------------------------------------------------------------------------------
-
-
-def uncommented(text):
-    """Rattle text without comments, each stretch of white space as one blank, but for strings and characters."""
-    token = r'((?:b|r)?"(?:\\.|[^"\\])*"|b?\'(?:\\[^\n]+?|[^\\\'\n])\')|(?:\s|//[^\n]*|/\*.*?\*/)+'
-    return re.sub(token, lambda it: it[1] or " ", text, flags=re.S)
 
 
 def files_below(folder, ending):
@@ -82,15 +78,19 @@ def own_proofs(folder, functions):
 
 def keys_of(crate, folder, edits):
     """Of each of these wrong bodies its key, with the crate's text in this folder."""
-    below = [(it.name, seen_above(it.folder)) for it in crate.below()]
-    mine = (judging(), crate.name, below, definitions(folder), without_bodies(folder, lambda it, source: False))
-    whole = lambda: [(os.path.relpath(it, folder), read(it)) for part in ("src", "proofs") for it in files_below(f"{folder}/{part}", (".rt", ".antt"))]
+    house = House([*((it.name, it.folder) for it in crate.below()), (crate.name, folder)])
+
+    def wide():
+        below = [(it.name, seen_above(it.folder)) for it in crate.below()]
+        whole = [(os.path.relpath(it, folder), read(it)) for part in ("src", "proofs") for it in files_below(f"{folder}/{part}", (".rt", ".antt"))]
+        return below, definitions(folder), whole
 
     def key(edit):
+        mine = (judging(), crate.name, edit.name, edit.text)
         if not edit.is_inside:
-            return sum_of(mine, edit.name, edit.text, whole())
+            return sum_of(mine, wide())
         bodies = [(it.file, uncommented(read(f"{folder}/{it.file}")[it.head : it.end + 1])) for it in edit.functions]
-        return sum_of(mine, edit.name, edit.text, bodies, own_proofs(folder, edit.functions))
+        return sum_of(mine, bodies, own_proofs(folder, edit.functions), house.reached(edit.functions, edit.text))
 
     return {edit.name: key(edit) for edit in edits}
 
@@ -125,6 +125,7 @@ class Record:
         """Takes what was told of those that were refused, where their texts are still what was tried; writes the file anew, apart, and
         renames it, so that no other run reads half of it. Answers the names of those whose texts have changed meanwhile."""
         seen_above.cache_clear()
+        files_of.cache_clear()
         edits = edits_of(self.crate.folder, functions_in(self.crate.folder))
         now = keys_of(self.crate, self.crate.folder, edits)
         moved = [it.name for it in told if now.get(it.name) != self.keys[it.name]]
