@@ -280,6 +280,8 @@ class Unread(Explained):
             ("setup.json/more", "a part of its path is no folder"),
             (long, "no file can have this name"),
             ("/dev/zero", "it is larger than 64 MiB, or has no end"),
+            ("/proc/sys/vm/drop_caches", "the system does not allow to read it"),  # also to the superuser
+            ("/proc/self/mem", "the system could not read it"),
         ):
             self.explains(["check", name], SETUP, "", "fault file\n", f'setup "{name}": {why}\n')
             for command in ("book", "play", "trace", "live"):
@@ -288,6 +290,20 @@ class Unread(Explained):
 
     def test_of_two_the_setup_is_told(self):
         self.explains(["book", "no setup", "no script"], SETUP, "", "fault file\n", 'setup "no setup": there is no such file\n')
+
+
+class NoNet(Explained):
+    """A live run of nine actors that may not open as many files as their connections take."""
+
+    most_files = 20
+
+    def test_no_net(self):
+        """What it takes of the machine is told."""
+        self.explains(LIVE, SETUP, "", "fault net\n", (
+            "net: a listener could not be opened, or a connection not be made, over the loopback of this machine; "
+            "each actor has a listener, each site two connections with each other actor, "
+            "and each connection two of the files that `ulimit -n` allows\n"
+        ))
 
 
 class Others(Runs):

@@ -1,5 +1,6 @@
 """The built program, and the setup of the worked scripts."""
 import os
+import resource
 import subprocess
 import tempfile
 import unittest
@@ -48,6 +49,12 @@ class Runs(unittest.TestCase):
     """Cases over a folder that has a setup.json and a script.txt."""
 
     maxDiff = None
+    most_files = None  # that the program may have open at once, where it is fewer than the machine allows
+
+    def limit(self):
+        """What the program is held to, before it starts."""
+        if self.most_files:
+            resource.setrlimit(resource.RLIMIT_NOFILE, (self.most_files, self.most_files))
 
     def run_on(self, words, setup=SETUP, script="", files=None):
         """The status of a run, what it printed and what it told; in the folder stand these files too, by their names."""
@@ -56,7 +63,7 @@ class Runs(unittest.TestCase):
             for name, text in texts.items():
                 with open(os.path.join(folder, name), "wb") as file:
                     file.write(text)
-            ran = subprocess.run([PROGRAM, *words], cwd=folder, stdin=subprocess.DEVNULL, capture_output=True, timeout=120)
+            ran = subprocess.run([PROGRAM, *words], cwd=folder, stdin=subprocess.DEVNULL, capture_output=True, timeout=120, preexec_fn=self.limit)
         return ran.returncode, ran.stdout.decode(), ran.stderr.decode()
 
     def ends(self, words, want, setup=SETUP, script=""):

@@ -43,7 +43,18 @@ impl Outbox for Lost {
 pub fn site(alloc: Global, me: u16) -> Result<(SiteCell<Book, MemCell>, SiteSeat<Book>), Fail>
     requires { me ≤ 2 }
 {
-    let (cell, mut seats) = sites(alloc, me, 1)?;
+    site_over(alloc, me, MemCell::new())
+}
+
+/// A site of three over this cell, with one seat.
+pub fn site_over(
+    alloc: Global,
+    me: u16,
+    held: MemCell,
+) -> Result<(SiteCell<Book, MemCell>, SiteSeat<Book>), Fail>
+    requires { me ≤ 2 }
+{
+    let (cell, mut seats) = sites_over(alloc, me, held, 1)?;
     match seats.pop() {
         Some(seat) => Ok((cell, seat)),
         None => Err(Fail::new("a seat")),
@@ -62,7 +73,7 @@ pub fn sites(
 }
 
 /// A site of three over this cell, with so many seats.
-pub fn sites_over(
+fn sites_over(
     alloc: Global,
     me: u16,
     held: MemCell,

@@ -27,21 +27,21 @@ pub const ANSWER: [u8; 32] = [
 ];
 
 /// STARTVIEWCHANGE of view 2, no boot known of any of three sites, from site 2 to site 1, clock 2, index 1.
-const CHANGE: [u8; 39] = [
+pub const CHANGE: [u8; 39] = [
     0, 0, 0, 35, 2, 5, 0, 202, 0, 0, 0, 0, 0, 0, 0, 2, 0, 0, 0, 1, 0, 201, 0, 0, 0, 2, 3, 0, 0, 0,
     0, 0, 0, 0, 0, 0, 0, 0, 0,
 ];
 
 /// DOVIEWCHANGE of view 2, last normal in view 1, nothing executed, boot 1 known of site 0, one row: a Settle of 8. From
 /// site 2 to site 1, clock 3, index 0.
-const VOTE: [u8; 58] = [
+pub const VOTE: [u8; 58] = [
     0, 0, 0, 54, 2, 6, 0, 202, 0, 0, 0, 0, 0, 0, 0, 3, 0, 0, 0, 0, 0, 201, 0, 0, 0, 2, 0, 0, 0, 1,
     0, 0, 3, 0, 0, 0, 1, 0, 0, 0, 0, 0, 0, 0, 0, 0, 1, 0, 0, 0, 0, 0, 1, 4, 0, 0, 0, 8,
 ];
 
 /// RECOVERYRESPONSE of view 2 to nonce 1, boot 1 known of site 2, with a state that has no row. From site 0 to site 2,
 /// clock 4, index 1.
-const REGAINED: [u8; 48] = [
+pub const REGAINED: [u8; 48] = [
     0, 0, 0, 44, 2, 11, 0, 200, 0, 0, 0, 0, 0, 0, 0, 4, 0, 0, 0, 1, 0, 202, 0, 0, 0, 2, 0, 0, 0, 1,
     3, 0, 0, 0, 0, 0, 0, 0, 0, 0, 0, 0, 1, 1, 0, 0, 0, 0,
 ];

@@ -7,6 +7,8 @@ mod common;
 #[cfg(test)]
 mod frames;
 #[cfg(test)]
+mod kinds;
+#[cfg(test)]
 mod loopback;
 #[cfg(test)]
 mod streams;

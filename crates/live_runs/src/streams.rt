@@ -1,54 +1,60 @@
 //! Streams that end anywhere, that fail, and whose bytes were altered, each posted at a new actor.
-use crate::common::{Lost, Open};
+use crate::common::{Lost, Open, sites};
 use crate::frames::{ANSWER, COMMIT, ORDER, Pieces, commit_with, ten_frames, whole_frames};
 use fixtures::setup::three_currencies;
-use pvp_book::Book;
-use pvp_peers::{PeerEnd, Why, serve_peer};
-use pvp_rooms::{ClientCell, NodeCell, SiteCell};
+use pvp_peers::{PeerEnd, Served, Why, serve_peer};
+use pvp_rooms::{ActorCell, ClientCell, NodeCell, Recorded, Seat};
 use pvp_wire::{Stamp, WireFault, decode};
 use std::alloc::Global;
 use std::process::Abort;
 use std::sync::Wait;
 use std::test::Fail;
-use vr_types::{Config, MemCell};
 
 /// How a stream ends at a new site 1, and the stamps of what the seat has receipts of.
 fn served<R: Abort + Wait + AllocGlobal>(
     rt: &R,
-    mut stream: Pieces<'_>,
+    stream: Pieces<'_>,
 ) -> Result<(PeerEnd, Vec<Option<Stamp>>), Fail> {
-    let alloc = rt.alloc();
-    let setup = three_currencies(alloc)?;
-    let config = Config { f: 1, me: 1 };
-    let (cell, mut seats) = SiteCell::<Book, MemCell>::new(
-        alloc,
-        config,
-        setup,
-        MemCell::new(),
-        1,
-    )?;
-    let Some(mut seat) = seats.pop() else {
+    let (cell, seats) = sites(rt.alloc(), 1, 1)?;
+    served_whole(rt, cell, seats, stream)
+}
+
+/// The same at an actor with its only seat, whose history has as many events.
+fn served_whole<A: Served, R: Abort + Wait + AllocGlobal>(
+    rt: &R,
+    cell: ActorCell<A>,
+    mut seats: Vec<Seat<A::Event, A::Outcome>>,
+    stream: Pieces<'_>,
+) -> Result<(PeerEnd, Vec<Option<Stamp>>), Fail> {
+    let Some(seat) = seats.get_mut(0) else {
         return Err(Fail::new("a seat"));
     };
-    let end = serve_peer(
-        rt,
-        alloc,
-        &cell,
-        &mut seat,
-        &mut stream,
-        &mut Open,
-        &mut Lost,
-    );
-    let mut stamps = Vec::new(alloc);
-    for receipt in seat.receipts() {
-        stamps.push(receipt.stamp)?;
-    }
-    seats.push(seat)?;
+    let end = served_at(rt, &cell, seat, stream);
+    let stamps = stamps_of(rt.alloc(), seat.receipts())?;
     match cell.close(seats) {
         Ok(closed) => assert_eq!(rt; closed.history.len(), stamps.len()),
         Err(_) => assert!(rt; false, "the only seat"),
     }
     Ok((end, stamps))
+}
+
+/// How a stream ends at an actor, whose envelopes are lost.
+fn served_at<A: Served, R: Wait + AllocGlobal>(
+    rt: &R,
+    cell: &ActorCell<A>,
+    seat: &mut Seat<A::Event, A::Outcome>,
+    mut stream: Pieces<'_>,
+) -> PeerEnd {
+    let alloc = rt.alloc();
+    serve_peer(rt, alloc, cell, seat, &mut stream, &mut Open, &mut Lost)
+}
+
+fn stamps_of<E, O>(alloc: Global, receipts: &[Recorded<E, O>]) -> Result<Vec<Option<Stamp>>, Fail> {
+    let mut stamps = Vec::new(alloc);
+    for receipt in receipts {
+        stamps.push(receipt.stamp)?;
+    }
+    Ok(stamps)
 }
 
 /// What is at the front of a stream: the stamps of its frames, and why there are no more.
@@ -210,47 +216,29 @@ fn each_byte_is_altered(rt: HostRuntime) -> Result<(), Fail> {
     Ok(())
 }
 
-#[test]
-fn a_node_and_a_client_are_served(rt: HostRuntime) -> Result<(), Fail> {
-    let alloc = rt.alloc();
-    let setup = three_currencies(alloc)?;
+/// An actor takes the only frame of a stream, from each of its seats.
+fn takes_one<A: Served, R: Abort + Wait + AllocGlobal>(
+    rt: &R,
+    cell: &ActorCell<A>,
+    seats: Vec<Seat<A::Event, A::Outcome>>,
+    frame: &[u8],
+) {
     let want = PeerEnd {
         frames: 1,
         why: Why::End,
     };
-    let (node, mut seats) = NodeCell::new(alloc, &setup, 1, 1)?;
-    if let Some(mut seat) = seats.pop() {
-        let mut order = Pieces {
-            left: &ORDER,
-            size: 4096,
-            good: None,
-        };
-        assert_eq!(rt;
-            serve_peer(
-                &rt, alloc, &node, &mut seat, &mut order, &mut Open, &mut Lost
-            ),
-            want
-        );
+    for mut seat in seats {
+        let end = served_at(rt, cell, &mut seat, Pieces::whole(frame));
+        assert_eq!(rt; end, want);
     }
-    let (client, mut seats) = ClientCell::new(alloc, &setup, 1, 1)?;
-    if let Some(mut seat) = seats.pop() {
-        let mut answer = Pieces {
-            left: &ANSWER,
-            size: 4096,
-            good: None,
-        };
-        assert_eq!(rt;
-            serve_peer(
-                &rt,
-                alloc,
-                &client,
-                &mut seat,
-                &mut answer,
-                &mut Open,
-                &mut Lost
-            ),
-            want
-        );
-    }
+}
+
+#[test]
+fn a_node_and_a_client_are_served(rt: HostRuntime) -> Result<(), Fail> {
+    let setup = three_currencies(rt.alloc())?;
+    let (node, seats) = NodeCell::new(rt.alloc(), &setup, 1, 1)?;
+    takes_one(&rt, &node, seats, &ORDER);
+    let (client, seats) = ClientCell::new(rt.alloc(), &setup, 1, 1)?;
+    takes_one(&rt, &client, seats, &ANSWER);
     Ok(())
 }

@@ -1,19 +1,23 @@
 //! Sites at work at once.
 ghost use Rattle.std.specs.Prelude.{◌≡◌, []};
 
-use crate::common::{Lost, Open, site, sites, sites_over};
+use crate::common::{Open, site, site_over, sites};
 use crate::frames::{COMMIT, Pieces, REQUEST, commit_with};
 use pvp_book::Book;
 use pvp_peers::{Outbox, PeerEnd, Served, Why};
-use pvp_rooms::{Actor, Answer, Gate, Input, Room};
+use pvp_rooms::{Actor, ActorCell, Answer, Gate, Input, Room, Seat, SiteCell, SiteSeat};
 use pvp_streams::{Outgoing, Peer, Player, Writers, serve_streams};
-use pvp_wire::decode;
+use pvp_types::Cmd;
+use pvp_wire::{Stamp, Stamped, decode};
+use std::alloc::Global;
+use std::process::Abort;
+use std::sync::Wait;
 use std::sync::atomic::{AtomicU64, Ordering};
 use std::test::Fail;
 use std::thread;
 use std::time::{Clock, Duration};
 use vr_site::Replica;
-use vr_types::{Boot, BootCell, EventOf, MemCell, MsgOf, PrepareOf, Recovery};
+use vr_types::{Boot, BootCell, Envelope, EventOf, MemCell, MsgOf, PrepareOf, Recovery, RequestOf};
 
 /// A player that does nothing.
 #[derive(Drop)]
@@ -187,67 +191,128 @@ fn one_site_takes_one_step_at_a_time(rt: HostRuntime) -> Result<(), Fail> {
     Ok(())
 }
 
-/// What a site sends after a request and a beat has the request's row.
-#[test]
-fn reply_is_real(rt: HostRuntime) -> Result<(), Fail> {
-    let alloc = rt.alloc();
-    let (cell, mut seat) = site(alloc, 0)?;
-    let Ok((request, _)) = decode(alloc, &REQUEST) else {
-        return Err(Fail::new("a frame"));
-    };
-    let MsgOf::Request(asked) = request.envelope.msg else {
-        return Err(Fail::new("a request"));
-    };
-    let asks = Input {
-        event: EventOf::Deliver(request.envelope),
-        stamp: Some(request.stamp),
-    };
-    let beats = Input {
-        event: EventOf::Beat,
-        stamp: None,
-    };
-    cell.post(&rt, alloc, &mut seat, asks, &mut Open);
-    let Answer::Done { outcome, .. } = cell.post(&rt, alloc, &mut seat, beats, &mut Open) else {
-        return Err(Fail::new("an answer"));
-    };
+/// How an event comes out that an actor takes.
+fn outcome_of<A: Actor, R: Wait + AllocGlobal>(
+    rt: &R,
+    cell: &ActorCell<A>,
+    seat: &mut Seat<A::Event, A::Outcome>,
+    event: A::Event,
+    stamp: Option<Stamp>,
+) -> Result<A::Outcome, Fail> {
+    match cell.post(rt, rt.alloc(), seat, Input { event, stamp }, &mut Open) {
+        Answer::Done { outcome, .. } => Ok(outcome),
+        _ => Err(Fail::new("an answer")),
+    }
+}
+
+/// The request in its frame.
+fn request(alloc: Global) -> Result<Stamped, Fail> {
+    match decode(alloc, &REQUEST) {
+        Ok((request, _)) => Ok(request),
+        Err(_) => Err(Fail::new("a frame")),
+    }
+}
+
+/// What a request asks.
+fn asked_in(envelope: &Envelope<Book>) -> Result<RequestOf<Cmd>, Fail> {
+    match &envelope.msg {
+        MsgOf::Request(asked) => Ok(*asked),
+        _ => Err(Fail::new("a request")),
+    }
+}
+
+/// A request is taken.
+fn takes<R: Wait + AllocGlobal>(
+    rt: &R,
+    cell: &SiteCell<Book, MemCell>,
+    seat: &mut SiteSeat<Book>,
+    request: Stamped,
+) -> Result<(), Fail> {
+    let Stamped { envelope, stamp } = request;
+    outcome_of(rt, cell, seat, EventOf::Deliver(envelope), Some(stamp))?;
+    Ok(())
+}
+
+/// Two of these envelopes have a row for what a request asks.
+fn are_prepared(rt: &impl Abort, sent: &[Envelope<Book>], asked: RequestOf<Cmd>) {
     let mut found = 0u32;
-    for envelope in Replica::<Book, MemCell>::sent(&outcome) {
+    for envelope in sent {
         if let MsgOf::Prepare(PrepareOf { row, .. }) = &envelope.msg {
-            assert!(&rt; row.client == 102 && row.number == asked.number && row.cmd == asked.cmd);
+            assert!(rt; row.client == 102 && row.number == asked.number && row.cmd == asked.cmd);
             found = found.saturating_add(1);
         }
     }
-    assert_eq!(&rt; found, 2);
+    assert_eq!(rt; found, 2);
+}
+
+/// After a request, a site's beat sends its row.
+fn sends_the_row<R: Abort + Wait + AllocGlobal>(
+    rt: &R,
+    cell: &SiteCell<Book, MemCell>,
+    seat: &mut SiteSeat<Book>,
+) -> Result<(), Fail> {
+    let request = request(rt.alloc())?;
+    let asked = asked_in(&request.envelope)?;
+    takes(rt, cell, seat, request)?;
+    let outcome = outcome_of(rt, cell, seat, EventOf::Beat, None)?;
+    are_prepared(rt, Replica::<Book, MemCell>::sent(&outcome), asked);
     Ok(())
+}
+
+/// What a site sends after a request and a beat has the request's row.
+#[test]
+fn reply_is_real(rt: HostRuntime) -> Result<(), Fail> {
+    let (cell, mut seat) = site(rt.alloc(), 0)?;
+    sends_the_row(&rt, &cell, &mut seat)
+}
+
+/// A cell that holds so many boots.
+fn cell_with(boots: u32) -> Result<MemCell, Fail> {
+    let mut held = MemCell::new();
+    match held.save(Boot { boots }) {
+        Ok(()) => Ok(held),
+        Err(_) => Err(Fail::new("a save")),
+    }
+}
+
+/// Both others are asked with the fifth boot.
+fn ask_with_the_fifth(rt: &impl Abort, sent: &[Envelope<Book>]) {
+    assert_eq!(rt; sent.len(), 2);
+    for envelope in sent {
+        assert!(rt; matches!(&envelope.msg, MsgOf::Recovery(Recovery { nonce: 5 })));
+    }
+}
+
+/// A site that is restarted asks so.
+fn asks_with_the_fifth<R: Abort + Wait + AllocGlobal>(
+    rt: &R,
+    cell: &SiteCell<Book, MemCell>,
+    seat: &mut SiteSeat<Book>,
+) -> Result<(), Fail> {
+    let outcome = outcome_of(rt, cell, seat, EventOf::Restart, None)?;
+    ask_with_the_fifth(rt, Replica::<Book, MemCell>::sent(&outcome));
+    Ok(())
+}
+
+/// What an actor was opened over that is closed with its only seat.
+fn opening_of<A: Actor>(
+    alloc: Global,
+    cell: ActorCell<A>,
+    seat: Seat<A::Event, A::Outcome>,
+) -> Result<A::Opening, Fail> {
+    let mut seats = Vec::new(alloc);
+    seats.push(seat)?;
+    match cell.close(seats) {
+        Ok(closed) => Ok(closed.opening),
+        Err(_) => Err(Fail::new("all seats")),
+    }
 }
 
 /// A site that is opened over a cell which holds four boots asks with the fifth, and leaves what it was opened over.
 #[test]
 fn a_site_is_opened_over_its_cell(rt: HostRuntime) -> Result<(), Fail> {
-    let alloc = rt.alloc();
-    let mut held = MemCell::new();
-    if held.save(Boot { boots: 4 }).is_err() {
-        return Err(Fail::new("a save"));
-    }
-    let (cell, mut seats) = sites_over(alloc, 1, held, 1)?;
-    let Some(seat) = seats.get_mut(0) else {
-        return Err(Fail::new("a seat"));
-    };
-    let restarts = Input {
-        event: EventOf::Restart,
-        stamp: None,
-    };
-    let Answer::Done { outcome, .. } = cell.post(&rt, alloc, seat, restarts, &mut Open) else {
-        return Err(Fail::new("an answer"));
-    };
-    let sent = Replica::<Book, MemCell>::sent(&outcome);
-    assert_eq!(&rt; sent.len(), 2);
-    for envelope in sent {
-        assert!(&rt; matches!(&envelope.msg, MsgOf::Recovery(Recovery { nonce: 5 })));
-    }
-    match cell.close(seats) {
-        Ok(closed) => assert_eq!(&rt; closed.opening, Boot { boots: 4 }),
-        Err(_) => return Err(Fail::new("all seats")),
-    }
+    let (cell, mut seat) = site_over(rt.alloc(), 1, cell_with(4)?)?;
+    asks_with_the_fifth(&rt, &cell, &mut seat)?;
+    assert_eq!(rt; opening_of(rt.alloc(), cell, seat)?, Boot { boots: 4 });
     Ok(())
 }

@@ -3,11 +3,16 @@ ghost use Rattle.std.specs.Prelude.{◌≡◌, IfOk, None, Some};
 ghost use Rattle.pvp_journal.specs.Journals.{IsRead};
 ghost use Rattle.pvp_logs.specs.Resumed.{IsAgain};
 
-use crate::rooms::{Operator, operator, settle};
+use crate::resumed::clock_of;
+use crate::rooms::{Operator, operator, settle, written};
 use fixtures::setup::three_currencies;
 use headline::{ClientEvent, ClientFault};
+use pvp_audit::Audited;
 use pvp_journal::{Entry, Head, Journal, Left, read_journal, write_head};
-use pvp_logs::{MemLog, Replayed, RestartFault, WayBack, come_back, replay, restart, way_back};
+use pvp_logs::{
+    JournalRoom, Journaled, Log, MemLog, Replayed, RestartFault, WayBack, come_back, replay,
+    restart, way_back,
+};
 use pvp_parties::{Party, PartyEvent, PartyOutcome};
 use pvp_rooms::{Actor, CameOf};
 use pvp_types::Cmd;
@@ -159,9 +164,7 @@ fn back_to(alloc: Global, bytes: &[u8], journal: &Journal) -> Result<Operator, F
 
 /// The bytes of a room's log once all of it is written.
 fn bytes_of(alloc: Global, room: Operator) -> Result<Vec<u8>, Fail> {
-    let Ok((room, _letters)) = room.flush(alloc, true) else {
-        return Err(Fail::new("the log failed"));
-    };
+    let (room, _letters) = written(alloc, room, true)?;
     copy_of(alloc, room.log().bytes())
 }
 
@@ -330,7 +333,7 @@ fn told_of(alloc: Global, bytes: &[u8]) -> Result<(usize, Left, u64), Fail> {
 
 /// The last clock of a history that was taken again.
 fn last_clock(alloc: Global, journal: &Journal) -> Result<u64, Fail> {
-    Ok(again(alloc, journal)?.clock)
+    Ok(clock_of(again(alloc, journal)?))
 }
 
 #[test]
@@ -353,8 +356,23 @@ fn a_room_over_another_cell_goes_on(rt: HostRuntime) -> Result<(), Fail> {
 
 /// The clock of the operator's room once it noted a request that came out so; `None` where it cannot have.
 fn clock_noted(alloc: Global, outcome: PartyOutcome) -> Result<Option<u64>, Fail> {
-    let event = PartyEvent::OfClient(ClientEvent::Submits(Cmd::Settle { most: 1 }));
-    match operator(alloc, 0)?.note(alloc, event, outcome) {
+    let asks = ClientEvent::Submits(Cmd::Settle { most: 1 });
+    clock_after(
+        alloc,
+        operator(alloc, 0)?,
+        PartyEvent::OfClient(asks),
+        outcome,
+    )
+}
+
+/// The clock of a room once it noted an event that came out so; `None` where it cannot have.
+fn clock_after<A: Audited + Journaled, L: Log>(
+    alloc: Global,
+    room: JournalRoom<A, L>,
+    event: A::Event,
+    outcome: A::Outcome,
+) -> Result<Option<u64>, Fail> {
+    match room.note(alloc, event, outcome) {
         Ok(Some(room)) => Ok(Some(room.clock())),
         Ok(None) => Ok(None),
         Err(_) => Err(Fail::new("it has no text")),

@@ -1,26 +1,18 @@
 //! The history of a room whose process was killed is taken again.
 
-use crate::rooms::{Operator, operator, settle};
+use crate::rooms::{Operator, operator, settle, written};
 use fixtures::setup::three_currencies;
 use pvp_journal::{Entry, read_journal};
-use pvp_logs::replay;
+use pvp_logs::{Replayed, replay};
 use pvp_parties::{Party, PartyOutcome};
 use std::alloc::Global;
 use std::test::Fail;
 
-/// The operator's room after two requests, the second of which is refused; both are written.
+/// The operator's room after two requests, the second of which is refused.
 fn worked(alloc: Global) -> Result<Operator, Fail> {
     let (room, _first) = settle(alloc, operator(alloc, 0)?, 0)?;
     let (room, _second) = settle(alloc, room, 0)?;
-    flushed(alloc, room)
-}
-
-/// The room with all of it written.
-fn flushed(alloc: Global, room: Operator) -> Result<Operator, Fail> {
-    match room.flush(alloc, true) {
-        Ok((room, _letters)) => Ok(room),
-        Err(_) => Err(Fail::new("the log failed")),
-    }
+    Ok(room)
 }
 
 /// The history in a room's log.
@@ -32,8 +24,8 @@ fn history_of(alloc: Global, room: &Operator) -> Result<Vec<Entry>, Fail> {
 }
 
 /// The history that a worked room wrote.
-fn written(alloc: Global) -> Result<Vec<Entry>, Fail> {
-    let room = worked(alloc)?;
+fn worked_history(alloc: Global) -> Result<Vec<Entry>, Fail> {
+    let (room, _letters) = written(alloc, worked(alloc)?, true)?;
     history_of(alloc, &room)
 }
 
@@ -51,7 +43,7 @@ fn alter(history: &mut Vec<Entry>, clocks: u64, is_stray: bool) {
 
 /// The last clock of such a history, once it was altered so; `None` where it cannot have come so.
 fn clock_after(alloc: Global, clocks: u64, is_stray: bool) -> Result<Option<u64>, Fail> {
-    let mut history = written(alloc)?;
+    let mut history = worked_history(alloc)?;
     alter(&mut history, clocks, is_stray);
     again(alloc, history.as_slice())
 }
@@ -60,9 +52,14 @@ fn clock_after(alloc: Global, clocks: u64, is_stray: bool) -> Result<Option<u64>
 fn again(alloc: Global, history: &[Entry]) -> Result<Option<u64>, Fail> {
     let actor = Party::client(&three_currencies(alloc)?, 0)?;
     match replay(alloc, actor, history)? {
-        Some(again) => Ok(Some(again.clock)),
+        Some(again) => Ok(Some(clock_of(again))),
         None => Ok(None),
     }
+}
+
+/// The last clock of what was taken again.
+pub(crate) fn clock_of<A: Drop>(again: Replayed<A>) -> u64 {
+    again.clock
 }
 
 #[test]

@@ -17,6 +17,27 @@ use std::sync::Wait;
 use std::test::Fail;
 use vr_types::{Envelope, MemCell};
 
+/// An actor, by its number among those of its kind.
+#[derive(Clone, Copy)]
+enum Who {
+    Client(u16),
+    Node(u8),
+    Site(u16),
+}
+
+/// The actors of the bank: the operator and two members, three nodes, three sites.
+const ACTORS: [Who; 9] = [
+    Who::Client(0),
+    Who::Client(1),
+    Who::Client(2),
+    Who::Node(0),
+    Who::Node(1),
+    Who::Node(2),
+    Who::Site(0),
+    Who::Site(1),
+    Who::Site(2),
+];
+
 /// A gate that anyone may pass.
 #[derive(Drop)]
 pub struct Open;
@@ -37,11 +58,20 @@ pub struct Place {
 }
 
 impl Place {
+    /// A new actor with one seat.
+    fn of(alloc: Global, actor: Who) -> Result<Self, Fail> {
+        match actor {
+            Who::Client(number) => Place::client_of(alloc, number),
+            Who::Node(ccy) => Place::node_of(alloc, ccy),
+            Who::Site(me) => Place::site(alloc, me),
+        }
+    }
+
     pub fn client(alloc: Global) -> Result<Self, Fail> {
         Place::client_of(alloc, 0)
     }
 
-    pub fn client_of(alloc: Global, number: u16) -> Result<Self, Fail> {
+    fn client_of(alloc: Global, number: u16) -> Result<Self, Fail> {
         let setup = three_currencies(alloc)?;
         if number > setup.member_count() {
             return Err(Fail::new("no such client"));
@@ -54,7 +84,7 @@ impl Place {
         Place::node_of(alloc, 0)
     }
 
-    pub fn node_of(alloc: Global, ccy: u8) -> Result<Self, Fail> {
+    fn node_of(alloc: Global, ccy: u8) -> Result<Self, Fail> {
         let setup = three_currencies(alloc)?;
         if ccy >= setup.currency_count() {
             return Err(Fail::new("no such currency"));
@@ -101,14 +131,13 @@ impl Place {
         let Some(seat) = self.seats.get_mut(seat) else {
             return Err(Fail::new("a seat"));
         };
-        match self
-            .cell
-            .post(rt, rt.alloc(), seat, Input { event, stamp }, &mut Open)
-        {
-            Answer::Done { clock, outcome } => Ok((clock, outcome)),
-            Answer::NoMemory => Err(Fail::new("memory")),
-            Answer::ClockSpent => Err(Fail::new("clock")),
-        }
+        let input = Input { event, stamp };
+        taken(self.cell.post(rt, rt.alloc(), seat, input, &mut Open))
+    }
+
+    /// Posts an event from the first seat, whatever comes of it.
+    pub fn take<R: Wait + AllocGlobal>(&mut self, rt: &R, event: PartyEvent) -> Result<(), Fail> {
+        let_go(self.post(rt, event, None))
     }
 
     /// Delivers the first envelope that an actor sent at a clock.
@@ -138,13 +167,39 @@ impl Place {
         self.post(rt, Party::deliver(envelope), Some(stamp))
     }
 
+    /// Its cell and its seats.
+    pub fn apart(self) -> (PartyCell, Vec<PartySeat>) {
+        let Place { cell, seats } = self;
+        (cell, seats)
+    }
+
     pub fn close(self) -> Result<Closed<Party>, Fail> {
         let Place { cell, seats } = self;
-        match cell.close(seats) {
-            Ok(closed) => Ok(closed),
-            Err(_) => Err(Fail::new("all seats")),
-        }
+        close(cell, seats)
     }
+}
+
+/// What an actor left, with all its seats.
+pub fn close(cell: PartyCell, seats: Vec<PartySeat>) -> Result<Closed<Party>, Fail> {
+    match cell.close(seats) {
+        Ok(closed) => Ok(closed),
+        Err(_) => Err(Fail::new("all seats")),
+    }
+}
+
+/// At which clock an event was taken, and how it came out.
+fn taken<O>(answer: Answer<O>) -> Result<(u64, O), Fail> {
+    match answer {
+        Answer::Done { clock, outcome } => Ok((clock, outcome)),
+        Answer::NoMemory => Err(Fail::new("memory")),
+        Answer::ClockSpent => Err(Fail::new("clock")),
+    }
+}
+
+/// That it was taken, and not how it came out.
+pub fn let_go<T: Drop>(came: Result<T, Fail>) -> Result<(), Fail> {
+    came?;
+    Ok(())
 }
 
 /// The first envelope that an outcome sent.
@@ -182,14 +237,19 @@ fn judged(alloc: Global, closed: &[Closed<Party>]) -> Result<Verdict, Fail> {
 /// What a whole bank leaves in which nothing happens but what these actors left, each in its place.
 pub fn bank_around(alloc: Global, some: Vec<Closed<Party>>) -> Result<Vec<Closed<Party>>, Fail> {
     let mut closed = bank_at_rest(alloc)?;
-    for one in some {
-        put_in_place(closed.as_mut_slice(), one);
-    }
+    put_in_places(closed.as_mut_slice(), some);
     Ok(closed)
 }
 
+/// Puts what actors left in the places of what others of their numbers left.
+fn put_in_places<A: Actor>(closed: &mut [Closed<A>], some: Vec<Closed<A>>) {
+    for one in some {
+        put_in_place(closed, one);
+    }
+}
+
 /// Puts what an actor left in the place of what another of its number left.
-fn put_in_place(closed: &mut [Closed<Party>], mut one: Closed<Party>) {
+fn put_in_place<A: Actor>(closed: &mut [Closed<A>], mut one: Closed<A>) {
     for place in closed {
         if place.number == one.number {
             mem::swap(place, &mut one);
@@ -197,33 +257,83 @@ fn put_in_place(closed: &mut [Closed<Party>], mut one: Closed<Party>) {
     }
 }
 
+/// A list of one.
+pub fn alone<T: Drop>(alloc: Global, one: T) -> Result<Vec<T>, Fail> {
+    let mut all = Vec::new(alloc);
+    all.push(one)?;
+    Ok(all)
+}
+
+/// A list of two.
+pub fn pair<T: Drop>(alloc: Global, one: T, other: T) -> Result<Vec<T>, Fail> {
+    let mut both = alone(alloc, one)?;
+    both.push(other)?;
+    Ok(both)
+}
+
+/// A list loses its last.
+pub fn remove_last<T: Drop>(all: &mut Vec<T>) {
+    all.pop();
+}
+
 /// What all actors of a bank leave to whom nothing happened: clients, nodes, sites.
 fn bank_at_rest(alloc: Global) -> Result<Vec<Closed<Party>>, Fail> {
-    let setup = three_currencies(alloc)?;
     let mut closed = Vec::new(alloc);
-    for number in 0..setup.member_count() + 1 {
-        closed.push(Place::client_of(alloc, number)?.close()?)?;
-    }
-    for ccy in 0..setup.currency_count() {
-        closed.push(Place::node_of(alloc, ccy)?.close()?)?;
-    }
-    for me in 0..2 * setup.faults() + 1 {
-        closed.push(Place::site(alloc, me)?.close()?)?;
-    }
+    put_all_at_rest(alloc, &mut closed)?;
     Ok(closed)
 }
 
+fn put_all_at_rest(alloc: Global, closed: &mut Vec<Closed<Party>>) -> Result<(), Fail> {
+    for actor in ACTORS {
+        closed.push(Place::of(alloc, actor)?.close()?)?;
+    }
+    Ok(())
+}
+
+/// An audit says this of what some actors left, and so does a judgement of the bank around them.
+pub fn are_judged<R: Abort + AllocGlobal>(
+    rt: &R,
+    some: Vec<Closed<Party>>,
+    verdict: Verdict,
+) -> Result<(), Fail> {
+    is_judged(rt, some.as_slice(), verdict)?;
+    are_judged_in_bank(rt, some, verdict)
+}
+
+/// A judgement of the bank around what some actors left says this.
+pub fn are_judged_in_bank<R: Abort + AllocGlobal>(
+    rt: &R,
+    some: Vec<Closed<Party>>,
+    verdict: Verdict,
+) -> Result<(), Fail> {
+    is_judged_whole(rt, bank_around(rt.alloc(), some)?.as_slice(), verdict)
+}
+
 /// A judgement of a whole bank says this.
-pub fn is_judged_whole<R: Abort + AllocGlobal>(
+fn is_judged_whole<R: Abort + AllocGlobal>(
     rt: &R,
     closed: &[Closed<Party>],
     verdict: Verdict,
 ) -> Result<(), Fail> {
-    let said = match judge(rt.alloc(), &three_currencies(rt.alloc())?, closed) {
-        Ok(Judgement::Yes(_)) => Verdict::Yes,
-        Ok(Judgement::No { actor, event, why }) => Verdict::No { actor, event, why },
-        Err(_) => return Err(Fail::new("the actors of the bank")),
-    };
-    assert_eq!(rt; said, verdict);
+    assert_eq!(rt; judged_whole(rt.alloc(), closed)?, verdict);
     Ok(())
+}
+
+/// What a judgement says of a whole bank.
+fn judged_whole(alloc: Global, closed: &[Closed<Party>]) -> Result<Verdict, Fail> {
+    match judge(alloc, &three_currencies(alloc)?, closed) {
+        Ok(judgement) => Ok(verdict_in(&judgement)),
+        Err(_) => Err(Fail::new("the actors of the bank")),
+    }
+}
+
+fn verdict_in(judgement: &Judgement) -> Verdict {
+    match judgement {
+        Judgement::Yes(_) => Verdict::Yes,
+        Judgement::No { actor, event, why } => Verdict::No {
+            actor: *actor,
+            event: *event,
+            why: *why,
+        },
+    }
 }

@@ -6,6 +6,10 @@ mod altered;
 #[cfg(test)]
 mod bank;
 #[cfg(test)]
+mod closing;
+#[cfg(test)]
 mod common;
 #[cfg(test)]
 mod judged;
+#[cfg(test)]
+mod recorded;

@@ -74,21 +74,45 @@ fn rows_are_read_and_copied(rt: HostRuntime) -> Result<(), Fail> {
     Ok(())
 }
 
+/// Of 64 rows.
+const FULL: &[Look] = &[
+    Len(64),
+    Page(0, 64, 1),
+    Page(1, 0, 0),
+    Row(63, Some(64)),
+    Row(64, None),
+];
+
+/// Of 65 rows.
+const FOLLOWED: &[Look] = &[
+    Len(65),
+    Page(0, 64, 1),
+    Page(1, 1, 65),
+    Row(63, Some(64)),
+    Row(64, Some(65)),
+    Row(65, None),
+];
+
 #[test]
 fn full_page_is_followed_by_a_new_one(rt: HostRuntime) -> Result<(), Fail> {
-    const FULL: &[Look] = &[Page(0, 64, 1), Page(1, 0, 0)];
-    const FOLLOWED: &[Look] = &[
-        Page(0, 64, 1),
-        Page(1, 1, 65),
-        Row(63, Some(64)),
-        Row(64, Some(65)),
-        Row(65, None),
-    ];
     let mut rows = numbered(rt.alloc(), 63)?;
     shows(&rt, &rows, &[Page(0, 63, 1)]);
     push_next(&mut rows)?;
     shows(&rt, &rows, FULL);
     push_next(&mut rows)?;
+    shows(&rt, &rows, FOLLOWED);
+    Ok(())
+}
+
+/// Where memory for the new page is refused, as in a run with that request refused, the 64 rows stay, and take the next one
+/// then.
+#[test]
+fn refused_row_leaves_a_full_page(rt: HostRuntime) -> Result<(), Fail> {
+    let mut rows = numbered(rt.alloc(), 64)?;
+    if push_next(&mut rows).is_err() {
+        shows(&rt, &rows, FULL);
+        push_next(&mut rows)?;
+    }
     shows(&rt, &rows, FOLLOWED);
     Ok(())
 }
