@@ -16,7 +16,7 @@ use Rattle.pvp_evidence.specs.Cut.{IsGreatestCut}
 use Rattle.pvp_evidence.specs.Judged.{JudgesHistories}
 use Rattle.pvp_command.specs.declared.audits.Auditing.{Auditing}
 use Rattle.pvp_command.specs.declared.fault.Fault.{Fault}
-use Rattle.pvp_command.specs.declared.fault.Fault.TheVariants.{Seats, NoMemory}
+use Rattle.pvp_command.specs.declared.fault.Fault.TheVariants.{NoMemory}
 use Rattle.pvp_command.specs.declared.files.FileFault.{FileFault}
 use Rattle.pvp_command.specs.declared.files.Source.TheVariants.{Setup as OfSetup, Journal as OfJournal}
 use Rattle.pvp_command.specs.Fault.{journal_told, evidence_told}
@@ -77,16 +77,13 @@ AuditWrites how known setup names old new status =
 
 -- ---- its faults
 
--- a judgement was not had or not written
-abbrev pub JudgeStops : Fault → Type 0
-JudgeStops told = (told ≡ Seats) ⊎ IsTextFault told
-
--- the first bad journal, or why these are not all of one bank, and then nothing is written; or what stopped the judgement
+-- the first bad journal, or why these are not all of one bank, and then nothing is written; or memory was refused to the
+-- judgement, or the writer failed
 abbrev pub BankStops : {W : Type 0} → (List ℕ → Option (List ℕ)) → (List ℕ → FileFault → Type 0) → Setup → List ℕ → List (List ℕ) → W → W → Fault → Type 0
 BankStops known fails s mark names old new told =
     (IsBadAmong known fails names told × (new ≡ old))
     ⊎ ((journals : List Journal) × AreReadFrom known names journals
-    × (((fault : EvidenceFault) × (told ≡ evidence_told fault) × GatherFails s mark journals fault × (new ≡ old)) ⊎ JudgeStops told))
+    × (((fault : EvidenceFault) × (told ≡ evidence_told fault) × GatherFails s mark journals fault × (new ≡ old)) ⊎ IsTextFault told))
 
 abbrev pub AuditTells : {W : Type 0} → (List ℕ → Option (List ℕ)) → (List ℕ → FileFault → Type 0) → List ℕ → List ℕ → List (List ℕ) → W → W → Fault → Type 0
 AuditTells known fails setup text names old new told =

@@ -1,18 +1,19 @@
 //! Banks whose journals are judged.
 ghost use Rattle.std.specs.Prelude.{◌≡◌, ◌++◌, OnOk, IfOk, IfErr, IfSome, map, length, string_bytes};
 ghost use Rattle.pvp_types.specs.Setup.{IsValid};
+ghost use Rattle.pvp_evidence.specs.Actors.{AreOfTheBank};
 ghost use Rattle.pvp_evidence.specs.Bank.{mark_of};
 ghost use Rattle.pvp_evidence.specs.Cut.{IsGreatestCut};
-ghost use Rattle.pvp_command.specs.Audits.{AuditWrites, AuditTells, AuditsBank, BankStops, AreReadFrom, ReadsFile, IsBadFile, IsBadAmong, IsJudgedSo, JudgeStops, cut_text};
+ghost use Rattle.pvp_command.specs.Audits.{AuditWrites, AuditTells, AuditsBank, BankStops, AreReadFrom, ReadsFile, IsBadFile, IsBadAmong, IsJudgedSo, cut_text};
 ghost use Rattle.pvp_command.specs.declared.fault.Fault.TheVariants.{NoMemory};
-ghost use Rattle.pvp_command.specs.Lives.{IsFaultless};
+ghost use Rattle.pvp_command.specs.Lives.{IsFaultless, IsTextFault};
 
 use crate::fault::Fault;
 use crate::files::{Files, Source, read_source};
 use crate::lives::{Ending, tell};
 use pvp_evidence::cut::cut;
 use pvp_evidence::gather::gather;
-use pvp_evidence::{History, judge_histories};
+use pvp_evidence::{History, judge_gathered};
 use pvp_journal::{Journal, Left, read_journal};
 use pvp_text::read_setup;
 use pvp_trace::names::push_actor;
@@ -122,20 +123,19 @@ fn judge_bank<O: Write, E: Write>(
     out: &mut O,
     err: &mut E,
 ) -> Result<u8, Fault>
-    requires { IsValid setup.now }
+    requires valid { IsValid setup.now }
+    requires bank { AreOfTheBank setup.now histories.items }
     ensures ok { IfOk result (IsJudgedSo how setup.now histories.items (O.contents out.old) (O.contents out.new)) }
     ensures faultless { IfOk result IsFaultless }
-    ensures err { IfErr result JudgeStops }
+    ensures err { IfErr result IsTextFault }
 {
     let judged = if how.cuts {
         cut_told(alloc, setup, histories, err)?
     } else {
         histories
     };
-    match judge_histories(alloc, setup, judged) {
-        Ok(judgement) => tell(alloc, how.ending, &judgement, out),
-        Err(_) => Err(Fault::Seats),
-    }
+    let judgement = judge_gathered(alloc, setup, judged);
+    tell(alloc, how.ending, &judgement, out)
 }
 
 /// The greatest cut of histories; `err` is told how many events of whom are cut off.
@@ -146,6 +146,8 @@ fn cut_told<E: Write>(
     err: &mut E,
 ) -> Result<Vec<History>, Fault>
     ensures ok { IfOk result (λ judged. IsGreatestCut judged.items histories.items) }
+    ensures bank { AreOfTheBank setup.now histories.items →
+        IfOk result (λ judged. AreOfTheBank setup.now judged.items) }
     ensures err { IfErr result (λ fault. fault ≡ NoMemory) }
 {
     let counts = counts_of(alloc, histories.as_slice())?;

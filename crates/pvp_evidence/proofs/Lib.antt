@@ -1,4 +1,7 @@
+pub mod Complete
 pub mod Cutting
 pub mod Gathering
 pub mod Leaving
+pub mod Once
+pub mod Rising
 pub mod Seating

@@ -1,5 +1,7 @@
 //! The greatest cut of histories that were copied while their actors went on, or of which one lost its end.
 ghost use Rattle.std.specs.Prelude.{◌≡◌, ◌<◌, ◌≤◌, IfOk, length, map, false, true};
+ghost use Rattle.pvp_types.specs.declared.setup.Setup.{Setup};
+ghost use Rattle.pvp_evidence.specs.Actors.{AreOfTheBank};
 ghost use Rattle.pvp_evidence.specs.Cut.{IsGreatestCut, IsShortened, AreShortened, covered_front, event_count, is_covered, reach_in, reach_of};
 
 use crate::history::History;
@@ -16,7 +18,10 @@ struct Reach {
 /// Cuts off the ends of histories so that of each envelope which came to an actor the sender's history is there up to the
 /// clock at which it was sent, and cuts off no more than that takes. What an actor sent that has no history here stays.
 pub fn cut(alloc: Global, histories: Vec<History>) -> Result<Vec<History>, AllocError>
-    ensures { IfOk result (λ cut. IsGreatestCut cut.items histories.items) }
+    ensures greatest { IfOk result (λ cut. IsGreatestCut cut.items histories.items) }
+    // Of the histories of a bank's actors it leaves one of each.
+    ensures bank { (setup : Setup) → AreOfTheBank setup histories.items →
+        IfOk result (λ cut. AreOfTheBank setup cut.items) }
 {
     let mut cut = histories;
     loop {

@@ -3,6 +3,7 @@ ghost use Rattle.std.specs.Prelude.{◌≡◌, ◌+◌, ◌<◌, ◌^◌, IfOk, 
 ghost use Rattle.std.specs.List.{find};
 ghost use Rattle.pvp_types.specs.Setup.{IsValid};
 ghost use Rattle.vr_types.specs.Actors.{id_of};
+ghost use Rattle.pvp_evidence.specs.Actors.{AreOfTheBank};
 ghost use Rattle.pvp_evidence.specs.Bank.{mark_of};
 ghost use Rattle.pvp_evidence.specs.Gathered.{AreOneBank, GatherFails, FindsWrong, has_actor, has_other_bank, history_of, is_actor, missing_in, missing_of, wrong_with};
 
@@ -93,6 +94,7 @@ pub fn gather(
     requires { IsValid setup.now }
     ensures ok { IfOk result (λ histories.
         AreOneBank setup.now (mark_of text.now) journals.items histories.items) }
+    ensures bank { IfOk result (λ histories. AreOfTheBank setup.now histories.items) }
     ensures err { IfErr result (GatherFails setup.now (mark_of text.now) journals.items) }
 {
     let mark = mark_of(text);

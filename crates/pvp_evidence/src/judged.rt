@@ -35,13 +35,24 @@ pub fn judge_histories(
     if !are_of_the_bank(setup, histories.as_slice()) {
         return Err(NotTheBank);
     }
+    Ok(judge_gathered(alloc, setup, histories))
+}
+
+/// Judges histories as `judge_histories` does which are known to be those of the bank's actors, as what `gather` hands out
+/// and what `cut` leaves of it. `No` with `NoMemory` where memory is refused.
+pub fn judge_gathered(alloc: Global, setup: &Setup, histories: Vec<History>) -> Judgement
+    requires valid { IsValid setup.now }
+    requires bank { AreOfTheBank setup.now histories.items }
+    ensures judges { JudgesHistories setup.now histories.items result }
+    ensures tests { TellsWhy IsOfHistories result }
+{
     match judged(alloc, setup, histories) {
-        Ok(judgement) => Ok(judgement),
-        Err(_) => Ok(Judgement::No {
+        Ok(judgement) => judgement,
+        Err(_) => Judgement::No {
             actor: 0,
             event: 0,
             why: Why::NoMemory,
-        }),
+        },
     }
 }
 

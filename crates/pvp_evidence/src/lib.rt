@@ -14,5 +14,5 @@ pub mod shelf;
 pub use bank::bank_of;
 pub use gather::{EvidenceFault, EvidenceWhy};
 pub use history::History;
-pub use judged::judge_histories;
+pub use judged::{judge_gathered, judge_histories};
 pub use shelf::{DiskShelf, PutFault, Shelf, ShelfFault, put_journals};

@@ -1,6 +1,10 @@
 //! Where the journals of a bank are put when a run has ended: a file for each actor.
-ghost use Rattle.std.specs.Prelude.{◌≡◌, ◌∷◌, [], OnOk, IfOk, map, string_bytes};
-ghost use Rattle.pvp_evidence.specs.Shelves.{Gets, file_of, file_name};
+ghost use Rattle.std.specs.Prelude.{◌≡◌, ◌∷◌, [], OnOk, IfOk, IfErr, map, string_bytes};
+ghost use Rattle.std.specs.List.{Any};
+ghost use Rattle.std.specs.Result.{result_err};
+ghost use Rattle.std.specs.IoError.{error_kind};
+ghost use Rattle.pvp_journal.specs.Fits.{IsHead};
+ghost use Rattle.pvp_evidence.specs.Shelves.{Gets, PutFails, file_of, file_name, shelf_told};
 
 use pvp_journal::{Head, WriteFault, write_journal};
 use pvp_parties::Party;
@@ -13,6 +17,7 @@ use std::fs::{self, OpenOptions};
 use std::io::{self, ErrorKind, Write};
 use std::os::unix::fs::OpenOptionsExt;
 use std::rt::Files;
+use vr_types::Boot;
 
 /// Why a journal was not put where it should stand.
 #[derive(Clone, Copy, Debug, PartialEq, Eq)]
@@ -91,23 +96,31 @@ impl From<AllocError> for PutFault {
 pub trait Shelf {
     ghost use Rattle.std.specs.Prelude.{Option, List};
     ghost use Rattle.pvp_evidence.specs.Shelves.{File};
+    ghost use Rattle.pvp_evidence.specs.declared.shelf.ShelfFault.{ShelfFault};
 
     /// The files that were put there, in order, where they are known.
     ghost files: { Self → Option (List File) };
 
+    /// The fault that the last call answered, where it did.
+    ghost said: { Self → Option ShelfFault };
+
     /// Makes a folder, where there is none. One that has something in it is refused.
     fn open(&mut self, folder: &str) -> Result<(), ShelfFault>
-        ensures { files self.new ≡ files self.old };
+        ensures same { files self.new ≡ files self.old }
+        ensures said { said self.new ≡ result_err result };
 
     /// Puts a new file of these bytes there. After an `Err` a front of it may stand there.
     fn put(&mut self, name: &str, bytes: &[u8]) -> Result<(), ShelfFault>
-        ensures { OnOk result (Gets (record { name = name.now; bytes = bytes.now } ∷ []) (files self.old) (files self.new)) };
+        ensures put { OnOk result (Gets (record { name = name.now; bytes = bytes.now } ∷ [])
+            (files self.old) (files self.new)) }
+        ensures said { said self.new ≡ result_err result };
 }
 
-/// The files of the machine, of which no contract knows.
+/// The files of the machine, of which no contract knows, and what its last call answered.
 #[derive(Drop)]
 pub struct DiskShelf<R> {
     rt: R,
+    said: Option<ShelfFault>,
 }
 
 impl<R> DiskShelf<R> {
@@ -115,12 +128,14 @@ impl<R> DiskShelf<R> {
     pub fn new(rt: R) -> Self
         ensures { result.rt ≡ rt }
     {
-        DiskShelf { rt }
+        DiskShelf { rt, said: None }
     }
 }
 
 /// Why a call of the machine failed.
-fn fault_of(fault: io::Error) -> ShelfFault {
+fn fault_of(fault: io::Error) -> ShelfFault
+    ensures { result ≡ shelf_told (error_kind fault) }
+{
     match fault.kind() {
         ErrorKind::StorageFull => ShelfFault::Full,
         ErrorKind::AlreadyExists => ShelfFault::Present,
@@ -152,24 +167,31 @@ impl<R: Files + Alloc + Clone + Drop> Shelf for DiskShelf<R> {
 
     ghost files = { λ _. None };
 
+    ghost said = { λ a. a.said };
+
     fn open(&mut self, folder: &str) -> Result<(), ShelfFault> {
-        match has_files(&self.rt, folder) {
+        let answer = match has_files(&self.rt, folder) {
             Ok(false) => Ok(()),
             Ok(true) => Err(ShelfFault::Present),
             Err(fault) => Err(fault_of(fault)),
-        }
+        };
+        self.said = answer.err();
+        answer
     }
 
     fn put(&mut self, name: &str, bytes: &[u8]) -> Result<(), ShelfFault> {
-        match write_new(&self.rt, name, bytes) {
+        let answer = match write_new(&self.rt, name, bytes) {
             Ok(()) => Ok(()),
             Err(fault) => Err(fault_of(fault)),
-        }
+        };
+        self.said = answer.err();
+        answer
     }
 }
 
 /// Puts the journals of these actors of a bank into a folder that was opened, each in a file of the actor's name and `.journal`: their
-/// heads with this id of the bank, and all that they took. The first fault ends it.
+/// heads with this id of the bank, and all that they took. The first fault ends it: V6 to V8 as the shelf has just told it, M8
+/// where an event that one of them took has no text.
 pub fn put_journals<S: Shelf>(
     alloc: Global,
     shelf: &mut S,
@@ -178,8 +200,10 @@ pub fn put_journals<S: Shelf>(
     bank: [u8; 32],
     closed: &[Closed<Party>],
 ) -> Result<(), PutFault>
-    ensures { OnOk result (Gets (map (file_of folder.now setup.now bank) closed.now)
+    ensures ok { OnOk result (Gets (map (file_of folder.now setup.now bank) closed.now)
         (S.files shelf.old) (S.files shelf.new)) }
+    ensures err { IfErr result (λ fault.
+        Any (λ left. PutFails (S.said shelf.new) left fault) closed.now) }
 {
     for left in closed {
         put_journal(alloc, shelf, folder, setup, bank, left)?;
@@ -196,19 +220,28 @@ fn put_journal<S: Shelf>(
     bank: [u8; 32],
     left: &Closed<Party>,
 ) -> Result<(), PutFault>
-    ensures { OnOk result (Gets (file_of folder.now setup.now bank left.now ∷ [])
+    ensures ok { OnOk result (Gets (file_of folder.now setup.now bank left.now ∷ [])
         (S.files shelf.old) (S.files shelf.new)) }
+    ensures err { IfErr result (PutFails (S.said shelf.new) left.now) }
 {
-    let head = Head {
-        actor: left.number,
-        opening: left.opening,
-        bank,
-    };
+    let head = head_of(left.number, left.opening, bank);
     let mut bytes = Vec::new(alloc);
     write_journal(alloc, &head, left.history.as_slice(), &mut bytes)?;
     let name = file_name(alloc, folder, setup, left.number)?;
     shelf.put(name.as_str(), bytes.as_slice())?;
     Ok(())
+}
+
+/// The head of an actor's journal.
+fn head_of(actor: u16, opening: Option<Boot>, bank: [u8; 32]) -> Head
+    ensures is { result ≡ record { actor = actor; opening = opening; bank = bank } }
+    ensures head { IsHead result }
+{
+    Head {
+        actor,
+        opening,
+        bank,
+    }
 }
 
 /// The name of an actor's journal in a folder.

@@ -90,6 +90,11 @@ Steps {E = E} {O = O} m texts seen input old new (Done clock) =
 Steps m texts seen input old new NoMemory = (new ≡ old) × IsSome (clock_after old.clock input.stamp)
 Steps m texts seen input old new ClockSpent = (new ≡ old) × (clock_after old.clock input.stamp ≡ None)
 
+-- a room took an input, and the record of how it came out has no text
+abbrev pub HasNoText : {N A E O L : Type 0} → Ghosts A N E O → (ℕ → Recorded E O → Type 0) → Input E → Held N A O L → Type 0
+HasNoText {O = O} m fits input old = (clock : ℕ) × (outcome : O) × (clock_after old.clock input.stamp ≡ Some clock)
+    × ((x : m.State) → m.shows old.actor x → m.comes x input.event outcome) × ¬ (fits old.number (receipt input clock outcome))
+
 -- WHAT A FLUSH HANDS OUT: what waited of the batch, whose records now stand in the log
 abbrev pub Flushes : {N A E O L : Type 0} → Ghosts A N E O → (ℕ → Texts E O) → (L → Option (List ℕ)) → Held N A O L → Held N A O L → List (Letter O) → Type 0
 Flushes {E = E} {O = O} m texts seen old new letters =

@@ -1,5 +1,7 @@
 //! Actors whose events have a text.
-ghost use Rattle.std.specs.Prelude.{◌≡◌, ◌++◌, ℕ, OnOk, OnErr, IfOk};
+ghost use Rattle.std.specs.Prelude.{◌≡◌, ◌++◌, ℕ, Err, OnOk, OnErr, IfOk};
+ghost use Rattle.pvp_journal.specs.declared.fault.WriteFault.TheVariants.{Unfit};
+ghost use Rattle.pvp_rooms.specs.declared.message.Recorded.{Recorded};
 ghost use Rattle.pvp_logs.specs.Rooms.{Texts};
 
 use pvp_journal::{WriteFault, write_record};
@@ -14,6 +16,9 @@ pub trait Journaled: Actor {
     /// The texts of records at the actor of a number, and their checksums.
     ghost texts: { ℕ → Texts Self.Event Self.Outcome };
 
+    /// Whether a record at the actor of a number has a text.
+    ghost fits: { ℕ → Recorded Self.Event Self.Outcome → Type 0 };
+
     /// Puts the record at the end of the bytes, and answers its checksum. After an `Err` the bytes are as they were.
     fn write(
         alloc: Global,
@@ -24,13 +29,17 @@ pub trait Journaled: Actor {
     ) -> Result<u64, WriteFault>
         ensures written { OnOk result (out.new.items ≡ out.old.items ++ (texts number).record_of before entry.now) }
         ensures sum { IfOk result (λ after. after ≡ (texts number).sum_of before entry.now) }
+        ensures unfit { result ≡ Err Unfit → ¬ (fits number entry.now) }
         ensures err { OnErr result (out.new.items ≡ out.old.items) };
 }
 
 impl<C: BootCell> Journaled for PartyOf<C> {
+    ghost use Rattle.pvp_journal.specs.Fits.{IsJournalable};
     ghost use Rattle.pvp_logs.specs.Rooms.{bank_texts};
 
     ghost texts = { bank_texts };
+
+    ghost fits = { IsJournalable };
 
     fn write(
         alloc: Global,

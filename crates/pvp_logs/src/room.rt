@@ -1,8 +1,9 @@
 //! One actor whose history is no data in memory.
-ghost use Rattle.std.specs.Prelude.{◌≡◌, ◌==◌, IfOk, IfSome, OnOk, IsTrue, length};
+ghost use Rattle.std.specs.Prelude.{◌≡◌, ◌==◌, Err, IfOk, IfSome, OnOk, IsTrue, length};
 ghost use Rattle.pvp_parties.specs.Parties.{held_of};
 ghost use Rattle.pvp_logs.specs.Log.{OutlivesAll, with_more};
-ghost use Rattle.pvp_logs.specs.Rooms.{Flushes, Keeps, Notes, Past, Steps, bank_texts};
+ghost use Rattle.pvp_journal.specs.declared.fault.WriteFault.TheVariants.{Unfit};
+ghost use Rattle.pvp_logs.specs.Rooms.{Flushes, HasNoText, Keeps, Notes, Past, Steps, bank_texts};
 ghost use Rattle.pvp_logs.specs.Resumed.{IsAgain, IsWritten, resumed, room_over};
 
 use crate::journaled::Journaled;
@@ -172,7 +173,8 @@ impl<A: Journaled, L: Log> JournalRoom<A, L> {
     /// Takes an event as `Room::step` does, but that its record goes into the batch, and what it sent waits. `Err` where
     /// the record cannot be written: then the actor is ahead of its journal, and the room is gone, with all that waited.
     pub fn step(self, alloc: Global, input: Input<A::Event>) -> Result<(Self, Posted), WriteFault>
-        ensures { IfOk result (λ after. Steps A.Actor A.texts L.seen input self after.0 after.1) }
+        ensures ok { IfOk result (λ after. Steps A.Actor A.texts L.seen input self after.0 after.1) }
+        ensures unfit { result ≡ Err Unfit → HasNoText A.Actor A.fits input self }
     {
         let mut room = self;
         let Some(clock) = next_clock(room.clock, input.stamp) else {

@@ -3,6 +3,7 @@ use Rattle.std.proofs.Math.Seq.{take-append_seam}
 use Rattle.pvp_evidence.specs.declared.history.History.{History}
 use Rattle.pvp_evidence.specs.declared.cut.Reach.{Reach}
 use Rattle.pvp_evidence.specs.Cut.{AreShortened, IsGreatestCut, reach_in}
+use Rattle.pvp_evidence.proofs.Complete.{fronts_complete}
 use Rattle.pvp_evidence.proofs.Cutting.{IsCutSoFar, none-cut, cut-more, cut-done}
 use Rattle.pvp_evidence.proofs.cut.cut.Goals as goal
 
@@ -20,8 +21,8 @@ shortened reaches told items old lent new et er eo el short =
     let same : told ≡ map reach_in items = et ∙ er ∙ ap (λ (l : List History). map reach_in l) eo in
     subst (λ (l : List History). AreShortened (map reach_in items) l new) el (subst (λ (r : List Reach). AreShortened r lent new) same short)
 
-pub returns-then-not-shorten_all : goal.returns-then-not-shorten_all
-returns-then-not-shorten_all c =
+pub returns-then-not-shorten_all-clause-greatest : goal.returns-then-not-shorten_all-clause-greatest
+returns-then-not-shorten_all-clause-greatest c =
     let items = c.loop-cut.cut.items in
     let new = c.shorten_all.new.histories in
     let short = shortened c.in_ok-reaches.reaches.items c.as_slice-in-loop-cut.result.now items c.as_slice.result.now c.as_mut_slice.result.now new
@@ -31,6 +32,10 @@ returns-then-not-shorten_all c =
     in
     subst (λ (l : List History). IsGreatestCut l c.args.histories.items)
     (sym (written new items c.loop-cut.cut.len (omega (arith, c.shorten_all.auto.histories)) ∙ same)) done
+
+pub returns-then-not-shorten_all-clause-bank : goal.returns-then-not-shorten_all-clause-bank
+returns-then-not-shorten_all-clause-bank c =
+    λ setup of. fronts_complete setup _ c.args.histories.items (returns-then-not-shorten_all-clause-greatest c).fronts of
 
 pub loop-cut-preserved : goal.loop-cut-preserved
 loop-cut-preserved c =

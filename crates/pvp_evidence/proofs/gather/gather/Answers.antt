@@ -4,8 +4,10 @@ use Rattle.pvp_evidence.specs.declared.history.History.{History}
 use Rattle.pvp_journal.specs.declared.journal.Journal.{Journal as Kept}
 use Rattle.pvp_evidence.specs.Bank.{mark_of}
 use Rattle.pvp_evidence.specs.Gathered.{AreRight, missing_in}
+use Rattle.pvp_evidence.proofs.Complete.{complete}
 use Rattle.pvp_evidence.proofs.gather.gather.Goals as goal
 
+-- those that were put in order are all of one bank
 pub returns-clause-ok : goal.returns-clause-ok
 returns-clause-ok c =
     let setup = c.args.setup.now in
@@ -19,3 +21,7 @@ returns-clause-ok c =
           c.sort_unstable_by_key.ensures.permutation;
       order = IsNonDecreasingBy-from_sort_by_key (λ (history : History). history.actor) _ c.sort_unstable_by_key.ensures.sorted (λ a r q k. search rules);
     }
+
+pub returns-clause-bank : goal.returns-clause-bank
+returns-clause-bank c =
+    complete c.args.setup.now c.requires (mark_of c.args.text.now) c.args.journals.items c.sort_unstable_by_key.new.self.items (returns-clause-ok c)
