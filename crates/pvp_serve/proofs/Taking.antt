@@ -1,27 +1,33 @@
 -- What is told where an input is not taken, and what is handed out.
-use Rattle.std.proofs.Common.{◌≡◌, ℕ, ◌==◌, true, List, [], ◌∷◌, ◌++◌, length, map, Option, Result, Ok, Err, refl, sym, ap, subst, ◌∙◌, append-nil, arith}
+use Rattle.std.proofs.Common.{◌≡◌, ℕ, ◌==◌, true, List, [], ◌∷◌, ◌++◌, length, map, Option, Some, None, IsSome, Result, Err, IfErr, refl, sym, ap, subst, ◌∙◌, inl, inr, append-nil, arith}
 use Rattle.std.proofs.lemmas.Bool.{eqb-true}
 use Rattle.pvp_rooms.specs.declared.actor.Actor.{Ghosts}
 use Rattle.pvp_rooms.specs.declared.message.Recorded.{Recorded}
+use Rattle.pvp_rooms.specs.Rooms.{clock_after}
+use Rattle.pvp_wire.specs.declared.stamped.Stamp.{Stamp}
 use Rattle.pvp_logs.specs.Rooms.{Texts, Held, Past, Keeps, Flushes, letter, all_written}
 use Rattle.pvp_journal.specs.declared.fault.WriteFault.{WriteFault}
 use Rattle.pvp_journal.specs.declared.fault.WriteFault.TheVariants as write
 use Rattle.pvp_places.specs.declared.serving.ServeFault.{ServeFault}
-use Rattle.pvp_places.specs.declared.serving.ServeFault.TheVariants.{Clock}
+use Rattle.pvp_places.specs.declared.serving.ServeFault.TheVariants as serve
 use Rattle.pvp_places.specs.Told.{write_told}
 use Rattle.pvp_peers.specs.Puts.{Put}
 use Rattle.pvp_parties.specs.declared.party.PartyOutcome.{PartyOutcome}
 use Rattle.pvp_parties.specs.Parties.{sent}
 use Rattle.pvp_logs.specs.declared.room.Letter.{Letter}
-use Rattle.pvp_serve.specs.Serving.{puts_in}
+use Rattle.pvp_serve.specs.Serving.{puts_in, IsRefused}
 
-abbrev pub refused : ServeFault → Result (Unit {0}) ServeFault
-refused fault = Err fault
+-- what is left of a room where an input was not taken
+module _ {N A O L : Type 0} (stamp : Option Stamp) (old new : Option (Held N A O L)) where
+  pub unwritten : (fault : WriteFault) (told : ServeFault) (result : Result (Unit {0}) ServeFault) → result ≡ Err told → told ≡ write_told fault → IsSome old → new ≡ None → IfErr result (λ f. IsRefused stamp old new f)
+  unwritten write.Unfit told result is means had gone = rw (is, means) gone
+  unwritten write.NoMemory told result is means had gone = rw (is, means) (inr (had, gone))
 
--- a record that cannot be written is no want of a clock
-pub no_clock : (fault : WriteFault) → refused (write_told fault) ≡ refused Clock → ⊥
-no_clock write.Unfit e = cc
-no_clock write.NoMemory e = cc
+  pub without_clock : (before after : Held N A O L) → old ≡ Some before → new ≡ Some after → (after ≡ before) × (clock_after before.clock stamp ≡ None) → IsRefused stamp old new serve.Clock
+  without_clock before after had has stays = rw (had, has) (stays.1, ap (λ (room : Held N A O L). let some : Option (Held N A O L) = Some room in some) stays.0)
+
+  pub without_memory : (before after : Held N A O L) → old ≡ Some before → new ≡ Some after → (after ≡ before) × IsSome (clock_after before.clock stamp) → IsRefused stamp old new serve.NoMemory
+  without_memory before after had has stays = rw (had, has) (inl (stays.1, ap (λ (room : Held N A O L). let some : Option (Held N A O L) = Some room in some) stays.0))
 
 pub puts-append : (me : ℕ) (a b : List (Letter PartyOutcome)) → puts_in me (a ++ b) ≡ puts_in me a ++ puts_in me b
 puts-append me [] b = refl

@@ -1,6 +1,5 @@
 -- Who may talk over a stream, and by which key.
 use Rattle.std.specs.Prelude.{◌≡◌, ◌≢◌, ℕ, List, Option, Some, None, Result, Ok, Err}
-use Rattle.pvp_intake.specs.declared.fault.LinkFault.{LinkFault}
 use Rattle.pvp_intake.specs.declared.link.Link.{Link}
 use Rattle.pvp_intake.specs.Fronts.{caller_at}
 use Rattle.pvp_places.specs.declared.keys.Keys.{Keys}

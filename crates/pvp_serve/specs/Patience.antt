@@ -1,8 +1,8 @@
 -- What a site does at a tick of its clock.
-use Rattle.std.specs.Prelude.{ℕ, ◌+◌, ◌-◌, ◌*◌, ◌/◌, ◌%◌, ◌^◌, ◌==◌, ◌&&◌, ◌||◌, Bool, true, false, not, nat_le, nat_lt, min, max, if◌then◌else◌}
+use Rattle.std.specs.Prelude.{ℕ, ◌+◌, ◌-◌, ◌*◌, ◌/◌, ◌%◌, ◌^◌, ◌==◌, ◌&&◌, ◌||◌, Bool, true, false, not, nat_le, nat_lt, min, if◌then◌else◌}
 use Rattle.vr_types.specs.declared.event.Status.{Status}
 use Rattle.vr_types.specs.declared.event.Status.TheVariants.{Normal, Change, Recovering, Down}
-use Rattle.pvp_serve.specs.declared.patience.TheConstants.{BEATS_AFTER, RECOVERING_TICKS, TICKS_LEFT}
+use Rattle.pvp_serve.specs.declared.patience.TheConstants.{BEATS_AFTER, RECOVERING_TICKS}
 use Rattle.pvp_serve.specs.declared.patience.Due.{Due}
 use Rattle.pvp_serve.specs.declared.patience.Due.TheVariants.{Nothing, Restart, Beat, Ping, Timer}
 use Rattle.pvp_serve.specs.declared.patience.Look.{Look}

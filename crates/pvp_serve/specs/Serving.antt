@@ -1,9 +1,11 @@
 -- What an actor that is served takes, and what leaves it.
-use Rattle.std.specs.Prelude.{◌≡◌, ◌+◌, ◌^◌, ◌<◌, ◌||◌, Bool, not, ℕ, List, [], map, Option, Some, None, IfSome, Result, Ok, Err}
+use Rattle.std.specs.Prelude.{◌≡◌, ◌≢◌, ◌⊎◌, ◌+◌, ◌-◌, ◌^◌, ◌||◌, Bool, false, not, min, nat_lt, ℕ, List, [], map, Option, Some, None, IfSome, IsSome, Result, Ok, Err, if◌then◌else◌}
 use Rattle.std.specs.Global.{Vec}
 use Rattle.std.specs.List.{list_any}
 use Rattle.pvp_text.specs.ScriptWords.{is_empty}
+use Rattle.pvp_evidence.specs.declared.shelf.ShelfFault.TheVariants as shelf
 use Rattle.pvp_places.specs.declared.serving.ServeFault.{ServeFault}
+use Rattle.pvp_places.specs.declared.serving.ServeFault.TheVariants as serve
 use Rattle.pvp_rooms.specs.declared.actor.Actor.{Ghosts}
 use Rattle.pvp_rooms.specs.declared.message.Input.{Input}
 use Rattle.pvp_rooms.specs.Rooms.{clock_after}
@@ -14,9 +16,12 @@ use Rattle.pvp_parties.specs.Parties.{delivered, sent}
 use Rattle.pvp_parties.specs.declared.party.PartyEvent.{PartyEvent}
 use Rattle.pvp_parties.specs.declared.party.PartyOutcome.{PartyOutcome}
 use Rattle.pvp_logs.specs.Log.{OutlivesAll}
+use Rattle.pvp_logs.specs.declared.log.LogFault.{LogFault}
+use Rattle.pvp_logs.specs.declared.log.LogFault.TheVariants as log
 use Rattle.pvp_logs.specs.Rooms.{Texts, Held, Steps, Flushes}
 use Rattle.pvp_logs.specs.declared.room.Letter.{Letter}
 use Rattle.pvp_logs.specs.declared.room.Posted.TheVariants.{Done}
+use Rattle.pvp_serve.specs.declared.serving.TheConstants.{HORIZON}
 
 -- an envelope that came, with its stamp
 abbrev pub input_of : Stamped → Input PartyEvent
@@ -26,19 +31,32 @@ input_of stamped = record { event = delivered stamped.envelope; stamp = Some sta
 abbrev pub own_input : PartyEvent → Input PartyEvent
 own_input event = record { event = event; stamp = None }
 
--- how far ahead of its own clock an actor believes a stamp
-abbrev pub horizon : ℕ
-horizon = 2 ^ 40
+-- a clock is further ahead of the room's own than an actor believes
+abbrev pub is_far : {N A O L : Type 0} → Option (Held N A O L) → ℕ → Bool
+is_far None clock = false
+is_far (Some room) clock = nat_lt (room.clock + HORIZON) clock
 
--- a clock is further ahead
-abbrev pub IsFar : {N A O L : Type 0} → Option (Held N A O L) → ℕ → Type 0
-IsFar None clock = ⊥
-IsFar (Some room) clock = room.clock + horizon < clock
+-- how many frames were lost since their clocks were too far ahead, with one of this clock
+abbrev pub lost_with : {N A O L : Type 0} → Option (Held N A O L) → ℕ → ℕ → ℕ
+lost_with room clock lost = if is_far room clock then min (lost + 1) (2 ^ 64 - 1) else lost
 
 -- there is no greater clock than the room's own and the stamp's
 abbrev pub IsSpent : {N A O L : Type 0} → Option (Held N A O L) → Option Stamp → Type 0
 IsSpent None stamp = ⊥
 IsSpent (Some room) stamp = clock_after room.clock stamp ≡ None
+
+-- there is one
+abbrev pub HasClock : {N A O L : Type 0} → Option (Held N A O L) → Option Stamp → Type 0
+HasClock None stamp = ⊥
+HasClock (Some room) stamp = IsSome (clock_after room.clock stamp)
+
+-- WHY AN INPUT IS NOT TAKEN, and what is left of the room. There is no greater clock, or memory was refused, and it is as it
+-- was; or the record could not be written, and it is gone. Where it was gone before, that is told as M8
+abbrev pub IsRefused : {N A O L : Type 0} → Option Stamp → Option (Held N A O L) → Option (Held N A O L) → ServeFault → Type 0
+IsRefused stamp old new serve.Clock = IsSpent old stamp × (new ≡ old)
+IsRefused stamp old new serve.NoMemory = (HasClock old stamp × (new ≡ old)) ⊎ (IsSome old × (new ≡ None))
+IsRefused stamp old new serve.Unfit = new ≡ None
+IsRefused stamp old new _ = ⊥
 
 -- AN INPUT IS TAKEN by the room, at a clock, and its record is in the batch
 pub record TakesIn {N A E O L : Type 0} (m : Ghosts A N E O) (texts : ℕ → Texts E O) (seen : L → Option (List ℕ)) (input : Input E) (old new : Option (Held N A O L)) : Type 0 where
@@ -56,6 +74,25 @@ pub record HasFlushed {N A E O L : Type 0} (m : Ghosts A N E O) (texts : ℕ →
   pub had : old ≡ Some before
   pub has : new ≡ Some after
   pub flushes : Flushes m texts seen before after letters
+
+-- what waits for a flush
+abbrev pub waiting_in : {N A O L : Type 0} → Option (Held N A O L) → List (Letter O)
+waiting_in None = []
+waiting_in (Some room) = room.waiting
+
+-- there is a room, and nothing waits there
+abbrev pub IsIdle : {N A O L : Type 0} → Option (Held N A O L) → Type 0
+IsIdle room = IsSome room × (waiting_in room ≡ [])
+
+-- why a log did not take a batch, as it is told (V6 or V7)
+abbrev pub log_told : LogFault → ServeFault
+log_told log.Full = serve.Log shelf.Full
+log_told log.Failed = serve.Log shelf.Failed
+
+-- WHY A BATCH IS NOT WRITTEN: the log refused what waited; or the room was gone before, which is told as M8
+abbrev pub IsUnwritten : {N A O L : Type 0} → Option (Held N A O L) → ServeFault → Type 0
+IsUnwritten None told = told ≡ serve.Unfit
+IsUnwritten (Some room) told = (fault : LogFault) × (told ≡ log_told fault) × (room.waiting ≢ [])
 
 -- all of the log outlives a power cut
 abbrev pub OutlivesIn : {N A O L : Type 0} → (L → Option (List ℕ)) → (L → ℕ) → Option (Held N A O L) → Type 0

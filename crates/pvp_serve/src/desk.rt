@@ -1,4 +1,31 @@
 //! A node or a client that is served: what it is asked for at a terminal, and what it answers there.
+ghost use Rattle.std.specs.Prelude.{
+  ◌≡◌,
+  ◌++◌,
+  [],
+  None,
+  false,
+  codes,
+  IfOk,
+  IsOk,
+  OnOk,
+  option_map,
+};
+ghost use Rattle.pvp_trace.specs.Names.{actor_text};
+ghost use Rattle.pvp_serve.specs.Desks.{
+  after_hearing,
+  asked_by,
+  asked_of,
+  awaits,
+  event_of,
+  full_after,
+  is_busy,
+  is_done,
+  last_may_say_more,
+  may_say_more,
+  says_nothing,
+  script_of,
+};
 
 use crate::host::Host;
 use crate::inbox::Inbox;
@@ -41,16 +68,19 @@ pub struct TerminalDesk {
     ticks: u32,
     /// The number and the answer of a request, where it came and is not told yet.
     owes: Option<(u32, Reply)>,
+    /// The number of the last request of which it told that it found no room; 0 before the first.
+    full: u32,
 }
 
 impl TerminalDesk {
     /// The desk of an actor that was asked for nothing at this terminal. It says there where a client stands.
-    pub fn new<R: Host, C: BootCell>(
-        rt: R,
-        setup: Setup,
-        stays: bool,
-        serving: &Process<C>,
-    ) -> Self {
+    pub fn new<R: Host, C: BootCell>(rt: R, setup: Setup, stays: bool, serving: &Process<C>) -> Self
+        ensures waits { result.waits ≡ awaits (option_map (λ room. room.actor) serving.now.room) }
+        ensures lines { result.lines.items ≡ [] }
+        ensures ended { result.ended ≡ false }
+        ensures owes { result.owes ≡ None }
+        ensures stays { result.stays ≡ stays }
+    {
         let desk = TerminalDesk {
             setup,
             lines: VecDeque::new(rt.alloc()),
@@ -60,6 +90,7 @@ impl TerminalDesk {
             stays,
             ticks: 0,
             owes: None,
+            full: 0,
         };
         desk.greet(rt, serving);
         desk
@@ -80,7 +111,9 @@ impl TerminalDesk {
     }
 
     /// Whether nothing is left to be done at this terminal.
-    fn is_done<C: BootCell>(&self, serving: &Process<C>) -> bool {
+    fn is_done<C: BootCell>(&self, serving: &Process<C>) -> bool
+        ensures { result ≡ is_done (option_map (λ room. room.actor) serving.now.room) self.now }
+    {
         self.ended && !self.stays && !self.is_busy(serving) && self.lines.is_empty()
     }
 
@@ -102,7 +135,10 @@ impl TerminalDesk {
     }
 
     /// A client whose answer came owes it to the terminal.
-    fn hears<C: BootCell>(&mut self, serving: &Process<C>) {
+    fn hears<C: BootCell>(&mut self, serving: &Process<C>)
+        ensures { self.new
+            ≡ after_hearing (option_map (λ room. room.actor) serving.now.room) self.old }
+    {
         let Some(PartyOf::Client(party)) = serving.actor() else {
             self.waits = true;
             return;
@@ -116,7 +152,9 @@ impl TerminalDesk {
     }
 
     /// Tells the answer that came. It is in the journal.
-    fn tell_answer<R: Host>(&mut self, rt: R) {
+    fn tell_answer<R: Host>(&mut self, rt: R)
+        ensures { self.new ≡ record self.old { owes = None } }
+    {
         if let Some((number, reply)) = self.owes.take() {
             let _told = println!(rt; "{number} {reply}");
         }
@@ -127,7 +165,10 @@ impl TerminalDesk {
         &mut self,
         rt: R,
         serving: &mut Process<C>,
-    ) -> Result<(), ServeFault> {
+    ) -> Result<(), ServeFault>
+        ensures idle { self.old.waits ≡ false →
+            IsOk result × (self.new ≡ self.old) × (serving.new ≡ serving.old) }
+    {
         if !self.waits {
             return Ok(());
         }
@@ -162,6 +203,22 @@ impl TerminalDesk {
         }
     }
 
+    /// A site pings a client whose request found no room in the log: that is told once.
+    fn tell_full<R: Host, C: BootCell>(&mut self, rt: R, serving: &Process<C>)
+        ensures { self.new ≡ record self.old {
+          full = full_after (option_map (λ room. room.actor) serving.now.room) self.old;
+        } }
+    {
+        let Some(PartyOf::Client(party)) = serving.actor() else {
+            return;
+        };
+        let number = party.client().number();
+        if self.waits && self.full != number {
+            self.full = number;
+            let _told = eprintln!(rt; "full {number}");
+        }
+    }
+
     /// Asks for what is next, one at a time.
     fn ask<R: Host, C: BootCell>(
         &mut self,
@@ -181,7 +238,10 @@ impl TerminalDesk {
     }
 
     /// Whether a client waits for an answer.
-    fn is_busy<C: BootCell>(&self, serving: &Process<C>) -> bool {
+    fn is_busy<C: BootCell>(&self, serving: &Process<C>) -> bool
+        ensures { result
+            ≡ is_busy (option_map (λ room. room.actor) serving.now.room) self.now.waits }
+    {
         match serving.actor() {
             Some(PartyOf::Client(_)) => self.waits,
             _ => false,
@@ -265,7 +325,8 @@ impl TerminalDesk {
             Inbox::Gone { peer, stream, .. } => {
                 let _stood = serving.out_mut().loses(peer, stream);
             }
-            Inbox::Ping(_) | Inbox::Away(_) => {}
+            Inbox::Ping(_) => self.tell_full(rt, serving),
+            Inbox::Away(_) => {}
             Inbox::Line(text) => {
                 self.number = self.number.saturating_add(1);
                 self.lines.push_back(Asked {
@@ -285,7 +346,9 @@ impl TerminalDesk {
 }
 
 /// Whether a client waits for an answer; of a node whether its beat may say something, which is so at the start.
-fn is_waiting<C: BootCell>(serving: &Process<C>) -> bool {
+fn is_waiting<C: BootCell>(serving: &Process<C>) -> bool
+    ensures { result ≡ awaits (option_map (λ room. room.actor) serving.now.room) }
+{
     match serving.actor() {
         Some(PartyOf::Client(party)) => {
             let client = party.client();
@@ -296,14 +359,21 @@ fn is_waiting<C: BootCell>(serving: &Process<C>) -> bool {
 }
 
 /// Whether the last event sent anything.
-fn has_sent(letters: &[Letter<PartyOutcome>]) -> bool {
+fn has_sent(letters: &[Letter<PartyOutcome>]) -> bool
+    ensures { result ≡ last_may_say_more letters.now }
+{
     match letters.last() {
-        Some(
-            Letter {
-                outcome: PartyOutcome::OfNode(Ok(sent)),
-                ..
-            },
-        ) => !sent.is_empty(),
+        Some(letter) => may_say_more(&letter.outcome),
+        None => true,
+    }
+}
+
+/// Whether an actor may have more to say after an event that came out so: a node has not whose beat sent nothing.
+fn may_say_more(outcome: &PartyOutcome) -> bool
+    ensures { result ≡ may_say_more outcome.now }
+{
+    match outcome {
+        PartyOutcome::OfNode(Ok(sent)) => !sent.is_empty(),
         _ => true,
     }
 }
@@ -315,28 +385,38 @@ fn event_of(
     setup: &Setup,
     me: u16,
     line: &[u8],
-) -> Result<Result<Option<PartyEvent>, LineCode>, AllocError> {
+) -> Result<Result<Option<PartyEvent>, LineCode>, AllocError>
+    ensures { IfOk result (λ asked. asked ≡ event_of setup.now me line.now) }
+{
     let text = script_of(alloc, setup, me, line)?;
     let lines = match read_script(alloc, setup, Kind::Live, text.as_slice()) {
         Ok(lines) => lines,
         Err(fault) if fault.code == LineCode::NoMemory => return Err(AllocError),
         Err(fault) => return Ok(Err(fault.code)),
     };
-    let Some(first) = lines.first() else {
-        return Ok(Ok(None));
+    match lines.first() {
+        Some(first) => Ok(asked_by(me, first.statement)),
+        None => Ok(Ok(None)),
+    }
+}
+
+/// What a line of a script asks this actor for.
+fn asked_by(me: u16, statement: Statement) -> Result<Option<PartyEvent>, LineCode>
+    ensures { result ≡ asked_by me statement }
+{
+    let Statement::Do(step) = statement else {
+        return Err(LineCode::UnknownWord);
     };
-    match first.statement {
-        Statement::Do(step) => Ok(
-            asked_of(me, step)
-                .ok_or(LineCode::UnknownWord)
-                .map(|it| Some(it)),
-        ),
-        _ => Ok(Err(LineCode::UnknownWord)),
+    match asked_of(me, step) {
+        Some(event) => Ok(Some(event)),
+        None => Err(LineCode::UnknownWord),
     }
 }
 
 /// What a step asks this actor for; `None` where it is another's, or none that is asked for at a terminal.
-fn asked_of(me: u16, step: Step) -> Option<PartyEvent> {
+fn asked_of(me: u16, step: Step) -> Option<PartyEvent>
+    ensures { result ≡ asked_of me step }
+{
     match (ActorId::of(me), step) {
         (ActorId::Client(_), Step::Submit { client, cmd }) if client == me => {
             Some(PartyEvent::OfClient(ClientEvent::Submits(cmd)))
@@ -352,16 +432,35 @@ fn asked_of(me: u16, step: Step) -> Option<PartyEvent> {
 }
 
 /// The line of a script that a line at a terminal stands for.
-fn script_of(alloc: Global, setup: &Setup, me: u16, line: &[u8]) -> Result<Vec<u8>, AllocError> {
+fn script_of(alloc: Global, setup: &Setup, me: u16, line: &[u8]) -> Result<Vec<u8>, AllocError>
+    ensures { IfOk result (λ text. text.items ≡ script_of setup.now me line.now) }
+{
     let mut text = Vec::new(alloc);
-    let says_nothing = line.is_empty() || line[0] == b'#';
-    if let (ActorId::Client(_), false) = (ActorId::of(me), says_nothing) {
-        let mut name = String::new(alloc);
-        push_actor(&mut name, setup, me)?;
-        text.extend_from_slice(b"do ")?;
-        text.extend_from_slice(name.as_str().as_bytes())?;
-        text.extend_from_slice(b" ")?;
+    if let (ActorId::Client(_), false) = (ActorId::of(me), says_nothing(line)) {
+        put_who(alloc, setup, me, &mut text)?;
     }
     text.extend_from_slice(line)?;
     Ok(text)
+}
+
+/// Puts there who does what follows.
+fn put_who(alloc: Global, setup: &Setup, me: u16, text: &mut Vec<u8>) -> Result<(), AllocError>
+    ensures { OnOk result (text.new.items
+        ≡ text.old.items ++ codes "do " ++ actor_text setup.now me ++ codes " ") }
+{
+    let mut name = String::new(alloc);
+    push_actor(&mut name, setup, me)?;
+    text.extend_from_slice(b"do ")?;
+    text.extend_from_slice(name.as_str().as_bytes())?;
+    text.extend_from_slice(b" ")
+}
+
+/// Whether a line asks for nothing: it is empty, or begins with `#`.
+fn says_nothing(line: &[u8]) -> bool
+    ensures { result ≡ says_nothing line.now }
+{
+    match line.first() {
+        Some(first) => *first == b'#',
+        None => true,
+    }
 }

@@ -1,4 +1,5 @@
 //! The folder of an actor: who serves it, what stands there, and how far that can be trusted.
+ghost use Rattle.std.specs.Prelude.{◌≡◌, ◌++◌, IfOk, codes, string_bytes};
 
 use crate::host::Host;
 use pvp_places::{FolderWhy, Mark, Paper, ServeFault, read_mark};
@@ -29,7 +30,9 @@ fn told(failed: io::Error) -> ServeFault {
 }
 
 /// The name of a file in a folder.
-pub fn name_in(alloc: Global, folder: &str, name: &str) -> Result<String, ServeFault> {
+pub fn name_in(alloc: Global, folder: &str, name: &str) -> Result<String, ServeFault>
+    ensures { IfOk result (λ whole. string_bytes whole ≡ folder.now ++ codes "/" ++ name.now) }
+{
     Ok(format!(in alloc; "{folder}/{name}")?)
 }
 

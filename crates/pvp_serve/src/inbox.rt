@@ -8,7 +8,7 @@ use pvp_intake::{Arrival, LinkEnd, LinkFault};
 pub enum Inbox {
     /// An envelope that came over a link.
     Frame(Arrival),
-    /// This actor serves its view.
+    /// This site serves its view; to a client it says that its request found no room.
     Ping(u16),
     /// A stream between this actor and another stands, and frames can be sent over it.
     Came(Lane),

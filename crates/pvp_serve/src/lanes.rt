@@ -1,5 +1,24 @@
 //! Frames on their way to the streams of an actor.
-ghost use Rattle.std.specs.Prelude.{◌≡◌};
+ghost use Rattle.std.specs.Prelude.{
+  ◌≡◌,
+  [],
+  None,
+  IfOk,
+  OnOk,
+  OnErr,
+  is_some,
+  option_copied,
+};
+ghost use Rattle.std.specs.List.{list_any};
+ghost use Rattle.pvp_serve.specs.Lanes.{
+  is_stream,
+  is_to,
+  lane_for,
+  lane_to,
+  lanes_to_others,
+  with_lane,
+  without_lane,
+};
 
 use crate::host::Wires;
 use crossbeam_channel::{Receiver, Sender, unbounded};
@@ -32,7 +51,10 @@ pub struct Outgoing {
 }
 
 /// A lane to a peer, and its other end.
-pub fn lane_to(alloc: Global, peer: u16, stream: u64) -> Result<(Lane, Outgoing), AllocError> {
+pub fn lane_to(alloc: Global, peer: u16, stream: u64) -> Result<(Lane, Outgoing), AllocError>
+    ensures peer { IfOk result (λ made. made.0.peer ≡ peer) }
+    ensures stream { IfOk result (λ made. made.0.stream ≡ stream) }
+{
     let (to, from) = unbounded(alloc)?;
     let waiting = Arc::new(alloc, AtomicU64::new(0))?;
     let theirs = Arc::try_clone(&waiting)?;
@@ -52,6 +74,20 @@ pub fn lane_to(alloc: Global, peer: u16, stream: u64) -> Result<(Lane, Outgoing)
 }
 
 impl Lane {
+    /// Whether it is to this actor.
+    fn is_to(&self, peer: u16) -> bool
+        ensures { result ≡ is_to peer self.now }
+    {
+        self.peer == peer
+    }
+
+    /// Whether it is this actor's stream of this number.
+    fn is_stream(&self, peer: u16, stream: u64) -> bool
+        ensures { result ≡ is_stream peer stream self.now }
+    {
+        self.is_to(peer) && self.stream == stream
+    }
+
     /// Hands a frame to the stream; an empty one is a ping. Where too much waits, or memory is refused, it is lost.
     fn send<T: Wait>(&self, rt: &T, frame: Vec<u8>) {
         let size = frame.len() as u64;
@@ -91,7 +127,10 @@ pub struct Lanes {
 
 impl Lanes {
     /// No stream.
-    pub fn new(alloc: Global) -> Self {
+    pub fn new(alloc: Global) -> Self
+        ensures all { result.all.items ≡ [] }
+        ensures favoured { result.favoured ≡ None }
+    {
         Lanes {
             all: Vec::new(alloc),
             favoured: None,
@@ -99,24 +138,43 @@ impl Lanes {
     }
 
     /// Mail goes to this site alone, or to each receiver again. What is kept from others is lost mail, which a beat says again.
-    pub fn favours(&mut self, site: Option<u16>) {
+    pub fn favours(&mut self, site: Option<u16>)
+        ensures { self.new ≡ record self.old { favoured = site } }
+    {
         self.favoured = site;
     }
 
-    /// A stream stands. One that stood between the same two is let go. `Err` where memory is refused.
-    pub fn meets(&mut self, lane: Lane) -> Result<(), AllocError> {
+    /// A stream stands. One that stood between the same two is let go. `Err` where memory is refused: then none stands there.
+    pub fn meets(&mut self, lane: Lane) -> Result<(), AllocError>
+        ensures stands { OnOk result (self.new.all.items ≡ with_lane lane self.old.all.items) }
+        ensures refused { OnErr result (
+            self.new.all.items ≡ lanes_to_others lane.peer self.old.all.items) }
+        ensures favoured { self.new.favoured ≡ self.old.favoured }
+    {
         let peer = lane.peer;
-        self.all.retain(|other| other.peer != peer);
+        self.all.retain(|other| !other.is_to(peer));
         self.all.push(lane)?;
         Ok(())
     }
 
     /// A stream has ended. Answers whether it was the one that stands between the two.
-    pub fn loses(&mut self, peer: u16, stream: u64) -> bool {
-        let before = self.all.len();
+    pub fn loses(&mut self, peer: u16, stream: u64) -> bool
+        ensures stood { result ≡ list_any (is_stream peer stream) self.old.all.items }
+        ensures all { self.new.all.items ≡ without_lane peer stream self.old.all.items }
+        ensures favoured { self.new.favoured ≡ self.old.favoured }
+    {
+        let stood = self.has_stream(peer, stream);
+        self.all.retain(|other| !other.is_stream(peer, stream));
+        stood
+    }
+
+    fn has_stream(&self, peer: u16, stream: u64) -> bool
+        ensures { result ≡ list_any (is_stream peer stream) self.now.all.items }
+    {
         self.all
-            .retain(|other| other.peer != peer || other.stream != stream);
-        self.all.len() < before
+            .as_slice()
+            .iter()
+            .any(|lane| lane.is_stream(peer, stream))
     }
 
     /// The streams that stand, in the order in which they came to stand.
@@ -135,16 +193,35 @@ impl Lanes {
         }
     }
 
+    /// Says to an actor, where a stream stands to it, that its request found no room, which is no event.
+    pub fn ping<T: Wait>(&self, rt: &T, alloc: Global, peer: u16) {
+        if let Some(lane) = self.lane(peer) {
+            lane.send(rt, Vec::new(alloc));
+        }
+    }
+
     /// The stream over which mail for a peer goes.
-    fn lane_for(&self, peer: u16) -> Option<&Lane> {
+    fn lane_for(&self, peer: u16) -> Option<&Lane>
+        ensures { option_copied result ≡ lane_for peer self.now }
+    {
         match self.favoured {
-            Some(site) if site != peer && self.lane(site).is_some() => None,
+            Some(site) if site != peer && self.has_lane(site) => None,
             _ => self.lane(peer),
         }
     }
 
-    fn lane(&self, peer: u16) -> Option<&Lane> {
-        self.all.as_slice().iter().find(|lane| lane.peer == peer)
+    /// Whether a stream stands to an actor.
+    fn has_lane(&self, peer: u16) -> bool
+        ensures { result ≡ is_some (lane_to peer self.now.all.items) }
+    {
+        self.lane(peer).is_some()
+    }
+
+    /// The stream that stands to an actor.
+    fn lane(&self, peer: u16) -> Option<&Lane>
+        ensures { option_copied result ≡ lane_to peer self.now.all.items }
+    {
+        self.all.as_slice().iter().find(|lane| lane.is_to(peer))
     }
 }
 

@@ -4,6 +4,8 @@ ghost use Rattle.pvp_types.specs.Setup.{IsValid};
 ghost use Rattle.pvp_journal.specs.Journals.{IsRead};
 ghost use Rattle.pvp_journal.specs.declared.journal.Left.TheVariants.{Nothing};
 ghost use Rattle.pvp_logs.specs.Resumed.{IsAgain};
+ghost use Rattle.pvp_serve.specs.Serving.{log_told};
+ghost use Rattle.pvp_serve.specs.Opening.{IsUntorn, kept_of, restart_told, wrong_in};
 
 use crate::folder::{is_whole, open_journal, put_in, put_mark, read_in};
 use crate::host::Host;
@@ -48,6 +50,11 @@ impl<'a> Place<'a> {
     /// The place of an actor of a bank, whose folder this is.
     pub fn new(setup: &'a Setup, bank: [u8; 32], me: u16, folder: &'a str, syncs: bool) -> Self
         requires { IsValid setup.now }
+        ensures setup { result.setup.now ≡ setup.now }
+        ensures bank { result.bank ≡ bank }
+        ensures me { result.me ≡ me }
+        ensures folder { result.folder.now ≡ folder.now }
+        ensures syncs { result.syncs ≡ syncs }
     {
         Place {
             setup,
@@ -109,7 +116,9 @@ fn marked<R: Host, C: BootCell>(
 }
 
 /// Why a journal cannot be written on.
-pub fn log_fault(fault: LogFault) -> ServeFault {
+pub fn log_fault(fault: LogFault) -> ServeFault
+    ensures { result ≡ log_told fault }
+{
     ServeFault::Log(match fault {
         LogFault::Full => ShelfFault::Full,
         LogFault::Failed => ShelfFault::Failed,
@@ -117,7 +126,9 @@ pub fn log_fault(fault: LogFault) -> ServeFault {
 }
 
 /// Why a site does not come back.
-fn fault_of(fault: RestartFault) -> ServeFault {
+fn fault_of(fault: RestartFault) -> ServeFault
+    ensures { result ≡ restart_told fault }
+{
     match fault {
         RestartFault::Misfit => ServeFault::Folder(FolderWhy::Cell),
         RestartFault::ClockSpent => ServeFault::Clock,
@@ -271,16 +282,28 @@ fn begin<R: Host>(
 }
 
 /// The bytes of a journal without the record that was cut off at their end.
-fn untorn(alloc: Global, bytes: Vec<u8>) -> Result<Vec<u8>, ServeFault> {
+fn untorn(alloc: Global, bytes: Vec<u8>) -> Result<Vec<u8>, ServeFault>
+    ensures { IfOk result (λ kept. IsUntorn bytes.items kept.items) }
+{
+    let journal = read_journal(alloc, bytes.as_slice())?;
+    Ok(kept_of(bytes, journal.left))
+}
+
+/// What is kept of the bytes of a journal that was read so far.
+fn kept_of(bytes: Vec<u8>, left: Left) -> Vec<u8>
+    ensures { result.items ≡ kept_of bytes.items left }
+{
     let mut bytes = bytes;
-    if let Left::Torn(at) = read_journal(alloc, bytes.as_slice())?.left {
+    if let Left::Torn(at) = left {
         bytes.truncate(at);
     }
-    Ok(bytes)
+    bytes
 }
 
 /// What is wrong with the head of a journal in this place.
-fn wrong_in(place: &Place<'_>, head: &Head) -> Option<EvidenceWhy> {
+fn wrong_in(place: &Place<'_>, head: &Head) -> Option<EvidenceWhy>
+    ensures { result ≡ wrong_in place.now.bank place.now.me head.now }
+{
     if head.bank[..16] != place.bank[..16] {
         return Some(EvidenceWhy::Setup);
     }

@@ -1,20 +1,42 @@
 //! An actor that is served: its room, and where what it sends goes.
-ghost use Rattle.std.specs.Prelude.{◌≡◌, ◌≢◌, ◌↔◌, true, [], Some, Err, IfOk, OnOk, IsOk, IsTrue};
+ghost use Rattle.std.specs.Prelude.{
+  ◌≡◌,
+  ◌≢◌,
+  true,
+  false,
+  [],
+  Some,
+  None,
+  IfOk,
+  IfErr,
+  OnOk,
+  OnErr,
+  IsOk,
+  IsTrue,
+  option_copied,
+  option_map,
+};
+ghost use Rattle.std.specs.Borrow.{Lends, sem};
 ghost use Rattle.std.specs.List.{list_any};
 ghost use Rattle.pvp_rooms.specs.Gates.{Hears};
 ghost use Rattle.pvp_logs.specs.Rooms.{bank_texts};
+ghost use Rattle.pvp_serve.specs.contracts.serving.Serving.{the_row};
 ghost use Rattle.pvp_serve.specs.Serving.{
   HasFlushed,
-  IsFar,
-  IsSpent,
+  IsIdle,
+  IsRefused,
+  IsUnwritten,
   OutlivesIn,
-  leaves,
-  sends,
   TakesIn,
   input_of,
+  is_far,
+  leaves,
+  lost_with,
   own_input,
   puts_in,
   puts_of,
+  sends,
+  waiting_in,
 };
 
 use crate::opening::log_fault;
@@ -74,15 +96,31 @@ impl<C: BootCell, L: Log, O: Outbox + Drop> Serving<C, L, O> {
     }
 
     /// Where what the actor sends goes, to be changed.
-    pub fn out_mut(&mut self) -> &mut O {
+    pub fn out_mut(&mut self) -> &mut O
+        ensures* writes_back { sem 𝓛 (Lends (the_row C.row L.row O.row C.BootCell L.Log) O.row
+            self.entry result (λ out. record self.entry.now { out = out })) }
+        ensures value { result.now ≡ self.old.out }
+    {
         &mut self.out
     }
 
     /// The actor, as its history has left it; `None` where its room is gone.
-    pub fn actor(&self) -> Option<&PartyOf<C>> {
+    pub fn actor(&self) -> Option<&PartyOf<C>>
+        ensures { option_copied result ≡ option_map (λ room. room.actor) self.now.room }
+    {
         match &self.room {
             Some(room) => Some(room.actor()),
             None => None,
+        }
+    }
+
+    /// What waits for a flush, in order; nothing where the room is gone.
+    pub fn waiting(&self) -> &[Letter<PartyOutcome>]
+        ensures { result.now ≡ waiting_in self.now.room }
+    {
+        match &self.room {
+            Some(room) => room.waiting(),
+            None => &[],
         }
     }
 
@@ -97,13 +135,17 @@ impl<C: BootCell, L: Log, O: Outbox + Drop> Serving<C, L, O> {
 impl<C: BootCell, L: Log, O: Outbox + Drop> Serving<C, L, O> {
     /// Takes an envelope that came, with its stamp; one with a clock too far ahead is lost. What it sends waits for `flush`.
     pub fn take_frame(&mut self, alloc: Global, arrival: Arrival) -> Result<(), ServeFault>
-        ensures far { IsFar self.old.room arrival.stamped.stamp.clock →
+        ensures far { is_far self.old.room arrival.stamped.stamp.clock ≡ true →
             IsOk result × (self.new.room ≡ self.old.room) }
-        ensures near { ¬ IsFar self.old.room arrival.stamped.stamp.clock → OnOk result (
+        ensures near { is_far self.old.room arrival.stamped.stamp.clock ≡ false → OnOk result (
             TakesIn ⟦<PartyOf<C> as Actor>⟧ bank_texts L.seen (input_of arrival.stamped)
             self.old.room self.new.room) }
-        ensures out { self.new.out ≡ self.old.out }
-        ensures me { self.new.me ≡ self.old.me }
+        ensures refused { IfErr result (λ fault.
+            IsRefused (Some arrival.stamped.stamp) self.old.room self.new.room fault) }
+        ensures rest { self.new ≡ record self.old {
+          room = self.new.room;
+          unbelieved = lost_with self.old.room arrival.stamped.stamp.clock self.old.unbelieved;
+        } }
     {
         let Stamped { stamp, envelope } = arrival.into_stamped();
         if self.is_far(stamp.clock) {
@@ -123,15 +165,15 @@ impl<C: BootCell, L: Log, O: Outbox + Drop> Serving<C, L, O> {
     pub fn take_event(&mut self, alloc: Global, event: PartyEvent) -> Result<(), ServeFault>
         ensures takes { OnOk result (TakesIn ⟦<PartyOf<C> as Actor>⟧ bank_texts L.seen (own_input event)
             self.old.room self.new.room) }
-        ensures out { self.new.out ≡ self.old.out }
-        ensures me { self.new.me ≡ self.old.me }
+        ensures refused { IfErr result (λ fault. IsRefused None self.old.room self.new.room fault) }
+        ensures rest { self.new ≡ record self.old { room = self.new.room } }
     {
         self.take(alloc, Input { event, stamp: None })
     }
 
     /// Whether a clock is too far ahead of the actor's own to be believed.
     fn is_far(&self, clock: u64) -> bool
-        ensures { IsTrue result ↔ IsFar self.now.room clock }
+        ensures { result ≡ is_far self.now.room clock }
     {
         match &self.room {
             Some(room) => clock > room.clock().saturating_add(HORIZON),
@@ -142,9 +184,9 @@ impl<C: BootCell, L: Log, O: Outbox + Drop> Serving<C, L, O> {
     fn take(&mut self, alloc: Global, input: Input<PartyEvent>) -> Result<(), ServeFault>
         ensures takes { OnOk result (TakesIn ⟦<PartyOf<C> as Actor>⟧ bank_texts L.seen input
             self.old.room self.new.room) }
-        ensures spent { result ≡ Err ServeFault.Clock → IsSpent self.old.room input.stamp }
-        ensures out { self.new.out ≡ self.old.out }
-        ensures me { self.new.me ≡ self.old.me }
+        ensures refused { IfErr result (λ fault.
+            IsRefused input.stamp self.old.room self.new.room fault) }
+        ensures rest { self.new ≡ record self.old { room = self.new.room } }
     {
         let Some(room) = self.room.take() else {
             return Err(ServeFault::Unfit);
@@ -169,10 +211,15 @@ impl<C: BootCell, L: Log, O: Outbox + Drop> Serving<C, L, O> {
     ) -> Result<Vec<Letter<PartyOutcome>>, ServeFault>
         ensures written { IfOk result (λ letters. HasFlushed ⟦<PartyOf<C> as Actor>⟧ bank_texts L.seen
             self.old.room self.new.room letters.items) }
+        ensures letters { IfOk result (λ letters. letters.items ≡ waiting_in self.old.room) }
+        ensures idle { IsIdle self.old.room → IsOk result × (self.new ≡ self.old) }
+        ensures refused { IfErr result (λ fault. IsUnwritten self.old.room fault) }
+        ensures gone { OnErr result (self.new.room ≡ None) }
+        ensures silent { OnErr result (self.new.out ≡ self.old.out) }
         ensures synced { IfOk result (λ letters. IsTrue self.old.syncs → letters.items ≢ [] →
             leaves is_told letters.items ≡ true → OutlivesIn L.seen L.synced self.new.room) }
         ensures handed { Hears O.got self.old.out self.new.out (puts_of self.old.me result) }
-        ensures me { self.new.me ≡ self.old.me }
+        ensures rest { self.new ≡ record self.old { room = self.new.room; out = self.new.out } }
     {
         let Some(room) = self.room.take() else {
             return Err(ServeFault::Unfit);

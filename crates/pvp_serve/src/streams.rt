@@ -1,4 +1,7 @@
 //! A stream between two actors: one thread reads it, another writes it.
+ghost use Rattle.std.specs.Prelude.{◌≡◌, ◌++◌, OnOk, OnErr};
+ghost use Rattle.pvp_intake.specs.Sealing.{sealed};
+ghost use Rattle.pvp_serve.specs.Lanes.{piece_text};
 
 use crate::host::Wires;
 use crate::inbox::Inbox;
@@ -78,7 +81,11 @@ fn gather<R: Wires>(
 }
 
 /// Puts a frame there, or a ping where it is empty.
-fn put(link: &Link, frame: &[u8], bytes: &mut Vec<u8>) -> Result<(), AllocError> {
+fn put(link: &Link, frame: &[u8], bytes: &mut Vec<u8>) -> Result<(), AllocError>
+    ensures put { OnOk result (
+        bytes.new.items ≡ bytes.old.items ++ sealed link.now (piece_text frame.now)) }
+    ensures refused { OnErr result (bytes.new.items ≡ bytes.old.items) }
+{
     if frame.is_empty() {
         put_ping(link, bytes)
     } else {

@@ -1,4 +1,6 @@
 //! What a site tells its operator: on standard error where that is new, and on standard output where it is asked.
+ghost use Rattle.std.specs.Prelude.{◌≡◌, ◌+◌, ◌-◌, ◌^◌, None, is_some, min, if◌then◌else◌};
+ghost use Rattle.pvp_serve.specs.Desks.{status_word};
 
 use crate::host::Host;
 use crate::opening::Process;
@@ -37,7 +39,17 @@ pub struct Teller {
 
 impl Teller {
     /// That of a site of a bank of this setup, which has told nothing.
-    pub fn new(setup: Setup) -> Self {
+    pub fn new(setup: Setup) -> Self
+        ensures { result ≡ record {
+          setup = setup;
+          stood = None;
+          ended = None;
+          away = 0;
+          why = None;
+          told = (0, 0);
+          ticks = 0;
+        } }
+    {
         Teller {
             setup,
             stood: None,
@@ -50,7 +62,12 @@ impl Teller {
     }
 
     /// A stream was turned away that a stranger opened.
-    pub fn turns_away(&mut self, why: Option<LinkFault>) {
+    pub fn turns_away(&mut self, why: Option<LinkFault>)
+        ensures { self.new ≡ record self.old {
+          away = min (self.old.away + 1) (2 ^ 64 - 1);
+          why = if is_some why then why else self.old.why;
+        } }
+    {
         self.away = self.away.saturating_add(1);
         if why.is_some() {
             self.why = why;
@@ -143,7 +160,9 @@ impl Teller {
 }
 
 /// The word for where a site stands.
-fn word_of(status: Status) -> &'static str {
+fn word_of(status: Status) -> &'static str
+    ensures { result.now ≡ status_word status }
+{
     match status {
         Status::Normal => "normal",
         Status::Change => "change",

@@ -1,4 +1,4 @@
-use Rattle.std.proofs.Common.{refl, sym, ap, ◌∙◌}
+use Rattle.std.proofs.Common.{refl, sym, ◌∙◌}
 use Rattle.pvp_serve.proofs.Taking.{flushed_already}
 use Rattle.pvp_serve.proofs.serving.Serving.flush.Goals as goal
 

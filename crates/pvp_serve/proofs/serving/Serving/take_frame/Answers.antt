@@ -1,4 +1,4 @@
-use Rattle.std.proofs.Common.{Some, subst, sym, ap, ◌∙◌}
+use Rattle.std.proofs.Common.{Some, ap, ◌∙◌}
 use Rattle.pvp_rooms.specs.declared.message.Input.{Input}
 use Rattle.pvp_parties.specs.declared.party.PartyEvent.{PartyEvent}
 use Rattle.pvp_serve.specs.Serving.{input_of}

@@ -1,0 +1,6 @@
+use Rattle.std.proofs.Common.{rules}
+use Rattle.std.proofs.lemmas.Fn.{filter_same}
+use Rattle.pvp_serve.proofs.lanes.Lanes.loses.Goals as goal
+
+pub returns-clause-all : goal.returns-clause-all
+returns-clause-all c = filter_same _ _ _ (λ x b f' k. search rules) _ _ c.retain.ensures.filtered
