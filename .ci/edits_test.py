@@ -369,6 +369,8 @@ pub fn of_an_array(x: [u8; 2]) -> u8
 {
     9
 }
+
+made!(10);
 """,
 }
 
@@ -403,7 +405,8 @@ def wrong_reach(room):
         ("a constant", "src/lib.rt", "[1, 2]", "[2, 2]", True),
         ("another constant", "src/lib.rt", "u8 = 3", "u8 = 4", False),
         ("a function that is imported and not called", "src/held.rt", "result ≡ 8", "8 ≡ result", False),
-        ("what is no item", "src/held.rt", "result ≡ 9", "9 ≡ result", True),
+        ("a function over an array that is not called", "src/held.rt", "result ≡ 9", "9 ≡ result", False),
+        ("what is no item", "src/held.rt", "made!(10)", "made!(11)", True),
     ):
         write(f"{folder}/{file}", FAR[file].replace(old, new))
         wrong += wrong_key(way, key() != before, is_another)

@@ -35,6 +35,16 @@ def closing(text, at):
     return len(text)
 
 
+def opening(text, at):
+    """The first brace or semicolon from here on, but for those within an array's type; None where there is none."""
+    depth = 0
+    for found in re.compile(r"[\[\]{;]").finditer(text, at):
+        depth += {"[": 1, "]": -1}.get(found[0], 0)
+        if found[0] == "{" or found[0] == ";" and not depth:
+            return found
+    return None
+
+
 def head_of(text, at):
     """Where the item begins whose word `fn` stands here: behind what comes before its attributes."""
     start = max(text.rfind(it, 0, at) for it in "{};") + 1
@@ -96,7 +106,7 @@ def functions_of(file, source):
         at = it.end()
         # the body is the first brace that no word of a contract stands in front of
         while True:
-            step = re.compile(r"[{;]").search(text, at)
+            step = opening(text, at)
             if not step or step[0] == ";":
                 break
             end = closing(text, step.start())

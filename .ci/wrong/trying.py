@@ -12,7 +12,7 @@ from wrong.bodies import PARTS, Edit, Unchanged, changed, edits_of, functions_in
 from wrong.names import keep_names, kept_names
 from wrong.prover import Said, copy_proof, goals_left, has_proof, leave_out_proof, misfits, take_away
 
-MOST_OF_A_ROUND = 48  # wrong bodies
+MOST_OF_A_ROUND = 10  # wrong bodies: each takes up to 400 megabytes of a check
 MOST_TURNS = 6  # checks of one round, in each of which answers that do not fit are taken away
 
 
