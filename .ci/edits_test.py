@@ -420,6 +420,13 @@ def wrong_reach(room):
     return wrong
 
 
+def wrong_twice(room):
+    """Whether two runs find the same keys, in whatever order they go through what is reached."""
+    code = f"import sys; sys.path.insert(0, {HERE!r}); import edits_test; print(sorted(edits_test.keys({room!r}).items()))"
+    said = {subprocess.run([sys.executable, "-c", code], stdout=subprocess.PIPE, env={**os.environ, "PYTHONHASHSEED": it}).stdout for it in "12"}
+    return [] if len(said) == 1 and said != {b""} else ["two runs find two keys of one wrong body"]
+
+
 def wrong_race(room):
     """Whether a text that changes while it is tried stays out of the record."""
     crate, tries = tries_of(room)
@@ -484,6 +491,7 @@ def main():
         make(room)
         wrong += wrong_keys(room)
         wrong += wrong_reach(room)
+        wrong += wrong_twice(room)
         wrong += wrong_imports(room)
         wrong += wrong_of(run(room), "over its own proof", EDITS, len(EDITS))
         taken = [it for it in EDITS if is_taken(EDITS[it][2])]
@@ -506,7 +514,7 @@ def main():
         wrong += wrong_false_record(room)
     if wrong:
         print("\n".join(wrong))
-    print(f"{max(0, count + 34 - len(wrong))} passed, {len(wrong)} failed")
+    print(f"{max(0, count + 36 - len(wrong))} passed, {len(wrong)} failed")
     return 1 if wrong else 0
 
 
