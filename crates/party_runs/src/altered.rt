@@ -1,4 +1,4 @@
-//! What one site left, altered in one place after the run, and where the audit finds it, alone and in the whole bank.
+//! What one site left, altered in one place after the run, and where the judgement of its bank finds it.
 use self::Swap::{Ends, Events, Seats};
 use crate::common::{Place, alone, are_judged, let_go, pair};
 use pvp_audit::{Verdict, Why};
@@ -65,7 +65,7 @@ fn swap_last<T>(one: &mut Vec<T>, other: &mut Vec<T>) {
 }
 
 /// Once these have changed places between the first site and another run, its event of this place fails this test, where
-/// the site is judged alone and in its bank.
+/// the site is judged in its bank.
 fn site_fails<R: Abort + Wait + AllocGlobal>(
     rt: &R,
     other: Closed<Party>,

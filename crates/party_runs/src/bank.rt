@@ -1,5 +1,5 @@
 //! A request that goes through two of three sites, audited; and events that stray.
-use crate::common::{Place, first_letter, is_judged, let_go, pair, remove_last};
+use crate::common::{Place, are_judged, first_letter, let_go, pair, remove_last};
 use headline::ClientEvent;
 use pvp_audit::{Verdict, Why};
 use pvp_book::Book;
@@ -62,9 +62,9 @@ impl Three {
             .post(rt, PartyEvent::OfSite(EventOf::Beat), None)
     }
 
-    /// An audit says this of what they left.
+    /// A judgement of the bank around them says this.
     fn is_judged<R: Abort + AllocGlobal>(self, rt: &R, told: Verdict) -> Result<(), Fail> {
-        is_judged(rt, self.close(rt.alloc())?.as_slice(), told)
+        are_judged(rt, self.close(rt.alloc())?, told)
     }
 
     fn close(self, alloc: Global) -> Result<Vec<Closed<Party>>, Fail> {
@@ -115,7 +115,7 @@ fn a_missing_sender_is_told(rt: HostRuntime) -> Result<(), Fail> {
         event: 2,
         why: Why::Stamped,
     };
-    is_judged(&rt, closed.as_slice(), told)
+    are_judged(&rt, closed, told)
 }
 
 /// The backup takes a beat of the primary under a stamp with a place that no envelope has.
@@ -182,7 +182,7 @@ fn stray_both<R: Abort + Wait + AllocGlobal>(rt: &R) -> Result<Vec<Closed<Party>
 
 #[test]
 fn strays_do_nothing(rt: HostRuntime) -> Result<(), Fail> {
-    is_judged(&rt, stray_both(&rt)?.as_slice(), Verdict::Yes)
+    are_judged(&rt, stray_both(&rt)?, Verdict::Yes)
 }
 
 /// A beat of the primary comes to the operator, as a stray.

@@ -1,11 +1,10 @@
-//! Actors of a bank with their seats, and what an audit says of what they left.
+//! Actors of a bank with their seats, and what is judged of what they left.
 use fixtures::setup::three_currencies;
-use pvp_audit::{Verdict, audit};
+use pvp_audit::Verdict;
 use pvp_book::Book;
 use pvp_judge::{Judgement, judge};
 use pvp_parties::{
-    Party, PartyCell, PartyEvent, PartyOutcome, PartySeat, are_in_order, client_cell, node_cell,
-    site_cell,
+    Party, PartyCell, PartyEvent, PartyOutcome, PartySeat, client_cell, node_cell, site_cell,
 };
 use pvp_peers::Served;
 use pvp_rooms::{Actor, Answer, CameOf, Closed, Gate, Input, Room};
@@ -216,24 +215,6 @@ pub fn first_letter(alloc: Global, outcome: &PartyOutcome) -> Result<Envelope<Bo
     }
 }
 
-/// An audit says this of actors in order of their numbers.
-pub fn is_judged<R: Abort + AllocGlobal>(
-    rt: &R,
-    closed: &[Closed<Party>],
-    verdict: Verdict,
-) -> Result<(), Fail> {
-    assert_eq!(rt; judged(rt.alloc(), closed)?, verdict);
-    Ok(())
-}
-
-/// What an audit says of actors in order of their numbers.
-fn judged(alloc: Global, closed: &[Closed<Party>]) -> Result<Verdict, Fail> {
-    if !are_in_order(closed) {
-        return Err(Fail::new("order"));
-    }
-    Ok(audit(alloc, closed))
-}
-
 /// What a whole bank leaves in which nothing happens but what these actors left, each in its place.
 pub fn bank_around(alloc: Global, some: Vec<Closed<Party>>) -> Result<Vec<Closed<Party>>, Fail> {
     let mut closed = bank_at_rest(alloc)?;
@@ -290,18 +271,8 @@ fn put_all_at_rest(alloc: Global, closed: &mut Vec<Closed<Party>>) -> Result<(),
     Ok(())
 }
 
-/// An audit says this of what some actors left, and so does a judgement of the bank around them.
-pub fn are_judged<R: Abort + AllocGlobal>(
-    rt: &R,
-    some: Vec<Closed<Party>>,
-    verdict: Verdict,
-) -> Result<(), Fail> {
-    is_judged(rt, some.as_slice(), verdict)?;
-    are_judged_in_bank(rt, some, verdict)
-}
-
 /// A judgement of the bank around what some actors left says this.
-pub fn are_judged_in_bank<R: Abort + AllocGlobal>(
+pub fn are_judged<R: Abort + AllocGlobal>(
     rt: &R,
     some: Vec<Closed<Party>>,
     verdict: Verdict,

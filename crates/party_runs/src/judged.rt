@@ -1,5 +1,5 @@
 //! Whole banks, judged: a site that fell, an actor that is missing.
-use crate::common::{Place, alone, are_judged_in_bank, bank_around, remove_last};
+use crate::common::{Place, alone, are_judged, bank_around, remove_last};
 use fixtures::setup::three_currencies;
 use pvp_audit::Verdict;
 use pvp_judge::{NotTheBank, judge};
@@ -47,7 +47,7 @@ fn is_fall(came: &PartyOutcome, boots: u32) -> bool {
 fn a_fall_is_followed(rt: HostRuntime) -> Result<(), Fail> {
     for keeps_new in [false, true] {
         let some = alone(rt.alloc(), fallen(&rt, keeps_new)?)?;
-        are_judged_in_bank(&rt, some, Verdict::Yes)?;
+        are_judged(&rt, some, Verdict::Yes)?;
     }
     Ok(())
 }

@@ -160,7 +160,7 @@ fn put_last(alloc: Global, some: &mut [Closed<Party>], row: &Row) -> Result<(), 
     Ok(())
 }
 
-/// An actor that left what a row says is judged so, alone and in its bank.
+/// An actor that left what a row says is judged so in its bank.
 fn row_is<R: Abort + Wait + AllocGlobal>(
     rt: &R,
     actor: u16,

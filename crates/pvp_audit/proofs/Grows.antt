@@ -7,14 +7,13 @@ use Rattle.pvp_wire.specs.declared.stamped.Stamp.{Stamp}
 use Rattle.pvp_rooms.specs.declared.message.Recorded.{Recorded}
 use Rattle.pvp_rooms.specs.declared.actor.Actor.{Ghosts}
 use Rattle.pvp_rooms.specs.Histories.{replay}
-use Rattle.pvp_rooms.proofs.Growing.{replay-push}
 use Rattle.pvp_rooms.specs.declared.cell.Closed.{Closed}
-use Rattle.pvp_audit.specs.Runs.{Tagged, own, history_in, history_of, number_in, AreInOrder, AreBefore, WasSent, Arrives, IsLegal, IsReached}
+use Rattle.pvp_audit.specs.Runs.{Tagged, own, history_in, history_of, number_in, AreInOrder, AreBefore, WasSent, Arrives, IsReached}
 use Rattle.pvp_audit.specs.Named.{IsSent, IsNamed}
 use Rattle.pvp_audit.specs.Verdicts.{ClocksRise, FailsAt, CannotArrive, CannotCome}
-use Rattle.pvp_audit.specs.Merging.{IsNextActor, IsMerged, IsProgress, AreEnds}
+use Rattle.pvp_audit.specs.Merging.{IsNextActor, IsMerged, IsProgress}
 use Rattle.pvp_audit.proofs.Together.{take_next, IsStepped}
-use Rattle.pvp_audit.proofs.Looks.{slice_get-first, get_set_same, get_set_other}
+use Rattle.pvp_audit.proofs.Looks.{slice_get-first}
 use Rattle.pvp_audit.proofs.Order.{same_some, who_took, not_earlier, is_after, is_after_own}
 
 -- an item of the first n is below n, and is there
@@ -95,19 +94,7 @@ merged_none closed at none = record {
   ahead = λ k i r low there. tt;
 }
 
-module _ {A N E O L : Type 0} (m : Ghosts A N E O) (delivers : E → Option L) (sent : O → List L) (is_for : A → E → Bool) (closed : List (Closed A N E O)) (order : AreInOrder closed) (clocks : ClocksRise closed) (start : ℕ → m.State) (at : List ℕ) (actors : List A) (p : IsProgress m delivers sent is_for closed start at actors) where
-  -- at the end of all histories
-  pub legal_all : ((k : ℕ) → length (history_of closed k) ≤ slice_index at k) → length actors ≡ length closed → IsLegal m delivers sent is_for closed start × AreEnds m closed start actors
-  legal_all done many = (
-    record { run = p.run; sorted = p.merged.sorted; each = merged_all closed order clocks at p.run p.merged done; legal = p.legal },
-    (
-      many,
-      λ k c actor is there.
-          let d : length c.history.items ≤ slice_index at k = subst (λ o. length (history_in o) ≤ slice_index at k) is (done k) in
-          subst (λ h. m.shows actor (replay m.after h (start k))) (take_all (slice_index at k) c.history.items d) (p.shown k c actor is there),
-    ),
-  )
-
+module _ {A N E O L : Type 0} (m : Ghosts A N E O) (delivers : E → Option L) (sent : O → List L) (is_for : A → E → Bool) (closed : List (Closed A N E O)) (clocks : ClocksRise closed) (start : ℕ → m.State) (at : List ℕ) (p : IsProgress m delivers sent is_for closed start at) where
   module _ (k : ℕ) (next : IsNextActor closed at k) where
     pub reached : IsReached m delivers sent is_for closed start p.run at (record { by = k; what = next.what })
     reached = record {
@@ -141,40 +128,6 @@ module _ {A N E O L : Type 0} (m : Ghosts A N E O) (delivers : E → Option L) (
         reached = reached;
         fails = (named_arrives delivers sent is_for closed at p.run p.merged.each c.end next.what named, λ comes. never (subst (λ h. m.comes (replay m.after h (start k)) next.what.event next.what.outcome) own_is comes));
       }
-
-      module _ (now : List ℕ) (a : A) (named : IsNamed delivers sent is_for closed at c.end next.what) (comes : m.comes (replay m.after (take (slice_index at k) c.history.items) (start k)) next.what.event next.what.outcome)
-          (shown : m.shows a (m.after (replay m.after (take (slice_index at k) c.history.items) (start k)) next.what.event next.what.outcome)) (within : k < length actors) (stepped : IsStepped at now k) where
-        shown_next : (j : ℕ) (d : Closed A N E O) (actor : A) → slice_get closed j ≡ Some d → slice_get (slice_set actors k a) j ≡ Some actor → (b : Bool) → (k == j) ≡ b → m.shows actor (replay m.after (take (slice_index now j) d.history.items) (start j))
-        shown_next j d actor hd ha true e =
-            let same : k ≡ j = eqb-true k j e in
-            let one : c ≡ d = same_some c d (sym is ∙ ap (slice_get closed) same ∙ hd) in
-            let two : a ≡ actor = same_some a actor (sym (get_set_same actors k a within) ∙ ap (slice_get (slice_set actors k a)) same ∙ ha) in
-            let h : take (slice_index now k) c.history.items ≡ take (slice_index at k) c.history.items ++ next.what ∷ [] = ap (λ n. take n c.history.items) stepped.here ∙ take_next c.history.items (slice_index at k) next.what next_is in
-            let x : replay m.after (take (slice_index now k) c.history.items) (start k) ≡ m.after (replay m.after (take (slice_index at k) c.history.items) (start k)) next.what.event next.what.outcome = ap (λ l. replay m.after l (start k)) h ∙ replay-push m.after (take (slice_index at k) c.history.items) next.what (start k) in
-            let here : m.shows a (replay m.after (take (slice_index now k) c.history.items) (start k)) = subst (m.shows a) (sym x) shown in
-            let P : ℕ → Closed A N E O → A → Type 0 = λ n w v. m.shows v (replay m.after (take (slice_index now n) w.history.items) (start n)) in
-            subst (λ n. P n d actor) same (subst (λ w. P k w actor) one (subst (λ v. P k c v) two here))
-        shown_next j d actor hd ha false e =
-            let ne = eqb-false k j e in
-            subst (λ n. m.shows actor (replay m.after (take n d.history.items) (start j))) (sym (stepped.others j ne)) (p.shown j d actor hd (sym (get_set_other actors k j a ne) ∙ ha))
-
-        pub progress_next : IsProgress m delivers sent is_for closed start now (slice_set actors k a)
-        progress_next = record {
-          run = record { by = k; what = next.what } ∷ p.run;
-          merged = merged_next closed order clocks at p.run p.merged k next now stepped;
-          legal = (p.legal, record { who = c; is = is; arrives = named_arrives delivers sent is_for closed at p.run p.merged.each c.end next.what named; comes = subst (λ h. m.comes (replay m.after h (start k)) next.what.event next.what.outcome) (sym own_is) comes });
-          shown = λ j d actor hd ha. shown_next j d actor hd ha (k == j) refl;
-        }
-
--- at the beginning
-pub progress_none : {A N E O L : Type 0} (m : Ghosts A N E O) (delivers : E → Option L) (sent : O → List L) (is_for : A → E → Bool) (closed : List (Closed A N E O)) (start : ℕ → m.State) (at : List ℕ) (actors : List A) → ((k : ℕ) → slice_index at k ≡ 0)
-    → ((k : ℕ) (c : Closed A N E O) (actor : A) → slice_get closed k ≡ Some c → slice_get actors k ≡ Some actor → m.shows actor (start k)) → IsProgress m delivers sent is_for closed start at actors
-progress_none m delivers sent is_for closed start at actors none fresh = record {
-  run = [];
-  merged = merged_none closed at none;
-  legal = tt;
-  shown = λ k c actor is there. subst (λ n. m.shows actor (replay m.after (take n c.history.items) (start k))) (sym (none k)) (fresh k c actor is there);
-}
 
 -- how many events are left
 abbrev pub left : {A N E O : Type 0} → List (Closed A N E O) → List ℕ → ℕ

@@ -176,8 +176,3 @@ IsOfRun NoMemory = ⊥
 abbrev pub IsOfTest : Why → Type 0
 IsOfTest NoMemory = ⊥
 IsOfTest _ = Unit {0}
-
--- a No is of such a test
-abbrev pub NamesWhy : (Why → Type 0) → Verdict → Type 0
-NamesWhy Is Yes = Unit {0}
-NamesWhy Is (No actor event why) = Is why

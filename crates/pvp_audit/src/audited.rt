@@ -18,10 +18,6 @@ pub trait Audited: Actor {
     /// Whether what an event delivers may come to this actor.
     ghost is_for: { Self → Self.Event → Bool };
 
-    /// The same actor as it opened.
-    fn reopen(&self, alloc: Global, opening: Self::Opening) -> Result<Self, AllocError>
-        ensures { IfOk result (λ actor. (x : Self.State) → Self.opens self.now opening x → Self.shows actor x) };
-
     /// Takes an event that came out so, and says whether it can. After `Err` or a no it may only be dropped.
     fn follow(
         &mut self,
@@ -48,8 +44,4 @@ pub trait Audited: Actor {
     /// Whether an event delivers what an outcome sent at this place.
     fn is_sent(event: &Self::Event, outcome: &Self::Outcome, at: usize) -> bool
         ensures { IsTrue result ↔ Sends delivers sent event.now outcome.now at };
-
-    /// Whether the reading calls of this actor and of another show the same.
-    fn is_like(&self, other: &Self) -> bool
-        ensures { (x : Self.State) → Self.shows other.now x → IsTrue result ↔ Self.reads self.now x };
 }

@@ -1,13 +1,12 @@
-//! What closed actors left, compared with one run of them all.
+//! What closed actors left: the tests of an actor alone, the order of the events of all, and what a verdict of them says.
 #![tactic(auto)]
 
 pub mod audited;
 mod clocks;
-mod ends;
 pub mod merge;
 pub mod receipts;
 pub mod sent;
 pub mod verdict;
 
 pub use audited::Audited;
-pub use verdict::{Verdict, Why, audit, run_of, verdict_of};
+pub use verdict::{Verdict, Why, first_alone, first_clock};

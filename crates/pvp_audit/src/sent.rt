@@ -54,7 +54,7 @@ fn is_sent<A: Audited>(closed: &[Closed<A>], at: &[usize], stamp: Stamp, event: 
 }
 
 /// Whether an event delivers nothing, or what its stamp names.
-pub(crate) fn is_named<A: Audited>(
+pub fn is_named<A: Audited>(
     closed: &[Closed<A>],
     at: &[usize],
     actor: &A,

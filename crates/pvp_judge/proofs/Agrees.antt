@@ -1,6 +1,6 @@
 -- A bank that goes through the merged list beside the actors: each of its sites, nodes and clients is where the replay of
 -- its actor's history is, and its post has all that they sent.
-use Rattle.std.proofs.Common.{◌≡◌, ◌⊎◌, inl, inr, ℕ, zero, suc, ◌+◌, ◌-◌, ◌<◌, ◌==◌, min, Bool, true, false, not, nat_le, nat_lt, if◌then◌else◌, List, [], ◌∷◌, ◌++◌, length, slice_get, slice_set, Option, Some, None, option_map, refl, sym, ap, subst, ◌∙◌, arith, append-nil, true≢false}
+use Rattle.std.proofs.Common.{◌≡◌, ◌⊎◌, inl, inr, ℕ, zero, suc, ◌+◌, ◌-◌, ◌<◌, ◌==◌, min, Bool, true, false, not, nat_lt, if◌then◌else◌, List, [], ◌∷◌, ◌++◌, length, slice_get, slice_set, Option, Some, None, option_map, refl, sym, ap, subst, ◌∙◌, arith, append-nil, true≢false}
 use Rattle.std.specs.Prelude.{◌&&◌, Ok, Err}
 use Rattle.std.proofs.lemmas.Bool.{eqb-true, eqb-false}
 use Rattle.std.proofs.lemmas.Bool.Decides.{nat_tests}
@@ -22,7 +22,7 @@ use Rattle.vr_types.specs.Group.{actor_of, may_send}
 use Rattle.vr_types.specs.Handling.{refusal, refused_or, on_event, site_step, is_refused, envelopes}
 use Rattle.vr_types.specs.Site.{Site, over, opening_site, is_down}
 use Rattle.vr_types.specs.Step.{Step as SiteStep}
-use Rattle.pvp_book.specs.Ledger.{Ledger, opening, node_of}
+use Rattle.pvp_book.specs.Ledger.{opening, node_of}
 use Rattle.rtgs_node.specs.declared.event.NodeEvent.{NodeEvent}
 use Rattle.rtgs_node.specs.declared.event.NodeEvent.TheVariants as node_event
 use Rattle.rtgs_node.specs.declared.fault.NodeFault.TheVariants.{NotMine}
@@ -45,7 +45,6 @@ use Rattle.pvp_world.specs.Client as client
 use Rattle.pvp_rooms.specs.declared.message.Recorded.{Recorded}
 use Rattle.pvp_rooms.specs.declared.site.CameOf.TheVariants.{Did, Refused, Fell}
 use Rattle.pvp_rooms.specs.Histories.{replay}
-use Rattle.pvp_rooms.specs.Sites as sites
 use Rattle.pvp_rooms.proofs.Growing.{replay-push}
 use Rattle.pvp_rooms.proofs.SiteSteps.{ended_allowed}
 use Rattle.pvp_audit.specs.Runs.{Tagged, own, number_in, number_at, AreInOrder, AreOpenings}
@@ -59,6 +58,7 @@ use Rattle.pvp_parties.specs.Made.{Made}
 use Rattle.pvp_parties.specs.Alike.{Site as Shown}
 use Rattle.pvp_parties.specs.Parties.{PartyState, AtSite, AtNode, AtClient, Opens, Comes, after, delivers, sent, is_for, number_of, setup_of}
 use Rattle.pvp_judge.specs.Judged.{Left, party}
+use Rattle.pvp_judge.specs.Coming.{site_at, node_at, client_at, IsThere}
 use Rattle.pvp_judge.specs.Moves as moves
 use Rattle.pvp_judge.specs.Moves.{move_of, move_by}
 use Rattle.pvp_judge.specs.Retold.{Names}
@@ -95,24 +95,15 @@ module _ (setup : Setup) (choose : Choice Cmd) where
 
   -- THE STATES OF ACTORS OF THIS BANK
 
-  abbrev pub site_at : ℕ → Site Cmd → sites.SiteState Ledger Cmd
-  site_at place x = record { f = f; me = place; start = opening setup; choose = choose; site = x }
-
-  abbrev pub node_at : ℕ → Node → node.Shown
-  node_at place x = record { setup = setup; ccy = place; node = x }
-
-  abbrev pub client_at : ℕ → Client → client.Shown
-  client_at place x = record { f = f; me = place; client = x }
-
   -- as they open
   abbrev pub opened : Party → Option Boot → PartyState
-  opened (party_of.Site p) (Some boot) = AtSite (site_at p.place (opening_site f boot))
-  opened (party_of.Site p) None = AtClient (client_at p.place opening_client)
-  opened (party_of.Node p) boot = AtNode (node_at p.place opening_node)
-  opened (party_of.Client p) boot = AtClient (client_at p.place opening_client)
+  opened (party_of.Site p) (Some boot) = AtSite (site_at setup choose p.place (opening_site f boot))
+  opened (party_of.Site p) None = AtClient (client_at setup choose p.place opening_client)
+  opened (party_of.Node p) boot = AtNode (node_at setup choose p.place opening_node)
+  opened (party_of.Client p) boot = AtClient (client_at setup choose p.place opening_client)
 
   abbrev pub start_in : Option Left → PartyState
-  start_in None = AtClient (client_at 0 opening_client)
+  start_in None = AtClient (client_at setup choose 0 opening_client)
   start_in (Some c) = opened c.end c.opening
 
   abbrev pub start_of : List Left → ℕ → PartyState
@@ -136,12 +127,6 @@ module _ (setup : Setup) (choose : Choice Cmd) where
 
   -- THE BANK BESIDE THE ACTORS
 
-  -- an actor of this state is the bank's actor of its kind and place
-  abbrev pub IsThere : Bank → Party → PartyState → Type 0
-  IsThere bank (party_of.Site p) x = (y : Site Cmd) × (x ≡ AtSite (site_at p.place y)) × (slice_get bank.sites p.place ≡ Some y)
-  IsThere bank (party_of.Node p) x = (y : Node) × (x ≡ AtNode (node_at p.place y)) × (slice_get bank.nodes p.place ≡ Some y)
-  IsThere bank (party_of.Client p) x = (y : Client) × (x ≡ AtClient (client_at p.place y)) × (slice_get bank.clients p.place ≡ Some y)
-
   -- where an actor's replay is
   abbrev pub state_of : List Left → List (Tagged PartyEvent PartyOutcome) → ℕ → PartyState
   state_of closed run k = replay after (own run k) (start_of closed k)
@@ -149,32 +134,32 @@ module _ (setup : Setup) (choose : Choice Cmd) where
   -- moves that lead the bank to where the actors are after a run
   pub record Agrees (closed : List Left) (cells : List Boot) (run : List (Tagged PartyEvent PartyOutcome)) (moves : List Move) (bank : Bank) : Type 0 where
     pub legal : IsLegal setup choose f cells moves bank
-    pub there : (k : ℕ) (c : Left) → slice_get closed k ≡ Some c → IsThere bank c.end (state_of closed run k)
+    pub there : (k : ℕ) (c : Left) → slice_get closed k ≡ Some c → IsThere setup choose bank c.end (state_of closed run k)
     pub post : bank.post ≡ post_of sent run
 
   -- ONE ACTOR'S PART CHANGES, AND NO OTHER'S
 
   site_kept : (bank : Bank) (post : List Envelope) (place : ℕ) (y : Site Cmd) (e : Party) (x : PartyState) → ¬ (number_of e ≡ actor_of place)
-      → IsThere bank e x → IsThere (record bank { sites = slice_set bank.sites place y; post = post }) e x
+      → IsThere setup choose bank e x → IsThere setup choose (record bank { sites = slice_set bank.sites place y; post = post }) e x
   site_kept bank post place y (party_of.Site q) x off is = (is.0, is.1, get_other bank.sites place q.place y (λ e. off (ap actor_of e)) ∙ is.2)
   site_kept bank post place y (party_of.Node q) x off is = is
   site_kept bank post place y (party_of.Client q) x off is = is
 
   node_kept : (bank : Bank) (post : List Envelope) (place : ℕ) (y : Node) (e : Party) (x : PartyState) → ¬ (number_of e ≡ node_of place)
-      → IsThere bank e x → IsThere (record bank { nodes = slice_set bank.nodes place y; post = post }) e x
+      → IsThere setup choose bank e x → IsThere setup choose (record bank { nodes = slice_set bank.nodes place y; post = post }) e x
   node_kept bank post place y (party_of.Site q) x off is = is
   node_kept bank post place y (party_of.Node q) x off is = (is.0, is.1, get_other bank.nodes place q.place y (λ e. off (ap node_of e)) ∙ is.2)
   node_kept bank post place y (party_of.Client q) x off is = is
 
   client_kept : (bank : Bank) (post : List Envelope) (place : ℕ) (y : Client) (e : Party) (x : PartyState) → ¬ (number_of e ≡ place)
-      → IsThere bank e x → IsThere (record bank { clients = slice_set bank.clients place y; post = post }) e x
+      → IsThere setup choose bank e x → IsThere setup choose (record bank { clients = slice_set bank.clients place y; post = post }) e x
   client_kept bank post place y (party_of.Site q) x off is = is
   client_kept bank post place y (party_of.Node q) x off is = is
   client_kept bank post place y (party_of.Client q) x off is = (is.0, is.1, get_other bank.clients place q.place y off ∙ is.2)
 
   -- TURNS
 
-  allowed_free : (i : ℕ) (y : Site Cmd) (e : EventOf Cmd Answer PaymentOrder) → is_refused (site_step {R = Answer} {O = PaymentOrder} choose f i y e).ending ≡ false → refusal {R = Answer} {O = PaymentOrder} f i y e ≡ None
+  pub allowed_free : (i : ℕ) (y : Site Cmd) (e : EventOf Cmd Answer PaymentOrder) → is_refused (site_step {R = Answer} {O = PaymentOrder} choose f i y e).ending ≡ false → refusal {R = Answer} {O = PaymentOrder} f i y e ≡ None
   allowed_free i y e allowed = go (refusal {R = Answer} {O = PaymentOrder} f i y e) allowed
     where
       go : (why : Option SiteFault) → is_refused (refused_or y why (on_event {R = Answer} {O = PaymentOrder} choose f i y e)).ending ≡ false → why ≡ None
@@ -192,7 +177,7 @@ module _ (setup : Setup) (choose : Choice Cmd) where
       go false false is h = cc
 
   -- the turn that a site's event is
-  site_turn : (post : List Envelope) (number i : ℕ) (y : Site Cmd) (e : EventOf Cmd Answer PaymentOrder) → refusal {R = Answer} {O = PaymentOrder} f i y e ≡ None → Names post number (party_event.OfSite e)
+  pub site_turn : (post : List Envelope) (number i : ℕ) (y : Site Cmd) (e : EventOf Cmd Answer PaymentOrder) → refusal {R = Answer} {O = PaymentOrder} f i y e ≡ None → Names post number (party_event.OfSite e)
       → turn post (moves.site_step (200 + i) e number) ≡ Some (OfSite i e)
   site_turn post number i y (site.Deliver e) free at =
       delivered post number e (party_event.OfSite (site.Deliver e)) (OfSite i (site.Deliver e)) refl at
@@ -203,7 +188,7 @@ module _ (setup : Setup) (choose : Choice Cmd) where
   site_turn post number i y site.Restart free at = ap (λ (k : ℕ). Some (OfSite k site.Restart)) (omega arith)
 
   -- what is delivered to a node that takes it is addressed to that node
-  to_node : (c : ℕ) (y : Node) (e : Envelope) → (node_step setup f c y (node_event.Takes e)).fault ≡ None → e.to ≡ node_of c
+  pub to_node : (c : ℕ) (y : Node) (e : Envelope) → (node_step setup f c y (node_event.Takes e)).fault ≡ None → e.to ≡ node_of c
   to_node c y e allowed = go (e.to == node_of c) refl allowed
     where
       go : (mine : Bool) → (e.to == node_of c) ≡ mine
@@ -211,16 +196,16 @@ module _ (setup : Setup) (choose : Choice Cmd) where
       go true is h = eqb-true e.to (node_of c) is
       go false is h = cc
 
-  node_turn : (post : List Envelope) (number c : ℕ) (y : Node) (e : NodeEvent) → c < 99 → (node_step setup f c y e).fault ≡ None → Names post number (party_event.OfNode e)
+  pub node_turn : (post : List Envelope) (number c : ℕ) (e : NodeEvent) → c < 99 → ((letter : Envelope) → e ≡ node_event.Takes letter → letter.to ≡ node_of c) → Names post number (party_event.OfNode e)
       → turn post (moves.node_step (101 + c) e number) ≡ Some (OfNode c e)
-  node_turn post number c y (node_event.PaysIn member amt) low allowed at = ap (λ (k : ℕ). Some (OfNode k (node_event.PaysIn member amt))) (number_is c low)
-  node_turn post number c y (node_event.Closes member) low allowed at = ap (λ (k : ℕ). Some (OfNode k (node_event.Closes member))) (number_is c low)
-  node_turn post number c y (node_event.Takes e) low allowed at =
+  node_turn post number c (node_event.PaysIn member amt) low mine at = ap (λ (k : ℕ). Some (OfNode k (node_event.PaysIn member amt))) (number_is c low)
+  node_turn post number c (node_event.Closes member) low mine at = ap (λ (k : ℕ). Some (OfNode k (node_event.Closes member))) (number_is c low)
+  node_turn post number c (node_event.Takes e) low mine at =
       delivered post number e (party_event.OfNode (node_event.Takes e)) (OfNode c (node_event.Takes e)) refl at
-      (ap (λ (to : ℕ). turn_of to (site.Deliver e) (node_event.Takes e) (client_event.Takes e)) (to_node c y e allowed) ∙ turn_of_node (site.Deliver e) (node_event.Takes e) (client_event.Takes e) c low)
-  node_turn post number c y node_event.Beats low allowed at = ap (λ (t : Turn). Some t) (turn_of_node site.Beat node_event.Beats client_event.Beats c low)
+      (ap (λ (to : ℕ). turn_of to (site.Deliver e) (node_event.Takes e) (client_event.Takes e)) (mine e refl) ∙ turn_of_node (site.Deliver e) (node_event.Takes e) (client_event.Takes e) c low)
+  node_turn post number c node_event.Beats low mine at = ap (λ (t : Turn). Some t) (turn_of_node site.Beat node_event.Beats client_event.Beats c low)
 
-  client_turn : (post : List Envelope) (number k : ℕ) (e : ClientEvent) → k < 101 → ((letter : Envelope) → e ≡ client_event.Takes letter → letter.to ≡ k) → Names post number (party_event.OfClient e)
+  pub client_turn : (post : List Envelope) (number k : ℕ) (e : ClientEvent) → k < 101 → ((letter : Envelope) → e ≡ client_event.Takes letter → letter.to ≡ k) → Names post number (party_event.OfClient e)
       → turn post (moves.client_step k e number) ≡ Some (OfClient k e)
   client_turn post number k (client_event.Submits cmd) low mine at = refl
   client_turn post number k (client_event.Takes e) low mine at =
@@ -255,34 +240,34 @@ module _ (setup : Setup) (choose : Choice Cmd) where
         by wj wk one false false is_p is_q = off (grind (arith, nat_tests))
 
     -- where all are after the event
-    all_there : (later : Bank) → IsThere later c.end (after (state_of closed run k) r.event r.outcome)
-        → ((j : ℕ) (d : Left) → slice_get closed j ≡ Some d → ¬ (number_of d.end ≡ number_of c.end) → IsThere bank d.end (state_of closed run j) → IsThere later d.end (state_of closed run j))
-        → (j : ℕ) (d : Left) → slice_get closed j ≡ Some d → IsThere later d.end (state_of closed next_run j)
+    all_there : (later : Bank) → IsThere setup choose later c.end (after (state_of closed run k) r.event r.outcome)
+        → ((j : ℕ) (d : Left) → slice_get closed j ≡ Some d → ¬ (number_of d.end ≡ number_of c.end) → IsThere setup choose bank d.end (state_of closed run j) → IsThere setup choose later d.end (state_of closed run j))
+        → (j : ℕ) (d : Left) → slice_get closed j ≡ Some d → IsThere setup choose later d.end (state_of closed next_run j)
     all_there later mine others j d there = go (k == j) refl
       where
-        go : (b : Bool) → (k == j) ≡ b → IsThere later d.end (replay after (own run j ++ (if b then r ∷ [] else [])) (start_of closed j))
+        go : (b : Bool) → (k == j) ≡ b → IsThere setup choose later d.end (replay after (own run j ++ (if b then r ∷ [] else [])) (start_of closed j))
         go true same =
             let e = eqb-true k j same in
-            let at_k : (d : Left) → slice_get closed k ≡ Some d → IsThere later d.end (replay after (own run k ++ r ∷ []) (start_of closed k)) =
-            λ d there. subst (λ (x : PartyState). IsThere later d.end x) (sym (replay-push after (own run k) r (start_of closed k)))
-            (subst (λ (q : Left). IsThere later q.end (after (state_of closed run k) r.event r.outcome)) (some-same c d (sym is ∙ there)) mine) in
-            subst (λ (i : ℕ). (d : Left) → slice_get closed i ≡ Some d → IsThere later d.end (replay after (own run i ++ r ∷ []) (start_of closed i))) e at_k d there
+            let at_k : (d : Left) → slice_get closed k ≡ Some d → IsThere setup choose later d.end (replay after (own run k ++ r ∷ []) (start_of closed k)) =
+            λ d there. subst (λ (x : PartyState). IsThere setup choose later d.end x) (sym (replay-push after (own run k) r (start_of closed k)))
+            (subst (λ (q : Left). IsThere setup choose later q.end (after (state_of closed run k) r.event r.outcome)) (some-same c d (sym is ∙ there)) mine) in
+            subst (λ (i : ℕ). (d : Left) → slice_get closed i ≡ Some d → IsThere setup choose later d.end (replay after (own run i ++ r ∷ []) (start_of closed i))) e at_k d there
         go false same =
-            subst (λ (l : List (Recorded PartyEvent PartyOutcome)). IsThere later d.end (replay after l (start_of closed j))) (sym (append-nil (own run j)))
+            subst (λ (l : List (Recorded PartyEvent PartyOutcome)). IsThere setup choose later d.end (replay after l (start_of closed j))) (sym (append-nil (own run j)))
             (others j d there (other j d there (eqb-false k j same)) (a.there j d there))
 
     -- nothing was done
     stays : after (state_of closed run k) r.event r.outcome ≡ state_of closed run k → sent r.outcome ≡ [] → Agrees closed cells next_run trail bank
     stays still none = record {
       legal = a.legal;
-      there = all_there bank (subst (λ (x : PartyState). IsThere bank c.end x) (sym still) (a.there k c is)) (λ j d there off so. so);
+      there = all_there bank (subst (λ (x : PartyState). IsThere setup choose bank c.end x) (sym still) (a.there k c is)) (λ j d there off so. so);
       post = a.post ∙ sym (append-nil (post_of sent run)) ∙ ap (λ (l : List Envelope). post_of sent run ++ l) (sym none);
     }
 
     -- a move was taken
     goes : (move : Move) (later : Bank) → Leads setup choose f bank move later → later.post ≡ bank.post ++ sent r.outcome
-        → IsThere later c.end (after (state_of closed run k) r.event r.outcome)
-        → ((j : ℕ) (d : Left) → slice_get closed j ≡ Some d → ¬ (number_of d.end ≡ number_of c.end) → IsThere bank d.end (state_of closed run j) → IsThere later d.end (state_of closed run j))
+        → IsThere setup choose later c.end (after (state_of closed run k) r.event r.outcome)
+        → ((j : ℕ) (d : Left) → slice_get closed j ≡ Some d → ¬ (number_of d.end ≡ number_of c.end) → IsThere setup choose bank d.end (state_of closed run j) → IsThere setup choose later d.end (state_of closed run j))
         → Goes (Some move)
     goes move later leads posts mine others = (
       later,
@@ -296,18 +281,18 @@ module _ (setup : Setup) (choose : Choice Cmd) where
 
     -- an actor of this kind and state, an event and an outcome, in place of those that are named
     put : (e : Party) → c.end ≡ e → (x : PartyState) → state_of closed run k ≡ x → (v : PartyEvent) → r.event ≡ v → (o : PartyOutcome) → r.outcome ≡ o → (later : Bank)
-        → IsThere later e (after x v o) → IsThere later c.end (after (state_of closed run k) r.event r.outcome)
+        → IsThere setup choose later e (after x v o) → IsThere setup choose later c.end (after (state_of closed run k) r.event r.outcome)
     put e ends x at v event o came later there =
-        subst (λ (q : Party). IsThere later q (after (state_of closed run k) r.event r.outcome)) (sym ends)
-        (subst (λ (s : PartyState). IsThere later e s) (λ i. after (sym at i) (sym event i) (sym came i)) there)
+        subst (λ (q : Party). IsThere setup choose later q (after (state_of closed run k) r.event r.outcome)) (sym ends)
+        (subst (λ (s : PartyState). IsThere setup choose later e s) (λ i. after (sym at i) (sym event i) (sym came i)) there)
 
     still : (x : PartyState) → state_of closed run k ≡ x → (v : PartyEvent) → r.event ≡ v → (o : PartyOutcome) → r.outcome ≡ o → after x v o ≡ x → sent o ≡ [] → Goes None
     still x at v event o came same none = stays ((λ i. after (at i) (event i) (came i)) ∙ same ∙ sym at) (ap sent came ∙ none)
 
     module _ (number : ℕ) where
       -- a site
-      site_goes : (p : Made Shown) → c.end ≡ party_of.Site p → (y : Site Cmd) → state_of closed run k ≡ AtSite (site_at p.place y) → slice_get bank.sites p.place ≡ Some y
-          → (v : PartyEvent) → r.event ≡ v → (o : PartyOutcome) → r.outcome ≡ o → Comes (AtSite (site_at p.place y)) v o → Names bank.post number v → Goes (move_by (200 + p.place) v o number)
+      site_goes : (p : Made Shown) → c.end ≡ party_of.Site p → (y : Site Cmd) → state_of closed run k ≡ AtSite (site_at setup choose p.place y) → slice_get bank.sites p.place ≡ Some y
+          → (v : PartyEvent) → r.event ≡ v → (o : PartyOutcome) → r.outcome ≡ o → Comes (AtSite (site_at setup choose p.place y)) v o → Names bank.post number v → Goes (move_by (200 + p.place) v o number)
       site_goes p ends y at there (party_event.OfSite e) event (outcome.OfSite (Did letters dropped)) came come named =
           let i = p.place in
           let step : SiteStep Cmd Answer PaymentOrder = site_step choose f i y e in
@@ -320,9 +305,9 @@ module _ (setup : Setup) (choose : Choice Cmd) where
             acts = record { before = y; is_there = there; allowed = allowed; leads = refl };
           })
           (ap (λ (l : List Envelope). bank.post ++ l) (sym come.sends ∙ sym (ap sent came)))
-          (put (party_of.Site p) ends (AtSite (site_at i y)) at (party_event.OfSite e) event (outcome.OfSite (Did letters dropped)) came later (step.site, refl, set-here bank.sites i y step.site there))
+          (put (party_of.Site p) ends (AtSite (site_at setup choose i y)) at (party_event.OfSite e) event (outcome.OfSite (Did letters dropped)) came later (step.site, refl, set-here bank.sites i y step.site there))
           (λ j d is_d off so. site_kept bank later.post i step.site d.end (state_of closed run j) (λ h. off (h ∙ sym (ap number_of ends))) so)
-      site_goes p ends y at there (party_event.OfSite e) event (outcome.OfSite (Refused why)) came come named = still (AtSite (site_at p.place y)) at (party_event.OfSite e) event (outcome.OfSite (Refused why)) came refl refl
+      site_goes p ends y at there (party_event.OfSite e) event (outcome.OfSite (Refused why)) came come named = still (AtSite (site_at setup choose p.place y)) at (party_event.OfSite e) event (outcome.OfSite (Refused why)) came refl refl
       site_goes p ends y at there (party_event.OfSite e) event (outcome.OfSite (Fell why cell)) came come named =
           let i = p.place in
           let later : Bank = record bank { sites = slice_set bank.sites i (over cell Down) } in
@@ -333,15 +318,15 @@ module _ (setup : Setup) (choose : Choice Cmd) where
             falls = record { before = y; is_there = there; falls = come.0; leads = refl };
           })
           (sym (append-nil bank.post) ∙ ap (λ (l : List Envelope). bank.post ++ l) (sym (ap sent came)))
-          (put (party_of.Site p) ends (AtSite (site_at i y)) at (party_event.OfSite e) event (outcome.OfSite (Fell why cell)) came later (over cell Down, refl, set-here bank.sites i y (over cell Down) there))
+          (put (party_of.Site p) ends (AtSite (site_at setup choose i y)) at (party_event.OfSite e) event (outcome.OfSite (Fell why cell)) came later (over cell Down, refl, set-here bank.sites i y (over cell Down) there))
           (λ j d is_d off so. site_kept bank bank.post i (over cell Down) d.end (state_of closed run j) (λ h. off (h ∙ sym (ap number_of ends))) so)
-      site_goes p ends y at there (party_event.OfNode e) event outcome.Stray came come named = still (AtSite (site_at p.place y)) at (party_event.OfNode e) event outcome.Stray came refl refl
-      site_goes p ends y at there (party_event.OfClient e) event outcome.Stray came come named = still (AtSite (site_at p.place y)) at (party_event.OfClient e) event outcome.Stray came refl refl
+      site_goes p ends y at there (party_event.OfNode e) event outcome.Stray came come named = still (AtSite (site_at setup choose p.place y)) at (party_event.OfNode e) event outcome.Stray came refl refl
+      site_goes p ends y at there (party_event.OfClient e) event outcome.Stray came come named = still (AtSite (site_at setup choose p.place y)) at (party_event.OfClient e) event outcome.Stray came refl refl
       site_goes p ends y at there v event o came come named = absurd come
 
       -- a node
-      node_goes : (p : Made node.Shown) → c.end ≡ party_of.Node p → (y : Node) → state_of closed run k ≡ AtNode (node_at p.place y) → slice_get bank.nodes p.place ≡ Some y → p.place < 99
-          → (v : PartyEvent) → r.event ≡ v → (o : PartyOutcome) → r.outcome ≡ o → Comes (AtNode (node_at p.place y)) v o → Names bank.post number v → Goes (move_by (101 + p.place) v o number)
+      node_goes : (p : Made node.Shown) → c.end ≡ party_of.Node p → (y : Node) → state_of closed run k ≡ AtNode (node_at setup choose p.place y) → slice_get bank.nodes p.place ≡ Some y → p.place < 99
+          → (v : PartyEvent) → r.event ≡ v → (o : PartyOutcome) → r.outcome ≡ o → Comes (AtNode (node_at setup choose p.place y)) v o → Names bank.post number v → Goes (move_by (101 + p.place) v o number)
       unfolding node.step_of
       node_goes p ends y at there low (party_event.OfNode e) event (outcome.OfNode (Ok letters)) came come named =
           let i = p.place in
@@ -350,20 +335,20 @@ module _ (setup : Setup) (choose : Choice Cmd) where
           goes (Takes (moves.node_step (101 + i) e number)) later
           (record {
             turn_is = OfNode i e;
-            has_turn = node_turn bank.post number i y e low come.allowed named;
+            has_turn = node_turn bank.post number i e low (λ letter is. to_node i y letter (subst (λ (q : NodeEvent). (node_step setup f i y q).fault ≡ None) is come.allowed)) named;
             acts = record { before = y; is_there = there; allowed = come.allowed; leads = refl };
           })
           (ap (λ (l : List Envelope). bank.post ++ l) (sym come.sends ∙ sym (ap sent came)))
-          (put (party_of.Node p) ends (AtNode (node_at i y)) at (party_event.OfNode e) event (outcome.OfNode (Ok letters)) came later (step.node, refl, set-here bank.nodes i y step.node there))
+          (put (party_of.Node p) ends (AtNode (node_at setup choose i y)) at (party_event.OfNode e) event (outcome.OfNode (Ok letters)) came later (step.node, refl, set-here bank.nodes i y step.node there))
           (λ j d is_d off so. node_kept bank later.post i step.node d.end (state_of closed run j) (λ h. off (h ∙ sym (ap number_of ends))) so)
-      node_goes p ends y at there low (party_event.OfNode e) event (outcome.OfNode (Err fault)) came come named = still (AtNode (node_at p.place y)) at (party_event.OfNode e) event (outcome.OfNode (Err fault)) came refl refl
-      node_goes p ends y at there low (party_event.OfSite e) event outcome.Stray came come named = still (AtNode (node_at p.place y)) at (party_event.OfSite e) event outcome.Stray came refl refl
-      node_goes p ends y at there low (party_event.OfClient e) event outcome.Stray came come named = still (AtNode (node_at p.place y)) at (party_event.OfClient e) event outcome.Stray came refl refl
+      node_goes p ends y at there low (party_event.OfNode e) event (outcome.OfNode (Err fault)) came come named = still (AtNode (node_at setup choose p.place y)) at (party_event.OfNode e) event (outcome.OfNode (Err fault)) came refl refl
+      node_goes p ends y at there low (party_event.OfSite e) event outcome.Stray came come named = still (AtNode (node_at setup choose p.place y)) at (party_event.OfSite e) event outcome.Stray came refl refl
+      node_goes p ends y at there low (party_event.OfClient e) event outcome.Stray came come named = still (AtNode (node_at setup choose p.place y)) at (party_event.OfClient e) event outcome.Stray came refl refl
       node_goes p ends y at there low v event o came come named = absurd come
 
       -- a client, which takes only what is addressed to it
-      client_goes : (p : Made client.Shown) → c.end ≡ party_of.Client p → (y : Client) → state_of closed run k ≡ AtClient (client_at p.place y) → slice_get bank.clients p.place ≡ Some y → p.place < 101
-          → (v : PartyEvent) → r.event ≡ v → (o : PartyOutcome) → r.outcome ≡ o → Comes (AtClient (client_at p.place y)) v o → Names bank.post number v
+      client_goes : (p : Made client.Shown) → c.end ≡ party_of.Client p → (y : Client) → state_of closed run k ≡ AtClient (client_at setup choose p.place y) → slice_get bank.clients p.place ≡ Some y → p.place < 101
+          → (v : PartyEvent) → r.event ≡ v → (o : PartyOutcome) → r.outcome ≡ o → Comes (AtClient (client_at setup choose p.place y)) v o → Names bank.post number v
           → ((letter : Envelope) → v ≡ party_event.OfClient (client_event.Takes letter) → letter.to ≡ p.place) → Goes (move_by p.place v o number)
       client_goes p ends y at there low (party_event.OfClient e) event (outcome.OfClient (Ok letters)) came come named mine =
           let i = p.place in
@@ -376,11 +361,11 @@ module _ (setup : Setup) (choose : Choice Cmd) where
             acts = record { before = y; is_there = there; allowed = come.allowed; leads = refl };
           })
           (ap (λ (l : List Envelope). bank.post ++ l) (sym come.sends ∙ sym (ap sent came)))
-          (put (party_of.Client p) ends (AtClient (client_at i y)) at (party_event.OfClient e) event (outcome.OfClient (Ok letters)) came later (step.client, refl, set-here bank.clients i y step.client there))
+          (put (party_of.Client p) ends (AtClient (client_at setup choose i y)) at (party_event.OfClient e) event (outcome.OfClient (Ok letters)) came later (step.client, refl, set-here bank.clients i y step.client there))
           (λ j d is_d off so. client_kept bank later.post i step.client d.end (state_of closed run j) (λ h. off (h ∙ sym (ap number_of ends))) so)
-      client_goes p ends y at there low (party_event.OfClient e) event (outcome.OfClient (Err fault)) came come named mine = still (AtClient (client_at p.place y)) at (party_event.OfClient e) event (outcome.OfClient (Err fault)) came refl refl
-      client_goes p ends y at there low (party_event.OfSite e) event outcome.Stray came come named mine = still (AtClient (client_at p.place y)) at (party_event.OfSite e) event outcome.Stray came refl refl
-      client_goes p ends y at there low (party_event.OfNode e) event outcome.Stray came come named mine = still (AtClient (client_at p.place y)) at (party_event.OfNode e) event outcome.Stray came refl refl
+      client_goes p ends y at there low (party_event.OfClient e) event (outcome.OfClient (Err fault)) came come named mine = still (AtClient (client_at setup choose p.place y)) at (party_event.OfClient e) event (outcome.OfClient (Err fault)) came refl refl
+      client_goes p ends y at there low (party_event.OfSite e) event outcome.Stray came come named mine = still (AtClient (client_at setup choose p.place y)) at (party_event.OfSite e) event outcome.Stray came refl refl
+      client_goes p ends y at there low (party_event.OfNode e) event outcome.Stray came come named mine = still (AtClient (client_at setup choose p.place y)) at (party_event.OfNode e) event outcome.Stray came refl refl
       client_goes p ends y at there low v event o came come named mine = absurd come
 
       -- what comes to a client is addressed to it
@@ -392,7 +377,7 @@ module _ (setup : Setup) (choose : Choice Cmd) where
       pub takes_next : Comes (state_of closed run k) r.event r.outcome → (delivers r.event ≡ None) ⊎ (is_for c.end r.event ≡ true) → Names bank.post number r.event → Goes (move_of c.number r number)
       takes_next come comes_here named = by_kind c.end refl (a.there k c is)
         where
-          by_kind : (e : Party) → c.end ≡ e → IsThere bank e (state_of closed run k) → Goes (move_of c.number r number)
+          by_kind : (e : Party) → c.end ≡ e → IsThere setup choose bank e (state_of closed run k) → Goes (move_of c.number r number)
           by_kind (party_of.Site p) ends th =
               subst (λ (n : ℕ). Goes (move_by n r.event r.outcome number)) (sym ((all k c is).number ∙ ap number_of ends))
               (site_goes p ends th.0 th.1 th.2 r.event refl r.outcome refl (subst (λ (x : PartyState). Comes x r.event r.outcome) th.1 come) named)

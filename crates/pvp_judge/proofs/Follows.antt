@@ -1,5 +1,6 @@
 -- A world that goes through the merged list beside the actors: it takes each event that can come, or memory is refused.
-use Rattle.std.proofs.Common.{◌≡◌, ◌⊎◌, ℕ, zero, suc, ◌+◌, ◌*◌, ◌<◌, ◌≤◌, List, [], ◌∷◌, ◌++◌, length, map, slice_get, true, Option, Some, None, refl, sym, ap, subst, ◌∙◌, arith}
+use Rattle.std.proofs.Common.{◌≡◌, ◌⊎◌, ℕ, zero, suc, ◌+◌, ◌*◌, ◌<◌, ◌≤◌, ◌↔◌, Bool, List, [], ◌∷◌, ◌++◌, length, map, slice_get, true, Option, Some, None, refl, sym, ap, subst, ◌∙◌, arith}
+use Rattle.std.specs.Prelude.{IsTrue}
 use Rattle.pvp_types.specs.declared.setup.Setup.{Setup}
 use Rattle.pvp_types.specs.declared.command.Cmd.{Cmd}
 use Rattle.pvp_types.specs.Setup.{IsValid, faults}
@@ -18,7 +19,6 @@ use Rattle.headline.specs.Legal.{IsRun, Leads, LegalList}
 use Rattle.headline.proofs.Basics.{none-some, some-same}
 use Rattle.pvp_world.specs.World.{Shown, ShowsBank, IsProved}
 use Rattle.pvp_world.specs.Steps.{Moves, AreReliable}
-use Rattle.pvp_world.specs.Refusals.{IsAllowed}
 use Rattle.pvp_world.specs.Client as client
 use Rattle.pvp_world.proofs.Refused.{within}
 use Rattle.pvp_world.proofs.Allowed.{shows-other}
@@ -30,18 +30,18 @@ use Rattle.pvp_parties.specs.declared.party.PartyOf.TheVariants as party_of
 use Rattle.pvp_parties.specs.declared.party.PartyEvent.{PartyEvent}
 use Rattle.pvp_parties.specs.declared.party.PartyOutcome.{PartyOutcome}
 use Rattle.pvp_parties.specs.Made.{memory}
-use Rattle.pvp_parties.specs.Parties.{PartyState, Comes, after, delivers, is_for, number_of}
-use Rattle.pvp_judge.specs.Judged.{Left, openings, ShowsState, AreReplayed}
+use Rattle.pvp_parties.specs.Parties.{PartyState, Comes, Reads, after, delivers, is_for, number_of}
+use Rattle.pvp_judge.specs.Judged.{Left, openings, ShowsState, AreReplayed, ReadsWorld}
+use Rattle.pvp_judge.specs.Coming.{node_at, client_at, IsThere, ComesSo}
 use Rattle.pvp_judge.specs.Moves.{move_of}
 use Rattle.pvp_judge.specs.Retold.{Names, GoesBy}
 use Rattle.pvp_judge.specs.Banked.{AreOfBank, OpenedOver, HasPlace, OpensInOrder}
-use Rattle.pvp_judge.proofs.Agrees.{node_at, client_at, opened, openings_are, start_in, start_of, number_is, IsThere, Agrees, Goes, takes_next}
+use Rattle.pvp_judge.proofs.Ends.{IsOfKind, there_kind, reads_world, reads_replay}
+use Rattle.pvp_judge.proofs.Agrees.{opened, openings_are, start_in, start_of, number_is, Agrees, Goes, takes_next}
 
-module _ (setup : Setup) (closed : List Left) where
-  -- a world of this setup, over cells no save of which fails, that went through a run as the actors did
+module _ (setup : Setup) (closed : List Left) (choose : Choice Cmd) (right : IsRight (faults setup) choose) where
+  -- a world of this setup, over cells no save of which fails, that went through a run as the actors did by this choice
   pub record Follows (run : List (Tagged PartyEvent PartyOutcome)) (world : Shown MemCell) : Type 0 where
-    pub choose : Choice Cmd
-    pub right : IsRight (faults setup) choose
     pub bank : Bank
     pub agrees : Agrees setup choose closed world.opening run world.trail bank
     pub made : world.setup ≡ setup
@@ -71,7 +71,7 @@ module _ (setup : Setup) (closed : List Left) where
     client_there zero low = refl
     client_there (suc i) low = same_all opening_client setup.members i (omega arith)
 
-    opens_there : (k : ℕ) (c : Left) → slice_get closed k ≡ Some c → (e : Party) → c.end ≡ e → (over : Option Boot) → c.opening ≡ over → OpenedOver e over → HasPlace setup e → IsThere setup list.choose first e (opened setup list.choose e over)
+    opens_there : (k : ℕ) (c : Left) → slice_get closed k ≡ Some c → (e : Party) → c.end ≡ e → (over : Option Boot) → c.opening ≡ over → OpenedOver e over → HasPlace setup e → IsThere setup choose first e (opened setup choose e over)
     opens_there k c is (party_of.Site p) ends (Some boot) over by place = (
       opening_site (faults setup) boot,
       refl,
@@ -86,15 +86,13 @@ module _ (setup : Setup) (closed : List Left) where
 
     pub follows_none : Follows [] world
     follows_none = record {
-      choose = list.choose;
-      right = subst (λ (s : Setup). IsRight (faults s) list.choose) made list.right;
       bank = first;
       agrees = record {
         legal = record {
           all = ap length (sym proved.is_at.cells) ∙ list.legal.all ∙ ap (λ (s : Setup). 2 * faults s + 1) made;
-          run = subst (λ (ms : List Move). IsRun setup list.choose (faults setup) first ms first) (sym nothing) refl;
+          run = subst (λ (ms : List Move). IsRun setup choose (faults setup) first ms first) (sym nothing) refl;
         };
-        there = λ k c is. subst (λ (o : Option Left). IsThere setup list.choose first c.end (start_in setup list.choose o)) (sym is) (opens_there k c is c.end refl c.opening refl (all k c is).opened (all k c is).place);
+        there = λ k c is. subst (λ (o : Option Left). IsThere setup choose first c.end (start_in setup choose o)) (sym is) (opens_there k c is c.end refl c.opening refl (all k c is).opened (all k c is).place);
         post = refl;
       };
       made = made;
@@ -110,8 +108,8 @@ module _ (setup : Setup) (closed : List Left) where
     abbrev mine : LegalList setup (faults setup)
     mine = record {
       valid = subst (λ (s : Setup). IsValid s) p.made p.proved.is_at.list.valid;
-      choose = p.choose;
-      right = p.right;
+      choose = choose;
+      right = right;
       cells = world.opening;
       moves = world.trail;
       bank = p.bank;
@@ -123,40 +121,32 @@ module _ (setup : Setup) (closed : List Left) where
         subst (λ (s : Setup). (l : LegalList s (faults s)) → l.cells ≡ world.opening → l.moves ≡ world.trail → ShowsBank held_by world l.bank) p.made
         (λ l cells moves. shows-other held_by one_bank world p.proved.is_at l cells moves) mine refl refl
 
-    abbrev allowed_in : Setup → Move → Type 0
-    allowed_in s move = (l : LegalList s (faults s)) × (l.cells ≡ world.opening) × (l.moves ≡ world.trail) × (later : Bank) × Leads s l.choose (faults s) l.bank move later
-
-    allowed_is : (move : Move) → allowed_in world.setup move → IsAllowed world move
-    allowed_is move a = record { list = a.0; cells = a.1; moves = a.2; after = a.3; leads = a.4 }
+    -- whether an event comes out so is told of the state to which this choice leads
+    pub told_here : (k : ℕ) (c : Left) → slice_get closed k ≡ Some c → (r : Recorded PartyEvent PartyOutcome) (can : Bool) → ComesSo world c.end r can → IsTrue can ↔ Comes (replay after (own run k) (start_of setup choose closed k)) r.event r.outcome
+    told_here k c is r can so =
+        subst (λ (s : Setup). (l : LegalList s (faults s)) → l.cells ≡ world.opening → l.moves ≡ world.trail → (x : PartyState) → IsThere s l.choose l.bank c.end x → IsTrue can ↔ Comes x r.event r.outcome) p.made
+        so mine refl refl (replay after (own run k) (start_of setup choose closed k)) (p.agrees.there k c is)
 
     module _ (k : ℕ) (c : Left) (is : slice_get closed k ≡ Some c) (r : Recorded PartyEvent PartyOutcome) (number : ℕ)
-        (come : Comes (replay after (own run k) (start_of setup p.choose closed k)) r.event r.outcome) (here : (delivers r.event ≡ None) ⊎ (is_for c.end r.event ≡ true)) (named : Names world.post number r.event) where
+        (come : Comes (replay after (own run k) (start_of setup choose closed k)) r.event r.outcome) (here : (delivers r.event ≡ None) ⊎ (is_for c.end r.event ≡ true)) (named : Names world.post number r.event) where
       abbrev pub next : List (Tagged PartyEvent PartyOutcome)
       next = record { by = k; what = r } ∷ run
 
-      goes : Goes setup p.choose closed order all world.opening run world.trail p.bank p.agrees k c is r (move_of c.number r number)
-      goes = takes_next setup p.choose closed order all world.opening run world.trail p.bank p.agrees k c is r number come here (subst (λ (post : List Envelope). Names post number r.event) shows_bank.post named)
+      goes : Goes setup choose closed order all world.opening run world.trail p.bank p.agrees k c is r (move_of c.number r number)
+      goes = takes_next setup choose closed order all world.opening run world.trail p.bank p.agrees k c is r number come here (subst (λ (post : List Envelope). Names post number r.event) shows_bank.post named)
 
       goes_by : (move : Move) → move_of c.number r number ≡ Some move
-          → (later : Bank) × Leads setup p.choose (faults setup) p.bank move later × Agrees setup p.choose closed world.opening next (world.trail ++ move ∷ []) later
-      goes_by move e = subst (λ (o : Option Move). Goes setup p.choose closed order all world.opening run world.trail p.bank p.agrees k c is r o) e goes
-
-      -- the world may take the event's move
-      pub may_take : (move : Move) → move_of c.number r number ≡ Some move → IsAllowed world move
-      may_take move e =
-          let g = goes_by move e in
-          allowed_is move (subst (λ (s : Setup). allowed_in s move) (sym p.made) (mine, refl, refl, g.0, g.1))
+          → (later : Bank) × Leads setup choose (faults setup) p.bank move later × Agrees setup choose closed world.opening next (world.trail ++ move ∷ []) later
+      goes_by move e = subst (λ (o : Option Move). Goes setup choose closed order all world.opening run world.trail p.bank p.agrees k c is r o) e goes
 
       -- and when it took it, it is where the actors are
       took : (move : Move) → move_of c.number r number ≡ Some move → (new : Shown MemCell) → Moves held_by world new move → IsProved held_by new → AreReliable memory new → Follows next new
       took move e new moves proved reliable =
           let g = goes_by move e in
           record {
-            choose = p.choose;
-            right = p.right;
             bank = g.0;
-            agrees = subst (λ (cells : List Boot). Agrees setup p.choose closed cells next new.trail g.0) (sym moves.opening)
-                (subst (λ (trail : List Move). Agrees setup p.choose closed world.opening next trail g.0) (sym moves.trail) g.2);
+            agrees = subst (λ (cells : List Boot). Agrees setup choose closed cells next new.trail g.0) (sym moves.opening)
+                (subst (λ (trail : List Move). Agrees setup choose closed world.opening next trail g.0) (sym moves.trail) g.2);
             made = moves.setup ∙ p.made;
             proved = proved;
             reliable = reliable;
@@ -164,12 +154,10 @@ module _ (setup : Setup) (closed : List Left) where
 
       took_none : move_of c.number r number ≡ None → (new : Shown MemCell) → new ≡ world → IsProved held_by new → AreReliable memory new → Follows next new
       took_none e new same proved reliable =
-          let g : Agrees setup p.choose closed world.opening next world.trail p.bank = subst (λ (o : Option Move). Goes setup p.choose closed order all world.opening run world.trail p.bank p.agrees k c is r o) e goes in
+          let g : Agrees setup choose closed world.opening next world.trail p.bank = subst (λ (o : Option Move). Goes setup choose closed order all world.opening run world.trail p.bank p.agrees k c is r o) e goes in
           record {
-            choose = p.choose;
-            right = p.right;
             bank = p.bank;
-            agrees = subst (λ (w : Shown MemCell). Agrees setup p.choose closed w.opening next w.trail p.bank) (sym same) g;
+            agrees = subst (λ (w : Shown MemCell). Agrees setup choose closed w.opening next w.trail p.bank) (sym same) g;
             made = ap (λ (w : Shown MemCell). w.setup) same ∙ p.made;
             proved = proved;
             reliable = reliable;
@@ -189,7 +177,7 @@ module _ (setup : Setup) (closed : List Left) where
       shown = shows_bank
 
       -- the world's actor is where the bank's is
-      shows_by : (e : Party) (x : PartyState) → HasPlace setup e → IsThere setup p.choose p.bank e x → ShowsState world (number_of e) x
+      shows_by : (e : Party) (x : PartyState) → HasPlace setup e → IsThere setup choose p.bank e x → ShowsState world (number_of e) x
       shows_by (party_of.Site q) x place there =
           let v = within p.bank.sites world.sites q.place there.0 (sym shown.sites.count) there.2 in
           let is = shown.sites.each q.place v.0 there.0 v.1 there.2 in
@@ -197,7 +185,7 @@ module _ (setup : Setup) (closed : List Left) where
             v.0,
             ap (λ (i : ℕ). slice_get world.sites i) (omega arith) ∙ v.1,
             record {
-              is = record { f = sym (is.f ∙ ap faults p.made); me = sym is.me; start = ap opening (sym (is.made_from ∙ p.made)); right = p.right };
+              is = record { f = sym (is.f ∙ ap faults p.made); me = sym is.me; start = ap opening (sym (is.made_from ∙ p.made)); right = right };
               acks = is.acks;
               site = is.site;
             },
@@ -205,21 +193,30 @@ module _ (setup : Setup) (closed : List Left) where
       shows_by (party_of.Node q) x place there =
           let v = within p.bank.nodes world.nodes q.place there.0 (sym shown.nodes.count) there.2 in
           let is = shown.nodes.each q.place v.0 there.0 v.1 there.2 in
-          let same : v.0 ≡ node_at setup p.choose q.place there.0 = is ∙ ap (λ (s : Setup). record { setup = s; ccy = q.place; node = there.0 }) p.made in
+          let same : v.0 ≡ node_at setup choose q.place there.0 = is ∙ ap (λ (s : Setup). record { setup = s; ccy = q.place; node = there.0 }) p.made in
           subst (λ (y : PartyState). ShowsState world (number_of {B = MemCell} (party_of.Node q)) y) (sym there.1)
           (ap (λ (i : ℕ). slice_get world.nodes i) (number_is q.place place.1) ∙ v.1 ∙ ap (λ (u : node.Shown). Some u) same)
       shows_by (party_of.Client q) x place there =
           let v = within p.bank.clients world.clients q.place there.0 (sym shown.clients.count) there.2 in
           let is = shown.clients.each q.place v.0 there.0 v.1 there.2 in
-          let same : v.0 ≡ client_at setup p.choose q.place there.0 = is ∙ ap (λ (s : Setup). record { f = faults s; me = q.place; client = there.0 }) p.made in
+          let same : v.0 ≡ client_at setup choose q.place there.0 = is ∙ ap (λ (s : Setup). record { f = faults s; me = q.place; client = there.0 }) p.made in
           subst (λ (y : PartyState). ShowsState world (number_of {B = MemCell} (party_of.Client q)) y) (sym there.1) (v.1 ∙ ap (λ (u : client.Shown). Some u) same)
 
       pub replayed : AreReplayed closed world
       replayed = record {
-        start = start_of setup p.choose closed;
-        opens = openings_are setup p.choose p.right closed all;
+        start = start_of setup choose closed;
+        opens = openings_are setup choose right closed all;
         shown = λ k c is.
-            subst (λ (n : ℕ). ShowsState world n (replay after c.history.items (start_of setup p.choose closed k))) (sym (all k c is).number)
-            (subst (λ (l : List (Recorded PartyEvent PartyOutcome)). ShowsState world (number_of c.end) (replay after l (start_of setup p.choose closed k))) (each k ∙ ap history_in is)
-            (shows_by c.end (replay after (own run k) (start_of setup p.choose closed k)) (all k c is).place (p.agrees.there k c is)));
+            subst (λ (n : ℕ). ShowsState world n (replay after c.history.items (start_of setup choose closed k))) (sym (all k c is).number)
+            (subst (λ (l : List (Recorded PartyEvent PartyOutcome)). ShowsState world (number_of c.end) (replay after l (start_of setup choose closed k))) (each k ∙ ap history_in is)
+            (shows_by c.end (replay after (own run k) (start_of setup choose closed k)) (all k c is).place (p.agrees.there k c is)));
       }
+
+      -- an end reads like the replay of its history exactly where it reads like the world's actor
+      pub reads_same : (k : ℕ) (c : Left) → slice_get closed k ≡ Some c → Reads memory c.end (replay after c.history.items (start_of setup choose closed k)) ↔ ReadsWorld world c.number c.end
+      unfolding replayed
+      reads_same k c is =
+          let x = replay after c.history.items (start_of setup choose closed k) in
+          let kind : IsOfKind c.end x = subst (λ (l : List (Recorded PartyEvent PartyOutcome)). IsOfKind c.end (replay after l (start_of setup choose closed k))) (each k ∙ ap history_in is)
+          (there_kind setup choose p.bank c.end (replay after (own run k) (start_of setup choose closed k)) (p.agrees.there k c is)) in
+          (reads_world world c.number c.end x (replayed.shown k c is), reads_replay world c.number c.end x (replayed.shown k c is) kind)

@@ -2,8 +2,8 @@
 mod Telling
 -- what sites opened over, one actor further
 pub mod Furthers
--- a merged list of first events ends the merged list of all
-mod Endings
+-- lists with one item more
+mod Lists
 -- a bank that goes through the merged list beside the actors
 mod Agrees
 -- a world that goes through the merged list beside the actors
@@ -14,7 +14,16 @@ mod Noting
 mod Numbering
 -- what is delivered was sent before, and has the number that is found for it
 mod Naming
--- a world that takes the merged list again
-mod Retelling
+-- a world that takes the merged list
+mod Passing
+-- what a judgement says
+mod Judging
 -- ends that read like where the histories lead
 mod Ends
+-- what a world does with a step
+mod Asked
+-- the envelopes that a world posted
+mod Posted
+-- whether an event comes out at an actor as it is recorded
+mod Taking
+mod ByKind

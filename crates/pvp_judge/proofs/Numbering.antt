@@ -19,7 +19,7 @@ get_left [] ys i x is = cc
 get_left (z ∷ zs) ys zero x is = is
 get_left (z ∷ zs) ys (suc i) x is = get_left zs ys i x is
 
-get_right : {X : Type 0} (xs ys : List X) (i n : ℕ) → n ≡ length xs + i → slice_get (xs ++ ys) n ≡ slice_get ys i
+pub get_right : {X : Type 0} (xs ys : List X) (i n : ℕ) → n ≡ length xs + i → slice_get (xs ++ ys) n ≡ slice_get ys i
 get_right [] ys i n e = ap (slice_get ys) (omega (arith, e))
 get_right (z ∷ zs) ys i zero e = absurd (omega (arith, e))
 get_right (z ∷ zs) ys i (suc n) e = get_right zs ys i n (omega (arith, e))

@@ -3,11 +3,13 @@ ghost use Rattle.std.specs.Prelude.{◌≡◌, IfOk, IfErr};
 ghost use Rattle.pvp_types.specs.Setup.{IsValid};
 ghost use Rattle.pvp_audit.specs.Verdicts.{ClocksRise, IsOfRun, IsOfTest};
 ghost use Rattle.pvp_judge.specs.Banked.{IsTheBank};
-ghost use Rattle.pvp_judge.specs.Judged.{AreOneRun, IsTakenAgain, Judges, JudgesRun, TellsWhy};
+ghost use Rattle.pvp_judge.specs.Judged.{Judges, JudgesRun, TellsWhy};
+ghost use Rattle.pvp_judge.specs.Passed.{EndsSo, PassesSo};
 
 use crate::fitting::{cells_of, is_the_bank};
-use crate::replay::retell;
-use pvp_audit::{Verdict, Why, run_of, verdict_of};
+use crate::pass::{Passed, pass};
+use crate::reading::first_unlike;
+use pvp_audit::{Why, first_alone, first_clock};
 use pvp_parties::Party;
 use pvp_rooms::Closed;
 use pvp_types::Setup;
@@ -30,8 +32,8 @@ pub enum Judgement {
 pub struct NotTheBank;
 
 /// Judges what all actors of a bank left, in order of their numbers: whether it is one run of them all, with a receipt of
-/// each event, or which test fails first (`pvp_audit` has their order). A run is taken again in a new world, which follows
-/// it to its end, and of which the headline holds. `No` with `NoMemory` where `judgement_of` answers `Err`; and `Err` where
+/// each event, or which test fails first (`pvp_audit` has their order). All events go through one new world, and of a run
+/// that world is handed out, of which the headline holds. `No` with `NoMemory` where `judgement_of` answers `Err`; and `Err` where
 /// these are not the bank's actors.
 pub fn judge(
     alloc: Global,
@@ -63,9 +65,12 @@ pub fn judgement_of(
     ensures judges { IfOk result (Judges setup.now closed.now) }
     ensures tests { IfOk result (TellsWhy IsOfTest) }
 {
-    match verdict_of(alloc, closed)? {
-        Verdict::No { actor, event, why } => Ok(Judgement::No { actor, event, why }),
-        Verdict::Yes => Ok(Judgement::Yes(taken_again(alloc, setup, closed)?)),
+    if let Some((actor, event, why)) = first_alone(alloc, closed)? {
+        return Ok(Judgement::No { actor, event, why });
+    }
+    match one_pass(alloc, setup, closed)? {
+        Passed::Failed { actor, event, why } => Ok(Judgement::No { actor, event, why }),
+        Passed::All(world) => Ok(ended(closed, world)),
     }
 }
 
@@ -81,28 +86,46 @@ pub fn judge_run(
     ensures judges { IfOk result (JudgesRun setup.now closed.now) }
     ensures tests { IfOk result (TellsWhy IsOfRun) }
 {
-    if let Verdict::No { actor, event, why } = run_of(alloc, closed)? {
-        return Ok(Judgement::No { actor, event, why });
+    if let Some((actor, event)) = first_clock(closed) {
+        return Ok(Judgement::No {
+            actor,
+            event,
+            why: Why::Clock,
+        });
     }
-    Ok(Judgement::Yes(taken_again(alloc, setup, closed)?))
+    match one_pass(alloc, setup, closed)? {
+        Passed::Failed { actor, event, why } => Ok(Judgement::No { actor, event, why }),
+        Passed::All(world) => {
+            world.is_proved();
+            Ok(Judgement::Yes(world))
+        }
+    }
 }
 
-/// The world that takes a run of the bank's actors again. `Err` where memory is refused.
-fn taken_again(
-    alloc: Global,
-    setup: &Setup,
-    closed: &[Closed<Party>],
-) -> Result<World<MemCell>, AllocError>
+/// The pass of all events through one new world, over what the sites opened over. `Err` where memory is refused.
+fn one_pass(alloc: Global, setup: &Setup, closed: &[Closed<Party>]) -> Result<Passed, AllocError>
     requires valid { IsValid setup.now }
     requires bank { IsTheBank setup.now closed.now }
     requires clocks { ClocksRise closed.now }
-    requires run { AreOneRun closed.now }
-    ensures { IfOk result (IsTakenAgain setup.now closed.now) }
+    ensures { IfOk result (PassesSo setup.now closed.now) }
 {
     let cells = cells_of(alloc, closed)?;
-    let world = retell(alloc, setup, closed, cells)?;
+    pass(alloc, setup, closed, cells)
+}
+
+/// What is said where all events passed through a world: whether each end reads like that world's actor.
+fn ended(closed: &[Closed<Party>], world: World<MemCell>) -> Judgement
+    ensures { EndsSo closed.now world result }
+{
     world.is_proved();
-    Ok(world)
+    match first_unlike(&world, closed) {
+        None => Judgement::Yes(world),
+        Some(place) => Judgement::No {
+            actor: closed[place].number,
+            event: 0,
+            why: Why::End,
+        },
+    }
 }
 
 /// What is said where memory is refused.

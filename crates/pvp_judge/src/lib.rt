@@ -1,12 +1,14 @@
-//! The audit of a whole bank: what its actors left, judged as one run, and that run taken again in one world, of which the
-//! headline holds.
+//! The audit of a whole bank: one pass of all that its actors took through one world, of which the headline holds.
 #![tactic(auto)]
 
+mod asking;
+mod coming;
 mod fitting;
 pub mod judgement;
 mod moves;
 mod numbers;
-mod replay;
+mod pass;
+mod reading;
 mod setups;
 
 pub use fitting::actor_count;

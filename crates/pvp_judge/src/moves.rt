@@ -39,7 +39,7 @@ pub fn move_of(
 }
 
 /// The step that an event of a site is.
-fn site_step(actor: u16, event: &Event<Book>, number: usize) -> Step
+pub fn site_step(actor: u16, event: &Event<Book>, number: usize) -> Step
     ensures { result ≡ site_step actor event.now number }
 {
     let site = actor.saturating_sub(FIRST_SITE);
@@ -53,7 +53,7 @@ fn site_step(actor: u16, event: &Event<Book>, number: usize) -> Step
 }
 
 /// The step that an event of a node is.
-fn node_step(actor: u16, event: &NodeEvent, number: usize) -> Step
+pub fn node_step(actor: u16, event: &NodeEvent, number: usize) -> Step
     ensures { result ≡ node_step actor event.now number }
 {
     let ccy = currency_of(actor);
@@ -73,7 +73,7 @@ fn node_step(actor: u16, event: &NodeEvent, number: usize) -> Step
 }
 
 /// The step that an event of a client is.
-fn client_step(actor: u16, event: &ClientEvent, number: usize) -> Step
+pub fn client_step(actor: u16, event: &ClientEvent, number: usize) -> Step
     ensures { result ≡ client_step actor event.now number }
 {
     match event {
@@ -87,7 +87,7 @@ fn client_step(actor: u16, event: &ClientEvent, number: usize) -> Step
 }
 
 /// The currency of a node's number.
-fn currency_of(number: u16) -> u8
+pub fn currency_of(number: u16) -> u8
     ensures { result ≡ min (number - 101) 255 }
 {
     u8::try_from(number.saturating_sub(FIRST_NODE)).unwrap_or(u8::MAX)

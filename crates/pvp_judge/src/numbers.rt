@@ -11,7 +11,7 @@ use pvp_wire::Stamp;
 use std::alloc::{AllocError, Global};
 use std::marker::Model;
 
-/// Of each actor and each event that was taken again, the number of the first envelope that it sent.
+/// Of each actor and each event that the world took, the number of the first envelope that it sent.
 #[derive(Drop)]
 pub struct Numbers {
     firsts: Vec<Vec<usize>>,

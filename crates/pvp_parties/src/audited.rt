@@ -10,7 +10,7 @@ use crate::told::{
 use pvp_audit::Audited;
 use pvp_book::Book;
 use std::alloc::{AllocError, Global};
-use vr_types::{Boot, is_same_envelope};
+use vr_types::is_same_envelope;
 
 impl Audited for Party {
     ghost use Rattle.rtgs_node.specs.Node.{Envelope};
@@ -23,20 +23,6 @@ impl Audited for Party {
     ghost sent = { sent };
 
     ghost is_for = { is_for };
-
-    fn reopen(&self, alloc: Global, opening: Option<Boot>) -> Result<Self, AllocError> {
-        Ok(match self {
-            PartyOf::Site(site) => {
-                let boot = match opening {
-                    Some(boot) => boot,
-                    None => Boot::new(),
-                };
-                PartyOf::Site(site.reopened(alloc, boot)?)
-            }
-            PartyOf::Node(node) => PartyOf::Node(node.reopened(alloc)?),
-            PartyOf::Client(client) => PartyOf::Client(client.reopened()?),
-        })
-    }
 
     fn follow(
         &mut self,
@@ -102,15 +88,6 @@ impl Audited for Party {
     fn is_sent(event: &PartyEvent, outcome: &PartyOutcome, at: usize) -> bool {
         match (letter_of(event), letter_at(outcome, at)) {
             (Some(letter), Some(found)) => is_same_envelope::<Book>(letter, found),
-            _ => false,
-        }
-    }
-
-    fn is_like(&self, other: &Party) -> bool {
-        match (self, other) {
-            (PartyOf::Site(a), PartyOf::Site(b)) => a.is_like(b),
-            (PartyOf::Node(a), PartyOf::Node(b)) => a.is_like(b),
-            (PartyOf::Client(a), PartyOf::Client(b)) => a.is_like(b),
             _ => false,
         }
     }

@@ -1,5 +1,5 @@
 //! An actor of each kind, with what it was made from.
-ghost use Rattle.std.specs.Prelude.{◌≡◌, ◌*◌, ◌<◌, ◌≤◌, ◌↔◌, IsTrue, length, IfOk, OnErr};
+ghost use Rattle.std.specs.Prelude.{◌≡◌, ◌*◌, ◌<◌, ◌≤◌, length, IfOk, OnErr};
 ghost use Rattle.pvp_audit.specs.Runs.{Follows};
 ghost use Rattle.pvp_types.specs.Setup.{IsValid, faults};
 ghost use Rattle.pvp_book.specs.Ledger.{Ledger, node_of};
@@ -10,11 +10,9 @@ ghost use Rattle.pvp_rooms.specs.Histories.{Takes};
 ghost use Rattle.pvp_rooms.specs.Nodes as nodes;
 ghost use Rattle.pvp_rooms.specs.Clients as clients;
 ghost use Rattle.pvp_rooms.specs.Sites as sites;
-ghost use Rattle.pvp_parties.specs.Alike.{AreAlikeSites};
 ghost use Rattle.pvp_parties.specs.Made.{memory, made_site, made_node, made_client, made_over};
 
 use crate::follow::{follow_client, follow_node, follow_site};
-use crate::like::{are_alike_clients, are_alike_nodes, are_alike_sites};
 use headline::{ClientEvent, ClientFault};
 use pvp_book::{Book, node_of};
 use pvp_rooms::{Actor, Came, Copies, Told};
@@ -127,14 +125,6 @@ impl<C: BootCell> SiteParty<C> {
 }
 
 impl SiteParty<MemCell> {
-    /// The same site as it opened over this.
-    pub fn reopened(&self, alloc: Global, boot: Boot) -> Result<Self, AllocError>
-        ensures { IfOk result (λ made. (x : sites.SiteState Ledger AnyCmd) →
-            sites.Opens book (made_site self.now) boot x → sites.Shows book memory made.now x) }
-    {
-        SiteParty::new(alloc, &self.setup, self.me, MemCell::of(boot))
-    }
-
     /// Takes an event that came out so, and says whether it can. After `Err` or a no it may only be dropped.
     pub fn follow(
         &mut self,
@@ -147,13 +137,6 @@ impl SiteParty<MemCell> {
         ensures kept { self.new ≡ record self.old { now = self.new.now } }
     {
         follow_site(&mut self.site, alloc, event, came)
-    }
-
-    /// Whether the reading calls of this site and of another show the same.
-    pub fn is_like(&self, other: &SiteParty<MemCell>) -> bool
-        ensures { IsTrue result ↔ AreAlikeSites self.now.now other.now.now }
-    {
-        are_alike_sites(&self.site, &other.site)
     }
 }
 
@@ -192,13 +175,6 @@ impl NodeParty {
             ccy,
             node: Node::new(alloc, setup, ccy)?,
         })
-    }
-
-    /// The same node as it opened.
-    pub fn reopened(&self, alloc: Global) -> Result<Self, AllocError>
-        ensures { IfOk result (λ made. nodes.Opens (made_node self.now) made.now) }
-    {
-        NodeParty::new(alloc, &self.setup, self.ccy)
     }
 
     /// Its number as an actor.
@@ -252,13 +228,6 @@ impl NodeParty {
     {
         &self.node
     }
-
-    /// Whether the reading calls of this node and of another show the same.
-    pub fn is_like(&self, other: &NodeParty) -> bool
-        ensures { IsTrue result ↔ nodes.Reads self.now.now other.now.now }
-    {
-        are_alike_nodes(&self.node, &other.node)
-    }
 }
 
 /// A client of the bank.
@@ -296,13 +265,6 @@ impl ClientParty {
             number,
             client: Client::new(setup, number),
         })
-    }
-
-    /// The same client as it opened.
-    pub fn reopened(&self) -> Result<Self, AllocError>
-        ensures { IfOk result (λ made. clients.Opens (made_client self.now) made.now) }
-    {
-        ClientParty::new(&self.setup, self.number)
     }
 
     /// Its number as an actor.
@@ -355,12 +317,5 @@ impl ClientParty {
         ensures { result.now ≡ self.now.now }
     {
         &self.client
-    }
-
-    /// Whether the reading calls of this client and of another show the same.
-    pub fn is_like(&self, other: &ClientParty) -> bool
-        ensures { IsTrue result ↔ clients.Reads self.now.now other.now.now }
-    {
-        are_alike_clients(&self.client, &other.client)
     }
 }

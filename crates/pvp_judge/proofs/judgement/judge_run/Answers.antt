@@ -1,16 +1,8 @@
 use Rattle.std.proofs.Common.{subst}
-use Rattle.pvp_audit.specs.declared.verdict.Verdict.{Verdict}
-use Rattle.pvp_judge.specs.Judged.{IsRightOfRun}
+use Rattle.pvp_judge.specs.Passed.{PassesSo}
+use Rattle.pvp_judge.proofs.Judging.{passed_run}
 use Rattle.pvp_judge.proofs.judgement.judge_run.Goals as goal
 
-pub returns-in-No-clause-judges : goal.returns-in-No-clause-judges
-returns-in-No-clause-judges c = subst (λ (v : Verdict). IsRightOfRun c.args.closed.now v) c.in-No.is c.in_ok-actor.ensures.means
-
-pub taken_again-requires-clause-run : goal.taken_again-requires-clause-run
-taken_again-requires-clause-run c = subst (λ (v : Verdict). IsRightOfRun c.args.closed.now v) c.in_default.is c.in_ok-actor.ensures.means
-
-pub returns-clause-judges : goal.returns-clause-judges
-returns-clause-judges c = record {
-  run = subst (λ (v : Verdict). IsRightOfRun c.args.closed.now v) c.in_default.is c.in_ok-actor.ensures.means;
-  again = c.in_ok-taken_again.ensures;
-}
+pub returns-in-All-clause-judges : goal.returns-in-All-clause-judges
+returns-in-All-clause-judges c =
+    passed_run c.args.closed.now c.args.setup.now c.in-All.world (subst (PassesSo c.args.setup.now c.args.closed.now) c.in-All.is c.in_ok-actor.ensures) c.in_default.ensures.none c.is_proved.ensures

@@ -1,21 +1,14 @@
-use Rattle.std.proofs.Common.{subst}
-use Rattle.pvp_audit.specs.declared.verdict.Verdict.{Verdict}
-use Rattle.pvp_judge.specs.Judged.{IsRightVerdict, AreSound}
-use Rattle.pvp_judge.proofs.Ends.{ends_agree}
+use Rattle.std.proofs.Common.{IfNone, subst}
+use Rattle.pvp_audit.specs.Verdicts.{HoldOfAll, IsAlone}
+use Rattle.pvp_judge.specs.Passed.{PassesSo}
+use Rattle.pvp_judge.proofs.Judging.{ended_means}
 use Rattle.pvp_judge.proofs.judgement.judgement_of.Goals as goal
 
-pub taken_again-requires-clause-clocks : goal.taken_again-requires-clause-clocks
-taken_again-requires-clause-clocks c = λ j d is. (c.in_ok-actor.ensures.alone c.in-Yes.is j d is).clocks
+pub one_pass-requires-clause-clocks : goal.one_pass-requires-clause-clocks
+one_pass-requires-clause-clocks c = λ j d is. (subst (λ o. IfNone o (HoldOfAll c.args.closed.now (λ _ e. IsAlone e))) c.in_default.is c.in_ok-actor.ensures.none j d is).clocks
 
-pub taken_again-requires-clause-run : goal.taken_again-requires-clause-run
-taken_again-requires-clause-run c = λ start opens.
-    (subst (λ (v : Verdict). IsRightVerdict c.args.closed.now v) c.in-Yes.is c.in_ok-actor.ensures.means start opens).run
-
-pub returns-in-No-clause-judges : goal.returns-in-No-clause-judges
-returns-in-No-clause-judges c = subst (λ (v : Verdict). IsRightVerdict c.args.closed.now v) c.in-No.is c.in_ok-actor.ensures.means
-
-pub returns-in_ok-taken_again-in-Yes-clause-judges : goal.returns-in_ok-taken_again-in-Yes-clause-judges
-returns-in_ok-taken_again-in-Yes-clause-judges c =
-    let sound : AreSound c.args.closed.now = subst (λ (v : Verdict). IsRightVerdict c.args.closed.now v) c.in-Yes.is c.in_ok-actor.ensures.means in
-    let again = c.in_ok-taken_again-in-Yes.ensures in
-    record { sound = sound; again = again; ends = ends_agree c.args.closed.now c.in_ok-taken_again-in-Yes.field-0 again.replayed sound }
+pub returns-in-All-clause-judges : goal.returns-in-All-clause-judges
+returns-in-All-clause-judges c =
+    let closed = c.args.closed.now in
+    let alone = subst (λ o. IfNone o (HoldOfAll closed (λ _ e. IsAlone e))) c.in_default.is c.in_ok-actor.ensures.none in
+    ended_means closed c.args.setup.now c.in-All.world (subst (PassesSo c.args.setup.now closed) c.in-All.is c.in_ok-actor-2.ensures) alone c.ended.result c.ended.ensures

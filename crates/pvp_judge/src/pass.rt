@@ -1,0 +1,85 @@
+//! One pass of all events through one world.
+ghost use Rattle.std.specs.Prelude.{◌≡◌, ◌+◌, ◌*◌, ◌<◌, ◌^◌, IfOk, length, map};
+ghost use Rattle.pvp_types.specs.Setup.{IsValid, faults};
+ghost use Rattle.vr_types.specs.MemoryCell.{held_by, IsReliable};
+ghost use Rattle.pvp_audit.specs.Runs.{AreInOrder};
+ghost use Rattle.pvp_audit.specs.Verdicts.{ClocksRise};
+ghost use Rattle.pvp_judge.specs.Banked.{AreOfBank, OpensInOrder, AllAre};
+ghost use Rattle.pvp_judge.specs.Judged.{openings};
+ghost use Rattle.pvp_judge.specs.Passed.{PassesSo};
+
+use crate::coming::comes_so;
+use crate::numbers::Numbers;
+use pvp_audit::Why;
+use pvp_audit::merge::next_actor;
+use pvp_audit::receipts::zeros;
+use pvp_audit::sent::is_named;
+use pvp_parties::Party;
+use pvp_rooms::Closed;
+use pvp_types::Setup;
+use pvp_world::World;
+use std::alloc::{AllocError, Global};
+use vr_types::MemCell;
+
+/// What became of the events of all actors.
+#[derive(Drop)]
+pub enum Passed {
+    /// Each could come so; the world that went through them.
+    All(World<MemCell>),
+    /// This event of this actor could not, counted from 1.
+    Failed { actor: u16, event: usize, why: Why },
+}
+
+/// Takes the events of all actors in one new world, by clock and then by actor number, up to the first that could not come
+/// so: what it delivers was not sent as its stamp says, or it does not come out as it is recorded. `Err` where memory is
+/// refused.
+pub fn pass(
+    alloc: Global,
+    setup: &Setup,
+    closed: &[Closed<Party>],
+    cells: Vec<MemCell>,
+) -> Result<Passed, AllocError>
+    requires valid { IsValid setup.now }
+    requires sites { length cells.items ≡ 2 * faults setup.now + 1 }
+    requires held { map held_by cells.items ≡ openings closed.now }
+    requires reliable { AllAre IsReliable cells.items }
+    requires order { AreInOrder closed.now }
+    requires bank { AreOfBank setup.now closed.now }
+    requires opened { OpensInOrder closed.now }
+    requires clocks { ClocksRise closed.now }
+    ensures { IfOk result (PassesSo setup.now closed.now) }
+{
+    headline::one_bank();
+    let mut at = zeros(alloc, closed.len())?;
+    let mut numbers = Numbers::new(alloc, closed.len())?;
+    let mut world = World::new(alloc, setup, cells)?;
+    loop {
+        let Some(k) = next_actor(closed, at.as_slice()) else {
+            return Ok(Passed::All(world));
+        };
+        let one = &closed[k];
+        let place = at[k];
+        let taken = &one.history.as_slice()[place];
+        if !is_named(closed, at.as_slice(), &one.end, taken) {
+            return Ok(failed(one.number, place, Why::Stamped));
+        }
+        let number = numbers.find(closed, taken.stamp);
+        numbers.note(k, world.post_len() + 1)?;
+        if !comes_so(alloc, &mut world, one, taken, number)? {
+            return Ok(failed(one.number, place, Why::Answered));
+        }
+        at[k] = place + 1;
+    }
+}
+
+/// What is said where the event at a place of an actor's history fails a test.
+fn failed(actor: u16, place: usize, why: Why) -> Passed
+    requires { place + 1 < 2 ^ 64 }
+    ensures { result ≡ Passed.Failed actor (place + 1) why }
+{
+    Passed::Failed {
+        actor,
+        event: place + 1,
+        why,
+    }
+}
