@@ -14,6 +14,8 @@ mod Noting
 mod Numbering
 -- what is delivered was sent before, and has the number that is found for it
 mod Naming
+-- the event that a pass takes next
+mod Turns
 -- a world that takes the merged list
 mod Passing
 -- what a judgement says

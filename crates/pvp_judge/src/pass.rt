@@ -1,5 +1,5 @@
 //! One pass of all events through one world.
-ghost use Rattle.std.specs.Prelude.{◌≡◌, ◌+◌, ◌*◌, ◌<◌, ◌^◌, IfOk, length, map};
+ghost use Rattle.std.specs.Prelude.{◌≡◌, ◌+◌, ◌*◌, IfOk, length, map};
 ghost use Rattle.pvp_types.specs.Setup.{IsValid, faults};
 ghost use Rattle.vr_types.specs.MemoryCell.{held_by, IsReliable};
 ghost use Rattle.pvp_audit.specs.Runs.{AreInOrder};
@@ -60,26 +60,22 @@ pub fn pass(
         let one = &closed[k];
         let place = at[k];
         let taken = &one.history.as_slice()[place];
+        let event = place + 1;
         if !is_named(closed, at.as_slice(), &one.end, taken) {
-            return Ok(failed(one.number, place, Why::Stamped));
+            return Ok(failed(one.number, event, Why::Stamped));
         }
         let number = numbers.find(closed, taken.stamp);
         numbers.note(k, world.post_len() + 1)?;
         if !comes_so(alloc, &mut world, one, taken, number)? {
-            return Ok(failed(one.number, place, Why::Answered));
+            return Ok(failed(one.number, event, Why::Answered));
         }
-        at[k] = place + 1;
+        at[k] = event;
     }
 }
 
-/// What is said where the event at a place of an actor's history fails a test.
-fn failed(actor: u16, place: usize, why: Why) -> Passed
-    requires { place + 1 < 2 ^ 64 }
-    ensures { result ≡ Passed.Failed actor (place + 1) why }
+/// What is said where an event of an actor fails a test.
+fn failed(actor: u16, event: usize, why: Why) -> Passed
+    ensures { result ≡ Passed.Failed actor event why }
 {
-    Passed::Failed {
-        actor,
-        event: place + 1,
-        why,
-    }
+    Passed::Failed { actor, event, why }
 }

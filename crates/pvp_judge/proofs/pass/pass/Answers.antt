@@ -1,12 +1,9 @@
-use Rattle.std.proofs.Common.{◌≡◌, ℕ, ◌<◌, ◌≤◌, ◌+◌, ◌^◌, true, false, [], ◌∷◌, ◌++◌, length, length-set, slice_index, slice_set, ◌⊎◌, None, arith, sym, subst, ap, ◌∙◌}
+use Rattle.std.proofs.Common.{◌≡◌, ◌⊎◌, ℕ, ◌<◌, ◌≤◌, ◌+◌, ◌^◌, true, false, [], ◌∷◌, ◌++◌, length, length-set, slice_index, slice_set, None, arith, sym, subst, ap, ◌∙◌}
 use Rattle.vr_types.specs.MemoryCell.{held_by}
 use Rattle.pvp_rooms.specs.declared.message.Recorded.{Recorded}
 use Rattle.pvp_audit.specs.Runs.{history_of, number_in}
 use Rattle.pvp_audit.specs.Named.{IsNamed}
-use Rattle.pvp_audit.specs.Merging.{IsNextActor}
-use Rattle.pvp_audit.proofs.Together.{stepped}
-use Rattle.pvp_audit.proofs.Looks.{history_read}
-use Rattle.pvp_audit.proofs.Grows.{left_less, next_place, event_is, zeros_none, zeros_many}
+use Rattle.pvp_audit.proofs.Grows.{zeros_none, zeros_many}
 use Rattle.pvp_parties.specs.Parties.{delivers, sent, is_for}
 use Rattle.pvp_judge.specs.Banked.{IsOfBank}
 use Rattle.pvp_judge.specs.Coming.{ComesSo}
@@ -15,6 +12,7 @@ use Rattle.pvp_judge.specs.Numbered.{noted_of, IsFound}
 use Rattle.pvp_judge.specs.Passed.{PassesSo}
 use Rattle.pvp_judge.specs.Retold.{Names, GoesBy}
 use Rattle.pvp_judge.proofs.Passing.{reliable_sites, passing_none, passing_stamped, passing_mine, passing_named, passing_answered, passing_next, passing_all, passing_made, passing_reliable}
+use Rattle.pvp_judge.proofs.Turns.{turn, place_low, event_read}
 use Rattle.pvp_judge.proofs.pass.pass.Goals as goal
 
 pub loop-k-init : goal.loop-k-init
@@ -39,120 +37,62 @@ pub offset_bounds-as_slice-place : goal.offset_bounds-as_slice-place
 offset_bounds-as_slice-place c =
     let closed = c.args.closed.now in
     let at = c.loop-k.at.items in
-    let numbers = c.loop-k.numbers in
-    let world = c.loop-k.world in
     let k = c.in-Some.k in
     let one = c.index-closed-k.result in
     let place = c.index-place.result.now in
-    let i = c.loop-k.invariant in
-    let next : IsNextActor closed at k = subst (λ l. IsNextActor closed l k) c.as_slice.ensures.value c.in-Some.ensures.some in
-    let np = next_place closed at k place one i.same next c.index-closed-k.is c.index-place.ensures in
-    let low = np.3 in
-    let n = ap length c.as_slice-in-loop-k.ensures.value in
-    omega (arith, low, n)
+    let t = turn closed at k place one c.as_slice.result.now c.as_slice.ensures.value c.loop-k.invariant.same c.in-Some.ensures.some c.index-closed-k.is c.index-place.ensures in
+    let low = place_low closed at k place one t c.as_slice-in-loop-k.result.now c.as_slice-in-loop-k.ensures.value in
+    omega (arith, low, c.as_slice-in-loop-k.ensures.len)
 
 pub bounds-as_slice-place : goal.bounds-as_slice-place
 bounds-as_slice-place c =
     let closed = c.args.closed.now in
     let at = c.loop-k.at.items in
-    let numbers = c.loop-k.numbers in
-    let world = c.loop-k.world in
     let k = c.in-Some.k in
     let one = c.index-closed-k.result in
     let place = c.index-place.result.now in
-    let i = c.loop-k.invariant in
-    let next : IsNextActor closed at k = subst (λ l. IsNextActor closed l k) c.as_slice.ensures.value c.in-Some.ensures.some in
-    let np = next_place closed at k place one i.same next c.index-closed-k.is c.index-place.ensures in
-    let low = np.3 in
-    let n = ap length c.as_slice-in-loop-k.ensures.value in
-    omega (arith, low, n)
+    let t = turn closed at k place one c.as_slice.result.now c.as_slice.ensures.value c.loop-k.invariant.same c.in-Some.ensures.some c.index-closed-k.is c.index-place.ensures in
+    place_low closed at k place one t c.as_slice-in-loop-k.result.now c.as_slice-in-loop-k.ensures.value
 
-pub failed-requires : goal.failed-requires
-failed-requires c =
+pub overflow_add-event : goal.overflow_add-event
+overflow_add-event c =
     let closed = c.args.closed.now in
     let at = c.loop-k.at.items in
-    let numbers = c.loop-k.numbers in
-    let world = c.loop-k.world in
     let k = c.in-Some.k in
     let one = c.index-closed-k.result in
     let place = c.index-place.result.now in
-    let i = c.loop-k.invariant in
-    let next : IsNextActor closed at k = subst (λ l. IsNextActor closed l k) c.as_slice.ensures.value c.in-Some.ensures.some in
-    let np = next_place closed at k place one i.same next c.index-closed-k.is c.index-place.ensures in
-    let low = np.3 in
-    let n = ap length c.as_slice-in-loop-k.ensures.value in
-    omega (arith, low, n, c.as_slice-in-loop-k.ensures.len)
-
-pub failed-requires-then-not-branch : goal.failed-requires-then-not-branch
-failed-requires-then-not-branch c =
-    let closed = c.args.closed.now in
-    let at = c.loop-k.at.items in
-    let numbers = c.loop-k.numbers in
-    let world = c.loop-k.world in
-    let k = c.in-Some.k in
-    let one = c.index-closed-k.result in
-    let place = c.index-place.result.now in
-    let i = c.loop-k.invariant in
-    let next : IsNextActor closed at k = subst (λ l. IsNextActor closed l k) c.as_slice.ensures.value c.in-Some.ensures.some in
-    let np = next_place closed at k place one i.same next c.index-closed-k.is c.index-place.ensures in
-    let low = np.3 in
-    let n = ap length c.as_slice-in-loop-k.ensures.value in
-    omega (arith, low, n, c.as_slice-in-loop-k.ensures.len)
-
-pub overflow_add-place : goal.overflow_add-place
-overflow_add-place c =
-    let closed = c.args.closed.now in
-    let at = c.loop-k.at.items in
-    let numbers = c.loop-k.numbers in
-    let world = c.loop-k.world in
-    let k = c.in-Some.k in
-    let one = c.index-closed-k.result in
-    let place = c.index-place.result.now in
-    let i = c.loop-k.invariant in
-    let next : IsNextActor closed at k = subst (λ l. IsNextActor closed l k) c.as_slice.ensures.value c.in-Some.ensures.some in
-    let np = next_place closed at k place one i.same next c.index-closed-k.is c.index-place.ensures in
-    let low = np.3 in
-    let n = ap length c.as_slice-in-loop-k.ensures.value in
-    omega (arith, low, n, c.as_slice-in-loop-k.ensures.len)
+    let t = turn closed at k place one c.as_slice.result.now c.as_slice.ensures.value c.loop-k.invariant.same c.in-Some.ensures.some c.index-closed-k.is c.index-place.ensures in
+    let low = place_low closed at k place one t c.as_slice-in-loop-k.result.now c.as_slice-in-loop-k.ensures.value in
+    omega (arith, low, c.as_slice-in-loop-k.ensures.len)
 
 pub loop-k-smaller : goal.loop-k-smaller
 loop-k-smaller c =
     let closed = c.args.closed.now in
     let at = c.loop-k.at.items in
-    let numbers = c.loop-k.numbers in
-    let world = c.loop-k.world in
     let k = c.in-Some.k in
     let one = c.index-closed-k.result in
     let place = c.index-place.result.now in
-    let i = c.loop-k.invariant in
-    let next : IsNextActor closed at k = subst (λ l. IsNextActor closed l k) c.as_slice.ensures.value c.in-Some.ensures.some in
-    let np = next_place closed at k place one i.same next c.index-closed-k.is c.index-place.ensures in
-    let w = next.within in
-    let s = i.same in
-    let low = np.3 in
-    let h = ap length (history_read closed k one w c.index-closed-k.is) in
-    left_less closed at k place (omega (arith, w, s)) w np.1 (omega (arith, low, h))
+    let t = turn closed at k place one c.as_slice.result.now c.as_slice.ensures.value c.loop-k.invariant.same c.in-Some.ensures.some c.index-closed-k.is c.index-place.ensures in
+    t.less
 
 pub returns-then-not-is_named : goal.returns-then-not-is_named
 returns-then-not-is_named c =
     let closed = c.args.closed.now in
     let at = c.loop-k.at.items in
-    let numbers = c.loop-k.numbers in
-    let world = c.loop-k.world in
     let k = c.in-Some.k in
     let one = c.index-closed-k.result in
     let place = c.index-place.result.now in
+    let t = turn closed at k place one c.as_slice.result.now c.as_slice.ensures.value c.loop-k.invariant.same c.in-Some.ensures.some c.index-closed-k.is c.index-place.ensures in
+    let numbers = c.loop-k.numbers in
+    let world = c.loop-k.world in
     let i = c.loop-k.invariant in
-    let next : IsNextActor closed at k = subst (λ l. IsNextActor closed l k) c.as_slice.ensures.value c.in-Some.ensures.some in
-    let np = next_place closed at k place one i.same next c.index-closed-k.is c.index-place.ensures in
-    let list = c.as_slice-in-loop-k.result.now in
     let r = c.index-as_slice-place.result in
-    let what : next.what ≡ r = event_is closed at k place one next list r np.2 c.as_slice-in-loop-k.ensures.value c.index-as_slice-place.is in
+    let what = event_read closed at k place one t c.as_slice-in-loop-k.result.now c.as_slice-in-loop-k.ensures.value r c.index-as_slice-place.is in
     subst (λ p. PassesSo c.args.setup.now closed p) (sym c.failed.ensures) (record {
       place = k;
-      number = ap number_in np.0;
+      number = ap number_in t.is;
       test = tt;
-      fails = passing_stamped c.args.setup.now closed c.requires.order c.requires.bank c.requires.clocks c.one_bank.ensures.right_choices at numbers world i.so k next one np.0 (place + 1) (ap (λ n. n + 1) (sym np.1)) (λ named. (
+      fails = passing_stamped c.args.setup.now closed c.requires.order c.requires.bank c.requires.clocks c.one_bank.ensures.right_choices at numbers world i.so k t.next one t.is (place + 1) (ap (λ n. n + 1) (sym t.here)) (λ named. (
           let here = subst (λ l. IsNamed delivers sent is_for closed l one.end r) (sym c.as_slice-in-loop-k-2.ensures.value) (subst (λ (v : Recorded _ _). IsNamed delivers sent is_for closed at one.end v) what named) in
           let clash : true ≡ false = sym (c.is_named.ensures.1 here) ∙ c.if-not-is_named.true in cc));
     })
@@ -161,133 +101,112 @@ pub comes_so-requires-clause-bank : goal.comes_so-requires-clause-bank
 comes_so-requires-clause-bank c =
     let closed = c.args.closed.now in
     let at = c.loop-k.at.items in
-    let numbers = c.loop-k.numbers in
-    let world = c.loop-k.world in
     let k = c.in-Some.k in
     let one = c.index-closed-k.result in
     let place = c.index-place.result.now in
+    let t = turn closed at k place one c.as_slice.result.now c.as_slice.ensures.value c.loop-k.invariant.same c.in-Some.ensures.some c.index-closed-k.is c.index-place.ensures in
+    let numbers = c.loop-k.numbers in
+    let world = c.loop-k.world in
     let i = c.loop-k.invariant in
-    let next : IsNextActor closed at k = subst (λ l. IsNextActor closed l k) c.as_slice.ensures.value c.in-Some.ensures.some in
-    let np = next_place closed at k place one i.same next c.index-closed-k.is c.index-place.ensures in
-    subst (λ s. IsOfBank s one) (sym (passing_made c.args.setup.now closed c.requires.order c.requires.bank c.requires.clocks c.one_bank.ensures.right_choices at numbers world i.so)) (c.requires.bank k one np.0)
+    subst (λ s. IsOfBank s one) (sym (passing_made c.args.setup.now closed c.requires.order c.requires.bank c.requires.clocks c.one_bank.ensures.right_choices at numbers world i.so)) (c.requires.bank k one t.is)
 
 pub comes_so-requires-clause-reliable : goal.comes_so-requires-clause-reliable
 comes_so-requires-clause-reliable c =
     let closed = c.args.closed.now in
-    let at = c.loop-k.at.items in
-    let numbers = c.loop-k.numbers in
-    let world = c.loop-k.world in
-    let k = c.in-Some.k in
-    let one = c.index-closed-k.result in
-    let place = c.index-place.result.now in
     let i = c.loop-k.invariant in
-    let next : IsNextActor closed at k = subst (λ l. IsNextActor closed l k) c.as_slice.ensures.value c.in-Some.ensures.some in
-    let np = next_place closed at k place one i.same next c.index-closed-k.is c.index-place.ensures in
-    passing_reliable c.args.setup.now closed c.requires.order c.requires.bank c.requires.clocks c.one_bank.ensures.right_choices at numbers world i.so
+    passing_reliable c.args.setup.now closed c.requires.order c.requires.bank c.requires.clocks c.one_bank.ensures.right_choices c.loop-k.at.items c.loop-k.numbers c.loop-k.world i.so
 
 pub comes_so-requires-clause-named : goal.comes_so-requires-clause-named
 comes_so-requires-clause-named c =
     let closed = c.args.closed.now in
     let at = c.loop-k.at.items in
-    let numbers = c.loop-k.numbers in
-    let world = c.loop-k.world in
     let k = c.in-Some.k in
     let one = c.index-closed-k.result in
     let place = c.index-place.result.now in
+    let t = turn closed at k place one c.as_slice.result.now c.as_slice.ensures.value c.loop-k.invariant.same c.in-Some.ensures.some c.index-closed-k.is c.index-place.ensures in
+    let numbers = c.loop-k.numbers in
+    let world = c.loop-k.world in
     let i = c.loop-k.invariant in
-    let next : IsNextActor closed at k = subst (λ l. IsNextActor closed l k) c.as_slice.ensures.value c.in-Some.ensures.some in
-    let np = next_place closed at k place one i.same next c.index-closed-k.is c.index-place.ensures in
-    let list = c.as_slice-in-loop-k.result.now in
     let r = c.index-as_slice-place.result in
-    let what : next.what ≡ r = event_is closed at k place one next list r np.2 c.as_slice-in-loop-k.ensures.value c.index-as_slice-place.is in
-    let named : IsNamed delivers sent is_for closed at one.end next.what =
+    let what = event_read closed at k place one t c.as_slice-in-loop-k.result.now c.as_slice-in-loop-k.ensures.value r c.index-as_slice-place.is in
+    let named : IsNamed delivers sent is_for closed at one.end t.next.what =
     subst (λ (v : Recorded _ _). IsNamed delivers sent is_for closed at one.end v) (sym what)
     (subst (λ l. IsNamed delivers sent is_for closed l one.end r) c.as_slice-in-loop-k-2.ensures.value (c.is_named.ensures.0 c.if-not-is_named.false)) in
-    let found : IsFound closed numbers next.what.stamp c.find-number.result = subst (λ (v : Recorded _ _). IsFound closed numbers v.stamp c.find-number.result) (sym what) c.find-number.ensures in
+    let found : IsFound closed numbers t.next.what.stamp c.find-number.result = subst (λ (v : Recorded _ _). IsFound closed numbers v.stamp c.find-number.result) (sym what) c.find-number.ensures in
     let posts = c.post_len.ensures in
     let fits : length world.post < 2 ^ 64 = omega (arith, posts, c.post_len.type_inv) in
     subst (λ (v : Recorded _ _). Names world.post c.find-number.result v.event) what
-    (passing_named c.args.setup.now closed c.requires.order c.requires.bank c.requires.clocks c.one_bank.ensures.right_choices at numbers world i.so k next one np.0 (place + 1) (ap (λ n. n + 1) (sym np.1)) named fits c.find-number.result found)
+    (passing_named c.args.setup.now closed c.requires.order c.requires.bank c.requires.clocks c.one_bank.ensures.right_choices at numbers world i.so k t.next one t.is (place + 1) (ap (λ n. n + 1) (sym t.here)) named fits c.find-number.result found)
 
 pub comes_so-requires-clause-mine : goal.comes_so-requires-clause-mine
 comes_so-requires-clause-mine c =
     let closed = c.args.closed.now in
     let at = c.loop-k.at.items in
-    let numbers = c.loop-k.numbers in
-    let world = c.loop-k.world in
     let k = c.in-Some.k in
     let one = c.index-closed-k.result in
     let place = c.index-place.result.now in
+    let t = turn closed at k place one c.as_slice.result.now c.as_slice.ensures.value c.loop-k.invariant.same c.in-Some.ensures.some c.index-closed-k.is c.index-place.ensures in
+    let numbers = c.loop-k.numbers in
+    let world = c.loop-k.world in
     let i = c.loop-k.invariant in
-    let next : IsNextActor closed at k = subst (λ l. IsNextActor closed l k) c.as_slice.ensures.value c.in-Some.ensures.some in
-    let np = next_place closed at k place one i.same next c.index-closed-k.is c.index-place.ensures in
-    let list = c.as_slice-in-loop-k.result.now in
     let r = c.index-as_slice-place.result in
-    let what : next.what ≡ r = event_is closed at k place one next list r np.2 c.as_slice-in-loop-k.ensures.value c.index-as_slice-place.is in
-    let named : IsNamed delivers sent is_for closed at one.end next.what =
+    let what = event_read closed at k place one t c.as_slice-in-loop-k.result.now c.as_slice-in-loop-k.ensures.value r c.index-as_slice-place.is in
+    let named : IsNamed delivers sent is_for closed at one.end t.next.what =
     subst (λ (v : Recorded _ _). IsNamed delivers sent is_for closed at one.end v) (sym what)
     (subst (λ l. IsNamed delivers sent is_for closed l one.end r) c.as_slice-in-loop-k-2.ensures.value (c.is_named.ensures.0 c.if-not-is_named.false)) in
-    let found : IsFound closed numbers next.what.stamp c.find-number.result = subst (λ (v : Recorded _ _). IsFound closed numbers v.stamp c.find-number.result) (sym what) c.find-number.ensures in
     subst (λ (v : Recorded _ _). (delivers v.event ≡ None) ⊎ (is_for one.end v.event ≡ true)) what
-    (passing_mine c.args.setup.now closed c.requires.order c.requires.bank c.requires.clocks c.one_bank.ensures.right_choices at numbers world i.so k next one np.0 (place + 1) (ap (λ n. n + 1) (sym np.1)) named)
+    (passing_mine c.args.setup.now closed c.requires.order c.requires.bank c.requires.clocks c.one_bank.ensures.right_choices at numbers world i.so k t.next one t.is (place + 1) (ap (λ n. n + 1) (sym t.here)) named)
 
 pub returns-then-not-branch : goal.returns-then-not-branch
 returns-then-not-branch c =
     let closed = c.args.closed.now in
     let at = c.loop-k.at.items in
-    let numbers = c.loop-k.numbers in
-    let world = c.loop-k.world in
     let k = c.in-Some.k in
     let one = c.index-closed-k.result in
     let place = c.index-place.result.now in
+    let t = turn closed at k place one c.as_slice.result.now c.as_slice.ensures.value c.loop-k.invariant.same c.in-Some.ensures.some c.index-closed-k.is c.index-place.ensures in
+    let numbers = c.loop-k.numbers in
+    let world = c.loop-k.world in
     let i = c.loop-k.invariant in
-    let next : IsNextActor closed at k = subst (λ l. IsNextActor closed l k) c.as_slice.ensures.value c.in-Some.ensures.some in
-    let np = next_place closed at k place one i.same next c.index-closed-k.is c.index-place.ensures in
-    let list = c.as_slice-in-loop-k.result.now in
     let r = c.index-as_slice-place.result in
-    let what : next.what ≡ r = event_is closed at k place one next list r np.2 c.as_slice-in-loop-k.ensures.value c.index-as_slice-place.is in
-    let named : IsNamed delivers sent is_for closed at one.end next.what =
+    let what = event_read closed at k place one t c.as_slice-in-loop-k.result.now c.as_slice-in-loop-k.ensures.value r c.index-as_slice-place.is in
+    let named : IsNamed delivers sent is_for closed at one.end t.next.what =
     subst (λ (v : Recorded _ _). IsNamed delivers sent is_for closed at one.end v) (sym what)
     (subst (λ l. IsNamed delivers sent is_for closed l one.end r) c.as_slice-in-loop-k-2.ensures.value (c.is_named.ensures.0 c.if-not-is_named.false)) in
-    let found : IsFound closed numbers next.what.stamp c.find-number.result = subst (λ (v : Recorded _ _). IsFound closed numbers v.stamp c.find-number.result) (sym what) c.find-number.ensures in
-    let so : ComesSo world one.end next.what c.in_ok-comes_so.field-0 = subst (λ (v : Recorded _ _). ComesSo world one.end v c.in_ok-comes_so.field-0) (sym what) c.in_ok-comes_so.ensures.so in
+    let so : ComesSo world one.end t.next.what c.in_ok-comes_so.field-0 = subst (λ (v : Recorded _ _). ComesSo world one.end v c.in_ok-comes_so.field-0) (sym what) c.in_ok-comes_so.ensures.so in
     subst (λ p. PassesSo c.args.setup.now closed p) (sym c.failed-then-not-branch.ensures) (record {
       place = k;
-      number = ap number_in np.0;
+      number = ap number_in t.is;
       test = tt;
-      fails = passing_answered c.args.setup.now closed c.requires.order c.requires.bank c.requires.clocks c.one_bank.ensures.right_choices at numbers world i.so k next one np.0 (place + 1) (ap (λ n. n + 1) (sym np.1)) named c.in_ok-comes_so.field-0 so c.if-not-branch.true;
+      fails = passing_answered c.args.setup.now closed c.requires.order c.requires.bank c.requires.clocks c.one_bank.ensures.right_choices at numbers world i.so k t.next one t.is (place + 1) (ap (λ n. n + 1) (sym t.here)) named c.in_ok-comes_so.field-0 so c.if-not-branch.true;
     })
 
 pub loop-k-preserved : goal.loop-k-preserved
 loop-k-preserved c =
     let closed = c.args.closed.now in
     let at = c.loop-k.at.items in
-    let numbers = c.loop-k.numbers in
-    let world = c.loop-k.world in
     let k = c.in-Some.k in
     let one = c.index-closed-k.result in
     let place = c.index-place.result.now in
+    let t = turn closed at k place one c.as_slice.result.now c.as_slice.ensures.value c.loop-k.invariant.same c.in-Some.ensures.some c.index-closed-k.is c.index-place.ensures in
+    let numbers = c.loop-k.numbers in
+    let world = c.loop-k.world in
     let i = c.loop-k.invariant in
-    let next : IsNextActor closed at k = subst (λ l. IsNextActor closed l k) c.as_slice.ensures.value c.in-Some.ensures.some in
-    let np = next_place closed at k place one i.same next c.index-closed-k.is c.index-place.ensures in
-    let list = c.as_slice-in-loop-k.result.now in
     let r = c.index-as_slice-place.result in
-    let what : next.what ≡ r = event_is closed at k place one next list r np.2 c.as_slice-in-loop-k.ensures.value c.index-as_slice-place.is in
-    let named : IsNamed delivers sent is_for closed at one.end next.what =
+    let what = event_read closed at k place one t c.as_slice-in-loop-k.result.now c.as_slice-in-loop-k.ensures.value r c.index-as_slice-place.is in
+    let named : IsNamed delivers sent is_for closed at one.end t.next.what =
     subst (λ (v : Recorded _ _). IsNamed delivers sent is_for closed at one.end v) (sym what)
     (subst (λ l. IsNamed delivers sent is_for closed l one.end r) c.as_slice-in-loop-k-2.ensures.value (c.is_named.ensures.0 c.if-not-is_named.false)) in
-    let found : IsFound closed numbers next.what.stamp c.find-number.result = subst (λ (v : Recorded _ _). IsFound closed numbers v.stamp c.find-number.result) (sym what) c.find-number.ensures in
-    let so : ComesSo world one.end next.what c.in_ok-comes_so.field-0 = subst (λ (v : Recorded _ _). ComesSo world one.end v c.in_ok-comes_so.field-0) (sym what) c.in_ok-comes_so.ensures.so in
+    let so : ComesSo world one.end t.next.what c.in_ok-comes_so.field-0 = subst (λ (v : Recorded _ _). ComesSo world one.end v c.in_ok-comes_so.field-0) (sym what) c.in_ok-comes_so.ensures.so in
+    let found : IsFound closed numbers t.next.what.stamp c.find-number.result = subst (λ (v : Recorded _ _). IsFound closed numbers v.stamp c.find-number.result) (sym what) c.find-number.ensures in
     let posts = c.post_len.ensures in
     let fits : length world.post < 2 ^ 64 = omega (arith, posts, c.post_len.type_inv) in
-    let w = next.within in
-    let s = i.same in
-    let goes : GoesBy held_by world c.comes_so.new.world (move_of one.number next.what c.find-number.result) =
+    let goes : GoesBy held_by world c.comes_so.new.world (move_of one.number t.next.what c.find-number.result) =
     subst (λ (v : Recorded _ _). GoesBy held_by world c.comes_so.new.world (move_of one.number v c.find-number.result)) (sym what) (c.in_ok-comes_so.ensures.goes c.if-not-branch.false) in
     record {
       same = length-set at k (place + 1) ∙ i.same;
-      so = passing_next c.args.setup.now closed c.requires.order c.requires.bank c.requires.clocks c.one_bank.ensures.right_choices at numbers world i.so k next one np.0 (place + 1) (ap (λ n. n + 1) (sym np.1)) named c.in_ok-comes_so.field-0 so c.if-not-branch.false fits
-          (slice_set at k (place + 1)) (stepped at k place (omega (arith, w, s)) c.index-place.ensures) c.find-number.result found
+      so = passing_next c.args.setup.now closed c.requires.order c.requires.bank c.requires.clocks c.one_bank.ensures.right_choices at numbers world i.so k t.next one t.is (place + 1) (ap (λ n. n + 1) (sym t.here)) named c.in_ok-comes_so.field-0 so c.if-not-branch.false fits
+          (slice_set at k (place + 1)) t.steps c.find-number.result found
           c.comes_so.new.world goes c.in_ok-comes_so.ensures.proved c.in_ok-comes_so.ensures.reliable
           c.note.new.self (c.in_ok-note.ensures.ok ∙ ap (λ n. slice_set numbers k (noted_of numbers k ++ (n + 1) ∷ [])) posts);
     }
