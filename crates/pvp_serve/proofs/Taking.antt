@@ -33,6 +33,11 @@ pub puts-append : (me : ℕ) (a b : List (Letter PartyOutcome)) → puts_in me (
 puts-append me [] b = refl
 puts-append me (letter ∷ a) b = ap (λ (l : List Put). let p : Put = record { actor = me; clock = letter.clock; sent = sent letter.outcome } in p ∷ l) (puts-append me a b)
 
+-- a list that has no length is empty
+pub nothing-in : {A : Type 0} (xs : List A) → (length xs == 0) ≡ true → xs ≡ []
+nothing-in [] none = refl
+nothing-in (x ∷ xs) none = absurd (omega (arith, eqb-true _ _ none))
+
 -- a history of which nothing is pending is written, all of it
 written_all : {E O : Type 0} (past : Past E O) → past.pending ≡ [] → past ≡ all_written past
 written_all {E} {O} past none =

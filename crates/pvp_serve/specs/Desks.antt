@@ -1,5 +1,5 @@
 -- What a line at a terminal asks an actor for, and what the loop of a process takes from where its actor stands.
-use Rattle.std.specs.Prelude.{ℕ, ◌-◌, ◌%◌, ◌==◌, ◌&&◌, ◌++◌, Bool, true, false, not, max, nat_lt, List, [], ◌∷◌, length, slice_get, Option, Some, None, is_none, Result, Ok, Err, codes, if◌then◌else◌}
+use Rattle.std.specs.Prelude.{◌≡◌, ℕ, ◌+◌, ◌-◌, ◌%◌, ◌==◌, ◌&&◌, ◌||◌, ◌++◌, Bool, true, false, not, max, nat_lt, List, [], ◌∷◌, length, slice_get, Option, Some, None, is_none, is_some, option_map, Result, Ok, Err, codes, if◌then◌else◌}
 use Rattle.std.specs.Option.{option_map_or}
 use Rattle.vr_types.specs.Actors.{id_of, number_of}
 use Rattle.vr_types.specs.declared.actors.ActorId.{ActorId}
@@ -12,8 +12,9 @@ use Rattle.pvp_types.specs.declared.setup.Setup.{Setup}
 use Rattle.pvp_types.specs.declared.command.Reply.{Reply}
 use Rattle.pvp_types.specs.declared.step.Step.{Step}
 use Rattle.pvp_types.specs.declared.step.Step.TheVariants.{PayIn, Close, Submit}
-use Rattle.rtgs_node.specs.declared.event.NodeEvent.TheVariants.{PaysIn, Closes}
+use Rattle.rtgs_node.specs.declared.event.NodeEvent.TheVariants.{PaysIn, Closes, Beats}
 use Rattle.headline.specs.declared.step.ClientEvent.TheVariants.{Submits}
+use Rattle.headline.specs.declared.step.ClientEvent.TheVariants as client
 use Rattle.pvp_trace.specs.Names.{actor_text}
 use Rattle.pvp_text.specs.declared.script.Kind.TheVariants.{Live}
 use Rattle.pvp_text.specs.declared.script.Line.{Line}
@@ -23,20 +24,37 @@ use Rattle.pvp_text.specs.declared.script.LineFault.{LineFault}
 use Rattle.pvp_text.specs.declared.script.Statement.{Statement}
 use Rattle.pvp_text.specs.declared.script.Statement.TheVariants.{Do}
 use Rattle.pvp_text.specs.Script.{script_at}
+use Rattle.vr_types.specs.declared.cell.Boot.{Boot}
+use Rattle.vr_types.specs.declared.event.EventOf.TheVariants as event
 use Rattle.vr_types.specs.declared.event.Why.TheVariants.{Full}
+use Rattle.pvp_rooms.specs.declared.actor.Actor.{Ghosts}
 use Rattle.pvp_rooms.specs.declared.site.CameOf.TheVariants.{Did}
 use Rattle.pvp_parties.specs.declared.party.PartyOf.{PartyOf}
-use Rattle.pvp_parties.specs.declared.party.PartyOf.TheVariants as party
 use Rattle.pvp_parties.specs.declared.party.PartyEvent.{PartyEvent}
-use Rattle.pvp_parties.specs.declared.party.PartyEvent.TheVariants.{OfNode, OfClient}
+use Rattle.pvp_parties.specs.declared.party.PartyEvent.TheVariants.{OfSite, OfNode, OfClient}
 use Rattle.pvp_parties.specs.declared.party.PartyOutcome.{PartyOutcome}
 use Rattle.pvp_parties.specs.declared.party.PartyOutcome.TheVariants as outcome
 use Rattle.pvp_logs.specs.declared.room.Letter.{Letter}
+use Rattle.pvp_logs.specs.Rooms.{Held, Texts}
+use Rattle.pvp_places.specs.declared.serving.ServeFault.{ServeFault}
 use Rattle.pvp_serve.specs.declared.inbox.Inbox.{Inbox}
-use Rattle.pvp_serve.specs.declared.inbox.Inbox.TheVariants.{End}
+use Rattle.pvp_serve.specs.declared.inbox.Inbox.TheVariants.{Frame, Came, Gone, Tick, End}
+use Rattle.pvp_serve.specs.declared.lanes.Lane.{Lane}
+use Rattle.pvp_serve.specs.Lanes.{with_lane, without_lane}
+use Rattle.pvp_serve.specs.declared.patience.Due.{Due}
+use Rattle.pvp_serve.specs.declared.patience.Due.TheVariants as due
+use Rattle.pvp_serve.specs.declared.patience.Look.{Look}
 use Rattle.pvp_serve.specs.declared.patience.Patience.{Patience}
 use Rattle.pvp_serve.specs.declared.patience.TheConstants.{TICKS_LEFT}
 use Rattle.pvp_serve.specs.declared.desk.TerminalDesk.{TerminalDesk}
+use Rattle.pvp_serve.specs.declared.desk.Told.{Told}
+use Rattle.pvp_serve.specs.declared.desk.Told.TheVariants.{Nothing, Done, Refused, Misplaced}
+use Rattle.pvp_serve.specs.declared.desk.TheConstants.{TELLING_TICKS}
+use Rattle.pvp_serve.specs.declared.serving.Request.{Request}
+use Rattle.pvp_serve.specs.declared.serving.Standing.{Standing}
+use Rattle.pvp_serve.specs.declared.telling.Teller.{Teller}
+use Rattle.pvp_serve.specs.Patience.{up_to_most}
+use Rattle.pvp_serve.specs.Serving.{TakesIn, HasFlushed, IsRefused, has_orders_in, own_input, standing_in}
 
 -- a line that is empty or begins with # asks for nothing
 abbrev pub says_nothing : List ℕ → Bool
@@ -75,12 +93,10 @@ asked_in me (Ok (first ∷ more)) = asked_by me first.statement
 abbrev pub event_of : Setup → ℕ → List ℕ → Result (Option PartyEvent) LineCode
 event_of setup me line = asked_in me (script_at Live setup (script_of setup me line))
 
--- a client has made a request, and its answer has not come
-abbrev pub awaits : {B : Type 0} → Option (PartyOf B) → Bool
+-- a client has made a request, and its answer has not come. Of a node it is not known
+abbrev pub awaits : Option Request → Bool
 awaits None = true
-awaits (Some (party.Client p)) = nat_lt 0 p.now.client.number && is_none p.now.client.answer
-awaits (Some (party.Node p)) = true
-awaits (Some (party.Site p)) = true
+awaits (Some request) = nat_lt 0 request.number && is_none request.answer
 
 -- a node's beat sent nothing: until an envelope comes it has nothing to say. Of all others it is not known
 abbrev pub may_say_more : PartyOutcome → Bool
@@ -95,12 +111,23 @@ last_may_say_more letters =
 abbrev pub primary_of : ℕ → ℕ → ℕ
 primary_of view sites = if sites == 0 then 0 else number_of (Site (view % sites))
 
--- an actor is the primary of the view in which a site is
-abbrev pub is_primary : {B : Type 0} → Option (PartyOf B) → ℕ → ℕ → Bool
+-- an actor is the primary of the view in which a site stands
+abbrev pub is_primary : Option Standing → ℕ → ℕ → Bool
 is_primary None sites actor = false
-is_primary (Some (party.Site p)) sites actor = primary_of p.now.volatile.view sites == actor
-is_primary (Some (party.Node p)) sites actor = false
-is_primary (Some (party.Client p)) sites actor = false
+is_primary (Some standing) sites actor = primary_of standing.view sites == actor
+
+-- what the timers of a site see, which holds orders or not, among so many, of this number
+abbrev pub look_of : Bool → ℕ → ℕ → Standing → Look
+look_of has_orders sites me standing = record {
+  status = standing.status;
+  is_primary = primary_of standing.view sites == me;
+  done = standing.done;
+  owes = has_orders || nat_lt standing.done standing.log;
+}
+
+-- what a site of a bank has told that has told nothing
+abbrev pub fresh_teller : Setup → Teller
+fresh_teller setup = record { setup = setup; stood = None; ended = None; away = 0; why = None; told = (0, 0); ticks = 0 }
 
 -- the word for where a site stands
 abbrev pub status_word : Status → List ℕ
@@ -110,11 +137,14 @@ status_word Recovering = codes "recovering"
 status_word Down = codes "down"
 
 -- A CLIENT WAITS for an answer, so that its terminal is asked for nothing more
-abbrev pub is_busy : {B : Type 0} → Option (PartyOf B) → Bool → Bool
-is_busy None waits = false
-is_busy (Some (party.Client p)) waits = waits
-is_busy (Some (party.Node p)) waits = false
-is_busy (Some (party.Site p)) waits = false
+abbrev pub is_busy : Option Request → Bool → Bool
+is_busy request waits = is_some request && waits
+
+-- AN ACTOR IS A NODE
+abbrev pub is_node : ActorId → Bool
+is_node (Client client) = false
+is_node (Node ccy) = true
+is_node (Site site) = false
 
 -- WHAT COUNTS AS HEARD of a primary: a message by which it serves its view. Who asks for what it lost does not serve it
 abbrev pub serves_view : {C R O : Type 0} → MsgOf C R O → Bool
@@ -133,6 +163,51 @@ abbrev pub missed_by : Bool → Patience → Patience
 missed_by is_primary patience =
     if is_primary then record patience { quiet = max patience.quiet (patience.limit - TICKS_LEFT) } else patience
 
+-- the site, as its timers see it
+abbrev pub look_in : {N B O L : Type 0} → (B → Boot) → ℕ → ℕ → Option (Held N (PartyOf B) O L) → Option Look
+look_in held sites me room = option_map (look_of (has_orders_in held room) sites me) (standing_in room)
+
+-- WHAT IS DUE IS AN EVENT of the site's own, or none
+abbrev pub event_due : Due → Option PartyEvent
+event_due due.Nothing = None
+event_due due.Restart = Some (OfSite event.Restart)
+event_due due.Beat = Some (OfSite event.Beat)
+event_due due.Ping = None
+event_due due.Timer = Some (OfSite event.Timer)
+
+-- AN EVENT OF ITS OWN IS TAKEN or refused, where there is one, and else nothing changes
+abbrev pub DoesOwn : {N A O L : Type 0} → Ghosts A N PartyEvent O → (ℕ → Texts PartyEvent O) → (L → Option (List ℕ)) → Option PartyEvent → Option (Held N A O L) → Option (Held N A O L) → Result (Unit {0}) ServeFault → Type 0
+DoesOwn m texts seen None old new result = (result ≡ Ok tt) × (new ≡ old)
+DoesOwn m texts seen (Some event) old new (Ok done) = TakesIn m texts seen (own_input event) old new
+DoesOwn m texts seen (Some event) old new (Err fault) = IsRefused None old new fault
+
+-- A NODE'S BEAT is taken and written, and it waits on where that sent something
+pub record BeatsNode {N A L : Type 0} (m : Ghosts A N PartyEvent PartyOutcome) (texts : ℕ → Texts PartyEvent PartyOutcome) (seen : L → Option (List ℕ)) (old new : Option (Held N A PartyOutcome L)) (still : Bool) : Type 0 where
+  pub between : Option (Held N A PartyOutcome L)
+  pub letters : List (Letter PartyOutcome)
+  pub takes : TakesIn m texts seen (own_input (OfNode Beats)) old between
+  pub written : HasFlushed m texts seen between new letters
+  pub waits : still ≡ last_may_say_more letters
+
+-- A CLIENT SAYS ITS REQUEST AGAIN: what waited is written, and its beat is taken
+pub record BeatsClient {N A L : Type 0} (m : Ghosts A N PartyEvent PartyOutcome) (texts : ℕ → Texts PartyEvent PartyOutcome) (seen : L → Option (List ℕ)) (old new : Option (Held N A PartyOutcome L)) : Type 0 where
+  pub between : Option (Held N A PartyOutcome L)
+  pub letters : List (Letter PartyOutcome)
+  pub written : HasFlushed m texts seen old between letters
+  pub takes : TakesIn m texts seen (own_input (OfClient client.Beats)) between new
+
+-- WHAT COMES TO THE ACTOR ITSELF: an envelope, or a tick
+abbrev pub comes_to_actor : Inbox → Bool
+comes_to_actor (Frame arrival) = true
+comes_to_actor Tick = true
+comes_to_actor _ = false
+
+-- THE STREAMS THAT STAND after an item: one that came does, one that has ended does not
+abbrev pub lanes_after : Inbox → List Lane → List Lane
+lanes_after (Came lane) all = with_lane lane all
+lanes_after (Gone peer stream end) all = without_lane peer stream all
+lanes_after _ all = all
+
 -- the terminal has ended
 abbrev pub is_end : Inbox → Bool
 is_end End = true
@@ -145,15 +220,32 @@ answered number (Some reply) true desk = record desk { waits = false; ticks = 0;
 answered number (Some reply) false desk = desk
 answered number None waits desk = desk
 
-abbrev pub after_hearing : {B : Type 0} → Option (PartyOf B) → TerminalDesk → TerminalDesk
+abbrev pub after_hearing : Option Request → TerminalDesk → TerminalDesk
 after_hearing None desk = record desk { waits = true }
-after_hearing (Some (party.Client p)) desk = answered p.now.client.number p.now.client.answer desk.waits desk
-after_hearing (Some (party.Node p)) desk = record desk { waits = true }
-after_hearing (Some (party.Site p)) desk = record desk { waits = true }
+after_hearing (Some request) desk = answered request.number request.answer desk.waits desk
 
 -- NOTHING IS LEFT to be done at a terminal: it has ended and the process is not to stay, no answer is awaited and no line waits
-abbrev pub is_done : {B : Type 0} → Option (PartyOf B) → TerminalDesk → Bool
-is_done actor desk = desk.ended && not desk.stays && not (is_busy actor desk.waits) && (length desk.lines.items == 0)
+abbrev pub is_done : Option Request → TerminalDesk → Bool
+is_done request desk = desk.ended && not desk.stays && not (is_busy request desk.waits) && (length desk.lines.items == 0)
+
+-- at every which tick a client that waits says so: the count of those that went by since
+abbrev pub next_wait : ℕ → ℕ
+next_wait ticks = if nat_lt (up_to_most (ticks + 1)) TELLING_TICKS then up_to_most (ticks + 1) else 0
+
+-- HOW WHAT WAS ASKED FOR CAME OUT, as the terminal is told: of a client's request its answer is told, once it comes
+abbrev pub told_of : PartyOutcome → Told
+told_of (outcome.OfNode (Ok sent)) = Done
+told_of (outcome.OfNode (Err fault)) = Refused fault
+told_of (outcome.OfClient (Err fault)) = Misplaced
+told_of _ = Nothing
+
+abbrev pub last_told : List (Letter PartyOutcome) → Told
+last_told letters = option_map_or (λ letter. told_of letter.outcome) (slice_get letters (length letters - 1)) Nothing
+
+-- what is awaited once that was told: of a client that may not ask, what was before
+abbrev pub waits_told : Option Request → Told → Bool → Bool
+waits_told request Misplaced waits = awaits request
+waits_told request _ waits = waits
 
 -- a site dropped what it took as its log has no room
 abbrev pub is_full : PartyOutcome → Bool
@@ -167,8 +259,6 @@ found_full before letters =
     && option_map_or (λ letter. is_full letter.outcome) (slice_get letters (length letters - 1)) false
 
 -- the request of a client that waits is told as one that found no room, once
-abbrev pub full_after : {B : Type 0} → Option (PartyOf B) → TerminalDesk → ℕ
+abbrev pub full_after : Option Request → TerminalDesk → ℕ
 full_after None desk = desk.full
-full_after (Some (party.Client p)) desk = if desk.waits then p.now.client.number else desk.full
-full_after (Some (party.Node p)) desk = desk.full
-full_after (Some (party.Site p)) desk = desk.full
+full_after (Some request) desk = if desk.waits then request.number else desk.full

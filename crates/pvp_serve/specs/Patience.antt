@@ -1,5 +1,5 @@
 -- What a site does at a tick of its clock.
-use Rattle.std.specs.Prelude.{ℕ, ◌+◌, ◌-◌, ◌*◌, ◌/◌, ◌%◌, ◌^◌, ◌==◌, ◌&&◌, ◌||◌, Bool, true, false, not, nat_le, nat_lt, min, if◌then◌else◌}
+use Rattle.std.specs.Prelude.{◌≡◌, ◌<◌, ℕ, ◌+◌, ◌-◌, ◌*◌, ◌/◌, ◌%◌, ◌^◌, ◌==◌, ◌&&◌, ◌||◌, Bool, true, false, not, nat_le, nat_lt, min, if◌then◌else◌}
 use Rattle.vr_types.specs.declared.event.Status.{Status}
 use Rattle.vr_types.specs.declared.event.Status.TheVariants.{Normal, Change, Recovering, Down}
 use Rattle.pvp_serve.specs.declared.patience.TheConstants.{BEATS_AFTER, RECOVERING_TICKS}
@@ -7,6 +7,10 @@ use Rattle.pvp_serve.specs.declared.patience.Due.{Due}
 use Rattle.pvp_serve.specs.declared.patience.Due.TheVariants.{Nothing, Restart, Beat, Ping, Timer}
 use Rattle.pvp_serve.specs.declared.patience.Look.{Look}
 use Rattle.pvp_serve.specs.declared.patience.Patience.{Patience}
+
+-- what a site knows of time that waits so many ticks at the least, and has seen none
+abbrev pub fresh_patience : ℕ → Patience
+fresh_patience least = record { least = least; limit = least; quiet = 0; ticks = 0; done = 0; same = 0 }
 
 -- a number that has room in 32 bits, or else the greatest that has
 abbrev pub up_to_most : ℕ → ℕ
@@ -81,3 +85,13 @@ after_tick p look = record {
 -- how long it waits by a number drawn from 0 to 255: up to one and a half of the least, and one tick more
 abbrev pub limit_by : ℕ → ℕ → ℕ
 limit_by least drawn = up_to_most (least + (least / 2 + 1) * drawn / 256)
+
+-- how long it waits after a tick: where its timer ran out that is drawn anew, by a number from 0 to 255
+abbrev pub IsLimit : Due → ℕ → ℕ → ℕ → Type 0
+IsLimit Timer least old new = (drawn : ℕ) × (drawn < 256) × (new ≡ limit_by least drawn)
+IsLimit _ least old new = new ≡ old
+
+-- WHAT A TICK LEAVES of what a site knows of time
+pub record IsTicked (look : Look) (old new : Patience) : Type 0 where
+  pub limit : IsLimit (due old look) old.least old.limit new.limit
+  pub after : new ≡ record (after_tick old look) { limit = new.limit }

@@ -1,7 +1,13 @@
 -- What an actor that is served takes, and what leaves it.
-use Rattle.std.specs.Prelude.{◌≡◌, ◌≢◌, ◌⊎◌, ◌+◌, ◌-◌, ◌^◌, ◌||◌, Bool, false, not, min, nat_lt, ℕ, List, [], map, Option, Some, None, IfSome, IsSome, Result, Ok, Err, if◌then◌else◌}
+use Rattle.std.specs.Prelude.{◌≡◌, ◌≢◌, ◌⊎◌, ◌+◌, ◌-◌, ◌^◌, ◌&&◌, ◌||◌, Bool, false, not, min, nat_lt, ℕ, List, [], length, map, slice_get, Option, Some, None, IfSome, IsSome, is_some, Result, Ok, Err, if◌then◌else◌}
 use Rattle.std.specs.Global.{Vec}
 use Rattle.std.specs.List.{list_any}
+use Rattle.vr_types.specs.declared.cell.Boot.{Boot}
+use Rattle.vr_types.specs.Handling.{machine_of}
+use Rattle.vr_types.specs.Site.{is_running}
+use Rattle.vr_site.specs.Replica.{site_shown}
+use Rattle.pvp_book.specs.Ledger.{Ledger, opening}
+use Rattle.headline.specs.Machine.{book}
 use Rattle.pvp_text.specs.ScriptWords.{is_empty}
 use Rattle.pvp_evidence.specs.declared.shelf.ShelfFault.TheVariants as shelf
 use Rattle.pvp_places.specs.declared.serving.ServeFault.{ServeFault}
@@ -13,6 +19,9 @@ use Rattle.pvp_wire.specs.declared.stamped.Stamp.{Stamp}
 use Rattle.pvp_wire.specs.declared.stamped.Stamped.{Stamped}
 use Rattle.pvp_peers.specs.Puts.{Put}
 use Rattle.pvp_parties.specs.Parties.{delivered, sent}
+use Rattle.pvp_parties.specs.Alike.{SiteOf}
+use Rattle.pvp_parties.specs.declared.party.PartyOf.{PartyOf}
+use Rattle.pvp_parties.specs.declared.party.PartyOf.TheVariants as party
 use Rattle.pvp_parties.specs.declared.party.PartyEvent.{PartyEvent}
 use Rattle.pvp_parties.specs.declared.party.PartyOutcome.{PartyOutcome}
 use Rattle.pvp_logs.specs.Log.{OutlivesAll}
@@ -21,6 +30,8 @@ use Rattle.pvp_logs.specs.declared.log.LogFault.TheVariants as log
 use Rattle.pvp_logs.specs.Rooms.{Texts, Held, Steps, Flushes}
 use Rattle.pvp_logs.specs.declared.room.Letter.{Letter}
 use Rattle.pvp_logs.specs.declared.room.Posted.TheVariants.{Done}
+use Rattle.pvp_serve.specs.declared.serving.Request.{Request}
+use Rattle.pvp_serve.specs.declared.serving.Standing.{Standing}
 use Rattle.pvp_serve.specs.declared.serving.TheConstants.{HORIZON}
 
 -- an envelope that came, with its stamp
@@ -30,6 +41,41 @@ input_of stamped = record { event = delivered stamped.envelope; stamp = Some sta
 -- an event of the actor's own
 abbrev pub own_input : PartyEvent → Input PartyEvent
 own_input event = record { event = event; stamp = None }
+
+-- THE LAST REQUEST of the client that is served: none of another actor, or where the room is gone
+abbrev pub request_of : {B : Type 0} → PartyOf B → Option Request
+request_of (party.Client p) = Some (record { number = p.now.client.number; answer = p.now.client.answer })
+request_of (party.Node p) = None
+request_of (party.Site p) = None
+
+abbrev pub request_in : {N B O L : Type 0} → Option (Held N (PartyOf B) O L) → Option Request
+request_in None = None
+request_in (Some room) = request_of room.actor
+
+-- WHERE THE SITE STANDS that is served: the same of a site
+abbrev pub standing_of : {B : Type 0} → PartyOf B → Option Standing
+standing_of (party.Site p) = let now = p.now.volatile in
+    Some (record { status = now.status; view = now.view; log = length now.log; done = now.done })
+standing_of (party.Node p) = None
+standing_of (party.Client p) = None
+
+abbrev pub standing_in : {N B O L : Type 0} → Option (Held N (PartyOf B) O L) → Option Standing
+standing_in None = None
+standing_in (Some room) = standing_of room.actor
+
+-- THE SITE THAT IS SERVED RUNS, and holds orders that are neither paid nor returned
+abbrev pub has_open : Ledger → Bool
+has_open ledger = is_some (slice_get (book.orders ledger) 0)
+
+abbrev pub has_orders_of : {B : Type 0} → (B → Boot) → PartyOf B → Bool
+has_orders_of held (party.Site p) =
+    is_running p.now.volatile.status && has_open (machine_of book (opening p.now.setup) (site_shown held p.now []))
+has_orders_of held (party.Node p) = false
+has_orders_of held (party.Client p) = false
+
+abbrev pub has_orders_in : {N B O L : Type 0} → (B → Boot) → Option (Held N (PartyOf B) O L) → Bool
+has_orders_in held None = false
+has_orders_in held (Some room) = has_orders_of held room.actor
 
 -- a clock is further ahead of the room's own than an actor believes
 abbrev pub is_far : {N A O L : Type 0} → Option (Held N A O L) → ℕ → Bool

@@ -4,6 +4,7 @@ use crate::desk::TerminalDesk;
 use crate::host::Host;
 use crate::inbox::Inbox;
 use crate::opening::Process;
+use crate::serving::Standing;
 use crate::site::SiteDesk;
 use pvp_places::ServeFault;
 use vr_types::BootCell;
@@ -31,9 +32,9 @@ impl Desk {
     }
 
     /// Tells where a site stands, where that is new. Others tell at once, as things come.
-    pub fn tell<R: Host, C: BootCell>(&mut self, rt: R, serving: &Process<C>) {
+    pub fn tell<R: Host>(&mut self, rt: R, standing: Option<Standing>) {
         if let Desk::Site(desk) = self {
-            desk.tell(rt, serving);
+            desk.tell(rt, standing);
         }
     }
 }

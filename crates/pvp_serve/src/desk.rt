@@ -1,44 +1,63 @@
 //! A node or a client that is served: what it is asked for at a terminal, and what it answers there.
 ghost use Rattle.std.specs.Prelude.{
   ◌≡◌,
+  ◌≢◌,
+  true,
+  ◌+◌,
   ◌++◌,
+  ◌∷◌,
   [],
   None,
   false,
   codes,
   IfOk,
   IsOk,
+  IsTrue,
   OnOk,
-  option_map,
 };
 ghost use Rattle.pvp_trace.specs.Names.{actor_text};
+ghost use Rattle.vr_types.specs.Actors.{id_of};
+ghost use Rattle.pvp_serve.specs.Patience.{up_to_most};
+ghost use Rattle.pvp_logs.specs.Rooms.{bank_texts};
 ghost use Rattle.pvp_serve.specs.Desks.{
+  BeatsClient,
+  BeatsNode,
   after_hearing,
   asked_by,
   asked_of,
   awaits,
+  comes_to_actor,
   event_of,
   full_after,
   is_busy,
   is_done,
+  is_node,
+  lanes_after,
   last_may_say_more,
+  last_told,
   may_say_more,
+  next_wait,
   says_nothing,
   script_of,
+  told_of,
+  waits_told,
 };
 
 use crate::host::Host;
 use crate::inbox::Inbox;
+use crate::lanes::Lanes;
 use crate::opening::Process;
+use crate::serving::{Request, Serving};
 use headline::ClientEvent;
 use pvp_intake::Arrival;
-use pvp_logs::Letter;
+use pvp_logs::{Letter, Log};
 use pvp_parties::{PartyEvent, PartyOf, PartyOutcome};
 use pvp_places::ServeFault;
+use pvp_rooms::Actor;
 use pvp_text::script::{Kind, LineCode, Statement, read_script};
 use pvp_trace::names::push_actor;
 use pvp_types::{Reply, Setup, Step};
-use rtgs_node::NodeEvent;
+use rtgs_node::{NodeEvent, NodeFault};
 use std::alloc::{AllocError, Global};
 use std::collections::VecDeque;
 use vr_types::{ActorId, BootCell, MsgOf};
@@ -74,47 +93,41 @@ pub struct TerminalDesk {
 
 impl TerminalDesk {
     /// The desk of an actor that was asked for nothing at this terminal. It says there where a client stands.
-    pub fn new<R: Host, C: BootCell>(rt: R, setup: Setup, stays: bool, serving: &Process<C>) -> Self
-        ensures waits { result.waits ≡ awaits (option_map (λ room. room.actor) serving.now.room) }
+    pub fn new<R: Host>(rt: R, setup: Setup, stays: bool, request: Option<Request>) -> Self
+        ensures waits { result.waits ≡ awaits request }
         ensures lines { result.lines.items ≡ [] }
-        ensures ended { result.ended ≡ false }
-        ensures owes { result.owes ≡ None }
-        ensures stays { result.stays ≡ stays }
+        ensures rest { result ≡ record {
+          setup = setup;
+          lines = result.lines;
+          number = 0;
+          waits = result.waits;
+          ended = false;
+          stays = stays;
+          ticks = 0;
+          owes = None;
+          full = 0;
+        } }
     {
         let desk = TerminalDesk {
             setup,
             lines: VecDeque::new(rt.alloc()),
             number: 0,
-            waits: is_waiting(serving),
+            waits: awaits(request),
             ended: false,
             stays,
             ticks: 0,
             owes: None,
             full: 0,
         };
-        desk.greet(rt, serving);
+        greet(rt, request);
         desk
     }
 
-    /// Says how a client's last request stands.
-    fn greet<R: Host, C: BootCell>(&self, rt: R, serving: &Process<C>) {
-        let Some(PartyOf::Client(party)) = serving.actor() else {
-            return;
-        };
-        let client = party.client();
-        let number = client.number();
-        if let Some(reply) = client.answer() {
-            let _told = println!(rt; "last {number} {reply}");
-        } else if number > 0 {
-            let _told = println!(rt; "waits {number}");
-        }
-    }
-
     /// Whether nothing is left to be done at this terminal.
-    fn is_done<C: BootCell>(&self, serving: &Process<C>) -> bool
-        ensures { result ≡ is_done (option_map (λ room. room.actor) serving.now.room) self.now }
+    fn is_done(&self, request: Option<Request>) -> bool
+        ensures { result ≡ is_done request self.now }
     {
-        self.ended && !self.stays && !self.is_busy(serving) && self.lines.is_empty()
+        self.ended && !self.stays && !self.is_busy(request) && self.lines.is_empty()
     }
 
     /// Takes an envelope. A client asks next the site that answered it; and a node may have something to say from now on.
@@ -130,24 +143,22 @@ impl TerminalDesk {
             serving.out_mut().favours(Some(site));
         }
         serving.take_frame(rt.alloc(), arrival)?;
-        self.hears(serving);
+        self.hears(serving.request());
         Ok(())
     }
 
     /// A client whose answer came owes it to the terminal.
-    fn hears<C: BootCell>(&mut self, serving: &Process<C>)
-        ensures { self.new
-            ≡ after_hearing (option_map (λ room. room.actor) serving.now.room) self.old }
+    fn hears(&mut self, request: Option<Request>)
+        ensures { self.new ≡ after_hearing request self.old }
     {
-        let Some(PartyOf::Client(party)) = serving.actor() else {
+        let Some(request) = request else {
             self.waits = true;
             return;
         };
-        let client = party.client();
-        if let (Some(reply), true) = (client.answer(), self.waits) {
+        if let (Some(reply), true) = (request.answer, self.waits) {
             self.waits = false;
             self.ticks = 0;
-            self.owes = Some((client.number(), reply));
+            self.owes = Some((request.number, reply));
         }
     }
 
@@ -161,58 +172,96 @@ impl TerminalDesk {
     }
 
     /// A tick goes by: what may have been lost is said again. An idle actor writes nothing.
-    fn tick<R: Host, C: BootCell>(
+    fn tick<R: Host, C: BootCell, L: Log>(
         &mut self,
         rt: R,
-        serving: &mut Process<C>,
+        serving: &mut Serving<C, L, Lanes>,
     ) -> Result<(), ServeFault>
         ensures idle { self.old.waits ≡ false →
             IsOk result × (self.new ≡ self.old) × (serving.new ≡ serving.old) }
+        ensures early { IsTrue self.old.waits → is_node (id_of serving.old.me) ≡ false →
+            self.old.ticks ≡ 0 → IsOk result × (self.new ≡ record self.old { ticks = 1 })
+            × (serving.new ≡ serving.old) }
+        ensures node { IsTrue self.old.waits → is_node (id_of serving.old.me) ≡ true →
+            OnOk result (BeatsNode ⟦<PartyOf<C> as Actor>⟧ bank_texts L.seen
+            serving.old.room serving.new.room self.new.waits) }
+        ensures client { IsTrue self.old.waits → is_node (id_of serving.old.me) ≡ false →
+            self.old.ticks ≢ 0 → OnOk result (BeatsClient ⟦<PartyOf<C> as Actor>⟧ bank_texts L.seen
+            serving.old.room serving.new.room) }
+        ensures desk { self.new
+            ≡ record self.old { waits = self.new.waits; ticks = self.new.ticks } }
     {
         if !self.waits {
             return Ok(());
         }
         match ActorId::of(serving.me()) {
-            ActorId::Node(_) => {
-                serving.take_event(rt.alloc(), PartyEvent::OfNode(NodeEvent::Beats))?;
-                let letters = serving.flush(&rt, rt.alloc(), false)?;
-                self.waits = has_sent(letters.as_slice());
-            }
+            ActorId::Node(_) => self.beat_node(rt, serving),
             // The tick that follows a request is too early.
-            _ if self.ticks == 0 => self.ticks = 1,
-            _ => {
-                let _letters = serving.flush(&rt, rt.alloc(), false)?;
-                serving.out_mut().favours(None);
-                serving.take_event(rt.alloc(), PartyEvent::OfClient(ClientEvent::Beats))?;
-                self.tell_waiting(rt, serving);
+            _ if self.ticks == 0 => {
+                self.ticks = 1;
+                Ok(())
             }
+            _ => self.beat_client(rt, serving),
         }
+    }
+
+    /// A node beats, and waits on where that sent something.
+    fn beat_node<R: Host, C: BootCell, L: Log>(
+        &mut self,
+        rt: R,
+        serving: &mut Serving<C, L, Lanes>,
+    ) -> Result<(), ServeFault>
+        ensures beats { OnOk result (BeatsNode ⟦<PartyOf<C> as Actor>⟧ bank_texts L.seen
+            serving.old.room serving.new.room self.new.waits) }
+        ensures desk { self.new ≡ record self.old { waits = self.new.waits } }
+    {
+        serving.take_event(rt.alloc(), PartyEvent::OfNode(NodeEvent::Beats))?;
+        let letters = serving.flush(&rt, rt.alloc(), false)?;
+        self.waits = has_sent(letters.as_slice());
+        Ok(())
+    }
+
+    /// A client says its request again, to all sites.
+    fn beat_client<R: Host, C: BootCell, L: Log>(
+        &mut self,
+        rt: R,
+        serving: &mut Serving<C, L, Lanes>,
+    ) -> Result<(), ServeFault>
+        ensures beats { OnOk result (BeatsClient ⟦<PartyOf<C> as Actor>⟧ bank_texts L.seen
+            serving.old.room serving.new.room) }
+        ensures to_all { OnOk result (serving.new.out.favoured ≡ None) }
+        ensures desk { self.new ≡ record self.old { ticks = self.new.ticks } }
+    {
+        let _letters = serving.flush(&rt, rt.alloc(), false)?;
+        serving.out_mut().favours(None);
+        serving.take_event(rt.alloc(), PartyEvent::OfClient(ClientEvent::Beats))?;
+        self.tell_waiting(rt, serving.request());
         Ok(())
     }
 
     /// Tells now and then that a client waits.
-    fn tell_waiting<R: Host, C: BootCell>(&mut self, rt: R, serving: &Process<C>) {
+    fn tell_waiting<R: Host>(&mut self, rt: R, request: Option<Request>)
+        ensures { self.new ≡ record self.old { ticks = next_wait self.old.ticks } }
+    {
         self.ticks = self.ticks.saturating_add(1);
         if self.ticks < TELLING_TICKS {
             return;
         }
         self.ticks = 0;
-        if let Some(PartyOf::Client(party)) = serving.actor() {
-            let number = party.client().number();
+        if let Some(request) = request {
+            let number = request.number;
             let _told = eprintln!(rt; "waits {number}");
         }
     }
 
     /// A site pings a client whose request found no room in the log: that is told once.
-    fn tell_full<R: Host, C: BootCell>(&mut self, rt: R, serving: &Process<C>)
-        ensures { self.new ≡ record self.old {
-          full = full_after (option_map (λ room. room.actor) serving.now.room) self.old;
-        } }
+    fn tell_full<R: Host>(&mut self, rt: R, request: Option<Request>)
+        ensures { self.new ≡ record self.old { full = full_after request self.old } }
     {
-        let Some(PartyOf::Client(party)) = serving.actor() else {
+        let Some(request) = request else {
             return;
         };
-        let number = party.client().number();
+        let number = request.number;
         if self.waits && self.full != number {
             self.full = number;
             let _told = eprintln!(rt; "full {number}");
@@ -226,7 +275,7 @@ impl TerminalDesk {
         serving: &mut Process<C>,
     ) -> Result<(), ServeFault> {
         for _ in 0..u32::MAX {
-            if self.is_busy(serving) {
+            if self.is_busy(serving.request()) {
                 break;
             }
             let Some(asked) = self.lines.pop_front() else {
@@ -238,14 +287,10 @@ impl TerminalDesk {
     }
 
     /// Whether a client waits for an answer.
-    fn is_busy<C: BootCell>(&self, serving: &Process<C>) -> bool
-        ensures { result
-            ≡ is_busy (option_map (λ room. room.actor) serving.now.room) self.now.waits }
+    fn is_busy(&self, request: Option<Request>) -> bool
+        ensures { result ≡ is_busy request self.now.waits }
     {
-        match serving.actor() {
-            Some(PartyOf::Client(_)) => self.waits,
-            _ => false,
-        }
+        request.is_some() && self.waits
     }
 
     /// Does what a line asks for, or tells what is wrong with it.
@@ -258,14 +303,7 @@ impl TerminalDesk {
         let alloc = rt.alloc();
         match event_of(alloc, &self.setup, serving.me(), asked.text.as_slice())? {
             Ok(None) => Ok(()),
-            Ok(Some(event)) => {
-                serving.take_event(alloc, event)?;
-                let letters = serving.flush(&rt, alloc, true)?;
-                self.tell_answer(rt);
-                self.waits = true;
-                self.tell_outcome(rt, serving, letters.as_slice());
-                Ok(())
-            }
+            Ok(Some(event)) => self.do_asked(rt, serving, event),
             Err(code) => {
                 let number = asked.number;
                 let _told = eprintln!(rt; "fault line {number} {code}");
@@ -274,41 +312,100 @@ impl TerminalDesk {
         }
     }
 
-    /// Tells how what was asked for came out at a node, or that a client may not ask for it.
-    fn tell_outcome<R: Host, C: BootCell>(
+    /// Does what was asked for, and tells how it came out.
+    fn do_asked<R: Host, C: BootCell>(
         &mut self,
         rt: R,
-        serving: &Process<C>,
-        letters: &[Letter<PartyOutcome>],
-    ) {
-        match letters.last() {
-            Some(
-                Letter {
-                    outcome: PartyOutcome::OfNode(Ok(_)),
-                    ..
-                },
-            ) => {
+        serving: &mut Process<C>,
+        event: PartyEvent,
+    ) -> Result<(), ServeFault> {
+        serving.take_event(rt.alloc(), event)?;
+        let letters = serving.flush(&rt, rt.alloc(), true)?;
+        self.tell_answer(rt);
+        self.waits = true;
+        self.tell_outcome(rt, serving.request(), last_told(letters.as_slice()));
+        Ok(())
+    }
+
+    /// Tells how what was asked for came out at a node, or that a client may not ask for it.
+    fn tell_outcome<R: Host>(&mut self, rt: R, request: Option<Request>, told: Told)
+        ensures { self.new ≡ record self.old { waits = waits_told request told self.old.waits } }
+    {
+        match told {
+            Told::Nothing => {}
+            Told::Done => {
                 let _told = println!(rt; "done");
             }
-            Some(
-                Letter {
-                    outcome: PartyOutcome::OfNode(Err(fault)),
-                    ..
-                },
-            ) => {
+            Told::Refused(fault) => {
                 let _told = println!(rt; "refused {fault}");
             }
-            Some(
-                Letter {
-                    outcome: PartyOutcome::OfClient(Err(_)),
-                    ..
-                },
-            ) => {
-                self.waits = is_waiting(serving);
+            Told::Misplaced => {
+                self.waits = awaits(request);
                 let _told = println!(rt; "refused");
             }
-            _ => {}
         }
+    }
+
+    /// Takes what came.
+    fn handle<R: Host, C: BootCell>(
+        &mut self,
+        rt: R,
+        serving: &mut Process<C>,
+        item: Inbox,
+    ) -> Result<(), ServeFault>
+        ensures room { comes_to_actor item ≡ false → serving.new.room ≡ serving.old.room }
+        ensures streams { comes_to_actor item ≡ false → OnOk result (serving.new.out.all.items
+            ≡ lanes_after item serving.old.out.all.items) }
+    {
+        match item {
+            Inbox::Frame(arrival) => self.take_frame(rt, serving, arrival),
+            Inbox::Tick => self.tick(rt, serving),
+            Inbox::Came(lane) => serving.out_mut().meets(lane),
+            Inbox::Gone { peer, stream, .. } => {
+                let _stood = serving.out_mut().loses(peer, stream);
+                Ok(())
+            }
+            Inbox::Ping(_) => {
+                self.tell_full(rt, serving.request());
+                Ok(())
+            }
+            Inbox::Away(_) => Ok(()),
+            Inbox::Line(text) => self.take_line(text),
+            Inbox::End => {
+                self.ended = true;
+                Ok(())
+            }
+        }
+    }
+
+    /// A line came, which waits for its turn.
+    fn take_line(&mut self, text: Vec<u8>) -> Result<(), ServeFault>
+        ensures waits { OnOk result (self.new.lines.items ≡ self.old.lines.items
+            ++ (record { number = up_to_most (self.old.number + 1); text = text }) ∷ []) }
+        ensures rest { self.new ≡ record self.old {
+          lines = self.new.lines;
+          number = up_to_most (self.old.number + 1);
+        } }
+    {
+        self.number = self.number.saturating_add(1);
+        self.lines.push_back(Asked {
+            number: self.number,
+            text,
+        })?;
+        Ok(())
+    }
+
+    /// Tells the answer that is owed, once all that was taken is in the journal.
+    fn pay_answer<R: Host, C: BootCell>(
+        &mut self,
+        rt: R,
+        serving: &mut Process<C>,
+    ) -> Result<(), ServeFault> {
+        if self.owes.is_some() {
+            let _letters = serving.flush(&rt, rt.alloc(), true)?;
+            self.tell_answer(rt);
+        }
+        Ok(())
     }
 
     /// Takes what came. `false` where the process is to end.
@@ -318,43 +415,64 @@ impl TerminalDesk {
         serving: &mut Process<C>,
         item: Inbox,
     ) -> Result<bool, ServeFault> {
-        match item {
-            Inbox::Frame(arrival) => self.take_frame(rt, serving, arrival)?,
-            Inbox::Tick => self.tick(rt, serving)?,
-            Inbox::Came(lane) => serving.out_mut().meets(lane)?,
-            Inbox::Gone { peer, stream, .. } => {
-                let _stood = serving.out_mut().loses(peer, stream);
-            }
-            Inbox::Ping(_) => self.tell_full(rt, serving),
-            Inbox::Away(_) => {}
-            Inbox::Line(text) => {
-                self.number = self.number.saturating_add(1);
-                self.lines.push_back(Asked {
-                    number: self.number,
-                    text,
-                })?;
-            }
-            Inbox::End => self.ended = true,
-        }
+        self.handle(rt, serving, item)?;
         self.ask(rt, serving)?;
-        if self.owes.is_some() {
-            let _letters = serving.flush(&rt, rt.alloc(), true)?;
-            self.tell_answer(rt);
-        }
-        Ok(!self.is_done(serving))
+        self.pay_answer(rt, serving)?;
+        Ok(!self.is_done(serving.request()))
+    }
+}
+
+/// Says how a client's last request stands.
+fn greet<R: Host>(rt: R, request: Option<Request>) {
+    let Some(Request { number, answer }) = request else {
+        return;
+    };
+    if let Some(reply) = answer {
+        let _told = println!(rt; "last {number} {reply}");
+    } else if number > 0 {
+        let _told = println!(rt; "waits {number}");
     }
 }
 
 /// Whether a client waits for an answer; of a node whether its beat may say something, which is so at the start.
-fn is_waiting<C: BootCell>(serving: &Process<C>) -> bool
-    ensures { result ≡ awaits (option_map (λ room. room.actor) serving.now.room) }
+fn awaits(request: Option<Request>) -> bool
+    ensures { result ≡ awaits request }
 {
-    match serving.actor() {
-        Some(PartyOf::Client(party)) => {
-            let client = party.client();
-            client.number() > 0 && client.answer().is_none()
-        }
-        _ => true,
+    match request {
+        Some(request) => request.number > 0 && request.answer.is_none(),
+        None => true,
+    }
+}
+
+/// How what was asked for came out, as the terminal is told.
+#[derive(Clone, Copy, Debug)]
+enum Told {
+    /// A client made its request: its answer is told once it comes.
+    Nothing,
+    Done,
+    Refused(NodeFault),
+    /// A client waits for another answer, or may not ask for that.
+    Misplaced,
+}
+
+/// How the last event came out, as the terminal is told.
+fn last_told(letters: &[Letter<PartyOutcome>]) -> Told
+    ensures { result ≡ last_told letters.now }
+{
+    match letters.last() {
+        Some(letter) => told_of(&letter.outcome),
+        None => Told::Nothing,
+    }
+}
+
+fn told_of(outcome: &PartyOutcome) -> Told
+    ensures { result ≡ told_of outcome.now }
+{
+    match outcome {
+        PartyOutcome::OfNode(Ok(_)) => Told::Done,
+        PartyOutcome::OfNode(Err(fault)) => Told::Refused(*fault),
+        PartyOutcome::OfClient(Err(_)) => Told::Misplaced,
+        _ => Told::Nothing,
     }
 }
 

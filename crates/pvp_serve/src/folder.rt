@@ -1,5 +1,6 @@
 //! The folder of an actor: who serves it, what stands there, and how far that can be trusted.
-ghost use Rattle.std.specs.Prelude.{◌≡◌, ◌++◌, IfOk, codes, string_bytes};
+ghost use Rattle.std.specs.Prelude.{◌≡◌, ◌++◌, IfOk, IfErr, codes, string_bytes};
+ghost use Rattle.pvp_places.specs.declared.serving.ServeFault.TheVariants.{NoMemory};
 
 use crate::host::Host;
 use pvp_places::{FolderWhy, Mark, Paper, ServeFault, read_mark};
@@ -31,9 +32,13 @@ fn told(failed: io::Error) -> ServeFault {
 
 /// The name of a file in a folder.
 pub fn name_in(alloc: Global, folder: &str, name: &str) -> Result<String, ServeFault>
-    ensures { IfOk result (λ whole. string_bytes whole ≡ folder.now ++ codes "/" ++ name.now) }
+    ensures whole { IfOk result (λ whole. string_bytes whole ≡ folder.now ++ codes "/" ++ name.now) }
+    ensures refused { IfErr result (λ fault. fault ≡ NoMemory) }
 {
-    Ok(format!(in alloc; "{folder}/{name}")?)
+    match format!(in alloc; "{folder}/{name}") {
+        Ok(whole) => Ok(whole),
+        Err(_) => Err(ServeFault::NoMemory),
+    }
 }
 
 /// Makes the folder where it is not there, and takes it for this process alone, for as long as the file that is answered

@@ -1,7 +1,9 @@
 //! What comes to the loop of a process.
 
 use crate::lanes::Lane;
+use crossbeam_channel::Sender;
 use pvp_intake::{Arrival, LinkEnd, LinkFault};
+use std::sync::Wait;
 
 /// What the loop takes, one after another.
 #[derive(Drop)]
@@ -26,4 +28,9 @@ pub enum Inbox {
     Line(Vec<u8>),
     /// The terminal has ended.
     End,
+}
+
+/// Tells a loop. `false` where it has ended or memory is refused: then what was told is lost.
+pub fn tell<T: Wait, M: Drop>(rt: &T, inbox: &Sender<M>, item: M) -> bool {
+    inbox.send(rt, item).is_ok()
 }

@@ -2,14 +2,19 @@
 ghost use Rattle.std.specs.Prelude.{
   ◌≡◌,
   [],
+  ◌∷◌,
   None,
   IfOk,
+  IfErr,
   OnOk,
   OnErr,
   is_some,
   option_copied,
 };
 ghost use Rattle.std.specs.List.{list_any};
+ghost use Rattle.pvp_places.specs.declared.serving.ServeFault.TheVariants.{NoMemory};
+ghost use Rattle.pvp_peers.specs.Puts.{Put};
+ghost use Rattle.pvp_rooms.specs.Gates.{Hears};
 ghost use Rattle.pvp_serve.specs.Lanes.{
   is_stream,
   is_to,
@@ -24,6 +29,7 @@ use crate::host::Wires;
 use crossbeam_channel::{Receiver, Sender, unbounded};
 use pvp_book::Book;
 use pvp_peers::Outbox;
+use pvp_places::ServeFault;
 use pvp_wire::{Stamp, Stamped, encode, wireable};
 use std::alloc::{AllocError, Global};
 use std::sync::atomic::{AtomicU64, Ordering};
@@ -145,7 +151,19 @@ impl Lanes {
     }
 
     /// A stream stands. One that stood between the same two is let go. `Err` where memory is refused: then none stands there.
-    pub fn meets(&mut self, lane: Lane) -> Result<(), AllocError>
+    pub fn meets(&mut self, lane: Lane) -> Result<(), ServeFault>
+        ensures stands { OnOk result (self.new.all.items ≡ with_lane lane self.old.all.items) }
+        ensures refused { IfErr result (λ fault. (fault ≡ NoMemory)
+            × (self.new.all.items ≡ lanes_to_others lane.peer self.old.all.items)) }
+        ensures favoured { self.new.favoured ≡ self.old.favoured }
+    {
+        match self.stand(lane) {
+            Ok(()) => Ok(()),
+            Err(_) => Err(ServeFault::NoMemory),
+        }
+    }
+
+    fn stand(&mut self, lane: Lane) -> Result<(), AllocError>
         ensures stands { OnOk result (self.new.all.items ≡ with_lane lane self.old.all.items) }
         ensures refused { OnErr result (
             self.new.all.items ≡ lanes_to_others lane.peer self.old.all.items) }
@@ -237,7 +255,11 @@ impl Outbox for Lanes {
         actor: u16,
         clock: u64,
         sent: &[Envelope<Book>],
-    ) {
+    )
+        ensures hears { Hears {X = Put} (λ lanes all. Unit {0}) self.old self.new
+            (record { actor = actor; clock = clock; sent = sent.now } ∷ []) }
+        ensures streams { self.new ≡ self.old }
+    {
         let mut index = 0u32;
         for envelope in sent {
             let stamp = Stamp {

@@ -3,7 +3,7 @@ ghost use Rattle.std.specs.Prelude.{IfOk, IfSome};
 ghost use Rattle.pvp_serve.specs.Doors.{IsLetIn};
 
 use crate::host::Wires;
-use crate::inbox::Inbox;
+use crate::inbox::{Inbox, tell};
 use crate::streams::{announce, read_all, settle, write_all};
 use crossbeam_channel::Sender;
 use pvp_intake::{Intake, Link, LinkFault};
@@ -111,7 +111,7 @@ fn take<R: Wires>(
     let told = inbox.clone()?;
     let is_known = Arc::new(rt.alloc(), AtomicBool::new(false))?;
     if door.open.load(Ordering::SeqCst) >= MOST_STREAMS {
-        let _told = told.send(&rt, Inbox::Away(None));
+        let _told = tell(&rt, &told, Inbox::Away(None));
         return Ok(());
     }
     strangers.comes(&stream, &is_known)?;
@@ -139,7 +139,7 @@ fn receive<R: Wires>(
         return;
     };
     if let Err(why) = welcome(rt, stream, number, door, inbox, is_known) {
-        let _told = told.send(&rt, Inbox::Away(Some(why)));
+        let _told = tell(&rt, &told, Inbox::Away(Some(why)));
     }
 }
 

@@ -1,11 +1,20 @@
 //! What is done before an actor is served: from its folder to its room.
-ghost use Rattle.std.specs.Prelude.{◌≡◌, None, Some, IfOk};
+ghost use Rattle.std.specs.Prelude.{◌≡◌, None, Some, IfOk, IfErr};
 ghost use Rattle.pvp_types.specs.Setup.{IsValid};
 ghost use Rattle.pvp_journal.specs.Journals.{IsRead};
 ghost use Rattle.pvp_journal.specs.declared.journal.Left.TheVariants.{Nothing};
-ghost use Rattle.pvp_logs.specs.Resumed.{IsAgain};
+ghost use Rattle.pvp_logs.specs.Resumed.{IsAgain, IsOpened};
 ghost use Rattle.pvp_serve.specs.Serving.{log_told};
-ghost use Rattle.pvp_serve.specs.Opening.{IsUntorn, kept_of, restart_told, wrong_in};
+ghost use Rattle.pvp_serve.specs.Opening.{
+  IsDamaged,
+  IsUntorn,
+  came_again,
+  came_back,
+  journal_told,
+  kept_of,
+  restart_told,
+  wrong_in,
+};
 
 use crate::folder::{is_whole, open_journal, put_in, put_mark, read_in};
 use crate::host::Host;
@@ -13,16 +22,16 @@ use crate::lanes::Lanes;
 use crate::serving::Serving;
 use pvp_cell::{DirStore, FileCell, OpenFault, read_cell};
 use pvp_evidence::{EvidenceWhy, ShelfFault};
-use pvp_journal::{Entry, Head, Journal, JournalWhy, Left, read_journal, write_head};
+use pvp_journal::{Entry, Head, Journal, JournalFault, JournalWhy, Left, read_journal, write_head};
 use pvp_logs::{
-    FileLog, JournalRoom, Log, LogFault, Replayed, RestartFault, WayBack, come_back, replay,
-    restart, way_back,
+    FileLog, JournalRoom, Journaled, Log, LogFault, Replayed, RestartFault, WayBack, come_back,
+    replay, restart, way_back,
 };
 use pvp_parties::{Party, PartyOf};
 use pvp_places::{FolderWhy, ServeFault};
 use pvp_rooms::Actor;
 use pvp_types::Setup;
-use std::alloc::Global;
+use std::alloc::{AllocError, Global};
 use std::fs::File;
 use vr_types::{ActorId, Boot, BootCell, MemCell};
 
@@ -93,22 +102,22 @@ pub fn open_other<R: Host>(rt: R, place: &Place<'_>) -> Result<Room<MemCell>, Se
 
 /// Writes what a room took as it was opened, and only then marks its folder for what is written from now on. What it sent is
 /// lost, as no stream stands yet.
-pub fn settle<R: Host, C: BootCell>(
+pub fn settle<R: Host, A: Journaled, L: Log>(
     rt: R,
     place: &Place<'_>,
-    room: Room<C>,
-) -> Result<Room<C>, ServeFault> {
+    room: JournalRoom<A, L>,
+) -> Result<JournalRoom<A, L>, ServeFault> {
     match room.flush(rt.alloc(), place.syncs) {
         Ok((room, _letters)) => marked(rt, place, room),
         Err(fault) => Err(log_fault(fault)),
     }
 }
 
-fn marked<R: Host, C: BootCell>(
+fn marked<R: Host, A: Journaled, L: Log>(
     rt: R,
     place: &Place<'_>,
-    room: Room<C>,
-) -> Result<Room<C>, ServeFault> {
+    room: JournalRoom<A, L>,
+) -> Result<JournalRoom<A, L>, ServeFault> {
     match put_mark(rt, place.folder, place.syncs) {
         Ok(()) => Ok(room),
         Err(fault) => Err(fault),
@@ -175,7 +184,7 @@ fn open_forgetful<R: Host>(
     let boot = cell.load();
     let (log, sum) = begin(rt, place, Some(boot))?;
     let room = new_site(alloc, place, site, MemCell::of(boot), log, sum)?;
-    restart(alloc, room, cell, WayBack::Restarts).map_err(fault_of)
+    restarted(restart(alloc, room, cell, WayBack::Restarts))
 }
 
 /// The room of a site that took its journal again, over its own cell.
@@ -200,15 +209,23 @@ fn open_same<R: Host>(
     bytes: Vec<u8>,
 ) -> Result<Room<MemCell>, ServeFault> {
     let bytes = untorn(rt.alloc(), bytes)?;
-    let room = again(rt, place, bytes.as_slice())?;
-    match is_whole(rt, place.folder) {
-        Ok(true) => Ok(room),
-        Ok(false) => Err(ServeFault::Folder(FolderWhy::Unsynced)),
-        Err(fault) => Err(fault),
+    trusted(rt, place, again(rt, place, bytes.as_slice()))
+}
+
+/// What was found in a folder, whose journal has to be whole.
+fn trusted<R: Host, T: Drop>(
+    rt: R,
+    place: &Place<'_>,
+    found: Result<T, ServeFault>,
+) -> Result<T, ServeFault> {
+    let found = found?;
+    match is_whole(rt, place.folder)? {
+        true => Ok(found),
+        false => Err(ServeFault::Folder(FolderWhy::Unsynced)),
     }
 }
 
-/// The way back of a site over its own cell.
+/// The way back of a site over its own cell. Where there is none, it is told of the cell.
 fn back<C: BootCell>(
     alloc: Global,
     is_whole: bool,
@@ -217,9 +234,17 @@ fn back<C: BootCell>(
 ) -> Result<Room<C>, ServeFault> {
     let held = cell.load();
     let known = room.actor().held().unwrap_or(held);
-    match way_back(known, held, is_whole) {
-        Some(way) => restart(alloc, room, cell, way).map_err(fault_of),
-        None => Err(ServeFault::Folder(FolderWhy::Cell)),
+    let way = way_back(known, held, is_whole).unwrap_or(WayBack::Again);
+    restarted(restart(alloc, room, cell, way))
+}
+
+/// What came back, or why it does not, as that is told.
+fn restarted<T>(came: Result<T, RestartFault>) -> Result<T, ServeFault>
+    ensures { result ≡ came_back came }
+{
+    match came {
+        Ok(back) => Ok(back),
+        Err(fault) => Err(fault_of(fault)),
     }
 }
 
@@ -232,11 +257,8 @@ fn new_site<C: BootCell>(
     log: FileLog<File>,
     sum: u64,
 ) -> Result<Room<C>, ServeFault> {
-    if site > 2 * place.setup.faults() {
-        return Err(ServeFault::Folder(FolderWhy::Actor));
-    }
     let opening = Some(cell.load());
-    let party = PartyOf::site(alloc, place.setup, site, cell)?;
+    let party = site_party(alloc, place, site, cell)?;
     Ok(JournalRoom::new(alloc, place.me, opening, party, log, sum))
 }
 
@@ -247,14 +269,35 @@ fn new_other(
     log: FileLog<File>,
     sum: u64,
 ) -> Result<Room<MemCell>, ServeFault> {
+    let party = other_party(alloc, place)?;
+    Ok(JournalRoom::new(alloc, place.me, None, party, log, sum))
+}
+
+/// The site of this number, over a cell.
+fn site_party<C: BootCell>(
+    alloc: Global,
+    place: &Place<'_>,
+    site: u16,
+    cell: C,
+) -> Result<PartyOf<C>, ServeFault>
+    ensures { IfOk result (λ party. IsOpened ⟦<PartyOf<C> as Actor>⟧ party (Some (C.held cell))) }
+{
+    if site > 2 * place.setup.faults() {
+        return Err(ServeFault::Folder(FolderWhy::Actor));
+    }
+    Ok(PartyOf::site(alloc, place.setup, site, cell)?)
+}
+
+/// The node or the client of a place.
+fn other_party(alloc: Global, place: &Place<'_>) -> Result<Party, ServeFault>
+    ensures { IfOk result (λ party. IsOpened ⟦<Party as Actor>⟧ party None) }
+{
     match ActorId::of(place.me) {
         ActorId::Node(ccy) if ccy < u16::from(place.setup.currency_count()) => {
-            let party = PartyOf::node(alloc, place.setup, ccy as u8)?;
-            Ok(JournalRoom::new(alloc, place.me, None, party, log, sum))
+            Ok(PartyOf::node(alloc, place.setup, ccy as u8)?)
         }
         ActorId::Client(client) if client <= place.setup.member_count() => {
-            let party = PartyOf::client(place.setup, client)?;
-            Ok(JournalRoom::new(alloc, place.me, None, party, log, sum))
+            Ok(PartyOf::client(place.setup, client)?)
         }
         _ => Err(ServeFault::Folder(FolderWhy::Actor)),
     }
@@ -283,10 +326,32 @@ fn begin<R: Host>(
 
 /// The bytes of a journal without the record that was cut off at their end.
 fn untorn(alloc: Global, bytes: Vec<u8>) -> Result<Vec<u8>, ServeFault>
-    ensures { IfOk result (λ kept. IsUntorn bytes.items kept.items) }
+    ensures kept { IfOk result (λ kept. IsUntorn bytes.items kept.items) }
+    ensures refused { IfErr result (λ fault. IsDamaged bytes.items fault) }
 {
-    let journal = read_journal(alloc, bytes.as_slice())?;
+    let journal = journal_of(alloc, bytes.as_slice())?;
     Ok(kept_of(bytes, journal.left))
+}
+
+/// The journal that these bytes are.
+fn journal_of(alloc: Global, bytes: &[u8]) -> Result<Journal, ServeFault>
+    ensures read { IfOk result (λ journal. IsRead bytes.now journal) }
+    ensures refused { IfErr result (λ fault. IsDamaged bytes.now fault) }
+{
+    match read_journal(alloc, bytes) {
+        Ok(journal) => Ok(journal),
+        Err(fault) => Err(journal_fault(fault)),
+    }
+}
+
+/// Why a journal is not read, as it is told.
+fn journal_fault(fault: JournalFault) -> ServeFault
+    ensures { result ≡ journal_told fault }
+{
+    match fault.why {
+        JournalWhy::NoMemory => ServeFault::NoMemory,
+        why => ServeFault::Journal { why, at: fault.at },
+    }
 }
 
 /// What is kept of the bytes of a journal that was read so far.
@@ -318,12 +383,24 @@ fn wrong_in(place: &Place<'_>, head: &Head) -> Option<EvidenceWhy>
 
 /// The room of an actor that took the journal of these bytes again in memory.
 fn again<R: Host>(rt: R, place: &Place<'_>, bytes: &[u8]) -> Result<Room<MemCell>, ServeFault> {
-    let journal = read_journal(rt.alloc(), bytes)?;
+    let journal = journal_of(rt.alloc(), bytes)?;
+    again_in(rt, place, bytes, &journal)
+}
+
+/// The same of a journal that was read from these bytes.
+fn again_in<R: Host>(
+    rt: R,
+    place: &Place<'_>,
+    bytes: &[u8],
+    journal: &Journal,
+) -> Result<Room<MemCell>, ServeFault>
+    requires { IsRead bytes.now journal.now }
+{
     if let Some(why) = wrong_in(place, &journal.head) {
         return Err(ServeFault::Other(why));
     }
     match journal.left {
-        Left::Nothing => again_at(rt, place, bytes, &journal),
+        Left::Nothing => again_at(rt, place, bytes, journal),
         Left::Torn(at) => Err(ServeFault::Journal {
             why: JournalWhy::Length,
             at,
@@ -331,7 +408,7 @@ fn again<R: Host>(rt: R, place: &Place<'_>, bytes: &[u8]) -> Result<Room<MemCell
     }
 }
 
-/// The same of a journal that was read from these bytes to their end.
+/// The same of one that was read to their end.
 fn again_at<R: Host>(
     rt: R,
     place: &Place<'_>,
@@ -370,11 +447,11 @@ fn other_again(
 ) -> Result<Replayed<Party>, ServeFault>
     ensures { IfOk result (λ again. IsAgain ⟦<Party as Actor>⟧ None again history.now) }
 {
-    match ActorId::of(place.me) {
-        ActorId::Node(ccy) => node_again(alloc, place, ccy, history),
-        ActorId::Client(client) => client_again(alloc, place, client, history),
-        ActorId::Site(_) => Err(ServeFault::Other(EvidenceWhy::Stranger)),
+    if let ActorId::Site(_) = ActorId::of(place.me) {
+        return Err(ServeFault::Other(EvidenceWhy::Stranger));
     }
+    let party = other_party(alloc, place)?;
+    replayed(replay(alloc, party, history))
 }
 
 /// The site of a place after a history.
@@ -389,50 +466,17 @@ fn site_again(
     let ActorId::Site(site) = ActorId::of(place.me) else {
         return Err(ServeFault::Other(EvidenceWhy::Stranger));
     };
-    if site > 2 * place.setup.faults() {
-        return Err(ServeFault::Folder(FolderWhy::Actor));
-    }
-    let party = Party::site(alloc, place.setup, site, MemCell::of(boot))?;
-    match replay(alloc, party, history)? {
-        Some(again) => Ok(again),
-        None => Err(ServeFault::Folder(FolderWhy::History)),
-    }
+    let party = site_party(alloc, place, site, MemCell::of(boot))?;
+    replayed(replay(alloc, party, history))
 }
 
-/// The node of a currency after a history.
-fn node_again(
-    alloc: Global,
-    place: &Place<'_>,
-    ccy: u16,
-    history: &[Entry],
-) -> Result<Replayed<Party>, ServeFault>
-    ensures { IfOk result (λ again. IsAgain ⟦<Party as Actor>⟧ None again history.now) }
+/// The actor that took its history again, or why it did not, as that is told.
+fn replayed<T>(came: Result<Option<T>, AllocError>) -> Result<T, ServeFault>
+    ensures { result ≡ came_again came }
 {
-    if ccy >= u16::from(place.setup.currency_count()) {
-        return Err(ServeFault::Folder(FolderWhy::Actor));
-    }
-    let party = Party::node(alloc, place.setup, ccy as u8)?;
-    match replay(alloc, party, history)? {
-        Some(again) => Ok(again),
-        None => Err(ServeFault::Folder(FolderWhy::History)),
-    }
-}
-
-/// The operator or a member after a history.
-fn client_again(
-    alloc: Global,
-    place: &Place<'_>,
-    client: u16,
-    history: &[Entry],
-) -> Result<Replayed<Party>, ServeFault>
-    ensures { IfOk result (λ again. IsAgain ⟦<Party as Actor>⟧ None again history.now) }
-{
-    if client > place.setup.member_count() {
-        return Err(ServeFault::Folder(FolderWhy::Actor));
-    }
-    let party = Party::client(place.setup, client)?;
-    match replay(alloc, party, history)? {
-        Some(again) => Ok(again),
-        None => Err(ServeFault::Folder(FolderWhy::History)),
+    match came {
+        Ok(Some(again)) => Ok(again),
+        Ok(None) => Err(ServeFault::Folder(FolderWhy::History)),
+        Err(_) => Err(ServeFault::NoMemory),
     }
 }

@@ -3,6 +3,7 @@ ghost use Rattle.std.specs.Prelude.{◌≡◌, ◌-◌, max, if◌then◌else◌
 ghost use Rattle.pvp_serve.specs.Patience.{
   after_tick,
   due,
+  fresh_patience,
   is_out,
   limit_by,
   primary_due,
@@ -64,7 +65,7 @@ pub struct Patience {
 impl Patience {
     /// That of a site that waits so many ticks at the least.
     pub fn new(least: u32) -> Self
-        ensures { result ≡ record { least = least; limit = least; quiet = 0; ticks = 0; done = 0; same = 0 } }
+        ensures { result ≡ fresh_patience least }
     {
         Patience {
             least,

@@ -135,11 +135,37 @@ fn serve_site<R: Host, L: BufRead + Drop + Send + 'static>(
     site: u16,
 ) -> Result<(), ServeFault> {
     let listener = listener_of(rt, order, &bank.peers, site)?;
-    let serving = site_of(rt, order, bank, me, site)?;
+    let mut serving = site_of(rt, order, bank, me, site)?;
+    host_site(
+        rt,
+        terminal,
+        order,
+        bank,
+        keys,
+        me,
+        site,
+        listener,
+        &mut serving,
+    )
+}
+
+/// Opens the streams of a site, and attends to it until it is done.
+fn host_site<R: Host, L: BufRead + Drop + Send + 'static, C: BootCell>(
+    rt: R,
+    terminal: L,
+    order: &Order<'_>,
+    bank: &Bank,
+    keys: Option<Keys>,
+    me: u16,
+    site: u16,
+    listener: TcpListener,
+    serving: &mut Process<C>,
+) -> Result<(), ServeFault> {
     let inbox = open_streams(rt, terminal, order, bank, keys, me, site, listener)?;
     let sites = 2 * bank.setup.faults() + 1;
     let desk = SiteDesk::new(bank.setup.copy()?, sites, order.patience, order.stays);
-    attend_site(rt, inbox, desk, serving)
+    let mut desk = Desk::Site(desk);
+    attend_site(rt, &inbox, &mut desk, serving)
 }
 
 /// A site, as its folder has it.
@@ -152,8 +178,7 @@ fn site_of<R: Host>(
 ) -> Result<Process<SiteCell<R>>, ServeFault> {
     let place = Place::new(&bank.setup, bank.id, me, order.data, order.syncs);
     let room = open_site(rt, &place, site)?;
-    let room = settle(rt, &place, room)?;
-    Ok(process_of(rt, &place, room))
+    process_of(rt, &place, room)
 }
 
 /// A node or a client, as its folder has it.
@@ -165,13 +190,18 @@ fn other_of<R: Host>(
 ) -> Result<Process<MemCell>, ServeFault> {
     let place = Place::new(&bank.setup, bank.id, me, order.data, order.syncs);
     let room = open_other(rt, &place)?;
-    let room = settle(rt, &place, room)?;
-    Ok(process_of(rt, &place, room))
+    process_of(rt, &place, room)
 }
 
 /// A room that is served, over no stream yet.
-fn process_of<R: Wires, C: BootCell>(rt: R, place: &Place<'_>, room: Room<C>) -> Process<C> {
-    Serving::new(place.me, place.syncs, room, Lanes::new(rt.alloc()))
+fn process_of<R: Host, C: BootCell>(
+    rt: R,
+    place: &Place<'_>,
+    room: Room<C>,
+) -> Result<Process<C>, ServeFault> {
+    let room = settle(rt, place, room)?;
+    let lanes = Lanes::new(rt.alloc());
+    Ok(Serving::new(place.me, place.syncs, room, lanes))
 }
 
 /// Has threads dial the sites before a site, listen for others, and bring ticks and lines. Answers what they bring.
@@ -195,15 +225,13 @@ fn open_streams<R: Host, L: BufRead + Drop + Send + 'static>(
 /// Attends to a site until it is done.
 fn attend_site<R: Host, C: BootCell>(
     rt: R,
-    inbox: Receiver<Inbox>,
-    desk: SiteDesk,
-    serving: Process<C>,
+    inbox: &Receiver<Inbox>,
+    desk: &mut Desk,
+    serving: &mut Process<C>,
 ) -> Result<(), ServeFault> {
-    let mut desk = Desk::Site(desk);
-    let mut serving = serving;
     let _letters = serving.flush(&rt, rt.alloc(), false)?;
-    desk.tell(rt, &serving);
-    attend(rt, &inbox, &mut desk, &mut serving)
+    desk.tell(rt, serving.standing());
+    attend(rt, inbox, desk, serving)
 }
 
 /// Serves a node or a client.
@@ -215,9 +243,25 @@ fn serve_other<R: Host, L: BufRead + Drop + Send + 'static>(
     keys: Option<Keys>,
     me: u16,
 ) -> Result<(), ServeFault> {
-    let serving = other_of(rt, order, bank, me)?;
-    let inbox = dial_all(rt, terminal, order, bank, &keys, me)?;
-    attend_other(rt, inbox, bank.setup.copy()?, order.stays, serving)
+    let mut serving = other_of(rt, order, bank, me)?;
+    host_other(rt, terminal, order, bank, &keys, me, &mut serving)
+}
+
+/// Opens the streams of a node or a client, and attends to it until it is done.
+fn host_other<R: Host, L: BufRead + Drop + Send + 'static, C: BootCell>(
+    rt: R,
+    terminal: L,
+    order: &Order<'_>,
+    bank: &Bank,
+    keys: &Option<Keys>,
+    me: u16,
+    serving: &mut Process<C>,
+) -> Result<(), ServeFault> {
+    let inbox = dial_all(rt, terminal, order, bank, keys, me)?;
+    let setup = bank.setup.copy()?;
+    let desk = TerminalDesk::new(rt, setup, order.stays, serving.request());
+    let mut desk = Desk::Terminal(desk);
+    attend(rt, &inbox, &mut desk, serving)
 }
 
 /// Has threads dial all sites, and bring ticks and lines. Answers what they bring.
@@ -235,19 +279,6 @@ fn dial_all<R: Host, L: BufRead + Drop + Send + 'static>(
     Ok(inbox)
 }
 
-/// Attends to a node or a client until it is done.
-fn attend_other<R: Host, C: BootCell>(
-    rt: R,
-    inbox: Receiver<Inbox>,
-    setup: Setup,
-    stays: bool,
-    serving: Process<C>,
-) -> Result<(), ServeFault> {
-    let mut serving = serving;
-    let mut desk = Desk::Terminal(TerminalDesk::new(rt, setup, stays, &serving));
-    attend(rt, &inbox, &mut desk, &mut serving)
-}
-
 /// Takes what comes, batch by batch, until the desk is done or a fault: each batch is written, and only then sent.
 fn attend<R: Host, C: BootCell>(
     rt: R,
@@ -261,7 +292,7 @@ fn attend<R: Host, C: BootCell>(
         };
         let goes_on = take_batch(rt, inbox, first, desk, serving)?;
         let _letters = serving.flush(&rt, rt.alloc(), false)?;
-        desk.tell(rt, serving);
+        desk.tell(rt, serving.standing());
         if !goes_on {
             break;
         }

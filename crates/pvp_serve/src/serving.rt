@@ -2,6 +2,11 @@
 ghost use Rattle.std.specs.Prelude.{
   ◌≡◌,
   ◌≢◌,
+  ◌+◌,
+  ◌-◌,
+  ◌^◌,
+  min,
+  if◌then◌else◌,
   true,
   false,
   [],
@@ -28,6 +33,7 @@ ghost use Rattle.pvp_serve.specs.Serving.{
   IsUnwritten,
   OutlivesIn,
   TakesIn,
+  has_orders_in,
   input_of,
   is_far,
   leaves,
@@ -35,25 +41,46 @@ ghost use Rattle.pvp_serve.specs.Serving.{
   own_input,
   puts_in,
   puts_of,
+  request_in,
   sends,
+  standing_in,
   waiting_in,
 };
 
 use crate::opening::log_fault;
 use pvp_intake::Arrival;
-use pvp_logs::{JournalRoom, Letter, Log, Posted};
+use pvp_logs::{JournalRoom, Journaled, Letter, Log, Posted};
 use pvp_parties::{Party, PartyEvent, PartyOf, PartyOutcome};
 use pvp_peers::{Outbox, Served};
 use pvp_places::ServeFault;
 use pvp_rooms::{Actor, Input};
+use pvp_types::Reply;
 use pvp_wire::Stamped;
 use std::alloc::Global;
 use std::sync::Wait;
-use vr_types::BootCell;
+use vr_types::{BootCell, Status};
 
 /// How far ahead of its own clock an actor believes a stamp: what is further is lost, so that nobody can spend the clocks
 /// of the whole bank with one frame.
 const HORIZON: u64 = 1 << 40;
+
+/// The last request of a client.
+#[derive(Clone, Copy, Debug)]
+pub struct Request {
+    /// 0 before the first.
+    pub number: u32,
+    pub answer: Option<Reply>,
+}
+
+/// Where a site stands.
+#[derive(Clone, Copy, Debug)]
+pub struct Standing {
+    pub status: Status,
+    pub view: u32,
+    /// How many rows its log has, and how many of them it has executed.
+    pub log: usize,
+    pub done: usize,
+}
 
 /// An actor, its journal, and where what it sends goes.
 #[derive(Drop)]
@@ -114,6 +141,49 @@ impl<C: BootCell, L: Log, O: Outbox + Drop> Serving<C, L, O> {
         }
     }
 
+    /// The last request of the client that is served; `None` of another actor, or where the room is gone.
+    pub fn request(&self) -> Option<Request>
+        ensures { result ≡ request_in self.now.room }
+    {
+        let Some(PartyOf::Client(party)) = self.actor() else {
+            return None;
+        };
+        let client = party.client();
+        Some(Request {
+            number: client.number(),
+            answer: client.answer(),
+        })
+    }
+
+    /// Where the site stands that is served; `None` of another actor, or where the room is gone.
+    pub fn standing(&self) -> Option<Standing>
+        ensures { result ≡ standing_in self.now.room }
+    {
+        let Some(PartyOf::Site(party)) = self.actor() else {
+            return None;
+        };
+        let site = party.replica();
+        Some(Standing {
+            status: site.status(),
+            view: site.view(),
+            log: site.log_len(),
+            done: site.done(),
+        })
+    }
+
+    /// Whether the site that is served holds orders that are neither paid nor returned.
+    pub fn has_orders(&self) -> bool
+        ensures { result ≡ has_orders_in C.held self.now.room }
+    {
+        let Some(PartyOf::Site(party)) = self.actor() else {
+            return false;
+        };
+        match party.replica().machine() {
+            Some(book) => book.open(0).is_some(),
+            None => false,
+        }
+    }
+
     /// What waits for a flush, in order; nothing where the room is gone.
     pub fn waiting(&self) -> &[Letter<PartyOutcome>]
         ensures { result.now ≡ waiting_in self.now.room }
@@ -148,17 +218,24 @@ impl<C: BootCell, L: Log, O: Outbox + Drop> Serving<C, L, O> {
         } }
     {
         let Stamped { stamp, envelope } = arrival.into_stamped();
-        if self.is_far(stamp.clock) {
+        let is_far = self.is_far(stamp.clock);
+        self.counts(is_far);
+        let input = Input {
+            event: PartyOf::<C>::deliver(envelope),
+            stamp: Some(stamp),
+        };
+        step_unless(is_far, &mut self.room, alloc, input)
+    }
+
+    /// A frame came, with a clock that is too far ahead or not: what is lost is counted.
+    fn counts(&mut self, is_far: bool)
+        ensures { self.new ≡ record self.old {
+          unbelieved = if is_far then min (self.old.unbelieved + 1) (2 ^ 64 - 1) else self.old.unbelieved;
+        } }
+    {
+        if is_far {
             self.unbelieved = self.unbelieved.saturating_add(1);
-            return Ok(());
         }
-        self.take(
-            alloc,
-            Input {
-                event: PartyOf::<C>::deliver(envelope),
-                stamp: Some(stamp),
-            },
-        )
     }
 
     /// Takes an event of its own. What it sends waits for `flush`.
@@ -168,7 +245,7 @@ impl<C: BootCell, L: Log, O: Outbox + Drop> Serving<C, L, O> {
         ensures refused { IfErr result (λ fault. IsRefused None self.old.room self.new.room fault) }
         ensures rest { self.new ≡ record self.old { room = self.new.room } }
     {
-        self.take(alloc, Input { event, stamp: None })
+        step_in(&mut self.room, alloc, Input { event, stamp: None })
     }
 
     /// Whether a clock is too far ahead of the actor's own to be believed.
@@ -178,25 +255,6 @@ impl<C: BootCell, L: Log, O: Outbox + Drop> Serving<C, L, O> {
         match &self.room {
             Some(room) => clock > room.clock().saturating_add(HORIZON),
             None => false,
-        }
-    }
-
-    fn take(&mut self, alloc: Global, input: Input<PartyEvent>) -> Result<(), ServeFault>
-        ensures takes { OnOk result (TakesIn ⟦<PartyOf<C> as Actor>⟧ bank_texts L.seen input
-            self.old.room self.new.room) }
-        ensures refused { IfErr result (λ fault.
-            IsRefused input.stamp self.old.room self.new.room fault) }
-        ensures rest { self.new ≡ record self.old { room = self.new.room } }
-    {
-        let Some(room) = self.room.take() else {
-            return Err(ServeFault::Unfit);
-        };
-        let (room, posted) = room.step(alloc, input)?;
-        self.put_back(room);
-        match posted {
-            Posted::Done(_) => Ok(()),
-            Posted::NoMemory => Err(ServeFault::NoMemory),
-            Posted::ClockSpent => Err(ServeFault::Clock),
         }
     }
 
@@ -221,28 +279,13 @@ impl<C: BootCell, L: Log, O: Outbox + Drop> Serving<C, L, O> {
         ensures handed { Hears O.got self.old.out self.new.out (puts_of self.old.me result) }
         ensures rest { self.new ≡ record self.old { room = self.new.room; out = self.new.out } }
     {
-        let Some(room) = self.room.take() else {
-            return Err(ServeFault::Unfit);
-        };
-        if room.is_flushed() {
-            self.put_back(room);
-            return Ok(Vec::new(alloc));
+        let syncs = self.syncs && leaves(is_told, self.waiting());
+        let letters = write_in(&mut self.room, alloc, syncs)?;
+        if letters.is_empty() {
+            return Ok(letters);
         }
-        let syncs = self.syncs && leaves(is_told, room.waiting());
-        let (room, letters) = match room.flush(alloc, syncs) {
-            Ok(flushed) => flushed,
-            Err(fault) => return Err(log_fault(fault)),
-        };
-        self.put_back(room);
         self.hand_out(rt, alloc, letters.as_slice());
         Ok(letters)
-    }
-
-    /// The room stands there again that was taken.
-    fn put_back(&mut self, room: JournalRoom<PartyOf<C>, L>)
-        ensures { self.new ≡ record self.old { room = Some room } }
-    {
-        self.room = Some(room);
     }
 
     /// Hands out what these events sent, in order.
@@ -255,6 +298,83 @@ impl<C: BootCell, L: Log, O: Outbox + Drop> Serving<C, L, O> {
             self.out.put(rt, alloc, self.me, letter.clock, sent);
         }
     }
+}
+
+/// Takes an input in the room that stands here, unless it is lost.
+fn step_unless<A: Journaled, L: Log>(
+    is_lost: bool,
+    stands: &mut Option<JournalRoom<A, L>>,
+    alloc: Global,
+    input: Input<A::Event>,
+) -> Result<(), ServeFault>
+    ensures lost { IsTrue is_lost → IsOk result × (stands.new ≡ stands.old) }
+    ensures takes { is_lost ≡ false → OnOk result (TakesIn A.Actor A.texts L.seen input
+        stands.old stands.new) }
+    ensures refused { IfErr result (λ fault. IsRefused input.stamp stands.old stands.new fault) }
+{
+    if is_lost {
+        return Ok(());
+    }
+    step_in(stands, alloc, input)
+}
+
+/// Takes an input in the room that stands here. The room is gone where its record cannot be written.
+fn step_in<A: Journaled, L: Log>(
+    stands: &mut Option<JournalRoom<A, L>>,
+    alloc: Global,
+    input: Input<A::Event>,
+) -> Result<(), ServeFault>
+    ensures takes { OnOk result (TakesIn A.Actor A.texts L.seen input stands.old stands.new) }
+    ensures refused { IfErr result (λ fault. IsRefused input.stamp stands.old stands.new fault) }
+{
+    let Some(room) = stands.take() else {
+        return Err(ServeFault::Unfit);
+    };
+    let (room, posted) = room.step(alloc, input)?;
+    put_back(stands, room);
+    match posted {
+        Posted::Done(_) => Ok(()),
+        Posted::NoMemory => Err(ServeFault::NoMemory),
+        Posted::ClockSpent => Err(ServeFault::Clock),
+    }
+}
+
+/// Writes what waits in the room that stands here, and answers it. After `Err` the room is gone.
+fn write_in<A: Journaled, L: Log>(
+    stands: &mut Option<JournalRoom<A, L>>,
+    alloc: Global,
+    syncs: bool,
+) -> Result<Vec<Letter<A::Outcome>>, ServeFault>
+    ensures written { IfOk result (λ letters. HasFlushed A.Actor A.texts L.seen
+        stands.old stands.new letters.items) }
+    ensures letters { IfOk result (λ letters. letters.items ≡ waiting_in stands.old) }
+    ensures idle { IsIdle stands.old → IsOk result × (stands.new ≡ stands.old) }
+    ensures refused { IfErr result (λ fault. IsUnwritten stands.old fault) }
+    ensures gone { OnErr result (stands.new ≡ None) }
+    ensures synced { IfOk result (λ letters. IsTrue syncs → letters.items ≢ [] →
+        OutlivesIn L.seen L.synced stands.new) }
+{
+    let Some(room) = stands.take() else {
+        return Err(ServeFault::Unfit);
+    };
+    if room.is_flushed() {
+        put_back(stands, room);
+        return Ok(Vec::new(alloc));
+    }
+    match room.flush(alloc, syncs) {
+        Ok((room, letters)) => {
+            put_back(stands, room);
+            Ok(letters)
+        }
+        Err(fault) => Err(log_fault(fault)),
+    }
+}
+
+/// What was taken from here stands here again.
+fn put_back<T: Drop>(stands: &mut Option<T>, taken: T)
+    ensures { stands.new ≡ Some taken }
+{
+    *stands = Some(taken);
 }
 
 /// Whether something leaves: what happened is told, or an event sent something.

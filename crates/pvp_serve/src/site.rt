@@ -1,32 +1,44 @@
 //! A site that is served.
-ghost use Rattle.std.specs.Prelude.{◌≡◌, ◌&&◌, ◌||◌, not, IfOk, OnOk, option_map};
+ghost use Rattle.std.specs.Prelude.{◌≡◌, ◌<◌, ◌&&◌, ◌||◌, None, false, not, IfOk, IfErr, IfSome, IsOk, OnOk};
 ghost use Rattle.std.specs.List.{list_any};
+ghost use Rattle.pvp_logs.specs.Rooms.{bank_texts};
+ghost use Rattle.pvp_places.specs.declared.serving.ServeFault.TheVariants.{NoMemory};
 ghost use Rattle.pvp_serve.specs.Desks.{
+  DoesOwn,
+  comes_to_actor,
+  event_due,
   found_full,
+  fresh_teller,
   heard_from,
   is_end,
   is_full,
   is_primary,
+  lanes_after,
+  look_in,
+  look_of,
   missed_by,
   primary_of,
   serves_view,
 };
-ghost use Rattle.pvp_serve.specs.Lanes.{is_stream, with_lane, without_lane};
+ghost use Rattle.pvp_serve.specs.Lanes.{is_stream, lanes_to_others, with_lane, without_lane};
+ghost use Rattle.pvp_serve.specs.Patience.{IsTicked, due, fresh_patience};
+ghost use Rattle.pvp_serve.specs.Serving.{standing_in};
 
 use crate::host::Host;
 use crate::inbox::Inbox;
-use crate::lanes::Lane;
+use crate::lanes::{Lane, Lanes};
 use crate::opening::Process;
 use crate::patience::{Due, Look, Patience};
+use crate::serving::{Serving, Standing};
 use crate::telling::Teller;
 use pvp_book::Book;
 use pvp_intake::Arrival;
-use pvp_logs::Letter;
+use pvp_logs::{Letter, Log};
 use pvp_parties::{PartyEvent, PartyOf, PartyOutcome};
 use pvp_places::ServeFault;
-use pvp_rooms::CameOf;
+use pvp_rooms::{Actor, CameOf};
 use pvp_types::Setup;
-use vr_types::{ActorId, BootCell, EventOf, Machine, Msg, MsgOf, Why};
+use vr_types::{ActorId, BootCell, Envelope, EventOf, Msg, MsgOf, Why};
 
 /// What a site's loop keeps beside the site itself.
 #[derive(Drop)]
@@ -40,9 +52,12 @@ pub struct SiteDesk {
 impl SiteDesk {
     /// That of a site of a bank of this setup with so many sites, which waits so many ticks at the least.
     pub fn new(setup: Setup, sites: u16, patience: u32, stays: bool) -> Self
-        ensures sites { result.sites ≡ sites }
-        ensures patience { result.patience.least ≡ patience }
-        ensures stays { result.stays ≡ stays }
+        ensures { result ≡ record {
+          sites = sites;
+          patience = fresh_patience patience;
+          teller = fresh_teller setup;
+          stays = stays;
+        } }
     {
         SiteDesk {
             sites,
@@ -60,17 +75,19 @@ impl SiteDesk {
         serving: &mut Process<C>,
         arrival: Arrival,
     ) -> Result<(), ServeFault>
-        ensures { self.new ≡ record self.old {
+        ensures heard { self.new ≡ record self.old {
           patience = heard_from
               (serves_view arrival.stamped.envelope.msg
-              && is_primary (option_map (λ room. room.actor) serving.old.room) self.old.sites
+              && is_primary (standing_in serving.old.room) self.old.sites
               arrival.stamped.envelope.from)
               self.old.patience;
         } }
+        ensures rest { serving.new ≡ record serving.old {
+          room = serving.new.room;
+          unbelieved = serving.new.unbelieved;
+        } }
     {
-        if serves_view(&arrival.stamped().envelope.msg) {
-            self.hears(serving, arrival.stamped().envelope.from);
-        }
+        self.attends(serving.standing(), &arrival.stamped().envelope);
         let (from, before) = (arrival.peer(), serving.waiting().len());
         serving.take_frame(rt.alloc(), arrival)?;
         if found_full(before, serving.waiting()) {
@@ -79,15 +96,27 @@ impl SiteDesk {
         Ok(())
     }
 
-    /// An actor serves its view.
-    fn hears<C: BootCell>(&mut self, serving: &Process<C>, peer: u16)
+    /// An envelope came.
+    fn attends(&mut self, standing: Option<Standing>, envelope: &Envelope<Book>)
         ensures { self.new ≡ record self.old {
           patience = heard_from
-              (is_primary (option_map (λ room. room.actor) serving.now.room) self.old.sites peer)
+              (serves_view envelope.now.msg
+              && is_primary standing self.old.sites envelope.now.from)
               self.old.patience;
         } }
     {
-        if is_primary(serving, self.sites, peer) {
+        if serves_view(&envelope.msg) {
+            self.hears(standing, envelope.from);
+        }
+    }
+
+    /// An actor serves its view.
+    fn hears(&mut self, standing: Option<Standing>, peer: u16)
+        ensures { self.new ≡ record self.old {
+          patience = heard_from (is_primary standing self.old.sites peer) self.old.patience;
+        } }
+    {
+        if is_primary(standing, self.sites, peer) {
             self.patience.hears();
         }
     }
@@ -100,38 +129,104 @@ impl SiteDesk {
         ensures patience { self.new ≡ record self.old {
           patience = missed_by
               (list_any (is_stream peer stream) serving.old.out.all.items
-              && is_primary (option_map (λ room. room.actor) serving.old.room) self.old.sites peer)
+              && is_primary (standing_in serving.old.room) self.old.sites peer)
               self.old.patience;
         } }
     {
-        if serving.out_mut().loses(peer, stream) && is_primary(serving, self.sites, peer) {
+        let stood = serving.out_mut().loses(peer, stream);
+        if stood && is_primary(serving.standing(), self.sites, peer) {
             self.patience.misses();
         }
     }
 
     /// A tick goes by.
-    fn tick<R: Host, C: BootCell>(
+    fn tick<R: Host, C: BootCell, L: Log>(
         &mut self,
         rt: R,
-        serving: &mut Process<C>,
-    ) -> Result<(), ServeFault> {
+        serving: &mut Serving<C, L, Lanes>,
+    ) -> Result<(), ServeFault>
+        ensures gone { standing_in serving.old.room ≡ None →
+            IsOk result × (self.new ≡ self.old) × (serving.new ≡ serving.old) }
+        ensures ticks { IfSome
+            (look_in C.held self.old.sites serving.old.me serving.old.room)
+            (λ look. IsTicked look self.old.patience self.new.patience) }
+        ensures does { IfSome
+            (look_in C.held self.old.sites serving.old.me serving.old.room)
+            (λ look. DoesOwn ⟦<PartyOf<C> as Actor>⟧ bank_texts L.seen
+            (event_due (due self.old.patience look)) serving.old.room serving.new.room result) }
+        ensures desk { self.new ≡ record self.old { patience = self.new.patience } }
+        ensures rest { serving.new ≡ record serving.old { room = serving.new.room } }
+    {
         let Some(look) = look_at(serving, self.sites) else {
             return Ok(());
         };
-        let event = match self.patience.tick(look) {
-            Due::Nothing => return Ok(()),
-            Due::Ping => {
-                serving.out().ping_sites(&rt, rt.alloc());
-                return Ok(());
+        let due = self.patience.tick(look);
+        if due == Due::Timer {
+            self.patience.draws(drawn(rt));
+        }
+        do_due(rt, serving, due)
+    }
+
+    /// Takes what came.
+    fn handle<R: Host, C: BootCell>(
+        &mut self,
+        rt: R,
+        serving: &mut Process<C>,
+        item: Inbox,
+    ) -> Result<(), ServeFault>
+        ensures room { comes_to_actor item ≡ false → serving.new.room ≡ serving.old.room }
+        ensures streams { OnOk result (serving.new.out.all.items
+            ≡ lanes_after item serving.old.out.all.items) }
+        ensures desk { self.new
+            ≡ record self.old { patience = self.new.patience; teller = self.new.teller } }
+    {
+        match item {
+            Inbox::Frame(arrival) => self.take_frame(rt, serving, arrival),
+            Inbox::Tick => {
+                self.teller.ticks(rt, serving.unbelieved());
+                self.tick(rt, serving)
             }
-            Due::Restart => EventOf::Restart,
-            Due::Beat => EventOf::Beat,
-            Due::Timer => {
-                self.patience.draws(drawn(rt));
-                EventOf::Timer
+            Inbox::Came(lane) => self.meets(serving, lane),
+            Inbox::Ping(peer) => {
+                self.hears(serving.standing(), peer);
+                Ok(())
             }
-        };
-        serving.take_event(rt.alloc(), PartyEvent::OfSite(event))
+            Inbox::Gone { peer, stream, end } => {
+                self.teller.ends(rt, peer, end);
+                self.loses(serving, peer, stream);
+                Ok(())
+            }
+            Inbox::Away(why) => {
+                self.teller.turns_away(why);
+                Ok(())
+            }
+            Inbox::Line(text) => {
+                self.answers(rt, serving, text.as_slice());
+                Ok(())
+            }
+            Inbox::End => Ok(()),
+        }
+    }
+
+    /// A line came, which may ask where the site stands.
+    fn answers<R: Host, C: BootCell>(&self, rt: R, serving: &Process<C>, line: &[u8]) {
+        if line == b"status".as_slice() {
+            self.teller
+                .answers(rt, serving.standing(), serving.out().all());
+        }
+    }
+
+    /// A stream stands.
+    fn meets<C: BootCell>(&mut self, serving: &mut Process<C>, lane: Lane) -> Result<(), ServeFault>
+        ensures lanes { OnOk result (serving.new.out.all.items
+            ≡ with_lane lane serving.old.out.all.items) }
+        ensures refused { IfErr result (λ fault. (fault ≡ NoMemory) × (serving.new.out.all.items
+            ≡ lanes_to_others lane.peer serving.old.out.all.items)) }
+        ensures patience { self.new ≡ record self.old { patience = self.new.patience } }
+        ensures serving { serving.new ≡ record serving.old { out = serving.new.out } }
+    {
+        self.patience.meets();
+        serving.out_mut().meets(lane)
     }
 
     /// Takes what came. `false` where the process is to end.
@@ -148,55 +243,31 @@ impl SiteDesk {
         Ok(goes_on)
     }
 
-    fn handle<R: Host, C: BootCell>(
-        &mut self,
-        rt: R,
-        serving: &mut Process<C>,
-        item: Inbox,
-    ) -> Result<(), ServeFault> {
-        match item {
-            Inbox::Frame(arrival) => self.take_frame(rt, serving, arrival),
-            Inbox::Tick => {
-                self.teller.ticks(rt, serving.unbelieved());
-                self.tick(rt, serving)
-            }
-            Inbox::Came(lane) => self.meets(serving, lane),
-            Inbox::Ping(peer) => {
-                self.hears(serving, peer);
-                Ok(())
-            }
-            Inbox::Gone { peer, stream, end } => {
-                self.teller.ends(rt, peer, end);
-                self.loses(serving, peer, stream);
-                Ok(())
-            }
-            Inbox::Away(why) => {
-                self.teller.turns_away(why);
-                Ok(())
-            }
-            Inbox::Line(text) => {
-                if text.as_slice() == b"status".as_slice() {
-                    self.teller.answers(rt, serving);
-                }
-                Ok(())
-            }
-            Inbox::End => Ok(()),
-        }
-    }
-
-    /// A stream stands.
-    fn meets<C: BootCell>(&mut self, serving: &mut Process<C>, lane: Lane) -> Result<(), ServeFault>
-        ensures lanes { OnOk result (serving.new.out.all.items
-            ≡ with_lane lane serving.old.out.all.items) }
-        ensures serving { serving.new ≡ record serving.old { out = serving.new.out } }
-    {
-        self.patience.meets();
-        Ok(serving.out_mut().meets(lane)?)
-    }
-
     /// Tells on standard error where the site stands, where that is new.
-    pub fn tell<R: Host, C: BootCell>(&mut self, rt: R, serving: &Process<C>) {
-        self.teller.stands(rt, serving);
+    pub fn tell<R: Host>(&mut self, rt: R, standing: Option<Standing>) {
+        self.teller.stands(rt, standing);
+    }
+}
+
+/// Does what is due at a tick.
+fn do_due<R: Host, C: BootCell, L: Log>(
+    rt: R,
+    serving: &mut Serving<C, L, Lanes>,
+    due: Due,
+) -> Result<(), ServeFault>
+    ensures does { DoesOwn ⟦<PartyOf<C> as Actor>⟧ bank_texts L.seen (event_due due)
+        serving.old.room serving.new.room result }
+    ensures rest { serving.new ≡ record serving.old { room = serving.new.room } }
+{
+    match due {
+        Due::Nothing => Ok(()),
+        Due::Restart => serving.take_event(rt.alloc(), PartyEvent::OfSite(EventOf::Restart)),
+        Due::Beat => serving.take_event(rt.alloc(), PartyEvent::OfSite(EventOf::Beat)),
+        Due::Ping => {
+            serving.out().ping_sites(&rt, rt.alloc());
+            Ok(())
+        }
+        Due::Timer => serving.take_event(rt.alloc(), PartyEvent::OfSite(EventOf::Timer)),
     }
 }
 
@@ -238,31 +309,34 @@ fn is_end(item: &Inbox) -> bool
 }
 
 /// The site, as its timers see it.
-fn look_at<C: BootCell>(serving: &Process<C>, sites: u16) -> Option<Look> {
-    let Some(PartyOf::Site(site)) = serving.actor() else {
+fn look_at<C: BootCell, L: Log>(serving: &Serving<C, L, Lanes>, sites: u16) -> Option<Look>
+    ensures { result ≡ look_in C.held sites serving.now.me serving.now.room }
+{
+    let Some(standing) = serving.standing() else {
         return None;
     };
-    let site = site.replica();
-    let done = site.done();
-    let owes = match site.machine() {
-        Some(book) => book.open(0).is_some(),
-        None => false,
-    };
-    Some(Look {
-        status: site.status(),
-        is_primary: primary_of(site.view(), sites) == serving.me(),
-        done,
-        owes: owes || site.log_len() > done,
-    })
+    Some(look_of(serving.has_orders(), sites, serving.me(), standing))
 }
 
-/// Whether an actor is the primary of the view in which the site is.
-fn is_primary<C: BootCell>(serving: &Process<C>, sites: u16, actor: u16) -> bool
-    ensures { result ≡ is_primary (option_map (λ room. room.actor) serving.now.room) sites actor }
+/// A site of this number that stands so, and holds orders or not, as its timers see it.
+fn look_of(has_orders: bool, sites: u16, me: u16, standing: Standing) -> Look
+    ensures { result ≡ look_of has_orders sites me standing }
 {
-    match serving.actor() {
-        Some(PartyOf::Site(site)) => primary_of(site.replica().view(), sites) == actor,
-        _ => false,
+    Look {
+        status: standing.status,
+        is_primary: primary_of(standing.view, sites) == me,
+        done: standing.done,
+        owes: has_orders || standing.log > standing.done,
+    }
+}
+
+/// Whether an actor is the primary of the view in which a site stands.
+fn is_primary(standing: Option<Standing>, sites: u16, actor: u16) -> bool
+    ensures { result ≡ is_primary standing sites actor }
+{
+    match standing {
+        Some(standing) => primary_of(standing.view, sites) == actor,
+        None => false,
     }
 }
 
@@ -277,7 +351,9 @@ fn primary_of(view: u32, sites: u16) -> u16
 }
 
 /// A number from 0 to 255, drawn anew.
-fn drawn<R: Host>(rt: R) -> u8 {
+fn drawn<R: Host>(rt: R) -> u8
+    ensures { result < 256 }
+{
     let mut bytes = [0u8; 1];
     let _drawn = rt.fill_bytes(&mut bytes);
     bytes[0]

@@ -4,7 +4,7 @@ ghost use Rattle.pvp_intake.specs.Sealing.{sealed};
 ghost use Rattle.pvp_serve.specs.Lanes.{piece_text};
 
 use crate::host::Wires;
-use crate::inbox::Inbox;
+use crate::inbox::{Inbox, tell};
 use crate::lanes::{Outgoing, lane_to};
 use crossbeam_channel::Sender;
 use pvp_intake::{Hearer, Intake, Link, Piece, hear_all, put_frame, put_ping};
@@ -35,10 +35,10 @@ pub fn announce<R: Wires>(
     stream: u64,
 ) -> Option<Outgoing> {
     let (lane, outgoing) = lane_to(rt.alloc(), peer, stream).ok()?;
-    match inbox.send(&rt, Inbox::Came(lane)) {
-        Ok(()) => Some(outgoing),
-        Err(_) => None,
+    if !tell(&rt, inbox, Inbox::Came(lane)) {
+        return None;
     }
+    Some(outgoing)
 }
 
 /// Writes what comes until the lane is let go or a write fails, and then closes the stream.
@@ -110,7 +110,7 @@ impl Hearer for ToLoop<'_> {
             Piece::Ping => Inbox::Ping(self.peer),
             Piece::Frame(arrival) => Inbox::Frame(arrival),
         };
-        self.inbox.send(rt, item).is_ok()
+        tell(rt, self.inbox, item)
     }
 }
 
@@ -132,8 +132,9 @@ pub fn read_all<R: Wires>(
     };
     let end = hear_all(&rt, rt.alloc(), &link, intake, &mut stream, &mut to_loop);
     let _closed = stream.shutdown(Shutdown::Both);
-    let _told = inbox.send(
+    let _told = tell(
         &rt,
+        &inbox,
         Inbox::Gone {
             peer,
             stream: number,

@@ -1,22 +1,22 @@
 //! What a site tells its operator: on standard error where that is new, and on standard output where it is asked.
-ghost use Rattle.std.specs.Prelude.{◌≡◌, ◌+◌, ◌-◌, ◌^◌, None, is_some, min, if◌then◌else◌};
-ghost use Rattle.pvp_serve.specs.Desks.{status_word};
+ghost use Rattle.std.specs.Prelude.{◌≡◌, ◌+◌, ◌-◌, ◌^◌, is_some, min, if◌then◌else◌};
+ghost use Rattle.pvp_serve.specs.Desks.{fresh_teller, status_word};
 
 use crate::host::Host;
-use crate::opening::Process;
+use crate::lanes::Lane;
+use crate::serving::Standing;
 use pvp_intake::{LinkEnd, LinkFault};
-use pvp_parties::PartyOf;
 use pvp_trace::names::push_actor;
 use pvp_types::Setup;
 use std::alloc::{AllocError, Global};
-use vr_types::{BootCell, MAX_ROWS, Status};
+use vr_types::{MAX_ROWS, Status};
 
 /// At every which tick it tells what was turned away or lost since.
 const TELLING_TICKS: u32 = 100;
 
-/// Where a site stands, as it is told.
+/// What is told of where a site stands.
 #[derive(Clone, Copy, Debug, PartialEq, Eq)]
-struct Standing {
+struct Stood {
     status: Status,
     view: u32,
     is_full: bool,
@@ -26,7 +26,7 @@ struct Standing {
 #[derive(Drop)]
 pub struct Teller {
     setup: Setup,
-    stood: Option<Standing>,
+    stood: Option<Stood>,
     /// The stream that ended last with something wrong: whose, and why.
     ended: Option<(u16, LinkFault)>,
     /// How many streams were turned away, and why the last.
@@ -40,15 +40,7 @@ pub struct Teller {
 impl Teller {
     /// That of a site of a bank of this setup, which has told nothing.
     pub fn new(setup: Setup) -> Self
-        ensures { result ≡ record {
-          setup = setup;
-          stood = None;
-          ended = None;
-          away = 0;
-          why = None;
-          told = (0, 0);
-          ticks = 0;
-        } }
+        ensures { result ≡ fresh_teller setup }
     {
         Teller {
             setup,
@@ -108,35 +100,47 @@ impl Teller {
     }
 
     /// Tells where the site stands, where that is new.
-    pub fn stands<R: Host, C: BootCell>(&mut self, rt: R, process: &Process<C>) {
-        let Some(PartyOf::Site(site)) = process.actor() else {
+    pub fn stands<R: Host>(&mut self, rt: R, standing: Option<Standing>) {
+        let Some(
+            Standing {
+                status,
+                view,
+                log,
+                ..
+            },
+        ) = standing
+        else {
             return;
         };
-        let site = site.replica();
-        let log = site.log_len();
-        let standing = Standing {
-            status: site.status(),
-            view: site.view(),
+        let now = Stood {
+            status,
+            view,
             is_full: log >= MAX_ROWS,
         };
-        if self.stood == Some(standing) {
+        if self.stood == Some(now) {
             return;
         }
-        self.stood = Some(standing);
-        let (word, view) = (word_of(standing.status), standing.view);
-        let full = if standing.is_full { " full" } else { "" };
+        self.stood = Some(now);
+        let word = word_of(status);
+        let full = if now.is_full { " full" } else { "" };
         let _told = eprintln!(rt; "{word} view {view} log {log}{full}");
     }
 
     /// Answers where the site stands, and with whom it has a stream.
-    pub fn answers<R: Host, C: BootCell>(&self, rt: R, process: &Process<C>) {
-        let Some(PartyOf::Site(site)) = process.actor() else {
+    pub fn answers<R: Host>(&self, rt: R, standing: Option<Standing>, lanes: &[Lane]) {
+        let Some(
+            Standing {
+                status,
+                view,
+                log,
+                done,
+            },
+        ) = standing
+        else {
             return;
         };
-        let site = site.replica();
-        let (word, view, log) = (word_of(site.status()), site.view(), site.log_len());
-        let done = site.done();
-        if let Ok(peers) = self.peers_of(rt.alloc(), process) {
+        let word = word_of(status);
+        if let Ok(peers) = self.peers_of(rt.alloc(), lanes) {
             let _told = println!(rt;
                 "{word} view {view} log {log} done {done} hears{}",
                 peers.as_str()
@@ -145,13 +149,9 @@ impl Teller {
     }
 
     /// The names of those with whom a stream stands, each behind a space.
-    fn peers_of<C: BootCell>(
-        &self,
-        alloc: Global,
-        process: &Process<C>,
-    ) -> Result<String, AllocError> {
+    fn peers_of(&self, alloc: Global, lanes: &[Lane]) -> Result<String, AllocError> {
         let mut names = String::new(alloc);
-        for lane in process.out().all() {
+        for lane in lanes {
             names.push_str(" ")?;
             push_actor(&mut names, &self.setup, lane.peer)?;
         }

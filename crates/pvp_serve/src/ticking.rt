@@ -1,7 +1,7 @@
 //! What comes to the loop of itself: beats of the clock, and lines of the terminal.
 
 use crate::host::Wires;
-use crate::inbox::Inbox;
+use crate::inbox::{Inbox, tell};
 use crossbeam_channel::Sender;
 use std::io::BufRead;
 use std::thread;
@@ -11,7 +11,7 @@ use std::time::Duration;
 pub fn tick<R: Wires>(rt: R, every: u32, inbox: Sender<Inbox>) {
     for _ in rt.forever() {
         thread::sleep(&rt, Duration::from_millis(u64::from(every)));
-        if inbox.send(&rt, Inbox::Tick).is_err() {
+        if !tell(&rt, &inbox, Inbox::Tick) {
             break;
         }
     }
@@ -27,9 +27,9 @@ pub fn read_lines<R: Wires, L: BufRead + Drop>(rt: R, terminal: L, inbox: Sender
         let Ok(bytes) = Vec::from_slice(alloc, line.as_str().as_bytes()) else {
             break;
         };
-        if inbox.send(&rt, Inbox::Line(bytes)).is_err() {
+        if !tell(&rt, &inbox, Inbox::Line(bytes)) {
             return;
         }
     }
-    let _ended = inbox.send(&rt, Inbox::End);
+    let _told = tell(&rt, &inbox, Inbox::End);
 }

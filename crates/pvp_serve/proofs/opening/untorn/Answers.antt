@@ -1,4 +1,4 @@
 use Rattle.pvp_serve.proofs.opening.untorn.Goals as goal
 
-pub returns : goal.returns
-returns c = (c.in_ok-journal.journal, rw c.as_slice.ensures.value at c.in_ok-journal.ensures, c.kept_of.ensures)
+pub returns-clause-kept : goal.returns-clause-kept
+returns-clause-kept c = (c.in_ok-journal.journal, rw c.as_slice.ensures.value at c.in_ok-journal.ensures.read, c.kept_of.ensures)

@@ -1,23 +1,12 @@
-use Rattle.std.proofs.Common.{refl, sym, ◌∙◌}
-use Rattle.pvp_serve.proofs.Taking.{flushed_already}
+use Rattle.std.proofs.Common.{◌==◌, ℕ, sym, ap, ◌∙◌, append-nil}
+use Rattle.pvp_serve.proofs.Taking.{nothing-in}
 use Rattle.pvp_serve.proofs.serving.Serving.flush.Goals as goal
 
-pub returns-then-is_flushed-clause-written : goal.returns-then-is_flushed-clause-written
-returns-then-is_flushed-clause-written g c = record {
-  before = c.in-Some.room;
-  after = c.in-Some.room;
-  had = sym c.take.ensures.value ∙ c.in-Some.is;
-  has = rw c.put_back.ensures refl;
-  flushes = λ past keeps.
-      let already = flushed_already _ _ _ c.in-Some.room (sym c.is_flushed.ensures ∙ c.if-is_flushed.true) past keeps in
-      (c.new.ensures.items ∙ already.0, already.1);
-}
+pub returns-then-is_empty-clause-handed : goal.returns-then-is_empty-clause-handed
+returns-then-is_empty-clause-handed g c = λ before heard.
+    let letters = c.in_ok-letters.letters in
+    let none = ap (λ (n : ℕ). n == 0) (sym letters.ok.0) ∙ sym c.is_empty.ensures ∙ c.if-is_empty.true in
+    rw (nothing-in letters.items none, append-nil before) heard
 
 pub returns-clause-written : goal.returns-clause-written
-returns-clause-written g c = record {
-  before = c.in-Some.room;
-  after = c.in-Ok.flushed.0;
-  had = sym c.take.ensures.value ∙ c.in-Some.is;
-  has = rw (c.hand_out.ensures.rest, c.put_back-2.ensures) refl;
-  flushes = c.in-Ok.ensures.flushes;
-}
+returns-clause-written g c = rw c.hand_out.ensures.rest c.in_ok-letters.ensures.written

@@ -1,11 +1,11 @@
-use Rattle.std.proofs.Common.{Some, ap, ◌∙◌}
+use Rattle.std.proofs.Common.{Some, ap, ◌∙◌, ◌≡◌, false}
 use Rattle.pvp_rooms.specs.declared.message.Input.{Input}
 use Rattle.pvp_parties.specs.declared.party.PartyEvent.{PartyEvent}
 use Rattle.pvp_serve.specs.Serving.{input_of}
 use Rattle.pvp_serve.proofs.serving.Serving.take_frame.Goals as goal
 
 pub returns-clause-near : goal.returns-clause-near
-returns-clause-near g c = λ _.
-    let came : Input PartyEvent = record { event = c.deliver.result; stamp = Some c.into_stamped-envelope.result.stamp } in
+returns-clause-near g c = λ near.
     let same = ap (λ (e : PartyEvent). let i : Input PartyEvent = record { event = e; stamp = Some c.into_stamped-envelope.result.stamp } in i) c.deliver.ensures ∙ ap input_of c.into_stamped-envelope.ensures.is in
-    rw same at c.take.ensures.takes
+    let believed : c.is_far-is_far.result ≡ false = c.is_far-is_far.ensures ∙ rw c.into_stamped-envelope.ensures.is near in
+    rw (same, c.counts.ensures) at c.step_unless.ensures.takes believed

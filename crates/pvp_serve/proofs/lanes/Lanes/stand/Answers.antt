@@ -1,6 +1,6 @@
 use Rattle.std.proofs.Common.{rules, Result, Ok, Err, OnErr, ◌∙◌, ap, ◌++◌, ◌∷◌, []}
 use Rattle.std.proofs.lemmas.Fn.{filter_same}
-use Rattle.pvp_serve.proofs.lanes.Lanes.meets.Goals as goal
+use Rattle.pvp_serve.proofs.lanes.Lanes.stand.Goals as goal
 
 pub returns-clause-stands : goal.returns-clause-stands
 returns-clause-stands c =

@@ -1,7 +1,7 @@
 use Rattle.std.proofs.Common.{refl, sym, ◌∙◌}
 use Rattle.std.proofs.lemmas.Result.{err_from_is_err_and}
 use Rattle.pvp_serve.proofs.Taking.{unwritten, without_clock, without_memory}
-use Rattle.pvp_serve.proofs.serving.Serving.take.Goals as goal
+use Rattle.pvp_serve.proofs.serving.step_in.Goals as goal
 
 pub returns-in_err-room-clause-refused : goal.returns-in_err-room-clause-refused
 returns-in_err-room-clause-refused g c =
