@@ -32,7 +32,8 @@ fn told(failed: io::Error) -> ServeFault {
 
 /// The name of a file in a folder.
 pub fn name_in(alloc: Global, folder: &str, name: &str) -> Result<String, ServeFault>
-    ensures whole { IfOk result (λ whole. string_bytes whole ≡ folder.now ++ codes "/" ++ name.now) }
+    ensures whole { IfOk result (λ whole.
+        string_bytes whole ≡ folder.now ++ codes "/" ++ name.now) }
     ensures refused { IfErr result (λ fault. fault ≡ NoMemory) }
 {
     match format!(in alloc; "{folder}/{name}") {

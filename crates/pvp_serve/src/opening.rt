@@ -105,9 +105,9 @@ pub fn open_other<R: Host>(rt: R, place: &Place<'_>) -> Result<Room<MemCell>, Se
 pub fn settle<R: Host, A: Journaled, L: Log>(
     rt: R,
     place: &Place<'_>,
-    room: JournalRoom<A, L>,
+    opened: Result<JournalRoom<A, L>, ServeFault>,
 ) -> Result<JournalRoom<A, L>, ServeFault> {
-    match room.flush(rt.alloc(), place.syncs) {
+    match opened?.flush(rt.alloc(), place.syncs) {
         Ok((room, _letters)) => marked(rt, place, room),
         Err(fault) => Err(log_fault(fault)),
     }
@@ -183,8 +183,10 @@ fn open_forgetful<R: Host>(
     let cell = FileCell::open(alloc, store)?;
     let boot = cell.load();
     let (log, sum) = begin(rt, place, Some(boot))?;
-    let room = new_site(alloc, place, site, MemCell::of(boot), log, sum)?;
-    restarted(restart(alloc, room, cell, WayBack::Restarts))
+    match new_site(alloc, place, site, MemCell::of(boot), log, sum) {
+        Ok(room) => restarted(restart(alloc, room, cell, WayBack::Restarts)),
+        Err(fault) => Err(fault),
+    }
 }
 
 /// The room of a site that took its journal again, over its own cell.
@@ -198,8 +200,10 @@ fn open_again<R: Host>(
     let bytes = untorn(alloc, bytes)?;
     let cell = FileCell::open(alloc, store)?;
     let is_whole = is_whole(rt, place.folder)?;
-    let room = again(rt, place, bytes.as_slice())?;
-    back(alloc, is_whole, room, cell)
+    match again(rt, place, bytes.as_slice()) {
+        Ok(room) => back(alloc, is_whole, room, cell),
+        Err(fault) => Err(fault),
+    }
 }
 
 /// The room of a node or a client that took its journal again, which has to be whole.
@@ -419,8 +423,10 @@ fn again_at<R: Host>(
     requires whole { journal.now.left ≡ Nothing }
 {
     let file = open_journal(rt, place.folder, bytes.len())?;
-    let again = again_of(rt.alloc(), place, journal)?;
-    Ok(come_back(rt.alloc(), bytes, journal, again, FileLog::new(file)))
+    match again_of(rt.alloc(), place, journal) {
+        Ok(again) => Ok(come_back(rt.alloc(), bytes, journal, again, FileLog::new(file))),
+        Err(fault) => Err(fault),
+    }
 }
 
 /// The actor of a place after the history of its journal.

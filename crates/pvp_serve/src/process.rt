@@ -135,7 +135,25 @@ fn serve_site<R: Host, L: BufRead + Drop + Send + 'static>(
     site: u16,
 ) -> Result<(), ServeFault> {
     let listener = listener_of(rt, order, &bank.peers, site)?;
-    let mut serving = site_of(rt, order, bank, me, site)?;
+    match site_of(rt, order, bank, me, site) {
+        Ok(serving) => keep_site(rt, terminal, order, bank, keys, me, site, listener, serving),
+        Err(fault) => Err(fault),
+    }
+}
+
+/// Serves a site that was opened.
+fn keep_site<R: Host, L: BufRead + Drop + Send + 'static, C: BootCell>(
+    rt: R,
+    terminal: L,
+    order: &Order<'_>,
+    bank: &Bank,
+    keys: Option<Keys>,
+    me: u16,
+    site: u16,
+    listener: TcpListener,
+    serving: Process<C>,
+) -> Result<(), ServeFault> {
+    let mut serving = serving;
     host_site(
         rt,
         terminal,
@@ -177,8 +195,7 @@ fn site_of<R: Host>(
     site: u16,
 ) -> Result<Process<SiteCell<R>>, ServeFault> {
     let place = Place::new(&bank.setup, bank.id, me, order.data, order.syncs);
-    let room = open_site(rt, &place, site)?;
-    process_of(rt, &place, room)
+    process_of(rt, &place, open_site(rt, &place, site))
 }
 
 /// A node or a client, as its folder has it.
@@ -189,19 +206,19 @@ fn other_of<R: Host>(
     me: u16,
 ) -> Result<Process<MemCell>, ServeFault> {
     let place = Place::new(&bank.setup, bank.id, me, order.data, order.syncs);
-    let room = open_other(rt, &place)?;
-    process_of(rt, &place, room)
+    process_of(rt, &place, open_other(rt, &place))
 }
 
-/// A room that is served, over no stream yet.
+/// A room that was opened, and is served over no stream yet.
 fn process_of<R: Host, C: BootCell>(
     rt: R,
     place: &Place<'_>,
-    room: Room<C>,
+    opened: Result<Room<C>, ServeFault>,
 ) -> Result<Process<C>, ServeFault> {
-    let room = settle(rt, place, room)?;
-    let lanes = Lanes::new(rt.alloc());
-    Ok(Serving::new(place.me, place.syncs, room, lanes))
+    match settle(rt, place, opened) {
+        Ok(room) => Ok(Serving::new(place.me, place.syncs, room, Lanes::new(rt.alloc()))),
+        Err(fault) => Err(fault),
+    }
 }
 
 /// Has threads dial the sites before a site, listen for others, and bring ticks and lines. Answers what they bring.
@@ -216,10 +233,27 @@ fn open_streams<R: Host, L: BufRead + Drop + Send + 'static>(
     listener: TcpListener,
 ) -> Result<Receiver<Inbox>, ServeFault> {
     let (sender, inbox) = bounded(rt.alloc(), MOST_ITEMS)?;
-    dial_sites(rt, bank, &keys, me, site, &sender)?;
-    listen(rt, listener, bank.id, keys, me, &sender)?;
-    start_ticking(rt, order.beat, terminal, &sender)?;
-    Ok(inbox)
+    match start_site(rt, terminal, order, bank, keys, me, site, listener, &sender) {
+        Ok(()) => Ok(inbox),
+        Err(fault) => Err(fault),
+    }
+}
+
+/// Starts what brings items to the loop of a site.
+fn start_site<R: Host, L: BufRead + Drop + Send + 'static>(
+    rt: R,
+    terminal: L,
+    order: &Order<'_>,
+    bank: &Bank,
+    keys: Option<Keys>,
+    me: u16,
+    site: u16,
+    listener: TcpListener,
+    inbox: &Sender<Inbox>,
+) -> Result<(), ServeFault> {
+    dial_sites(rt, bank, &keys, me, site, inbox)?;
+    listen(rt, listener, bank.id, keys, me, inbox)?;
+    start_ticking(rt, order.beat, terminal, inbox)
 }
 
 /// Attends to a site until it is done.
@@ -243,8 +277,24 @@ fn serve_other<R: Host, L: BufRead + Drop + Send + 'static>(
     keys: Option<Keys>,
     me: u16,
 ) -> Result<(), ServeFault> {
-    let mut serving = other_of(rt, order, bank, me)?;
-    host_other(rt, terminal, order, bank, &keys, me, &mut serving)
+    match other_of(rt, order, bank, me) {
+        Ok(serving) => keep_other(rt, terminal, order, bank, &keys, me, serving),
+        Err(fault) => Err(fault),
+    }
+}
+
+/// Serves a node or a client that was opened.
+fn keep_other<R: Host, L: BufRead + Drop + Send + 'static, C: BootCell>(
+    rt: R,
+    terminal: L,
+    order: &Order<'_>,
+    bank: &Bank,
+    keys: &Option<Keys>,
+    me: u16,
+    serving: Process<C>,
+) -> Result<(), ServeFault> {
+    let mut serving = serving;
+    host_other(rt, terminal, order, bank, keys, me, &mut serving)
 }
 
 /// Opens the streams of a node or a client, and attends to it until it is done.

@@ -2,11 +2,6 @@
 ghost use Rattle.std.specs.Prelude.{
   ◌≡◌,
   ◌≢◌,
-  ◌+◌,
-  ◌-◌,
-  ◌^◌,
-  min,
-  if◌then◌else◌,
   true,
   false,
   [],
@@ -218,8 +213,7 @@ impl<C: BootCell, L: Log, O: Outbox + Drop> Serving<C, L, O> {
         } }
     {
         let Stamped { stamp, envelope } = arrival.into_stamped();
-        let is_far = self.is_far(stamp.clock);
-        self.counts(is_far);
+        let is_far = self.counts(stamp.clock);
         let input = Input {
             event: PartyOf::<C>::deliver(envelope),
             stamp: Some(stamp),
@@ -227,15 +221,18 @@ impl<C: BootCell, L: Log, O: Outbox + Drop> Serving<C, L, O> {
         step_unless(is_far, &mut self.room, alloc, input)
     }
 
-    /// A frame came, with a clock that is too far ahead or not: what is lost is counted.
-    fn counts(&mut self, is_far: bool)
-        ensures { self.new ≡ record self.old {
-          unbelieved = if is_far then min (self.old.unbelieved + 1) (2 ^ 64 - 1) else self.old.unbelieved;
+    /// Whether a frame of this clock is lost, which is counted.
+    fn counts(&mut self, clock: u64) -> bool
+        ensures far { result ≡ is_far self.old.room clock }
+        ensures lost { self.new ≡ record self.old {
+          unbelieved = lost_with self.old.room clock self.old.unbelieved;
         } }
     {
+        let is_far = self.is_far(clock);
         if is_far {
             self.unbelieved = self.unbelieved.saturating_add(1);
         }
+        is_far
     }
 
     /// Takes an event of its own. What it sends waits for `flush`.
