@@ -79,9 +79,12 @@ acked_now acks n j = by_test (n == 0)
     both false b e h = absurd (true≢false (sym e))
 
     last : list_any (λ (ack : Ack). (ack.from == j) && nat_le n (min ack.place ack.rows)) (acks ++ record { from = j; place = n; rows = n } ∷ []) ≡ true
-    last = list_any-last (λ (ack : Ack). (ack.from == j) && nat_le n (min ack.place ack.rows)) acks (record { from = j; place = n; rows = n }) (both (j == j) _ (eq_test j j refl) (le_is n (min n n) (omega arith)))
+    last =
+        list_any-last (λ (ack : Ack). (ack.from == j) && nat_le n (min ack.place ack.rows)) acks (record { from = j; place = n; rows = n })
+        (both (j == j) _ (eq_test j j refl) (le_is n (min n n) (omega arith)))
 
-    by_test : (b : Bool) → (b || list_any (λ (ack : Ack). (ack.from == j) && nat_le n (min ack.place ack.rows)) (acks ++ record { from = j; place = n; rows = n } ∷ [])) ≡ true
+    by_test : (b : Bool)
+        → (b || list_any (λ (ack : Ack). (ack.from == j) && nat_le n (min ack.place ack.rows)) (acks ++ record { from = j; place = n; rows = n } ∷ [])) ≡ true
     by_test true = refl
     by_test false = last
 
@@ -101,11 +104,13 @@ module _ {C R O : Type 0} (choose : Choice C) (f : ℕ) where
   beat_normal me x e = ap (λ (st : Status). refused_or {R = R} {O = O} x (if is_down st then Some NotUp else None) (on_beat f me x st)) e
 
   -- the primary tells its news
-  pub news_said : (v : World C R O) (w p j : ℕ) (found : Option (RowOf C)) → p < length v.sites → (site_at v p).status ≡ Normal → (site_at v p).view ≡ w → primary f w ≡ p → j < 2 * f + 1 → j ≢ p
+  pub news_said : (v : World C R O) (w p j : ℕ) (found : Option (RowOf C)) → p < length v.sites → (site_at v p).status ≡ Normal → (site_at v p).view ≡ w
+      → primary f w ≡ p → j < 2 * f + 1 → j ≢ p
       → slice_get (site_at v p).log (site_at v p).done ≡ found → Reaches choose f v (IsSaid choose f p j (news (site_at v p) found) v)
   unfolding beats_normal
   news_said v w p j found small normal view leads small_j apart row =
-      subst (λ (r : Option (RowOf C)). Reaches choose f v (IsSaid choose f p j (news (site_at v p) r) v)) row (record { after = taken choose f v p Beat; goes = goes; holds = holds })
+      subst (λ (r : Option (RowOf C)). Reaches choose f v (IsSaid choose f p j (news (site_at v p) r) v)) row
+      (record { after = taken choose f v p Beat; goes = goes; holds = holds })
     where
       msg : MsgOf C R O
       msg = news (site_at v p) (slice_get (site_at v p).log (site_at v p).done)
@@ -120,7 +125,9 @@ module _ {C R O : Type 0} (choose : Choice C) (f : ℕ) where
       holds = record {
         goes = goes;
         same = taken_same choose f v p Beat small (ap (λ (s : Step C R O). s.site) step);
-        sent = taken_sent choose f v p Beat (mail p j msg) (subst (λ (s : Step C R O). Contains s.sent (mail p j msg)) (sym step) (told_each f p j msg small_j apart));
+        sent =
+            taken_sent choose f v p Beat (mail p j msg) (subst (λ (s : Step C R O). Contains s.sent (mail p j msg)) (sym step)
+            (told_each f p j msg small_j apart));
         still = λ e in'. taken_still choose f v p Beat e in';
       }
 
@@ -133,7 +140,8 @@ module _ {C R O : Type 0} (choose : Choice C) (f : ℕ) where
       ∙ (if_no (is_recovering x.status) _ _ (ap is_recovering normal)
       ∙ (if_no (nat_lt w x.view) _ _ (not_less w x.view (sym view))
       ∙ (if_no (nat_lt x.view w || is_change x.status) _ _ (neither (nat_lt x.view w) (is_change x.status) (not_less x.view w view) (ap is_change normal))
-      ∙ (ap (λ (z : Site C). does (executed_to d z) (if nat_lt (length x.log + 1) (d + 1) then asks_state f me x.view (length x.log) else acknowledges_all f me (executed_to d z))) with_it
+      ∙ (ap (λ (z : Site C). does (executed_to d z) (if nat_lt (length x.log + 1) (d + 1) then asks_state f me x.view (length x.log)
+      else acknowledges_all f me (executed_to d z))) with_it
       ∙ ap (λ (es : List (EnvelopeOf C R O)). does (executed_to d x) es) (if_no (nat_lt (length x.log + 1) (d + 1)) _ _ (not_below _ _ (omega arith)))))))
     where
       neither : (a b : Bool) → a ≡ false → b ≡ false → (a || b) ≡ false
@@ -145,15 +153,18 @@ module _ {C R O : Type 0} (choose : Choice C) (f : ℕ) where
 
   -- or the row is the next one, and it takes it
   pub prepares_new : (w from me d : ℕ) (row : RowOf C) (x : Site C) → x.status ≡ Normal → x.view ≡ w → primary f w ≡ from → d ≡ length x.log
-      → on_prepare {R = R} {O = O} f me x from (record { view = w; place = d + 1; done = d; row = row }) ≡ (let y = executed_to d (with_row row x) in does y (acknowledges_all f me y))
+      → on_prepare {R = R} {O = O} f me x from (record { view = w; place = d + 1; done = d; row = row })
+      ≡ (let y = executed_to d (with_row row x) in does y (acknowledges_all f me y))
   unfolding on_prepare
   prepares_new w from me d row x normal view leads same =
       if_no (not (primary f w == from)) _ _ (ap not (eq_test (primary f w) from leads))
       ∙ (if_no (is_recovering x.status) _ _ (ap is_recovering normal)
       ∙ (if_no (nat_lt w x.view) _ _ (not_less w x.view (sym view))
       ∙ (if_no (nat_lt x.view w || is_change x.status) _ _ (neither (nat_lt x.view w) (is_change x.status) (not_less x.view w view) (ap is_change normal))
-      ∙ (ap (λ (z : Site C). does (executed_to d z) (if nat_lt (length x.log + 1) (d + 1) then asks_state f me x.view (length x.log) else acknowledges_all f me (executed_to d z))) with_it
-      ∙ ap (λ (es : List (EnvelopeOf C R O)). does (executed_to d (with_row row x)) es) (if_no (nat_lt (length x.log + 1) (d + 1)) _ _ (not_below _ _ (omega arith)))))))
+      ∙ (ap (λ (z : Site C). does (executed_to d z) (if nat_lt (length x.log + 1) (d + 1) then asks_state f me x.view (length x.log)
+      else acknowledges_all f me (executed_to d z))) with_it
+      ∙ ap (λ (es : List (EnvelopeOf C R O)). does (executed_to d (with_row row x)) es)
+      (if_no (nat_lt (length x.log + 1) (d + 1)) _ _ (not_below _ _ (omega arith)))))))
     where
       neither : (a b : Bool) → a ≡ false → b ≡ false → (a || b) ≡ false
       neither true b e h = absurd (true≢false e)
@@ -187,7 +198,8 @@ module _ {C R O : Type 0} (choose : Choice C) (f : ℕ) where
       neither true b e h = absurd (true≢false e)
       neither false b e h = h
 
-  module _ (right : IsRight f choose) (w : ℕ) (up : ℕ → Bool) (up_small : (j : ℕ) → up j ≡ true → j < 2 * f + 1) (up_leads : up (primary f w) ≡ true) (boots : ℕ → ℕ) (rows : List (RowOf C)) (old : World C R O) where
+  module _ (right : IsRight f choose) (w : ℕ) (up : ℕ → Bool) (up_small : (j : ℕ) → up j ≡ true → j < 2 * f + 1) (up_leads : up (primary f w) ≡ true)
+      (boots : ℕ → ℕ) (rows : List (RowOf C)) (old : World C R O) where
     abbrev pub p : ℕ
     p = primary f w
 
@@ -226,7 +238,8 @@ module _ {C R O : Type 0} (choose : Choice C) (f : ℕ) where
     keeps_on_more a b c q r = record { each = λ i k. r.each i (q.each i k) }
 
     -- a step of site j leaves the world settled, where the site follows still
-    pub settled_on : (v t : World C R O) (j : ℕ) (step : Step C R O) → up j ≡ true → Settled v → IsTaken choose f j step v t → Follows w (boots j) rows step.site → Settled t
+    pub settled_on : (v t : World C R O) (j : ℕ) (step : Step C R O) → up j ≡ true → Settled v → IsTaken choose f j step v t
+        → Follows w (boots j) rows step.site → Settled t
     settled_on v t j step up_j d is follows = record {
       is = goes_reached choose f right v t d.is is.goes;
       full = run_long choose f v t is.goes.events d.full is.goes.run;
@@ -235,7 +248,8 @@ module _ {C R O : Type 0} (choose : Choice C) (f : ℕ) where
     }
       where
         by_place : (k : ℕ) → up k ≡ true → (k ≡ j) ⊎ (k ≡ j → ⊥) → Follows w (boots k) rows (site_at t k)
-        by_place k e (inl same) = subst (λ (m : ℕ). Follows w (boots m) rows (site_at t m)) (sym same) (subst (λ (x : Site C). Follows w (boots j) rows x) (sym is.here) follows)
+        by_place k e (inl same) =
+            subst (λ (m : ℕ). Follows w (boots m) rows (site_at t m)) (sym same) (subst (λ (x : Site C). Follows w (boots j) rows x) (sym is.here) follows)
         by_place k e (inr apart) = subst (λ (x : Site C). Follows w (boots k) rows x) (sym (is.there k apart)) (d.all k e)
 
     pub settled_said : (v u : World C R O) (i j : ℕ) (msg : MsgOf C R O) → Settled v → IsSaid choose f i j msg v u → Settled u
@@ -249,13 +263,16 @@ module _ {C R O : Type 0} (choose : Choice C) (f : ℕ) where
     -- the acknowledgement of site j comes to the primary
     -- where all is executed, the client of the last row was answered in that step
     abbrev pub IsTold : World C R O → Type 0
-    IsTold t = (site_at t (primary f w)).done ≡ length rows → Contains t.replies (record { from = primary f w; sender = site_at t (primary f w); place = length rows })
+    IsTold t = (site_at t (primary f w)).done ≡ length rows
+        → Contains t.replies (record { from = primary f w; sender = site_at t (primary f w); place = length rows })
 
-    pub one_acks : (j : ℕ) → up j ≡ true → j ≢ primary f w → (v : World C R O) → Settled v → (site_at v (primary f w)).done < length rows → Reaches choose f v (λ t. Counts t × Acked j t × KeepsOn v t × IsTold t)
+    pub one_acks : (j : ℕ) → up j ≡ true → j ≢ primary f w → (v : World C R O) → Settled v → (site_at v (primary f w)).done < length rows
+        → Reaches choose f v (λ t. Counts t × Acked j t × KeepsOn v t × IsTold t)
     one_acks j up_j apart v d less =
         reaches_then choose f v (IsSaid choose f p j prepare v) _ said (λ u s.
         reaches_then choose f u (IsTaken choose f j (prepared u) u) _ (prepare_comes u s) (λ t is.
-        reaches_then choose f t (IsTaken choose f p (executed t) t) _ (ack_comes u s t is) (λ r so. record { after = r; goes = goes_nowhere choose f r; holds = done u s t is r so })))
+        reaches_then choose f t (IsTaken choose f p (executed t) t) _ (ack_comes u s t is)
+        (λ r so. record { after = r; goes = goes_nowhere choose f r; holds = done u s t is r so })))
       where
         lead : Follows w (boots p) rows (site_at v p)
         lead = d.all p up_leads
@@ -273,7 +290,11 @@ module _ {C R O : Type 0} (choose : Choice C) (f : ℕ) where
         prepare = Prepare (record { view = w; place = (site_at v p).done + 1; done = (site_at v p).done; row = found.0 })
 
         said : Reaches choose f v (IsSaid choose f p j prepare v)
-        said = subst (λ (m : ℕ). Reaches choose f v (IsSaid choose f p j (Prepare (record { view = m; place = (site_at v p).done + 1; done = (site_at v p).done; row = found.0 })) v)) lead.view
+        said =
+            subst
+            (λ (m : ℕ).
+            Reaches choose f v
+            (IsSaid choose f p j (Prepare (record { view = m; place = (site_at v p).done + 1; done = (site_at v p).done; row = found.0 })) v)) lead.view
             (news_said v w p j (Some found.0) (small {q = v} p up_leads d) lead.status lead.view refl (up_small j up_j) apart found.1)
 
         prepared : World C R O → Step C R O
@@ -285,8 +306,10 @@ module _ {C R O : Type 0} (choose : Choice C) (f : ℕ) where
             let x = o.all j up_j in
             comes choose f u p j prepare (prepared u) (small {q = u} j up_j o) s.sent refl
             (delivered choose f p j (site_at u j) prepare (runs_up _ (normal_runs _ x.status)) (another f j p (up_small p up_leads) (λ e. apart (sym e)))
-            ∙ (ap (λ (m : ℕ). on_prepare {R = R} {O = O} f j (site_at u j) m (record { view = w; place = (site_at v p).done + 1; done = (site_at v p).done; row = found.0 })) (site_back p)
-            ∙ prepares_again w p j (site_at v p).done found.0 (site_at u j) x.status x.view refl (let l = ap (length {A = RowOf C}) x.log_is in omega arith))) refl
+            ∙ (ap (λ (m : ℕ). on_prepare {R = R} {O = O} f j (site_at u j) m
+            (record { view = w; place = (site_at v p).done + 1; done = (site_at v p).done; row = found.0 })) (site_back p)
+            ∙ prepares_again w p j (site_at v p).done found.0 (site_at u j) x.status x.view refl (let l = ap (length {A = RowOf C}) x.log_is in omega arith)))
+            refl
 
         settled_t : (u : World C R O) → IsSaid choose f p j prepare v u → (t : World C R O) → IsTaken choose f j (prepared u) u t → Settled t
         settled_t u s t is =
@@ -298,16 +321,21 @@ module _ {C R O : Type 0} (choose : Choice C) (f : ℕ) where
         ack = PrepareOk (record { view = w; place = long })
 
         executed : World C R O → Step C R O
-        executed t = (let y = with_ack j long (site_at t p) in let z = executed_to (choose.commit_place p y.collected.acks) y in answers z (places_between y.done z.done))
+        executed t =
+            (let y = with_ack j long (site_at t p) in let z = executed_to (choose.commit_place p y.collected.acks) y in
+            answers z (places_between y.done z.done))
 
-        acked_sent : (u : World C R O) (s : IsSaid choose f p j prepare v u) (t : World C R O) → IsTaken choose f j (prepared u) u t → Contains t.sent (mail j p ack)
+        acked_sent : (u : World C R O) (s : IsSaid choose f p j prepare v u) (t : World C R O) → IsTaken choose f j (prepared u) u t
+            → Contains t.sent (mail j p ack)
         acked_sent u s t is =
             let x = (settled_said v u p j prepare d s).all j up_j in
             is.sent (mail j p ack) (subst (λ (m : ℕ). Contains (prepared u).sent (mail j (primary f m) (PrepareOk (record { view = m; place = long })))) x.view
-            (subst (λ (m : ℕ). Contains (prepared u).sent (mail j (primary f (site_at u j).view) (PrepareOk (record { view = (site_at u j).view; place = m })))) (ap (length {A = RowOf C}) x.log_is)
+            (subst (λ (m : ℕ). Contains (prepared u).sent (mail j (primary f (site_at u j).view) (PrepareOk (record { view = (site_at u j).view; place = m }))))
+            (ap (length {A = RowOf C}) x.log_is)
             (Contains-here (mail j (primary f (site_at u j).view) (PrepareOk (record { view = (site_at u j).view; place = length (site_at u j).log }))) [])))
 
-        ack_comes : (u : World C R O) (s : IsSaid choose f p j prepare v u) (t : World C R O) → IsTaken choose f j (prepared u) u t → Reaches choose f t (IsTaken choose f p (executed t) t)
+        ack_comes : (u : World C R O) (s : IsSaid choose f p j prepare v u) (t : World C R O) → IsTaken choose f j (prepared u) u t
+            → Reaches choose f t (IsTaken choose f p (executed t) t)
         ack_comes u s t is =
             let o = settled_t u s t is in
             let x = o.all p up_leads in
@@ -319,9 +347,13 @@ module _ {C R O : Type 0} (choose : Choice C) (f : ℕ) where
         lead_same : (u : World C R O) → IsSaid choose f p j prepare v u → (t : World C R O) → IsTaken choose f j (prepared u) u t → site_at t p ≡ site_at v p
         lead_same u s t is = is.there p (λ e. apart (sym e)) ∙ ap (λ (x : ℕ → Site C). x p) s.same
 
-        done : (u : World C R O) (s : IsSaid choose f p j prepare v u) (t : World C R O) (is : IsTaken choose f j (prepared u) u t) (r : World C R O) → IsTaken choose f p (executed t) t r → Counts r × Acked j r × KeepsOn v r × IsTold r
+        done : (u : World C R O) (s : IsSaid choose f p j prepare v u) (t : World C R O) (is : IsTaken choose f j (prepared u) u t) (r : World C R O)
+            → IsTaken choose f p (executed t) t r → Counts r × Acked j r × KeepsOn v r × IsTold r
         done u s t is r so = (
-          record { settled = settled_on t r p (executed t) up_leads o so (record { status = x.status; view = x.view; boots = x.boots; log_is = x.log_is }); due = due },
+          record {
+            settled = settled_on t r p (executed t) up_leads o so (record { status = x.status; view = x.view; boots = x.boots; log_is = x.log_is });
+            due = due;
+          },
           inr (subst (λ (y : Site C). has_acknowledged y.collected.acks long j ≡ true) (sym so.here) now),
           record { each = λ k h. keeps_by k h },
           told,
@@ -340,7 +372,9 @@ module _ {C R O : Type 0} (choose : Choice C) (f : ℕ) where
             length_is = ap (length {A = RowOf C}) x.log_is
 
             now : has_acknowledged (executed t).site.collected.acks long j ≡ true
-            now = subst (λ (m : ℕ). has_acknowledged ((site_at t p).collected.acks ++ record { from = j; place = long; rows = m } ∷ []) long j ≡ true) (sym length_is) (acked_now (site_at t p).collected.acks long j)
+            now =
+                subst (λ (m : ℕ). has_acknowledged ((site_at t p).collected.acks ++ record { from = j; place = long; rows = m } ∷ []) long j ≡ true)
+                (sym length_is) (acked_now (site_at t p).collected.acks long j)
 
             -- it answered each row that it executed now
             told : IsTold r
@@ -350,7 +384,8 @@ module _ {C R O : Type 0} (choose : Choice C) (f : ℕ) where
                 let l = less in
                 subst (λ (y : Site C). Contains r.replies (record { from = p; sender = y; place = long })) (sym so.here)
                 (so.answered (record { from = p; sender = (executed t).site; place = long })
-                (map_keeps (λ (place : ℕ). record { from = p; sender = (executed t).site; place = place }) (places_between (site_at t p).done (executed t).site.done) long
+                (map_keeps (λ (place : ℕ). record { from = p; sender = (executed t).site; place = place })
+                (places_between (site_at t p).done (executed t).site.done) long
                 (in_range ((site_at t p).done + 1) ((executed t).site.done - (site_at t p).done) long (omega arith) (omega arith))))
 
             by_count : (b : Bool) → nat_le f (count_by (has_acknowledged (executed t).site.collected.acks long) (others f p)) ≡ b
@@ -374,7 +409,8 @@ module _ {C R O : Type 0} (choose : Choice C) (f : ℕ) where
 
     -- where each running site has acknowledged it, all is executed
     pub acked_all : f < count_by up (sites f) → (u : World C R O) → ((j : ℕ) → up j ≡ true → j ≢ primary f w → Acked j u)
-        → ((site_at u (primary f w)).done ≡ length rows) ⊎ (count_by (has_acknowledged (site_at u (primary f w)).collected.acks (length rows)) (others f (primary f w)) < f)
+        → ((site_at u (primary f w)).done ≡ length rows)
+        ⊎ (count_by (has_acknowledged (site_at u (primary f w)).collected.acks (length rows)) (others f (primary f w)) < f)
         → (site_at u (primary f w)).done ≡ length rows
     acked_all many u all (inl e) = e
     acked_all many u all (inr few) = by_done (cases_eq (site_at u p).done long)
@@ -390,22 +426,31 @@ module _ {C R O : Type 0} (choose : Choice C) (f : ℕ) where
             omega arith)
 
     -- in the end the primary has executed all of it
-    pub all_ack : f < count_by up (sites f) → (v : World C R O) → Counts v → Reaches choose f v (λ u. Settled u × ((site_at u (primary f w)).done ≡ length rows))
+    pub all_ack : f < count_by up (sites f) → (v : World C R O) → Counts v
+        → Reaches choose f v (λ u. Settled u × ((site_at u (primary f w)).done ≡ length rows))
     all_ack many v c =
         reaches_then choose f v (λ u. Counts u × ((j : ℕ) → Contains (sites f) j → up j ≡ true → j ≢ p → Acked j u) × KeepsOn v u) _
-        (sweep_on choose f Counts KeepsOn keeps_on_same keeps_on_more (λ j u. up j ≡ true → j ≢ p → Acked j u) (λ j a b r h e d. r.each j (h e d)) (sites f) (λ j u in' d. by_test j u d (up j) refl (cases_eq j p)) v c)
-        (λ u is. record { after = u; goes = goes_nowhere choose f u; holds = (is.0.settled, acked_all many u (λ j e apart. is.1 j (has_site f j (up_small j e)) e apart) is.0.due) })
+        (sweep_on choose f Counts KeepsOn keeps_on_same keeps_on_more (λ j u. up j ≡ true → j ≢ p → Acked j u) (λ j a b r h e d. r.each j (h e d)) (sites f)
+        (λ j u in' d. by_test j u d (up j) refl (cases_eq j p)) v c)
+        (λ u is. record {
+          after = u;
+          goes = goes_nowhere choose f u;
+          holds = (is.0.settled, acked_all many u (λ j e apart. is.1 j (has_site f j (up_small j e)) e apart) is.0.due);
+        })
       where
-        stays : (j : ℕ) (u : World C R O) → Counts u → (up j ≡ true → j ≢ p → Acked j u) → Reaches choose f u (λ t. Counts t × (up j ≡ true → j ≢ p → Acked j t) × KeepsOn u t)
+        stays : (j : ℕ) (u : World C R O) → Counts u → (up j ≡ true → j ≢ p → Acked j u)
+            → Reaches choose f u (λ t. Counts t × (up j ≡ true → j ≢ p → Acked j t) × KeepsOn u t)
         stays j u d h = record { after = u; goes = goes_nowhere choose f u; holds = (d, h, keeps_on_same u) }
 
-        by_size : (j : ℕ) (u : World C R O) → Counts u → up j ≡ true → j ≢ p → ((site_at u p).done < long) ⊎ (long ≤ (site_at u p).done) → Reaches choose f u (λ t. Counts t × (up j ≡ true → j ≢ p → Acked j t) × KeepsOn u t)
+        by_size : (j : ℕ) (u : World C R O) → Counts u → up j ≡ true → j ≢ p → ((site_at u p).done < long) ⊎ (long ≤ (site_at u p).done)
+            → Reaches choose f u (λ t. Counts t × (up j ≡ true → j ≢ p → Acked j t) × KeepsOn u t)
         by_size j u d e apart (inl less) =
             reaches_then choose f u (λ t. Counts t × Acked j t × KeepsOn u t × IsTold t) _ (one_acks j e apart u d.settled less)
             (λ t is. record { after = t; goes = goes_nowhere choose f t; holds = (is.0, (λ _ _. is.1), is.2) })
         by_size j u d e apart (inr more) = stays j u d (λ _ _. inl (let h = within u d.settled p up_leads in omega arith))
 
-        by_test : (j : ℕ) (u : World C R O) → Counts u → (b : Bool) → up j ≡ b → (j ≡ p) ⊎ (j ≡ p → ⊥) → Reaches choose f u (λ t. Counts t × (up j ≡ true → j ≢ p → Acked j t) × KeepsOn u t)
+        by_test : (j : ℕ) (u : World C R O) → Counts u → (b : Bool) → up j ≡ b → (j ≡ p) ⊎ (j ≡ p → ⊥)
+            → Reaches choose f u (λ t. Counts t × (up j ≡ true → j ≢ p → Acked j t) × KeepsOn u t)
         by_test j u d false e place = stays j u d (λ e' _. absurd (true≢false (sym e' ∙ e)))
         by_test j u d true e (inl same) = stays j u d (λ _ apart. absurd (apart same))
         by_test j u d true e (inr apart) = by_size j u d e apart (cases_lt (site_at u p).done long)

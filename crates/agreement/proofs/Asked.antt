@@ -29,7 +29,8 @@ pub record RowsHold {C R O : Type 0} (P : RowOf C → Type 0) (world : World C R
 
 -- a request that a site takes is for such a row
 abbrev Asks : {C R O : Type 0} → (RowOf C → Type 0) → Happening C R O → Type 0
-Asks {C} {R} {O} P h = (site to client number : ℕ) (cmd : C) → h ≡ record { site = site; event = Deliver (record { from = client; to = to; msg = Request (record { number = number; cmd = cmd }) }); course = Ends }
+Asks {C} {R} {O} P h = (site to client number : ℕ) (cmd : C)
+    → h ≡ record { site = site; event = Deliver (record { from = client; to = to; msg = Request (record { number = number; cmd = cmd }) }); course = Ends }
     → P (record { client = client; number = number; cmd = cmd })
 
 module _ {C R O : Type 0} (P : RowOf C → Type 0) where
@@ -57,11 +58,17 @@ module _ {C R O : Type 0} (P : RowOf C → Type 0) where
       by_case (inr there) = h.sites x there
 
   module _ (choose : Choice C) (f : ℕ) (right : IsRight f choose) where
-    happens_rows : (world : World C R O) (h : Happening C R O) (after : World C R O) → RowsHold P world → Asks P h → Happens choose f world h after → RowsHold P after
+    happens_rows : (world : World C R O) (h : Happening C R O) (after : World C R O) → RowsHold P world → Asks P h → Happens choose f world h after
+        → RowsHold P after
     happens_rows world h after rows asks p = by_course h.course refl p.ends
       where
         before : Keeps P p.before
-        before = rows.sites p.before (h.site, slice_get_within world.sites h.site p.before p.is_there, get_or_from_slice_get world.sites h.site p.before p.before p.is_there)
+        before =
+            rows.sites p.before (
+              h.site,
+              slice_get_within world.sites h.site p.before p.is_there,
+              get_or_from_slice_get world.sites h.site p.before p.before p.is_there,
+            )
 
         arrives : (event : EventOf C R O) → MayHappen world.sent event → (e : EnvelopeOf C R O) → event ≡ Deliver e → RowsAre P e.msg
         arrives event may e is = by_case (subst (λ (v : EventOf C R O). MayHappen world.sent v) is may)
@@ -88,18 +95,23 @@ module _ {C R O : Type 0} (P : RowOf C → Type 0) where
               sent = λ e in'. by_part e step.sent k.sent (Contains-append_cases world.sent step.sent e in');
             }
           where
-            by_part : (e : EnvelopeOf C R O) (more : List (EnvelopeOf C R O)) → All (λ (d : EnvelopeOf C R O). RowsAre P d.msg) more → Contains world.sent e ⊎ Contains more e → RowsAre P e.msg
+            by_part : (e : EnvelopeOf C R O) (more : List (EnvelopeOf C R O)) → All (λ (d : EnvelopeOf C R O). RowsAre P d.msg) more
+                → Contains world.sent e ⊎ Contains more e → RowsAre P e.msg
             by_part e more all (inl there) = rows.sent e there
             by_part e more all (inr here) = All-contains (λ (d : EnvelopeOf C R O). RowsAre P d.msg) more e all here
 
-        by_course : (course : Course) → h.course ≡ course → EndsIn world h.site p.before (site_step choose f h.site p.before h.event) course after → RowsHold P after
+        by_course : (course : Course) → h.course ≡ course → EndsIn world h.site p.before (site_step choose f h.site p.before h.event) course after
+            → RowsHold P after
         by_course Ends is ends = subst (λ (w : World C R O). RowsHold P w) (sym ends.1) (stepped_rows is)
-        by_course (FallsOver cell) is ends = subst (λ (w : World C R O). RowsHold P w) (sym ends.1) (record { sites = site_rows world rows h.site _ (over_rows P cell Down); sent = rows.sent })
+        by_course (FallsOver cell) is ends =
+            subst (λ (w : World C R O). RowsHold P w) (sym ends.1) (record { sites = site_rows world rows h.site _ (over_rows P cell Down); sent = rows.sent })
 
-    run_rows : (world : World C R O) (events : List (Happening C R O)) (after : World C R O) → RowsHold P world → ((h : Happening C R O) → Contains events h → Asks P h) → IsRun choose f world events after → RowsHold P after
+    run_rows : (world : World C R O) (events : List (Happening C R O)) (after : World C R O) → RowsHold P world
+        → ((h : Happening C R O) → Contains events h → Asks P h) → IsRun choose f world events after → RowsHold P after
     run_rows world [] after rows asks e = subst (λ (w : World C R O). RowsHold P w) (sym e) rows
     run_rows world (h ∷ events) after rows asks run =
-        run_rows run.0 events after (happens_rows world h run.0 rows (asks h (Contains-here h events)) run.1) (λ k in'. asks k (Contains-there h k events in')) run.2
+        run_rows run.0 events after (happens_rows world h run.0 rows (asks h (Contains-here h events)) run.1)
+        (λ k in'. asks k (Contains-there h k events in')) run.2
 
     opening_rows : (cells : List Boot) → RowsHold P (opening_world {C = C} {R = R} {O = O} f cells)
     opening_rows cells = record {
@@ -111,7 +123,8 @@ module _ {C R O : Type 0} (P : RowOf C → Type 0) where
         by_test cell true = let h = over_rows P cell Normal in record { log = h.log; votes = h.votes; responses = h.responses }
         by_test cell false = over_rows P cell Down
 
-pub legal_rows : {C R O : Type 0} (choose : Choice C) (f : ℕ) → IsRight f choose → (cells : List Boot) (events : List (Happening C R O)) (world : World C R O) → IsLegal choose f cells events world → RowsHold (WasAsked events) world
+pub legal_rows : {C R O : Type 0} (choose : Choice C) (f : ℕ) → IsRight f choose → (cells : List Boot) (events : List (Happening C R O)) (world : World C R O)
+    → IsLegal choose f cells events world → RowsHold (WasAsked events) world
 legal_rows {C} {R} {O} choose f right cells events world legal =
     run_rows (WasAsked events) choose f right (opening_world f cells) events world (opening_rows (WasAsked events) choose f right cells)
     (λ h in' site to client number cmd is. record { site = site; to = to; taken = subst (λ (k : Happening C R O). Contains events k) is in' })

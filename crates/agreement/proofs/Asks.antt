@@ -43,9 +43,11 @@ pub record Asks {C : Type 0} (f w b : ℕ) (rows : List (RowOf C)) (x : Site C) 
   pub status : x.status ≡ Recovering
   pub boots : x.cell.boots ≡ b
   pub each : (a : Response C) → Contains x.collected.responses a → (a.view < w) ⊎ IsGood f w rows a
-  pub not_yet : (a : Response C) → Contains x.collected.responses a → a.from ≡ primary f w → IsGood f w rows a → f < count_by (has_response x.collected.responses) (sites f) → ⊥
+  pub not_yet : (a : Response C) → Contains x.collected.responses a → a.from ≡ primary f w → IsGood f w rows a
+      → f < count_by (has_response x.collected.responses) (sites f) → ⊥
 
-pub has_response_of : {C : Type 0} (responses : List (Response C)) (k : ℕ) (a : Response C) → Contains responses a → a.from ≡ k → has_response responses k ≡ true
+pub has_response_of : {C : Type 0} (responses : List (Response C)) (k : ℕ) (a : Response C) → Contains responses a → a.from ≡ k
+    → has_response responses k ≡ true
 has_response_of [] k a in' e = absurd (Contains-none a in')
 has_response_of {C} (r ∷ responses) k a in' e = by_place (Contains-cases r a responses in') (λ there. has_response_of responses k a there e)
   where
@@ -58,14 +60,17 @@ has_response_of {C} (r ∷ responses) k a in' e = by_place (Contains-cases r a r
     by_place (inl same) rest = either (r.from == k) (has_response responses k) (inl (eq_test r.from k (ap (λ (s : Response C). s.from) same ∙ e)))
     by_place (inr there) rest = either (r.from == k) (has_response responses k) (inr (rest there))
 
-response_is : {C : Type 0} (a : Response C) (p w : ℕ) (st : Option (StateOf C)) → a.from ≡ p → a.view ≡ w → a.state ≡ st → a ≡ record { from = p; view = w; state = st; known = a.known }
+response_is : {C : Type 0} (a : Response C) (p w : ℕ) (st : Option (StateOf C)) → a.from ≡ p → a.view ≡ w → a.state ≡ st
+    → a ≡ record { from = p; view = w; state = st; known = a.known }
 response_is {C} a p w st e d h =
     ap (λ (n : ℕ). record { from = n; view = a.view; state = a.state; known = a.known }) e
     ∙ (ap (λ (n : ℕ). record { from = p; view = n; state = a.state; known = a.known }) d
     ∙ ap (λ (s : Option (StateOf C)). record { from = p; view = w; state = s; known = a.known }) h)
 
-module _ {C : Type 0} (choose : Choice C) (f w b : ℕ) (right : IsRight f choose) (rows : List (RowOf C)) (x : Site C) (asks : Asks f w b rows x) (idle : x.done ≡ 0)
-    (response : Response C) (good : IsGood f w rows response) (most : ℕ → ℕ) (known : (j : ℕ) → boot_of x.known j ≤ most j) (knew : (j : ℕ) → boot_of response.known j ≤ most j)
+module _ {C : Type 0} (choose : Choice C) (f w b : ℕ) (right : IsRight f choose) (rows : List (RowOf C)) (x : Site C)
+    (asks : Asks f w b rows x) (idle : x.done ≡ 0)
+    (response : Response C) (good : IsGood f w rows response) (most : ℕ → ℕ) (known : (j : ℕ) → boot_of x.known j ≤ most j)
+    (knew : (j : ℕ) → boot_of response.known j ≤ most j)
     (is_k : boot_of response.known response.from ≡ most response.from) where
   abbrev y : Site C
   y = learns response.known x
@@ -76,11 +81,14 @@ module _ {C : Type 0} (choose : Choice C) (f w b : ℕ) (right : IsRight f choos
   -- a later response of the sender is kept already: then it is a good one
   pub kept_before : has_as_late y.collected.responses response ≡ true → KeepsResponse f w rows x response.from (most response.from)
   kept_before late =
-      let a : Found (λ (old : Response C). (old.from == response.from) && nat_le response.view old.view) y.collected.responses = found _ y.collected.responses late in
+      let a : Found (λ (old : Response C). (old.from == response.from) && nat_le response.view old.view) y.collected.responses =
+      found _ y.collected.responses late in
       let from = eq_of a.item.from response.from (and_left _ _ a.passes) in
       let high = le_of response.view a.item.view (and_right (a.item.from == response.from) _ a.passes) in
       let in_x = filter-has (λ (o : Response C). not (is_outdated (greater x.known response.known) o.from o.known)) x.collected.responses a.item a.among in
-      let fresh = current_of y.known a.item.known a.item.from (filter-passes (λ (o : Response C). not (is_outdated (greater x.known response.known) o.from o.known)) x.collected.responses a.item a.among) in
+      let fresh =
+      current_of y.known a.item.known a.item.from
+      (filter-passes (λ (o : Response C). not (is_outdated (greater x.known response.known) o.from o.known)) x.collected.responses a.item a.among) in
       record {
         response = a.item;
         among = in_x;
@@ -88,7 +96,8 @@ module _ {C : Type 0} (choose : Choice C) (f w b : ℕ) (right : IsRight f choos
         good = by_view a.item (let e = good.view in omega arith) (asks.each a.item in_x);
         current = subst (λ (i : ℕ). most i ≤ boot_of a.item.known i) from (
             let e = greater_is x.known response.known a.item.from in
-            let h : most a.item.from ≤ boot_of response.known a.item.from = subst (λ (i : ℕ). most i ≤ boot_of response.known i) (sym from) (let d = is_k in omega arith) in
+            let h : most a.item.from ≤ boot_of response.known a.item.from =
+            subst (λ (i : ℕ). most i ≤ boot_of response.known i) (sym from) (let d = is_k in omega arith) in
             omega arith);
       }
     where
@@ -109,13 +118,17 @@ module _ {C : Type 0} (choose : Choice C) (f w b : ℕ) (right : IsRight f choos
       last (inl e) = inr (subst (λ (r : Response C). IsGood f w rows r) e good)
       last (inr none) = absurd (Contains-none a none)
 
-      by_place : Contains (filter (λ (o : Response C). not (o.from == response.from)) y.collected.responses) a ⊎ Contains (response ∷ []) a → (a.view < w) ⊎ IsGood f w rows a
-      by_place (inl old) = asks.each a (filter-has (λ (o : Response C). not (is_outdated (greater x.known response.known) o.from o.known)) x.collected.responses a
+      by_place : Contains (filter (λ (o : Response C). not (o.from == response.from)) y.collected.responses) a ⊎ Contains (response ∷ []) a
+          → (a.view < w) ⊎ IsGood f w rows a
+      by_place (inl old) =
+          asks.each a (filter-has (λ (o : Response C). not (is_outdated (greater x.known response.known) o.from o.known)) x.collected.responses a
           (filter-has (λ (o : Response C). not (o.from == response.from)) y.collected.responses a old))
       by_place (inr new) = last (Contains-cases response a [] new)
 
   new_in : Contains z.collected.responses response
-  new_in = Contains-append_right (filter (λ (o : Response C). not (o.from == response.from)) y.collected.responses) (response ∷ []) response (Contains-here response [])
+  new_in =
+      Contains-append_right (filter (λ (o : Response C). not (o.from == response.from)) y.collected.responses) (response ∷ []) response
+      (Contains-here response [])
 
   at_most : (a : Response C) → Contains z.collected.responses a → a.view ≤ w
   at_most a in' = by_each (each_z a in')
@@ -128,7 +141,9 @@ module _ {C : Type 0} (choose : Choice C) (f w b : ℕ) (right : IsRight f choos
   keeps_z k h = by_site (cases_eq k response.from)
     where
       new : k ≡ response.from → KeepsResponse f w rows z k (most k)
-      new e = subst (λ (i : ℕ). KeepsResponse f w rows z i (most i)) (sym e) (record { response = response; among = new_in; from = refl; good = good; current = let d = is_k in omega arith })
+      new e =
+          subst (λ (i : ℕ). KeepsResponse f w rows z i (most i)) (sym e)
+          (record { response = response; among = new_in; from = refl; good = good; current = let d = is_k in omega arith })
 
       low : boot_of y.known k ≤ most k
       low = let e = greater_is x.known response.known k in let a = known k in let c = knew k in omega arith
@@ -140,14 +155,17 @@ module _ {C : Type 0} (choose : Choice C) (f w b : ℕ) (right : IsRight f choos
         among = Contains-append_left (filter (λ (o : Response C). not (o.from == response.from)) y.collected.responses) (response ∷ []) h.response
             (filter_keeps (λ (o : Response C). not (o.from == response.from)) y.collected.responses h.response
             (filter_keeps (λ (o : Response C). not (is_outdated (greater x.known response.known) o.from o.known)) x.collected.responses h.response h.among
-            (subst (λ (i : ℕ). not (is_outdated (greater x.known response.known) i h.response.known) ≡ true) (sym h.from) (passes (greater x.known response.known) h.response.known k (most k) low h.current)))
+            (subst (λ (i : ℕ). not (is_outdated (greater x.known response.known) i h.response.known) ≡ true) (sym h.from)
+            (passes (greater x.known response.known) h.response.known k (most k) low h.current)))
             (not_equal h.response.from response.from (λ e. apart (sym h.from ∙ e))));
         from = h.from;
         good = h.good;
         current = h.current;
       }
 
-  by_regained : (R O : Type 0) (regained : Option (Regained C)) → MatchOption regained ((r : Regained C) → ¬ IsRegained f z.collected.responses r) (IsRegained f z.collected.responses) → Answers (regains {R = R} {O = O} z regained).site
+  by_regained : (R O : Type 0) (regained : Option (Regained C))
+      → MatchOption regained ((r : Regained C) → ¬ IsRegained f z.collected.responses r) (IsRegained f z.collected.responses)
+      → Answers (regains {R = R} {O = O} z regained).site
   by_regained R O None none = record {
     ends = inl (record {
       status = asks.status;
@@ -157,7 +175,8 @@ module _ {C : Type 0} (choose : Choice C) (f w b : ℕ) (right : IsRight f choos
         enough = many;
         greatest = λ r in_r. at_most r in_r;
         known = a.known;
-        answered = subst (λ (r : Response C). Contains z.collected.responses r) (response_is a (primary f w) w (Some (whole rows)) from g.view (g.state from)) in';
+        answered =
+            subst (λ (r : Response C). Contains z.collected.responses r) (response_is a (primary f w) w (Some (whole rows)) from g.view (g.state from)) in';
       });
     });
     has = inr (record { response = response; among = new_in; from = refl; good = good; current = let d = is_k in omega arith });
@@ -168,7 +187,8 @@ module _ {C : Type 0} (choose : Choice C) (f w b : ℕ) (right : IsRight f choos
       view : r.view ≡ w
       view = let low = is.greatest response new_in in let e = good.view in let high = at_most _ is.answered in omega arith
 
-      by_each : (r.view < w) ⊎ IsGood f w rows (record { from = primary f r.view; view = r.view; state = Some r.state; known = is.known }) → r.state ≡ whole rows
+      by_each : (r.view < w) ⊎ IsGood f w rows (record { from = primary f r.view; view = r.view; state = Some r.state; known = is.known })
+          → r.state ≡ whole rows
       by_each (inl low) = absurd (let e = view in omega arith)
       by_each (inr g) = some-same r.state (whole rows) (g.state (ap (primary f) view))
 
@@ -195,15 +215,20 @@ module _ {C : Type 0} (choose : Choice C) (f w b : ℕ) (right : IsRight f choos
   regains_handled R O None = refl
   regains_handled R O (Some r) = refl
 
-  pub takes_answer : {R O : Type 0} → has_as_late y.collected.responses response ≡ false → (nonce : ℕ) → nonce ≡ b → TakesAnswer (on_recovery_response {R = R} {O = O} choose x nonce response)
+  pub takes_answer : {R O : Type 0} → has_as_late y.collected.responses response ≡ false → (nonce : ℕ) → nonce ≡ b
+      → TakesAnswer (on_recovery_response {R = R} {O = O} choose x nonce response)
   unfolding on_recovery_response
   takes_answer {R} {O} late nonce is =
       subst (λ (s : Step C R O). TakesAnswer s) (sym step_is)
-      (record { handled = regains_handled R O (choose.regained z.collected.responses); answers = by_regained R O (choose.regained z.collected.responses) (right.regained z.collected.responses) })
+      (record {
+        handled = regains_handled R O (choose.regained z.collected.responses);
+        answers = by_regained R O (choose.regained z.collected.responses) (right.regained z.collected.responses);
+      })
     where
       step_is : on_recovery_response {R = R} {O = O} choose x nonce response ≡ regains z (choose.regained z.collected.responses)
       step_is =
           if_no (not (is_recovering x.status)) _ _ (ap (λ st. not (is_recovering st)) asks.status)
           ∙ (if_no (not (nonce == nonce_of x.cell)) _ _ (ap not (eq_test nonce (nonce_of x.cell) (is ∙ sym asks.boots)))
-          ∙ (if_no (is_outdated x.known response.from response.known) _ _ (not_outdated x.known response.known response.from (let a = known response.from in let d = is_k in omega arith))
+          ∙ (if_no (is_outdated x.known response.from response.known) _ _
+          (not_outdated x.known response.known response.from (let a = known response.from in let d = is_k in omega arith))
           ∙ if_no (has_as_late y.collected.responses response) _ _ late))

@@ -74,7 +74,8 @@ module _ {C : Type 0} (f w me b : ℕ) (boots : ℕ → ℕ) (y : Site C) (vote 
       by_test true = s
       by_test false = record { vote = s.vote; among = Contains-append_left y.collected.votes (vote ∷ []) s.vote s.among; from = s.from; current = s.current }
 
-  vote_is_kept : ((a : Vote C) → Contains y.collected.votes a → boot_of y.known a.from ≤ boot_of a.known a.from) → boots vote.from ≤ boot_of y.known vote.from → boots vote.from ≤ boot_of vote.known vote.from
+  vote_is_kept : ((a : Vote C) → Contains y.collected.votes a → boot_of y.known a.from ≤ boot_of a.known a.from) → boots vote.from ≤ boot_of y.known vote.from
+      → boots vote.from ≤ boot_of vote.known vote.from
       → KeepsVote (with_vote vote y) vote.from (boots vote.from)
   vote_is_kept current low high = by_test (has_vote y.collected.votes vote.from) refl
     where
@@ -91,9 +92,11 @@ module _ {C : Type 0} (f w me b : ℕ) (boots : ℕ → ℕ) (y : Site C) (vote 
                 let l : boots a.item.from ≤ boot_of y.known a.item.from = subst (λ (i : ℕ). boots i ≤ boot_of y.known i) (sym from) low in
                 omega arith);
           }
-      by_test false e = record { vote = vote; among = Contains-append_right y.collected.votes (vote ∷ []) vote (Contains-here vote []); from = refl; current = high }
+      by_test false e =
+          record { vote = vote; among = Contains-append_right y.collected.votes (vote ∷ []) vote (Contains-here vote []); from = refl; current = high }
 
-  votes_good : (good : Vote C → Type 0) → ((v : Vote C) → Contains y.collected.votes v → good v) → good vote → (v : Vote C) → Contains (with_vote vote y).collected.votes v → good v
+  votes_good : (good : Vote C → Type 0) → ((v : Vote C) → Contains y.collected.votes v → good v) → good vote → (v : Vote C)
+      → Contains (with_vote vote y).collected.votes v → good v
   votes_good good old new v in' = by_test (has_vote y.collected.votes vote.from) in'
     where
       last : (vote ≡ v) ⊎ Contains [] v → good v
@@ -141,9 +144,12 @@ module _ {C R O : Type 0} (choose : Choice C) (f w me b : ℕ) (right : IsRight 
     pub handled : step.ending ≡ Handled
     pub ends : KeepsOne f w me b boots good x k step.site ⊎ Opens f w me b good step
 
-  module _ (g : History C R O) (s : ℕ → Site C) (holds : Holds f g s) (vote : Vote C) (to : ℕ) (counts : Counts f w me b (s me)) (leads : primary f w ≡ me) (is_b : b ≡ boots me)
-      (known : (j : ℕ) → boot_of (s me).known j ≤ boots j) (knew : (j : ℕ) → boot_of vote.known j ≤ boots j) (is_k : boot_of vote.known vote.from ≡ boots vote.from)
-      (said : Contains g.said (mail vote.from to (DoViewChange (ballot w vote)))) (all : (v : Vote C) → Contains (s me).collected.votes v → good v) (this : good vote) where
+  module _ (g : History C R O) (s : ℕ → Site C) (holds : Holds f g s) (vote : Vote C) (to : ℕ) (counts : Counts f w me b (s me))
+      (leads : primary f w ≡ me) (is_b : b ≡ boots me)
+      (known : (j : ℕ) → boot_of (s me).known j ≤ boots j) (knew : (j : ℕ) → boot_of vote.known j ≤ boots j)
+      (is_k : boot_of vote.known vote.from ≡ boots vote.from)
+      (said : Contains g.said (mail vote.from to (DoViewChange (ballot w vote)))) (all : (v : Vote C) → Contains (s me).collected.votes v
+      → good v) (this : good vote) where
     abbrev y : Site C
     y = learns vote.known (s me)
 
@@ -154,7 +160,9 @@ module _ {C R O : Type 0} (choose : Choice C) (f w me b : ℕ) (right : IsRight 
     part = record { site = z; sent = [] }
 
     current_y : (v : Vote C) → Contains y.collected.votes v → boot_of y.known v.from ≤ boot_of v.known v.from
-    current_y v in' = current_of y.known v.known v.from (filter-passes (λ (a : Vote C). not (is_outdated (greater (s me).known vote.known) a.from a.known)) (s me).collected.votes v in')
+    current_y v in' =
+        current_of y.known v.known v.from (filter-passes (λ (a : Vote C). not (is_outdated (greater (s me).known vote.known) a.from a.known))
+        (s me).collected.votes v in')
 
     keeps : (j : ℕ) → KeepsVote (s me) j (boots j) → KeepsVote z j (boots j)
     keeps j k = vote_keeps f w me b boots y vote j (boots j) (learns_keeps_vote f w me b boots (s me) vote.known known knew j k)
@@ -166,7 +174,9 @@ module _ {C R O : Type 0} (choose : Choice C) (f w me b : ℕ) (right : IsRight 
     is_like = like f w me b boots y vote
 
     has : KeepsVote z vote.from (boots vote.from)
-    has = vote_is_kept f w me b boots y vote current_y (let e = greater_is (s me).known vote.known vote.from in let d = is_k in omega arith) (let d = is_k in omega arith)
+    has =
+        vote_is_kept f w me b boots y vote current_y (let e = greater_is (s me).known vote.known vote.from in let d = is_k in omega arith) (let d = is_k in
+        omega arith)
 
     -- no view is started, as it is in this one
     late : nat_lt w (s me).view ≡ false
@@ -198,7 +208,8 @@ module _ {C R O : Type 0} (choose : Choice C) (f w me b : ℕ) (right : IsRight 
         let rest = and_right (primary f (t me).view == me) _ leads' in
         let many = and_right (has_vote (t me).collected.votes me) _ rest in
         subst (λ (x : Site C). begins_with_executed choose.same x (choose.pick x.collected.votes).log ≡ true) e
-        (pick_passes f choose right kept.history t me kept.holds (change_of _ (and_left (is_change (t me).status) _ due')) (sym (eq_of _ _ (and_left (primary f (t me).view == me) _ leads'))) (lt_of _ _ many))
+        (pick_passes f choose right kept.history t me kept.holds (change_of _ (and_left (is_change (t me).status) _ due'))
+        (sym (eq_of _ _ (and_left (primary f (t me).view == me) _ leads'))) (lt_of _ _ many))
 
     step_is : on_do_view_change {R = R} {O = O} choose f me (s me) w vote ≡ opens_where_due choose f me (s me) part
     unfolding on_do_view_change
@@ -211,7 +222,10 @@ module _ {C R O : Type 0} (choose : Choice C) (f w me b : ℕ) (right : IsRight 
         ∙ ap (opens_where_due choose f me (s me)) after_is))))
 
     all_z : (v : Vote C) → Contains z.collected.votes v → good v
-    all_z v in' = votes_good f w me b boots y vote good (λ u h. all u (filter-has (λ (a : Vote C). not (is_outdated (greater (s me).known vote.known) a.from a.known)) (s me).collected.votes u h)) this v in'
+    all_z v in' =
+        votes_good f w me b boots y vote good
+        (λ u h. all u (filter-has (λ (a : Vote C). not (is_outdated (greater (s me).known vote.known) a.from a.known)) (s me).collected.votes u h)) this v
+        in'
 
     -- where the view opens there is a vote
     some_votes : is_to_open f me z ≡ true → 0 < length z.collected.votes
@@ -223,7 +237,14 @@ module _ {C R O : Type 0} (choose : Choice C) (f w me b : ℕ) (right : IsRight 
         (record {
           handled = refl;
           ends = inl (record {
-            counts = record { status = is_like.status ∙ counts.status; view = is_like.view ∙ counts.view; boots = ap (λ c. c.boots) is_like.cell ∙ counts.boots; own = own; few = e };
+            counts =
+                record {
+                  status = is_like.status ∙ counts.status;
+                  view = is_like.view ∙ counts.view;
+                  boots = ap (λ c. c.boots) is_like.cell ∙ counts.boots;
+                  own = own;
+                  few = e;
+                };
             has = has;
             keeps = keeps;
             all = all_z;
@@ -231,7 +252,8 @@ module _ {C R O : Type 0} (choose : Choice C) (f w me b : ℕ) (right : IsRight 
         })
     by_due true e =
         subst (λ (st : Step C R O). TakesVote (s me) vote.from st)
-        (sym (if_no (not (is_to_open f me z)) _ _ (ap not e) ∙ if_no (not (begins_with_executed choose.same z (choose.pick z.collected.votes).log)) _ _ (ap not (fits e))))
+        (sym (if_no (not (is_to_open f me z)) _ _ (ap not e) ∙ if_no (not (begins_with_executed choose.same z (choose.pick z.collected.votes).log)) _ _
+        (ap not (fits e))))
         (record {
           handled = refl;
           ends = inr (record {
@@ -240,7 +262,15 @@ module _ {C R O : Type 0} (choose : Choice C) (f w me b : ℕ) (right : IsRight 
             boots = ap (λ c. c.boots) is_like.cell ∙ counts.boots;
             acks = refl;
             picked = (choose.pick z.collected.votes, all_z (choose.pick z.collected.votes) (right.pick z.collected.votes (some_votes e)).kept, refl);
-            sent = ap (λ (v : ℕ). to_all f me (StartView (record { view = v; done = (executed_to (choose.most_done z.collected.votes) (normal_in z.view (choose.pick z.collected.votes).log z)).done; rows = (choose.pick z.collected.votes).log }))) (is_like.view ∙ counts.view);
+            sent =
+                ap
+                (λ (v : ℕ).
+                to_all f me
+                (StartView (record {
+                  view = v;
+                  done = (executed_to (choose.most_done z.collected.votes) (normal_in z.view (choose.pick z.collected.votes).log z)).done;
+                  rows = (choose.pick z.collected.votes).log;
+                }))) (is_like.view ∙ counts.view);
           });
         })
 
@@ -248,7 +278,8 @@ module _ {C R O : Type 0} (choose : Choice C) (f w me b : ℕ) (right : IsRight 
     takes_vote = subst (λ (st : Step C R O). TakesVote (s me) vote.from st) (sym step_is) (by_due (is_to_open f me z) refl)
 
 module _ {C R O : Type 0} (choose : Choice C) (f : ℕ) where
-  vote_goes : (v : World C R O) (i : ℕ) → i < length v.sites → (site_at v i).status ≡ Change → (site_at v i).collected.voted ≡ true → primary f (site_at v i).view ≢ i
+  vote_goes : (v : World C R O) (i : ℕ) → i < length v.sites → (site_at v i).status ≡ Change → (site_at v i).collected.voted ≡ true
+      → primary f (site_at v i).view ≢ i
       → Reaches choose f v (IsSaid choose f i (primary f (site_at v i).view) (DoViewChange (ballot (site_at v i).view (own_vote i (site_at v i)))) v)
   unfolding beats_in_change
   vote_goes v i small change voted apart = record { after = taken choose f v i Beat; goes = goes; holds = holds }
@@ -274,21 +305,28 @@ module _ {C R O : Type 0} (choose : Choice C) (f : ℕ) where
       goes : GoesTo choose f v (taken choose f v i Beat)
       goes = goes_step choose f v i Beat small tt tt (ap (λ (s : Step C R O). is_refused s.ending) step)
 
-      votes : (if (site_at v i).collected.voted && not (primary f (site_at v i).view == i) then sends_vote {R = R} {O = O} f i (site_at v i) else []) ≡ sends_vote f i (site_at v i)
-      votes = if_yes ((site_at v i).collected.voted && not (primary f (site_at v i).view == i)) (sends_vote f i (site_at v i)) [] (other _ _ voted (differ _ _ apart))
+      votes : (if (site_at v i).collected.voted && not (primary f (site_at v i).view == i) then sends_vote {R = R} {O = O} f i (site_at v i) else [])
+          ≡ sends_vote f i (site_at v i)
+      votes =
+          if_yes ((site_at v i).collected.voted && not (primary f (site_at v i).view == i)) (sends_vote f i (site_at v i)) []
+          (other _ _ voted (differ _ _ apart))
 
       holds : IsSaid choose f i (primary f (site_at v i).view) msg v (taken choose f v i Beat)
       holds = record {
         goes = goes;
         same = taken_same choose f v i Beat small (ap (λ (s : Step C R O). s.site) step);
-        sent = taken_sent choose f v i Beat (mail i (primary f (site_at v i).view) msg) (subst (λ (s : Step C R O). Contains s.sent (mail i (primary f (site_at v i).view) msg)) (sym step)
+        sent =
+            taken_sent choose f v i Beat (mail i (primary f (site_at v i).view) msg)
+            (subst (λ (s : Step C R O). Contains s.sent (mail i (primary f (site_at v i).view) msg)) (sym step)
             (Contains-append_right (to_all f i (StartViewChange (record { view = (site_at v i).view; known = (site_at v i).known }))) _ _
-            (subst (λ (es : List (EnvelopeOf C R O)). Contains es (mail i (primary f (site_at v i).view) msg)) (sym votes) (Contains-here (mail i (primary f (site_at v i).view) msg) []))));
+            (subst (λ (es : List (EnvelopeOf C R O)). Contains es (mail i (primary f (site_at v i).view) msg)) (sym votes)
+            (Contains-here (mail i (primary f (site_at v i).view) msg) []))));
         still = λ e in'. taken_still choose f v i Beat e in';
       }
 
   module _ (right : IsRight f choose) (some : 1 ≤ f) (w : ℕ) (up : ℕ → Bool) (up_small : (j : ℕ) → up j ≡ true → j < 2 * f + 1) (old mid : World C R O)
-      (up_leads : up (primary f w) ≡ true) (gathered : Gathers choose f right some w up up_small old mid) (voted : (j : ℕ) → up j ≡ true → (site_at mid j).collected.voted ≡ true) where
+      (up_leads : up (primary f w) ≡ true) (gathered : Gathers choose f right some w up up_small old mid)
+      (voted : (j : ℕ) → up j ≡ true → (site_at mid j).collected.voted ≡ true) where
     abbrev p : ℕ
     p = primary f w
 
@@ -306,7 +344,9 @@ module _ {C R O : Type 0} (choose : Choice C) (f : ℕ) where
       pub boots : (site_at v (primary f w)).cell.boots ≡ (site_at old (primary f w)).cell.boots
       pub acks : (site_at v (primary f w)).collected.acks ≡ []
       pub picked : (u : Vote C) × ((up u.from ≡ true) × (u.log ≡ (site_at old u.from).log)) × ((site_at v (primary f w)).log ≡ u.log)
-      pub told : (j : ℕ) → j < 2 * f + 1 → j ≢ primary f w → Contains v.sent (mail (primary f w) j (StartView (record { view = w; done = (site_at v (primary f w)).done; rows = (site_at v (primary f w)).log })))
+      pub told : (j : ℕ) → j < 2 * f + 1 → j ≢ primary f w
+          → Contains v.sent
+          (mail (primary f w) j (StartView (record { view = w; done = (site_at v (primary f w)).done; rows = (site_at v (primary f w)).log })))
 
     -- the other sites are as they were, and the primary counts votes, or has opened the view
     pub record Collects (v : World C R O) : Type 0 where
@@ -314,7 +354,8 @@ module _ {C R O : Type 0} (choose : Choice C) (f : ℕ) where
       pub long : AllLong f v
       pub there : (j : ℕ) → j ≢ primary f w → site_at v j ≡ site_at mid j
       pub here : Counts f w (primary f w) (boots_of (primary f w)) (site_at v (primary f w)) ⊎ IsOpen v
-      pub logs : (site_at v (primary f w)).status ≡ Change → (u : Vote C) → Contains (site_at v (primary f w)).collected.votes u → (up u.from ≡ true) × (u.log ≡ (site_at old u.from).log)
+      pub logs : (site_at v (primary f w)).status ≡ Change → (u : Vote C) → Contains (site_at v (primary f w)).collected.votes u
+          → (up u.from ≡ true) × (u.log ≡ (site_at old u.from).log)
 
     abbrev Has : ℕ → World C R O → Type 0
     Has i v = KeepsVote (site_at v p) i (boots_of i) ⊎ IsOpen v
@@ -340,10 +381,12 @@ module _ {C R O : Type 0} (choose : Choice C) (f : ℕ) where
         by_site (inr apart) = ap (λ (x : Site C). x.cell.boots) (c.there k apart) ∙ boots_same choose f right some w up up_small old mid gathered k
 
     -- the DOVIEWCHANGE of site i comes to the primary, which counts still
-    vote_comes : (i : ℕ) → up i ≡ true → i ≢ p → (v : World C R O) → Collects v → Counts f w p (boots_of p) (site_at v p) → Reaches choose f v (λ u. Collects u × Has i u × KeepsOn v u)
+    vote_comes : (i : ℕ) → up i ≡ true → i ≢ p → (v : World C R O) → Collects v → Counts f w p (boots_of p) (site_at v p)
+        → Reaches choose f v (λ u. Collects u × Has i u × KeepsOn v u)
     vote_comes i up_i apart v c counts =
         reaches_then choose f v (IsSaid choose f i p msg v) _ said (λ u s.
-        reaches_then choose f u (IsTaken choose f p (step u) u) _ (arrives u s) (λ t is. record { after = t; goes = goes_nowhere choose f t; holds = by_end u s t is (takes u s).ends }))
+        reaches_then choose f u (IsTaken choose f p (step u) u) _ (arrives u s)
+        (λ t is. record { after = t; goes = goes_nowhere choose f t; holds = by_end u s t is (takes u s).ends }))
       where
         same : site_at v i ≡ site_at mid i
         same = c.there i apart
@@ -372,7 +415,9 @@ module _ {C R O : Type 0} (choose : Choice C) (f : ℕ) where
         said : Reaches choose f v (IsSaid choose f i p msg v)
         said =
             subst (λ (n : ℕ). Reaches choose f v (IsSaid choose f i (primary f n) (DoViewChange (ballot n (own_vote i (site_at v i)))) v)) waits.changes.view
-            (vote_goes v i (let a = size in let b = small_i in omega arith) waits.changes.status (ap (λ (x : Site C). x.collected.voted) same ∙ voted i up_i) (λ e. apart (sym (sym (ap (primary f) waits.changes.view) ∙ e))))
+            (vote_goes v i (let a = size in let b = small_i in
+            omega arith) waits.changes.status (ap (λ (x : Site C). x.collected.voted) same ∙ voted i up_i)
+            (λ e. apart (sym (sym (ap (primary f) waits.changes.view) ∙ e))))
 
         reached : (u : World C R O) → IsSaid choose f i p msg v u → IsReached f first u
         reached u s = goes_reached choose f right v u c.is s.goes
@@ -398,23 +443,29 @@ module _ {C R O : Type 0} (choose : Choice C) (f : ℕ) where
 
         takes : (u : World C R O) → IsSaid choose f i p msg v u → TakesVote choose f w p (boots_of p) right boots_of IsTrue (site_at u p) i (step u)
         takes u s =
-            takes_vote choose f w p (boots_of p) right boots_of IsTrue (reached u s).history (site_at u) (reached u s).holds.holds vote p (counts_at u s) refl refl
+            takes_vote choose f w p (boots_of p) right boots_of IsTrue (reached u s).history (site_at u) (reached u s).holds.holds vote p
+            (counts_at u s) refl refl
             (known_at u s p) knew is_i ((reached u s).holds.said _ s.sent) (logs_at u s) (up_i, ap (λ (x : Site C). x.log) same ∙ gathered.logs i up_i)
 
         step_is : (u : World C R O) → IsSaid choose f i p msg v u → site_step choose f p (site_at u p) (Deliver (mail i p msg)) ≡ step u
         step_is u s =
             delivered choose f i p (site_at u p) msg (runs_up _ (change_runs _ (counts_at u s).status))
             (both_are _ _ (another f p i small_i apart) (of_all_sites f (site_at v i).known ((c.long i).is (runs_up _ (change_runs _ waits.changes.status)))))
-            ∙ ap (λ (n : ℕ). on_do_view_change {R = R} {O = O} choose f p (site_at u p) w (record { from = n; last_normal = vote.last_normal; done = vote.done; log = vote.log; known = vote.known })) (site_back i)
+            ∙ ap (λ (n : ℕ). on_do_view_change {R = R} {O = O} choose f p (site_at u p) w
+            (record { from = n; last_normal = vote.last_normal; done = vote.done; log = vote.log; known = vote.known })) (site_back i)
 
         arrives : (u : World C R O) → IsSaid choose f i p msg v u → Reaches choose f u (IsTaken choose f p (step u) u)
         arrives u s =
-            comes choose f u i p msg (step u) (let e = size_is f u (reached u s) in let b = small_p in omega arith) s.sent refl (step_is u s) (ap is_refused (takes u s).handled)
+            comes choose f u i p msg (step u) (let e = size_is f u (reached u s) in let b = small_p in
+            omega arith) s.sent refl (step_is u s) (ap is_refused (takes u s).handled)
 
-        elsewhere : (u : World C R O) → IsSaid choose f i p msg v u → (t : World C R O) → IsTaken choose f p (step u) u t → (j : ℕ) → j ≢ p → site_at t j ≡ site_at mid j
+        elsewhere : (u : World C R O) → IsSaid choose f i p msg v u → (t : World C R O) → IsTaken choose f p (step u) u t → (j : ℕ) → j ≢ p
+            → site_at t j ≡ site_at mid j
         elsewhere u s t is j apart' = is.there j apart' ∙ (ap (λ (x : ℕ → Site C). x j) s.same ∙ c.there j apart')
 
-        collects : (u : World C R O) (s : IsSaid choose f i p msg v u) (t : World C R O) → IsTaken choose f p (step u) u t → Counts f w p (boots_of p) (site_at t p) ⊎ IsOpen t → ((site_at t p).status ≡ Change → (x : Vote C) → Contains (site_at t p).collected.votes x → IsTrue x) → Collects t
+        collects : (u : World C R O) (s : IsSaid choose f i p msg v u) (t : World C R O) → IsTaken choose f p (step u) u t
+            → Counts f w p (boots_of p) (site_at t p) ⊎ IsOpen t
+            → ((site_at t p).status ≡ Change → (x : Vote C) → Contains (site_at t p).collected.votes x → IsTrue x) → Collects t
         collects u s t is here logs = record {
           is = goes_reached choose f right u t (reached u s) is.goes;
           long = run_long choose f u t is.goes.events (run_long choose f v u s.goes.events c.long s.goes.run) is.goes.run;
@@ -432,25 +483,35 @@ module _ {C R O : Type 0} (choose : Choice C) (f : ℕ) where
           picked = (o.picked.0, o.picked.1, ap (λ (x : Site C). x.log) is.here ∙ o.picked.2);
           told = λ j small apart'.
               subst (λ (x : Site C). Contains t.sent (mail p j (StartView (record { view = w; done = x.done; rows = x.log })))) (sym is.here)
-              (is.sent _ (subst (λ (es : List (EnvelopeOf C R O)). Contains es (mail p j (StartView (record { view = w; done = (step u).site.done; rows = (step u).site.log })))) (sym o.sent)
+              (is.sent _
+              (subst (λ (es : List (EnvelopeOf C R O)).
+              Contains es (mail p j (StartView (record { view = w; done = (step u).site.done; rows = (step u).site.log })))) (sym o.sent)
               (told_each f p j (StartView (record { view = w; done = (step u).site.done; rows = (step u).site.log })) small apart')));
         }
 
         not_open : IsOpen v → ⊥
         not_open o = let e : Normal ≡ Change = sym o.status ∙ counts.status in cc
 
-        by_end : (u : World C R O) (s : IsSaid choose f i p msg v u) (t : World C R O) → IsTaken choose f p (step u) u t → KeepsOne f w p (boots_of p) boots_of IsTrue (site_at u p) i (step u).site ⊎ Opens f w p (boots_of p) IsTrue (step u)
+        by_end : (u : World C R O) (s : IsSaid choose f i p msg v u) (t : World C R O) → IsTaken choose f p (step u) u t
+            → KeepsOne f w p (boots_of p) boots_of IsTrue (site_at u p) i (step u).site ⊎ Opens f w p (boots_of p) IsTrue (step u)
             → Collects t × Has i t × KeepsOn v t
         by_end u s t is (inl k) = (
-          collects u s t is (inl (subst (λ (x : Site C). Counts f w p (boots_of p) x) (sym is.here) k.counts)) (λ _ x in'. k.all x (subst (λ (y : Site C). Contains y.collected.votes x) is.here in')),
+          collects u s t is (inl (subst (λ (x : Site C). Counts f w p (boots_of p) x) (sym is.here) k.counts))
+              (λ _ x in'. k.all x (subst (λ (y : Site C). Contains y.collected.votes x) is.here in')),
           inl (subst (λ (x : Site C). KeepsVote x i (boots_of i)) (sym is.here) k.has),
           record { each = λ m h. keeps_by m h },
         )
           where
             keeps_by : (m : ℕ) → Has m v → Has m t
-            keeps_by m (inl h) = inl (subst (λ (x : Site C). KeepsVote x m (boots_of m)) (sym is.here) (k.keeps m (subst (λ (x : ℕ → Site C). KeepsVote (x p) m (boots_of m)) (sym s.same) h)))
+            keeps_by m (inl h) =
+                inl (subst (λ (x : Site C). KeepsVote x m (boots_of m)) (sym is.here)
+                (k.keeps m (subst (λ (x : ℕ → Site C). KeepsVote (x p) m (boots_of m)) (sym s.same) h)))
             keeps_by m (inr o) = absurd (not_open o)
-        by_end u s t is (inr o) = (collects u s t is (inr (is_open u t is o)) (λ change. absurd (let n : Normal ≡ Change = sym (is_open u t is o).status ∙ change in cc)), inr (is_open u t is o), record { each = λ m h. inr (is_open u t is o) })
+        by_end u s t is (inr o) = (
+          collects u s t is (inr (is_open u t is o)) (λ change. absurd (let n : Normal ≡ Change = sym (is_open u t is o).status ∙ change in cc)),
+          inr (is_open u t is o),
+          record { each = λ m h. inr (is_open u t is o) },
+        )
 
     -- at first the primary has its own vote
     pub begins_counting : IsReached f first mid → Collects mid
@@ -477,7 +538,8 @@ module _ {C R O : Type 0} (choose : Choice C) (f : ℕ) where
     pub opens : f < count_by up (sites f) → (v : World C R O) → Collects v → Reaches choose f v (λ u. Collects u × IsOpen u)
     opens many v c =
         reaches_then choose f v (λ u. Collects u × ((j : ℕ) → Contains (sites f) j → up j ≡ true → Has j u) × KeepsOn v u) _
-        (sweep_on choose f Collects KeepsOn keeps_on_same keeps_on_more (λ j u. up j ≡ true → Has j u) (λ j a b r h e. r.each j (h e)) (sites f) (λ j u in' d. by_test j u d (up j) refl (cases_eq j p) d.here) v c)
+        (sweep_on choose f Collects KeepsOn keeps_on_same keeps_on_more (λ j u. up j ≡ true → Has j u) (λ j a b r h e. r.each j (h e)) (sites f)
+        (λ j u in' d. by_test j u d (up j) refl (cases_eq j p) d.here) v c)
         (λ u is. record { after = u; goes = goes_nowhere choose f u; holds = (is.0, by_end u (λ j e. is.1 j (has_site f j (up_small j e)) e) is.0.here) })
       where
         not_both : (u : World C R O) → Counts f w p (boots_of p) (site_at u p) → IsOpen u → ⊥
@@ -501,7 +563,8 @@ module _ {C R O : Type 0} (choose : Choice C) (f : ℕ) where
 
         by_end : (u : World C R O) → ((j : ℕ) → up j ≡ true → Has j u) → Counts f w p (boots_of p) (site_at u p) ⊎ IsOpen u → IsOpen u
         by_end u all (inr o) = o
-        by_end u all (inl counts) = absurd (true≢false (sym (opens_by_votes f w p (boots_of p) (site_at u p) counts.status counts.view refl counts.own enough) ∙ counts.few))
+        by_end u all (inl counts) =
+            absurd (true≢false (sym (opens_by_votes f w p (boots_of p) (site_at u p) counts.status counts.view refl counts.own enough) ∙ counts.few))
           where
             by_has : (j : ℕ) → Has j u → has_vote (site_at u p).collected.votes j ≡ true
             by_has j (inl k) = has_vote_of (site_at u p).collected.votes j k.vote k.among k.from

@@ -33,11 +33,14 @@ use Rattle.agreement.proofs.Learns.{kept_learns}
 use Rattle.agreement.proofs.Tests.{eq_test, eq_of, lt_of, le_of, ge_of, runs_up, not_false, and_left, and_right, and_false, change_of, runs_of, changes_of, change_runs, found, Found}
 
 -- it is in change, in view w
-started_in : {C : Type 0} (R O : Type 0) (f me : ℕ) (x : Site C) (w : ℕ) → nat_lt w x.view ≡ false → is_running x.status ≡ true → (is_normal x.status && (w == x.view)) ≡ false
+started_in : {C : Type 0} (R O : Type 0) (f me : ℕ) (x : Site C) (w : ℕ) → nat_lt w x.view ≡ false → is_running x.status ≡ true
+    → (is_normal x.status && (w == x.view)) ≡ false
     → (let part = starts_later_view {R = R} {O = O} f me w x in (part.site.status ≡ Change) × (part.site.view ≡ w) × (part.site.known ≡ x.known))
 started_in {C} R O f me x w late run other = by_test (nat_lt x.view w) refl
   where
-    by_test : (b : Bool) → nat_lt x.view w ≡ b → (let part : Part C R O = if b then starts_view f me w x else record { site = x; sent = [] } in (part.site.status ≡ Change) × (part.site.view ≡ w) × (part.site.known ≡ x.known))
+    by_test : (b : Bool) → nat_lt x.view w ≡ b
+        → (let part : Part C R O = if b then starts_view f me w x else record { site = x; sent = [] } in
+        (part.site.status ≡ Change) × (part.site.view ≡ w) × (part.site.known ≡ x.known))
     by_test true e = (refl, refl, refl)
     by_test false e =
         let a : w ≤ x.view = ge_of _ _ e in
@@ -62,9 +65,12 @@ module _ {C R O : Type 0} (f me : ℕ) where
       own = (holds.sites me).hears.own (runs_up _ (change_runs _ change))
 
       -- what a site in a view change says of its log is true
-      vote_vouched : (es : List (EnvelopeOf C R O)) → Says me msg es → IsBacked f (say es g) me (s me).view (s me).cell.boots → IsVote f (say es g) me (ballot (s me).view (own_vote me (s me)))
+      vote_vouched : (es : List (EnvelopeOf C R O)) → Says me msg es → IsBacked f (say es g) me (s me).view (s me).cell.boots
+          → IsVote f (say es g) me (ballot (s me).view (own_vote me (s me)))
       vote_vouched es says backed = record {
-        told = told_later f g (say es g) me 0 (later_say f g me msg es tt says 0) me (s me).view (s me).known (record { boots = (holds.sites me).hears.heard; lived = r.at_view.lived });
+        told =
+            told_later f g (say es g) me 0 (later_say f g me msg es tt says 0) me (s me).view (s me).known
+            (record { boots = (holds.sites me).hears.heard; lived = r.at_view.lived });
         backed = record { votes = backed.votes; among = backed.among; own = backed.own ∙ sym own };
         below = r.change change;
         log_of = log_of_later f g (say es g) me 0 (later_say f g me msg es tt says 0) _ _ r.log_of;
@@ -74,11 +80,14 @@ module _ {C R O : Type 0} (f me : ℕ) where
       }
 
       -- where it is due, it is backed by the STARTVIEWCHANGEs of f others
-      due_backed : (es : List (EnvelopeOf C R O)) → Says me msg es → Contains es (mail me (primary f (s me).view) msg) → me < 2 * f + 1 → is_to_vote f me (s me) ≡ true → IsBacked f (say es g) me (s me).view (s me).cell.boots
+      due_backed : (es : List (EnvelopeOf C R O)) → Says me msg es → Contains es (mail me (primary f (s me).view) msg) → me < 2 * f + 1
+          → is_to_vote f me (s me) ≡ true → IsBacked f (say es g) me (s me).view (s me).cell.boots
       due_backed es says here small due = record {
         votes = record {
           who = with_one me (has_start starts);
-          many = (let a = le_of f _ (and_left (nat_le f (count_by (has_start starts) (others f me))) _ due) in let b = one_more f me (has_start starts) small in omega arith);
+          many =
+              (let a = le_of f _ (and_left (nat_le f (count_by (has_start starts) (others f me))) _ due) in let b = one_more f me (has_start starts) small in
+              omega arith);
           known = λ k. known_at k (k == me);
           voted = λ k e. voted_at k (k == me) refl e;
           fresh = λ k l p q. fresh_at k l (k == me) (l == me) refl refl p q;
@@ -93,18 +102,22 @@ module _ {C R O : Type 0} (f me : ℕ) where
           known_at : (k : ℕ) (b : Bool) → List ℕ
           known_at k b = if b then (s me).known else known_by (λ (a : Start). a.from) (λ (a : Start). a.known) starts k
 
-          first_at : (k : ℕ) → has_start starts k ≡ true → IsFirst (λ (a : Start). a.from) (λ (a : Start). a.known) starts k (known_by (λ (a : Start). a.from) (λ (a : Start). a.known) starts k)
+          first_at : (k : ℕ) → has_start starts k ≡ true
+              → IsFirst (λ (a : Start). a.from) (λ (a : Start). a.known) starts k (known_by (λ (a : Start). a.from) (λ (a : Start). a.known) starts k)
           first_at k e = first_known (λ (a : Start). a.from) (λ (a : Start). a.known) starts k e
 
           at : (a : Start) → Contains starts a → IsKeptStart g (s me).view (s me).known a
           at a in' = r.at_view.starts change a in'
 
           voted_at : (k : ℕ) (b : Bool) → (k == me) ≡ b → (b || has_start starts k) ≡ true → Voted (say es g) k (s me).view (known_at k b)
-          voted_at k true e h = subst (λ (i : ℕ). Voted (say es g) i (s me).view (s me).known) (sym (eq_of k me e)) (voted (primary f (s me).view) (s me).last_normal (s me).done (s me).log (Contains-append_left es g.said _ here))
+          voted_at k true e h =
+              subst (λ (i : ℕ). Voted (say es g) i (s me).view (s me).known) (sym (eq_of k me e))
+              (voted (primary f (s me).view) (s me).last_normal (s me).done (s me).log (Contains-append_left es g.said _ here))
           voted_at k false e h =
               let x = first_at k h in
               subst (λ (known : List ℕ). Voted (say es g) k (s me).view known) x.knew
-              (subst (λ (i : ℕ). Voted (say es g) i (s me).view x.item.known) x.sender (started (at x.item x.among).to (Contains-append_right es g.said _ (at x.item x.among).said)))
+              (subst (λ (i : ℕ). Voted (say es g) i (s me).view x.item.known) x.sender
+              (started (at x.item x.among).to (Contains-append_right es g.said _ (at x.item x.among).said)))
 
           known_within : (k : ℕ) (b : Bool) → (b || has_start starts k) ≡ true → (l : ℕ) → boot_of (known_at k b) l ≤ boot_of (s me).known l
           known_within k true h l = omega arith
@@ -119,7 +132,8 @@ module _ {C R O : Type 0} (f me : ℕ) where
               subst (λ (known : List ℕ). boot_of (s me).known l ≤ boot_of known l) x.knew
               (subst (λ (i : ℕ). boot_of (s me).known i ≤ boot_of x.item.known i) x.sender (at x.item x.among).current)
 
-          fresh_at : (k l : ℕ) (a b : Bool) → (k == me) ≡ a → (l == me) ≡ b → (a || has_start starts k) ≡ true → (b || has_start starts l) ≡ true → boot_of (known_at k a) l ≤ boot_of (known_at l b) l
+          fresh_at : (k l : ℕ) (a b : Bool) → (k == me) ≡ a → (l == me) ≡ b → (a || has_start starts k) ≡ true → (b || has_start starts l) ≡ true
+              → boot_of (known_at k a) l ≤ boot_of (known_at l b) l
           fresh_at k l a b d e p q = let low = known_within k a p l in let high = current_at l b q in omega arith
 
           with_me : (b : Bool) → b ≡ true → (b || has_start starts me) ≡ true
@@ -139,7 +153,8 @@ module _ {C R O : Type 0} (f me : ℕ) where
       votes_own collected sent old sends same small due =
           kept_say f g me msg es tt says s sent y holds
           (goes_on (s me) y (same_cell (s me) y refl) (λ e. let e' : Change ≡ Recovering = sym change ∙ e in cc))
-          (stands_running f (say es g) me y (change_runs _ change) (hears_say f g me msg es tt says (s me) tells (λ _. r.at_view) (holds.sites me).hears) (record {
+          (stands_running f (say es g) me y (change_runs _ change) (hears_say f g me msg es tt says (s me) tells (λ _. r.at_view) (holds.sites me).hears)
+          (record {
             at_view = record {
               lived = told.at_view.lived;
               votes = told.at_view.votes;
@@ -183,18 +198,21 @@ module _ {C R O : Type 0} (f me : ℕ) where
           current v (inl in') = r.current change v in'
           current v (inr e) = subst (λ (u : Vote C). IsKeptVote (s me).known u) e (record { within = λ k. omega arith; current = omega arith })
 
-          said : (v : Vote C) → Contains (s me).collected.votes v ⊎ (own_vote me (s me) ≡ v) → (to : ℕ) × Contains (es ++ g.said) (mail v.from to (DoViewChange (ballot ((s me).view) v)))
+          said : (v : Vote C) → Contains (s me).collected.votes v ⊎ (own_vote me (s me) ≡ v)
+              → (to : ℕ) × Contains (es ++ g.said) (mail v.from to (DoViewChange (ballot ((s me).view) v)))
           said v (inl in') = told.votes change v in'
           said v (inr e) = (
             primary f (s me).view,
-            subst (λ (u : Vote C). Contains (es ++ g.said) (mail u.from (primary f (s me).view) (DoViewChange (ballot ((s me).view) u)))) e (Contains-here _ g.said),
+            subst (λ (u : Vote C). Contains (es ++ g.said) (mail u.from (primary f (s me).view) (DoViewChange (ballot ((s me).view) u)))) e
+                (Contains-here _ g.said),
           )
 
       -- it is kept at the primary of the view
       votes_here : me < 2 * f + 1 → is_to_vote f me (s me) ≡ true → Kept f g s me (does (with_vote (own_vote me (s me)) (with_voted (s me))) [])
       votes_here small due = by_test (has_vote (s me).collected.votes me)
         where
-          by_place : (v : Vote C) → Contains (s me).collected.votes v ⊎ Contains (own_vote me (s me) ∷ []) v → Contains (s me).collected.votes v ⊎ (own_vote me (s me) ≡ v)
+          by_place : (v : Vote C) → Contains (s me).collected.votes v ⊎ Contains (own_vote me (s me) ∷ []) v
+              → Contains (s me).collected.votes v ⊎ (own_vote me (s me) ≡ v)
           by_place v (inl in') = inl in'
           by_place v (inr in') = this (Contains-cases (own_vote me (s me)) v [] in')
             where
@@ -202,7 +220,13 @@ module _ {C R O : Type 0} (f me : ℕ) where
               this (inl e) = inr e
               this (inr none) = absurd (Contains-none v none)
 
-          by_test : (b : Bool) → Kept f g s me (does (if b then with_voted (s me) else record (with_voted (s me)) { collected = record ((with_voted (s me)).collected) { votes = (s me).collected.votes ++ own_vote me (s me) ∷ [] } }) [])
+          by_test : (b : Bool)
+              → Kept f g s me
+              (does (if b then with_voted (s me)
+              else record (with_voted (s me)) {
+                collected = record
+                    ((with_voted (s me)).collected) { votes = (s me).collected.votes ++ own_vote me (s me) ∷ [] };
+              }) [])
           by_test true = votes_own (record ((s me).collected) { voted = true }) [] (λ v in'. inl in') (λ e in'. absurd (Contains-none e in')) refl small due
           by_test false = votes_own (record ((s me).collected) { voted = true; votes = (s me).collected.votes ++ own_vote me (s me) ∷ [] }) []
               (λ v in'. by_place v (Contains-append_cases (s me).collected.votes _ v in')) (λ e in'. absurd (Contains-none e in')) refl small due
@@ -223,16 +247,22 @@ module _ {C R O : Type 0} (f me : ℕ) where
               this (inl e) = subst (λ (b : Start). IsKeptStart g (s me).view (s me).known b) e good
               this (inr none) = absurd (Contains-none a none)
 
-          by_test : (b : Bool) → Kept f g s me (does (if b then s me else record (s me) { collected = record ((s me).collected) { starts = (s me).collected.starts ++ start ∷ [] } }) [])
+          by_test : (b : Bool)
+              → Kept f g s me
+              (does (if b then s me else record (s me) { collected = record ((s me).collected) { starts = (s me).collected.starts ++ start ∷ [] } }) [])
           by_test true = kept_same f g s me holds _ refl refl
-          by_test false = kept_collects f g s me holds (change_runs _ change) (record ((s me).collected) { starts = (s me).collected.starts ++ start ∷ [] }) refl (r.votes change) r.current
+          by_test false =
+              kept_collects f g s me holds (change_runs _ change) (record ((s me).collected) { starts = (s me).collected.starts ++ start ∷ [] }) refl
+              (r.votes change) r.current
               (λ _ a in'. by_place a (Contains-append_cases (s me).collected.starts (start ∷ []) a in')) refl
 
       -- the first DOVIEWCHANGE of a site is kept
-      vote_kept : (vote : Vote C) → IsKeptVote (s me).known vote → (to : ℕ) × Contains g.said (mail vote.from to (DoViewChange (ballot ((s me).view) vote))) → Kept f g s me (does (with_vote vote (s me)) [])
+      vote_kept : (vote : Vote C) → IsKeptVote (s me).known vote → (to : ℕ) × Contains g.said (mail vote.from to (DoViewChange (ballot ((s me).view) vote)))
+          → Kept f g s me (does (with_vote vote (s me)) [])
       vote_kept vote good said = by_test (has_vote (s me).collected.votes vote.from)
         where
-          by_place : (v : Vote C) → Contains (s me).collected.votes v ⊎ Contains (vote ∷ []) v → (to : ℕ) × Contains g.said (mail v.from to (DoViewChange (ballot ((s me).view) v)))
+          by_place : (v : Vote C) → Contains (s me).collected.votes v ⊎ Contains (vote ∷ []) v
+              → (to : ℕ) × Contains g.said (mail v.from to (DoViewChange (ballot ((s me).view) v)))
           by_place v (inl in') = r.votes change v in'
           by_place v (inr in') = this (Contains-cases vote v [] in')
             where
@@ -248,15 +278,19 @@ module _ {C R O : Type 0} (f me : ℕ) where
               this (inl e) = subst (λ (u : Vote C). IsKeptVote (s me).known u) e good
               this (inr none) = absurd (Contains-none v none)
 
-          by_test : (b : Bool) → Kept f g s me (does (if b then s me else record (s me) { collected = record ((s me).collected) { votes = (s me).collected.votes ++ vote ∷ [] } }) [])
+          by_test : (b : Bool)
+              → Kept f g s me
+              (does (if b then s me else record (s me) { collected = record ((s me).collected) { votes = (s me).collected.votes ++ vote ∷ [] } }) [])
           by_test true = kept_same f g s me holds _ refl refl
           by_test false = kept_collects f g s me holds (change_runs _ change) (record ((s me).collected) { votes = (s me).collected.votes ++ vote ∷ [] }) refl
               (λ v in'. by_place v (Contains-append_cases (s me).collected.votes (vote ∷ []) v in'))
               (λ _ v in'. current v (Contains-append_cases (s me).collected.votes (vote ∷ []) v in')) r.at_view.starts refl
 
     -- the view is opened by the votes that are kept
-    opens_by : (choose : Choice C) → IsRight f choose → (votes : List (Vote C)) → (s me).collected.votes ≡ votes → (s me).status ≡ Change → me ≡ primary f (s me).view → f < count_by (has_vote votes) (sites f)
-        → (let y = executed_to (choose.most_done votes) (normal_in (s me).view (choose.pick votes).log (s me)) in Kept f g s me (does y (to_all f me (StartView (record { view = y.view; done = y.done; rows = y.log })))))
+    opens_by : (choose : Choice C) → IsRight f choose → (votes : List (Vote C)) → (s me).collected.votes ≡ votes → (s me).status ≡ Change
+        → me ≡ primary f (s me).view → f < count_by (has_vote votes) (sites f)
+        → (let y = executed_to (choose.most_done votes) (normal_in (s me).view (choose.pick votes).log (s me)) in
+        Kept f g s me (does y (to_all f me (StartView (record { view = y.view; done = y.done; rows = y.log })))))
     opens_by choose right votes same change leads many =
         kept_opens f g s me pick.log pick.last_normal (has_vote votes) holds change leads
         (good pick is_pick.kept).below (good pick is_pick.kept).log_of many (λ j h. elector j (found _ votes h))
@@ -303,7 +337,15 @@ module _ {C R O : Type 0} (f me : ℕ) where
             let t = voted x.item x.among in
             let n : IsNotBefore x.item pick = not_before x.item pick (is_pick.first x.item x.among) in
             subst (λ (i : ℕ). IsElector g (s me).view pick.last_normal (length pick.log) i) (eq_of x.item.from j x.passes)
-            (record { to = t.0; u = x.item.last_normal; k = x.item.done; log = x.item.log; known = x.item.known; voted = t.1; best = upto_of _ _ _ _ n.view n.rows })
+            (record {
+              to = t.0;
+              u = x.item.last_normal;
+              k = x.item.done;
+              log = x.item.log;
+              known = x.item.known;
+              voted = t.1;
+              best = upto_of _ _ _ _ n.view n.rows;
+            })
 
   module _ (g : History C R O) (s : ℕ → Site C) (holds : Holds f g s) where
     -- its own vote is made where it is due
@@ -326,10 +368,12 @@ module _ {C R O : Type 0} (f me : ℕ) where
             (λ h t grown e later. votes_there h t later (ap (λ (x : Site C). x.status) e ∙ change) small (due_at (t me) e d))
 
     -- the view is opened where it is due; what is dropped changes nothing
-    opens_kept : (choose : Choice C) → IsRight f choose → (part : Part C R O) → Kept f g s me (does part.site part.sent) → Kept f g s me (opens_where_due choose f me (s me) part)
+    opens_kept : (choose : Choice C) → IsRight f choose → (part : Part C R O) → Kept f g s me (does part.site part.sent)
+        → Kept f g s me (opens_where_due choose f me (s me) part)
     opens_kept choose right part k =
         kept_if f g s me (not (is_to_open f me part.site)) (λ _. k) (λ due.
-        kept_if f g s me (not (begins_with_executed choose.same part.site (choose.pick part.site.collected.votes).log)) (λ _. kept_same f g s me holds _ refl refl) (λ _.
+        kept_if f g s me (not (begins_with_executed choose.same part.site (choose.pick part.site.collected.votes).log))
+        (λ _. kept_same f g s me holds _ refl refl) (λ _.
         opened (not_false _ due)))
       where
         votes : List (Vote C)
@@ -341,17 +385,20 @@ module _ {C R O : Type 0} (f me : ℕ) where
             let rest = and_right (primary f part.site.view == me) _ leads in
             let many = and_right (has_vote votes me) _ rest in
             kept_step f g s me _ (kept_go f g s me part.site part.sent (λ x. executed_to (choose.most_done votes) (normal_in x.view (choose.pick votes).log x))
-            (λ x. let y = executed_to (choose.most_done votes) (normal_in x.view (choose.pick votes).log x) in to_all f me (StartView (record { view = y.view; done = y.done; rows = y.log }))) k
+            (λ x. let y = executed_to (choose.most_done votes) (normal_in x.view (choose.pick votes).log x) in
+            to_all f me (StartView (record { view = y.view; done = y.done; rows = y.log }))) k
             (λ h t grown e later. opens_by h t later choose right votes (ap (λ (x : Site C). x.collected.votes) e)
             (ap (λ (x : Site C). x.status) e ∙ change_of _ (and_left (is_change part.site.status) _ due))
             (sym (eq_of _ _ (and_left (primary f part.site.view == me) _ leads)) ∙ ap (λ (x : Site C). primary f x.view) (sym e))
             (lt_of _ _ many)))
 
     -- a site that was in the change to w, or has started it now
-    starts_kept : (w : ℕ) → is_running (s me).status ≡ true → (let part = starts_later_view {R = R} {O = O} f me w (s me) in Kept f g s me (does part.site part.sent))
+    starts_kept : (w : ℕ) → is_running (s me).status ≡ true
+        → (let part = starts_later_view {R = R} {O = O} f me w (s me) in Kept f g s me (does part.site part.sent))
     starts_kept w run = by_test (nat_lt (s me).view w) refl
       where
-        by_test : (b : Bool) → nat_lt (s me).view w ≡ b → (let part : Part C R O = if b then starts_view f me w (s me) else record { site = s me; sent = [] } in Kept f g s me (does part.site part.sent))
+        by_test : (b : Bool) → nat_lt (s me).view w ≡ b
+            → (let part : Part C R O = if b then starts_view f me w (s me) else record { site = s me; sent = [] } in Kept f g s me (does part.site part.sent))
         by_test true e = kept_starts f g s me holds run w (lt_of _ _ e)
         by_test false e = kept_same f g s me holds _ refl refl
 
@@ -360,30 +407,37 @@ module _ {C R O : Type 0} (f me : ℕ) where
     begun_kept : (told : List ℕ) (w : ℕ) → ((k : ℕ) → WasBoot g k (boot_of told k)) → is_running (s me).status ≡ true
         → (let part = starts_later_view {R = R} {O = O} f me w (learns told (s me)) in Kept f g s me (does part.site part.sent))
     begun_kept told w boots run =
-        kept_go f g s me (learns told (s me)) [] (λ x. (starts_later_view {R = R} {O = O} f me w x).site) (λ x. (starts_later_view {R = R} {O = O} f me w x).sent)
+        kept_go f g s me (learns told (s me)) [] (λ x. (starts_later_view {R = R} {O = O} f me w x).site)
+        (λ x. (starts_later_view {R = R} {O = O} f me w x).sent)
         (kept_learns f g s me holds told boots run)
         (λ h t grown e later. starts_kept h t later w (ap (λ (x : Site C). is_running x.status) e ∙ run))
 
     -- and what it knew is of its boot that is known then
-    current_vote : (vote : Vote C) (x : Site C) → x.known ≡ greater (s me).known vote.known → is_outdated (s me).known vote.from vote.known ≡ false → IsKeptVote x.known vote
+    current_vote : (vote : Vote C) (x : Site C) → x.known ≡ greater (s me).known vote.known → is_outdated (s me).known vote.from vote.known ≡ false
+        → IsKeptVote x.known vote
     current_vote vote x known current = record {
       within = subst (λ (a : List ℕ). Within vote.known a) (sym known) (greater_right (s me).known vote.known);
       current = subst (λ (a : List ℕ). boot_of a vote.from ≤ boot_of vote.known vote.from) (sym known)
-          (let e = greater_is (s me).known vote.known vote.from in let l = ge_of (boot_of vote.known vote.from) (boot_of (s me).known vote.from) current in omega arith);
+          (let e = greater_is (s me).known vote.known vote.from in let l = ge_of (boot_of vote.known vote.from) (boot_of (s me).known vote.from) current in
+          omega arith);
     }
 
-    current_start : (start : Start) (w to : ℕ) (h : History C R O) (x : Site C) → Contains h.said (mail start.from to (StartViewChange (record { view = w; known = start.known }))) → x.view ≡ w → x.known ≡ greater (s me).known start.known
+    current_start : (start : Start) (w to : ℕ) (h : History C R O) (x : Site C)
+        → Contains h.said (mail start.from to (StartViewChange (record { view = w; known = start.known }))) → x.view ≡ w
+        → x.known ≡ greater (s me).known start.known
         → is_outdated (s me).known start.from start.known ≡ false → IsKeptStart h x.view x.known start
     current_start start w to h x in' view known current = record {
       to = to;
       said = subst (λ (v : ℕ). Contains h.said (mail start.from to (StartViewChange (record { view = v; known = start.known })))) (sym view) in';
       within = subst (λ (a : List ℕ). Within start.known a) (sym known) (greater_right (s me).known start.known);
       current = subst (λ (a : List ℕ). boot_of a start.from ≤ boot_of start.known start.from) (sym known)
-          (let e = greater_is (s me).known start.known start.from in let l = ge_of (boot_of start.known start.from) (boot_of (s me).known start.from) current in omega arith);
+          (let e = greater_is (s me).known start.known start.from in let l = ge_of (boot_of start.known start.from) (boot_of (s me).known start.from) current in
+          omega arith);
     }
 
     pub kept_start_view_change : (choose : Choice C) → IsRight f choose → (to w : ℕ) (start : Start) → is_down (s me).status ≡ false → me < 2 * f + 1
-        → Contains g.said (mail start.from to (StartViewChange (record { view = w; known = start.known }))) → Kept f g s me (on_start_view_change choose f me (s me) w start)
+        → Contains g.said (mail start.from to (StartViewChange (record { view = w; known = start.known })))
+        → Kept f g s me (on_start_view_change choose f me (s me) w start)
     unfolding on_start_view_change
     kept_start_view_change choose right to w start up small in' =
         kept_if f g s me (is_recovering (s me).status) (λ _. kept_same f g s me holds _ refl refl) (λ e₁.
@@ -405,12 +459,14 @@ module _ {C R O : Type 0} (f me : ℕ) where
         with_start_in : (x : Site C) → x.status ≡ Change → (with_start start x).status ≡ Change
         with_start_in x change = by_test (has_start x.collected.starts start.from)
           where
-            by_test : (b : Bool) → (if b then x else record x { collected = record (x.collected) { starts = x.collected.starts ++ start ∷ [] } }).status ≡ Change
+            by_test : (b : Bool)
+                → (if b then x else record x { collected = record (x.collected) { starts = x.collected.starts ++ start ∷ [] } }).status ≡ Change
             by_test true = change
             by_test false = change
 
     -- the site as it decides whether the view opens
-    pub kept_after_vote : (to w : ℕ) (vote : Vote C) → is_running (s me).status ≡ true → nat_lt w (s me).view ≡ false → (is_normal (s me).status && (w == (s me).view)) ≡ false
+    pub kept_after_vote : (to w : ℕ) (vote : Vote C) → is_running (s me).status ≡ true → nat_lt w (s me).view ≡ false
+        → (is_normal (s me).status && (w == (s me).view)) ≡ false
         → is_outdated (s me).known vote.from vote.known ≡ false → Contains g.said (mail vote.from to (DoViewChange (ballot w vote)))
         → (let part = after_vote {R = R} {O = O} f me w vote (s me) in Kept f g s me (does part.site part.sent))
     kept_after_vote to w vote run e₂ e₃ e₄ in' =
@@ -418,8 +474,12 @@ module _ {C R O : Type 0} (f me : ℕ) where
         let is = started_in R O f me x w e₂ run e₃ in
         let part = starts_later_view f me w x in
         silently g s _ part.sent (kept_go f g s me part.site part.sent (λ x. with_vote vote x) (λ x. []) (begun_kept vote.known w good.told.boots run)
-        (λ h t grown e later. vote_kept h t later (ap (λ (x : Site C). x.status) e ∙ is.0) vote (current_vote vote (t me) (ap (λ (x : Site C). x.known) e ∙ is.2) e₄)
-        (to, subst (λ (v : ℕ). Contains h.said (mail vote.from to (DoViewChange (ballot v vote)))) (sym (ap (λ (x : Site C). x.view) e ∙ is.1)) (grown.said _ in'))))
+        (λ h t grown e later. vote_kept h t later (ap (λ (x : Site C). x.status) e ∙ is.0) vote
+        (current_vote vote (t me) (ap (λ (x : Site C). x.known) e ∙ is.2) e₄) (
+          to,
+          subst (λ (v : ℕ). Contains h.said (mail vote.from to (DoViewChange (ballot v vote))))
+              (sym (ap (λ (x : Site C). x.view) e ∙ is.1)) (grown.said _ in'),
+        )))
       where
         good : IsVote f g vote.from (ballot w vote)
         good = holds.said vote.from to (DoViewChange (ballot w vote)) in'
@@ -439,8 +499,12 @@ module _ {C R O : Type 0} (f me : ℕ) where
         let part = starts_later_view f me w x in
         opens_kept g s holds choose right (record part { site = with_vote vote part.site })
         (silently g s _ part.sent (kept_go f g s me part.site part.sent (λ x. with_vote vote x) (λ x. []) (begun_kept vote.known w good.told.boots run)
-        (λ h t grown e later. vote_kept h t later (ap (λ (x : Site C). x.status) e ∙ is.0) vote (current_vote vote (t me) (ap (λ (x : Site C). x.known) e ∙ is.2) e₄)
-        (to, subst (λ (v : ℕ). Contains h.said (mail vote.from to (DoViewChange (ballot v vote)))) (sym (ap (λ (x : Site C). x.view) e ∙ is.1)) (grown.said _ in'))))))))))
+        (λ h t grown e later. vote_kept h t later (ap (λ (x : Site C). x.status) e ∙ is.0) vote
+        (current_vote vote (t me) (ap (λ (x : Site C). x.known) e ∙ is.2) e₄) (
+          to,
+          subst (λ (v : ℕ). Contains h.said (mail vote.from to (DoViewChange (ballot v vote)))) (sym (ap (λ (x : Site C). x.view) e ∙ is.1))
+              (grown.said _ in'),
+        )))))))))
       where
         good : IsVote f g vote.from (ballot w vote)
         good = holds.said vote.from to (DoViewChange (ballot w vote)) in'
@@ -454,10 +518,13 @@ module _ {C R O : Type 0} (f me : ℕ) where
     pub kept_beat_in_change : (s me).status ≡ Change → Kept f g s me (beats_in_change f me (s me))
     unfolding beats_in_change
     kept_beat_in_change change =
-        kept_then f g s me (s me) (s me) (to_all f me (StartViewChange (record { view = (s me).view; known = (s me).known }))) (again (s me) ((s me).collected.voted && not (primary f (s me).view == me)))
+        kept_then f g s me (s me) (s me) (to_all f me (StartViewChange (record { view = (s me).view; known = (s me).known })))
+        (again (s me) ((s me).collected.voted && not (primary f (s me).view == me)))
         starts_again
-        (λ h grown later. subst (λ (t : ℕ → Site C). Kept f h t me (does (s me) (again (s me) ((s me).collected.voted && not (primary f (s me).view == me))))) (sym (put_self s me))
-        (votes_again h s (subst (λ (t : ℕ → Site C). Holds f h t) (put_self s me) later) change ((s me).collected.voted && not (primary f (s me).view == me)) (λ e. and_left _ _ e)))
+        (λ h grown later. subst (λ (t : ℕ → Site C). Kept f h t me (does (s me) (again (s me) ((s me).collected.voted && not (primary f (s me).view == me)))))
+        (sym (put_self s me))
+        (votes_again h s (subst (λ (t : ℕ → Site C). Holds f h t) (put_self s me) later) change
+        ((s me).collected.voted && not (primary f (s me).view == me)) (λ e. and_left _ _ e)))
       where
         again : Site C → Bool → List (EnvelopeOf C R O)
         again x b = if b then sends_vote f me x else []
@@ -469,14 +536,18 @@ module _ {C R O : Type 0} (f me : ℕ) where
             let says : Says me m es = says_to_all f me m in
             let at = ((holds.sites me).running (change_runs _ change)).at_view in
             kept_tell_boots f g s me holds m es tt says (λ to in'. record { running = change_runs _ change; view = refl; known = refl })
-            (λ to in'. told_later f g (say es g) me 0 (later_say f g me m es tt says 0) me (s me).view (s me).known (record { boots = (holds.sites me).hears.heard; lived = at.lived }))
+            (λ to in'. told_later f g (say es g) me 0 (later_say f g me m es tt says 0) me (s me).view (s me).known
+            (record { boots = (holds.sites me).hears.heard; lived = at.lived }))
 
-        votes_again : (h : History C R O) (t : ℕ → Site C) → Holds f h t → (t me).status ≡ Change → (b : Bool) → (b ≡ true → (t me).collected.voted ≡ true) → Kept f h t me (does (t me) (again (t me) b))
+        votes_again : (h : History C R O) (t : ℕ → Site C) → Holds f h t → (t me).status ≡ Change → (b : Bool) → (b ≡ true → (t me).collected.voted ≡ true)
+            → Kept f h t me (does (t me) (again (t me) b))
         votes_again h t later is true made =
-            let m : MsgOf C R O = DoViewChange (record { view = (t me).view; last_normal = (t me).last_normal; done = (t me).done; rows = (t me).log; known = (t me).known }) in
+            let m : MsgOf C R O =
+            DoViewChange (record { view = (t me).view; last_normal = (t me).last_normal; done = (t me).done; rows = (t me).log; known = (t me).known }) in
             let es = sends_vote f me (t me) in
             let says : Says me m es = says_one me (primary f (t me).view) m in
             let at = ((later.sites me).running (change_runs _ is)).at_view in
             kept_tell_boots f h t me later m es tt says (λ to in'. record { running = change_runs _ is; view = refl; known = refl })
-            (λ to in'. vote_vouched h t later is es says (backed_later f h (say es h) me 0 (later_say f h me m es tt says 0) me (t me).view (t me).cell.boots (at.backed is (made refl))))
+            (λ to in'. vote_vouched h t later is es says (backed_later f h (say es h) me 0 (later_say f h me m es tt says 0) me (t me).view (t me).cell.boots
+            (at.backed is (made refl))))
         votes_again h t later is false made = kept_same f h t me later _ refl refl

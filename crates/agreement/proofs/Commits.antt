@@ -20,7 +20,8 @@ use Rattle.agreement.proofs.Starts.{delivered, IsSaid, IsTaken, comes}
 use Rattle.agreement.proofs.Follows.{Follows}
 use Rattle.agreement.proofs.Acks.{none_at, news_said, commits_at, Settled, settled_on, settled_said}
 
-module _ {C R O : Type 0} (choose : Choice C) (f : ℕ) (right : IsRight f choose) (w : ℕ) (up : ℕ → Bool) (up_small : (j : ℕ) → up j ≡ true → j < 2 * f + 1) (up_leads : up (primary f w) ≡ true) (boots : ℕ → ℕ) (rows : List (RowOf C)) (old : World C R O) where
+module _ {C R O : Type 0} (choose : Choice C) (f : ℕ) (right : IsRight f choose) (w : ℕ) (up : ℕ → Bool) (up_small : (j : ℕ) → up j ≡ true → j < 2 * f + 1)
+    (up_leads : up (primary f w) ≡ true) (boots : ℕ → ℕ) (rows : List (RowOf C)) (old : World C R O) where
   abbrev p : ℕ
   p = primary f w
 
@@ -43,7 +44,8 @@ module _ {C R O : Type 0} (choose : Choice C) (f : ℕ) (right : IsRight f choos
   one_commits : (j : ℕ) → up j ≡ true → j ≢ p → (v : World C R O) → Leads v → Reaches choose f v (λ t. Leads t × Has j t × KeepsOn v t)
   one_commits j up_j apart v l =
       reaches_then choose f v (IsSaid choose f p j commit v) _ said (λ u s.
-      reaches_then choose f u (IsTaken choose f j (step u) u) _ (arrives u s) (λ t is. record { after = t; goes = goes_nowhere choose f t; holds = done u s t is }))
+      reaches_then choose f u (IsTaken choose f j (step u) u) _ (arrives u s)
+      (λ t is. record { after = t; goes = goes_nowhere choose f t; holds = done u s t is }))
     where
       lead : Follows w (boots p) rows (site_at v p)
       lead = l.settled.all p up_leads
@@ -76,7 +78,9 @@ module _ {C R O : Type 0} (choose : Choice C) (f : ℕ) (right : IsRight f choos
       done : (u : World C R O) → IsSaid choose f p j commit v u → (t : World C R O) → IsTaken choose f j (step u) u t → Leads t × Has j t × KeepsOn v t
       done u s t is = (
         record {
-          settled = settled_on choose f right w up up_small up_leads boots rows old u t j (step u) up_j o is (record { status = x.status; view = x.view; boots = x.boots; log_is = x.log_is });
+          settled =
+              settled_on choose f right w up up_small up_leads boots rows old u t j (step u) up_j o is
+              (record { status = x.status; view = x.view; boots = x.boots; log_is = x.log_is });
           done = ap (λ (y : Site C). y.done) (is.there p (λ e. apart (sym e))) ∙ (ap (λ (y : ℕ → Site C). (y p).done) s.same ∙ l.done);
         },
         here,
@@ -107,13 +111,19 @@ module _ {C R O : Type 0} (choose : Choice C) (f : ℕ) (right : IsRight f choos
   pub all_commit : (v : World C R O) → Leads v → Reaches choose f v Works
   all_commit v l =
       reaches_then choose f v (λ u. Leads u × ((j : ℕ) → Contains (sites f) j → up j ≡ true → Has j u) × KeepsOn v u) _
-      (sweep_on choose f Leads KeepsOn keeps_on_same keeps_on_more (λ j u. up j ≡ true → Has j u) (λ j a b r h e. r.each j (h e)) (sites f) (λ j u in' d. by_test j u d (up j) refl (cases_eq j p)) v l)
-      (λ u is. record { after = u; goes = goes_nowhere choose f u; holds = record { settled = is.0.settled; done = λ j e. is.1 j (has_site f j (up_small j e)) e } })
+      (sweep_on choose f Leads KeepsOn keeps_on_same keeps_on_more (λ j u. up j ≡ true → Has j u) (λ j a b r h e. r.each j (h e)) (sites f)
+      (λ j u in' d. by_test j u d (up j) refl (cases_eq j p)) v l)
+      (λ u is. record {
+        after = u;
+        goes = goes_nowhere choose f u;
+        holds = record { settled = is.0.settled; done = λ j e. is.1 j (has_site f j (up_small j e)) e };
+      })
     where
       stays : (j : ℕ) (u : World C R O) → Leads u → (up j ≡ true → Has j u) → Reaches choose f u (λ t. Leads t × (up j ≡ true → Has j t) × KeepsOn u t)
       stays j u d h = record { after = u; goes = goes_nowhere choose f u; holds = (d, h, keeps_on_same u) }
 
-      by_test : (j : ℕ) (u : World C R O) → Leads u → (b : Bool) → up j ≡ b → (j ≡ p) ⊎ (j ≡ p → ⊥) → Reaches choose f u (λ t. Leads t × (up j ≡ true → Has j t) × KeepsOn u t)
+      by_test : (j : ℕ) (u : World C R O) → Leads u → (b : Bool) → up j ≡ b → (j ≡ p) ⊎ (j ≡ p → ⊥)
+          → Reaches choose f u (λ t. Leads t × (up j ≡ true → Has j t) × KeepsOn u t)
       by_test j u d false e place = stays j u d (λ e'. absurd (true≢false (sym e' ∙ e)))
       by_test j u d true e (inl same) = stays j u d (λ _. subst (λ (i : ℕ). Has i u) (sym same) d.done)
       by_test j u d true e (inr apart) =

@@ -12,7 +12,8 @@ in_range a zero j low high = absurd (omega arith)
 in_range a (suc n) j low high = by_place (j == a) refl (λ d. in_range (a + 1) n j (omega arith) (omega arith))
   where
     by_place : (b : Bool) → (j == a) ≡ b → (j ≢ a → Contains (range_with_len (a + 1) n) j) → Contains (a ∷ range_with_len (a + 1) n) j
-    by_place true e rest = subst (λ (k : ℕ). Contains (a ∷ range_with_len (a + 1) n) k) (let d : a ≡ j = grind (arith, e) in d) (Contains-here a (range_with_len (a + 1) n))
+    by_place true e rest =
+        subst (λ (k : ℕ). Contains (a ∷ range_with_len (a + 1) n) k) (let d : a ≡ j = grind (arith, e) in d) (Contains-here a (range_with_len (a + 1) n))
     by_place false e rest = Contains-there a j (range_with_len (a + 1) n) (rest (ne_of j a e))
 
 -- each number below 2f+1 is a site's
@@ -56,7 +57,8 @@ pub one_at_most : (f i : ℕ) (p : ℕ → Bool) → ((j : ℕ) → p j ≡ true
 one_at_most f i p one = one_from p i 0 (2 * f + 1) one
 
 -- of those that pass, all but one are others
-others_from : (p q : ℕ → Bool) (me : ℕ) (xs : List ℕ) → ((j : ℕ) → j ≢ me → p j ≡ true → q j ≡ true) → count_by p xs ≤ count_by (λ j. j == me) xs + count_by q (filter (λ j. not (j == me)) xs)
+others_from : (p q : ℕ → Bool) (me : ℕ) (xs : List ℕ) → ((j : ℕ) → j ≢ me → p j ≡ true → q j ≡ true)
+    → count_by p xs ≤ count_by (λ j. j == me) xs + count_by q (filter (λ j. not (j == me)) xs)
 others_from p q me [] more = omega arith
 others_from p q me (x ∷ xs) more = by_test (x == me) (p x) (q x) refl refl refl (others_from p q me xs more)
   where
@@ -70,23 +72,31 @@ others_from p q me (x ∷ xs) more = by_test (x == me) (p x) (q x) refl refl ref
     at_most true = omega arith
     at_most false = omega arith
 
-    by_test : (t b c : Bool) → (x == me) ≡ t → p x ≡ b → q x ≡ c → count_by p xs ≤ count_by (λ j. j == me) xs + count_by q (filter (λ j. not (j == me)) xs) → count_by p (x ∷ xs) ≤ count_by (λ j. j == me) (x ∷ xs) + count_by q (cond (not (x == me)) (x ∷ filter (λ j. not (j == me)) xs) (filter (λ j. not (j == me)) xs))
+    by_test : (t b c : Bool) → (x == me) ≡ t → p x ≡ b → q x ≡ c → count_by p xs ≤ count_by (λ j. j == me) xs + count_by q (filter (λ j. not (j == me)) xs)
+        → count_by p (x ∷ xs) ≤ count_by (λ j. j == me) (x ∷ xs) + count_by q
+        (cond (not (x == me)) (x ∷ filter (λ j. not (j == me)) xs) (filter (λ j. not (j == me)) xs))
     by_test true b c t d e i =
         let a : cond {A = ℕ} (x == me) 1 0 ≡ 1 = ap (λ (u : Bool). cond {A = ℕ} u 1 0) t in
-        let same : count_by q (cond (not (x == me)) (x ∷ filter (λ j. not (j == me)) xs) (filter (λ j. not (j == me)) xs)) ≡ count_by q (filter (λ j. not (j == me)) xs) = ap (λ u. count_by q (cond (not u) (x ∷ filter (λ j. not (j == me)) xs) (filter (λ j. not (j == me)) xs))) t in
+        let same : count_by q (cond (not (x == me)) (x ∷ filter (λ j. not (j == me)) xs) (filter (λ j. not (j == me)) xs))
+        ≡ count_by q (filter (λ j. not (j == me)) xs) =
+        ap (λ u. count_by q (cond (not u) (x ∷ filter (λ j. not (j == me)) xs) (filter (λ j. not (j == me)) xs))) t in
         let h = at_most (p x) in
         let j = ep in let k = em in omega arith
     by_test false true false t d e i = absurd (true≢false (sym (more x (ne_of x me t) d) ∙ e))
     by_test false true true t d e i =
         let a : cond {A = ℕ} (x == me) 1 0 ≡ 0 = ap (λ (u : Bool). cond {A = ℕ} u 1 0) t in
-        let same : count_by q (cond (not (x == me)) (x ∷ filter (λ j. not (j == me)) xs) (filter (λ j. not (j == me)) xs)) ≡ count_by q (x ∷ filter (λ j. not (j == me)) xs) = ap (λ u. count_by q (cond (not u) (x ∷ filter (λ j. not (j == me)) xs) (filter (λ j. not (j == me)) xs))) t in
+        let same : count_by q (cond (not (x == me)) (x ∷ filter (λ j. not (j == me)) xs) (filter (λ j. not (j == me)) xs))
+        ≡ count_by q (x ∷ filter (λ j. not (j == me)) xs) =
+        ap (λ u. count_by q (cond (not u) (x ∷ filter (λ j. not (j == me)) xs) (filter (λ j. not (j == me)) xs))) t in
         let one_p : cond {A = ℕ} (p x) 1 0 ≡ 1 = ap (λ (u : Bool). cond {A = ℕ} u 1 0) d in
         let one_q : cond {A = ℕ} (q x) 1 0 ≡ 1 = ap (λ (u : Bool). cond {A = ℕ} u 1 0) e in
         let cq = counted q x (filter (λ j. not (j == me)) xs) in
         let j = ep in let k = em in omega arith
     by_test false false c t d e i =
         let a : cond {A = ℕ} (x == me) 1 0 ≡ 0 = ap (λ (u : Bool). cond {A = ℕ} u 1 0) t in
-        let same : count_by q (cond (not (x == me)) (x ∷ filter (λ j. not (j == me)) xs) (filter (λ j. not (j == me)) xs)) ≡ count_by q (x ∷ filter (λ j. not (j == me)) xs) = ap (λ u. count_by q (cond (not u) (x ∷ filter (λ j. not (j == me)) xs) (filter (λ j. not (j == me)) xs))) t in
+        let same : count_by q (cond (not (x == me)) (x ∷ filter (λ j. not (j == me)) xs) (filter (λ j. not (j == me)) xs))
+        ≡ count_by q (x ∷ filter (λ j. not (j == me)) xs) =
+        ap (λ u. count_by q (cond (not u) (x ∷ filter (λ j. not (j == me)) xs) (filter (λ j. not (j == me)) xs))) t in
         let none_p : cond {A = ℕ} (p x) 1 0 ≡ 0 = ap (λ (u : Bool). cond {A = ℕ} u 1 0) d in
         let cq = counted q x (filter (λ j. not (j == me)) xs) in
         let j = ep in let k = em in omega arith

@@ -91,7 +91,8 @@ module _ {C R O : Type 0} where
       said : (e : EnvelopeOf C R O) → Contains world.sent e → IsSaid e
 
     module _ (closed : IsClosed) where
-      comes : (sent : List (EnvelopeOf C R O)) → ((e : EnvelopeOf C R O) → Contains sent e → IsSaid e) → (event : EventOf C R O) → MayHappen sent event → IsGentle event → Comes event
+      comes : (sent : List (EnvelopeOf C R O)) → ((e : EnvelopeOf C R O) → Contains sent e → IsSaid e) → (event : EventOf C R O) → MayHappen sent event
+          → IsGentle event → Comes event
       comes sent said (Deliver e) (inl request) gentle = absurd (true≢false (sym request ∙ gentle))
       comes sent said (Deliver e) (inr was) gentle = said e was
       comes sent said Timer may gentle = tt
@@ -103,14 +104,16 @@ module _ {C R O : Type 0} where
           → is_refused (rules i before event).ending ≡ false → AreStuck (stepped world i (rules i before event))
       keeps world s i event before at comes' allowed = by i (ap (λ (l : List (Site C)). slice_get l i) (sym s.sites) ∙ at) allowed
         where
-          said_then : (step : Step C R O) → ((e : EnvelopeOf C R O) → Contains step.sent e → IsSaid e) → (e : EnvelopeOf C R O) → Contains (world.sent ++ step.sent) e → IsSaid e
+          said_then : (step : Step C R O) → ((e : EnvelopeOf C R O) → Contains step.sent e → IsSaid e) → (e : EnvelopeOf C R O)
+              → Contains (world.sent ++ step.sent) e → IsSaid e
           said_then step new e in' = by_part (Contains-append_cases world.sent step.sent e in')
             where
               by_part : Contains world.sent e ⊎ Contains step.sent e → IsSaid e
               by_part (inl old) = s.said e old
               by_part (inr now) = new e now
 
-          by : (i : ℕ) → slice_get (s.one ∷ gone ∷ s.other ∷ []) i ≡ Some before → is_refused (rules i before event).ending ≡ false → AreStuck (stepped world i (rules i before event))
+          by : (i : ℕ) → slice_get (s.one ∷ gone ∷ s.other ∷ []) i ≡ Some before → is_refused (rules i before event).ending ≡ false
+              → AreStuck (stepped world i (rules i before event))
           by zero at allowed =
               let k = closed.first before event (subst Waits (some-same s.one before at) s.one_waits) comes' allowed in
               record {
@@ -135,14 +138,16 @@ module _ {C R O : Type 0} where
               }
           by (suc (suc (suc n))) at allowed = absurd (none_some before at)
 
-      stays_stuck : (events : List (Happening C R O)) (world after : World C R O) → AreStuck world → LeadsBy rules world events after → All IsGentleTurn events → AreStuck after
+      stays_stuck : (events : List (Happening C R O)) (world after : World C R O) → AreStuck world → LeadsBy rules world events after → All IsGentleTurn events
+          → AreStuck after
       stays_stuck [] world after s run gentle = subst AreStuck (sym run) s
       stays_stuck (h ∷ hs) world after s run gentle =
           stays_stuck hs run.0 after (by_course h.course (All-head IsGentleTurn h hs gentle).1 run.1.ends) run.2 (All-tail IsGentleTurn h hs gentle)
         where
           by_course : (course : Course) → course ≡ Ends → EndsIn world h.site run.1.before (rules h.site run.1.before h.event) course run.0 → AreStuck run.0
           by_course Ends is ends = subst AreStuck (sym ends.1)
-              (keeps world s h.site h.event run.1.before run.1.is_there (comes world.sent s.said h.event run.1.may_happen (All-head IsGentleTurn h hs gentle).0) ends.0)
+              (keeps world s h.site h.event run.1.before run.1.is_there (comes world.sent s.said h.event run.1.may_happen (All-head IsGentleTurn h hs gentle).0)
+              ends.0)
           by_course (FallsOver cell) is ends = absurd (cc)
 
       -- none that waits works
@@ -156,7 +161,8 @@ module _ {C R O : Type 0} where
       stuck_runs world s =
           subst (λ (l : List (Site C)). MostRun 1 l) (sym s.sites)
           (subst (λ (x : Site C). MostRun 1 (x ∷ gone ∷ s.other ∷ [])) (sym (as_change s.one (closed.change s.one s.one_waits)))
-          (subst (λ (y : Site C). MostRun 1 (record (s.one) { status = Change } ∷ gone ∷ y ∷ [])) (sym (as_change s.other (closed.change s.other s.other_waits)))
+          (subst (λ (y : Site C). MostRun 1 (record (s.one) { status = Change } ∷ gone ∷ y ∷ []))
+          (sym (as_change s.other (closed.change s.other s.other_waits)))
           (lit< tt)))
 
       dead_end : (world : World C R O) → AreStuck world → IsDeadEnd rules world
@@ -201,14 +207,16 @@ module _ {C : Type 0} where
   with_start_voted : (start : Start) (x : Site C) → (with_start start x).collected.voted ≡ x.collected.voted
   with_start_voted start x = by (has_start x.collected.starts start.from)
     where
-      by : (b : Bool) → (if b then x else record x { collected = record (x.collected) { starts = x.collected.starts ++ start ∷ [] } }).collected.voted ≡ x.collected.voted
+      by : (b : Bool)
+          → (if b then x else record x { collected = record (x.collected) { starts = x.collected.starts ++ start ∷ [] } }).collected.voted ≡ x.collected.voted
       by true = refl
       by false = refl
 
   with_start_votes : (start : Start) (x : Site C) → (with_start start x).collected.votes ≡ x.collected.votes
   with_start_votes start x = by (has_start x.collected.starts start.from)
     where
-      by : (b : Bool) → (if b then x else record x { collected = record (x.collected) { starts = x.collected.starts ++ start ∷ [] } }).collected.votes ≡ x.collected.votes
+      by : (b : Bool)
+          → (if b then x else record x { collected = record (x.collected) { starts = x.collected.starts ++ start ∷ [] } }).collected.votes ≡ x.collected.votes
       by true = refl
       by false = refl
 
@@ -235,24 +243,28 @@ WaitsOn x = (x.status ≡ Change) × (x.view ≡ 1)
 
 module _ {C R O : Type 0} where
   -- where a view is not to open, none does
-  opens_none : (choose : Choice C) (me : ℕ) (x : Site C) (part : Part C R O) → is_to_open 1 me part.site ≡ false → opens_where_due choose 1 me x part ≡ does part.site part.sent
+  opens_none : (choose : Choice C) (me : ℕ) (x : Site C) (part : Part C R O) → is_to_open 1 me part.site ≡ false
+      → opens_where_due choose 1 me x part ≡ does part.site part.sent
   opens_none choose me x part e = by (is_to_open 1 me part.site) e
     where
       log : List (RowOf C)
       log = (choose.pick part.site.collected.votes).log
 
       by : (b : Bool) → b ≡ false → (let votes = part.site.collected.votes in let log = (choose.pick votes).log in
-          if not b then does part.site part.sent else if not (begins_with_executed choose.same part.site log) then drops x Stale else opened_with 1 me log (choose.most_done votes) part) ≡ does part.site part.sent
+          if not b then does part.site part.sent else if not (begins_with_executed choose.same part.site log) then drops x Stale
+          else opened_with 1 me log (choose.most_done votes) part) ≡ does part.site part.sent
       by true e = absurd (true≢false e)
       by false e = refl
 
   -- what is for site 1 is refused elsewhere
-  not_mine : (x : Site C) (step : Step C R O) (b rest : Bool) → b ≡ false → is_refused (refused_or x (if not (b && rest) then Some NotMine else None) step).ending ≡ true
+  not_mine : (x : Site C) (step : Step C R O) (b rest : Bool) → b ≡ false
+      → is_refused (refused_or x (if not (b && rest) then Some NotMine else None) step).ending ≡ true
   not_mine x step true rest e = absurd (true≢false e)
   not_mine x step false rest e = refl
 
   -- what is said to all is said so
-  told : (me : ℕ) (msg : MsgOf C R O) (P : EnvelopeOf C R O → Type 0) → ((j : ℕ) → P (mail me j msg)) → (e : EnvelopeOf C R O) → Contains (to_all 1 me msg) e → P e
+  told : (me : ℕ) (msg : MsgOf C R O) (P : EnvelopeOf C R O → Type 0) → ((j : ℕ) → P (mail me j msg)) → (e : EnvelopeOf C R O) → Contains (to_all 1 me msg) e
+      → P e
   told me msg P each e in' = let t = map-has (λ j. mail me j msg) (others 1 me) e in' in subst P t.2 (each t.0)
 
 -- THE FIRST RULE: a site in change starts no later view at its timer, but waits for its view.
@@ -289,7 +301,10 @@ module _ {C R O : Type 0} (choose : Choice C) where
           else record { site = with_voted x; sent = part.sent ++ sends_vote 1 me x }) in IsCalm part_then.site part_then.sent)
       by false c = calm
       by true true = record {
-        waits = (with_vote_status (own_vote me part.site) (with_voted part.site) ∙ calm.waits.0, with_vote_view (own_vote me part.site) (with_voted part.site) ∙ calm.waits.1);
+        waits = (
+          with_vote_status (own_vote me part.site) (with_voted part.site) ∙ calm.waits.0,
+          with_vote_view (own_vote me part.site) (with_voted part.site) ∙ calm.waits.1,
+        );
         says = calm.says;
       }
       by true false = record { waits = calm.waits; says = λ e in'. by_part e (Contains-append_cases part.sent (sends_vote 1 me part.site) e in') }
@@ -302,7 +317,8 @@ module _ {C R O : Type 0} (choose : Choice C) where
       → (let step = on_start_view_change {R = R} {O = O} choose 1 me x w start in IsCalm step.site step.sent)
   unfolding on_start_view_change
   calm_start me apart x w start change view is =
-      subst (λ (z : Site C). calm_at z w) (sym (as_first x change view)) (subst (λ (v : ℕ). calm_at (record x { status = Change; view = 1 }) v) (sym is) (by (is_outdated x.known start.from start.known)))
+      subst (λ (z : Site C). calm_at z w) (sym (as_first x change view))
+      (subst (λ (v : ℕ). calm_at (record x { status = Change; view = 1 }) v) (sym is) (by (is_outdated x.known start.from start.known)))
     where
       calm_at : Site C → ℕ → Type 0
       calm_at z v = let step = on_start_view_change {R = R} {O = O} choose 1 me z v start in IsCalm step.site step.sent
@@ -326,9 +342,11 @@ module _ {C R O : Type 0} (choose : Choice C) where
       by true = record { waits = (refl, refl); says = λ e in'. absurd (Contains-none e in') }
       by false = subst (λ (step : Step C R O). IsCalm step.site step.sent) (sym (opens_none choose me z part closed')) calm
 
-  keeps_on : (me : ℕ) → (1 == me) ≡ false → (actor_of 1 == actor_of me) ≡ false → (x : Site C) (event : EventOf C R O) → WaitsOn x → Comes waits_on WaitsOn IsOfOne event → KeepsWaiting waits_on WaitsOn IsOfOne me x event
+  keeps_on : (me : ℕ) → (1 == me) ≡ false → (actor_of 1 == actor_of me) ≡ false → (x : Site C) (event : EventOf C R O) → WaitsOn x
+      → Comes waits_on WaitsOn IsOfOne event → KeepsWaiting waits_on WaitsOn IsOfOne me x event
   unfolding beats_in_change
-  keeps_on me apart other x event waits comes' = subst (λ (y : Site C). KeepsWaiting waits_on WaitsOn IsOfOne me y event) (sym (as_first x waits.0 waits.1)) (by event comes')
+  keeps_on me apart other x event waits comes' =
+      subst (λ (y : Site C). KeepsWaiting waits_on WaitsOn IsOfOne me y event) (sym (as_first x waits.0 waits.1)) (by event comes')
     where
       z : Site C
       z = record x { status = Change; view = 1 }
@@ -343,9 +361,18 @@ module _ {C R O : Type 0} (choose : Choice C) where
 
       by : (event : EventOf C R O) → Comes waits_on WaitsOn IsOfOne event → KeepsWaiting waits_on WaitsOn IsOfOne me z event
       by (Deliver e) (inl start) = by_msg e.from e.msg start ((e.to == actor_of me) && may_send 1 me e.from e.msg)
-      by (Deliver e) (inr to) = λ allowed. absurd (true≢false (sym (not_mine z (on_message choose 1 me z e.from e.msg) (e.to == actor_of me) (may_send 1 me e.from e.msg) (ap (λ t. t == actor_of me) to ∙ other)) ∙ allowed))
+      by (Deliver e) (inr to) =
+          λ allowed.
+          absurd
+          (true≢false (sym (not_mine z (on_message choose 1 me z e.from e.msg) (e.to == actor_of me) (may_send 1 me e.from e.msg)
+          (ap (λ t. t == actor_of me) to ∙ other)) ∙ allowed))
       by Timer comes' = λ allowed. ((refl, refl), λ e in'. absurd (Contains-none e in'))
-      by Beat comes' = λ allowed. ((refl, refl), λ e in'. by_part e (Contains-append_cases (to_all 1 me again) (if z.collected.voted && not (primary 1 1 == me) then sends_vote 1 me z else []) e in'))
+      by Beat comes' =
+          λ allowed. (
+            (refl, refl),
+            λ e in'.
+                by_part e (Contains-append_cases (to_all 1 me again) (if z.collected.voted && not (primary 1 1 == me) then sends_vote 1 me z else []) e in'),
+          )
         where
           again : MsgOf C R O
           again = StartViewChange (record { view = 1; known = x.known })
@@ -354,7 +381,9 @@ module _ {C R O : Type 0} (choose : Choice C) where
           by_vote true e in' = vote_said me z refl e in'
           by_vote false e in' = absurd (Contains-none e in')
 
-          by_part : (e : EnvelopeOf C R O) → Contains (to_all 1 me again) e ⊎ Contains (if z.collected.voted && not (primary 1 1 == me) then sends_vote {R = R} {O = O} 1 me z else []) e → IsOfOne e
+          by_part : (e : EnvelopeOf C R O)
+              → Contains (to_all 1 me again) e ⊎ Contains (if z.collected.voted && not (primary 1 1 == me) then sends_vote {R = R} {O = O} 1 me z else []) e
+              → IsOfOne e
           by_part e (inl all) = told me again IsOfOne (λ j. inl refl) e all
           by_part e (inr vote) = by_vote (z.collected.voted && not (primary 1 1 == me)) e vote
       by Crash comes' = absurd comes'
@@ -453,7 +482,13 @@ module _ {C : Type 0} where
     where
       by : (b : Bool) → IsShort (if b then x else record x { collected = record (x.collected) { starts = x.collected.starts ++ start ∷ [] } })
       by true = short
-      by false = record { change = short.change; none = any_more (λ (s : Start). s.from == 1) x.collected.starts start short.none apart; voted = short.voted; votes = short.votes }
+      by false =
+          record {
+            change = short.change;
+            none = any_more (λ (s : Start). s.from == 1) x.collected.starts start short.none apart;
+            voted = short.voted;
+            votes = short.votes;
+          }
 
   -- what a site is told by a sender leaves it so
   learns_short : (heard : List ℕ) (x : Site C) → IsShort x → IsShort (learns heard x)
@@ -466,7 +501,8 @@ module _ {C : Type 0} where
 
   shut : (me : ℕ) (x : Site C) → x.collected.votes ≡ [] → is_to_open 1 me x ≡ false
   shut me x none =
-      ap (λ (votes : List (Vote C)). is_change x.status && ((primary 1 x.view == me) && (has_vote votes me && nat_lt 1 (count_by (has_vote votes) (sites 1))))) none
+      ap (λ (votes : List (Vote C)). is_change x.status && ((primary 1 x.view == me) && (has_vote votes me && nat_lt 1 (count_by (has_vote votes) (sites 1)))))
+      none
       ∙ and_none_last (is_change x.status) (primary 1 x.view == me)
     where
       and_none_last : (a b : Bool) → (a && (b && false)) ≡ false
@@ -516,7 +552,11 @@ module _ {C R O : Type 0} (choose : Choice C) where
     starts_quiet w x short = by (nat_lt x.view w)
       where
         by : (b : Bool) → (let part : Part C R O = (if b then starts_view 1 me w x else record { site = x; sent = [] }) in IsQuiet part.site part.sent)
-        by true = record { short = record { change = refl; none = refl; voted = refl; votes = refl }; says = told me (StartViewChange (record { view = w; known = x.known })) IsOfTwo (λ j. (tt, mine)) }
+        by true =
+            record {
+              short = record { change = refl; none = refl; voted = refl; votes = refl };
+              says = told me (StartViewChange (record { view = w; known = x.known })) IsOfTwo (λ j. (tt, mine));
+            }
         by false = record { short = short; says = λ e in'. absurd (Contains-none e in') }
 
     late_none : (part : Part C R O) → has_start part.site.collected.starts 1 ≡ false → votes_late me part ≡ part
@@ -526,7 +566,8 @@ module _ {C R O : Type 0} (choose : Choice C) where
         by true e = absurd (true≢false e)
         by false e = refl
 
-    start_quiet : (x : Site C) (w : ℕ) (start : Start) → (start.from == 1) ≡ false → IsShort x → (let step = on_start_late me x w start in IsQuiet step.site step.sent)
+    start_quiet : (x : Site C) (w : ℕ) (start : Start) → (start.from == 1) ≡ false → IsShort x
+        → (let step = on_start_late me x w start in IsQuiet step.site step.sent)
     start_quiet x w start apart short = subst is_quiet (sym (as_change x short.change)) (by (nat_lt w x.view) (is_outdated x.known start.from start.known))
       where
         is_quiet : Site C → Type 0
@@ -552,14 +593,17 @@ module _ {C R O : Type 0} (choose : Choice C) where
         same = ap (opens_where_due choose 1 me z) (late_none kept quiet.short.none) ∙ opens_none choose me z kept (shut me kept.site quiet.short.votes)
 
         by : (late old : Bool)
-            → (let step = (if late then drops {R = R} {O = O} z View else if old then drops z Stale else opens_where_due choose 1 me z (votes_late me kept)) in IsQuiet step.site step.sent)
+            → (let step = (if late then drops {R = R} {O = O} z View else if old then drops z Stale else opens_where_due choose 1 me z (votes_late me kept)) in
+            IsQuiet step.site step.sent)
         by true old = record { short = short_z; says = λ e in'. absurd (Contains-none e in') }
         by false true = record { short = short_z; says = λ e in'. absurd (Contains-none e in') }
         by false false = subst (λ (step : Step C R O). IsQuiet step.site step.sent) (sym same) quiet
 
-    keeps_short : (actor_of 1 == actor_of me) ≡ false → (x : Site C) (event : EventOf C R O) → IsShort x → Comes asks_more IsShort IsOfTwo event → KeepsWaiting asks_more IsShort IsOfTwo me x event
+    keeps_short : (actor_of 1 == actor_of me) ≡ false → (x : Site C) (event : EventOf C R O) → IsShort x → Comes asks_more IsShort IsOfTwo event
+        → KeepsWaiting asks_more IsShort IsOfTwo me x event
     unfolding on_timer beats_in_change
-    keeps_short other x event short comes' = subst (λ (y : Site C). KeepsWaiting asks_more IsShort IsOfTwo me y event) (sym (as_change x short.change)) (by event comes')
+    keeps_short other x event short comes' =
+        subst (λ (y : Site C). KeepsWaiting asks_more IsShort IsOfTwo me y event) (sym (as_change x short.change)) (by event comes')
       where
         z : Site C
         z = record x { status = Change }
@@ -580,14 +624,21 @@ module _ {C R O : Type 0} (choose : Choice C) where
         by Timer comes' = by_end (z.view == max_number)
           where
             by_end : (b : Bool)
-                → (let step = refused_or z (if b then Some ViewsSpent else None) (does (starts_view {R = R} {O = O} 1 me (z.view + 1) z).site (starts_view {R = R} {O = O} 1 me (z.view + 1) z).sent) in
+                → (let step = refused_or z (if b then Some ViewsSpent else None)
+                (does (starts_view {R = R} {O = O} 1 me (z.view + 1) z).site (starts_view {R = R} {O = O} 1 me (z.view + 1) z).sent) in
                 is_refused step.ending ≡ false → IsShort step.site × ((e : EnvelopeOf C R O) → Contains step.sent e → IsOfTwo e))
             by_end true allowed = absurd (true≢false allowed)
             by_end false allowed = (
               record { change = refl; none = refl; voted = refl; votes = refl },
               told me (StartViewChange (record { view = z.view + 1; known = z.known })) IsOfTwo (λ j. (tt, mine)),
             )
-        by Beat comes' = λ allowed. (short_z, λ e in'. by_part e (Contains-append_cases (to_all 1 me again) (if z.collected.voted && not (primary 1 z.view == me) then sends_vote 1 me z else []) e in'))
+        by Beat comes' =
+            λ allowed. (
+              short_z,
+              λ e in'.
+                  by_part e (Contains-append_cases (to_all 1 me again) (if z.collected.voted && not (primary 1 z.view == me) then sends_vote 1 me z
+                  else []) e in'),
+            )
           where
             again : MsgOf C R O
             again = StartViewChange (record { view = z.view; known = z.known })
@@ -596,7 +647,9 @@ module _ {C R O : Type 0} (choose : Choice C) where
             by_vote true b none e in' = absurd (true≢false none)
             by_vote false b none e in' = absurd (Contains-none e in')
 
-            by_part : (e : EnvelopeOf C R O) → Contains (to_all 1 me again) e ⊎ Contains (if z.collected.voted && not (primary 1 z.view == me) then sends_vote {R = R} {O = O} 1 me z else []) e → IsOfTwo e
+            by_part : (e : EnvelopeOf C R O)
+                → Contains (to_all 1 me again) e ⊎ Contains (if z.collected.voted && not (primary 1 z.view == me) then sends_vote {R = R} {O = O} 1 me z
+                else []) e → IsOfTwo e
             by_part e (inl all) = told me again IsOfTwo (λ j. (tt, mine)) e all
             by_part e (inr vote) = by_vote z.collected.voted (not (primary 1 z.view == me)) short.voted e vote
         by Crash comes' = absurd comes'
@@ -684,7 +737,8 @@ module _ {C R O : Type 0} (choose : Choice C) (right : IsRight 1 choose) where
   no_dead_end = progresses 1 (lit≤ tt) two_timers (record { many = lit< tt; room = λ x in'. by x (Contains-cases one x (gone ∷ other ∷ []) in') })
     where
       by_last : (x y : Site C) → y.view ≡ 1 → (y ≡ x) ⊎ Contains [] x → x.view + 2 * (2 * 1 + 1) ≤ max_number
-      by_last x y first (inl is) = subst (λ (z : Site C). z.view + 2 * (2 * 1 + 1) ≤ max_number) is (subst (λ (v : ℕ). v + 2 * (2 * 1 + 1) ≤ max_number) (sym first) (lit≤ tt))
+      by_last x y first (inl is) =
+          subst (λ (z : Site C). z.view + 2 * (2 * 1 + 1) ≤ max_number) is (subst (λ (v : ℕ). v + 2 * (2 * 1 + 1) ≤ max_number) (sym first) (lit≤ tt))
       by_last x y first (inr none) = absurd (Contains-none x none)
 
       by_gone : (x y : Site C) → y.view ≡ 1 → (gone ≡ x) ⊎ Contains (y ∷ []) x → x.view + 2 * (2 * 1 + 1) ≤ max_number

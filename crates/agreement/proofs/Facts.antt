@@ -21,7 +21,8 @@ pub filter_keeps : {A : Type 0} (test : A → Bool) (xs : List A) (x : A) → Co
 filter_keeps test [] x in' passes = absurd (Contains-none x in')
 filter_keeps {A} test (y ∷ xs) x in' passes = by_place (test y) refl (Contains-cases y x xs in') (λ there. filter_keeps test xs x there passes)
   where
-    by_place : (b : Bool) → test y ≡ b → (y ≡ x) ⊎ Contains xs x → (Contains xs x → Contains (filter test xs) x) → Contains (cond b (y ∷ filter test xs) (filter test xs)) x
+    by_place : (b : Bool) → test y ≡ b → (y ≡ x) ⊎ Contains xs x → (Contains xs x → Contains (filter test xs) x)
+        → Contains (cond b (y ∷ filter test xs) (filter test xs)) x
     by_place true e (inl same) rest = subst (λ (z : A). Contains (y ∷ filter test xs) z) same (Contains-here y (filter test xs))
     by_place true e (inr there) rest = Contains-there y x (filter test xs) (rest there)
     by_place false e (inl same) rest = absurd (true≢false (sym (ap test same ∙ passes) ∙ e))
@@ -93,7 +94,8 @@ module _ {C R O : Type 0} (f : ℕ) (w : World C R O) (is : IsReached f first w)
   size_is = is.holds.size
 
 -- whether a site runs
-pub runs_in : {C : Type 0} (xs : List (Site C)) (i : ℕ) → option_map_or (λ (x : Site C). is_running x.status) (slice_get xs i) false ≡ is_running (get_or xs i nobody).status
+pub runs_in : {C : Type 0} (xs : List (Site C)) (i : ℕ)
+    → option_map_or (λ (x : Site C). is_running x.status) (slice_get xs i) false ≡ is_running (get_or xs i nobody).status
 runs_in [] i = refl
 runs_in (x ∷ xs) zero = refl
 runs_in (x ∷ xs) (suc i) = runs_in xs i

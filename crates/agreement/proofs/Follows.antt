@@ -51,7 +51,8 @@ module _ {C R O : Type 0} (choose : Choice C) (f w : ℕ) (right : IsRight f cho
       → TakesView b log (on_start_view choose f me (s me) from (record { view = w; done = k; rows = log }))
   unfolding on_start_view
   takes_view g s me b holds change view boots from to k log leads said =
-      subst (λ (st : Step C R O). TakesView b log st) (sym step_is) (record { handled = refl; follows = record { status = refl; view = refl; boots = boots; log_is = refl } })
+      subst (λ (st : Step C R O). TakesView b log st) (sym step_is)
+      (record { handled = refl; follows = record { status = refl; view = refl; boots = boots; log_is = refl } })
     where
       r : StandsRunning f g me (s me)
       r = (holds.sites me).running (change_runs _ change)
@@ -60,7 +61,9 @@ module _ {C R O : Type 0} (choose : Choice C) (f w : ℕ) (right : IsRight f cho
       opening = holds.said _ _ _ said
 
       begins : Begins (take (s me).done (s me).log) log
-      begins = begins_at (sym opening.is) (committed_opening f g s holds (s me).last_normal w _ r.done (let h = r.change change in let e = view in omega arith) opening.opened)
+      begins =
+          begins_at (sym opening.is) (committed_opening f g s holds (s me).last_normal w _ r.done (let h = r.change change in let e = view in
+          omega arith) opening.opened)
 
       step_is : on_start_view {R = R} {O = O} choose f me (s me) from (record { view = w; done = k; rows = log })
           ≡ (let y = executed_to k (normal_in w log (s me)) in does y (if nat_lt y.done (length y.log) then acknowledges_all f me y else []))
@@ -89,7 +92,8 @@ module _ {C R O : Type 0} (choose : Choice C) (f w : ℕ) (right : IsRight f cho
       pub long : AllLong f v
       pub leads : site_at v (primary f w) ≡ site_at begun (primary f w)
       pub rest : (j : ℕ) → up j ≡ false → site_at v j ≡ site_at old j
-      pub each : (j : ℕ) → up j ≡ true → j ≢ primary f w → (site_at v j ≡ site_at mid j) ⊎ Follows w ((site_at old j).cell.boots) ((site_at begun (primary f w)).log) (site_at v j)
+      pub each : (j : ℕ) → up j ≡ true → j ≢ primary f w
+          → (site_at v j ≡ site_at mid j) ⊎ Follows w ((site_at old j).cell.boots) ((site_at begun (primary f w)).log) (site_at v j)
       pub told : (e : EnvelopeOf C R O) → Contains begun.sent e → Contains v.sent e
 
     abbrev Does : ℕ → World C R O → Type 0
@@ -114,7 +118,8 @@ module _ {C R O : Type 0} (choose : Choice C) (f w : ℕ) (right : IsRight f cho
       told = λ e in'. in';
     }
 
-    view_comes : (j : ℕ) → up j ≡ true → j ≢ p → (v : World C R O) → Opened v → site_at v j ≡ site_at mid j → Reaches choose f v (λ u. Opened u × Does j u × KeepsOn v u)
+    view_comes : (j : ℕ) → up j ≡ true → j ≢ p → (v : World C R O) → Opened v → site_at v j ≡ site_at mid j
+        → Reaches choose f v (λ u. Opened u × Does j u × KeepsOn v u)
     view_comes j up_j apart v o same =
         reaches_then choose f v (IsTaken choose f j step v) _ arrives (λ t is. record { after = t; goes = goes_nowhere choose f t; holds = done t is })
       where
@@ -131,15 +136,19 @@ module _ {C R O : Type 0} (choose : Choice C) (f w : ℕ) (right : IsRight f cho
         sent = o.told _ (is_open.told j (up_small j up_j) apart)
 
         takes : TakesView (boots_of j) rows step
-        takes = takes_view o.is.history (site_at v) j (boots_of j) o.is.holds.holds changes.status changes.view changes.boots p j (site_at begun p).done rows refl (o.is.holds.said _ sent)
+        takes =
+            takes_view o.is.history (site_at v) j (boots_of j) o.is.holds.holds changes.status changes.view changes.boots p j
+            (site_at begun p).done rows refl (o.is.holds.said _ sent)
 
         step_is : site_step choose f j (site_at v j) (Deliver (mail p j msg)) ≡ step
         step_is =
             delivered choose f p j (site_at v j) msg (runs_up _ (change_runs _ changes.status)) (another f j p (up_small p up_leads) (λ e. apart (sym e)))
-            ∙ ap (λ (n : ℕ). on_start_view {R = R} {O = O} choose f j (site_at v j) n (record { view = w; done = (site_at begun p).done; rows = rows })) (site_back p)
+            ∙ ap (λ (n : ℕ). on_start_view {R = R} {O = O} choose f j (site_at v j) n (record { view = w; done = (site_at begun p).done; rows = rows }))
+            (site_back p)
 
         arrives : Reaches choose f v (IsTaken choose f j step v)
-        arrives = comes choose f v p j msg step (let e = size_is f v o.is in let b = up_small j up_j in omega arith) sent refl step_is (ap is_refused takes.handled)
+        arrives =
+            comes choose f v p j msg step (let e = size_is f v o.is in let b = up_small j up_j in omega arith) sent refl step_is (ap is_refused takes.handled)
 
         done : (t : World C R O) → IsTaken choose f j step v t → Opened t × Does j t × KeepsOn v t
         done t is = (
@@ -172,25 +181,32 @@ module _ {C R O : Type 0} (choose : Choice C) (f w : ℕ) (right : IsRight f cho
 
     -- the primary has the log itself
     leads_so : (v : World C R O) → Opened v → Does p v
-    leads_so v o = subst (λ (x : Site C). Follows w (boots_of p) rows x) (sym o.leads) (record { status = is_open.status; view = is_open.view; boots = is_open.boots; log_is = refl })
+    leads_so v o =
+        subst (λ (x : Site C). Follows w (boots_of p) rows x) (sym o.leads)
+        (record { status = is_open.status; view = is_open.view; boots = is_open.boots; log_is = refl })
 
     -- all running sites are normal in view w with one log
-    pub all_follow : (v : World C R O) → Opened v → Reaches choose f v (λ u. Opened u × ((j : ℕ) → up j ≡ true → Follows w ((site_at old j).cell.boots) ((site_at begun (primary f w)).log) (site_at u j)))
+    pub all_follow : (v : World C R O) → Opened v
+        → Reaches choose f v (λ u. Opened u × ((j : ℕ) → up j ≡ true
+        → Follows w ((site_at old j).cell.boots) ((site_at begun (primary f w)).log) (site_at u j)))
     all_follow v o =
         reaches_then choose f v (λ u. Opened u × ((j : ℕ) → Contains (sites f) j → up j ≡ true → Does j u) × KeepsOn v u) _
-        (sweep_on choose f Opened KeepsOn keeps_on_same keeps_on_more (λ j u. up j ≡ true → Does j u) (λ j a b r h e. r.each j (h e)) (sites f) (λ j u in' d. by_test j u d (up j) refl (cases_eq j p)) v o)
+        (sweep_on choose f Opened KeepsOn keeps_on_same keeps_on_more (λ j u. up j ≡ true → Does j u) (λ j a b r h e. r.each j (h e)) (sites f)
+        (λ j u in' d. by_test j u d (up j) refl (cases_eq j p)) v o)
         (λ u is. record { after = u; goes = goes_nowhere choose f u; holds = (is.0, λ j e. is.1 j (has_site f j (up_small j e)) e) })
       where
         stays : (j : ℕ) (u : World C R O) → Opened u → (up j ≡ true → Does j u) → Reaches choose f u (λ t. Opened t × (up j ≡ true → Does j t) × KeepsOn u t)
         stays j u d h = record { after = u; goes = goes_nowhere choose f u; holds = (d, h, keeps_on_same u) }
 
-        by_old : (j : ℕ) (u : World C R O) → Opened u → up j ≡ true → j ≢ p → (site_at u j ≡ site_at mid j) ⊎ Does j u → Reaches choose f u (λ t. Opened t × (up j ≡ true → Does j t) × KeepsOn u t)
+        by_old : (j : ℕ) (u : World C R O) → Opened u → up j ≡ true → j ≢ p → (site_at u j ≡ site_at mid j) ⊎ Does j u
+            → Reaches choose f u (λ t. Opened t × (up j ≡ true → Does j t) × KeepsOn u t)
         by_old j u d e apart (inr follows) = stays j u d (λ _. follows)
         by_old j u d e apart (inl same) =
             reaches_then choose f u (λ t. Opened t × Does j t × KeepsOn u t) _ (view_comes j e apart u d same)
             (λ t is. record { after = t; goes = goes_nowhere choose f t; holds = (is.0, (λ _. is.1), is.2) })
 
-        by_test : (j : ℕ) (u : World C R O) → Opened u → (b : Bool) → up j ≡ b → (j ≡ p) ⊎ (j ≡ p → ⊥) → Reaches choose f u (λ t. Opened t × (up j ≡ true → Does j t) × KeepsOn u t)
+        by_test : (j : ℕ) (u : World C R O) → Opened u → (b : Bool) → up j ≡ b → (j ≡ p) ⊎ (j ≡ p → ⊥)
+            → Reaches choose f u (λ t. Opened t × (up j ≡ true → Does j t) × KeepsOn u t)
         by_test j u d false e place = stays j u d (λ e'. absurd (true≢false (sym e' ∙ e)))
         by_test j u d true e (inl same) = stays j u d (λ _. subst (λ (i : ℕ). Does i u) (sym same) (leads_so u d))
         by_test j u d true e (inr apart) = by_old j u d e apart (d.each j e apart)

@@ -95,7 +95,8 @@ module _ {C R O : Type 0} (choose : Choice C) (f : ℕ) where
       record {
         after = rest.after;
         goes = rest.goes;
-        holds = (rest.holds.0, λ k in'. by_place rest.after k (rest.holds.2 j is.1) (rest.holds.1 k) (Contains-cases j k js in'), λ k p. rest.holds.2 k (is.2 k p));
+        holds =
+            (rest.holds.0, λ k in'. by_place rest.after k (rest.holds.2 j is.1) (rest.holds.1 k) (Contains-cases j k js in'), λ k p. rest.holds.2 k (is.2 k p));
       })
     where
       here : (x : ℕ) (xs : List ℕ) → Contains (x ∷ xs) x
@@ -109,7 +110,8 @@ module _ {C R O : Type 0} (choose : Choice C) (f : ℕ) where
       by_place u k p rest (inr in') = rest in'
 
   -- The same with a relation of each world to the later ones, which keeps each P.
-  pub sweep_on : (Inv : World C R O → Type 0) (Rel : World C R O → World C R O → Type 0) → ((w : World C R O) → Rel w w) → ((a b c : World C R O) → Rel a b → Rel b c → Rel a c)
+  pub sweep_on : (Inv : World C R O → Type 0) (Rel : World C R O → World C R O → Type 0) → ((w : World C R O) → Rel w w)
+      → ((a b c : World C R O) → Rel a b → Rel b c → Rel a c)
       → (P : ℕ → World C R O → Type 0) → ((k : ℕ) (a b : World C R O) → Rel a b → P k a → P k b) → (js : List ℕ)
       → ((j : ℕ) (w : World C R O) → Contains js j → Inv w → Reaches w (λ v. Inv v × P j v × Rel w v))
       → (w : World C R O) → Inv w → Reaches w (λ v. Inv v × ((j : ℕ) → Contains js j → P j v) × Rel w v)
@@ -120,7 +122,11 @@ module _ {C R O : Type 0} (choose : Choice C) (f : ℕ) where
       record {
         after = rest.after;
         goes = rest.goes;
-        holds = (rest.holds.0, λ k in'. by_place rest.after k (keeps j v rest.after rest.holds.2 is.1) (rest.holds.1 k) (Contains-cases j k js in'), more w v rest.after is.2 rest.holds.2);
+        holds = (
+          rest.holds.0,
+          λ k in'. by_place rest.after k (keeps j v rest.after rest.holds.2 is.1) (rest.holds.1 k) (Contains-cases j k js in'),
+          more w v rest.after is.2 rest.holds.2,
+        );
       })
     where
       by_place : (u : World C R O) (k : ℕ) → P j u → (Contains js k → P k u) → (j ≡ k) ⊎ Contains js k → P k u
@@ -128,7 +134,8 @@ module _ {C R O : Type 0} (choose : Choice C) (f : ℕ) where
       by_place u k p rest (inr in') = rest in'
 
   -- a step that leaves its site as it was leaves all sites so
-  pub taken_same : (w : World C R O) (i : ℕ) (event : EventOf C R O) → i < length w.sites → (site_step {R = R} {O = O} choose f i (site_at w i) event).site ≡ site_at w i
+  pub taken_same : (w : World C R O) (i : ℕ) (event : EventOf C R O) → i < length w.sites
+      → (site_step {R = R} {O = O} choose f i (site_at w i) event).site ≡ site_at w i
       → site_at (taken w i event) ≡ site_at w
   taken_same w i event small same = taken_sites w i event small ∙ (ap (λ (x : Site C). put (site_at w) i x) same ∙ put_self (site_at w) i)
 
@@ -137,10 +144,13 @@ module _ {C R O : Type 0} (choose : Choice C) (f : ℕ) where
   replies_grow w v h p r in' = by_course h.course p.ends
     where
       by_course : (course : Course) → EndsIn w h.site p.before (site_step choose f h.site p.before h.event) course v → Contains v.replies r
-      by_course Ends ends = subst (λ (u : World C R O). Contains u.replies r) (sym ends.1) (Contains-append_left w.replies (replied h.site (site_step {R = R} {O = O} choose f h.site p.before h.event)) r in')
+      by_course Ends ends =
+          subst (λ (u : World C R O). Contains u.replies r) (sym ends.1)
+          (Contains-append_left w.replies (replied h.site (site_step {R = R} {O = O} choose f h.site p.before h.event)) r in')
       by_course (FallsOver cell) ends = subst (λ (u : World C R O). Contains u.replies r) (sym ends.1) in'
 
-  run_replies : (events : List (Happening C R O)) (w v : World C R O) → IsRun choose f w events v → (r : Replied C) → Contains w.replies r → Contains v.replies r
+  run_replies : (events : List (Happening C R O)) (w v : World C R O) → IsRun choose f w events v → (r : Replied C) → Contains w.replies r
+      → Contains v.replies r
   run_replies [] w v run r in' = subst (λ (u : World C R O). Contains u.replies r) (sym run) in'
   run_replies (h ∷ hs) w v run r in' = run_replies hs run.0 v run.2 r (replies_grow w run.0 h run.1 r in')
 

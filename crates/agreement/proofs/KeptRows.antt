@@ -30,7 +30,8 @@ module _ {C : Type 0} (P : RowOf C → Type 0) where
   over_rows cell status = record { log = All-nil P; votes = λ v in'. absurd (Contains-none v in'); responses = λ r in'. absurd (Contains-none r in') }
 
   -- the picked log is one of those that are kept
-  pub picked_rows : (f : ℕ) (choose : Choice C) → IsRight f choose → (x : Site C) → Keeps P x → f < count_by (has_vote x.collected.votes) (sites f) → All P (choose.pick x.collected.votes).log
+  pub picked_rows : (f : ℕ) (choose : Choice C) → IsRight f choose → (x : Site C) → Keeps P x → f < count_by (has_vote x.collected.votes) (sites f)
+      → All P (choose.pick x.collected.votes).log
   picked_rows f choose right x h many = h.votes (choose.pick x.collected.votes) (right.pick x.collected.votes some).kept
     where
       one : Found (λ (v : Vote C). v.from == (quorums_meet f (has_vote x.collected.votes) (has_vote x.collected.votes) many many).site) x.collected.votes
@@ -93,7 +94,8 @@ module _ {C : Type 0} (P : RowOf C → Type 0) where
         this r (inl e) = subst (λ (q : Response C). All P (rows_of_state q.state)) e all
         this r (inr none) = absurd (Contains-none r none)
 
-        by_part : (r : Response C) → Contains (filter (λ old. not (old.from == response.from)) x.collected.responses) r ⊎ Contains (response ∷ []) r → All P (rows_of_state r.state)
+        by_part : (r : Response C) → Contains (filter (λ old. not (old.from == response.from)) x.collected.responses) r ⊎ Contains (response ∷ []) r
+            → All P (rows_of_state r.state)
         by_part r (inl in') = h.responses r (filter-has _ x.collected.responses r in')
         by_part r (inr in') = this r (Contains-cases response r [] in')
 

@@ -18,9 +18,11 @@ use Rattle.agreement.proofs.Moves.{Kept}
 use Rattle.agreement.proofs.Parts.{kept_quiet, kept_runs}
 use Rattle.agreement.proofs.Tests.{ge_of, not_true, runs_up, normal_runs, recovering_rests}
 
-lived_knowing : {C R O : Type 0} (g : History C R O) (j w : ℕ) (old new : List ℕ) (before : ℕ) → Within old new → boot_of new j ≡ boot_of old j → HasLived g j w old before → HasLived g j w new before
+lived_knowing : {C R O : Type 0} (g : History C R O) (j w : ℕ) (old new : List ℕ) (before : ℕ) → Within old new → boot_of new j ≡ boot_of old j
+    → HasLived g j w old before → HasLived g j w new before
 lived_knowing g j w old new before more same (first e) = first (same ∙ e)
-lived_knowing g j w old new before more same (again c in' at boot view within time) = again c in' at (boot ∙ sym same) view (within-trans c.known old new within more) time
+lived_knowing g j w old new before more same (again c in' at boot view within time) =
+    again c in' at (boot ∙ sym same) view (within-trans c.known old new within more) time
 
 -- what is not outdated is of the boot that is known
 is_current : (known : List ℕ) (from : ℕ) (told : List ℕ) → not (is_outdated known from told) ≡ true → boot_of known from ≤ boot_of told from
@@ -35,7 +37,8 @@ module _ {C R O : Type 0} (f : ℕ) (g : History C R O) (s : ℕ → Site C) (me
   not_beyond n (never e) = omega arith
   not_beyond n (asked to in') = let h : HasAsked (s me) n = holds.said me to _ in' in h
 
-  module _ (up : is_down (s me).status ≡ false) (known : List ℕ) (more : Within (s me).known known) (long : length (s me).known ≤ length known) (boots : (k : ℕ) → WasBoot g k (boot_of known k)) where
+  module _ (up : is_down (s me).status ≡ false) (known : List ℕ) (more : Within (s me).known known) (long : length (s me).known ≤ length known)
+      (boots : (k : ℕ) → WasBoot g k (boot_of known k)) where
     own : boot_of known me ≡ (s me).cell.boots
     own = let a = hears.own up in let b = more me in let c = not_beyond _ (boots me) in omega arith
 
@@ -50,9 +53,12 @@ module _ {C R O : Type 0} (f : ℕ) (g : History C R O) (s : ℕ → Site C) (me
     }
 
     -- a running site knows more, and has given up some of what it collected, so that no STARTVIEWCHANGE is outdated
-    knows_more : (y : Site C) → y ≡ record (s me) { known = known; collected = y.collected } → is_running (s me).status ≡ true → y.collected.acks ≡ (s me).collected.acks → y.collected.voted ≡ (s me).collected.voted
-        → ((s me).status ≡ Change → (v : Vote C) → Contains y.collected.votes v → Contains (s me).collected.votes v × (boot_of known v.from ≤ boot_of v.known v.from))
-        → ((s me).status ≡ Change → (a : Start) → Contains y.collected.starts a → Contains (s me).collected.starts a × (boot_of known a.from ≤ boot_of a.known a.from))
+    knows_more : (y : Site C) → y ≡ record (s me) { known = known; collected = y.collected } → is_running (s me).status ≡ true
+        → y.collected.acks ≡ (s me).collected.acks → y.collected.voted ≡ (s me).collected.voted
+        → ((s me).status ≡ Change → (v : Vote C) → Contains y.collected.votes v
+        → Contains (s me).collected.votes v × (boot_of known v.from ≤ boot_of v.known v.from))
+        → ((s me).status ≡ Change → (a : Start) → Contains y.collected.starts a
+        → Contains (s me).collected.starts a × (boot_of known a.from ≤ boot_of a.known a.from))
         → Kept f g s me (does y [])
     knows_more y is run acks made votes starts = subst (λ (x : Site C). Kept f g s me (does x [])) (sym is) kept
       where
@@ -84,7 +90,8 @@ module _ {C R O : Type 0} (f : ℕ) (g : History C R O) (s : ℕ → Site C) (me
           prepared = r.prepared;
           acks = λ e a in'. r.acks e a (subst (λ acks. Contains acks a) acks in');
           votes = λ e v in'. r.votes e v (votes e v in').0;
-          current = λ e v in'. (let t = votes e v in' in record { within = within-trans v.known (s me).known known (r.current e v t.0).within more; current = t.1 });
+          current =
+              λ e v in'. (let t = votes e v in' in record { within = within-trans v.known (s me).known known (r.current e v t.0).within more; current = t.1 });
         })
 
   module _ (told : List ℕ) (boots : (k : ℕ) → WasBoot g k (boot_of told k)) where
@@ -112,7 +119,9 @@ module _ {C R O : Type 0} (f : ℕ) (g : History C R O) (s : ℕ → Site C) (me
           running = λ run. absurd (recovering_rests (s me).status recovering run);
           rests = (holds.sites me).rests;
           hears = hears_more (ap is_down recovering) both (greater_left (s me).known told) (greater_long (s me).known told) both_were;
-          responses = λ nonce by a in'. (holds.sites me).responses nonce (record { status = by.status; boots = by.boots }) a (filter-has _ (s me).collected.responses a in');
+          responses =
+              λ nonce by a in'. (holds.sites me).responses nonce (record { status = by.status; boots = by.boots }) a
+              (filter-has _ (s me).collected.responses a in');
           current = λ e a in'. (
               let old = (holds.sites me).current recovering a (filter-has _ (s me).collected.responses a in') in
               record {
@@ -125,9 +134,11 @@ module _ {C R O : Type 0} (f : ℕ) (g : History C R O) (s : ℕ → Site C) (me
         y = learns told (s me)
 
   -- a normal site notes the nonce of another
-  pub kept_notes : (from to nonce : ℕ) → (s me).status ≡ Normal → from < length (s me).known → boot_of (s me).known from ≤ nonce → Contains g.said (mail from to (Recovery (record { nonce = nonce }))) → Kept f g s me (does (notes from nonce (s me)) [])
+  pub kept_notes : (from to nonce : ℕ) → (s me).status ≡ Normal → from < length (s me).known → boot_of (s me).known from ≤ nonce
+      → Contains g.said (mail from to (Recovery (record { nonce = nonce }))) → Kept f g s me (does (notes from nonce (s me)) [])
   kept_notes from to nonce normal small low said =
-      knows_more (runs_up _ run) noted (set_within (s me).known from nonce small low) (let e = length-set (s me).known from nonce in omega arith) (λ k. were k (cases_eq k from)) (notes from nonce (s me)) refl run refl refl
+      knows_more (runs_up _ run) noted (set_within (s me).known from nonce small low) (let e = length-set (s me).known from nonce in
+      omega arith) (λ k. were k (cases_eq k from)) (notes from nonce (s me)) refl run refl refl
       (λ e. absurd (let e' : Normal ≡ Change = sym normal ∙ e in cc)) (λ e. absurd (let e' : Normal ≡ Change = sym normal ∙ e in cc))
     where
       run : is_running (s me).status ≡ true
@@ -137,5 +148,7 @@ module _ {C R O : Type 0} (f : ℕ) (g : History C R O) (s : ℕ → Site C) (me
       noted = set (s me).known from nonce
 
       were : (k : ℕ) → (k ≡ from) ⊎ (k ≡ from → ⊥) → WasBoot g k (boot_of noted k)
-      were k (inl e) = subst (λ (i : ℕ). WasBoot g i (boot_of noted i)) (sym e) (subst (λ (n : ℕ). WasBoot g from n) (sym (set_here (s me).known from nonce small)) (asked to said))
+      were k (inl e) =
+          subst (λ (i : ℕ). WasBoot g i (boot_of noted i)) (sym e)
+          (subst (λ (n : ℕ). WasBoot g from n) (sym (set_here (s me).known from nonce small)) (asked to said))
       were k (inr apart) = subst (λ (n : ℕ). WasBoot g k n) (sym (set_there (s me).known from k nonce apart)) (hears.heard k)

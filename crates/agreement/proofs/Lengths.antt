@@ -66,21 +66,25 @@ learnt n x h told full = greater_same x.known told (let a = h in let b = full in
 long_with_start : {C : Type 0} (n : ℕ) (start : Start) (y : Site C) → length y.known ≡ n → length (with_start start y).known ≡ n
 long_with_start {C} n start y l = by_test (has_start y.collected.starts start.from)
   where
-    by_test : (b : Bool) → (let z : Site C = if b then y else record y { collected = record (y.collected) { starts = y.collected.starts ++ start ∷ [] } } in length z.known ≡ n)
+    by_test : (b : Bool)
+        → (let z : Site C = if b then y else record y { collected = record (y.collected) { starts = y.collected.starts ++ start ∷ [] } } in length z.known ≡ n)
     by_test true = l
     by_test false = l
 
 long_with_vote : {C : Type 0} (n : ℕ) (vote : Vote C) (y : Site C) → length y.known ≡ n → length (with_vote vote y).known ≡ n
 long_with_vote {C} n vote y l = by_test (has_vote y.collected.votes vote.from)
   where
-    by_test : (b : Bool) → (let z : Site C = if b then y else record y { collected = record (y.collected) { votes = y.collected.votes ++ vote ∷ [] } } in length z.known ≡ n)
+    by_test : (b : Bool)
+        → (let z : Site C = if b then y else record y { collected = record (y.collected) { votes = y.collected.votes ++ vote ∷ [] } } in length z.known ≡ n)
     by_test true = l
     by_test false = l
 
-long_begun : {C : Type 0} (R O : Type 0) (n f me : ℕ) (x : Site C) → length x.known ≡ n → (told : List ℕ) → length told ≡ n → (w : ℕ) → length (starts_later_view {R = R} {O = O} f me w (learns told x)).site.known ≡ n
+long_begun : {C : Type 0} (R O : Type 0) (n f me : ℕ) (x : Site C) → length x.known ≡ n → (told : List ℕ) → length told ≡ n → (w : ℕ)
+    → length (starts_later_view {R = R} {O = O} f me w (learns told x)).site.known ≡ n
 long_begun {C} R O n f me x h told full w = by_test (nat_lt x.view w)
   where
-    by_test : (b : Bool) → (let part : Part C R O = if b then starts_view f me w (learns told x) else record { site = learns told x; sent = [] } in length part.site.known ≡ n)
+    by_test : (b : Bool)
+        → (let part : Part C R O = if b then starts_view f me w (learns told x) else record { site = learns told x; sent = [] } in length part.site.known ≡ n)
     by_test true = learnt n x h told full
     by_test false = learnt n x h told full
 
@@ -96,7 +100,11 @@ module _ {C R O : Type 0} (n : ℕ) where
   module _ (choose : Choice C) (f me : ℕ) (x : Site C) (h : length x.known ≡ n) where
     long_request : (row : RowOf C) → Long n (on_request {R = R} {O = O} f me x row)
     unfolding on_request
-    long_request row = long_if (not (is_normal x.status)) (record { is = h }) (long_if (not (primary f x.view == me)) (record { is = h }) (long_if (nat_lt (newest x.log row.client) row.number) (long_if (length x.log == MAX_ROWS) (record { is = h }) (record { is = h })) (again (last_of (take x.done x.log) row.client))))
+    long_request row =
+        long_if (not (is_normal x.status)) (record { is = h })
+        (long_if (not (primary f x.view == me)) (record { is = h })
+        (long_if (nat_lt (newest x.log row.client) row.number) (long_if (length x.log == MAX_ROWS) (record { is = h }) (record { is = h }))
+        (again (last_of (take x.done x.log) row.client))))
       where
         again : (last : Option (ℕ × RowOf C)) → Long n (answers_again {R = R} {O = O} x row.number (newest x.log row.client) last)
         again None = record { is = h }
@@ -104,34 +112,62 @@ module _ {C R O : Type 0} (n : ℕ) where
 
     long_prepare : (from : ℕ) (msg : PrepareOf C) → Long n (on_prepare {R = R} {O = O} f me x from msg)
     unfolding on_prepare
-    long_prepare from msg = long_if (not (primary f msg.view == from)) (record { is = h }) (long_if (is_recovering x.status) (record { is = h }) (long_if (nat_lt msg.view x.view) (record { is = h }) (long_if (nat_lt x.view msg.view || is_change x.status) (record { is = h }) (record { is = long_next n x h msg.place msg.row }))))
+    long_prepare from msg =
+        long_if (not (primary f msg.view == from)) (record { is = h })
+        (long_if (is_recovering x.status) (record { is = h })
+        (long_if (nat_lt msg.view x.view) (record { is = h })
+        (long_if (nat_lt x.view msg.view || is_change x.status) (record { is = h }) (record { is = long_next n x h msg.place msg.row }))))
 
     long_commit : (from : ℕ) (msg : CommitMsg) → Long n (on_commit {R = R} {O = O} f me x from msg)
     unfolding on_commit
-    long_commit from msg = long_if (not (primary f msg.view == from)) (record { is = h }) (long_if (is_recovering x.status) (record { is = h }) (long_if (nat_lt msg.view x.view) (record { is = h }) (long_if (nat_lt x.view msg.view || is_change x.status) (record { is = h }) (record { is = h }))))
+    long_commit from msg =
+        long_if (not (primary f msg.view == from)) (record { is = h })
+        (long_if (is_recovering x.status) (record { is = h })
+        (long_if (nat_lt msg.view x.view) (record { is = h })
+        (long_if (nat_lt x.view msg.view || is_change x.status) (record { is = h }) (record { is = h }))))
 
     long_prepare_ok : (from : ℕ) (msg : PrepareOkMsg) → Long n (on_prepare_ok {R = R} {O = O} choose f me x from msg)
     unfolding on_prepare_ok
-    long_prepare_ok from msg = long_if (not (is_normal x.status)) (record { is = h }) (long_if (not (msg.view == x.view)) (record { is = h }) (long_if (not (primary f x.view == me)) (record { is = h }) (record { is = h })))
+    long_prepare_ok from msg =
+        long_if (not (is_normal x.status)) (record { is = h })
+        (long_if (not (msg.view == x.view)) (record { is = h }) (long_if (not (primary f x.view == me)) (record { is = h }) (record { is = h })))
 
     long_takes : (w k : ℕ) (log : List (RowOf C)) → Long n (takes_log {R = R} {O = O} choose f me x w k log)
     long_takes w k log = long_if (begins_with_executed choose.same x log) (record { is = h }) (record { is = h })
 
     long_start_view : (from : ℕ) (msg : StartViewOf C) → Long n (on_start_view {R = R} {O = O} choose f me x from msg)
     unfolding on_start_view
-    long_start_view from msg = long_if (not (primary f msg.view == from)) (record { is = h }) (long_if (is_recovering x.status) (record { is = h }) (long_if (nat_lt msg.view x.view) (record { is = h }) (long_if (is_normal x.status && (msg.view == x.view)) (record { is = h }) (long_takes msg.view msg.done msg.rows))))
+    long_start_view from msg =
+        long_if (not (primary f msg.view == from)) (record { is = h })
+        (long_if (is_recovering x.status) (record { is = h })
+        (long_if (nat_lt msg.view x.view) (record { is = h })
+        (long_if (is_normal x.status && (msg.view == x.view)) (record { is = h }) (long_takes msg.view msg.done msg.rows))))
 
     long_get_state : (from : ℕ) (msg : GetStateMsg) → Long n (on_get_state {R = R} {O = O} f me x from msg)
     unfolding on_get_state
-    long_get_state from msg = long_if (not (is_normal x.status)) (record { is = h }) (long_if (not (msg.view == x.view)) (record { is = h }) (long_if (not (primary f x.view == me)) (record { is = h }) (long_if (nat_lt (length x.log) msg.base) (record { is = h }) (record { is = h }))))
+    long_get_state from msg =
+        long_if (not (is_normal x.status)) (record { is = h })
+        (long_if (not (msg.view == x.view)) (record { is = h })
+        (long_if (not (primary f x.view == me)) (record { is = h }) (long_if (nat_lt (length x.log) msg.base) (record { is = h }) (record { is = h }))))
 
     long_new_state : (from : ℕ) (msg : NewStateOf C) → Long n (on_new_state {R = R} {O = O} choose f me x from msg)
     unfolding on_new_state
-    long_new_state from msg = long_if (not (primary f msg.view == from)) (record { is = h }) (long_if (is_recovering x.status) (record { is = h }) (long_if (nat_lt msg.view x.view) (record { is = h }) (long_if (nat_lt MAX_ROWS (msg.base + length msg.rows)) (record { is = h }) (long_if (is_normal x.status && (msg.view == x.view)) (long_if (nat_le msg.base (length x.log) && nat_lt (length x.log) (msg.base + length msg.rows)) (long_takes msg.view msg.done (take msg.base x.log ++ msg.rows)) (record { is = h })) (long_if (nat_le msg.base x.done && nat_le x.done (msg.base + length msg.rows)) (long_takes msg.view msg.done (take msg.base x.log ++ msg.rows)) (record { is = h }))))))
+    long_new_state from msg =
+        long_if (not (primary f msg.view == from)) (record { is = h })
+        (long_if (is_recovering x.status) (record { is = h })
+        (long_if (nat_lt msg.view x.view) (record { is = h })
+        (long_if (nat_lt MAX_ROWS (msg.base + length msg.rows)) (record { is = h })
+        (long_if (is_normal x.status && (msg.view == x.view))
+        (long_if (nat_le msg.base (length x.log) && nat_lt (length x.log) (msg.base + length msg.rows))
+        (long_takes msg.view msg.done (take msg.base x.log ++ msg.rows)) (record { is = h }))
+        (long_if (nat_le msg.base x.done && nat_le x.done (msg.base + length msg.rows))
+        (long_takes msg.view msg.done (take msg.base x.log ++ msg.rows)) (record { is = h }))))))
 
     long_recovery : (from : ℕ) (msg : RecoveryMsg) → Long n (on_recovery {R = R} {O = O} f me x from msg)
     unfolding on_recovery
-    long_recovery from msg = long_if (not (is_normal x.status)) (record { is = h }) (long_if (nat_lt msg.nonce (boot_of x.known from)) (record { is = h }) (record { is = length-set x.known from msg.nonce ∙ h }))
+    long_recovery from msg =
+        long_if (not (is_normal x.status)) (record { is = h })
+        (long_if (nat_lt msg.nonce (boot_of x.known from)) (record { is = h }) (record { is = length-set x.known from msg.nonce ∙ h }))
 
     long_timer : Long n (on_timer {R = R} {O = O} f me x)
     unfolding on_timer
@@ -145,23 +181,44 @@ module _ {C R O : Type 0} (n : ℕ) where
     long_beat Down = record { is = h }
 
     long_opens : (part : Part C R O) → length part.site.known ≡ n → Long n (opens_where_due choose f me x part)
-    long_opens part l = long_if (not (is_to_open f me part.site)) (record { is = l }) (long_if (not (begins_with_executed choose.same part.site (choose.pick part.site.collected.votes).log)) (record { is = h }) (record { is = l }))
+    long_opens part l =
+        long_if (not (is_to_open f me part.site)) (record { is = l })
+        (long_if (not (begins_with_executed choose.same part.site (choose.pick part.site.collected.votes).log)) (record { is = h }) (record { is = l }))
 
   long_votes : (f me : ℕ) (part : Part C R O) → length part.site.known ≡ n → PartLong n (votes_where_due f me part)
-  long_votes f me part l = part_if (not (is_to_vote f me part.site)) (record { is = l }) (part_if (primary f part.site.view == me) (record { is = long_with_vote n (own_vote me part.site) (with_voted part.site) l }) (record { is = l }))
+  long_votes f me part l =
+      part_if (not (is_to_vote f me part.site)) (record { is = l })
+      (part_if (primary f part.site.view == me) (record { is = long_with_vote n (own_vote me part.site) (with_voted part.site) l }) (record { is = l }))
 
   module _ (choose : Choice C) (f me : ℕ) (x : Site C) (h : length x.known ≡ n) where
     long_start_view_change : (w : ℕ) (start : Start) → length start.known ≡ n → Long n (on_start_view_change {R = R} {O = O} choose f me x w start)
     unfolding on_start_view_change
-    long_start_view_change w start full = long_if (is_recovering x.status) (record { is = h }) (long_if (nat_lt w x.view) (record { is = h }) (long_if (is_normal x.status && (w == x.view)) (record { is = h }) (long_if (is_outdated x.known start.from start.known) (record { is = h }) (let begun : Part C R O = starts_later_view f me w (learns start.known x) in long_opens choose f me x h (after_start f me w start x) (long_votes f me (record begun { site = with_start start begun.site }) (long_with_start n start begun.site (long_begun R O n f me x h start.known full w))).is))))
+    long_start_view_change w start full =
+        long_if (is_recovering x.status) (record { is = h })
+        (long_if (nat_lt w x.view) (record { is = h }) (long_if (is_normal x.status && (w == x.view)) (record { is = h })
+        (long_if (is_outdated x.known start.from start.known) (record { is = h })
+        (let begun : Part C R O = starts_later_view f me w (learns start.known x) in
+        long_opens choose f me x h (after_start f me w start x)
+        (long_votes f me (record begun { site = with_start start begun.site })
+        (long_with_start n start begun.site (long_begun R O n f me x h start.known full w))).is))))
 
     long_do_view_change : (w : ℕ) (vote : Vote C) → length vote.known ≡ n → Long n (on_do_view_change {R = R} {O = O} choose f me x w vote)
     unfolding on_do_view_change
-    long_do_view_change w vote full = long_if (is_recovering x.status) (record { is = h }) (long_if (nat_lt w x.view) (record { is = h }) (long_if (not (primary f w == me)) (record { is = h }) (long_if (is_normal x.status && (w == x.view)) (record { is = h }) (long_if (is_outdated x.known vote.from vote.known) (record { is = h }) (let begun : Part C R O = starts_later_view f me w (learns vote.known x) in long_opens choose f me x h (after_vote f me w vote x) (long_with_vote n vote begun.site (long_begun R O n f me x h vote.known full w)))))))
+    long_do_view_change w vote full =
+        long_if (is_recovering x.status) (record { is = h })
+        (long_if (nat_lt w x.view) (record { is = h }) (long_if (not (primary f w == me)) (record { is = h })
+        (long_if (is_normal x.status && (w == x.view)) (record { is = h })
+        (long_if (is_outdated x.known vote.from vote.known) (record { is = h }) (let begun : Part C R O = starts_later_view f me w (learns vote.known x) in
+        long_opens choose f me x h (after_vote f me w vote x) (long_with_vote n vote begun.site (long_begun R O n f me x h vote.known full w)))))))
 
     long_response : (nonce : ℕ) (response : Response C) → length response.known ≡ n → Long n (on_recovery_response {R = R} {O = O} choose x nonce response)
     unfolding on_recovery_response
-    long_response nonce response full = long_if (not (is_recovering x.status)) (record { is = h }) (long_if (not (nonce == nonce_of x.cell)) (record { is = h }) (long_if (is_outdated x.known response.from response.known) (record { is = h }) (long_if (has_as_late (learns response.known x).collected.responses response) (record { is = h }) (by_state (choose.regained (after_response response x).collected.responses)))))
+    long_response nonce response full =
+        long_if (not (is_recovering x.status)) (record { is = h })
+        (long_if (not (nonce == nonce_of x.cell)) (record { is = h })
+        (long_if (is_outdated x.known response.from response.known) (record { is = h })
+        (long_if (has_as_late (learns response.known x).collected.responses response) (record { is = h })
+        (by_state (choose.regained (after_response response x).collected.responses)))))
       where
         by_state : (regained : Option (Regained C)) → Long n (regains {R = R} {O = O} (after_response response x) regained)
         by_state None = record { is = learnt n x h response.known full }
@@ -183,12 +240,14 @@ opening_long {C} f (cell ∷ cells) zero = by_test (cell.boots == 0)
 opening_long f (cell ∷ cells) (suc i) = opening_long f cells i
 
 module _ {C R O : Type 0} (choose : Choice C) (f me : ℕ) (x : Site C) where
-  message_long : length x.known ≡ 2 * f + 1 → (actor : ℕ) (msg : MsgOf C R O) → may_send f me actor msg ≡ true → Long (2 * f + 1) (on_message choose f me x actor msg)
+  message_long : length x.known ≡ 2 * f + 1 → (actor : ℕ) (msg : MsgOf C R O) → may_send f me actor msg ≡ true
+      → Long (2 * f + 1) (on_message choose f me x actor msg)
   message_long h actor (Request msg) may = long_request (2 * f + 1) choose f me x h _
   message_long h actor (Prepare msg) may = long_prepare (2 * f + 1) choose f me x h _ msg
   message_long h actor (PrepareOk msg) may = long_prepare_ok (2 * f + 1) choose f me x h _ msg
   message_long h actor (Commit msg) may = long_commit (2 * f + 1) choose f me x h _ msg
-  message_long h actor (StartViewChange msg) may = long_start_view_change (2 * f + 1) choose f me x h msg.view _ (of_all f msg.known (is_other_site f me actor) may)
+  message_long h actor (StartViewChange msg) may =
+      long_start_view_change (2 * f + 1) choose f me x h msg.view _ (of_all f msg.known (is_other_site f me actor) may)
   message_long h actor (DoViewChange msg) may = long_do_view_change (2 * f + 1) choose f me x h msg.view _ (of_all f msg.known (is_other_site f me actor) may)
   message_long h actor (StartView msg) may = long_start_view (2 * f + 1) choose f me x h _ msg
   message_long h actor (GetState msg) may = long_get_state (2 * f + 1) choose f me x h _ msg
@@ -202,30 +261,36 @@ module _ {C R O : Type 0} (choose : Choice C) (f me : ℕ) (x : Site C) where
   as_long step l = record { is = λ _. l.is }
 
   -- an event at a site that is not down
-  unless_down : IsLong (2 * f + 1) x → (down other : Bool) (fault : SiteFault) (step : Step C R O) → is_down x.status ≡ down → (down ≡ false → other ≡ false → length x.known ≡ 2 * f + 1 → Long (2 * f + 1) step)
+  unless_down : IsLong (2 * f + 1) x → (down other : Bool) (fault : SiteFault) (step : Step C R O) → is_down x.status ≡ down
+      → (down ≡ false → other ≡ false → length x.known ≡ 2 * f + 1 → Long (2 * f + 1) step)
       → IsLong (2 * f + 1) (refused_or x (if down then Some NotUp else if other then Some fault else None) step).site
   unless_down l true other fault step e k = l
   unless_down l false true fault step e k = l
   unless_down l false false fault step e k = as_long step (k refl refl (l.is e))
 
-  unless_down_alone : IsLong (2 * f + 1) x → (down : Bool) (step : Step C R O) → is_down x.status ≡ down → (length x.known ≡ 2 * f + 1 → IsLong (2 * f + 1) step.site)
+  unless_down_alone : IsLong (2 * f + 1) x → (down : Bool) (step : Step C R O) → is_down x.status ≡ down
+      → (length x.known ≡ 2 * f + 1 → IsLong (2 * f + 1) step.site)
       → IsLong (2 * f + 1) (refused_or x (if down then Some NotUp else None) step).site
   unless_down_alone l true step e k = l
   unless_down_alone l false step e k = k (l.is e)
 
-  unless_up : IsLong (2 * f + 1) x → (up spent : Bool) (step : Step C R O) → IsLong (2 * f + 1) step.site → IsLong (2 * f + 1) (refused_or x (if up then Some AlreadyUp else if spent then Some BootsSpent else None) step).site
+  unless_up : IsLong (2 * f + 1) x → (up spent : Bool) (step : Step C R O) → IsLong (2 * f + 1) step.site
+      → IsLong (2 * f + 1) (refused_or x (if up then Some AlreadyUp else if spent then Some BootsSpent else None) step).site
   unless_up l true spent step k = l
   unless_up l false true step k = l
   unless_up l false false step k = k
 
   restart_is : (step : Step C R O) → step ≡ on_restart f me x → IsLong (2 * f + 1) step.site
   unfolding on_restart
-  restart_is step e = subst (λ (s : Step C R O). IsLong (2 * f + 1) s.site) (sym e) (record { is = λ _. restart_long C f me (record { boots = x.cell.boots + 1 }) })
+  restart_is step e =
+      subst (λ (s : Step C R O). IsLong (2 * f + 1) s.site) (sym e) (record { is = λ _. restart_long C f me (record { boots = x.cell.boots + 1 }) })
 
   step_long : IsLong (2 * f + 1) x → (event : EventOf C R O) → IsLong (2 * f + 1) (site_step choose f me x event).site
   step_long l (Deliver e) = unless_down l (is_down x.status) (not (is_mine f me e)) NotMine _ refl (λ up mine h.
       message_long h e.from e.msg (and_right (e.to == actor_of me) _ (not_false _ mine)))
-  step_long l Timer = unless_down l (is_down x.status) (not (is_recovering x.status) && (x.view == max_number)) ViewsSpent _ refl (λ up _ h. long_timer (2 * f + 1) choose f me x h)
+  step_long l Timer =
+      unless_down l (is_down x.status) (not (is_recovering x.status) && (x.view == max_number)) ViewsSpent _ refl
+      (λ up _ h. long_timer (2 * f + 1) choose f me x h)
   step_long l Beat = unless_down_alone l (is_down x.status) _ refl (λ h. as_long _ (long_beat (2 * f + 1) choose f me x h x.status))
   step_long l Crash = unless_down_alone l (is_down x.status) _ refl (λ h. record { is = λ e. absurd (true≢false e) })
   step_long l Restart = unless_up l (not (is_down x.status)) (x.cell.boots == max_number) (on_event choose f me x Restart) (restart_is _ refl)
@@ -235,7 +300,8 @@ abbrev pub AllLong : {C R O : Type 0} → ℕ → World C R O → Type 0
 AllLong f world = (i : ℕ) → IsLong (2 * f + 1) (site_at world i)
 
 module _ {C R O : Type 0} (choose : Choice C) (f : ℕ) where
-  set_long : (w : World C R O) (i : ℕ) (x : Site C) → AllLong f w → i < length w.sites → IsLong (2 * f + 1) x → (j : ℕ) → IsLong (2 * f + 1) (put (site_at w) i x j)
+  set_long : (w : World C R O) (i : ℕ) (x : Site C) → AllLong f w → i < length w.sites → IsLong (2 * f + 1) x → (j : ℕ)
+      → IsLong (2 * f + 1) (put (site_at w) i x j)
   set_long w i x all small l j = put_cases (site_at w) i x (λ k y. IsLong (2 * f + 1) y) j l (λ _. all j)
 
   happens_long : (w after : World C R O) (h : Happening C R O) → AllLong f w → Happens choose f w h after → AllLong f after
@@ -252,7 +318,8 @@ module _ {C R O : Type 0} (choose : Choice C) (f : ℕ) where
 
       by_course : (course : Course) → EndsIn w h.site p.before (site_step choose f h.site p.before h.event) course after → AllLong f after
       by_course Ends ends = subst (λ (v : World C R O). AllLong f v) (sym ends.1)
-          (by_site (site_step {R = R} {O = O} choose f h.site p.before h.event).site (stepped w h.site (site_step choose f h.site p.before h.event)) (set_is_put w.sites h.site _ small) (step_long choose f h.site p.before was h.event))
+          (by_site (site_step {R = R} {O = O} choose f h.site p.before h.event).site (stepped w h.site (site_step choose f h.site p.before h.event))
+          (set_is_put w.sites h.site _ small) (step_long choose f h.site p.before was h.event))
       by_course (FallsOver cell) ends = subst (λ (v : World C R O). AllLong f v) (sym ends.1)
           (by_site (over cell Down) (fallen w h.site cell) (set_is_put w.sites h.site (over cell Down) small) (record { is = λ e. absurd (true≢false e) }))
 

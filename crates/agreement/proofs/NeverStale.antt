@@ -27,7 +27,9 @@ use Rattle.agreement.proofs.Tests.{eq_of, eq_test, change_runs, found, Found}
 
 module _ {C : Type 0} (f : ℕ) (choose : Choice C) (right : IsRight f choose) where
   row_itself : (r : RowOf C) → is_same_row choose.same r r ≡ true
-  row_itself r = by_tests (r.client == r.client) (r.number == r.number) (choose.same r.cmd r.cmd) (eq_test r.client r.client refl) (eq_test r.number r.number refl) ((right.same r.cmd r.cmd).1 refl)
+  row_itself r =
+      by_tests (r.client == r.client) (r.number == r.number) (choose.same r.cmd r.cmd) (eq_test r.client r.client refl) (eq_test r.number r.number refl)
+      ((right.same r.cmd r.cmd).1 refl)
     where
       by_tests : (a b c : Bool) → a ≡ true → b ≡ true → c ≡ true → (a && (b && c)) ≡ true
       by_tests true true c e d h = h
@@ -44,7 +46,8 @@ module _ {C : Type 0} (f : ℕ) (choose : Choice C) (right : IsRight f choose) w
       subst (λ (l : List (RowOf C)). pointwise (is_same_row choose.same) (take x.done x.log) l ≡ true) (begins_is_take b) (rows_themselves (take x.done x.log))
 
   -- the log of the vote that is picked
-  module _ {R O : Type 0} (g : History C R O) (s : ℕ → Site C) (me : ℕ) (holds : Holds f g s) (change : (s me).status ≡ Change) (leads : me ≡ primary f (s me).view)
+  module _ {R O : Type 0} (g : History C R O) (s : ℕ → Site C) (me : ℕ) (holds : Holds f g s) (change : (s me).status ≡ Change)
+      (leads : me ≡ primary f (s me).view)
       (many : f < count_by (has_vote (s me).collected.votes) (sites f)) where
     abbrev votes : List (Vote C)
     votes = (s me).collected.votes
@@ -76,7 +79,15 @@ module _ {C : Type 0} (f : ℕ) (choose : Choice C) (right : IsRight f choose) w
         let t = run.votes change x.item x.among in
         let n : IsNotBefore x.item pick = not_before x.item pick (is_pick.first x.item x.among) in
         subst (λ (i : ℕ). IsElector g (s me).view pick.last_normal (length pick.log) i) (eq_of x.item.from j x.passes)
-        (record { to = t.0; u = x.item.last_normal; k = x.item.done; log = x.item.log; known = x.item.known; voted = t.1; best = upto_of _ _ _ _ n.view n.rows })
+        (record {
+          to = t.0;
+          u = x.item.last_normal;
+          k = x.item.done;
+          log = x.item.log;
+          known = x.item.known;
+          voted = t.1;
+          best = upto_of _ _ _ _ n.view n.rows;
+        })
 
     pub pick_begins : Begins (take (s me).done (s me).log) pick.log
     pick_begins = begins_executed f g s me pick.log pick.last_normal (has_vote votes) holds change leads

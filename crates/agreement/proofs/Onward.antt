@@ -93,7 +93,8 @@ in_list [] i d low = absurd (omega arith)
 in_list (x ∷ xs) zero d low = Contains-here x xs
 in_list (x ∷ xs) (suc i) d low = Contains-there x _ xs (in_list xs i d (omega arith))
 
-module _ {C R O : Type 0} (choose : Choice C) (f : ℕ) (right : IsRight f choose) (some : 1 ≤ f) (cells : List Boot) (before : List (Happening C R O)) (world : World C R O)
+module _ {C R O : Type 0} (choose : Choice C) (f : ℕ) (right : IsRight f choose) (some : 1 ≤ f) (cells : List Boot)
+    (before : List (Happening C R O)) (world : World C R O)
     (legal : IsLegal choose f cells before world) (can : CanGoOn f world.sites) where
   pub reached : IsReached f first world
   reached = legal_holds f choose right cells before world legal
@@ -108,7 +109,8 @@ module _ {C R O : Type 0} (choose : Choice C) (f : ℕ) (right : IsRight f choos
   runs_is : (i : ℕ) → runs_at world.sites i ≡ true → up i ≡ true
   runs_is i e = by_found (slice_get world.sites i) refl e
     where
-      by_found : (found : Option (Site C)) → slice_get world.sites i ≡ found → option_map_or (λ (x : Site C). is_running x.status) found false ≡ true → up i ≡ true
+      by_found : (found : Option (Site C)) → slice_get world.sites i ≡ found → option_map_or (λ (x : Site C). is_running x.status) found false ≡ true
+          → up i ≡ true
       by_found None d h = absurd (true≢false (sym h))
       by_found (Some x) d h = ap (λ (y : Site C). is_running y.status) (get_or_from_slice_get world.sites i x nobody d) ∙ h
 
@@ -120,7 +122,8 @@ module _ {C R O : Type 0} (choose : Choice C) (f : ℕ) (right : IsRight f choos
     where
       by_size : (j < 2 * f + 1) ⊎ (2 * f + 1 ≤ j) → j < 2 * f + 1
       by_size (inl low) = low
-      by_size (inr high) = absurd (true≢false (sym e ∙ ap (λ (x : Site C). is_running x.status) (get_or_past world.sites j nobody (let s = size in omega arith))))
+      by_size (inr high) =
+          absurd (true≢false (sym e ∙ ap (λ (x : Site C). is_running x.status) (get_or_past world.sites j nobody (let s = size in omega arith))))
 
   -- one of them
   one : Both up up
@@ -166,10 +169,20 @@ module _ {C R O : Type 0} (choose : Choice C) (f : ℕ) (right : IsRight f choos
   gather v goes r = record {
     is = goes_reached choose f right world v reached goes;
     long = run_long choose f world v goes.events (legal_long choose f cells before world legal) goes.run;
-    waits = λ j e. subst (λ (x : Site C). Waits f w j (site_at world j).cell.boots x) (sym (r.running j (let a = up_small j e in let b = size in omega arith) e)) (record {
-      changes = record { status = refl; view = refl; boots = refl; own = λ vote in'. absurd (Contains-none vote in'); logs = λ vote in'. absurd (Contains-none vote in'); made = λ voted _. absurd (true≢false (sym voted)) };
-      due = λ due. absurd (true≢false (sym due ∙ not_due j));
-    });
+    waits =
+        λ j e. subst (λ (x : Site C). Waits f w j (site_at world j).cell.boots x) (sym (r.running j (let a = up_small j e in let b = size in omega arith) e))
+        (record {
+          changes =
+              record {
+                status = refl;
+                view = refl;
+                boots = refl;
+                own = λ vote in'. absurd (Contains-none vote in');
+                logs = λ vote in'. absurd (Contains-none vote in');
+                made = λ voted _. absurd (true≢false (sym voted));
+              };
+          due = λ due. absurd (true≢false (sym due ∙ not_due j));
+        });
     logs = λ j e. ap (λ (x : Site C). x.log) (r.running j (let a = up_small j e in let b = size in omega arith) e);
     rest = λ j e. r.resting j e;
   }
@@ -193,13 +206,17 @@ module _ {C R O : Type 0} (choose : Choice C) (f : ℕ) (right : IsRight f choos
     pub settled : acks.Settled choose f right w up up_small up_leads (λ j. (site_at world j).cell.boots) rows world v
     pub acks_none : (site_at v (primary f w)).collected.acks ≡ []
 
-  settle : (mid : World C R O) (g : starts.Gathers choose f right some w up up_small world mid) (voted : (j : ℕ) → up j ≡ true → (site_at mid j).collected.voted ≡ true) → Reaches choose f mid IsSettled
+  settle : (mid : World C R O) (g : starts.Gathers choose f right some w up up_small world mid)
+      (voted : (j : ℕ) → up j ≡ true → (site_at mid j).collected.voted ≡ true) → Reaches choose f mid IsSettled
   settle mid g voted =
-      reaches_then choose f mid (λ u. ballots.Collects choose f right some w up up_small world mid up_leads g voted u × ballots.IsOpen choose f right some w up up_small world mid up_leads g voted u) IsSettled
-      (ballots.opens choose f right some w up up_small world mid up_leads g voted many mid (ballots.begins_counting choose f right some w up up_small world mid up_leads g voted g.is)) (λ begun open'.
+      reaches_then choose f mid (λ u. ballots.Collects choose f right some w up up_small world mid up_leads g voted u
+      × ballots.IsOpen choose f right some w up up_small world mid up_leads g voted u) IsSettled
+      (ballots.opens choose f right some w up up_small world mid up_leads g voted many mid
+      (ballots.begins_counting choose f right some w up up_small world mid up_leads g voted g.is)) (λ begun open'.
       reaches_then choose f begun (λ u. follows.Opened choose f w right some up up_small world mid begun up_leads g voted open'.0 open'.1 u
       × ((j : ℕ) → up j ≡ true → follows.Follows w ((site_at world j).cell.boots) ((site_at begun (primary f w)).log) (site_at u j))) IsSettled
-      (follows.all_follow choose f w right some up up_small world mid begun up_leads g voted open'.0 open'.1 begun (follows.opened_first choose f w right some up up_small world mid begun up_leads g voted open'.0 open'.1)) (λ u is.
+      (follows.all_follow choose f w right some up up_small world mid begun up_leads g voted open'.0 open'.1 begun
+      (follows.opened_first choose f w right some up up_small world mid begun up_leads g voted open'.0 open'.1)) (λ u is.
       record {
         after = u;
         goes = goes_nowhere choose f u;
@@ -214,7 +231,8 @@ module _ {C R O : Type 0} (choose : Choice C) (f : ℕ) (right : IsRight f choos
   settled : Reaches choose f world IsSettled
   settled =
       reaches_then choose f world (λ v. starts.Gathers choose f right some w up up_small world v) IsSettled gathered (λ v g.
-      reaches_then choose f v (λ u. starts.Gathers choose f right some w up up_small world u × ((j : ℕ) → up j ≡ true → (site_at u j).collected.voted ≡ true)) IsSettled
+      reaches_then choose f v (λ u. starts.Gathers choose f right some w up up_small world u × ((j : ℕ) → up j ≡ true → (site_at u j).collected.voted ≡ true))
+      IsSettled
       (starts.all_voted choose f right some w up up_small world many v g) (λ mid h. settle mid h.0 h.1))
 
   -- THEN all is executed, and the others recover
@@ -224,7 +242,8 @@ module _ {C R O : Type 0} (choose : Choice C) (f : ℕ) (right : IsRight f choos
     pub rows : List (RowOf C)
     pub source : (i : ℕ) × (up i ≡ true) × (rows ≡ (site_at world i).log)
     pub running : (j : ℕ) → up j ≡ true → WorksIn w rows (site_at v j)
-    pub resting : (j : ℕ) → j < 2 * f + 1 → up j ≡ false → ((site_at world j).status ≡ Down → (site_at world j).cell.boots < max_number) → WorksIn w rows (site_at v j)
+    pub resting : (j : ℕ) → j < 2 * f + 1 → up j ≡ false → ((site_at world j).status ≡ Down → (site_at world j).cell.boots < max_number)
+        → WorksIn w rows (site_at v j)
     pub each : (k : ℕ) → is_running (site_at v k).status ≡ true → WorksIn w rows (site_at v k)
     pub is : IsReached f first v
     pub full : AllLong f v
@@ -232,13 +251,19 @@ module _ {C R O : Type 0} (choose : Choice C) (f : ℕ) (right : IsRight f choos
   finish : (v : World C R O) → IsSettled v → Reaches choose f v IsWhole
   finish v d =
       reaches_then choose f v (λ u. Settled d.rows u × ((site_at u (primary f w)).done ≡ length d.rows)) IsWhole
-      (acks.all_ack choose f right w up up_small up_leads (λ j. (site_at world j).cell.boots) d.rows world many v (acks.begins_acks choose f right w up up_small up_leads (λ j. (site_at world j).cell.boots) d.rows world some v d.settled d.acks_none)) (λ u led.
+      (acks.all_ack choose f right w up up_small up_leads (λ j. (site_at world j).cell.boots) d.rows world many v
+      (acks.begins_acks choose f right w up up_small up_leads (λ j. (site_at world j).cell.boots) d.rows world some v d.settled d.acks_none)) (λ u led.
       reaches_then choose f u (commits.Works choose f right w up up_small up_leads (λ j. (site_at world j).cell.boots) d.rows world) IsWhole
-      (commits.all_commit choose f right w up up_small up_leads (λ j. (site_at world j).cell.boots) d.rows world u (record { settled = led.0; done = led.1 })) (λ t works.
+      (commits.all_commit choose f right w up up_small up_leads (λ j. (site_at world j).cell.boots) d.rows world u (record { settled = led.0; done = led.1 }))
+      (λ t works.
       reaches_then choose f t (λ r. heals.Healing choose f right w up up_small up_leads (λ j. (site_at world j).cell.boots) d.rows many world (λ k e. e) below r
-      × ((j : ℕ) → j < 2 * f + 1 → up j ≡ false → ((site_at world j).status ≡ Down → (site_at world j).cell.boots < max_number) → WorksIn w d.rows (site_at r j))) IsWhole
+      × ((j : ℕ) → j < 2 * f + 1 → up j ≡ false → ((site_at world j).status ≡ Down → (site_at world j).cell.boots < max_number)
+      → WorksIn w d.rows (site_at r j))) IsWhole
       (heals.all_heal choose f right w up up_small up_leads (λ j. (site_at world j).cell.boots) d.rows many world (λ k e. e) below t
-      (record { works = record { is = works.settled.is; full = works.settled.full; all = works.settled.all; done = works.done }; rest = λ k e. inl (works.settled.rest k e) })) (λ r is.
+      (record {
+        works = record { is = works.settled.is; full = works.settled.full; all = works.settled.all; done = works.done };
+        rest = λ k e. inl (works.settled.rest k e);
+      })) (λ r is.
       record {
         after = r;
         goes = goes_nowhere choose f r;
@@ -254,9 +279,11 @@ module _ {C R O : Type 0} (choose : Choice C) (f : ℕ) (right : IsRight f choos
       })))
     where
       below : (k : ℕ) → up k ≡ false → (site_at world k).status ≡ Recovering → (a : Response C) → Contains (site_at world k).collected.responses a → a.view < w
-      below k rests recovering a in' = responses_below f w world reached up many (λ j e. e) (λ j e. above j (let s = up_small j e in let l = size in omega arith)) k recovering a in'
+      below k rests recovering a in' =
+          responses_below f w world reached up many (λ j e. e) (λ j e. above j (let s = up_small j e in let l = size in omega arith)) k recovering a in'
 
-      each_by : (r : World C R O) (rows : List (RowOf C)) → heals.Healing choose f right w up up_small up_leads (λ j. (site_at world j).cell.boots) rows many world (λ k e. e) below r
+      each_by : (r : World C R O) (rows : List (RowOf C))
+          → heals.Healing choose f right w up up_small up_leads (λ j. (site_at world j).cell.boots) rows many world (λ k e. e) below r
           → (k : ℕ) → is_running (site_at r k).status ≡ true → (b : Bool) → up k ≡ b → WorksIn w rows (site_at r k)
       each_by r rows h k run true e = let x = h.works.all k e in record { status = x.status; view_is = x.view; log_is = x.log_is; done = h.works.done k e }
       each_by r rows h k run false e = by_rest (h.rest k e)
@@ -269,24 +296,30 @@ module _ {C R O : Type 0} (choose : Choice C) (f : ℕ) (right : IsRight f choos
   whole = reaches_then choose f world IsSettled IsWhole settled finish
 
   -- and so each that can work does
-  pub each_works : (v : World C R O) (is : IsWhole v) (i : ℕ) (x y : Site C) → slice_get world.sites i ≡ Some x → slice_get v.sites i ≡ Some y → (x.status ≡ Down → x.cell.boots < max_number) → WorksIn w is.rows y
+  pub each_works : (v : World C R O) (is : IsWhole v) (i : ℕ) (x y : Site C) → slice_get world.sites i ≡ Some x → slice_get v.sites i ≡ Some y
+      → (x.status ≡ Down → x.cell.boots < max_number) → WorksIn w is.rows y
   each_works v is i x y there here left =
       let a = get_or_from_slice_get world.sites i x nobody there in
       let b = get_or_from_slice_get v.sites i y nobody here in
       let s = slice_get_within world.sites i x there in
-      subst (λ (z : Site C). WorksIn w is.rows z) b (by_test i (let l = size in omega arith) (subst (λ (z : Site C). z.status ≡ Down → z.cell.boots < max_number) (sym a) left) (up i) refl)
+      subst (λ (z : Site C). WorksIn w is.rows z) b (by_test i (let l = size in
+      omega arith) (subst (λ (z : Site C). z.status ≡ Down → z.cell.boots < max_number) (sym a) left) (up i) refl)
     where
-      by_test : (i : ℕ) → i < 2 * f + 1 → ((site_at world i).status ≡ Down → (site_at world i).cell.boots < max_number) → (b : Bool) → up i ≡ b → WorksIn w is.rows (site_at v i)
+      by_test : (i : ℕ) → i < 2 * f + 1 → ((site_at world i).status ≡ Down → (site_at world i).cell.boots < max_number) → (b : Bool) → up i ≡ b
+          → WorksIn w is.rows (site_at v i)
       by_test i small left true e = is.running i e
       by_test i small left false e = is.resting i small e left
 
-  pub each_runs : (v : World C R O) (is : IsWhole v) (i : ℕ) (x : Site C) → slice_get world.sites i ≡ Some x → (x.status ≡ Down → x.cell.boots < max_number) → runs_at v.sites i ≡ true
+  pub each_runs : (v : World C R O) (is : IsWhole v) (i : ℕ) (x : Site C) → slice_get world.sites i ≡ Some x → (x.status ≡ Down → x.cell.boots < max_number)
+      → runs_at v.sites i ≡ true
   each_runs v is i x there left =
       let a = get_or_from_slice_get world.sites i x nobody there in
       let s = slice_get_within world.sites i x there in
-      runs_same v i ∙ ap is_running (by_test (let l = size in omega arith) (subst (λ (z : Site C). z.status ≡ Down → z.cell.boots < max_number) (sym a) left) (up i) refl).status
+      runs_same v i ∙ ap is_running (by_test (let l = size in
+      omega arith) (subst (λ (z : Site C). z.status ≡ Down → z.cell.boots < max_number) (sym a) left) (up i) refl).status
     where
-      by_test : i < 2 * f + 1 → ((site_at world i).status ≡ Down → (site_at world i).cell.boots < max_number) → (b : Bool) → up i ≡ b → WorksIn w is.rows (site_at v i)
+      by_test : i < 2 * f + 1 → ((site_at world i).status ≡ Down → (site_at world i).cell.boots < max_number) → (b : Bool) → up i ≡ b
+          → WorksIn w is.rows (site_at v i)
       by_test small left true e = is.running i e
       by_test small left false e = is.resting i small e left
 
@@ -308,7 +341,8 @@ module _ {C R O : Type 0} (choose : Choice C) (f : ℕ) (right : IsRight f choos
       runs j e = runs_same v j ∙ ap is_running (is.running j e).status
 
   -- what any site had executed at any moment is chosen below the view, so it begins the log there
-  pub kept : (v : World C R O) → GoesTo choose f world v → (is : IsWhole v) → (early more : List (Happening C R O)) (then : World C R O) → IsLegal choose f cells early then → IsRun choose f then more world
+  pub kept : (v : World C R O) → GoesTo choose f world v → (is : IsWhole v) → (early more : List (Happening C R O)) (then : World C R O)
+      → IsLegal choose f cells early then → IsRun choose f then more world
       → (x : Site C) → Contains then.sites x → Begins (executed_rows x) is.rows
   kept v goes is early more then was rest x in' =
       let a : IsReached f first then = laws.a choose f right cells early more then world was rest in
@@ -316,17 +350,20 @@ module _ {C R O : Type 0} (choose : Choice C) (f : ℕ) (right : IsRight f choos
       let now : IsReached f first world = record { history = b.history; holds = b.holds; grown = grown-trans f first a.history b.history a.grown b.grown } in
       let executed : (top : ℕ) × Committed f b.history top (executed_rows x) = laws.early_committed choose f right cells early more then world was rest x in' in
       let chosen : (low : ℕ) × (low < w) × Committed f b.history low (executed_rows x) =
-      committed_below f w world now up many (λ j e. e) (λ j e. above j (let s = up_small j e in let l = size in omega arith)) executed.0 (executed_rows x) executed.1 in
+      committed_below f w world now up many (λ j e. e) (λ j e. above j (let s = up_small j e in let l = size in omega arith)) executed.0
+      (executed_rows x) executed.1 in
       let end : IsReached f b.history v = run_holds f choose right b.history world v goes.events b.holds goes.run in
       let leader = is.running (primary f w) up_leads in
       subst (λ (log : List (RowOf C)). Begins (executed_rows x) log) leader.log_is
-      (committed_lasts f end.history (site_at v) end.holds.holds chosen.0 (executed_rows x) (primary f w) (end.grown.commits chosen.0 (executed_rows x) chosen.2) leader.status (let e = leader.view_is in let l = chosen.1 in omega arith))
+      (committed_lasts f end.history (site_at v) end.holds.holds chosen.0 (executed_rows x) (primary f w)
+      (end.grown.commits chosen.0 (executed_rows x) chosen.2) leader.status (let e = leader.view_is in let l = chosen.1 in omega arith))
 
   pub near_after : (bound : ℕ) → ((x : Site C) → Contains world.sites x → x.view ≤ bound) → w ≤ bound + (2 * f + 1)
   near_after = near
 
 -- a site that runs, and of which this is so, is there and it is so
-works_there : {C : Type 0} (all : List (Site C)) (i : ℕ) (P : Site C → Type 0) → runs_at all i ≡ true → ((y : Site C) → slice_get all i ≡ Some y → P y) → IsSomeAnd (slice_get all i) P
+works_there : {C : Type 0} (all : List (Site C)) (i : ℕ) (P : Site C → Type 0) → runs_at all i ≡ true → ((y : Site C) → slice_get all i ≡ Some y → P y)
+    → IsSomeAnd (slice_get all i) P
 works_there {C} all i P runs so = by (slice_get all i) runs so
   where
     by : (o : Option (Site C)) → option_map_or (λ (x : Site C). is_running x.status) o false ≡ true → ((y : Site C) → o ≡ Some y → P y) → IsSomeAnd o P
@@ -344,7 +381,10 @@ progresses f some list can = record {
     working = working list.choose f list.right some list.cells list.events list.world list.legal can
         (whole list.choose f list.right some list.cells list.events list.world list.legal can).after
         (whole list.choose f list.right some list.cells list.events list.world list.legal can).holds;
-    each = λ i x there left. works_there (whole list.choose f list.right some list.cells list.events list.world list.legal can).after.sites i (WorksIn (w list.choose f list.right some list.cells list.events list.world list.legal can) (whole list.choose f list.right some list.cells list.events list.world list.legal can).holds.rows)
+    each =
+        λ i x there left. works_there (whole list.choose f list.right some list.cells list.events list.world list.legal can).after.sites i
+        (WorksIn (w list.choose f list.right some list.cells list.events list.world list.legal can)
+        (whole list.choose f list.right some list.cells list.events list.world list.legal can).holds.rows)
         (each_runs list.choose f list.right some list.cells list.events list.world list.legal can
         (whole list.choose f list.right some list.cells list.events list.world list.legal can).after
         (whole list.choose f list.right some list.cells list.events list.world list.legal can).holds i x there left)
@@ -355,7 +395,8 @@ progresses f some list can = record {
   };
   had = (
     site_at list.world (whole list.choose f list.right some list.cells list.events list.world list.legal can).holds.source.0,
-    running_in list.world.sites (whole list.choose f list.right some list.cells list.events list.world list.legal can).holds.source.0 (whole list.choose f list.right some list.cells list.events list.world list.legal can).holds.source.1,
+    running_in list.world.sites (whole list.choose f list.right some list.cells list.events list.world list.legal can).holds.source.0
+        (whole list.choose f list.right some list.cells list.events list.world list.legal can).holds.source.1,
     sym (whole list.choose f list.right some list.cells list.events list.world list.legal can).holds.source.2,
   );
   kept = λ moment x in'. kept list.choose f list.right some list.cells list.events list.world list.legal can
@@ -366,9 +407,12 @@ progresses f some list can = record {
 }
 
 -- SERVING, in a world in which all that run work
-pub served : {C R O : Type 0} (f : ℕ) → 1 ≤ f → (list : LegalList C R O f) (view : ℕ) (log : List (RowOf C)) (row : RowOf C) → AreWorking f view log list.world.sites → IsNew log row → Serves list.choose f list.world view log row
+pub served : {C R O : Type 0} (f : ℕ) → 1 ≤ f → (list : LegalList C R O f) (view : ℕ) (log : List (RowOf C)) (row : RowOf C)
+    → AreWorking f view log list.world.sites → IsNew log row → Serves list.choose f list.world view log row
 served {C} {R} {O} f some list view log row are new =
-    serving.serves list.choose f list.right some view (λ j. is_running (site_at list.world j).status) up_small (sym (runs_same list.world (primary f view)) ∙ are.leads) up_many list.world reached (legal_long list.choose f list.cells list.events list.world list.legal) log works
+    serving.serves list.choose f list.right some view (λ j. is_running (site_at list.world j).status) up_small
+    (sym (runs_same list.world (primary f view)) ∙ are.leads) up_many list.world reached
+    (legal_long list.choose f list.cells list.events list.world list.legal) log works
     row new.client new.above new.room (λ j. refl)
   where
     reached : IsReached f first list.world
@@ -379,18 +423,25 @@ served {C} {R} {O} f some list view log row are new =
       where
         by_size : (j < 2 * f + 1) ⊎ (2 * f + 1 ≤ j) → j < 2 * f + 1
         by_size (inl low) = low
-        by_size (inr high) = absurd (true≢false (sym e ∙ ap (λ (x : Site C). is_running x.status) (get_or_past list.world.sites j nobody (let s = size_is f list.world reached in omega arith))))
+        by_size (inr high) =
+            absurd
+            (true≢false (sym e ∙ ap (λ (x : Site C). is_running x.status)
+            (get_or_past list.world.sites j nobody (let s = size_is f list.world reached in omega arith))))
 
     up_many : f < count_by (λ j. is_running (site_at list.world j).status) (sites f)
-    up_many = let a = are.many in let b = sites_more f (runs_at list.world.sites) (λ j. is_running (site_at list.world j).status) (λ j e. sym (runs_same list.world j) ∙ e) in omega arith
+    up_many = let a = are.many in
+        let b = sites_more f (runs_at list.world.sites) (λ j. is_running (site_at list.world j).status) (λ j e. sym (runs_same list.world j) ∙ e) in omega arith
 
     works : (j : ℕ) → is_running (site_at list.world j).status ≡ true → WorksIn view log (site_at list.world j)
-    works j e = are.each (site_at list.world j) (in_list list.world.sites j nobody (let a = up_small j e in let s = size_is f list.world reached in omega arith)) e
+    works j e =
+        are.each (site_at list.world j) (in_list list.world.sites j nobody (let a = up_small j e in let s = size_is f list.world reached in omega arith)) e
 
 -- REPEATING
-pub repeated : {C R O : Type 0} (f : ℕ) (list : LegalList C R O f) (view : ℕ) (log : List (RowOf C)) (row : RowOf C) → AreWorking f view log list.world.sites → IsNewest log row → Repeats list.choose f list.world view log row
+pub repeated : {C R O : Type 0} (f : ℕ) (list : LegalList C R O f) (view : ℕ) (log : List (RowOf C)) (row : RowOf C) → AreWorking f view log list.world.sites
+    → IsNewest log row → Repeats list.choose f list.world view log row
 repeated f list view log row are new =
-    repeating.repeats list.choose f view list.world (legal_holds f list.choose list.right list.cells list.events list.world list.legal) log row new (running_small list.world.sites (primary f view) leads)
+    repeating.repeats list.choose f view list.world (legal_holds f list.choose list.right list.cells list.events list.world list.legal) log row new
+    (running_small list.world.sites (primary f view) leads)
     (are.each (site_at list.world (primary f view)) (running_in list.world.sites (primary f view) leads) leads) are
   where
     leads : is_running (site_at list.world (primary f view)).status ≡ true

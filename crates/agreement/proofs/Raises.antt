@@ -38,7 +38,8 @@ not_same a b l = by_test (a == b) refl
 module _ {C R O : Type 0} (choose : Choice C) (f : ℕ) where
   -- the timer of a running site
   timer_step : (i : ℕ) (x : Site C) → is_down x.status ≡ false → is_recovering x.status ≡ false → (x.view == max_number) ≡ false
-      → site_step {R = R} {O = O} choose f i x Timer ≡ does (raised (x.view + 1) x) (to_all f i (StartViewChange (record { view = x.view + 1; known = x.known })))
+      → site_step {R = R} {O = O} choose f i x Timer ≡ does (raised (x.view + 1) x)
+      (to_all f i (StartViewChange (record { view = x.view + 1; known = x.known })))
   unfolding on_timer
   timer_step i x d r v = rw d (rw r (rw v refl))
 
@@ -62,10 +63,12 @@ module _ {C R O : Type 0} (choose : Choice C) (f : ℕ) where
         };
       }
 
-  raise : (w n : ℕ) (old : World C R O) (i : ℕ) → w ≤ max_number → i < length old.sites → is_running (site_at old i).status ≡ true → (site_at old i).view + suc n ≡ w
+  raise : (w n : ℕ) (old : World C R O) (i : ℕ) → w ≤ max_number → i < length old.sites → is_running (site_at old i).status ≡ true
+      → (site_at old i).view + suc n ≡ w
       → Reaches choose f old (IsRaised w i old)
   raise w zero old i most small run e =
-      subst (λ (v : ℕ). Reaches choose f old (IsRaised v i old)) (let d : (site_at old i).view + 1 ≡ w = omega arith in d) (one_raised old i small run (omega arith))
+      subst (λ (v : ℕ). Reaches choose f old (IsRaised v i old)) (let d : (site_at old i).view + 1 ≡ w = omega arith in
+      d) (one_raised old i small run (omega arith))
   raise w (suc n) old i most small run e =
       reaches_then choose f old (IsRaised ((site_at old i).view + 1) i old) (IsRaised w i old) (one_raised old i small run (omega arith)) (λ v is.
       let size = is.size in
@@ -98,21 +101,25 @@ module _ {C R O : Type 0} (choose : Choice C) (f : ℕ) where
     raise_one : (j : ℕ) (now : World C R O) → Partly now → Reaches choose f now (λ v. Partly v × Is j v × ((k : ℕ) → Is k now → Is k v))
     raise_one j now p = by_run (is_running (site_at old j).status) refl
       where
-        stays : ((j < length old.sites) → is_running (site_at old j).status ≡ true → site_at now j ≡ raised w (site_at old j)) → Reaches choose f now (λ v. Partly v × Is j v × ((k : ℕ) → Is k now → Is k v))
+        stays : ((j < length old.sites) → is_running (site_at old j).status ≡ true → site_at now j ≡ raised w (site_at old j))
+            → Reaches choose f now (λ v. Partly v × Is j v × ((k : ℕ) → Is k now → Is k v))
         stays is = record { after = now; goes = goes_nowhere choose f now; holds = (p, is, λ k i. i) }
 
         is_there : (v : World C R O) → IsRaised w j now v → site_at now j ≡ site_at old j → site_at v j ≡ raised w (site_at old j)
         is_there v is same = is.here ∙ ap (raised w) same
 
-        after : (v : World C R O) → is_running (site_at old j).status ≡ true → site_at now j ≡ site_at old j → IsRaised w j now v → Partly v × Is j v × ((k : ℕ) → Is k now → Is k v)
+        after : (v : World C R O) → is_running (site_at old j).status ≡ true → site_at now j ≡ site_at old j → IsRaised w j now v
+            → Partly v × Is j v × ((k : ℕ) → Is k now → Is k v)
         after v run same is = (
           record { each = λ k. each_by k (cases_eq k j); size = is.size ∙ p.size },
           (λ _ _. is_there v is same),
           λ k i. kept_by k i (cases_eq k j),
         )
           where
-            each_by : (k : ℕ) → (k ≡ j) ⊎ (k ≡ j → ⊥) → (site_at v k ≡ site_at old k) ⊎ ((is_running (site_at old k).status ≡ true) × (site_at v k ≡ raised w (site_at old k)))
-            each_by k (inl e) = inr (subst (λ (i : ℕ). (is_running (site_at old i).status ≡ true) × (site_at v i ≡ raised w (site_at old i))) (sym e) (run, is_there v is same))
+            each_by : (k : ℕ) → (k ≡ j) ⊎ (k ≡ j → ⊥)
+                → (site_at v k ≡ site_at old k) ⊎ ((is_running (site_at old k).status ≡ true) × (site_at v k ≡ raised w (site_at old k)))
+            each_by k (inl e) =
+                inr (subst (λ (i : ℕ). (is_running (site_at old i).status ≡ true) × (site_at v i ≡ raised w (site_at old i))) (sym e) (run, is_there v is same))
             each_by k (inr apart) = by_old (p.each k)
               where
                 by_old : (site_at now k ≡ site_at old k) ⊎ ((is_running (site_at old k).status ≡ true) × (site_at now k ≡ raised w (site_at old k)))
@@ -124,7 +131,8 @@ module _ {C R O : Type 0} (choose : Choice C) (f : ℕ) where
             kept_by k i (inl e) small run' = subst (λ (m : ℕ). site_at v m ≡ raised w (site_at old m)) (sym e) (is_there v is same)
             kept_by k i (inr apart) small run' = is.there k apart ∙ i small run'
 
-        by_place : is_running (site_at old j).status ≡ true → (j < length old.sites) → (site_at now j ≡ site_at old j) ⊎ ((is_running (site_at old j).status ≡ true) × (site_at now j ≡ raised w (site_at old j)))
+        by_place : is_running (site_at old j).status ≡ true → (j < length old.sites)
+            → (site_at now j ≡ site_at old j) ⊎ ((is_running (site_at old j).status ≡ true) × (site_at now j ≡ raised w (site_at old j)))
             → Reaches choose f now (λ v. Partly v × Is j v × ((k : ℕ) → Is k now → Is k v))
         by_place run small (inr e) = stays (λ _ _. e.1)
         by_place run small (inl same) =
@@ -135,7 +143,8 @@ module _ {C R O : Type 0} (choose : Choice C) (f : ℕ) where
             let up = raise w n now j most (omega arith) (ap (λ (x : Site C). is_running x.status) same ∙ run) (omega arith) in
             record { after = up.after; goes = up.goes; holds = after up.after run same up.holds }
 
-        by_size : is_running (site_at old j).status ≡ true → (j < length old.sites) ⊎ (length old.sites ≤ j) → Reaches choose f now (λ v. Partly v × Is j v × ((k : ℕ) → Is k now → Is k v))
+        by_size : is_running (site_at old j).status ≡ true → (j < length old.sites) ⊎ (length old.sites ≤ j)
+            → Reaches choose f now (λ v. Partly v × Is j v × ((k : ℕ) → Is k now → Is k v))
         by_size run (inl small) = by_place run small (p.each j)
         by_size run (inr big) = stays (λ small _. absurd (omega arith))
 
@@ -156,6 +165,8 @@ module _ {C R O : Type 0} (choose : Choice C) (f : ℕ) where
           };
         }
       where
-        by_case : (j : ℕ) → is_running (site_at old j).status ≡ false → (v : World C R O) → (site_at v j ≡ site_at old j) ⊎ ((is_running (site_at old j).status ≡ true) × (site_at v j ≡ raised w (site_at old j))) → site_at v j ≡ site_at old j
+        by_case : (j : ℕ) → is_running (site_at old j).status ≡ false → (v : World C R O)
+            → (site_at v j ≡ site_at old j) ⊎ ((is_running (site_at old j).status ≡ true) × (site_at v j ≡ raised w (site_at old j)))
+            → site_at v j ≡ site_at old j
         by_case j rest v (inl e) = e
         by_case j rest v (inr e) = absurd (true≢false (sym e.0 ∙ rest))

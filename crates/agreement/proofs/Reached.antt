@@ -56,7 +56,8 @@ pub record IsReached {C R O : Type 0} (f : ℕ) (g : History C R O) (world : Wor
   pub grown : IsGrown f g history
 
 -- the sites after one of them changed
-pub set_is_put : {C : Type 0} (sites : List (Site C)) (i : ℕ) (x : Site C) → i < length sites → (λ j. get_or (set sites i x) j nobody) ≡ put (λ j. get_or sites j nobody) i x
+pub set_is_put : {C : Type 0} (sites : List (Site C)) (i : ℕ) (x : Site C) → i < length sites
+    → (λ j. get_or (set sites i x) j nobody) ≡ put (λ j. get_or sites j nobody) i x
 set_is_put sites i x small = fun_ext (λ j. sym (put_cases (λ k. get_or sites k nobody) i x (λ k y. y ≡ get_or (set sites i x) k nobody) j
     (sym (get_or-set_same sites i x nobody small)) (λ apart. sym (get_or-set_other sites i _ x nobody apart))))
 
@@ -66,21 +67,25 @@ first = record { said = []; opened = λ view. view == 0; electors = λ view j. f
 
 module _ {C R O : Type 0} (f : ℕ) where
   answered_later : (g h : History C R O) (reply : Replied C) → IsGrown f g h → IsAnswered f g reply → IsAnswered f h reply
-  answered_later g h reply grown a = record { normal = a.normal; counted = a.counted; executed = a.executed; within = a.within; done = grown.commits _ _ a.done }
+  answered_later g h reply grown a =
+      record { normal = a.normal; counted = a.counted; executed = a.executed; within = a.within; done = grown.commits _ _ a.done }
 
   -- what a step answers is committed
-  replied_answered : (g : History C R O) (s : ℕ → Site C) (i : ℕ) (step : Step C R O) → Holds f g (put s i step.site) → IsSound step → (reply : Replied C) → Contains (replied i step) reply → IsAnswered f g reply
+  replied_answered : (g : History C R O) (s : ℕ → Site C) (i : ℕ) (step : Step C R O) → Holds f g (put s i step.site) → IsSound step → (reply : Replied C)
+      → Contains (replied i step) reply → IsAnswered f g reply
   replied_answered g s i step holds sound reply in' =
       let t = map-has (λ place. record { from = i; sender = step.site; place = place }) step.replies reply in' in
       let is = sound.each t.0 t.1 in
-      let r : StandsRunning f g i step.site = subst (λ (x : Site C). is_running x.status ≡ true → StandsRunning f g i x) (put_here s i step.site) ((holds.sites i).running) (normal_runs _ is.0) in
+      let r : StandsRunning f g i step.site =
+      subst (λ (x : Site C). is_running x.status ≡ true → StandsRunning f g i x) (put_here s i step.site) ((holds.sites i).running) (normal_runs _ is.0) in
       subst (λ (a : Replied C). IsAnswered f g a) t.2 (record {
         normal = is.0;
         counted = is.1;
         executed = is.2;
         within = r.within;
         done = subst (λ (v : ℕ). Committed f g v (take t.0 step.site.log)) (r.normal is.0)
-            (committed_fewer f g step.site.last_normal (take step.site.done step.site.log) (take t.0 step.site.log) (take_begins_take t.0 step.site.done step.site.log is.2) r.done);
+            (committed_fewer f g step.site.last_normal (take step.site.done step.site.log) (take t.0 step.site.log)
+            (take_begins_take t.0 step.site.done step.site.log is.2) r.done);
       })
 
   -- open orders are sent by a normal site
@@ -95,7 +100,8 @@ module _ {C R O : Type 0} (f : ℕ) where
       by_test true e in' = by_place e (Contains-cases (record { from = i; sender = step.site }) order [] in')
       by_test false e in' = absurd (Contains-none order in')
 
-  after_step : (g : History C R O) (world : World C R O) (i : ℕ) (step : Step C R O) → HoldsAt f g world → i < length world.sites → Kept f g (site_at world) i step → IsSound step → IsReached f g (stepped world i step)
+  after_step : (g : History C R O) (world : World C R O) (i : ℕ) (step : Step C R O) → HoldsAt f g world → i < length world.sites
+      → Kept f g (site_at world) i step → IsSound step → IsReached f g (stepped world i step)
   after_step g world i step h small k sound = record {
     history = k.history;
     holds = record {
@@ -120,7 +126,8 @@ module _ {C R O : Type 0} (f : ℕ) where
       ordered_by order (inl in') = h.orders order in'
       ordered_by order (inr in') = ordered_normal i step sound order in'
 
-  after_fall : (g : History C R O) (world : World C R O) (i : ℕ) (cell : Boot) → HoldsAt f g world → i < length world.sites → Kept f g (site_at world) i (does (over cell Down) []) → IsReached f g (fallen world i cell)
+  after_fall : (g : History C R O) (world : World C R O) (i : ℕ) (cell : Boot) → HoldsAt f g world → i < length world.sites
+      → Kept f g (site_at world) i (does (over cell Down) []) → IsReached f g (fallen world i cell)
   after_fall g world i cell h small k = record {
     history = k.history;
     holds = record {
@@ -133,7 +140,8 @@ module _ {C R O : Type 0} (f : ℕ) where
     grown = k.grown;
   }
 
-  may_later : (sent said : List (EnvelopeOf C R O)) → ((e : EnvelopeOf C R O) → Contains sent e → Contains said e) → (event : EventOf C R O) → MayHappen sent event → MayHappen said event
+  may_later : (sent said : List (EnvelopeOf C R O)) → ((e : EnvelopeOf C R O) → Contains sent e → Contains said e) → (event : EventOf C R O)
+      → MayHappen sent event → MayHappen said event
   may_later sent said more (Deliver e) (inl request) = inl request
   may_later sent said more (Deliver e) (inr in') = inr (more e in')
   may_later sent said more Timer may = tt
@@ -142,7 +150,8 @@ module _ {C R O : Type 0} (f : ℕ) where
   may_later sent said more Restart may = tt
 
   module _ (choose : Choice C) (right : IsRight f choose) where
-    happens_holds : (g : History C R O) (world : World C R O) (h : Happening C R O) (after : World C R O) → HoldsAt f g world → Happens choose f world h after → IsReached f g after
+    happens_holds : (g : History C R O) (world : World C R O) (h : Happening C R O) (after : World C R O) → HoldsAt f g world → Happens choose f world h after
+        → IsReached f g after
     happens_holds g world h after holds p = by_course h.course p.ends
       where
         small : h.site < length world.sites
@@ -153,15 +162,19 @@ module _ {C R O : Type 0} (f : ℕ) where
 
         kept : Kept f g (site_at world) h.site (site_step choose f h.site p.before h.event)
         kept = subst (λ (x : Site C). Kept f g (site_at world) h.site (site_step choose f h.site x h.event)) is
-            (step_kept choose f right h.site (let a = small in let b = holds.size in omega arith) g (site_at world) holds.holds h.event (may_later world.sent g.said holds.said h.event p.may_happen))
+            (step_kept choose f right h.site (let a = small in let b = holds.size in
+            omega arith) g (site_at world) holds.holds h.event (may_later world.sent g.said holds.said h.event p.may_happen))
 
         by_course : (course : Course) → EndsIn world h.site p.before (site_step choose f h.site p.before h.event) course after → IsReached f g after
-        by_course Ends ends = subst (λ (w : World C R O). IsReached f g w) (sym ends.1) (after_step g world h.site _ holds small kept (step_sound choose f h.site p.before h.event))
+        by_course Ends ends =
+            subst (λ (w : World C R O). IsReached f g w) (sym ends.1)
+            (after_step g world h.site _ holds small kept (step_sound choose f h.site p.before h.event))
         by_course (FallsOver cell) ends = subst (λ (w : World C R O). IsReached f g w) (sym ends.1)
             (after_fall g world h.site cell holds small (fall_kept f h.site g (site_at world) _ cell holds.holds kept
             (subst (λ (x : Site C). IsFall x (site_step choose f h.site p.before h.event) (over cell Down)) (sym is) ends.0)))
 
-    pub run_holds : (g : History C R O) (world after : World C R O) (events : List (Happening C R O)) → HoldsAt f g world → IsRun choose f world events after → IsReached f g after
+    pub run_holds : (g : History C R O) (world after : World C R O) (events : List (Happening C R O)) → HoldsAt f g world → IsRun choose f world events after
+        → IsReached f g after
     run_holds g world after [] holds e = subst (λ (w : World C R O). IsReached f g w) (sym e) (record { history = g; holds = holds; grown = grown_itself f g })
     run_holds g world after (h ∷ events) holds run =
         let a : IsReached f g run.0 = happens_holds g world h run.0 holds run.1 in
@@ -264,8 +277,10 @@ module _ {C R O : Type 0} (f : ℕ) where
   }
 
   -- what holds of the world that a legal list leads to
-  pub legal_holds : (choose : Choice C) → IsRight f choose → (cells : List Boot) (events : List (Happening C R O)) (world : World C R O) → IsLegal choose f cells events world → IsReached f at_first world
-  legal_holds choose right cells events world legal = run_holds choose right first (opening_world f cells) world events (opening_holds cells legal.all) legal.run
+  pub legal_holds : (choose : Choice C) → IsRight f choose → (cells : List Boot) (events : List (Happening C R O)) (world : World C R O)
+      → IsLegal choose f cells events world → IsReached f at_first world
+  legal_holds choose right cells events world legal =
+      run_holds choose right first (opening_world f cells) world events (opening_holds cells legal.all) legal.run
 
   -- a site of the world has a number
   pub has_number : (world : World C R O) (x : Site C) → Contains world.sites x → (i : ℕ) × (site_at world i ≡ x)

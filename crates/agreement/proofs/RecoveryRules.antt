@@ -39,7 +39,9 @@ use Rattle.agreement.proofs.Tests.{eq_of, ge_of, runs_up, not_false, normal_of, 
 module _ {C R O : Type 0} (f me : ℕ) (g : History C R O) (s : ℕ → Site C) (holds : Holds f g s) where
   -- a normal site answers a restart that it has noted
   answers_kept : (from nonce : ℕ) → HasAsked (s from) nonce → nonce ≤ boot_of (s me).known from → (s me).status ≡ Normal
-      → Kept f g s me (does (s me) (mail me from (RecoveryResponse (record { view = (s me).view; nonce = nonce; state = state_of_view f me (s me); known = (s me).known })) ∷ []))
+      → Kept f g s me
+      (does (s me) (mail me from (RecoveryResponse (record { view = (s me).view; nonce = nonce; state = state_of_view f me (s me); known = (s me).known }))
+      ∷ []))
   answers_kept from nonce fresh noted normal = answers (primary f (s me).view == me) refl
     where
       r : StandsRunning f g me (s me)
@@ -56,7 +58,8 @@ module _ {C R O : Type 0} (f me : ℕ) (g : History C R O) (s : ℕ → Site C) 
           by_place (inr none) = absurd (Contains-none _ none)
 
       -- its view is above each that it helped to open and in which the other prepared anything
-      abreast : (state : Option (StateOf C)) → (v n : ℕ) → Prepared f (say (mail me from (msg state) ∷ []) g) from v n → g.electors v me ≡ true → v ≤ (s me).view
+      abreast : (state : Option (StateOf C)) → (v n : ℕ) → Prepared f (say (mail me from (msg state) ∷ []) g) from v n → g.electors v me ≡ true
+          → v ≤ (s me).view
       abreast state zero n p e = omega arith
       abreast state (suc v) n p e =
           let old = prepared_say f g me (msg state) (mail me from (msg state) ∷ []) tt (says_one me from (msg state)) from (suc v) n p in
@@ -64,22 +67,37 @@ module _ {C R O : Type 0} (f me : ℕ) (g : History C R O) (s : ℕ → Site C) 
           let x = elected.each me e in
           r.at_view.promised x.to _ x.voted
 
-      tells : (state : Option (StateOf C)) → MayBeState f (say (mail me from (msg state) ∷ []) g) s from (s me).view nonce state → Kept f g s me (does (s me) (mail me from (msg state) ∷ []))
+      tells : (state : Option (StateOf C)) → MayBeState f (say (mail me from (msg state) ∷ []) g) s from (s me).view nonce state
+          → Kept f g s me (does (s me) (mail me from (msg state) ∷ []))
       tells state good = kept_tell_boots f g s me holds (msg state) (mail me from (msg state) ∷ []) tt (says_one me from (msg state))
-          (λ to in'. (record { running = normal_runs _ normal; view = refl; known = refl }, subst (λ (j : ℕ). nonce ≤ boot_of (s me).known j) (to_sender state to in') noted))
+          (λ to in'. (
+            record { running = normal_runs _ normal; view = refl; known = refl },
+            subst (λ (j : ℕ). nonce ≤ boot_of (s me).known j) (to_sender state to in') noted,
+          ))
           (λ to in'. subst (λ (j : ℕ). IsVouched f (say (mail me from (msg state) ∷ []) g) s me j (msg state)) (to_sender state to in') (
             fresh,
             good,
-            told_later f g (say (mail me from (msg state) ∷ []) g) me 0 (later_say f g me (msg state) (mail me from (msg state) ∷ []) tt (says_one me from (msg state)) 0) me (s me).view (s me).known
+            told_later f g (say (mail me from (msg state) ∷ []) g) me 0
+                (later_say f g me (msg state) (mail me from (msg state) ∷ []) tt (says_one me from (msg state)) 0) me (s me).view (s me).known
                 (record { boots = (holds.sites me).hears.heard; lived = r.at_view.lived }),
             record { opened = ap g.opened (sym (r.normal normal)) ∙ r.log_of.opened; covers = λ _ v n p e. abreast state v n p e },
           ))
 
       answers : (b : Bool) → (primary f (s me).view == me) ≡ b
-          → Kept f g s me (does (s me) (mail me from (RecoveryResponse (record { view = (s me).view; nonce = nonce; state = if b then Some (record { done = (s me).done; rows = (s me).log }) else None; known = (s me).known })) ∷ []))
+          → Kept f g s me
+          (does (s me)
+          (mail me from
+          (RecoveryResponse (record {
+            view = (s me).view;
+            nonce = nonce;
+            state = if b then Some (record { done = (s me).done; rows = (s me).log }) else None;
+            known = (s me).known;
+          })) ∷ []))
       answers false e = tells None tt
       answers true e = tells (Some state) (record {
-        log_of = log_of_later f g (say es g) me 0 (later_say f g me (msg (Some state)) es tt says 0) _ _ (subst (λ (v : ℕ). IsLogOf g v (s me).log) (r.normal normal) r.log_of);
+        log_of =
+            log_of_later f g (say es g) me 0 (later_say f g me (msg (Some state)) es tt says 0) _ _
+            (subst (λ (v : ℕ). IsLogOf g v (s me).log) (r.normal normal) r.log_of);
         done = done_later f me g s holds normal (msg (Some state)) es (later_say f g me (msg (Some state)) es tt says);
         covers = λ _ n p. subst (λ (l : List (RowOf C)). n ≤ length l) (sym (r.leads normal (sym (eq_of _ _ e))))
             (prepared_within f g s holds from (s me).view n (prepared_say f g me (msg (Some state)) es tt says from (s me).view n p)).within;
@@ -111,7 +129,8 @@ module _ {C R O : Type 0} (f me : ℕ) (g : History C R O) (s : ℕ → Site C) 
 
   -- a response that is of its sender's boot that is known is kept
   response_kept : (response : Response C) → (s me).status ≡ Recovering → response.from ≢ me → IsKeptResponse (s me).known response
-      → Contains g.said (mail response.from me (RecoveryResponse (answer_by ((s me).cell.boots) response))) → Kept f g s me (does (with_response response (s me)) [])
+      → Contains g.said (mail response.from me (RecoveryResponse (answer_by ((s me).cell.boots) response)))
+      → Kept f g s me (does (with_response response (s me)) [])
   response_kept response recovering other good said =
       kept_quiet f g s me holds y (still_recovers (s me) y refl (λ _. recovering)) (record {
         running = λ run. absurd (recovering_rests (s me).status recovering run);
@@ -124,9 +143,11 @@ module _ {C R O : Type 0} (f me : ℕ) (g : History C R O) (s : ℕ → Site C) 
       y : Site C
       y = with_response response (s me)
 
-      each : (nonce : ℕ) → RecoversBy y nonce → (a : Response C) → Contains (filter (λ old. not (old.from == response.from)) (s me).collected.responses) a ⊎ Contains (response ∷ []) a
+      each : (nonce : ℕ) → RecoversBy y nonce → (a : Response C)
+          → Contains (filter (λ old. not (old.from == response.from)) (s me).collected.responses) a ⊎ Contains (response ∷ []) a
           → (a.from ≢ me) × Contains g.said (mail a.from me (RecoveryResponse (answer_by nonce a)))
-      each nonce by a (inl old) = (holds.sites me).responses nonce (record { status = recovering; boots = by.boots }) a (filter-has _ (s me).collected.responses a old)
+      each nonce by a (inl old) =
+          (holds.sites me).responses nonce (record { status = recovering; boots = by.boots }) a (filter-has _ (s me).collected.responses a old)
       each nonce by a (inr new) = this (Contains-cases response a [] new)
         where
           this : (response ≡ a) ⊎ Contains [] a → (a.from ≢ me) × Contains g.said (mail a.from me (RecoveryResponse (answer_by nonce a)))
@@ -134,7 +155,8 @@ module _ {C R O : Type 0} (f me : ℕ) (g : History C R O) (s : ℕ → Site C) 
               (other, subst (λ (n : ℕ). Contains g.said (mail response.from me (RecoveryResponse (answer_by n response)))) by.boots said)
           this (inr none) = absurd (Contains-none a none)
 
-      current : (a : Response C) → Contains (filter (λ old. not (old.from == response.from)) (s me).collected.responses) a ⊎ Contains (response ∷ []) a → IsKeptResponse (s me).known a
+      current : (a : Response C) → Contains (filter (λ old. not (old.from == response.from)) (s me).collected.responses) a ⊎ Contains (response ∷ []) a
+          → IsKeptResponse (s me).known a
       current a (inl old) = (holds.sites me).current recovering a (filter-has _ (s me).collected.responses a old)
       current a (inr new) = this (Contains-cases response a [] new)
         where
@@ -143,7 +165,8 @@ module _ {C R O : Type 0} (f me : ℕ) (g : History C R O) (s : ℕ → Site C) 
           this (inr none) = absurd (Contains-none a none)
 
 module _ {C R O : Type 0} (f me : ℕ) (g : History C R O) (s : ℕ → Site C) (holds : Holds f g s) where
-  pub kept_recovery : (from to : ℕ) (msg : RecoveryMsg) → from < 2 * f + 1 → Contains g.said (mail from to (Recovery (record { nonce = msg.nonce }))) → Kept f g s me (on_recovery f me (s me) from msg)
+  pub kept_recovery : (from to : ℕ) (msg : RecoveryMsg) → from < 2 * f + 1 → Contains g.said (mail from to (Recovery (record { nonce = msg.nonce })))
+      → Kept f g s me (on_recovery f me (s me) from msg)
   unfolding on_recovery
   kept_recovery from to msg small in' =
       kept_if f g s me (not (is_normal (s me).status)) (λ _. kept_same f g s me holds _ refl refl) (λ e₁.
@@ -153,18 +176,22 @@ module _ {C R O : Type 0} (f me : ℕ) (g : History C R O) (s : ℕ → Site C) 
       y : Site C
       y = notes from msg.nonce (s me)
 
-      answers : (s me).status ≡ Normal → boot_of (s me).known from ≤ msg.nonce → Kept f g s me (does y (mail me from (RecoveryResponse (record { view = y.view; nonce = msg.nonce; state = state_of_view f me y; known = y.known })) ∷ []))
+      answers : (s me).status ≡ Normal → boot_of (s me).known from ≤ msg.nonce
+          → Kept f g s me
+          (does y (mail me from (RecoveryResponse (record { view = y.view; nonce = msg.nonce; state = state_of_view f me y; known = y.known })) ∷ []))
       answers normal low =
           let long = (holds.sites me).hears.long (runs_up _ (normal_runs _ normal)) in
           let fits : from < length (s me).known = omega arith in
-          kept_go f g s me y [] (λ x. x) (λ x. mail me from (RecoveryResponse (record { view = x.view; nonce = msg.nonce; state = state_of_view f me x; known = x.known })) ∷ [])
+          kept_go f g s me y [] (λ x. x)
+          (λ x. mail me from (RecoveryResponse (record { view = x.view; nonce = msg.nonce; state = state_of_view f me x; known = x.known })) ∷ [])
           (kept_notes f g s me holds from to msg.nonce normal fits low in')
           (λ h t grown e later. answers_kept f me h t later from msg.nonce (later.said from to (Recovery (record { nonce = msg.nonce })) (grown.said _ in'))
           (let is = set_here (s me).known from msg.nonce fits in let d = ap (λ (x : Site C). boot_of x.known from) e in omega arith)
           (ap (λ (x : Site C). x.status) e ∙ normal))
 
   pub kept_recovery_response : (choose : Choice C) → IsRight f choose → (nonce : ℕ) (response : Response C) → response.from ≢ me
-      → Contains g.said (mail response.from me (RecoveryResponse (answer_by nonce response))) → Kept f g s me (on_recovery_response choose (s me) nonce response)
+      → Contains g.said (mail response.from me (RecoveryResponse (answer_by nonce response)))
+      → Kept f g s me (on_recovery_response choose (s me) nonce response)
   unfolding on_recovery_response
   kept_recovery_response choose right nonce response other in' =
       kept_if f g s me (not (is_recovering (s me).status)) (λ _. kept_same f g s me holds _ refl refl) (λ e₁.
@@ -185,21 +212,27 @@ module _ {C R O : Type 0} (f me : ℕ) (g : History C R O) (s : ℕ → Site C) 
       told : IsTold g response.from response.view response.known
       told = (holds.said response.from me (RecoveryResponse (answer_by nonce response)) in').2
 
-      regains_then : (s me).status ≡ Recovering → nonce ≡ (s me).cell.boots → is_outdated (s me).known response.from response.known ≡ false → Kept f g s me (regains z chosen)
+      regains_then : (s me).status ≡ Recovering → nonce ≡ (s me).cell.boots → is_outdated (s me).known response.from response.known ≡ false
+          → Kept f g s me (regains z chosen)
       regains_then recovering is fresh = regains_by chosen (right.regained z.collected.responses)
         where
           good : (x : Site C) → x ≡ y → IsKeptResponse x.known response
           good x e = subst (λ (u : Site C). IsKeptResponse u.known response) (sym e) (record {
             within = greater_right (s me).known response.known;
-            current = (let d = greater_is (s me).known response.known response.from in let l = ge_of (boot_of response.known response.from) (boot_of (s me).known response.from) fresh in omega arith);
+            current =
+                (let d = greater_is (s me).known response.known response.from in
+                let l = ge_of (boot_of response.known response.from) (boot_of (s me).known response.from) fresh in omega arith);
           })
 
           kept_z : Kept f g s me (does z [])
           kept_z = kept_go f g s me y [] (λ x. with_response response x) (λ x. []) (kept_learns_recovering f g s me holds response.known told.boots recovering)
               (λ h t grown e later. response_kept f me h t later response (ap (λ (x : Site C). x.status) e ∙ recovering) other (good (t me) e)
-              (subst (λ (n : ℕ). Contains h.said (mail response.from me (RecoveryResponse (answer_by n response)))) (is ∙ sym (ap (λ (x : Site C). x.cell.boots) e)) (grown.said _ in')))
+              (subst (λ (n : ℕ). Contains h.said (mail response.from me (RecoveryResponse (answer_by n response))))
+              (is ∙ sym (ap (λ (x : Site C). x.cell.boots) e)) (grown.said _ in')))
 
-          regains_by : (regained : Option (Regained C)) → MatchOption regained ((x : Regained C) → ¬ IsRegained f z.collected.responses x) (IsRegained f z.collected.responses) → Kept f g s me (regains z regained)
+          regains_by : (regained : Option (Regained C))
+              → MatchOption regained ((x : Regained C) → ¬ IsRegained f z.collected.responses x) (IsRegained f z.collected.responses)
+              → Kept f g s me (regains z regained)
           regains_by None none = kept_z
           regains_by (Some regained) fact = kept_go f g s me z [] (λ x. (regains {R = R} {O = O} x (Some regained)).site) (λ x. []) kept_z
               (λ h t grown e later. regains_kept f me h t later (t me).collected.responses (Some regained) refl (ap (λ (x : Site C). x.status) e ∙ recovering)

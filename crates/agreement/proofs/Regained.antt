@@ -34,7 +34,9 @@ module _ {C R O : Type 0} (f w : ℕ) (v : World C R O) (is : IsReached f first 
           let elected : IsElected f is.history view = is.holds.holds.elected view (omega arith) o in
           let both : Both up (is.history.electors view) = quorums_meet f up (is.history.electors view) many elected.many in
           let x : IsElector is.history view elected.last (length (is.history.opening view)) both.site = elected.each both.site both.second in
-          let h = ((is.holds.holds.sites both.site).running (runs both.site both.first)).at_view.promised x.to (record { view = view; last_normal = x.u; done = x.k; rows = x.log; known = x.known }) x.voted in
+          let h =
+          ((is.holds.holds.sites both.site).running (runs both.site both.first)).at_view.promised x.to
+          (record { view = view; last_normal = x.u; done = x.k; rows = x.log; known = x.known }) x.voted in
           let l = below both.site both.first in
           omega arith
 

@@ -38,11 +38,13 @@ pub record IsFirst {A : Type 0} (from : A → ℕ) (known : A → List ℕ) (xs 
   pub sender : from item ≡ k
   pub knew : known item ≡ heard
 
-pub first_known : {A : Type 0} (from : A → ℕ) (known : A → List ℕ) (xs : List A) (k : ℕ) → list_any (λ a. from a == k) xs ≡ true → IsFirst from known xs k (known_by from known xs k)
+pub first_known : {A : Type 0} (from : A → ℕ) (known : A → List ℕ) (xs : List A) (k : ℕ) → list_any (λ a. from a == k) xs ≡ true
+    → IsFirst from known xs k (known_by from known xs k)
 first_known from known [] k e = absurd (true≢false (sym e))
 first_known {A} from known (a ∷ xs) k e = by_test (from a == k) refl e (first_known from known xs k)
   where
-    by_test : (b : Bool) → (from a == k) ≡ b → (b || list_any (λ c. from c == k) xs) ≡ true → (list_any (λ c. from c == k) xs ≡ true → IsFirst from known xs k (known_by from known xs k))
+    by_test : (b : Bool) → (from a == k) ≡ b → (b || list_any (λ c. from c == k) xs) ≡ true
+        → (list_any (λ c. from c == k) xs ≡ true → IsFirst from known xs k (known_by from known xs k))
         → IsFirst from known (a ∷ xs) k (if b then known a else known_by from known xs k)
     by_test true is e rest = record { item = a; among = Contains-here a xs; sender = eq_of (from a) k is; knew = refl }
     by_test false is e rest = let r = rest e in record { item = r.item; among = Contains-there a r.item xs r.among; sender = r.sender; knew = r.knew }
@@ -51,7 +53,8 @@ module _ {C R O : Type 0} (f : ℕ) (g : History C R O) (s : ℕ → Site C) (ho
   -- what was told by a vote
   pub told_by : (k w : ℕ) (a : List ℕ) → Voted g k w a → IsTold g k w a
   told_by k w a (started to in') = holds.said k to _ in'
-  told_by k w a (voted to u n log in') = let vote : IsVote f g k (record { view = w; last_normal = u; done = n; rows = log; known = a }) = holds.said k to _ in' in vote.told
+  told_by k w a (voted to u n log in') =
+      let vote : IsVote f g k (record { view = w; last_normal = u; done = n; rows = log; known = a }) = holds.said k to _ in' in vote.told
 
   -- THE FIRST FACT: a site that recovers was normal, or will be, in no view below one for which it voted
   pub may_work_again : (c : Regain) → IsRegain f g c → (s c.site).status ≡ Recovering → c.boot ≡ (s c.site).cell.boots → MayWork g c.site c.view
@@ -59,11 +62,14 @@ module _ {C R O : Type 0} (f : ℕ) (g : History C R O) (s : ℕ → Site C) (ho
       let vote : IsVote f g c.site msg = holds.said c.site to _ in' in
       let old = (holds.sites c.site).hears.no_vote recovering msg.view msg.known (voted to msg.last_normal msg.done msg.rows in') in
       let own = vote.backed.own in
-      above f g (λ j. (holds.sites j).hears.ordered) holds.regains msg.view vote.backed.votes (λ l b v. (told_by l msg.view b v).lived) c regain vote.backed.among (omega arith)
+      above f g (λ j. (holds.sites j).hears.ordered) holds.regains msg.view vote.backed.votes
+      (λ l b v. (told_by l msg.view b v).lived) c regain vote.backed.among (omega arith)
 
-  module _ (me : ℕ) (recovering : (s me).status ≡ Recovering) (responses : List (Response C)) (same : (s me).collected.responses ≡ responses) (regained : Regained C) (right : IsRegained f responses regained) where
+  module _ (me : ℕ) (recovering : (s me).status ≡ Recovering) (responses : List (Response C)) (same : (s me).collected.responses ≡ responses)
+      (regained : Regained C) (right : IsRegained f responses regained) where
     kept : (a : Response C) → Contains responses a → (a.from ≢ me) × Contains g.said (mail a.from me (RecoveryResponse (answer_by (nonce_of (s me)) a)))
-    kept a in' = (holds.sites me).responses (nonce_of (s me)) (recovers_now (s me) recovering) a (subst (λ (l : List (Response C)). Contains l a) (sym same) in')
+    kept a in' =
+        (holds.sites me).responses (nonce_of (s me)) (recovers_now (s me) recovering) a (subst (λ (l : List (Response C)). Contains l a) (sym same) in')
 
     current : (a : Response C) → Contains responses a → IsKeptResponse (s me).known a
     current a in' = (holds.sites me).current recovering a (subst (λ (l : List (Response C)). Contains l a) (sym same) in')
@@ -119,7 +125,8 @@ module _ {C R O : Type 0} (f : ℕ) (g : History C R O) (s : ℕ → Site C) (ho
               within = subst (λ (a : List ℕ). Within a (s me).known) x.knew (current x.item x.among).within;
             }
 
-        fresh : (k l : ℕ) → IsFirst (λ (a : Response C). a.from) (λ (a : Response C). a.known) responses k (heard k) → IsFirst (λ (a : Response C). a.from) (λ (a : Response C). a.known) responses l (heard l)
+        fresh : (k l : ℕ) → IsFirst (λ (a : Response C). a.from) (λ (a : Response C). a.known) responses k (heard k)
+            → IsFirst (λ (a : Response C). a.from) (λ (a : Response C). a.known) responses l (heard l)
             → boot_of (heard k) l ≤ boot_of (heard l) l
         fresh k l x y =
             let low = (current x.item x.among).within l in
@@ -165,13 +172,23 @@ module _ {C R O : Type 0} (f : ℕ) (g : History C R O) (s : ℕ → Site C) (ho
 
     pub regained_holds : Holds f regained_history s
     regained_holds = subst (λ (t : ℕ → Site C). Holds f regained_history t) (put_self s me)
-        (keeps f g regained_history me 0 later s (s me) (still_recovers (s me) (s me) refl (λ e. e)) (λ _ v n p. as_before me v n p) (inl as_before) holds stands
+        (keeps f g regained_history me 0 later s (s me) (still_recovers (s me) (s me) refl (λ e. e)) (λ _ v n p. as_before me v n p)
+        (inl as_before) holds stands
         (λ j to m in'. inl in') (λ v o. inl o) holds.unopened holds.rising (λ c in'. by_place c (Contains-cases candidate c g.regains in')))
       where
-        by_place : (c : Regain) → (candidate ≡ c) ⊎ Contains g.regains c → Contains g.regains c ⊎ (IsRegain f regained_history c × (c.time < suc (length g.regains)))
-        by_place c (inl e) = inr (subst (λ (d : Regain). IsRegain f regained_history d × (d.time < suc (length g.regains))) e (regain_later f g regained_history me 0 later candidate candidate_is, omega arith))
+        by_place : (c : Regain) → (candidate ≡ c) ⊎ Contains g.regains c
+            → Contains g.regains c ⊎ (IsRegain f regained_history c × (c.time < suc (length g.regains)))
+        by_place c (inl e) =
+            inr (subst (λ (d : Regain). IsRegain f regained_history d × (d.time < suc (length g.regains))) e
+            (regain_later f g regained_history me 0 later candidate candidate_is, omega arith))
         by_place c (inr old) = inl old
 
     -- what is kept from then on is kept
     pub kept_after : (step : Step C R O) → Kept f regained_history s me step → Kept f g s me step
-    kept_after step k = record { history = k.history; holds = k.holds; grown = grown-trans f g regained_history k.history (grown_later f g regained_history me 0 later) k.grown; sent = k.sent }
+    kept_after step k =
+        record {
+          history = k.history;
+          holds = k.holds;
+          grown = grown-trans f g regained_history k.history (grown_later f g regained_history me 0 later) k.grown;
+          sent = k.sent;
+        }

@@ -63,8 +63,10 @@ last_is {C} client known k (row ∷ rows) p e = by_test (row.client == client) r
     from_known (inr l) = inr (later l)
 
     by_test : (b : Bool) → (row.client == client) ≡ b
-        → last_or known (cond b ((k, row) ∷ filter (λ placed. placed.1.client == client) (enumerate_from (k + 1) rows)) (filter (λ placed. placed.1.client == client) (enumerate_from (k + 1) rows))) ≡ Some p
-        → ((other : Option (ℕ × RowOf C)) → last_or other (filter (λ placed. placed.1.client == client) (enumerate_from (k + 1) rows)) ≡ Some p → (other ≡ Some p) ⊎ IsLast client (k + 1) rows p)
+        → last_or known (cond b ((k, row) ∷ filter (λ placed. placed.1.client == client) (enumerate_from (k + 1) rows))
+        (filter (λ placed. placed.1.client == client) (enumerate_from (k + 1) rows))) ≡ Some p
+        → ((other : Option (ℕ × RowOf C)) → last_or other (filter (λ placed. placed.1.client == client) (enumerate_from (k + 1) rows)) ≡ Some p
+        → (other ≡ Some p) ⊎ IsLast client (k + 1) rows p)
         → (known ≡ Some p) ⊎ IsLast client k (row ∷ rows) p
     by_test true is h rest = from_row (eq_of row.client client is) (rest (Some (k, row)) h)
     by_test false is h rest = from_known (rest known h)
@@ -83,14 +85,16 @@ has_last {C} log client number some same = by (last_of log client) refl same
     at p (inl h) = absurd (let h' : None ≡ Some p = h in cc)
     at p (inr l) = l
 
-    by : (found : Option (ℕ × RowOf C)) → last_of log client ≡ found → option_map_or (λ (placed : ℕ × RowOf C). placed.1.number) found 0 ≡ number → HasLast log client number
+    by : (found : Option (ℕ × RowOf C)) → last_of log client ≡ found → option_map_or (λ (placed : ℕ × RowOf C). placed.1.number) found 0 ≡ number
+        → HasLast log client number
     by None e h = absurd (omega arith)
     by (Some p) e h = record { last = p; is = e; number_is = h; there = at p (last_is client None 1 log p e) }
 
 not_less : (a b : ℕ) → a ≡ b → nat_lt a b ≡ false
 not_less a b e = grind (arith, nat_tests, e)
 
-module _ {C R O : Type 0} (choose : Choice C) (f w : ℕ) (v : World C R O) (reached : IsReached f first v) (rows : List (RowOf C)) (row : RowOf C) (new : IsNewest rows row) (small : primary f w < length v.sites)
+module _ {C R O : Type 0} (choose : Choice C) (f w : ℕ) (v : World C R O) (reached : IsReached f first v) (rows : List (RowOf C)) (row : RowOf C)
+    (new : IsNewest rows row) (small : primary f w < length v.sites)
     (works : WorksIn w rows (site_at v (primary f w))) (are : AreWorking f w rows v.sites) where
   abbrev p : ℕ
   p = primary f w
@@ -110,7 +114,8 @@ module _ {C R O : Type 0} (choose : Choice C) (f w : ℕ) (v : World C R O) (rea
       ∙ (if_no (not (primary f (site_at v p).view == p)) _ _ (ap not (eq_test _ _ (ap (primary f) works.view_is)))
       ∙ (if_no (nat_lt (newest (site_at v p).log row.client) row.number) _ _ (not_less _ _ newest_is)
       ∙ (ap (answers_again (site_at v p) row.number (newest (site_at v p).log row.client)) last_is_it
-      ∙ if_yes ((row.number == newest (site_at v p).log row.client) && (has.last.1.number == row.number)) _ _ (both_are _ _ (eq_test _ _ (sym newest_is)) (eq_test _ _ has.number_is)))))))
+      ∙ if_yes ((row.number == newest (site_at v p).log row.client) && (has.last.1.number == row.number)) _ _
+      (both_are _ _ (eq_test _ _ (sym newest_is)) (eq_test _ _ has.number_is)))))))
     where
       mail_of : EnvelopeOf C R O
       mail_of = request_of (actor_of (primary f w)) row
@@ -134,7 +139,12 @@ module _ {C R O : Type 0} (choose : Choice C) (f w : ℕ) (v : World C R O) (rea
   unfolding asked answered
   asks = (
     asked,
-    record { before = site_at v p; is_there = slice_get-get_or v.sites p nobody small; may_happen = inl refl; ends = (ap (λ (s : Step C R O). is_refused s.ending) request_is, refl) },
+    record {
+      before = site_at v p;
+      is_there = slice_get-get_or v.sites p nobody small;
+      may_happen = inl refl;
+      ends = (ap (λ (s : Step C R O). is_refused s.ending) request_is, refl);
+    },
     refl,
   )
 
@@ -144,7 +154,9 @@ module _ {C R O : Type 0} (choose : Choice C) (f w : ℕ) (v : World C R O) (rea
 
   said : Contains asked.replies (record { from = primary f w; sender = site_at v (primary f w); place = has.last.0 })
   unfolding asked answered
-  said = Contains-append_right v.replies _ _ (subst (λ (s : Step C R O). Contains (replied p s) (record { from = p; sender = site_at v p; place = has.last.0 })) (sym request_is) (Contains-here (record { from = p; sender = site_at v p; place = has.last.0 }) []))
+  said =
+      Contains-append_right v.replies _ _ (subst (λ (s : Step C R O). Contains (replied p s) (record { from = p; sender = site_at v p; place = has.last.0 }))
+      (sym request_is) (Contains-here (record { from = p; sender = site_at v p; place = has.last.0 }) []))
 
   working : AreWorking f w rows asked.sites
   working = record {
@@ -153,7 +165,8 @@ module _ {C R O : Type 0} (choose : Choice C) (f w : ℕ) (v : World C R O) (rea
     each = λ x in' run. (
         let i = has_number f asked x in' in
         subst (λ (y : Site C). WorksIn w rows y) i.1
-        (subst (λ (s : ℕ → Site C). WorksIn w rows (s i.0)) (sym same) (in_v i.0 (ap (λ (s : ℕ → Site C). is_running (s i.0).status) (sym same) ∙ (ap (λ (y : Site C). is_running y.status) i.1 ∙ run)))));
+        (subst (λ (s : ℕ → Site C). WorksIn w rows (s i.0)) (sym same)
+        (in_v i.0 (ap (λ (s : ℕ → Site C). is_running (s i.0).status) (sym same) ∙ (ap (λ (y : Site C). is_running y.status) i.1 ∙ run)))));
   }
     where
       runs : (j : ℕ) → runs_at v.sites j ≡ true → runs_at asked.sites j ≡ true

@@ -98,13 +98,16 @@ module _ {C R O : Type 0} (P : RowOf C → Type 0) where
         rows_if (not (primary f x.view == me)) (λ _. same x h _ refl refl) (λ _.
         rows_if (nat_lt (newest x.log row.client) row.number)
         (λ _. rows_if (length x.log == MAX_ROWS) (λ _. same x h _ refl refl)
-        (λ _. told (with_row row x) (row_kept P x h row p) _ (sends_to_all f me (Prepare (record { view = x.view; place = length x.log + 1; done = x.done; row = row })) p)))
+        (λ _. told (with_row row x) (row_kept P x h row p) _
+        (sends_to_all f me (Prepare (record { view = x.view; place = length x.log + 1; done = x.done; row = row })) p)))
         (λ _. again_rows row.number (newest x.log row.client) (last_of (take x.done x.log) row.client))))
 
     prepares_rows : (msg : PrepareOf C) → P msg.row → HasRows P (prepares {R = R} {O = O} f me x msg)
     prepares_rows msg p = by_place (msg.place == length x.log + 1)
       where
-        from_site : (y : Site C) → Keeps P y → HasRows P (does {C = C} {R = R} {O = O} y (if nat_lt (length x.log + 1) msg.place then asks_state f me x.view (length x.log) else acknowledges_all f me y))
+        from_site : (y : Site C) → Keeps P y
+            → HasRows P (does {C = C} {R = R} {O = O} y (if nat_lt (length x.log + 1) msg.place then asks_state f me x.view (length x.log)
+            else acknowledges_all f me y))
         from_site y kept = told y kept _ (sends_if (nat_lt (length x.log + 1) msg.place) _ _ (asks_rows x.view (length x.log)) (acknowledges_rows y))
 
         by_place : (b : Bool) → HasRows P (
@@ -128,7 +131,8 @@ module _ {C R O : Type 0} (P : RowOf C → Type 0) where
         rows_if (is_recovering x.status) (λ _. same x h _ refl refl) (λ _.
         rows_if (nat_lt msg.view x.view) (λ _. same x h _ refl refl) (λ _.
         rows_if (nat_lt x.view msg.view || is_change x.status) (λ _. told x h _ (asks_rows msg.view x.done))
-        (λ _. told (executed_to msg.done x) (executed_rows_kept P x h msg.done) _ (sends_if (nat_lt (length x.log) msg.done) _ _ (asks_rows x.view (length x.log)) sends_none)))))
+        (λ _. told (executed_to msg.done x) (executed_rows_kept P x h msg.done) _
+        (sends_if (nat_lt (length x.log) msg.done) _ _ (asks_rows x.view (length x.log)) sends_none)))))
 
     prepare_ok_rows : (choose : Choice C) (from : ℕ) (msg : PrepareOkMsg) → HasRows P (on_prepare_ok {R = R} {O = O} choose f me x from msg)
     unfolding on_prepare_ok
@@ -148,7 +152,8 @@ module _ {C R O : Type 0} (P : RowOf C → Type 0) where
         news_has : (next : Option (RowOf C)) → slice_get x.log x.done ≡ next → RowsAre {R = R} {O = O} P (news x next)
         news_has None e = tt
         news_has (Some row) e =
-            subst (λ (r : RowOf C). P r) (get_or_from_slice_get x.log x.done row row e) (All-get_or P x.log x.done row (slice_get_within x.log x.done row e) h.log)
+            subst (λ (r : RowOf C). P r) (get_or_from_slice_get x.log x.done row row e)
+            (All-get_or P x.log x.done row (slice_get_within x.log x.done row e) h.log)
 
     -- view change
 
@@ -177,8 +182,10 @@ module _ {C R O : Type 0} (P : RowOf C → Type 0) where
             else if here then record { site = with_vote (own_vote me part.site) (with_voted part.site); sent = part.sent }
             else record { site = with_voted part.site; sent = part.sent ++ sends_vote f me part.site })
         by_tests true here = h
-        by_tests false true = record { site = with_vote_rows P (with_voted part.site) (with_voted_rows P part.site h.site) (own_vote me part.site) h.site.log; sent = h.sent }
-        by_tests false false = record { site = with_voted_rows P part.site h.site; sent = sends_both part.sent _ h.sent (vote_rows f me part.site h.site part.site h.site) }
+        by_tests false true =
+            record { site = with_vote_rows P (with_voted part.site) (with_voted_rows P part.site h.site) (own_vote me part.site) h.site.log; sent = h.sent }
+        by_tests false false =
+            record { site = with_voted_rows P part.site h.site; sent = sends_both part.sent _ h.sent (vote_rows f me part.site h.site part.site h.site) }
 
     module _ (x : Site C) (h : Keeps P x) (choose : Choice C) (right : IsRight f choose) where
       opens_rows : (part : Part C R O) → HasPart P part → HasRows P (opens_where_due choose f me x part)
@@ -190,7 +197,15 @@ module _ {C R O : Type 0} (P : RowOf C → Type 0) where
           let all = picked_rows P f choose right part.site k.site many in
           record {
             site = normal_rows P part.site k.site part.site.view (choose.most_done part.site.collected.votes) (choose.pick part.site.collected.votes).log all;
-            sent = sends_both part.sent _ k.sent (sends_to_all f me (StartView (record { view = part.site.view; done = (executed_to (choose.most_done part.site.collected.votes) (normal_in part.site.view (choose.pick part.site.collected.votes).log part.site)).done; rows = (choose.pick part.site.collected.votes).log })) all);
+            sent =
+                sends_both part.sent _ k.sent
+                (sends_to_all f me
+                (StartView (record {
+                  view = part.site.view;
+                  done = (executed_to (choose.most_done part.site.collected.votes)
+                      (normal_in part.site.view (choose.pick part.site.collected.votes).log part.site)).done;
+                  rows = (choose.pick part.site.collected.votes).log;
+                })) all);
           }))
 
       start_view_change_rows : (w : ℕ) (start : Start) → HasRows P (on_start_view_change {R = R} {O = O} choose f me x w start)
@@ -204,7 +219,8 @@ module _ {C R O : Type 0} (P : RowOf C → Type 0) where
           let started = starts_later_view f me w y in
           let part = starts_later_rows f me y (learns_rows P x h start.known) w in
           opens_rows (votes_where_due f me (record started { site = with_start start started.site }))
-          (votes_rows (record started { site = with_start start started.site }) (record { site = with_start_rows P started.site part.site start; sent = part.sent }))))))
+          (votes_rows (record started { site = with_start start started.site })
+          (record { site = with_start_rows P started.site part.site start; sent = part.sent }))))))
 
       do_view_change_rows : (w : ℕ) (vote : Vote C) → All P vote.log → HasRows P (on_do_view_change {R = R} {O = O} choose f me x w vote)
       unfolding on_do_view_change
@@ -217,13 +233,15 @@ module _ {C R O : Type 0} (P : RowOf C → Type 0) where
           let y = learns vote.known x in
           let started = starts_later_view f me w y in
           let part = starts_later_rows f me y (learns_rows P x h vote.known) w in
-          opens_rows (record started { site = with_vote vote started.site }) (record { site = with_vote_rows P started.site part.site vote all; sent = part.sent }))))))
+          opens_rows (record started { site = with_vote vote started.site })
+          (record { site = with_vote_rows P started.site part.site vote all; sent = part.sent }))))))
 
       taken_rows : (w k : ℕ) (log : List (RowOf C)) → All P log → HasRows P (takes_log {R = R} {O = O} choose f me x w k log)
       taken_rows w k log all = from_site _ (normal_rows P x h w k log all)
         where
           from_site : (y : Site C) → Keeps P y → HasRows P (
-              if begins_with_executed choose.same x log then does {C = C} {R = R} {O = O} y (if nat_lt y.done (length y.log) then acknowledges_all f me y else []) else drops x Stale)
+              if begins_with_executed choose.same x log then does {C = C} {R = R} {O = O} y
+              (if nat_lt y.done (length y.log) then acknowledges_all f me y else []) else drops x Stale)
           from_site y kept = rows_if (begins_with_executed choose.same x log)
               (λ _. told y kept _ (sends_if (nat_lt y.done (length y.log)) _ _ (acknowledges_rows f me x h y) sends_none)) (λ _. same x h _ refl refl)
 
@@ -268,8 +286,10 @@ module _ {C R O : Type 0} (P : RowOf C → Type 0) where
           rows_if (nat_lt msg.view x.view) (λ _. same x h _ refl refl) (λ _.
           rows_if (nat_lt MAX_ROWS (msg.base + length msg.rows)) (λ _. same x h _ refl refl) (λ _.
           rows_if (is_normal x.status && (msg.view == x.view))
-          (λ _. rows_if (nat_le msg.base (length x.log) && nat_lt (length x.log) (msg.base + length msg.rows)) (λ _. taken_rows msg.view msg.done _ both) (λ _. same x h _ refl refl))
-          (λ _. rows_if (nat_le msg.base x.done && nat_le x.done (msg.base + length msg.rows)) (λ _. taken_rows msg.view msg.done _ both) (λ _. same x h _ refl refl))))))
+          (λ _. rows_if (nat_le msg.base (length x.log) && nat_lt (length x.log) (msg.base + length msg.rows)) (λ _. taken_rows msg.view msg.done _ both)
+          (λ _. same x h _ refl refl))
+          (λ _. rows_if (nat_le msg.base x.done && nat_le x.done (msg.base + length msg.rows)) (λ _. taken_rows msg.view msg.done _ both)
+          (λ _. same x h _ refl refl))))))
 
       -- recovery
 
@@ -280,14 +300,18 @@ module _ {C R O : Type 0} (P : RowOf C → Type 0) where
           rows_if (nat_lt msg.nonce (boot_of x.known from)) (λ _. same x h _ refl refl) (λ _.
           let y = notes from msg.nonce x in
           told y (record { log = h.log; votes = h.votes; responses = h.responses }) _
-          (sends_one (mail me from (RecoveryResponse (record { view = y.view; nonce = msg.nonce; state = state_of_view f me y; known = y.known }))) (state_rows P x h (primary f x.view == me)))))
+          (sends_one (mail me from (RecoveryResponse (record { view = y.view; nonce = msg.nonce; state = state_of_view f me y; known = y.known })))
+          (state_rows P x h (primary f x.view == me)))))
 
       regains_rows : (y : Site C) → Keeps P y → (regained : Option (Regained C))
-          → MatchOption regained ((r : Regained C) → ¬ IsRegained f y.collected.responses r) (IsRegained f y.collected.responses) → HasRows P (regains {R = R} {O = O} y regained)
+          → MatchOption regained ((r : Regained C) → ¬ IsRegained f y.collected.responses r) (IsRegained f y.collected.responses)
+          → HasRows P (regains {R = R} {O = O} y regained)
       regains_rows y k None none = record { site = k; sent = sends_none }
-      regains_rows y k (Some regained) fact = told _ (normal_rows P y k regained.view regained.state.done regained.state.rows (k.responses _ fact.answered)) [] sends_none
+      regains_rows y k (Some regained) fact =
+          told _ (normal_rows P y k regained.view regained.state.done regained.state.rows (k.responses _ fact.answered)) [] sends_none
 
-      recovery_response_rows : (nonce : ℕ) (response : Response C) → All P (rows_of_state response.state) → HasRows P (on_recovery_response {R = R} {O = O} choose x nonce response)
+      recovery_response_rows : (nonce : ℕ) (response : Response C) → All P (rows_of_state response.state)
+          → HasRows P (on_recovery_response {R = R} {O = O} choose x nonce response)
       unfolding on_recovery_response
       recovery_response_rows nonce response all =
           rows_if (not (is_recovering x.status)) (λ _. same x h _ refl refl) (λ _.
@@ -296,7 +320,8 @@ module _ {C R O : Type 0} (P : RowOf C → Type 0) where
           let y = learns response.known x in
           let z = with_response response y in
           rows_if (has_as_late y.collected.responses response) (λ _. same x h _ refl refl) (λ _.
-          regains_rows z (with_response_rows P y (learns_rows P x h response.known) response all) (choose.regained z.collected.responses) (right.regained z.collected.responses)))))
+          regains_rows z (with_response_rows P y (learns_rows P x h response.known) response all) (choose.regained z.collected.responses)
+          (right.regained z.collected.responses)))))
 
       beat_recovering_rows : HasRows P (beats_recovering {R = R} {O = O} f me x)
       unfolding beats_recovering
@@ -310,7 +335,9 @@ module _ {C R O : Type 0} (P : RowOf C → Type 0) where
 
       -- every event
 
-      message_rows : (actor : ℕ) (msg : MsgOf C R O) → RowsAre P msg → ((number : ℕ) (cmd : C) → msg ≡ Request (record { number = number; cmd = cmd }) → P (record { client = actor; number = number; cmd = cmd })) → HasRows P (on_message choose f me x actor msg)
+      message_rows : (actor : ℕ) (msg : MsgOf C R O) → RowsAre P msg
+          → ((number : ℕ) (cmd : C) → msg ≡ Request (record { number = number; cmd = cmd }) → P (record { client = actor; number = number; cmd = cmd }))
+          → HasRows P (on_message choose f me x actor msg)
       message_rows actor (Request msg) rows asked = request_rows f me x h _ (asked msg.number msg.cmd refl)
       message_rows actor (Prepare msg) rows asked = prepare_rows f me x h _ msg rows
       message_rows actor (PrepareOk msg) rows asked = prepare_ok_rows f me x h choose _ msg
@@ -338,7 +365,8 @@ module _ {C R O : Type 0} (P : RowOf C → Type 0) where
       -- the rows that an event brings
       pub record Brings (event : EventOf C R O) : Type 0 where
         pub rows : (e : EnvelopeOf C R O) → event ≡ Deliver e → RowsAre P e.msg
-        pub asked : (e : EnvelopeOf C R O) (number : ℕ) (cmd : C) → event ≡ Deliver e → e.msg ≡ Request (record { number = number; cmd = cmd }) → P (record { client = e.from; number = number; cmd = cmd })
+        pub asked : (e : EnvelopeOf C R O) (number : ℕ) (cmd : C) → event ≡ Deliver e → e.msg ≡ Request (record { number = number; cmd = cmd })
+            → P (record { client = e.from; number = number; cmd = cmd })
 
       pub step_rows : (event : EventOf C R O) → Brings event → HasRows P (site_step choose f me x event)
       step_rows (Deliver e) b = refused_rows _ _ (message_rows e.from e.msg (b.rows e refl) (λ number cmd is. b.asked e number cmd refl is))

@@ -44,8 +44,10 @@ at_end : {A : Type 0} (xs : List A) (x : A) → slice_get (xs ++ x ∷ []) (leng
 at_end [] x = refl
 at_end (y ∷ xs) x = at_end xs x
 
-module _ {C R O : Type 0} (choose : Choice C) (f : ℕ) (right : IsRight f choose) (some : 1 ≤ f) (w : ℕ) (up : ℕ → Bool) (up_small : (j : ℕ) → up j ≡ true → j < 2 * f + 1) (up_leads : up (primary f w) ≡ true) (many : f < count_by up (sites f))
-    (v : World C R O) (reached : IsReached f first v) (lengths : AllLong f v) (rows : List (RowOf C)) (works : (j : ℕ) → up j ≡ true → WorksIn w rows (site_at v j))
+module _ {C R O : Type 0} (choose : Choice C) (f : ℕ) (right : IsRight f choose) (some : 1 ≤ f) (w : ℕ) (up : ℕ → Bool)
+    (up_small : (j : ℕ) → up j ≡ true → j < 2 * f + 1) (up_leads : up (primary f w) ≡ true) (many : f < count_by up (sites f))
+    (v : World C R O) (reached : IsReached f first v) (lengths : AllLong f v) (rows : List (RowOf C))
+    (works : (j : ℕ) → up j ≡ true → WorksIn w rows (site_at v j))
     (row : RowOf C) (client : is_client row.client ≡ true) (new : newest rows row.client < row.number) (room : length rows < MAX_ROWS) where
   abbrev p : ℕ
   p = primary f w
@@ -63,7 +65,9 @@ module _ {C R O : Type 0} (choose : Choice C) (f : ℕ) (right : IsRight f choos
   longer = length-append rows (row ∷ [])
 
   appended : Step C R O
-  appended = does (with_row row (site_at v p)) (to_all f p (Prepare (record { view = (site_at v p).view; place = length (site_at v p).log + 1; done = (site_at v p).done; row = row })))
+  appended =
+      does (with_row row (site_at v p))
+      (to_all f p (Prepare (record { view = (site_at v p).view; place = length (site_at v p).log + 1; done = (site_at v p).done; row = row })))
 
   request_is : site_step {R = R} {O = O} choose f p (site_at v p) (Deliver (request_of (actor_of (primary f w)) row)) ≡ appended
   unfolding on_request appended
@@ -91,7 +95,9 @@ module _ {C R O : Type 0} (choose : Choice C) (f : ℕ) (right : IsRight f choos
       fits = by_test (length (site_at v p).log == MAX_ROWS) refl
         where
           by_test : (t : Bool) → (length (site_at v p).log == MAX_ROWS) ≡ t → t ≡ false
-          by_test true e = absurd (let d : length (site_at v p).log ≡ MAX_ROWS = eq_of (length (site_at v p).log) MAX_ROWS e in let l = ap (length {A = RowOf C}) x.log_is in let r = room in omega arith)
+          by_test true e =
+              absurd (let d : length (site_at v p).log ≡ MAX_ROWS = eq_of (length (site_at v p).log) MAX_ROWS e in let l = ap (length {A = RowOf C}) x.log_is in
+              let r = room in omega arith)
           by_test false e = refl
 
   asked : World C R O
@@ -104,13 +110,20 @@ module _ {C R O : Type 0} (choose : Choice C) (f : ℕ) (right : IsRight f choos
   unfolding asked appended
   asks = (
     asked,
-    record { before = site_at v p; is_there = slice_get-get_or v.sites p nobody (small p up_leads); may_happen = inl refl; ends = (ap (λ (s : Step C R O). is_refused s.ending) request_is, refl) },
+    record {
+      before = site_at v p;
+      is_there = slice_get-get_or v.sites p nobody (small p up_leads);
+      may_happen = inl refl;
+      ends = (ap (λ (s : Step C R O). is_refused s.ending) request_is, refl);
+    },
     refl,
   )
 
   asked_reached : IsReached f first asked
   asked_reached =
-      let h : IsReached f reached.history asked = run_holds f choose right reached.history v asked (step_of (primary f w) (Deliver (request_of (actor_of (primary f w)) row)) ∷ []) reached.holds asks in
+      let h : IsReached f reached.history asked =
+      run_holds f choose right reached.history v asked (step_of (primary f w) (Deliver (request_of (actor_of (primary f w)) row)) ∷ []) reached.holds
+      asks in
       record { history = h.history; holds = h.holds; grown = grown-trans f first reached.history h.history reached.grown h.grown }
 
   asked_full : AllLong f asked
@@ -137,9 +150,13 @@ module _ {C R O : Type 0} (choose : Choice C) (f : ℕ) (right : IsRight f choos
   spreads_first = record {
     is = asked_reached;
     full = asked_full;
-    lead = subst (λ (x : Site C). Follows w (boots p) more x) (sym asked_here) (let x = works p up_leads in record { status = x.status; view = x.view_is; boots = refl; log_is = ap (λ (l : List (RowOf C)). l ++ row ∷ []) x.log_is });
+    lead =
+        subst (λ (x : Site C). Follows w (boots p) more x) (sym asked_here) (let x = works p up_leads in
+        record { status = x.status; view = x.view_is; boots = refl; log_is = ap (λ (l : List (RowOf C)). l ++ row ∷ []) x.log_is });
     done = ap (λ (x : Site C). x.done) asked_here ∙ (works p up_leads).done;
-    each = λ j e apart. inl (subst (λ (x : Site C). Follows w (boots j) rows x) (sym (asked_there j apart)) (let x = works j e in record { status = x.status; view = x.view_is; boots = refl; log_is = x.log_is }));
+    each =
+        λ j e apart. inl (subst (λ (x : Site C). Follows w (boots j) rows x) (sym (asked_there j apart)) (let x = works j e in
+        record { status = x.status; view = x.view_is; boots = refl; log_is = x.log_is }));
     rest = λ j e. refl;
   }
 
@@ -156,10 +173,12 @@ module _ {C R O : Type 0} (choose : Choice C) (f : ℕ) (right : IsRight f choos
   keeps_on_more a b c q r = record { each = λ i k. r.each i (q.each i k) }
 
   -- the PREPARE comes to site j
-  one_takes : (j : ℕ) → up j ≡ true → j ≢ p → (u : World C R O) → Spreads u → Follows w (boots j) rows (site_at u j) → Reaches choose f u (λ t. Spreads t × Has j t × KeepsOn u t)
+  one_takes : (j : ℕ) → up j ≡ true → j ≢ p → (u : World C R O) → Spreads u → Follows w (boots j) rows (site_at u j)
+      → Reaches choose f u (λ t. Spreads t × Has j t × KeepsOn u t)
   one_takes j up_j apart u d behind =
       reaches_then choose f u (IsSaid choose f p j prepare u) _ said (λ q s.
-      reaches_then choose f q (IsTaken choose f j (step q) q) _ (arrives q s) (λ t so. record { after = t; goes = goes_nowhere choose f t; holds = ends q s t so }))
+      reaches_then choose f q (IsTaken choose f j (step q) q) _ (arrives q s)
+      (λ t so. record { after = t; goes = goes_nowhere choose f t; holds = ends q s t so }))
     where
       prepare : MsgOf C R O
       prepare = Prepare (record { view = w; place = length rows + 1; done = length rows; row = row })
@@ -170,8 +189,12 @@ module _ {C R O : Type 0} (choose : Choice C) (f : ℕ) (right : IsRight f choos
       said : Reaches choose f u (IsSaid choose f p j prepare u)
       said =
           subst (λ (n : ℕ). Reaches choose f u (IsSaid choose f p j (Prepare (record { view = w; place = n + 1; done = n; row = row })) u)) d.done
-          (subst (λ (m : ℕ). Reaches choose f u (IsSaid choose f p j (Prepare (record { view = m; place = (site_at u p).done + 1; done = (site_at u p).done; row = row })) u)) d.lead.view
-          (news_said choose f u w p j (Some row) (let a = size_is f u d.is in let b = up_small p up_leads in omega arith) d.lead.status d.lead.view refl (up_small j up_j) apart found))
+          (subst
+          (λ (m : ℕ).
+          Reaches choose f u (IsSaid choose f p j (Prepare (record { view = m; place = (site_at u p).done + 1; done = (site_at u p).done; row = row })) u))
+          d.lead.view
+          (news_said choose f u w p j (Some row) (let a = size_is f u d.is in let b = up_small p up_leads in
+          omega arith) d.lead.status d.lead.view refl (up_small j up_j) apart found))
 
       step : World C R O → Step C R O
       step q = (let y = executed_to (length rows) (with_row row (site_at q j)) in does y (acknowledges_all f j y))
@@ -182,9 +205,11 @@ module _ {C R O : Type 0} (choose : Choice C) (f : ℕ) (right : IsRight f choos
       arrives : (q : World C R O) → IsSaid choose f p j prepare u q → Reaches choose f q (IsTaken choose f j (step q) q)
       arrives q s =
           let x = behind_q q s in
-          comes choose f q p j prepare (step q) (let a = size_is f q (goes_reached choose f right u q d.is s.goes) in let b = up_small j up_j in omega arith) s.sent refl
+          comes choose f q p j prepare (step q) (let a = size_is f q (goes_reached choose f right u q d.is s.goes) in let b = up_small j up_j in
+          omega arith) s.sent refl
           (delivered choose f p j (site_at q j) prepare (runs_up _ (normal_runs _ x.status)) (another f j p (up_small p up_leads) (λ e. apart (sym e)))
-          ∙ (ap (λ (m : ℕ). on_prepare {R = R} {O = O} f j (site_at q j) m (record { view = w; place = length rows + 1; done = length rows; row = row })) (site_back p)
+          ∙ (ap (λ (m : ℕ). on_prepare {R = R} {O = O} f j (site_at q j) m (record { view = w; place = length rows + 1; done = length rows; row = row }))
+          (site_back p)
           ∙ prepares_new choose f w p j (length rows) row (site_at q j) x.status x.view refl (sym (ap (length {A = RowOf C}) x.log_is)))) refl
 
       ends : (q : World C R O) → IsSaid choose f p j prepare u q → (t : World C R O) → IsTaken choose f j (step q) q t → Spreads t × Has j t × KeepsOn u t
@@ -206,11 +231,13 @@ module _ {C R O : Type 0} (choose : Choice C) (f : ℕ) (right : IsRight f choos
 
           here : Has j t
           here = subst (λ (x : Site C). Follows w (boots j) more x) (sym so.here)
-              (let x = behind_q q s in record { status = x.status; view = x.view; boots = x.boots; log_is = ap (λ (l : List (RowOf C)). l ++ row ∷ []) x.log_is })
+              (let x = behind_q q s in
+              record { status = x.status; view = x.view; boots = x.boots; log_is = ap (λ (l : List (RowOf C)). l ++ row ∷ []) x.log_is })
 
           each_by : (k : ℕ) → up k ≡ true → k ≢ p → (k ≡ j) ⊎ (k ≡ j → ⊥) → Follows w (boots k) rows (site_at t k) ⊎ Follows w (boots k) more (site_at t k)
           each_by k e other (inl is') = inr (subst (λ (m : ℕ). Has m t) (sym is') here)
-          each_by k e other (inr apart') = subst (λ (x : Site C). Follows w (boots k) rows x ⊎ Follows w (boots k) more x) (sym (same k apart')) (d.each k e other)
+          each_by k e other (inr apart') =
+              subst (λ (x : Site C). Follows w (boots k) rows x ⊎ Follows w (boots k) more x) (sym (same k apart')) (d.each k e other)
 
           keeps_by : (k : ℕ) → Has k u → (k ≡ j) ⊎ (k ≡ j → ⊥) → Has k t
           keeps_by k h (inl is') = subst (λ (m : ℕ). Has m t) (sym is') here
@@ -227,7 +254,8 @@ module _ {C R O : Type 0} (choose : Choice C) (f : ℕ) (right : IsRight f choos
   all_take : Reaches choose f asked Spread
   all_take =
       reaches_then choose f asked (λ u. Spreads u × ((j : ℕ) → Contains (sites f) j → up j ≡ true → Has j u) × KeepsOn asked u) Spread
-      (sweep_on choose f Spreads KeepsOn keeps_on_same keeps_on_more (λ j u. up j ≡ true → Has j u) (λ j a b r h e. r.each j (h e)) (sites f) (λ j u in' d. by_test j u d (up j) refl (cases_eq j p)) asked spreads_first)
+      (sweep_on choose f Spreads KeepsOn keeps_on_same keeps_on_more (λ j u. up j ≡ true → Has j u) (λ j a b r h e. r.each j (h e)) (sites f)
+      (λ j u in' d. by_test j u d (up j) refl (cases_eq j p)) asked spreads_first)
       (λ u so. record {
         after = u;
         goes = goes_nowhere choose f u;
@@ -240,13 +268,15 @@ module _ {C R O : Type 0} (choose : Choice C) (f : ℕ) (right : IsRight f choos
       stays : (j : ℕ) (u : World C R O) → Spreads u → (up j ≡ true → Has j u) → Reaches choose f u (λ t. Spreads t × (up j ≡ true → Has j t) × KeepsOn u t)
       stays j u d h = record { after = u; goes = goes_nowhere choose f u; holds = (d, h, keeps_on_same u) }
 
-      by_each : (j : ℕ) (u : World C R O) → Spreads u → up j ≡ true → j ≢ p → Follows w (boots j) rows (site_at u j) ⊎ Has j u → Reaches choose f u (λ t. Spreads t × (up j ≡ true → Has j t) × KeepsOn u t)
+      by_each : (j : ℕ) (u : World C R O) → Spreads u → up j ≡ true → j ≢ p → Follows w (boots j) rows (site_at u j) ⊎ Has j u
+          → Reaches choose f u (λ t. Spreads t × (up j ≡ true → Has j t) × KeepsOn u t)
       by_each j u d e apart (inr has) = stays j u d (λ _. has)
       by_each j u d e apart (inl behind) =
           reaches_then choose f u (λ t. Spreads t × Has j t × KeepsOn u t) _ (one_takes j e apart u d behind)
           (λ t so. record { after = t; goes = goes_nowhere choose f t; holds = (so.0, (λ _. so.1), so.2) })
 
-      by_test : (j : ℕ) (u : World C R O) → Spreads u → (b : Bool) → up j ≡ b → (j ≡ p) ⊎ (j ≡ p → ⊥) → Reaches choose f u (λ t. Spreads t × (up j ≡ true → Has j t) × KeepsOn u t)
+      by_test : (j : ℕ) (u : World C R O) → Spreads u → (b : Bool) → up j ≡ b → (j ≡ p) ⊎ (j ≡ p → ⊥)
+          → Reaches choose f u (λ t. Spreads t × (up j ≡ true → Has j t) × KeepsOn u t)
       by_test j u d false e place = stays j u d (λ e'. absurd (true≢false (sym e' ∙ e)))
       by_test j u d true e (inl same) = stays j u d (λ _. subst (λ (i : ℕ). Has i u) (sym same) d.lead)
       by_test j u d true e (inr apart) = by_each j u d e apart (d.each j e apart)
@@ -266,9 +296,11 @@ module _ {C R O : Type 0} (choose : Choice C) (f : ℕ) (right : IsRight f choos
   Acked j u = acks.Acked choose f right w up up_small up_leads boots more asked j u
 
   -- a step that acknowledges
-  one_acks : (j : ℕ) → up j ≡ true → j ≢ p → (u : World C R O) → Settled u → (site_at u p).done < length more → Reaches choose f u (λ t. Ends t × Acked j t × acks.KeepsOn choose f right w up up_small up_leads boots more asked u t)
+  one_acks : (j : ℕ) → up j ≡ true → j ≢ p → (u : World C R O) → Settled u → (site_at u p).done < length more
+      → Reaches choose f u (λ t. Ends t × Acked j t × acks.KeepsOn choose f right w up up_small up_leads boots more asked u t)
   one_acks j e apart u d less =
-      reaches_then choose f u (λ t. acks.Counts choose f right w up up_small up_leads boots more asked t × Acked j t × acks.KeepsOn choose f right w up up_small up_leads boots more asked u t × acks.IsTold choose f right w up up_small up_leads boots more asked t) _
+      reaches_then choose f u (λ t. acks.Counts choose f right w up up_small up_leads boots more asked t × Acked j t
+      × acks.KeepsOn choose f right w up up_small up_leads boots more asked u t × acks.IsTold choose f right w up up_small up_leads boots more asked t) _
       (acks.one_acks choose f right w up up_small up_leads boots more asked j e apart u d less)
       (λ t so. record {
         after = t;
@@ -289,21 +321,38 @@ module _ {C R O : Type 0} (choose : Choice C) (f : ℕ) (right : IsRight f choos
 
   all_ack : (u : World C R O) → Ends u → Reaches choose f u (λ t. Ends t × ((site_at t p).done ≡ length more))
   all_ack u c =
-      reaches_then choose f u (λ t. Ends t × ((j : ℕ) → Contains (sites f) j → up j ≡ true → j ≢ p → Acked j t) × acks.KeepsOn choose f right w up up_small up_leads boots more asked u t) _
-      (sweep_on choose f Ends (acks.KeepsOn choose f right w up up_small up_leads boots more asked) (acks.keeps_on_same choose f right w up up_small up_leads boots more asked) (acks.keeps_on_more choose f right w up up_small up_leads boots more asked)
+      reaches_then choose f u (λ t. Ends t × ((j : ℕ) → Contains (sites f) j → up j ≡ true → j ≢ p → Acked j t)
+      × acks.KeepsOn choose f right w up up_small up_leads boots more asked u t) _
+      (sweep_on choose f Ends (acks.KeepsOn choose f right w up up_small up_leads boots more asked)
+      (acks.keeps_on_same choose f right w up up_small up_leads boots more asked)
+      (acks.keeps_on_more choose f right w up up_small up_leads boots more asked)
       (λ j t. up j ≡ true → j ≢ p → Acked j t) (λ j a b r h e d. r.each j (h e d)) (sites f) (λ j t in' d. by_test j t d (up j) refl (cases_eq j p)) u c)
-      (λ t so. record { after = t; goes = goes_nowhere choose f t; holds = (so.0, acks.acked_all choose f right w up up_small up_leads boots more asked many t (λ j e apart. so.1 j (has_site f j (up_small j e)) e apart) so.0.counts.due) })
+      (λ t so. record {
+        after = t;
+        goes = goes_nowhere choose f t;
+        holds = (
+          so.0,
+          acks.acked_all choose f right w up up_small up_leads boots more asked many t
+              (λ j e apart. so.1 j (has_site f j (up_small j e)) e apart) so.0.counts.due,
+        );
+      })
     where
-      stays : (j : ℕ) (t : World C R O) → Ends t → (up j ≡ true → j ≢ p → Acked j t) → Reaches choose f t (λ q. Ends q × (up j ≡ true → j ≢ p → Acked j q) × acks.KeepsOn choose f right w up up_small up_leads boots more asked t q)
-      stays j t d h = record { after = t; goes = goes_nowhere choose f t; holds = (d, h, acks.keeps_on_same choose f right w up up_small up_leads boots more asked t) }
+      stays : (j : ℕ) (t : World C R O) → Ends t → (up j ≡ true → j ≢ p → Acked j t)
+          → Reaches choose f t (λ q. Ends q × (up j ≡ true → j ≢ p → Acked j q) × acks.KeepsOn choose f right w up up_small up_leads boots more asked t q)
+      stays j t d h =
+          record { after = t; goes = goes_nowhere choose f t; holds = (d, h, acks.keeps_on_same choose f right w up up_small up_leads boots more asked t) }
 
-      by_size : (j : ℕ) (t : World C R O) → Ends t → up j ≡ true → j ≢ p → ((site_at t p).done < length more) ⊎ (length more ≤ (site_at t p).done) → Reaches choose f t (λ q. Ends q × (up j ≡ true → j ≢ p → Acked j q) × acks.KeepsOn choose f right w up up_small up_leads boots more asked t q)
+      by_size : (j : ℕ) (t : World C R O) → Ends t → up j ≡ true → j ≢ p → ((site_at t p).done < length more) ⊎ (length more ≤ (site_at t p).done)
+          → Reaches choose f t (λ q. Ends q × (up j ≡ true → j ≢ p → Acked j q) × acks.KeepsOn choose f right w up up_small up_leads boots more asked t q)
       by_size j t d e apart (inl less) =
-          reaches_then choose f t (λ q. Ends q × Acked j q × acks.KeepsOn choose f right w up up_small up_leads boots more asked t q) _ (one_acks j e apart t d.counts.settled less)
+          reaches_then choose f t (λ q. Ends q × Acked j q × acks.KeepsOn choose f right w up up_small up_leads boots more asked t q) _
+          (one_acks j e apart t d.counts.settled less)
           (λ q so. record { after = q; goes = goes_nowhere choose f q; holds = (so.0, (λ _ _. so.1), so.2) })
-      by_size j t d e apart (inr enough) = stays j t d (λ _ _. inl (let h = acks.within choose f right w up up_small up_leads boots more asked t d.counts.settled p up_leads in omega arith))
+      by_size j t d e apart (inr enough) =
+          stays j t d (λ _ _. inl (let h = acks.within choose f right w up up_small up_leads boots more asked t d.counts.settled p up_leads in omega arith))
 
-      by_test : (j : ℕ) (t : World C R O) → Ends t → (b : Bool) → up j ≡ b → (j ≡ p) ⊎ (j ≡ p → ⊥) → Reaches choose f t (λ q. Ends q × (up j ≡ true → j ≢ p → Acked j q) × acks.KeepsOn choose f right w up up_small up_leads boots more asked t q)
+      by_test : (j : ℕ) (t : World C R O) → Ends t → (b : Bool) → up j ≡ b → (j ≡ p) ⊎ (j ≡ p → ⊥)
+          → Reaches choose f t (λ q. Ends q × (up j ≡ true → j ≢ p → Acked j q) × acks.KeepsOn choose f right w up up_small up_leads boots more asked t q)
       by_test j t d false e place = stays j t d (λ e' _. absurd (true≢false (sym e' ∙ e)))
       by_test j t d true e (inl same) = stays j t d (λ _ apart. absurd (apart same))
       by_test j t d true e (inr apart) = by_size j t d e apart (cases_lt (site_at t p).done (length more))
@@ -359,7 +408,9 @@ module _ {C R O : Type 0} (choose : Choice C) (f : ℕ) (right : IsRight f choos
       served = served.after;
       goes = served.goes;
       sender = served.holds.answered.sender;
-      answered = subst (λ (n : ℕ). Contains served.after.replies (record { from = primary f w; sender = served.holds.answered.sender; place = n })) longer served.holds.answered.among;
+      answered =
+          subst (λ (n : ℕ). Contains served.after.replies (record { from = primary f w; sender = served.holds.answered.sender; place = n })) longer
+          served.holds.answered.among;
       with_row = served.holds.answered.log_is;
       executed = served.holds.answered.done ∙ ap (length {A = RowOf C}) (sym served.holds.answered.log_is);
       working = working;

@@ -81,7 +81,8 @@ module _ {C R O : Type 0} (choose : Choice C) (f : ℕ) where
     pub answered : (r : Replied C) → Contains (replied me step) r → Contains new.replies r
     pub there : (j : ℕ) → j ≢ me → site_at new j ≡ site_at old j
 
-  pub comes : (v : World C R O) (k me : ℕ) (msg : MsgOf C R O) (step : Step C R O) → me < length v.sites → Contains v.sent (mail k me msg) → is_request msg ≡ false
+  pub comes : (v : World C R O) (k me : ℕ) (msg : MsgOf C R O) (step : Step C R O) → me < length v.sites → Contains v.sent (mail k me msg)
+      → is_request msg ≡ false
       → site_step choose f me (site_at v me) (Deliver (mail k me msg)) ≡ step → is_refused step.ending ≡ false → Reaches choose f v (IsTaken me step v)
   comes v k me msg step small sent kind is taken' = record {
     after = taken choose f v me (Deliver (mail k me msg));
@@ -133,7 +134,8 @@ module _ {C R O : Type 0} (choose : Choice C) (f : ℕ) where
     Has j i v = up i ≡ true → i ≢ j → KeepsStart (site_at v j) i (boots i)
 
     -- the STARTVIEWCHANGE of site i comes to site j
-    one_comes : (j i : ℕ) → up j ≡ true → up i ≡ true → i ≢ j → (v : World C R O) → Gathers v → Reaches choose f v (λ u. Gathers u × KeepsStart (site_at u j) i (boots i) × KeepsOn v u)
+    one_comes : (j i : ℕ) → up j ≡ true → up i ≡ true → i ≢ j → (v : World C R O) → Gathers v
+        → Reaches choose f v (λ u. Gathers u × KeepsStart (site_at u j) i (boots i) × KeepsOn v u)
     one_comes j i up_j up_i apart v g =
         reaches_then choose f v (IsSaid i j (StartViewChange (record { view = (site_at v i).view; known = (site_at v i).known })) v) _ said (λ u s.
         reaches_then choose f u (IsTaken j (step u) u) _ (arrives u s) (λ t is. record { after = t; goes = goes_nowhere choose f t; holds = done u s t is }))
@@ -162,14 +164,20 @@ module _ {C R O : Type 0} (choose : Choice C) (f : ℕ) where
         own_by : (k : ℕ) → up k ≡ true → boot_of (site_at v k).known k ≡ boots k
         own_by k e = known_own f v g.is k (runs_up _ (change_runs _ (g.waits k e).changes.status)) ∙ (g.waits k e).changes.boots
 
-        takes : TakesStart choose f w j (boots j) boots (site_at v j) i (on_start_view_change {R = R} {O = O} choose f j (site_at v j) w (record { from = i; known = (site_at v i).known }))
-        takes = takes_start choose f w j (boots j) boots some (site_at v j) i (site_at v i).known (g.waits j up_j) refl (known_by j) (known_by i) (own_by i up_i) (own_by j up_j)
+        takes : TakesStart choose f w j (boots j) boots (site_at v j) i
+            (on_start_view_change {R = R} {O = O} choose f j (site_at v j) w (record { from = i; known = (site_at v i).known }))
+        takes =
+            takes_start choose f w j (boots j) boots some (site_at v j) i (site_at v i).known (g.waits j up_j) refl (known_by j) (known_by i)
+            (own_by i up_i) (own_by j up_j)
 
-        step_is : site_step choose f j (site_at v j) (Deliver (mail i j msg)) ≡ on_start_view_change {R = R} {O = O} choose f j (site_at v j) w (record { from = i; known = (site_at v i).known })
+        step_is : site_step choose f j (site_at v j) (Deliver (mail i j msg)) ≡ on_start_view_change {R = R} {O = O} choose f j (site_at v j) w
+            (record { from = i; known = (site_at v i).known })
         step_is =
             delivered i j (site_at v j) msg (runs_up _ (change_runs _ (g.waits j up_j).changes.status))
-            (both_are _ _ (another f j i small_i apart) (of_all_sites f (site_at v i).known ((g.long i).is (runs_up _ (change_runs _ (g.waits i up_i).changes.status)))))
-            ∙ (ap (λ (n : ℕ). on_start_view_change {R = R} {O = O} choose f j (site_at v j) n (record { from = site_of (actor_of i); known = (site_at v i).known })) (g.waits i up_i).changes.view
+            (both_are _ _ (another f j i small_i apart) (of_all_sites f (site_at v i).known
+            ((g.long i).is (runs_up _ (change_runs _ (g.waits i up_i).changes.status)))))
+            ∙ (ap (λ (n : ℕ). on_start_view_change {R = R} {O = O} choose f j (site_at v j) n
+            (record { from = site_of (actor_of i); known = (site_at v i).known })) (g.waits i up_i).changes.view
             ∙ ap (λ (n : ℕ). on_start_view_change {R = R} {O = O} choose f j (site_at v j) w (record { from = n; known = (site_at v i).known })) (site_back i))
 
         small_in : (u : World C R O) → IsSaid i j msg v u → j < length u.sites
@@ -183,7 +191,8 @@ module _ {C R O : Type 0} (choose : Choice C) (f : ℕ) where
         module_of : (u : World C R O) → IsSaid i j msg v u → (t : World C R O) → IsTaken j (step u) u t → (k : ℕ) → k ≢ j → site_at t k ≡ site_at v k
         module_of u s t is k apart' = is.there k apart' ∙ ap (λ (x : ℕ → Site C). x k) s.same
 
-        done : (u : World C R O) → IsSaid i j msg v u → (t : World C R O) → IsTaken j (step u) u t → Gathers t × KeepsStart (site_at t j) i (boots i) × KeepsOn v t
+        done : (u : World C R O) → IsSaid i j msg v u → (t : World C R O) → IsTaken j (step u) u t
+            → Gathers t × KeepsStart (site_at t j) i (boots i) × KeepsOn v t
         done u s t is = (
           record {
             is = goes_reached choose f right u t (goes_reached choose f right v u g.is s.goes) is.goes;
@@ -197,26 +206,31 @@ module _ {C R O : Type 0} (choose : Choice C) (f : ℕ) where
         )
           where
             waits_by : (k : ℕ) → up k ≡ true → (k ≡ j) ⊎ (k ≡ j → ⊥) → Waits f w k (boots k) (site_at t k)
-            waits_by k e (inl same) = subst (λ (m : ℕ). Waits f w m (boots m) (site_at t m)) (sym same) (subst (λ (x : Site C). Waits f w j (boots j) x) (sym is.here) takes.waits)
+            waits_by k e (inl same) =
+                subst (λ (m : ℕ). Waits f w m (boots m) (site_at t m)) (sym same) (subst (λ (x : Site C). Waits f w j (boots j) x) (sym is.here) takes.waits)
             waits_by k e (inr apart') = subst (λ (x : Site C). Waits f w k (boots k) x) (sym (module_of u s t is k apart')) (g.waits k e)
 
             logs_by : (k : ℕ) → up k ≡ true → (k ≡ j) ⊎ (k ≡ j → ⊥) → (site_at t k).log ≡ (site_at old k).log
-            logs_by k e (inl same) = subst (λ (m : ℕ). (site_at t m).log ≡ (site_at old m).log) (sym same) (ap (λ (x : Site C). x.log) is.here ∙ (takes.log ∙ g.logs j up_j))
+            logs_by k e (inl same) =
+                subst (λ (m : ℕ). (site_at t m).log ≡ (site_at old m).log) (sym same) (ap (λ (x : Site C). x.log) is.here ∙ (takes.log ∙ g.logs j up_j))
             logs_by k e (inr apart') = ap (λ (x : Site C). x.log) (module_of u s t is k apart') ∙ g.logs k e
 
             keeps_by : (k m : ℕ) → KeepsStart (site_at v k) m (boots m) → (k ≡ j) ⊎ (k ≡ j → ⊥) → KeepsStart (site_at t k) m (boots m)
             keeps_by k m h (inl same) = subst (λ (n : ℕ). KeepsStart (site_at t n) m (boots m)) (sym same)
-                (subst (λ (x : Site C). KeepsStart x m (boots m)) (sym is.here) (takes.keeps m (subst (λ (n : ℕ). KeepsStart (site_at v n) m (boots m)) same h)))
+                (subst (λ (x : Site C). KeepsStart x m (boots m)) (sym is.here)
+                (takes.keeps m (subst (λ (n : ℕ). KeepsStart (site_at v n) m (boots m)) same h)))
             keeps_by k m h (inr apart') = subst (λ (x : Site C). KeepsStart x m (boots m)) (sym (module_of u s t is k apart')) h
 
     -- of all running sites to one of them
     all_to_one : (j : ℕ) → up j ≡ true → (v : World C R O) → Gathers v → Reaches choose f v (λ u. Gathers u × ((i : ℕ) → Has j i u) × KeepsOn v u)
     all_to_one j up_j v g =
         reaches_then choose f v (λ u. Gathers u × ((i : ℕ) → Contains (sites f) i → Has j i u) × KeepsOn v u) _
-        (sweep_on choose f Gathers KeepsOn keeps_on_same keeps_on_more (Has j) (λ i a b r h e apart. r.each j i (h e apart)) (sites f) (λ i u in' h. by_test i u h (up i) refl (cases_eq i j)) v g)
+        (sweep_on choose f Gathers KeepsOn keeps_on_same keeps_on_more (Has j) (λ i a b r h e apart. r.each j i (h e apart)) (sites f)
+        (λ i u in' h. by_test i u h (up i) refl (cases_eq i j)) v g)
         (λ u is. record { after = u; goes = goes_nowhere choose f u; holds = (is.0, (λ i e apart. is.1 i (has_site f i (up_small i e)) e apart), is.2) })
       where
-        by_test : (i : ℕ) (u : World C R O) → Gathers u → (b : Bool) → up i ≡ b → (i ≡ j) ⊎ (i ≡ j → ⊥) → Reaches choose f u (λ t. Gathers t × Has j i t × KeepsOn u t)
+        by_test : (i : ℕ) (u : World C R O) → Gathers u → (b : Bool) → up i ≡ b → (i ≡ j) ⊎ (i ≡ j → ⊥)
+            → Reaches choose f u (λ t. Gathers t × Has j i t × KeepsOn u t)
         by_test i u h true e (inr apart) =
             reaches_then choose f u (λ t. Gathers t × KeepsStart (site_at t j) i (boots i) × KeepsOn u t) _ (one_comes j i up_j e apart u h)
             (λ t is. record { after = t; goes = goes_nowhere choose f t; holds = (is.0, (λ _ _. is.1), is.2) })
@@ -227,17 +241,20 @@ module _ {C R O : Type 0} (choose : Choice C) (f : ℕ) where
     pub all_to_all : (v : World C R O) → Gathers v → Reaches choose f v (λ u. Gathers u × ((j i : ℕ) → up j ≡ true → Has j i u))
     all_to_all v g =
         reaches_then choose f v (λ u. Gathers u × ((j : ℕ) → Contains (sites f) j → up j ≡ true → (i : ℕ) → Has j i u) × KeepsOn v u) _
-        (sweep_on choose f Gathers KeepsOn keeps_on_same keeps_on_more (λ j u. up j ≡ true → (i : ℕ) → Has j i u) (λ j a b r h e i e' apart. r.each j i (h e i e' apart)) (sites f) (λ j u in' h. by_test j u h (up j) refl) v g)
+        (sweep_on choose f Gathers KeepsOn keeps_on_same keeps_on_more (λ j u. up j ≡ true → (i : ℕ) → Has j i u)
+        (λ j a b r h e i e' apart. r.each j i (h e i e' apart)) (sites f) (λ j u in' h. by_test j u h (up j) refl) v g)
         (λ u is. record { after = u; goes = goes_nowhere choose f u; holds = (is.0, (λ j i e. is.1 j (has_site f j (up_small j e)) e i)) })
       where
-        by_test : (j : ℕ) (u : World C R O) → Gathers u → (b : Bool) → up j ≡ b → Reaches choose f u (λ t. Gathers t × (up j ≡ true → (i : ℕ) → Has j i t) × KeepsOn u t)
+        by_test : (j : ℕ) (u : World C R O) → Gathers u → (b : Bool) → up j ≡ b
+            → Reaches choose f u (λ t. Gathers t × (up j ≡ true → (i : ℕ) → Has j i t) × KeepsOn u t)
         by_test j u h true e =
             reaches_then choose f u (λ t. Gathers t × ((i : ℕ) → Has j i t) × KeepsOn u t) _ (all_to_one j e u h)
             (λ t is. record { after = t; goes = goes_nowhere choose f t; holds = (is.0, (λ _. is.1), is.2) })
         by_test j u h false e = record { after = u; goes = goes_nowhere choose f u; holds = (h, (λ e' i. absurd (true≢false (sym e' ∙ e))), keeps_on_same u) }
 
     -- so each has voted
-    pub all_voted : f < count_by up (sites f) → (v : World C R O) → Gathers v → Reaches choose f v (λ u. Gathers u × ((j : ℕ) → up j ≡ true → (site_at u j).collected.voted ≡ true))
+    pub all_voted : f < count_by up (sites f) → (v : World C R O) → Gathers v
+        → Reaches choose f v (λ u. Gathers u × ((j : ℕ) → up j ≡ true → (site_at u j).collected.voted ≡ true))
     all_voted many v g =
         reaches_then choose f v (λ u. Gathers u × ((j i : ℕ) → up j ≡ true → Has j i u)) _ (all_to_all v g) (λ u is. record {
           after = u;
@@ -247,5 +264,7 @@ module _ {C R O : Type 0} (choose : Choice C) (f : ℕ) where
       where
         due_by : (u : World C R O) (j : ℕ) → ((i : ℕ) → Has j i u) → is_due f j (site_at u j) ≡ true
         due_by u j has =
-            let enough = others_enough f j up (has_start (site_at u j).collected.starts) many (λ i apart e. (let k = has i e apart in has_start_of (site_at u j).collected.starts i k.start k.among k.from)) in
+            let enough =
+            others_enough f j up (has_start (site_at u j).collected.starts) many (λ i apart e. (let k = has i e apart in
+            has_start_of (site_at u j).collected.starts i k.start k.among k.from)) in
             le_is f _ enough

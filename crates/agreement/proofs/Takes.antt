@@ -78,14 +78,17 @@ module _ {C R O : Type 0} (f : ℕ) (g : History C R O) (s : ℕ → Site C) (me
           })
 
       -- it is taken and acknowledged
-      kept_taken_told : (s me).view ≤ w → (let y = taken w k log (s me) in Kept f g s me (does y (if nat_lt y.done (length y.log) then acknowledges_all f me y else [])))
+      kept_taken_told : (s me).view ≤ w
+          → (let y = taken w k log (s me) in Kept f g s me (does y (if nat_lt y.done (length y.log) then acknowledges_all f me y else [])))
       kept_taken_told low =
           let y = taken w k log (s me) in
           kept_then f g s me y y [] (if nat_lt y.done (length y.log) then acknowledges_all f me y else []) (kept_taken low)
-          (λ h grown later. subst (λ (x : Site C). Kept f h (put s me y) me (does x (if nat_lt y.done (length y.log) then acknowledges_all f me x else []))) (put_here s me y)
+          (λ h grown later. subst (λ (x : Site C). Kept f h (put s me y) me (does x (if nat_lt y.done (length y.log) then acknowledges_all f me x else [])))
+          (put_here s me y)
           (acknowledges_later h (put s me y) (nat_lt y.done (length y.log)) later (ap (λ (x : Site C). x.status) (put_here s me y))))
         where
-          acknowledges_later : (h : History C R O) (t : ℕ → Site C) (b : Bool) → Holds f h t → (t me).status ≡ Normal → Kept f h t me (does (t me) (if b then acknowledges_all f me (t me) else []))
+          acknowledges_later : (h : History C R O) (t : ℕ → Site C) (b : Bool) → Holds f h t → (t me).status ≡ Normal
+              → Kept f h t me (does (t me) (if b then acknowledges_all f me (t me) else []))
           acknowledges_later h t true later normal = kept_acknowledges f h t me later normal (primary f (t me).view)
           acknowledges_later h t false later normal = kept_same f h t me later _ refl refl
 
@@ -148,15 +151,20 @@ module _ {C R O : Type 0} (f : ℕ) (g : History C R O) (s : ℕ → Site C) (me
             inr (e, a.covers (recovers_now (s me) recovering) n (subst (λ (u : ℕ). Prepared f g me u n) e p))
 
 module _ {C R O : Type 0} (f : ℕ) (g : History C R O) (s : ℕ → Site C) (me : ℕ) (holds : Holds f g s) where
-  pub kept_regains : (responses : List (Response C)) (regained : Regained C) → (s me).status ≡ Recovering → (s me).collected.responses ≡ responses → IsRegained f responses regained
+  pub kept_regains : (responses : List (Response C)) (regained : Regained C) → (s me).status ≡ Recovering → (s me).collected.responses ≡ responses
+      → IsRegained f responses regained
       → Kept f g s me (regains (s me) (Some regained))
   kept_regains responses regained recovering same right =
       kept_after f g s holds me recovering responses same regained right _
       (regained_then regained_holds' (regained_holds'.said _ _ _ said.1) (λ e. said.0 (sym e)))
     where
-      said : (primary f regained.view ≢ me) × Contains g.said (mail (primary f regained.view) me (RecoveryResponse (record { view = regained.view; nonce = nonce_of (s me); state = Some regained.state; known = right.known })))
+      said : (primary f regained.view ≢ me) × Contains g.said
+          (mail (primary f regained.view) me
+          (RecoveryResponse (record { view = regained.view; nonce = nonce_of (s me); state = Some regained.state; known = right.known })))
       said = (holds.sites me).responses (nonce_of (s me)) (recovers_now (s me) recovering) _
-          (subst (λ (l : List (Response C)). Contains l (record { from = primary f regained.view; view = regained.view; state = Some regained.state; known = right.known })) (sym same) right.answered)
+          (subst (λ (l : List (Response C)).
+          Contains l (record { from = primary f regained.view; view = regained.view; state = Some regained.state; known = right.known }))
+          (sym same) right.answered)
 
       c : Regain
       c = candidate f g s holds me recovering responses same regained right
@@ -170,7 +178,10 @@ module _ {C R O : Type 0} (f : ℕ) (g : History C R O) (s : ℕ → Site C) (me
       lived : HasLived h me regained.view (s me).known (length h.regains)
       lived = again c (Contains-here c g.regains) refl (sym ((holds.sites me).hears.own (ap is_down recovering))) (omega arith) (λ k. omega arith) (omega arith)
 
-      regained_then : Holds f h s → IsVouched f h s (primary f regained.view) me (RecoveryResponse (record { view = regained.view; nonce = nonce_of (s me); state = Some regained.state; known = right.known })) → me ≢ primary f regained.view
+      regained_then : Holds f h s
+          → IsVouched f h s (primary f regained.view) me
+          (RecoveryResponse (record { view = regained.view; nonce = nonce_of (s me); state = Some regained.state; known = right.known }))
+          → me ≢ primary f regained.view
           → Kept f h s me (regains (s me) (Some regained))
       regained_then later vouched apart =
           let a = vouched.1 in
@@ -198,7 +209,8 @@ module _ {C R O : Type 0} (f : ℕ) (g : History C R O) (s : ℕ → Site C) (me
         responses = λ _ _ a in'. absurd (Contains-none a in');
         current = λ _ a in'. absurd (Contains-none a in');
       })
-      (λ to in'. subst (λ (x : Site C). HasAsked x boots) (sym (put_here s me y)) (omega arith)) (λ e in'. Contains-there (mail me me msg) e (to_all f me msg) in')
+      (λ to in'. subst (λ (x : Site C). HasAsked x boots) (sym (put_here s me y)) (omega arith))
+      (λ e in'. Contains-there (mail me me msg) e (to_all f me msg) in')
     where
       boots : ℕ
       boots = (s me).cell.boots + 1
@@ -235,5 +247,7 @@ module _ {C R O : Type 0} (f : ℕ) (g : History C R O) (s : ℕ → Site C) (me
       no_vote w a (inr n) = absurd (true≢false (sym n.running))
 
       no_answer : (to w n : ℕ) (a : List ℕ) → Answered g me to w n a ⊎ (IsNow y w a × (n ≤ boot_of y.known to)) → boot_of a me < boots
-      no_answer to w n a (inl v) = let vouched : IsVouched f g s me to (RecoveryResponse (record { view = w; nonce = n; state = v.state; known = a })) = holds.said me to _ v.said in was _ (vouched.2.boots me)
+      no_answer to w n a (inl v) =
+          let vouched : IsVouched f g s me to (RecoveryResponse (record { view = w; nonce = n; state = v.state; known = a })) = holds.said me to _ v.said in
+          was _ (vouched.2.boots me)
       no_answer to w n a (inr is) = absurd (true≢false (sym is.0.running))

@@ -25,7 +25,8 @@ use Rattle.agreement.proofs.Tests.{eq_test, ge_of, not_true, not_false, and_fals
 use Rattle.agreement.proofs.Votes.{IsKeptVote, IsKeptResponse}
 
 -- what is of the boot that is known, and knew no more than is known, is fresh together
-pub fresh_by : {A : Type 0} (from : A → ℕ) (told : A → List ℕ) (known : List ℕ) (xs : List A) → ((a : A) → Contains xs a → Within (told a) known) → ((a : A) → Contains xs a → boot_of known (from a) ≤ boot_of (told a) (from a))
+pub fresh_by : {A : Type 0} (from : A → ℕ) (told : A → List ℕ) (known : List ℕ) (xs : List A) → ((a : A) → Contains xs a → Within (told a) known)
+    → ((a : A) → Contains xs a → boot_of known (from a) ≤ boot_of (told a) (from a))
     → AreFresh from told xs
 fresh_by from told known xs within current a b in_a in_b = let low = within a in_a (from b) in let high = current b in_b in omega arith
 
@@ -44,11 +45,13 @@ came : (known told : List ℕ) (from : ℕ) → is_outdated known from told ≡ 
 came known told from current = let e = greater_is known told from in let low = ge_of (boot_of told from) (boot_of known from) current in omega arith
 
 -- so is what is left then
-left : (known told : List ℕ) (from : ℕ) (sent : List ℕ) → not (is_outdated (greater known told) from sent) ≡ true → boot_of (greater known told) from ≤ boot_of sent from
+left : (known told : List ℕ) (from : ℕ) (sent : List ℕ) → not (is_outdated (greater known told) from sent) ≡ true
+    → boot_of (greater known told) from ≤ boot_of sent from
 left known told from sent e = ge_of (boot_of sent from) (boot_of (greater known told) from) (not_true _ e)
 
 -- one more DOVIEWCHANGE
-vote_more : {C : Type 0} (known : List ℕ) (vote : Vote C) (x : Site C) → IsKeptVote known vote → VotesKept known x.collected.votes → VotesKept known (with_vote vote x).collected.votes
+vote_more : {C : Type 0} (known : List ℕ) (vote : Vote C) (x : Site C) → IsKeptVote known vote → VotesKept known x.collected.votes
+    → VotesKept known (with_vote vote x).collected.votes
 vote_more {C} known vote x this all = by_test (has_vote x.collected.votes vote.from)
   where
     of_this : (v : Vote C) → (vote ≡ v) ⊎ Contains [] v → IsKeptVote known v
@@ -59,12 +62,14 @@ vote_more {C} known vote x this all = by_test (has_vote x.collected.votes vote.f
     by_part v (inl in') = all v in'
     by_part v (inr in') = of_this v (Contains-cases vote v [] in')
 
-    by_test : (b : Bool) → VotesKept known (if b then x else record x { collected = record (x.collected) { votes = x.collected.votes ++ vote ∷ [] } }).collected.votes
+    by_test : (b : Bool)
+        → VotesKept known (if b then x else record x { collected = record (x.collected) { votes = x.collected.votes ++ vote ∷ [] } }).collected.votes
     by_test true = all
     by_test false = λ v in'. by_part v (Contains-append_cases x.collected.votes (vote ∷ []) v in')
 
 -- the site's own vote knows what the site knows
-own_more : {C R O : Type 0} (f me : ℕ) (part : Part C R O) (known : List ℕ) → part.site.known ≡ known → VotesKept known part.site.collected.votes → VotesKept known (votes_where_due f me part).site.collected.votes
+own_more : {C R O : Type 0} (f me : ℕ) (part : Part C R O) (known : List ℕ) → part.site.known ≡ known → VotesKept known part.site.collected.votes
+    → VotesKept known (votes_where_due f me part).site.collected.votes
 own_more {C} {R} {O} f me part known knows all = by_tests (not (is_to_vote f me part.site)) (primary f part.site.view == me)
   where
     own : IsKeptVote known (own_vote me part.site)
@@ -83,10 +88,12 @@ own_more {C} {R} {O} f me part known knows all = by_tests (not (is_to_vote f me 
 module _ {C : Type 0} (R O : Type 0) (choose : Choice C) (f me : ℕ) (x : Site C) (votes : x.status ≡ Change → VotesKept x.known x.collected.votes) where
   -- what is kept as the change to a view begins, or goes on
   begun : (w : ℕ) (told : List ℕ) → (nat_lt x.view w ≡ false → x.status ≡ Change)
-      → let part : Part C R O = starts_later_view f me w (learns told x) in (part.site.known ≡ greater x.known told) × VotesKept (greater x.known told) part.site.collected.votes
+      → let part : Part C R O = starts_later_view f me w (learns told x) in
+      (part.site.known ≡ greater x.known told) × VotesKept (greater x.known told) part.site.collected.votes
   begun w told change = by_test (nat_lt x.view w) refl
     where
-      by_test : (b : Bool) → nat_lt x.view w ≡ b → let part : Part C R O = if b then starts_view f me w (learns told x) else record { site = learns told x; sent = [] } in
+      by_test : (b : Bool) → nat_lt x.view w ≡ b → let part : Part C R O =
+          if b then starts_view f me w (learns told x) else record { site = learns told x; sent = [] } in
           (part.site.known ≡ greater x.known told) × VotesKept (greater x.known told) part.site.collected.votes
       by_test true e = (refl, λ v in'. absurd (Contains-none v in'))
       by_test false e = (
@@ -104,7 +111,8 @@ module _ {C : Type 0} (R O : Type 0) (choose : Choice C) (f me : ℕ) (x : Site 
   past true why s e = absurd (cc)
   past false why s e = (refl, e)
 
-  changing : (w : ℕ) → is_down x.status ≡ false → is_recovering x.status ≡ false → nat_lt w x.view ≡ false → (is_normal x.status && (w == x.view)) ≡ false → nat_lt x.view w ≡ false → x.status ≡ Change
+  changing : (w : ℕ) → is_down x.status ≡ false → is_recovering x.status ≡ false → nat_lt w x.view ≡ false → (is_normal x.status && (w == x.view)) ≡ false
+      → nat_lt x.view w ≡ false → x.status ≡ Change
   changing w up here new other same =
       let a = ge_of w x.view new in
       let b = ge_of x.view w same in
@@ -120,12 +128,14 @@ module _ {C : Type 0} (R O : Type 0) (choose : Choice C) (f me : ℕ) (x : Site 
       let part : Part C R O = starts_later_view f me w (learns start.known x) in
       let h = begun w start.known (changing w up a.0 b.0 c.0) in
       let k = with_start_keeps part.site in
-      own_more f me (record part { site = with_start start part.site }) (greater x.known start.known) (k.0 ∙ h.0) (subst (VotesKept (greater x.known start.known)) (sym k.1) h.1)
+      own_more f me (record part { site = with_start start part.site }) (greater x.known start.known) (k.0 ∙ h.0)
+      (subst (VotesKept (greater x.known start.known)) (sym k.1) h.1)
     where
       with_start_keeps : (y : Site C) → ((with_start start y).known ≡ y.known) × ((with_start start y).collected.votes ≡ y.collected.votes)
       with_start_keeps y = by_test (has_start y.collected.starts start.from)
         where
-          by_test : (b : Bool) → let z = if b then y else record y { collected = record (y.collected) { starts = y.collected.starts ++ start ∷ [] } } in (z.known ≡ y.known) × (z.collected.votes ≡ y.collected.votes)
+          by_test : (b : Bool) → let z = if b then y else record y { collected = record (y.collected) { starts = y.collected.starts ++ start ∷ [] } } in
+              (z.known ≡ y.known) × (z.collected.votes ≡ y.collected.votes)
           by_test true = (refl, refl)
           by_test false = (refl, refl)
 
@@ -140,9 +150,11 @@ module _ {C : Type 0} (R O : Type 0) (choose : Choice C) (f me : ℕ) (x : Site 
       let g = past (is_outdated x.known vote.from vote.known) _ _ d.1 in
       let part : Part C R O = starts_later_view f me w (learns vote.known x) in
       let h = begun w vote.known (changing w up a.0 b.0 d.0) in
-      vote_more (greater x.known vote.known) vote part.site (record { within = greater_right x.known vote.known; current = came x.known vote.known vote.from g.0 }) h.1
+      vote_more (greater x.known vote.known) vote part.site
+      (record { within = greater_right x.known vote.known; current = came x.known vote.known vote.from g.0 }) h.1
 
-  response_keeps : (x.status ≡ Recovering → ResponsesKept x.known x.collected.responses) → (nonce : ℕ) (response : Response C) → (on_recovery_response {R = R} {O = O} choose x nonce response).ending ≡ Handled
+  response_keeps : (x.status ≡ Recovering → ResponsesKept x.known x.collected.responses) → (nonce : ℕ) (response : Response C)
+      → (on_recovery_response {R = R} {O = O} choose x nonce response).ending ≡ Handled
       → ResponsesKept (greater x.known response.known) (after_response response x).collected.responses
   unfolding on_recovery_response
   response_keeps responses nonce response e =
@@ -164,27 +176,38 @@ module _ {C : Type 0} (R O : Type 0) (choose : Choice C) (f me : ℕ) (x : Site 
       these : List (Response C)
       these = filter (λ old. not (old.from == response.from)) (learns response.known x).collected.responses
 
-      of_this : IsKeptResponse (greater x.known response.known) response → (r : Response C) → (response ≡ r) ⊎ Contains [] r → IsKeptResponse (greater x.known response.known) r
+      of_this : IsKeptResponse (greater x.known response.known) response → (r : Response C) → (response ≡ r) ⊎ Contains [] r
+          → IsKeptResponse (greater x.known response.known) r
       of_this this r (inl e) = subst (IsKeptResponse (greater x.known response.known)) e this
       of_this this r (inr none) = absurd (Contains-none r none)
 
-      by_part : IsKeptResponse (greater x.known response.known) response → ((q : Response C) → Contains these q → IsKeptResponse (greater x.known response.known) q)
+      by_part : IsKeptResponse (greater x.known response.known) response
+          → ((q : Response C) → Contains these q → IsKeptResponse (greater x.known response.known) q)
           → (r : Response C) → Contains these r ⊎ Contains (response ∷ []) r → IsKeptResponse (greater x.known response.known) r
       by_part this others r (inl in') = others r in'
       by_part this others r (inr in') = of_this this r (Contains-cases response r [] in')
 
   -- whatever message it is
-  pub used_fresh : (x.status ≡ Recovering → ResponsesKept x.known x.collected.responses) → (actor : ℕ) (msg : MsgOf C R O) → is_down x.status ≡ false → (on_message choose f me x actor msg).ending ≡ Handled
-      → AreFresh (λ vote. vote.from) (λ vote. vote.known) (votes_used f me x actor msg) × AreFresh (λ response. response.from) (λ response. response.known) (responses_used x actor msg)
+  pub used_fresh : (x.status ≡ Recovering → ResponsesKept x.known x.collected.responses) → (actor : ℕ) (msg : MsgOf C R O) → is_down x.status ≡ false
+      → (on_message choose f me x actor msg).ending ≡ Handled
+      → AreFresh (λ vote. vote.from) (λ vote. vote.known) (votes_used f me x actor msg)
+      × AreFresh (λ response. response.from) (λ response. response.known) (responses_used x actor msg)
   used_fresh responses actor (StartViewChange msg) up e =
-      let h = start_keeps msg.view (record { from = site_of actor; known = msg.known }) up e in
-      (fresh_by (λ vote. vote.from) (λ vote. vote.known) (greater x.known msg.known) _ (λ v in'. (h v in').within) (λ v in'. (h v in').current), none_fresh (λ response. response.from) (λ response. response.known))
+      let h = start_keeps msg.view (record { from = site_of actor; known = msg.known }) up e in (
+        fresh_by (λ vote. vote.from) (λ vote. vote.known) (greater x.known msg.known) _ (λ v in'. (h v in').within) (λ v in'. (h v in').current),
+        none_fresh (λ response. response.from) (λ response. response.known),
+      )
   used_fresh responses actor (DoViewChange msg) up e =
-      let h = vote_keeps msg.view (record { from = site_of actor; last_normal = msg.last_normal; done = msg.done; log = msg.rows; known = msg.known }) up e in
-      (fresh_by (λ vote. vote.from) (λ vote. vote.known) (greater x.known msg.known) _ (λ v in'. (h v in').within) (λ v in'. (h v in').current), none_fresh (λ response. response.from) (λ response. response.known))
+      let h = vote_keeps msg.view (record { from = site_of actor; last_normal = msg.last_normal; done = msg.done; log = msg.rows; known = msg.known }) up e in (
+        fresh_by (λ vote. vote.from) (λ vote. vote.known) (greater x.known msg.known) _ (λ v in'. (h v in').within) (λ v in'. (h v in').current),
+        none_fresh (λ response. response.from) (λ response. response.known),
+      )
   used_fresh responses actor (RecoveryResponse msg) up e =
-      let h = response_keeps responses msg.nonce (record { from = site_of actor; view = msg.view; state = msg.state; known = msg.known }) e in
-      (none_fresh (λ vote. vote.from) (λ vote. vote.known), fresh_by (λ response. response.from) (λ response. response.known) (greater x.known msg.known) _ (λ r in'. (h r in').within) (λ r in'. (h r in').current))
+      let h = response_keeps responses msg.nonce (record { from = site_of actor; view = msg.view; state = msg.state; known = msg.known }) e in (
+        none_fresh (λ vote. vote.from) (λ vote. vote.known),
+        fresh_by (λ response. response.from) (λ response. response.known) (greater x.known msg.known) _
+            (λ r in'. (h r in').within) (λ r in'. (h r in').current),
+      )
   used_fresh responses actor _ up e = (none_fresh (λ vote. vote.from) (λ vote. vote.known), none_fresh (λ response. response.from) (λ response. response.known))
 
 -- a message that is handled is not refused, and its site is up
@@ -192,7 +215,9 @@ pub message_taken : {C R O : Type 0} (choose : Choice C) (f me : ℕ) (x : Site 
     → (is_down x.status ≡ false) × ((on_message choose f me x e.from e.msg).ending ≡ Handled)
 message_taken {C} {R} {O} choose f me x e = by_tests (is_down x.status) (not (is_mine f me e))
   where
-    by_tests : (a b : Bool) → (refused_or x (if a then Some NotUp else if b then Some NotMine else None) (on_message choose f me x e.from e.msg)).ending ≡ Handled → (a ≡ false) × ((on_message choose f me x e.from e.msg).ending ≡ Handled)
+    by_tests : (a b : Bool)
+        → (refused_or x (if a then Some NotUp else if b then Some NotMine else None) (on_message choose f me x e.from e.msg)).ending ≡ Handled
+        → (a ≡ false) × ((on_message choose f me x e.from e.msg).ending ≡ Handled)
     by_tests true b h = absurd (cc)
     by_tests false true h = absurd (cc)
     by_tests false false h = (refl, h)

@@ -1,4 +1,5 @@
--- THE VOTES PART, its words: what holds of boots, views, votes and recoveries, whatever logs say. A crash forgets all but the boot number, so what binds a site stands in what others know.
+-- THE VOTES PART, its words: what holds of boots, views, votes and recoveries, whatever logs say. A crash forgets all but the boot number, so what binds a site
+-- stands in what others know.
 use Rattle.std.proofs.Common.{◌≡◌, ◌⊎◌, inl, inr, ℕ, ◌+◌, ◌*◌, ◌<◌, ◌≤◌, Bool, true, false, List, length, Option, count_by, refl, sym, ap, ◌∙◌, arith}
 use Rattle.std.specs.Prelude.{Contains}
 use Rattle.vr_types.specs.declared.cell.Boot.{Boot}
@@ -23,7 +24,8 @@ answer_by nonce response = record { view = response.view; nonce = nonce; state =
 -- site j spoke for view w, knowing this
 pub data Voted {C R O : Type 0} (g : History C R O) (j w : ℕ) (known : List ℕ) : Type 0 where
   started : (to : ℕ) → Contains g.said (mail j to (StartViewChange (record { view = w; known = known }))) → Voted g j w known
-  voted : (to u k : ℕ) (log : List (RowOf C)) → Contains g.said (mail j to (DoViewChange (record { view = w; last_normal = u; done = k; rows = log; known = known }))) → Voted g j w known
+  voted : (to u k : ℕ) (log : List (RowOf C))
+      → Contains g.said (mail j to (DoViewChange (record { view = w; last_normal = u; done = k; rows = log; known = known }))) → Voted g j w known
 
 -- site j answered a restart of another site, in view w, knowing this
 pub record Answered {C R O : Type 0} (g : History C R O) (j to w nonce : ℕ) (known : List ℕ) : Type 0 where
@@ -38,7 +40,8 @@ pub data WasBoot {C R O : Type 0} (g : History C R O) (k boot : ℕ) : Type 0 wh
 -- in the boot in which it knows this, site j has never restarted, or has completed a recovery before, in no view above w, knowing no more
 pub data HasLived {C R O : Type 0} (g : History C R O) (j w : ℕ) (known : List ℕ) (before : ℕ) : Type 0 where
   first : boot_of known j ≡ 0 → HasLived g j w known before
-  again : (c : Regain) → Contains g.regains c → c.site ≡ j → c.boot ≡ boot_of known j → c.view ≤ w → Within c.known known → c.time < before → HasLived g j w known before
+  again : (c : Regain) → Contains g.regains c → c.site ≡ j → c.boot ≡ boot_of known j → c.view ≤ w → Within c.known known → c.time < before
+      → HasLived g j w known before
 
 -- what is told with boot numbers is of a boot that was, and of boots that were
 pub record IsTold {C R O : Type 0} (g : History C R O) (j w : ℕ) (known : List ℕ) : Type 0 where
@@ -73,10 +76,12 @@ pub record IsRegain {C R O : Type 0} (f : ℕ) (g : History C R O) (c : Regain) 
   pub answered : (k : ℕ) → c.who k ≡ true → IsAnswer g c k
   pub fresh : (k l : ℕ) → c.who k ≡ true → c.who l ≡ true → boot_of (c.heard k) l ≤ boot_of (c.heard l) l
 
--- In one boot: what site j has answered it knows in what it tells later; so of an answer and a vote, the vote knows whom was answered, or is of no later view; and of two answers the one knows whom the other answered.
+-- In one boot: what site j has answered it knows in what it tells later; so of an answer and a vote, the vote knows whom was answered, or is of no later view;
+-- and of two answers the one knows whom the other answered.
 pub record IsOrdered {C R O : Type 0} (g : History C R O) (j : ℕ) : Type 0 where
   pub votes : (to x v w : ℕ) (a b : List ℕ) → Answered g j to v x a → Voted g j w b → boot_of b j ≡ boot_of a j → (x ≤ boot_of b to) ⊎ (w ≤ v)
-  pub answers : (to to' x y v v' : ℕ) (a b : List ℕ) → Answered g j to v x a → Answered g j to' v' y b → boot_of a j ≡ boot_of b j → (x ≤ boot_of b to) ⊎ (y ≤ boot_of a to')
+  pub answers : (to to' x y v v' : ℕ) (a b : List ℕ) → Answered g j to v x a → Answered g j to' v' y b → boot_of a j ≡ boot_of b j
+      → (x ≤ boot_of b to) ⊎ (y ≤ boot_of a to')
 
 -- THE SITES
 
@@ -99,8 +104,10 @@ pub record IsKeptStart {C R O : Type 0} (g : History C R O) (view : ℕ) (known 
   pub within : Within a.known known
   pub current : boot_of known a.from ≤ boot_of a.known a.from
 
--- A running site: what it said in this boot is of no later view, and what it answered it knows; no vote of it in any boot is of a later view; and its own vote stands among f others.
-pub record Takes {C R O : Type 0} (f : ℕ) (g : History C R O) (j : ℕ) (status : Status) (view boots : ℕ) (known : List ℕ) (kept : List Start) (made : Bool) : Type 0 where
+-- A running site: what it said in this boot is of no later view, and what it answered it knows; no vote of it in any boot is of a later view; and its own vote
+-- stands among f others.
+pub record Takes {C R O : Type 0} (f : ℕ) (g : History C R O) (j : ℕ) (status : Status) (view boots : ℕ) (known : List ℕ) (kept : List Start) (made : Bool)
+    : Type 0 where
   pub lived : HasLived g j view known (length g.regains)
   pub votes : (w : ℕ) (a : List ℕ) → Voted g j w a → boot_of a j ≡ boots → w ≤ view
   pub promised : (to : ℕ) (msg : DoViewChangeOf C) → Contains g.said (mail j to (DoViewChange msg)) → msg.view ≤ view
@@ -149,7 +156,8 @@ pub record IsChange {C : Type 0} (x y : Site C) : Type 0 where
   pub ahead : IsAhead x y
   pub recovering : y.status ≡ Recovering → (x.cell.boots < y.cell.boots) ⊎ ((x.status ≡ Recovering) × (x.cell.boots ≡ y.cell.boots))
 
--- a site that recovers by a nonce did so before the change too, where it had asked with that nonce by then; so a response by that nonce was made after the restart
+-- a site that recovers by a nonce did so before the change too, where it had asked with that nonce by then; so a response by that nonce was made after the
+-- restart
 pub recovers_by : {C : Type 0} (x y : Site C) (nonce : ℕ) → IsChange x y → HasAsked x nonce → RecoversBy y nonce → RecoversBy x nonce
 recovers_by x y nonce c old by = by_case (c.recovering by.status)
   where

@@ -82,7 +82,8 @@ module _ {C : Type 0} (f w me b : ℕ) (boots : ℕ → ℕ) where
     learns_keeps_start j k = record {
       start = k.start;
       among = filter_keeps (λ (a : Start). not (is_outdated (greater x.known told) a.from a.known)) x.collected.starts k.start k.among
-          (subst (λ (i : ℕ). not (is_outdated (greater x.known told) i k.start.known) ≡ true) (sym k.from) (passes (greater x.known told) k.start.known j (boots j) (learnt_most j) k.current));
+          (subst (λ (i : ℕ). not (is_outdated (greater x.known told) i k.start.known) ≡ true) (sym k.from)
+          (passes (greater x.known told) k.start.known j (boots j) (learnt_most j) k.current));
       from = k.from;
       current = k.current;
     }
@@ -91,7 +92,8 @@ module _ {C : Type 0} (f w me b : ℕ) (boots : ℕ → ℕ) where
     learns_keeps_vote j k = record {
       vote = k.vote;
       among = filter_keeps (λ (a : Vote C). not (is_outdated (greater x.known told) a.from a.known)) x.collected.votes k.vote k.among
-          (subst (λ (i : ℕ). not (is_outdated (greater x.known told) i k.vote.known) ≡ true) (sym k.from) (passes (greater x.known told) k.vote.known j (boots j) (learnt_most j) k.current));
+          (subst (λ (i : ℕ). not (is_outdated (greater x.known told) i k.vote.known) ≡ true) (sym k.from)
+          (passes (greater x.known told) k.vote.known j (boots j) (learnt_most j) k.current));
       from = k.from;
       current = k.current;
     }
@@ -103,7 +105,9 @@ module _ {C : Type 0} (f w me b : ℕ) (boots : ℕ → ℕ) where
       boots = c.boots;
       own = λ v in'. c.own v (filter-has (λ (a : Vote C). not (is_outdated (greater x.known told) a.from a.known)) x.collected.votes v in');
       logs = λ v in'. c.logs v (filter-has (λ (a : Vote C). not (is_outdated (greater x.known told) a.from a.known)) x.collected.votes v in');
-      made = λ voted leads. subst (λ (n : ℕ). KeepsVote (learns told x) me n) (sym own) (learns_keeps_vote me (subst (λ (n : ℕ). KeepsVote x me n) own (c.made voted leads)));
+      made =
+          λ voted leads. subst (λ (n : ℕ). KeepsVote (learns told x) me n) (sym own)
+          (learns_keeps_vote me (subst (λ (n : ℕ). KeepsVote x me n) own (c.made voted leads)));
     }
 
   -- the STARTVIEWCHANGE is kept
@@ -119,16 +123,26 @@ module _ {C : Type 0} (f w me b : ℕ) (boots : ℕ → ℕ) where
       where
         by_test : (t : Bool) → Changes f w me b (if t then y else more)
         by_test true = c
-        by_test false = record { status = c.status; view = c.view; boots = c.boots; own = c.own; logs = c.logs; made = λ voted leads. (let v = c.made voted leads in record { vote = v.vote; among = v.among; from = v.from; current = v.current }) }
+        by_test false =
+            record {
+              status = c.status;
+              view = c.view;
+              boots = c.boots;
+              own = c.own;
+              logs = c.logs;
+              made = λ voted leads. (let v = c.made voted leads in record { vote = v.vote; among = v.among; from = v.from; current = v.current });
+            }
 
     start_keeps : (j n : ℕ) → KeepsStart y j n → KeepsStart (with_start start y) j n
     start_keeps j n s = by_test (has_start y.collected.starts k)
       where
         by_test : (t : Bool) → KeepsStart (if t then y else more) j n
         by_test true = s
-        by_test false = record { start = s.start; among = Contains-append_left y.collected.starts (start ∷ []) s.start s.among; from = s.from; current = s.current }
+        by_test false =
+            record { start = s.start; among = Contains-append_left y.collected.starts (start ∷ []) s.start s.among; from = s.from; current = s.current }
 
-    start_is_kept : ((a : Start) → Contains y.collected.starts a → boot_of y.known a.from ≤ boot_of a.known a.from) → boots k ≤ boot_of y.known k → boots k ≤ boot_of told k → KeepsStart (with_start start y) k (boots k)
+    start_is_kept : ((a : Start) → Contains y.collected.starts a → boot_of y.known a.from ≤ boot_of a.known a.from) → boots k ≤ boot_of y.known k
+        → boots k ≤ boot_of told k → KeepsStart (with_start start y) k (boots k)
     start_is_kept current low high = by_test (has_start y.collected.starts k) refl
       where
         by_test : (t : Bool) → has_start y.collected.starts k ≡ t → KeepsStart (if t then y else more) k (boots k)
@@ -144,7 +158,8 @@ module _ {C : Type 0} (f w me b : ℕ) (boots : ℕ → ℕ) where
                   let l : boots a.item.from ≤ boot_of y.known a.item.from = subst (λ (i : ℕ). boots i ≤ boot_of y.known i) (sym from) low in
                   omega arith);
             }
-        by_test false e = record { start = start; among = Contains-append_right y.collected.starts (start ∷ []) start (Contains-here start []); from = refl; current = high }
+        by_test false e =
+            record { start = start; among = Contains-append_right y.collected.starts (start ∷ []) start (Contains-here start []); from = refl; current = high }
 
     known_same : (with_start start y).known ≡ y.known
     known_same = by_test (has_start y.collected.starts k)
@@ -168,12 +183,14 @@ module _ {C : Type 0} (f w me b : ℕ) (boots : ℕ → ℕ) where
         by_test false = refl
 
   -- it votes where that is due
-  module _ (z : Site C) (c : Changes f w me b z) (current : (v : Vote C) → Contains z.collected.votes v → boot_of z.known v.from ≤ boot_of v.known v.from) (low : b ≤ boot_of z.known me) where
+  module _ (z : Site C) (c : Changes f w me b z) (current : (v : Vote C) → Contains z.collected.votes v → boot_of z.known v.from ≤ boot_of v.known v.from)
+      (low : b ≤ boot_of z.known me) where
     own_kept : KeepsVote (with_vote (own_vote me z) (with_voted z)) me b
     own_kept = by_test (has_vote z.collected.votes me) refl
       where
         by_test : (t : Bool) → has_vote z.collected.votes me ≡ t
-            → KeepsVote (if t then with_voted z else record (with_voted z) { collected = record ((with_voted z).collected) { votes = z.collected.votes ++ own_vote me z ∷ [] } }) me b
+            → KeepsVote (if t then with_voted z
+            else record (with_voted z) { collected = record ((with_voted z).collected) { votes = z.collected.votes ++ own_vote me z ∷ [] } }) me b
         by_test true e =
             let a : Found (λ (v : Vote C). v.from == me) z.collected.votes = found _ z.collected.votes e in
             let from = eq_of a.item.from me a.passes in
@@ -186,7 +203,13 @@ module _ {C : Type 0} (f w me b : ℕ) (boots : ℕ → ℕ) where
                   let l : b ≤ boot_of z.known a.item.from = subst (λ (i : ℕ). b ≤ boot_of z.known i) (sym from) low in
                   omega arith);
             }
-        by_test false e = record { vote = own_vote me z; among = Contains-append_right z.collected.votes (own_vote me z ∷ []) (own_vote me z) (Contains-here (own_vote me z) []); from = refl; current = low }
+        by_test false e =
+            record {
+              vote = own_vote me z;
+              among = Contains-append_right z.collected.votes (own_vote me z ∷ []) (own_vote me z) (Contains-here (own_vote me z) []);
+              from = refl;
+              current = low;
+            }
 
     own_alone : (v : Vote C) → Contains (with_vote (own_vote me z) (with_voted z)).collected.votes v → v.from ≡ me
     own_alone v in' = by_test (has_vote z.collected.votes me) in'
@@ -199,7 +222,10 @@ module _ {C : Type 0} (f w me b : ℕ) (boots : ℕ → ℕ) where
         by_place (inl there) = c.own v there
         by_place (inr here) = last (Contains-cases (own_vote me z) v [] here)
 
-        by_test : (t : Bool) → (let s : Site C = if t then with_voted z else record (with_voted z) { collected = record ((with_voted z).collected) { votes = z.collected.votes ++ own_vote me z ∷ [] } } in Contains s.collected.votes v) → v.from ≡ me
+        by_test : (t : Bool)
+            → (let s : Site C = if t then with_voted z
+            else record (with_voted z) { collected = record ((with_voted z).collected) { votes = z.collected.votes ++ own_vote me z ∷ [] } } in
+            Contains s.collected.votes v) → v.from ≡ me
         by_test true in' = c.own v in'
         by_test false in' = by_place (Contains-append_cases z.collected.votes (own_vote me z ∷ []) v in')
 
@@ -214,7 +240,10 @@ module _ {C : Type 0} (f w me b : ℕ) (boots : ℕ → ℕ) where
         by_place (inl there) = c.logs v there
         by_place (inr here) = last (Contains-cases (own_vote me z) v [] here)
 
-        by_test : (t : Bool) → (let s : Site C = if t then with_voted z else record (with_voted z) { collected = record ((with_voted z).collected) { votes = z.collected.votes ++ own_vote me z ∷ [] } } in Contains s.collected.votes v) → v.log ≡ z.log
+        by_test : (t : Bool)
+            → (let s : Site C = if t then with_voted z
+            else record (with_voted z) { collected = record ((with_voted z).collected) { votes = z.collected.votes ++ own_vote me z ∷ [] } } in
+            Contains s.collected.votes v) → v.log ≡ z.log
         by_test true in' = c.logs v in'
         by_test false in' = by_place (Contains-append_cases z.collected.votes (own_vote me z ∷ []) v in')
 
@@ -230,7 +259,9 @@ module _ {C : Type 0} (f w me b : ℕ) (boots : ℕ → ℕ) where
     with_own : IsWith (with_vote (own_vote me z) (with_voted z))
     with_own = by_test (has_vote z.collected.votes me)
       where
-        by_test : (t : Bool) → IsWith (if t then with_voted z else record (with_voted z) { collected = record ((with_voted z).collected) { votes = z.collected.votes ++ own_vote me z ∷ [] } })
+        by_test : (t : Bool)
+            → IsWith (if t then with_voted z
+            else record (with_voted z) { collected = record ((with_voted z).collected) { votes = z.collected.votes ++ own_vote me z ∷ [] } })
         by_test true = record { status = refl; view = refl; cell = refl; starts = refl; voted = refl; log = refl }
         by_test false = record { status = refl; view = refl; cell = refl; starts = refl; voted = refl; log = refl }
 
@@ -257,7 +288,15 @@ module _ {C : Type 0} (f w me b : ℕ) (boots : ℕ → ℕ) where
             let o = with_own in
             record {
               waits = record {
-                changes = record { status = o.status ∙ c.status; view = o.view ∙ c.view; boots = ap (λ cell. cell.boots) o.cell ∙ c.boots; own = own_alone; logs = λ v in'. own_logs v in' ∙ sym o.log; made = λ _ _. own_kept };
+                changes =
+                    record {
+                      status = o.status ∙ c.status;
+                      view = o.view ∙ c.view;
+                      boots = ap (λ cell. cell.boots) o.cell ∙ c.boots;
+                      own = own_alone;
+                      logs = λ v in'. own_logs v in' ∙ sym o.log;
+                      made = λ _ _. own_kept;
+                    };
                 due = λ _. o.voted;
               };
               starts = o.starts;
@@ -265,7 +304,15 @@ module _ {C : Type 0} (f w me b : ℕ) (boots : ℕ → ℕ) where
             }
         by_tests false false d e = record {
           waits = record {
-            changes = record { status = c.status; view = c.view; boots = c.boots; own = c.own; logs = c.logs; made = λ _ leads. absurd (true≢false (sym (eq_test (primary f z.view) me (ap (primary f) c.view ∙ leads)) ∙ e)) };
+            changes =
+                record {
+                  status = c.status;
+                  view = c.view;
+                  boots = c.boots;
+                  own = c.own;
+                  logs = c.logs;
+                  made = λ _ leads. absurd (true≢false (sym (eq_test (primary f z.view) me (ap (primary f) c.view ∙ leads)) ∙ e));
+                };
             due = λ _. refl;
           };
           starts = refl;
@@ -277,7 +324,8 @@ module _ {C : Type 0} (f w me b : ℕ) (boots : ℕ → ℕ) where
   not_open some x c = by_last (is_change x.status) (primary f x.view == me) (has_vote x.collected.votes me)
     where
       alone : (j : ℕ) → has_vote x.collected.votes j ≡ true → j ≡ me
-      alone j e = let a : Found (λ (v : Vote C). v.from == j) x.collected.votes = found _ x.collected.votes e in sym (eq_of a.item.from j a.passes) ∙ c.own a.item a.among
+      alone j e = let a : Found (λ (v : Vote C). v.from == j) x.collected.votes = found _ x.collected.votes e in
+          sym (eq_of a.item.from j a.passes) ∙ c.own a.item a.among
 
       few : nat_lt f (count_by (has_vote x.collected.votes) (sites f)) ≡ false
       few = let h = one_at_most f me (has_vote x.collected.votes) alone in grind (arith, nat_tests, h, some)
@@ -311,7 +359,8 @@ module _ {C R O : Type 0} (choose : Choice C) (f w me b : ℕ) (boots : ℕ → 
     pub keeps : (j : ℕ) → KeepsStart x j (boots j) → KeepsStart step.site j (boots j)
     pub log : step.site.log ≡ x.log
 
-  pub takes_start : 1 ≤ f → (x : Site C) (k : ℕ) (told : List ℕ) → Waits f w me b x → b ≡ boots me → ((j : ℕ) → boot_of x.known j ≤ boots j) → ((j : ℕ) → boot_of told j ≤ boots j)
+  pub takes_start : 1 ≤ f → (x : Site C) (k : ℕ) (told : List ℕ) → Waits f w me b x → b ≡ boots me → ((j : ℕ) → boot_of x.known j ≤ boots j)
+      → ((j : ℕ) → boot_of told j ≤ boots j)
       → boot_of told k ≡ boots k → boot_of x.known me ≡ b → TakesStart x k (on_start_view_change choose f me x w (record { from = k; known = told }))
   unfolding on_start_view_change
   takes_start some x k told waits own known knew is_k is_me =
@@ -320,7 +369,9 @@ module _ {C R O : Type 0} (choose : Choice C) (f w me b : ℕ) (boots : ℕ → 
         waits = due.waits;
         log = due.log ∙ log_same f w me b boots y k told;
         has = keeps_same z part.site k (boots k) due.starts has;
-        keeps = λ j s. keeps_same z part.site j (boots j) due.starts (start_keeps f w me b boots y k told j (boots j) (learns_keeps_start f w me b boots x told known knew j s));
+        keeps =
+            λ j s. keeps_same z part.site j (boots j) due.starts
+            (start_keeps f w me b boots y k told j (boots j) (learns_keeps_start f w me b boots x told known knew j s));
       })
     where
       y : Site C
@@ -339,7 +390,8 @@ module _ {C R O : Type 0} (choose : Choice C) (f w me b : ℕ) (boots : ℕ → 
       changes_z = changes_start f w me b boots y k told changes_y
 
       current_y : (v : Vote C) → Contains y.collected.votes v → boot_of y.known v.from ≤ boot_of v.known v.from
-      current_y v in' = current_of y.known v.known v.from (filter-passes (λ (a : Vote C). not (is_outdated (greater x.known told) a.from a.known)) x.collected.votes v in')
+      current_y v in' =
+          current_of y.known v.known v.from (filter-passes (λ (a : Vote C). not (is_outdated (greater x.known told) a.from a.known)) x.collected.votes v in')
 
       current_z : (v : Vote C) → Contains z.collected.votes v → boot_of z.known v.from ≤ boot_of v.known v.from
       current_z v in' =
@@ -347,14 +399,17 @@ module _ {C R O : Type 0} (choose : Choice C) (f w me b : ℕ) (boots : ℕ → 
           (current_y v (subst (λ (l : List (Vote C)). Contains l v) (votes_same f w me b boots y k told) in'))
 
       low : b ≤ boot_of z.known me
-      low = subst (λ (a : List ℕ). b ≤ boot_of a me) (sym (known_same f w me b boots y k told)) (let e = greater_is x.known told me in let d = is_me in omega arith)
+      low =
+          subst (λ (a : List ℕ). b ≤ boot_of a me) (sym (known_same f w me b boots y k told)) (let e = greater_is x.known told me in let d = is_me in
+          omega arith)
 
       due : IsWaiting f w me b boots z changes_z current_z low part
       due = waits_votes f w me b boots z changes_z current_z low []
 
       has : KeepsStart z k (boots k)
       has = start_is_kept f w me b boots y k told
-          (λ a in'. current_of y.known a.known a.from (filter-passes (λ (s : Start). not (is_outdated (greater x.known told) s.from s.known)) x.collected.starts a in'))
+          (λ a in'. current_of y.known a.known a.from
+          (filter-passes (λ (s : Start). not (is_outdated (greater x.known told) s.from s.known)) x.collected.starts a in'))
           (let e = greater_is x.known told k in let d = is_k in omega arith) (let d = is_k in omega arith)
 
       -- no view is started, as it is in this one

@@ -188,8 +188,8 @@ pub record Took {C R O : Type 0} {f : ℕ} (list : LegalList C R O f)
   pub stands : slice_get (stepped world i step).sites i ≡ Some step.site
   pub rest : IsRun list.choose f (stepped world i step) after list.world
 
--- The DOVIEWCHANGEs by which a step of the list decides whether a view opens are fresh, and so are the responses by which
--- one decides whether a state is regained.
+-- The DOVIEWCHANGEs by which a step of the list decides whether a view opens are fresh, and so are the responses by
+-- which one decides whether a state is regained.
 abbrev pub UsedAreFresh : {C R O : Type 0} {f : ℕ} → LegalList C R O f → Type 0
 UsedAreFresh {C} {R} {O} {f} list =
     (i : ℕ) (step : Step C R O) (took : Took list i step) (envelope : EnvelopeOf C R O)
@@ -267,7 +267,11 @@ pub record IsRightReply {H C R O S : Type 0} (m : Ghosts H C R O S) (start : H)
   pub from : envelope.from ≡ actor_of site
   pub to : envelope.to ≡ row.client
   pub msg : envelope.msg
-      ≡ Reply (record { view = step.site.view; number = row.number; reply = answer_at m start (executed_rows step.site) place row })
+      ≡ Reply (record {
+        view = step.site.view;
+        number = row.number;
+        reply = answer_at m start (executed_rows step.site) place row;
+      })
 
 -- The envelope is an order that a step of the list sent, open for this client after the rows that the site had executed
 -- by then.

@@ -13,7 +13,8 @@ use Rattle.pvp_world.specs.Steps.{Moves}
 
 -- legal lists of one setup, one opening and the same moves lead to one bank
 pub one-bank : (s t : Setup) → s ≡ t → (a : LegalList s (faults s)) (b : LegalList t (faults t)) → a.cells ≡ b.cells → a.moves ≡ b.moves → a.bank ≡ b.bank
-one-bank s t e a = subst (λ (t : Setup). (b : LegalList t (faults t)) → a.cells ≡ b.cells → a.moves ≡ b.moves → a.bank ≡ b.bank) e (λ b. banks_once s (faults s) a b)
+one-bank s t e a =
+    subst (λ (t : Setup). (b : LegalList t (faults t)) → a.cells ≡ b.cells → a.moves ≡ b.moves → a.bank ≡ b.bank) e (λ b. banks_once s (faults s) a b)
 
 module _ {B : Type 0} (held : B → Boot) (old new : Shown B) (move : Move) (m : Moves held old new move) where
   -- where a world was before a move
@@ -29,5 +30,10 @@ module _ {B : Type 0} (held : B → Boot) (old new : Shown B) (move : Move) (m :
     cells = m.list.cells;
     moves = m.list.moves ++ move ∷ [];
     bank = m.after;
-    legal = record { all = m.list.legal.all; run = leads-more old.setup m.list.choose (faults old.setup) (opening_bank old.setup (faults old.setup) m.list.cells) m.list.moves m.list.bank m.after move m.list.legal.run m.leads };
+    legal =
+        record {
+          all = m.list.legal.all;
+          run = leads-more old.setup m.list.choose (faults old.setup) (opening_bank old.setup (faults old.setup) m.list.cells) m.list.moves m.list.bank
+              m.after move m.list.legal.run m.leads;
+        };
   }

@@ -68,14 +68,17 @@ module _ (cut : List ℕ) where
   first k n ns [] e = absurd (empty n ns e)
   first k n ns (x ∷ es) e = by (is_open cut x) (first (k + 1) n ns es) e
     where
-      by : (o : Bool) → (numbers cut (k + 1) es ≡ n ∷ ns → First (k + 1) n ns es) → cons_option (if o then Some k else None) (numbers cut (k + 1) es) ≡ n ∷ ns → First k n ns (x ∷ es)
+      by : (o : Bool) → (numbers cut (k + 1) es ≡ n ∷ ns → First (k + 1) n ns es) → cons_option (if o then Some k else None) (numbers cut (k + 1) es) ≡ n ∷ ns
+          → First k n ns (x ∷ es)
       by true later e =
           let same : k ≡ n = heads k n (numbers cut (k + 1) es) ns e in
           let one : n + 1 - k ≡ 1 = omega arith in
           record {
             low = omega arith;
             high = omega arith;
-            rest = sym (tails k n (numbers cut (k + 1) es) ns e) ∙ ap (λ j. numbers cut (j + 1) es) same ∙ ap (λ j. numbers cut (n + 1) (drop j (x ∷ es))) (sym one);
+            rest =
+                sym (tails k n (numbers cut (k + 1) es) ns e) ∙ ap (λ j. numbers cut (j + 1) es) same
+                ∙ ap (λ j. numbers cut (n + 1) (drop j (x ∷ es))) (sym one);
           }
       by false later e =
           let f = later e in
@@ -96,7 +99,11 @@ module _ (cut : List ℕ) where
       let low = f.low in
       let high : n < cursor + 1 + (length post - cursor) = subst (λ k. n < cursor + 1 + k) (drop-length cursor post) f.high in
       let all : cursor + (n + 1 - (cursor + 1)) ≡ n = omega arith in
-      record { low = omega arith; high = omega arith; rest = f.rest ∙ ap (λ es. numbers cut (n + 1) es) (drop-drop cursor (n + 1 - (cursor + 1)) post ∙ ap (λ k. drop k post) all) }
+      record {
+        low = omega arith;
+        high = omega arith;
+        rest = f.rest ∙ ap (λ es. numbers cut (n + 1) es) (drop-drop cursor (n + 1 - (cursor + 1)) post ∙ ap (λ k. drop k post) all);
+      }
 
   -- the next of a longer post is the next of the post, where it is within it
   next-early : (cursor n : ℕ) (ns : List ℕ) (post more : List Envelope) → cursor < n → n ≤ length post → open_after cut cursor (post ++ more) ≡ n ∷ ns
@@ -113,7 +120,8 @@ module _ (cut : List ℕ) where
           let far = late.low in
           absurd (omega arith)
       by (m ∷ ms) some =
-          let same : m ≡ n = heads m n (ms ++ numbers cut (length post + 1) more) ns (sym (parts ∙ ap (λ ms. ms ++ numbers cut (length post + 1) more) some) ∙ e) in
+          let same : m ≡ n =
+          heads m n (ms ++ numbers cut (length post + 1) more) ns (sym (parts ∙ ap (λ ms. ms ++ numbers cut (length post + 1) more) some) ∙ e) in
           (ms, some ∙ ap (λ j. j ∷ ms) same)
 
 -- DELIVERIES
@@ -129,7 +137,8 @@ grow c (n ∷ ns) (a ∷ tries) old new (mid, tried, later) =
 
 module _ {B : Type 0} (c : Cell B) where
   -- what was never sent cannot be delivered
-  stuck : (ns : List ℕ) (tries : List Attempt) (old new : World B) → IsAt c.held old → AllAbove (length old.post) ns → AreDelivered c ns tries old new → AreFree tries → new ≡ old
+  stuck : (ns : List ℕ) (tries : List Attempt) (old new : World B) → IsAt c.held old → AllAbove (length old.post) ns → AreDelivered c ns tries old new
+      → AreFree tries → new ≡ old
   stuck [] [] old new at above none free = none
   stuck [] (a ∷ tries) old new at above none free = absurd none
   stuck (n ∷ ns) [] old new at above none free = absurd none
@@ -148,7 +157,8 @@ module _ {B : Type 0} (c : Cell B) where
       nothing = ap (λ es. if n == 0 then None else option_map delivery (slice_get es (n - 1))) (sym at.shows.post) ∙ absent old.post above.0
 
   -- the next of those that are delivered was sent before
-  here : (cut : List ℕ) (cursor n : ℕ) (ns ms : List ℕ) (tries : List Attempt) (t : ℕ) (old new : World B) → IsAt c.held old → AreDelivered c (n ∷ ns) tries old new → AreFree tries
+  here : (cut : List ℕ) (cursor n : ℕ) (ns ms : List ℕ) (tries : List Attempt) (t : ℕ) (old new : World B) → IsAt c.held old
+      → AreDelivered c (n ∷ ns) tries old new → AreFree tries
       → open_after cut cursor new.post ≡ n ∷ ms → ns ≡ take t ms → n ≤ length old.post
   here cut cursor n ns ms tries t old new at done free all some = by (is_small n (length old.post))
     where
@@ -166,7 +176,9 @@ module _ {B : Type 0} (c : Cell B) where
       by (inr high) =
           let is = next cut cursor n ms new.post all in
           let beyond = subst (λ (l : List ℕ). AllAbove n l) (sym is.rest) (above cut n (n + 1) (drop n new.post) (omega arith)) in
-          let rest = subst (λ (l : List ℕ). AllAbove (length old.post) l) (sym some) (above-take (length old.post) t ms (above-less (length old.post) n ms (omega arith) beyond)) in
+          let rest =
+          subst (λ (l : List ℕ). AllAbove (length old.post) l) (sym some)
+          (above-take (length old.post) t ms (above-less (length old.post) n ms (omega arith) beyond)) in
           let same = stuck (n ∷ ns) tries old new at (high, rest) done free in
           subst (λ (w : World B). n ≤ length w.post) same is.high
 
@@ -181,7 +193,8 @@ module _ {B : Type 0} (c : Cell B) where
     is_next : open_after cut cursor old.post ≡ n ∷ later
     rest : ns ≡ take t (open_after cut n new.post)
 
-  begins : (cut : List ℕ) (cursor n : ℕ) (ns : List ℕ) (tries : List Attempt) (t : ℕ) (old new : World B) → IsAt c.held old → AreDelivered c (n ∷ ns) tries old new → AreFree tries
+  begins : (cut : List ℕ) (cursor n : ℕ) (ns : List ℕ) (tries : List Attempt) (t : ℕ) (old new : World B) → IsAt c.held old
+      → AreDelivered c (n ∷ ns) tries old new → AreFree tries
       → n ∷ ns ≡ take (suc t) (open_after cut cursor new.post) → Begins cut cursor n ns t old new
   begins cut cursor n ns tries t old new at done free some =
       let p = taken t (open_after cut cursor new.post) n ns some in
@@ -209,17 +222,21 @@ module _ {B : Type 0} (c : Cell B) where
   drain-twins zero cut cursor a b one other ns (m ∷ ms) tries others twins some others_some done too free other_free = absurd (empty m ms (sym others_some))
   drain-twins (suc t) cut cursor a b one other [] (m ∷ ms) [] others twins some others_some done too free other_free =
       let q = begins cut cursor m ms others t b other twins.other_at too other_free others_some in
-      let all : open_after cut cursor one.post ≡ m ∷ q.later = ap (λ (w : World B). open_after cut cursor w.post) done ∙ ap (open_after cut cursor) (twin-post c.held a b twins) ∙ q.is_next in
+      let all : open_after cut cursor one.post ≡ m ∷ q.later =
+      ap (λ (w : World B). open_after cut cursor w.post) done ∙ ap (open_after cut cursor) (twin-post c.held a b twins) ∙ q.is_next in
       absurd (empty m (take t q.later) (some ∙ ap (take (suc t)) all))
   drain-twins (suc t) cut cursor a b one other (n ∷ ns) [] tries [] twins some others_some done too free other_free =
       let p = begins cut cursor n ns tries t a one twins.one_at done free some in
-      let all : open_after cut cursor other.post ≡ n ∷ p.later = ap (λ (w : World B). open_after cut cursor w.post) too ∙ ap (open_after cut cursor) (sym (twin-post c.held a b twins)) ∙ p.is_next in
+      let all : open_after cut cursor other.post ≡ n ∷ p.later =
+      ap (λ (w : World B). open_after cut cursor w.post) too ∙ ap (open_after cut cursor) (sym (twin-post c.held a b twins)) ∙ p.is_next in
       absurd (empty n (take t p.later) (others_some ∙ ap (take (suc t)) all))
   drain-twins (suc t) cut cursor a b one other (n ∷ ns) (m ∷ ms) (x ∷ tries) (y ∷ others) twins some others_some done too free other_free =
       let p = begins cut cursor n ns (x ∷ tries) t a one twins.one_at done free some in
       let q = begins cut cursor m ms (y ∷ others) t b other twins.other_at too other_free others_some in
       let same : n ≡ m = heads n m p.later q.later (sym p.is_next ∙ ap (open_after cut cursor) (twin-post c.held a b twins) ∙ q.is_next) in
-      let once = attempt-once c.held a b twins done.0 too.0 (Deliver n) x y done.1.attempts (subst (λ (k : ℕ). Attempts c.held b too.0 (Deliver k) y) (sym same) too.1.attempts) free.0 other_free.0 in
+      let once =
+      attempt-once c.held a b twins done.0 too.0 (Deliver n) x y done.1.attempts
+      (subst (λ (k : ℕ). Attempts c.held b too.0 (Deliver k) y) (sym same) too.1.attempts) free.0 other_free.0 in
       let rest = drain-twins t cut n done.0 too.0 one other ns ms tries others once.1 p.rest
       (q.rest ∙ ap (λ k. take t (open_after cut k other.post)) (sym same)) done.2 too.2 free.1 other_free.1 in
       record {

@@ -33,7 +33,8 @@ same-step : (s : Setup) (a b : LegalList s (faults s)) (i : ℕ) (event : EventO
 same-step s a b i event x at =
     let few = (valid-members s a.valid).1 in
     let h = legal-holds s few a.choose (faults s) a.right a.cells a.moves a.bank a.legal.all a.legal.run in
-    one_step (faults s) (record { choose = a.choose; right = a.right; cells = a.cells; events = h.events; world = h.world; legal = h.alone }) b.choose b.right i x
+    one_step (faults s) (record { choose = a.choose; right = a.right; cells = a.cells; events = h.events; world = h.world; legal = h.alone }) b.choose b.right i
+    x
     (subst (λ (l : List (Site Cmd)). Contains l x) (sym h.sites) (there a.bank.sites i x at)) event
 
 module _ (f : ℕ) where
@@ -47,7 +48,8 @@ module _ (f : ℕ) where
   dropped_at choose bank (Some (OfNode c event)) = None
   dropped_at choose bank (Some (OfClient k event)) = None
 
-  in-at : (s : Setup) (choose : Choice Cmd) (bank : Bank) (t : Turn) (after : Bank) (acts : Acts s choose f bank t after) → dropped_in s choose f bank t after acts ≡ dropped_at choose bank (Some t)
+  in-at : (s : Setup) (choose : Choice Cmd) (bank : Bank) (t : Turn) (after : Bank) (acts : Acts s choose f bank t after)
+      → dropped_in s choose f bank t after acts ≡ dropped_at choose bank (Some t)
   unfolding dropped_at dropped_by
   in-at s choose bank (OfSite i event) after acts = ap (λ (o : Option (Site Cmd)). dropped_by choose o i event) (sym acts.is_there)
   in-at s choose bank (OfNode c event) after acts = refl
@@ -76,10 +78,12 @@ within-one s a b cells moves step after other p q =
     ∙ sym (in-at (faults s) s b.choose b.bank q.turn_is other q.acts)
 
 -- two legal lists of one setup, one opening and the same moves drop an event for one reason
-pub dropped-once : (s t : Setup) → s ≡ t → (a : LegalList s (faults s)) (b : LegalList t (faults t)) → a.cells ≡ b.cells → a.moves ≡ b.moves → (step : Step) (after other : Bank)
+pub dropped-once : (s t : Setup) → s ≡ t → (a : LegalList s (faults s)) (b : LegalList t (faults t)) → a.cells ≡ b.cells → a.moves ≡ b.moves
+    → (step : Step) (after other : Bank)
     (p : Steps s a.choose (faults s) a.bank step after) (q : Steps t b.choose (faults t) b.bank step other)
     → dropped_in s a.choose (faults s) a.bank p.turn_is after p.acts ≡ dropped_in t b.choose (faults t) b.bank q.turn_is other q.acts
 dropped-once s t e a b cells moves step after other p q =
-    subst (λ (t : Setup). (b : LegalList t (faults t)) → a.cells ≡ b.cells → a.moves ≡ b.moves → (other : Bank) (q : Steps t b.choose (faults t) b.bank step other)
+    subst (λ (t : Setup). (b : LegalList t (faults t)) → a.cells ≡ b.cells → a.moves ≡ b.moves
+    → (other : Bank) (q : Steps t b.choose (faults t) b.bank step other)
     → dropped_in s a.choose (faults s) a.bank p.turn_is after p.acts ≡ dropped_in t b.choose (faults t) b.bank q.turn_is other q.acts) e
     (λ b cells moves other q. within-one s a b cells moves step after other p q) b cells moves other q

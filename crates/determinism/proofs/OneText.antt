@@ -30,23 +30,27 @@ use Rattle.determinism.proofs.Twinned.{OneTold, tries-too, drains-too, skips-too
 module _ {B : Type 0} (c : Cell B) where
   -- WHAT A LINE DOES
   module _ (p q : Position B) (twins : AreTwinPlayers c.held p q) (p' q' : Position B) (told other : Option WorldFault) where
-    stays-too : (a b : Position B) → AreTwinPlayers c.held a b → (one : Option WorldFault) (too : Option WorldFault) → one ≡ too → p' ≡ a → q' ≡ b → told ≡ one → other ≡ too → OneTold c told other p' q'
+    stays-too : (a b : Position B) → AreTwinPlayers c.held a b → (one : Option WorldFault) (too : Option WorldFault) → one ≡ too → p' ≡ a → q' ≡ b → told ≡ one
+        → other ≡ too → OneTold c told other p' q'
     stays-too a b are one too same x y is is' = record {
       told = is ∙ same ∙ sym is';
       twins = subst (λ r. AreTwinPlayers c.held r q') (sym x) (subst (λ r. AreTwinPlayers c.held a r) (sym y) are);
     }
 
-    does-too : (s : Statement) (x : Does c s p p' told) (y : Does c s q q' other) → LineIsFree c s p p' told x → LineIsFree c s q q' other y → OneTold c told other p' q'
+    does-too : (s : Statement) (x : Does c s p p' told) (y : Does c s q q' other) → LineIsFree c s p p' told x → LineIsFree c s q q' other y
+        → OneTold c told other p' q'
     does-too (Do step) x y free too = tries-too c p q twins p' q' step told other x y free too
     does-too Print x y free too = stays-too p q twins _ _ refl x.0 y.0 x.1 y.1
     does-too (Drain turns) x y free too = record { told = x.1 ∙ sym y.1; twins = drains-too c p q twins p' q' turns x.0 y.0 free too }
     does-too (Skip envelopes) x y free too = stays-too (skipped p envelopes) (skipped q envelopes) (skips-too c p q twins envelopes) _ _ refl x.0 y.0 x.1 y.1
     does-too (Cut actor) x y free too =
         stays-too (with_cut p actor (cut_off p.cut actor)) (with_cut q actor (cut_off q.cut actor))
-        (cuts-too c p q twins actor (cut_off p.cut actor) (cut_off q.cut actor) (ap (λ cut. cut_off cut actor) twins.cut)) _ _ (unknown-too c p q twins actor) x.0 y.0 x.1 y.1
+        (cuts-too c p q twins actor (cut_off p.cut actor) (cut_off q.cut actor) (ap (λ cut. cut_off cut actor) twins.cut)) _ _
+        (unknown-too c p q twins actor) x.0 y.0 x.1 y.1
     does-too (Heal actor) x y free too =
         stays-too (with_cut p actor (healed p.cut actor)) (with_cut q actor (healed q.cut actor))
-        (cuts-too c p q twins actor (healed p.cut actor) (healed q.cut actor) (ap (λ cut. healed cut actor) twins.cut)) _ _ (unknown-too c p q twins actor) x.0 y.0 x.1 y.1
+        (cuts-too c p q twins actor (healed p.cut actor) (healed q.cut actor) (ap (λ cut. healed cut actor) twins.cut)) _ _
+        (unknown-too c p q twins actor) x.0 y.0 x.1 y.1
     does-too (Chaos seed turns) x y free too = record {
       told = x.1 ∙ sym y.1;
       twins = (turns-too c turns (words_of seed, p) (words_of seed, q) (x.0.0, p') (y.0.0, q') refl twins x.0.1 y.0.1 free too).1;
@@ -65,7 +69,8 @@ module _ {B : Type 0} (c : Cell B) where
   print-too a b twins Print = books-too a b twins
   print-too a b twins _ = refl
 
-  passing-too : (s : Statement) (told : Option WorldFault) (from : ℕ) (p q : Position B) → AreTwinPlayers c.held p q → passing_text s told from p ≡ passing_text s told from q
+  passing-too : (s : Statement) (told : Option WorldFault) (from : ℕ) (p q : Position B) → AreTwinPlayers c.held p q
+      → passing_text s told from p ≡ passing_text s told from q
   passing-too (Cut actor) told from p q twins = ap (λ (s : Setup). taken_text s (codes "cut") actor told) twins.worlds.setup
   passing-too (Heal actor) told from p q twins = ap (λ (s : Setup). taken_text s (codes "heal") actor told) twins.worlds.setup
   passing-too (Skip envelopes) told from p q twins = ap (λ (n : ℕ). skip_text from n) twins.cursor
@@ -75,13 +80,15 @@ module _ {B : Type 0} (c : Cell B) where
       ∙ ap (λ (es : List Envelope). held_text (filter (is_held q.cut es) (passed from q.cursor))) (twin-post c.held p.world q.world twins.worlds)
   passing-too _ told from p q twins = refl
 
-  text-too : (telling : Telling) (line : Line) (p q p' q' : Position B) (told other : Option WorldFault) → AreTwinPlayers c.held p q → OneTold c told other p' q'
+  text-too : (telling : Telling) (line : Line) (p q p' q' : Position B) (told other : Option WorldFault) → AreTwinPlayers c.held p q
+      → OneTold c told other p' q'
       → line_text c.held telling line told p p' ≡ line_text c.held telling line other q q'
   text-too Books line p q p' q' told other before one =
       ap (λ (t : Option WorldFault). refused_text line.number t ++ print_text c.held line.statement p'.world) one.told
       ∙ ap (λ (t : List ℕ). refused_text line.number other ++ t) (print-too p'.world q'.world one.twins.worlds line.statement)
   text-too Steps line p q p' q' told other before one =
-      let text : Setup → List Envelope → Option WorldFault → ℕ → List Attempt → List ℕ = λ setup post told before noted. if nat_lt before (length noted) then notes_text setup post before noted else refused_text line.number told in
+      let text : Setup → List Envelope → Option WorldFault → ℕ → List Attempt → List ℕ =
+      λ setup post told before noted. if nat_lt before (length noted) then notes_text setup post before noted else refused_text line.number told in
       let after = one.twins in
       let steps = ap (λ (s : Setup). text s p'.world.post told (length (notes p.noted)) (notes p'.noted)) after.worlds.setup
       ∙ ap (λ (es : List Envelope). text q'.world.setup es told (length (notes p.noted)) (notes p'.noted)) (twin-post c.held p'.world q'.world after.worlds)
@@ -95,7 +102,8 @@ module _ {B : Type 0} (c : Cell B) where
 
   -- LINES one after another
   plays-too : (telling : Telling) (lines : List Line) (p q p' q' : Position B) (text other : List ℕ) → AreTwinPlayers c.held p q
-      → (x : Plays c telling lines p p' text) (y : Plays c telling lines q q' other) → PlaysFreely c telling lines p p' text x → PlaysFreely c telling lines q q' other y
+      → (x : Plays c telling lines p p' text) (y : Plays c telling lines q q' other) → PlaysFreely c telling lines p p' text x
+      → PlaysFreely c telling lines q q' other y
       → (text ≡ other) × AreTwinPlayers c.held p' q'
   plays-too telling [] p q p' q' text other twins x y free too =
       (x.1 ∙ sym y.1, subst (λ r. AreTwinPlayers c.held r q') (sym x.0) (subst (λ r. AreTwinPlayers c.held p r) (sym y.0) twins))
@@ -106,7 +114,8 @@ module _ {B : Type 0} (c : Cell B) where
       (x.whole ∙ ap (λ (t : List ℕ). t ++ x.after) here ∙ ap (λ (t : List ℕ). y.before ++ t) rest.0 ∙ sym y.whole, rest.1)
 
 -- new players of one setup
-opening-twins : (setup : Setup) (fails : List Fail) (telling : Telling) (p q : Position _) → IsOpening setup fails telling p → IsOpening setup fails telling q → AreTwinPlayers memory.held p q
+opening-twins : (setup : Setup) (fails : List Fail) (telling : Telling) (p q : Position _) → IsOpening setup fails telling p → IsOpening setup fails telling q
+    → AreTwinPlayers memory.held p q
 opening-twins setup fails telling p q x y = record {
   worlds = record {
     setup = x.setup ∙ sym y.setup;
@@ -122,7 +131,9 @@ opening-twins setup fails telling p q x y = record {
 
 module _ (setup : Setup) (fails : List Fail) (telling : Telling) (lines : List Line) (a b : FreePlay setup fails telling lines) where
   abbrev both : (a.text ≡ b.text) × AreTwinPlayers memory.held a.end b.end
-  both = plays-too memory telling lines a.first b.first a.end b.end a.text b.text (opening-twins setup fails telling a.first b.first a.opens b.opens) a.plays b.plays a.free b.free
+  both =
+      plays-too memory telling lines a.first b.first a.end b.end a.text b.text (opening-twins setup fails telling a.first b.first a.opens b.opens)
+      a.plays b.plays a.free b.free
 
   pub one-text : a.text ≡ b.text
   one-text = both.0

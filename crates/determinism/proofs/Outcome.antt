@@ -35,11 +35,13 @@ use Rattle.pvp_world.proofs.Refused.{taken-none, why-told, fall-hinders, no-fall
 
 module _ {B : Type 0} (held : B → Boot) where
   -- the reason that is told is the bank's
-  pub refused-bank : (old new : Shown B) (step : Step) (at : IsAt held old) (result : Result Report WorldFault) → Applies held old new step result → is_hindered result ≡ false
+  pub refused-bank : (old new : Shown B) (step : Step) (at : IsAt held old) (result : Result Report WorldFault) → Applies held old new step result
+      → is_hindered result ≡ false
       → refused_as result ≡ bank_refuses old.setup (faults old.setup) at.list.bank step
   refused-bank old new step at (Ok report) taken free =
       let m = taken.moves in
-      sym (ap (λ (k : Bank). bank_refuses old.setup (faults old.setup) k step) (one-bank old.setup old.setup refl at.list m.list (at.cells ∙ sym m.cells) (at.moves ∙ sym m.moves))
+      sym (ap (λ (k : Bank). bank_refuses old.setup (faults old.setup) k step)
+      (one-bank old.setup old.setup refl at.list m.list (at.cells ∙ sym m.cells) (at.moves ∙ sym m.moves))
       ∙ ap (λ t. turn_refuses old.setup (faults old.setup) m.list.bank t) m.leads.has_turn
       ∙ taken-none old.setup m.list.choose m.list.bank m.leads.turn_is m.after m.leads.acts)
   refused-bank old new step at (Err why) refused free = sym (why-told held old at.list.bank at.shows step why free (refused.kept (no-fall why free)).1)
@@ -47,17 +49,21 @@ module _ {B : Type 0} (held : B → Boot) where
   -- where a move leads, the world is at
   pub moved-at : (old new : Shown B) (move : Move) → Moves held old new move → IsAt held new
   moved-at old new move m =
-      let p = subst (λ (s : Setup). (list : LegalList s (faults s)) × (list.cells ≡ new.opening) × (list.moves ≡ new.trail) × ShowsBank held new list.bank) (sym m.setup)
+      let p =
+      subst (λ (s : Setup). (list : LegalList s (faults s)) × (list.cells ≡ new.opening) × (list.moves ≡ new.trail) × ShowsBank held new list.bank)
+      (sym m.setup)
       (after-list held old new move m, m.cells ∙ sym m.opening, ap (λ ms. ms ++ move ∷ []) m.moves ∙ sym m.trail, m.shows_after) in
       record { list = p.0; cells = p.1; moves = p.2; shows = p.3 }
 
   -- where a step that nothing hinders leaves it, the world is at
-  pub stays-at : (old new : Shown B) (step : Step) (result : Result Report WorldFault) → IsAt held old → Applies held old new step result → is_hindered result ≡ false → IsAt held new
+  pub stays-at : (old new : Shown B) (step : Step) (result : Result Report WorldFault) → IsAt held old → Applies held old new step result
+      → is_hindered result ≡ false → IsAt held new
   stays-at old new step (Ok report) at taken free = moved-at old new (Takes step) taken.moves
   stays-at old new step (Err why) at refused free = subst (λ (w : Shown B). IsAt held w) (sym (refused.kept (no-fall why free)).0) at
 
   -- where a reason is told, the world is as it was
-  pub refused-stays : (old new : Shown B) (step : Step) (at : IsAt held old) (result : Result Report WorldFault) → Applies held old new step result → is_hindered result ≡ false
+  pub refused-stays : (old new : Shown B) (step : Step) (at : IsAt held old) (result : Result Report WorldFault) → Applies held old new step result
+      → is_hindered result ≡ false
       → (why : WorldFault) → refused_as result ≡ Some why → new ≡ old
   refused-stays old new step at (Ok report) taken free why told = absurd (none-some why told)
   refused-stays old new step at (Err fault) refused free why told = (refused.kept (no-fall fault free)).0
@@ -73,7 +79,8 @@ module _ {B : Type 0} (held : B → Boot) where
 
     module _ (c d : Shown B) (step : Step) where
       -- one reason is told
-      pub told-once : (r s : Result Report WorldFault) → Applies held a c step r → Applies held b d step s → is_hindered r ≡ false → is_hindered s ≡ false → refused_as r ≡ refused_as s
+      pub told-once : (r s : Result Report WorldFault) → Applies held a c step r → Applies held b d step s → is_hindered r ≡ false → is_hindered s ≡ false
+          → refused_as r ≡ refused_as s
       told-once r s p q free too =
           refused-bank a c step twins.one_at r p free
           ∙ ap (λ (x : Setup). bank_refuses x (faults x) twins.one_at.list.bank step) twins.setup
@@ -81,7 +88,8 @@ module _ {B : Type 0} (held : B → Boot) where
           ∙ sym (refused-bank b d step twins.other_at s q too)
 
       -- and the two go on the same way
-      pub twins-go-on : (r s : Result Report WorldFault) → Applies held a c step r → Applies held b d step s → is_hindered r ≡ false → is_hindered s ≡ false → AreTwins held c d
+      pub twins-go-on : (r s : Result Report WorldFault) → Applies held a c step r → Applies held b d step s → is_hindered r ≡ false → is_hindered s ≡ false
+          → AreTwins held c d
       twins-go-on (Ok r) (Ok s) p q free too = record {
         setup = p.moves.setup ∙ twins.setup ∙ sym q.moves.setup;
         opening = p.moves.opening ∙ twins.opening ∙ sym q.moves.opening;
@@ -92,7 +100,8 @@ module _ {B : Type 0} (held : B → Boot) where
       twins-go-on (Ok r) (Err s) p q free too = absurd (none-some s (told-once (Ok r) (Err s) p q free too))
       twins-go-on (Err r) (Ok s) p q free too = absurd (none-some r (sym (told-once (Err r) (Ok s) p q free too)))
       twins-go-on (Err r) (Err s) p q free too =
-          subst (λ (w : Shown B). AreTwins held w d) (sym (p.kept (no-fall r free)).0) (subst (λ (w : Shown B). AreTwins held a w) (sym (q.kept (no-fall s too)).0) twins)
+          subst (λ (w : Shown B). AreTwins held w d) (sym (p.kept (no-fall r free)).0)
+          (subst (λ (w : Shown B). AreTwins held a w) (sym (q.kept (no-fall s too)).0) twins)
 
   -- ONE REPORT
   abbrev report_of : ℕ → ℕ → Option Why → Report
@@ -111,7 +120,9 @@ module _ {B : Type 0} (held : B → Boot) where
       let next = twins-go-on a b twins c d step (Ok r) (Ok s) p q free too in
       let m = p.moves in
       let n = q.moves in
-      let dropped = dropped-once a.setup b.setup twins.setup m.list n.list (m.cells ∙ twins.opening ∙ sym n.cells) (m.moves ∙ twins.trail ∙ sym n.moves) step m.after n.after m.leads n.leads in
+      let dropped =
+      dropped-once a.setup b.setup twins.setup m.list n.list (m.cells ∙ twins.opening ∙ sym n.cells)
+      (m.moves ∙ twins.trail ∙ sym n.moves) step m.after n.after m.leads n.leads in
       let why = dropped_in b.setup n.list.choose (faults b.setup) n.list.bank n.leads.turn_is n.after n.leads.acts in
       ap (λ (t : Report). Ok t) (report-same b.post d.post why r s
       (subst (λ (post : List Envelope). IsReport post d.post why r) (twin-post a b twins)
@@ -119,7 +130,8 @@ module _ {B : Type 0} (held : B → Boot) where
       (subst (λ (w : Option Why). IsReport a.post c.post w r) dropped p.told))) q.told)
   result-once a b twins c d step (Ok r) (Err s) p q free too = absurd (none-some s (told-once a b twins c d step (Ok r) (Err s) p q free too))
   result-once a b twins c d step (Err r) (Ok s) p q free too = absurd (none-some r (sym (told-once a b twins c d step (Err r) (Ok s) p q free too)))
-  result-once a b twins c d step (Err r) (Err s) p q free too = ap (λ (w : WorldFault). Err w) (some-same r s (told-once a b twins c d step (Err r) (Err s) p q free too))
+  result-once a b twins c d step (Err r) (Err s) p q free too =
+      ap (λ (w : WorldFault). Err w) (some-same r s (told-once a b twins c d step (Err r) (Err s) p q free too))
 
   -- WHERE A SITE STANDS is the bank's
   bank_stand : ℕ → Site Cmd → Stand
@@ -161,7 +173,9 @@ module _ {B : Type 0} (held : B → Boot) where
             (p.was ∙ stands-too a b twins (site_of a.post step) ∙ ap (λ (n : Option ℕ). option_and_then (stand_at b) n) site ∙ sym q.was)
             ∙ ap (λ (o : Option Stand). attempt_of y.step y.result y.fell y.was o x.before x.after)
             (p.now ∙ stands-too c d next (site_of a.post step) ∙ ap (λ (n : Option ℕ). option_and_then (stand_at d) n) site ∙ sym q.now)
-            ∙ ap (λ (n : ℕ). attempt_of y.step y.result y.fell y.was y.now n x.after) (p.before ∙ ap (λ (es : List Envelope). length es) (twin-post a b twins) ∙ sym q.before)
-            ∙ ap (λ (n : ℕ). attempt_of y.step y.result y.fell y.was y.now y.before n) (p.after ∙ ap (λ (es : List Envelope). length es) (twin-post c d next) ∙ sym q.after),
+            ∙ ap (λ (n : ℕ). attempt_of y.step y.result y.fell y.was y.now n x.after)
+            (p.before ∙ ap (λ (es : List Envelope). length es) (twin-post a b twins) ∙ sym q.before)
+            ∙ ap (λ (n : ℕ). attempt_of y.step y.result y.fell y.was y.now y.before n)
+            (p.after ∙ ap (λ (es : List Envelope). length es) (twin-post c d next) ∙ sym q.after),
         next,
       )

@@ -65,7 +65,8 @@ node_words : Setup → Bank → ℕ × Node → List ℕ
 node_words setup bank (c, x) = node_line setup c x ++ flat_map (way_words setup c x) (enumerate_from 0 bank.sites)
 
 client_words : Setup → ℕ × Client → List ℕ
-client_words setup (k, x) = if x.number == 0 then [] else codes "client " ++ name_of setup k ++ codes " " ++ decimal x.number ++ codes " " ++ answer_text x.answer ++ codes "\n"
+client_words setup (k, x) =
+    if x.number == 0 then [] else codes "client " ++ name_of setup k ++ codes " " ++ decimal x.number ++ codes " " ++ answer_text x.answer ++ codes "\n"
 
 -- the printed books of a bank
 pub bank_words : Setup → Bank → List ℕ
@@ -94,10 +95,12 @@ module _ {B : Type 0} (held : B → Boot) where
       ∙ ap (λ (y : Site Cmd). line (status_words x x.status) y.cell.boots ++ part v.setup y) (sym e)
       ∙ ap (λ (s : Setup). line (status_words x x.status) x.cell.boots ++ part s x) is.made_from
 
-  way-same : (setup : Setup) (c : ℕ) (n : Node) (i : ℕ) (v : replica.Shown Cmd Setup B) (x : Site Cmd) → IsSite held setup i v x → way_line held c n (i, v) ≡ way_words setup c n (i, x)
+  way-same : (setup : Setup) (c : ℕ) (n : Node) (i : ℕ) (v : replica.Shown Cmd Setup B) (x : Site Cmd) → IsSite held setup i v x
+      → way_line held c n (i, v) ≡ way_words setup c n (i, x)
   unfolding way_words book_words
   way-same setup c n i v x is =
-      let part : Setup → Site Cmd → List ℕ = λ s y. if is_running y.status then codes "  site " ++ decimal i ++ figure_text c n (machine_of book (opening s) y) ++ codes "\n" else [] in
+      let part : Setup → Site Cmd → List ℕ =
+      λ s y. if is_running y.status then codes "  site " ++ decimal i ++ figure_text c n (machine_of book (opening s) y) ++ codes "\n" else [] in
       ap (λ (y : Site Cmd). part v.setup y) (sym is.site) ∙ ap (λ (s : Setup). part s x) is.made_from
 
   module _ (world : Shown B) (bank : Bank) (shows : ShowsBank held world bank) where
@@ -107,7 +110,8 @@ module _ {B : Type 0} (held : B → Boot) where
         ap (λ (w : node.Shown). node_text held world (c, w)) is
         ∙ ap (λ (t : List ℕ). node_line world.setup c x ++ t)
         (each-text (way_line held c x) (way_words world.setup c x) world.sites bank.sites 0 shows.sites.count
-        (λ i k v y at one other. way-same world.setup c x k v y (subst (λ (j : ℕ). IsSite held world.setup j v y) (here i k at) (shows.sites.each i v y one other))))
+        (λ i k v y at one other. way-same world.setup c x k v y
+        (subst (λ (j : ℕ). IsSite held world.setup j v y) (here i k at) (shows.sites.each i v y one other))))
 
     client-same : (k : ℕ) (v : client.Shown) (x : Client) → IsClient world.setup k v x → client_text world.setup (k, v) ≡ client_words world.setup (k, x)
     unfolding client_words
@@ -118,11 +122,15 @@ module _ {B : Type 0} (held : B → Boot) where
     unfolding bank_words
     books-same =
         let sites = each-text (site_text held) (site_words world.setup) world.sites bank.sites 0 shows.sites.count
-        (λ i k v y at one other. site-same world.setup k v y (subst (λ (j : ℕ). IsSite held world.setup j v y) (here i k at) (shows.sites.each i v y one other))) in
+        (λ i k v y at one other. site-same world.setup k v y
+        (subst (λ (j : ℕ). IsSite held world.setup j v y) (here i k at) (shows.sites.each i v y one other))) in
         let nodes = each-text (node_text held world) (node_words world.setup bank) world.nodes bank.nodes 0 shows.nodes.count
         (λ i k v y at one other. node-same k v y (subst (λ (j : ℕ). IsNode world.setup j v y) (here i k at) (shows.nodes.each i v y one other))) in
         let clients = each-text (client_text world.setup) (client_words world.setup) world.clients bank.clients 0 shows.clients.count
         (λ i k v y at one other. client-same k v y (subst (λ (j : ℕ). IsClient world.setup j v y) (here i k at) (shows.clients.each i v y one other))) in
-        ap (λ (t : List ℕ). t ++ flat_map (node_text held world) (enumerate_from 0 world.nodes) ++ flat_map (client_text world.setup) (enumerate_from 0 world.clients)) sites
-        ∙ ap (λ (t : List ℕ). flat_map (site_words world.setup) (enumerate_from 0 bank.sites) ++ t ++ flat_map (client_text world.setup) (enumerate_from 0 world.clients)) nodes
-        ∙ ap (λ (t : List ℕ). flat_map (site_words world.setup) (enumerate_from 0 bank.sites) ++ flat_map (node_words world.setup bank) (enumerate_from 0 bank.nodes) ++ t) clients
+        ap (λ (t : List ℕ). t ++ flat_map (node_text held world) (enumerate_from 0 world.nodes)
+        ++ flat_map (client_text world.setup) (enumerate_from 0 world.clients)) sites
+        ∙ ap (λ (t : List ℕ). flat_map (site_words world.setup) (enumerate_from 0 bank.sites) ++ t
+        ++ flat_map (client_text world.setup) (enumerate_from 0 world.clients)) nodes
+        ∙ ap (λ (t : List ℕ). flat_map (site_words world.setup) (enumerate_from 0 bank.sites)
+        ++ flat_map (node_words world.setup bank) (enumerate_from 0 bank.nodes) ++ t) clients

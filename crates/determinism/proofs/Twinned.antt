@@ -61,7 +61,8 @@ module _ {B : Type 0} (c : Cell B) where
     number-too actor = actor-too (turn_of actor Beat node_event.Beats client_event.Beats)
 
   -- whether a site is normal is the bank's
-  normal-shown : (w : World B) (at : IsAt c.held w) (i : ℕ) → is_normal_at w i ≡ option_map_or (λ (x : Site Cmd). is_normal x.status) (slice_get at.list.bank.sites i) false
+  normal-shown : (w : World B) (at : IsAt c.held w) (i : ℕ)
+      → is_normal_at w i ≡ option_map_or (λ (x : Site Cmd). is_normal x.status) (slice_get at.list.bank.sites i) false
   normal-shown w at i = by (slice_get w.sites i) (slice_get at.list.bank.sites i) refl refl
     where
       by : (o : Option (replica.Shown Cmd Setup B)) (p : Option (Site Cmd)) → slice_get w.sites i ≡ o → slice_get at.list.bank.sites i ≡ p
@@ -78,7 +79,8 @@ module _ {B : Type 0} (c : Cell B) where
   normal-too : (a b : World B) (twins : AreTwins c.held a b) → are_normal a ≡ are_normal b
   normal-too a b twins =
       all-same (is_normal_at a) (is_normal_at b) (range_with_len 0 a.setup.sites)
-      (λ i. normal-shown a twins.one_at i ∙ ap (λ (k : Bank). option_map_or (λ (x : Site Cmd). is_normal x.status) (slice_get k.sites i) false) (twin-bank c.held a b twins) ∙ sym (normal-shown b twins.other_at i))
+      (λ i. normal-shown a twins.one_at i ∙ ap (λ (k : Bank). option_map_or (λ (x : Site Cmd). is_normal x.status) (slice_get k.sites i) false)
+      (twin-bank c.held a b twins) ∙ sym (normal-shown b twins.other_at i))
       ∙ ap (λ (s : Setup). list_all (is_normal_at b) (range_with_len 0 s.sites)) twins.setup
 
   -- the table of chaos is of a setup, the length of a post, and whether all sites are normal
@@ -125,14 +127,18 @@ module _ {B : Type 0} (c : Cell B) where
             worlds = once.1;
             cursor = x.cursor ∙ twins.cursor ∙ sym y.cursor;
             cut = x.cut ∙ twins.cut ∙ sym y.cut;
-            noted = x.noted ∙ ap (λ (t : Attempt). with_notes p.noted (t ∷ [])) once.0 ∙ ap (λ (n : Option (List Attempt)). with_notes n (y.attempt ∷ [])) twins.noted ∙ sym y.noted;
+            noted =
+                x.noted ∙ ap (λ (t : Attempt). with_notes p.noted (t ∷ [])) once.0 ∙ ap (λ (n : Option (List Attempt)). with_notes n (y.attempt ∷ []))
+                twins.noted ∙ sym y.noted;
           };
         }
 
-    pub drains-too : (p' q' : Position B) (turns : ℕ) (x : Drains c turns p p') (y : Drains c turns q q') → AreFree x.attempts → AreFree y.attempts → AreTwinPlayers c.held p' q'
+    pub drains-too : (p' q' : Position B) (turns : ℕ) (x : Drains c turns p p') (y : Drains c turns q q') → AreFree x.attempts → AreFree y.attempts
+        → AreTwinPlayers c.held p' q'
     drains-too p' q' turns x y free too =
         let once = drain-twins c turns p.cut p.cursor p.world q.world p'.world q'.world x.delivered y.delivered x.attempts y.attempts twins.worlds x.which
-        (y.which ∙ ap (λ (cut : List ℕ). take turns (open_after cut q.cursor q'.world.post)) (sym twins.cut) ∙ ap (λ (n : ℕ). take turns (open_after p.cut n q'.world.post)) (sym twins.cursor))
+        (y.which ∙ ap (λ (cut : List ℕ). take turns (open_after cut q.cursor q'.world.post)) (sym twins.cut)
+        ∙ ap (λ (n : ℕ). take turns (open_after p.cut n q'.world.post)) (sym twins.cursor))
         x.are_delivered y.are_delivered free too in
         record {
           worlds = once.twins;
@@ -140,19 +146,25 @@ module _ {B : Type 0} (c : Cell B) where
               ∙ ap (λ (n : ℕ). cursor_after turns y.delivered n (length p'.world.post)) twins.cursor
               ∙ ap (λ (es : List Envelope). cursor_after turns y.delivered q.cursor (length es)) (twin-post c.held p'.world q'.world once.twins) ∙ sym y.cursor;
           cut = x.cut ∙ twins.cut ∙ sym y.cut;
-          noted = x.noted ∙ ap (λ (ts : List Attempt). with_notes p.noted ts) once.attempts ∙ ap (λ (n : Option (List Attempt)). with_notes n y.attempts) twins.noted ∙ sym y.noted;
+          noted =
+              x.noted ∙ ap (λ (ts : List Attempt). with_notes p.noted ts) once.attempts ∙ ap
+              (λ (n : Option (List Attempt)). with_notes n y.attempts) twins.noted ∙ sym y.noted;
         }
 
     pub skips-too : (n : ℕ) → AreTwinPlayers c.held (skipped p n) (skipped q n)
     skips-too n = record {
       worlds = twins.worlds;
-      cursor = ap (λ (k : ℕ). min (k + n) (length p.world.post)) twins.cursor ∙ ap (λ (es : List Envelope). min (q.cursor + n) (length es)) (twin-post c.held p.world q.world twins.worlds);
+      cursor =
+          ap (λ (k : ℕ). min (k + n) (length p.world.post)) twins.cursor ∙ ap (λ (es : List Envelope). min (q.cursor + n) (length es))
+          (twin-post c.held p.world q.world twins.worlds);
       cut = twins.cut;
       noted = twins.noted;
     }
 
     pub cuts-too : (actor : ℕ) (cut other : List ℕ) → cut ≡ other → AreTwinPlayers c.held (with_cut p actor cut) (with_cut q actor other)
-    cuts-too actor cut other same = subst (λ (o : Bool). AreTwinPlayers c.held (with_cut p actor cut) (if o then record q { cut = other } else q)) (number-too p.world q.world twins.worlds actor) (by (has_number p.world actor))
+    cuts-too actor cut other same =
+        subst (λ (o : Bool). AreTwinPlayers c.held (with_cut p actor cut) (if o then record q { cut = other } else q))
+        (number-too p.world q.world twins.worlds actor) (by (has_number p.world actor))
       where
         by : (o : Bool) → AreTwinPlayers c.held (if o then record p { cut = cut } else p) (if o then record q { cut = other } else q)
         by true = record { worlds = twins.worlds; cursor = twins.cursor; cut = same; noted = twins.noted }
@@ -161,9 +173,11 @@ module _ {B : Type 0} (c : Cell B) where
     pub unknown-too : (actor : ℕ) → unknown_actor p actor ≡ unknown_actor q actor
     unknown-too actor = ap (λ (o : Bool). if o then None else Some NoSuchActor) (number-too p.world q.world twins.worlds actor)
 
-    acts-too : (a : Act) (p' q' : Position B) (x : chaos.Does c a p p') (y : chaos.Does c a q q') → ActIsFree c a p p' x → ActIsFree c a q q' y → AreTwinPlayers c.held p' q'
+    acts-too : (a : Act) (p' q' : Position B) (x : chaos.Does c a p p') (y : chaos.Does c a q q') → ActIsFree c a p p' x → ActIsFree c a q q' y
+        → AreTwinPlayers c.held p' q'
     acts-too act.Drains p' q' x y free too = drains-too p' q' 1 x y free too
-    acts-too act.Skips p' q' x y free too = subst (λ r. AreTwinPlayers c.held r q') (sym x) (subst (λ r. AreTwinPlayers c.held (skipped p 1) r) (sym y) (skips-too 1))
+    acts-too act.Skips p' q' x y free too =
+        subst (λ r. AreTwinPlayers c.held r q') (sym x) (subst (λ r. AreTwinPlayers c.held (skipped p 1) r) (sym y) (skips-too 1))
     acts-too (act.Tries step) p' q' x y free too = (tries-too p' q' step x.0 y.0 x.1 y.1 free too).twins
     acts-too act.Rests p' q' x y free too = subst (λ r. AreTwinPlayers c.held r q') (sym x) (subst (λ r. AreTwinPlayers c.held p r) (sym y) twins)
 
@@ -173,11 +187,13 @@ module _ {B : Type 0} (c : Cell B) where
       → (last.0 ≡ too.0) × AreTwinPlayers c.held last.1 too.1
   turns-too zero first other last too words twins x y free free' = (
     ap (λ (s : Lcg × Position B). s.0) x ∙ words ∙ sym (ap (λ (s : Lcg × Position B). s.0) y),
-    subst (λ (s : Lcg × Position B). AreTwinPlayers c.held s.1 too.1) (sym x) (subst (λ (s : Lcg × Position B). AreTwinPlayers c.held first.1 s.1) (sym y) twins),
+    subst (λ (s : Lcg × Position B). AreTwinPlayers c.held s.1 too.1) (sym x)
+        (subst (λ (s : Lcg × Position B). AreTwinPlayers c.held first.1 s.1) (sym y) twins),
   )
   turns-too (suc n) first other last too words twins x y free free' =
       let before = turns-too n first other x.0 y.0 words twins x.1 y.1 free.0 free'.0 in
-      let same : next_act x.0.1.world x.0.0 ≡ next_act y.0.1.world y.0.0 = ap (next_act x.0.1.world) before.0 ∙ act-too x.0.1.world y.0.1.world before.1.worlds y.0.0 in (
+      let same : next_act x.0.1.world x.0.0 ≡ next_act y.0.1.world y.0.0 =
+      ap (next_act x.0.1.world) before.0 ∙ act-too x.0.1.world y.0.1.world before.1.worlds y.0.0 in (
         x.2.0 ∙ ap (λ (w : Lcg). (pcg32 (pcg32 w).1).1) before.0 ∙ sym y.2.0,
         subst (λ (a : Act). (d : chaos.Does c a y.0.1 too.1) → ActIsFree c a y.0.1 too.1 d → AreTwinPlayers c.held last.1 too.1) same
             (λ d free''. acts-too x.0.1 y.0.1 before.1 (next_act x.0.1.world x.0.0) last.1 too.1 x.2.1 d free.1 free'') y.2.1 free'.1,

@@ -23,19 +23,23 @@ use vr_types::BootCell;
 /// A step that nothing hinders has one outcome: it is refused just where and why the bank refuses it, and of two worlds
 /// that came the same way it makes two that came the same way, with one report.
 pub fn one_outcome<C: BootCell>()
-    ensures refused { (old new : Shown C) (at : IsAt C.held old) (step : Step) (result : Result Report WorldFault) →
+    ensures refused { (old new : Shown C) (at : IsAt C.held old) (step : Step)
+        (result : Result Report WorldFault) →
         Applies C.held old new step result → is_hindered result ≡ false →
         refused_as result ≡ bank_refuses old.setup (faults old.setup) at.list.bank step }
     ensures result { (a b : Shown C) → AreTwins C.held a b →
         (c d : Shown C) (step : Step) (one other : Result Report WorldFault) →
-        Applies C.held a c step one → Applies C.held b d step other → is_hindered one ≡ false → is_hindered other ≡ false →
+        Applies C.held a c step one → Applies C.held b d step other → is_hindered one ≡ false →
+        is_hindered other ≡ false →
         (one ≡ other) × AreTwins C.held c d }
 {}
 
 /// Two plays of one setup and the same lines, which nothing hinders, print one text, and their worlds have one trail.
 pub fn one_text()
-    ensures text { (setup : Setup) (fails : List Fail) (telling : Telling) (lines : List Line) (a b : FreePlay setup fails telling lines) →
+    ensures text { (setup : Setup) (fails : List Fail) (telling : Telling) (lines : List Line)
+        (a b : FreePlay setup fails telling lines) →
         a.text ≡ b.text }
-    ensures trail { (setup : Setup) (fails : List Fail) (telling : Telling) (lines : List Line) (a b : FreePlay setup fails telling lines) →
+    ensures trail { (setup : Setup) (fails : List Fail) (telling : Telling) (lines : List Line)
+        (a b : FreePlay setup fails telling lines) →
         a.end.world.trail ≡ b.end.world.trail }
 {}

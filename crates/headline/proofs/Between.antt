@@ -90,7 +90,8 @@ module _ {C R O : Type 0} where
         by_if (not (is_normal x.status)) (silent _ refl) (
         by_if (not (primary f x.view == me)) (silent _ refl) (
         by_if (nat_lt (newest x.log row.client) row.number)
-        (by_if (length x.log == MAX_ROWS) (silent _ refl) (told (with_row row x) _ (all f me (Prepare (record { view = x.view; place = length x.log + 1; done = x.done; row = row })) refl)))
+        (by_if (length x.log == MAX_ROWS) (silent _ refl)
+        (told (with_row row x) _ (all f me (Prepare (record { view = x.view; place = length x.log + 1; done = x.done; row = row })) refl)))
         (again row.number (newest x.log row.client) (last_of (take x.done x.log) row.client))))
 
     prepares_between : (msg : PrepareOf C) → SendsBetween (prepares {R = R} {O = O} f me x msg)
@@ -164,7 +165,16 @@ module _ {C R O : Type 0} where
       opens part k =
           by_if (not (is_to_open f me part.site)) (record { sent = k.sent }) (
           by_if (not (begins_with_executed choose.same part.site (choose.pick part.site.collected.votes).log)) (silent _ refl)
-          (record { sent = both part.sent _ k.sent (all f me (StartView (record { view = part.site.view; done = (executed_to (choose.most_done part.site.collected.votes) (normal_in part.site.view (choose.pick part.site.collected.votes).log part.site)).done; rows = (choose.pick part.site.collected.votes).log })) refl) }))
+          (record {
+            sent = both part.sent _ k.sent
+                (all f me (StartView (record {
+                  view = part.site.view;
+                  done = (executed_to (choose.most_done part.site.collected.votes)
+                      (normal_in part.site.view (choose.pick part.site.collected.votes).log part.site)).done;
+                  rows = (choose.pick part.site.collected.votes).log;
+                }))
+                refl);
+          }))
 
       start_view_change : (w : ℕ) (start : Start) → SendsBetween (on_start_view_change {R = R} {O = O} choose f me x w start)
       unfolding on_start_view_change

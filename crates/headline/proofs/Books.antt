@@ -48,7 +48,8 @@ orders-ccy entries c o in' =
     order-ccy c t.0.client t.0.cmd t.0.reply o t.2
 
 -- what is outstanding was ordered
-pub due-ordered : (setup : Setup) (entries : List Entry) (due : ℕ × PayOrder) → Contains (outstanding setup entries) due → Contains (orders entries due.1.ccy) due.1
+pub due-ordered : (setup : Setup) (entries : List Entry) (due : ℕ × PayOrder) → Contains (outstanding setup entries) due
+    → Contains (orders entries due.1.ccy) due.1
 due-ordered setup entries due in' =
     let t = flat_map-has (outstanding_in entries) (range_with_len 0 (length setup.currencies)) due in' in
     let s = map-has (λ (o : PayOrder). (101 + t.0, o)) _ due t.2 in
@@ -58,7 +59,8 @@ due-ordered setup entries due in' =
     subst (λ c. Contains (orders entries c) due.1) (sym (orders-ccy entries t.0 due.1 ordered)) ordered
 
 -- an order stays where rows come
-pub ordered-more : (setup : Setup) (rows longer : List Row) (c : ℕ) (o : PayOrder) → Begins rows longer → Contains (orders (book_of setup rows) c) o → Contains (orders (book_of setup longer) c) o
+pub ordered-more : (setup : Setup) (rows longer : List Row) (c : ℕ) (o : PayOrder) → Begins rows longer → Contains (orders (book_of setup rows) c) o
+    → Contains (orders (book_of setup longer) c) o
 ordered-more setup rows longer c o b in' =
     let grown = begins setup rows b.rest in
     subst (λ (l : List Row). Contains (orders (book_of setup l) c) o) b.is

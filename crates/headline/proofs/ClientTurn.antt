@@ -54,7 +54,9 @@ module _ (f me : ℕ) (x : Client) where
   submit-asks cmd (Some waiting) = silent
   submit-asks cmd None = by (x.number == max_number)
     where
-      by : (b : Bool) → Asks me (if b then refuses x ClientFault.Spent else does (record { number = x.number + 1; waiting = Some cmd; answer = None }) (to_sites f me (x.number + 1) cmd))
+      by : (b : Bool)
+          → Asks me (if b then refuses x ClientFault.Spent else does (record { number = x.number + 1; waiting = Some cmd; answer = None })
+          (to_sites f me (x.number + 1) cmd))
       by true = silent
       by false = asks (x.number + 1) cmd
 
@@ -85,7 +87,8 @@ module _ (f me : ℕ) (x : Client) where
 no_node : (k c : ℕ) → k ≤ 64 → k ≡ node_of c → ⊥
 no_node k c low same = omega arith
 
-module _ (setup : Setup) (choose : Choice Cmd) (f : ℕ) (cells : List Boot) (moves : List Move) (bank : Bank) (h : Holds setup choose f cells moves bank) (move : Move)
+module _ (setup : Setup) (choose : Choice Cmd) (f : ℕ) (cells : List Boot) (moves : List Move) (bank : Bank)
+    (h : Holds setup choose f cells moves bank) (move : Move)
     (few : length setup.members ≤ 64) (k : ℕ) (event : ClientEvent) (x : Client) (is_there : slice_get bank.clients k ≡ Some x) where
   abbrev step : ClientStep
   step = client_step f k x event
@@ -101,7 +104,8 @@ module _ (setup : Setup) (choose : Choice Cmd) (f : ℕ) (cells : List Boot) (mo
   sent = client-asks f k x event
 
   module _ (leads : Leads setup choose f bank move after) where
-    order-stays : (d : ℕ) (o : PaymentOrder) → IsOrder setup choose f cells moves bank h.history d o → IsOrder setup choose f cells (moves ++ move ∷ []) after h.history d o
+    order-stays : (d : ℕ) (o : PaymentOrder) → IsOrder setup choose f cells moves bank h.history d o
+        → IsOrder setup choose f cells (moves ++ move ∷ []) after h.history d o
     order-stays d o is = order-more setup choose f cells moves bank move after h.history h.history d o leads (begins_itself h.history) is
 
     between_too : (e : Envelope) → Contains after.post e → is_between e.msg ≡ true → Contains h.world.sent e
@@ -118,14 +122,16 @@ module _ (setup : Setup) (choose : Choice Cmd) (f : ℕ) (cells : List Boot) (mo
         by (inl old) = h.requests e old
         by (inr new) = λ asked is c within from. absurd (no_node k c low (sym (sent e new).from ∙ from))
 
-    orders_too : (e : Envelope) (o : PaymentOrder) → Contains after.post e → e.msg ≡ PayOrder o → IsOrder setup choose f cells (moves ++ move ∷ []) after h.history o.ccy o
+    orders_too : (e : Envelope) (o : PaymentOrder) → Contains after.post e → e.msg ≡ PayOrder o
+        → IsOrder setup choose f cells (moves ++ move ∷ []) after h.history o.ccy o
     orders_too e o in' is = by (Contains-append_cases bank.post step.sent e in')
       where
         by : Contains bank.post e ⊎ Contains step.sent e → IsOrder setup choose f cells (moves ++ move ∷ []) after h.history o.ccy o
         by (inl old) = order-stays o.ccy o (h.orders e o old is)
         by (inr new) = let same = sym (sent e new).msg ∙ is in absurd (cc)
 
-    replies_too : (e : Envelope) (said : ReplyOf Answer) → Contains after.post e → e.msg ≡ Reply said → IsReply setup choose f cells (moves ++ move ∷ []) after h.world e
+    replies_too : (e : Envelope) (said : ReplyOf Answer) → Contains after.post e → e.msg ≡ Reply said
+        → IsReply setup choose f cells (moves ++ move ∷ []) after h.world e
     replies_too e said in' is = by (Contains-append_cases bank.post step.sent e in')
       where
         by : Contains bank.post e ⊎ Contains step.sent e → IsReply setup choose f cells (moves ++ move ∷ []) after h.world e

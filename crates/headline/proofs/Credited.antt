@@ -46,7 +46,8 @@ or_second true b e = refl
 or_second false b e = e
 
 -- a credit stays
-pub credit_stays : (setup : Setup) (rows longer : List Row) (c k : ℕ) → Begins rows longer → has_pay_in (book_of setup rows) c k ≡ true → has_pay_in (book_of setup longer) c k ≡ true
+pub credit_stays : (setup : Setup) (rows longer : List Row) (c k : ℕ) → Begins rows longer → has_pay_in (book_of setup rows) c k ≡ true
+    → has_pay_in (book_of setup longer) c k ≡ true
 credit_stays setup rows longer c k b is =
     let grown = begins setup rows b.rest in
     ap (λ (l : List Row). has_pay_in (book_of setup l) c k) (sym b.is)
@@ -54,10 +55,12 @@ credit_stays setup rows longer c k b is =
     ∙ (list_any-append (λ (e : Entry). is_pay_in c k e.cmd) (book_of setup rows) grown.0 ∙ or_first _ _ is))
 
 -- a node's word on a pay-in that the book has not is not refused
-fund_done : (setup : Setup) (entries : List Entry) (c k m amt : ℕ) → c < length setup.currencies → 1 ≤ k → has_member setup m ≡ true → is_amount amt ≡ true → has_pay_in entries c k ≡ false
+fund_done : (setup : Setup) (entries : List Entry) (c k m amt : ℕ) → c < length setup.currencies → 1 ≤ k → has_member setup m ≡ true → is_amount amt ≡ true
+    → has_pay_in entries c k ≡ false
     → on_fund setup entries (node_of c) c k m amt ≡ Done
 fund_done setup entries c k m amt low counted known small new =
-    by (node_of c == node_of c) (has_currency setup c) (has_member setup m) (is_amount amt) (k == 0) (has_pay_in entries c k) (eq-eqb (node_of c) (node_of c) refl) (less c (length setup.currencies) low) known small (some k counted) new
+    by (node_of c == node_of c) (has_currency setup c) (has_member setup m) (is_amount amt) (k == 0) (has_pay_in entries c k)
+    (eq-eqb (node_of c) (node_of c) refl) (less c (length setup.currencies) low) known small (some k counted) new
   where
     less : (a b : ℕ) → a < b → nat_lt a b ≡ true
     less a b h = grind (arith, nat_tests, h)
@@ -76,11 +79,13 @@ fund_done setup entries c k m amt low counted known small new =
     by true false member amount none there a b d e g h = absurd (true≢false (sym b))
     by false currency member amount none there a b d e g h = absurd (true≢false (sym a))
 
-fund_answer : (setup : Setup) (entries : List Entry) (client c k m amt : ℕ) → answer setup entries client (Fund c k m amt) ≡ on_fund setup entries client c k m amt
+fund_answer : (setup : Setup) (entries : List Entry) (client c k m amt : ℕ)
+    → answer setup entries client (Fund c k m amt) ≡ on_fund setup entries client c k m amt
 unfolding answer
 fund_answer setup entries client c k m amt = refl
 
-credited_now : (setup : Setup) (rows : List Row) (row : Row) (c k m amt : ℕ) → c < length setup.currencies → 1 ≤ k → has_member setup m ≡ true → is_amount amt ≡ true
+credited_now : (setup : Setup) (rows : List Row) (row : Row) (c k m amt : ℕ) → c < length setup.currencies → 1 ≤ k → has_member setup m ≡ true
+    → is_amount amt ≡ true
     → row.client ≡ node_of c → row.cmd ≡ Fund c k m amt → has_pay_in (book_of setup (rows ++ row ∷ [])) c k ≡ true
 credited_now setup rows row c k m amt low counted known small from is = by (has_pay_in (book_of setup rows) c k) refl
   where
@@ -91,12 +96,14 @@ credited_now setup rows row c k m amt low counted known small from is = by (has_
         ap (λ (cmd : Cmd). answer setup (book_of setup rows) row.client cmd) is
         ∙ (ap (λ (d : ℕ). answer setup (book_of setup rows) d (Fund c k m amt)) from
         ∙ (fund_answer setup (book_of setup rows) (node_of c) c k m amt ∙ fund_done setup (book_of setup rows) c k m amt low counted known small new)) in
-        ap (λ (es : List Entry). has_pay_in es c k) (reached-more setup rows row ∙ ap (λ (r : Reply). with_entry (book_of setup rows) row.client row.cmd r) done)
+        ap (λ (es : List Entry). has_pay_in es c k)
+        (reached-more setup rows row ∙ ap (λ (r : Reply). with_entry (book_of setup rows) row.client row.cmd r) done)
         ∙ (list_any-append (λ (e : Entry). is_pay_in c k e.cmd) (book_of setup rows) (record { client = row.client; cmd = row.cmd; reply = Done } ∷ [])
         ∙ or_second _ _ (or_first _ false (ap (is_pay_in c k) is ∙ end_says c k)))
 
 -- a row of a node on a pay-in credits it
-credited_by : (setup : Setup) (log : List Row) (row : Row) (c k m amt : ℕ) → c < length setup.currencies → 1 ≤ k → has_member setup m ≡ true → is_amount amt ≡ true
+credited_by : (setup : Setup) (log : List Row) (row : Row) (c k m amt : ℕ) → c < length setup.currencies → 1 ≤ k → has_member setup m ≡ true
+    → is_amount amt ≡ true
     → Contains log row → row.client ≡ node_of c → row.cmd ≡ Fund c k m amt → has_pay_in (book_of setup log) c k ≡ true
 credited_by setup log row c k m amt low counted known small in' from is =
     let t = split_at log row in' in
@@ -105,7 +112,8 @@ credited_by setup log row c k m amt low counted known small in' from is =
 
 -- EACH PAY-IN
 
-module _ (setup : Setup) (f : ℕ) (some : 1 ≤ f) (list : LegalList setup f) (view : ℕ) (log : List Row) (are : AreWorking f view log list.bank.sites) (room : length log < MAX_ROWS)
+module _ (setup : Setup) (f : ℕ) (some : 1 ≤ f) (list : LegalList setup f) (view : ℕ) (log : List Row) (are : AreWorking f view log list.bank.sites)
+    (room : length log < MAX_ROWS)
     (c : ℕ) (x : Node) (at : slice_get list.bank.nodes c ≡ Some x) (calm : x.answered ≡ length x.notices) where
   pub credited : (k : ℕ) (p : PayIn) → slice_get x.pay_ins k ≡ Some p → has_pay_in (book_of setup log) c (k + 1) ≡ true
   credited k p paid =
@@ -125,7 +133,9 @@ module _ (setup : Setup) (f : ℕ) (some : 1 ≤ f) (list : LegalList setup f) (
       n = (legal_noted setup list.choose f list.cells list.moves list.bank list.legal.run c x at).each k p paid
 
       row : HasRow setup f some list view log are room c (n.place + 1)
-      row = heard_row setup f some list view log are room c (n.place + 1) (knows.heard n.place (let a = slice_get_within x.notices n.place (Fund c (k + 1) p.member p.amt) n.is in let b = calm in omega arith))
+      row =
+          heard_row setup f some list view log are room c (n.place + 1)
+          (knows.heard n.place (let a = slice_get_within x.notices n.place (Fund c (k + 1) p.member p.amt) n.is in let b = calm in omega arith))
 
       back : row.row.number - 1 ≡ n.place
       back = let e = row.number_is in omega arith
@@ -133,7 +143,9 @@ module _ (setup : Setup) (f : ℕ) (some : 1 ≤ f) (list : LegalList setup f) (
       said : slice_get x.notices (row.row.number - 1) ≡ Some row.row.cmd
       said =
           let b = log_begins setup f some list view log are holds in
-          let r = holds.rows row.row (subst (λ (l : List Row). Contains l row.row) b.is (Contains-append_left log b.rest row.row row.among)) c (slice_get_within list.bank.nodes c x at) row.client in
+          let r =
+          holds.rows row.row (subst (λ (l : List Row). Contains l row.row) b.is (Contains-append_left log b.rest row.row row.among)) c
+          (slice_get_within list.bank.nodes c x at) row.client in
           ap (λ (o : Option Node). slice_get (notices_of o) (row.row.number - 1)) (sym at) ∙ r.is
 
 -- SUMS OF NOTHING
@@ -150,13 +162,16 @@ credited_from : (c n : ℕ) (entries : List Entry) (ps : List PayIn) → ((k : �
     → sum_by (λ (p : ℕ × PayIn). if has_pay_in entries c p.0 then 0 else p.1.amt) (enumerate_from n ps) ≡ 0
 credited_from c n entries [] all = refl
 credited_from c n entries (p ∷ ps) all =
-    let rest = credited_from c (n + 1) entries ps (λ k q at. ap (λ (j : ℕ). has_pay_in entries c j) (let e : (n + 1) + k ≡ n + suc k = omega arith in e) ∙ all (suc k) q at) in
+    let rest =
+    credited_from c (n + 1) entries ps (λ k q at. ap (λ (j : ℕ). has_pay_in entries c j) (let e : (n + 1) + k ≡ n + suc k = omega arith in
+    e) ∙ all (suc k) q at) in
     let first : has_pay_in entries c n ≡ true = ap (λ (j : ℕ). has_pay_in entries c j) (let e : n ≡ n + 0 = omega arith in e) ∙ all 0 p refl in
     let one : (if has_pay_in entries c n then 0 else p.amt) ≡ 0 = ap (λ (b : Bool). if b then 0 else p.amt) first in
     let whole = sum_by-cons (λ (q : ℕ × PayIn). if has_pay_in entries c q.0 then 0 else q.1.amt) (n, p) (enumerate_from (n + 1) ps) in
     omega arith
 
 -- so nothing that was paid in is on the way
-pub none_uncredited : (c : ℕ) (x : Node) (entries : List Entry) → ((k : ℕ) (p : PayIn) → slice_get x.pay_ins k ≡ Some p → has_pay_in entries c (k + 1) ≡ true) → not_credited c x entries ≡ 0
+pub none_uncredited : (c : ℕ) (x : Node) (entries : List Entry) → ((k : ℕ) (p : PayIn) → slice_get x.pay_ins k ≡ Some p → has_pay_in entries c (k + 1) ≡ true)
+    → not_credited c x entries ≡ 0
 none_uncredited c x entries all =
     credited_from c 1 entries x.pay_ins (λ k p at. ap (λ (j : ℕ). has_pay_in entries c j) (let e : 1 + k ≡ k + 1 = omega arith in e) ∙ all k p at)

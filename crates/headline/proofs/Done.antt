@@ -51,7 +51,8 @@ pub record AreDone (setup : Setup) (f view : ℕ) (log : List Row) (todo : List 
   pub more : List Row
   pub longer : Begins log more
   pub ordered : (d : ℕ) → orders (book_of setup more) d ≡ orders (book_of setup log) d
-  pub ended : (e : Entry) (c : ℕ) (order : PaymentOrder) → Contains todo e → order_by c e.client e.cmd e.reply ≡ Some order → c < length setup.currencies → has_end (book_of setup more) c order.out ≡ true
+  pub ended : (e : Entry) (c : ℕ) (order : PaymentOrder) → Contains todo e → order_by c e.client e.cmd e.reply ≡ Some order → c < length setup.currencies
+      → has_end (book_of setup more) c order.out ≡ true
   pub working : AreWorking f view more after.sites
   pub runs : (i : ℕ) → runs_at before.sites i ≡ true → runs_at after.sites i ≡ true
   pub calm : AreCalm after
@@ -66,16 +67,19 @@ grown_then setup log more before middle after same first second d z at =
     let u = first d t.0 t.1 in
     (u.0, u.1, record { pay_ins = t.2.pay_ins ∙ u.2.pay_ins; pay_outs = λ o in'. by u.0 t.0 u.2 o (t.2.pay_outs o in') })
   where
-    by : (u w : Node) → IsGrown setup log d u w → (o : PaymentOrder) → Contains w.pay_outs o ⊎ Contains (orders (book_of setup more) d) o → Contains u.pay_outs o ⊎ Contains (orders (book_of setup log) d) o
+    by : (u w : Node) → IsGrown setup log d u w → (o : PaymentOrder) → Contains w.pay_outs o ⊎ Contains (orders (book_of setup more) d) o
+        → Contains u.pay_outs o ⊎ Contains (orders (book_of setup log) d) o
     by u w g o (inl old) = g.pay_outs o old
     by u w g o (inr new) = inr (subst (λ (os : List PaymentOrder). Contains os o) (same d) new)
 
 module _ (setup : Setup) (f : ℕ) (some : 1 ≤ f) (view : ℕ) where
   -- what the entries order is in the book
   AreOrders : List Row → List Entry → Type 0
-  AreOrders log todo = (e : Entry) (c : ℕ) (order : PaymentOrder) → Contains todo e → order_by c e.client e.cmd e.reply ≡ Some order → Contains (orders (book_of setup log) c) order
+  AreOrders log todo = (e : Entry) (c : ℕ) (order : PaymentOrder) → Contains todo e → order_by c e.client e.cmd e.reply ≡ Some order
+      → Contains (orders (book_of setup log) c) order
 
-  do_orders : (todo : List Entry) (list : LegalList setup f) (log : List Row) → AreWorking f view log list.bank.sites → AreCalm list.bank → AreOrders log todo → length log + pay_outs_in todo ≤ MAX_ROWS
+  do_orders : (todo : List Entry) (list : LegalList setup f) (log : List Row) → AreWorking f view log list.bank.sites → AreCalm list.bank → AreOrders log todo
+      → length log + pay_outs_in todo ≤ MAX_ROWS
       → Comes list (AreDone setup f view log todo list.bank)
   unfolding AreOrders
   do_orders [] list log are calm these room = stays list (AreDone setup f view log [] list.bank) (record {
@@ -89,16 +93,19 @@ module _ (setup : Setup) (f : ℕ) (some : 1 ≤ f) (view : ℕ) where
     nodes = grown_still setup log list.bank;
     clients = refl;
   })
-  do_orders (first ∷ todo) list log are calm these room = by_order (order_by (ccy_of first.cmd) first.client first.cmd first.reply) refl (λ l lg a q o r. do_orders todo l lg a q o r)
+  do_orders (first ∷ todo) list log are calm these room =
+      by_order (order_by (ccy_of first.cmd) first.client first.cmd first.reply) refl (λ l lg a q o r. do_orders todo l lg a q o r)
     where
       Rest : Type 0
-      Rest = (l : LegalList setup f) (lg : List Row) → AreWorking f view lg l.bank.sites → AreCalm l.bank → AreOrders lg todo → length lg + pay_outs_in todo ≤ MAX_ROWS → Comes l (AreDone setup f view lg todo l.bank)
+      Rest = (l : LegalList setup f) (lg : List Row) → AreWorking f view lg l.bank.sites → AreCalm l.bank → AreOrders lg todo
+          → length lg + pay_outs_in todo ≤ MAX_ROWS → Comes l (AreDone setup f view lg todo l.bank)
 
       more_room : pay_outs_in (first ∷ todo) ≡ (if is_pay_out first.cmd then 1 else 0) + pay_outs_in todo
       more_room = count-cons (λ (e : Entry). is_pay_out e.cmd) first todo
 
       -- the first entry orders nothing
-      skip : Rest → ((c : ℕ) (order : PaymentOrder) → order_by c first.client first.cmd first.reply ≡ Some order → c < length setup.currencies → ⊥) → Comes list (AreDone setup f view log (first ∷ todo) list.bank)
+      skip : Rest → ((c : ℕ) (order : PaymentOrder) → order_by c first.client first.cmd first.reply ≡ Some order → c < length setup.currencies → ⊥)
+          → Comes list (AreDone setup f view log (first ∷ todo) list.bank)
       skip rest none =
           let r = rest list log are calm (λ e c order in' is. these e c order (Contains-there first e todo in') is) (let m = more_room in omega arith) in
           record {
@@ -119,18 +126,24 @@ module _ (setup : Setup) (f : ℕ) (some : 1 ≤ f) (view : ℕ) where
             };
           }
         where
-          by : (after : Bank) (d : AreDone setup f view log todo list.bank after) (e : Entry) (c : ℕ) (order : PaymentOrder) → order_by c e.client e.cmd e.reply ≡ Some order → c < length setup.currencies → (first ≡ e) ⊎ Contains todo e → has_end (book_of setup d.more) c order.out ≡ true
+          by : (after : Bank) (d : AreDone setup f view log todo list.bank after) (e : Entry) (c : ℕ) (order : PaymentOrder)
+              → order_by c e.client e.cmd e.reply ≡ Some order → c < length setup.currencies → (first ≡ e) ⊎ Contains todo e
+              → has_end (book_of setup d.more) c order.out ≡ true
           by after d e c order is low (inl same) = absurd (none c order (ap (λ (g : Entry). order_by c g.client g.cmd g.reply) same ∙ is) low)
           by after d e c order is low (inr later) = d.ended e c order later is low
 
       -- its order is done
-      do_first : (x : Node) (order : PaymentOrder) → slice_get list.bank.nodes (ccy_of first.cmd) ≡ Some x → order_by (ccy_of first.cmd) first.client first.cmd first.reply ≡ Some order → Rest → Comes list (AreDone setup f view log (first ∷ todo) list.bank)
+      do_first : (x : Node) (order : PaymentOrder) → slice_get list.bank.nodes (ccy_of first.cmd) ≡ Some x
+          → order_by (ccy_of first.cmd) first.client first.cmd first.reply ≡ Some order → Rest → Comes list (AreDone setup f view log (first ∷ todo) list.bank)
       do_first x order at made rest =
           let pays = made_by_pay_out (ccy_of first.cmd) first.client first.cmd first.reply order made in
           let one_more : pay_outs_in (first ∷ todo) ≡ 1 + pay_outs_in todo = more_room ∙ ap (λ (t : Bool). (if t then 1 else 0) + pay_outs_in todo) pays in
-          let one = order_done setup f some list view log are (omega arith) calm (ccy_of first.cmd) x at order (these first (ccy_of first.cmd) order (Contains-here first todo) made) in
+          let one =
+          order_done setup f some list view log are (omega arith) calm (ccy_of first.cmd) x at order
+          (these first (ccy_of first.cmd) order (Contains-here first todo) made) in
           let r = rest (longer list one.moves one.after one.run) one.holds.more one.holds.working one.holds.calm
-          (λ e c o in' is. subst (λ (os : List PaymentOrder). Contains os o) (sym (one.holds.ordered c)) (these e c o (Contains-there first e todo in') is)) (let g = one.holds.grows in omega arith) in
+          (λ e c o in' is. subst (λ (os : List PaymentOrder). Contains os o) (sym (one.holds.ordered c)) (these e c o (Contains-there first e todo in') is))
+          (let g = one.holds.grows in omega arith) in
           comes_then list (IsDone setup f view log (ccy_of first.cmd) order.out list.bank) (AreDone setup f view log (first ∷ todo) list.bank) one
           (record {
             moves = r.moves;
@@ -151,7 +164,8 @@ module _ (setup : Setup) (f : ℕ) (some : 1 ≤ f) (view : ℕ) where
           })
         where
           by : (middle end : Bank) (d : IsDone setup f view log (ccy_of first.cmd) order.out list.bank middle) (r : AreDone setup f view d.more todo middle end)
-              → (e : Entry) (c : ℕ) (o : PaymentOrder) → order_by c e.client e.cmd e.reply ≡ Some o → c < length setup.currencies → (first ≡ e) ⊎ Contains todo e → has_end (book_of setup r.more) c o.out ≡ true
+              → (e : Entry) (c : ℕ) (o : PaymentOrder) → order_by c e.client e.cmd e.reply ≡ Some o → c < length setup.currencies
+              → (first ≡ e) ⊎ Contains todo e → has_end (book_of setup r.more) c o.out ≡ true
           by middle end d r e c o is low (inr later) = r.ended e c o later is low
           by middle end d r e c o is low (inl same) =
               let is_first : order_by c first.client first.cmd first.reply ≡ Some o = ap (λ (g : Entry). order_by c g.client g.cmd g.reply) same ∙ is in
@@ -161,12 +175,15 @@ module _ (setup : Setup) (f : ℕ) (some : 1 ≤ f) (view : ℕ) where
               (subst (λ (p : PaymentOrder). has_end (book_of setup r.more) (ccy_of first.cmd) p.out ≡ true) one
               (end_stays setup d.more r.more (ccy_of first.cmd) order.out r.longer d.ended))
 
-      by_order : (found : Option PaymentOrder) → order_by (ccy_of first.cmd) first.client first.cmd first.reply ≡ found → Rest → Comes list (AreDone setup f view log (first ∷ todo) list.bank)
+      by_order : (found : Option PaymentOrder) → order_by (ccy_of first.cmd) first.client first.cmd first.reply ≡ found → Rest
+          → Comes list (AreDone setup f view log (first ∷ todo) list.bank)
       by_order None is rest = skip rest (λ c order made low.
-          none-some order (sym is ∙ (ap (λ (k : ℕ). order_by k first.client first.cmd first.reply) (made_in c first.client first.cmd first.reply order made) ∙ made)))
+          none-some order
+          (sym is ∙ (ap (λ (k : ℕ). order_by k first.client first.cmd first.reply) (made_in c first.client first.cmd first.reply order made) ∙ made)))
       by_order (Some order) is rest = by_node (cases_lt (ccy_of first.cmd) (length list.bank.nodes))
         where
-          by_node : (ccy_of first.cmd < length list.bank.nodes) ⊎ (length list.bank.nodes ≤ ccy_of first.cmd) → Comes list (AreDone setup f view log (first ∷ todo) list.bank)
+          by_node : (ccy_of first.cmd < length list.bank.nodes) ⊎ (length list.bank.nodes ≤ ccy_of first.cmd)
+              → Comes list (AreDone setup f view log (first ∷ todo) list.bank)
           by_node (inl low) = let t = there_is list.bank.nodes (ccy_of first.cmd) low in do_first t.0 order t.1 is rest
           by_node (inr high) = skip rest (λ c o made low.
               let ccy = made_in c first.client first.cmd first.reply o made in
@@ -187,7 +204,8 @@ end_parts (e ∷ es) c out is = by (is_payment c out e.cmd) (is_return c out e.c
     one (Returned ccy n) = refl
     one _ = refl
 
-    by : (a b both : Bool) → both ≡ (a || b) → (both || has_end es c out) ≡ true → (has_end es c out ≡ true → (has_payment es c out ≡ true) ⊎ (has_return es c out ≡ true))
+    by : (a b both : Bool) → both ≡ (a || b) → (both || has_end es c out) ≡ true
+        → (has_end es c out ≡ true → (has_payment es c out ≡ true) ⊎ (has_return es c out ≡ true))
         → ((a || has_payment es c out) ≡ true) ⊎ ((b || has_return es c out) ≡ true)
     by true b both same h rest = inl refl
     by false true both same h rest = inr refl
@@ -210,7 +228,8 @@ works_run all i view log works = by (slice_get all i) works
     by (Some y) works = ap is_running works.status
 
 -- a site that runs is there, and so is what is said of each that runs
-by_place : (P : Site Cmd → Type 0) (all : List (Site Cmd)) (i : ℕ) → runs_at all i ≡ true → ((y : Site Cmd) → Contains all y → is_running y.status ≡ true → P y) → IsSomeAnd (slice_get all i) P
+by_place : (P : Site Cmd → Type 0) (all : List (Site Cmd)) (i : ℕ) → runs_at all i ≡ true → ((y : Site Cmd) → Contains all y → is_running y.status ≡ true → P y)
+    → IsSomeAnd (slice_get all i) P
 by_place P all i runs each = by (slice_get all i) refl runs
   where
     by : (o : Option (Site Cmd)) → slice_get all i ≡ o → option_map_or (λ (z : Site Cmd). is_running z.status) o false ≡ true → IsSomeAnd o P
@@ -227,12 +246,14 @@ module _ (setup : Setup) (f : ℕ) (some : 1 ≤ f) (list : LegalList setup f) (
   list_sites = longer list sites_go.moves sites_go.after sites_go.run
 
   -- the log, what waits, and the pay-outs that there may be, have room
-  room : (length sites_go.log + length sites_go.after.clients + unanswered sites_go.after ≤ MAX_ROWS) × ((length sites_go.log + length sites_go.after.clients) + (length sites_go.log + length sites_go.after.clients + unanswered sites_go.after) ≤ MAX_ROWS)
+  room : (length sites_go.log + length sites_go.after.clients + unanswered sites_go.after ≤ MAX_ROWS)
+      × ((length sites_go.log + length sites_go.after.clients) + (length sites_go.log + length sites_go.after.clients + unanswered sites_go.after) ≤ MAX_ROWS)
   room =
       let space = can.space sites_go.had.0 sites_go.had.1 in
       let log_is = ap (length {A = Row}) sites_go.had.2 in
       let same_clients = ap (length {A = Client}) sites_go.clients in
-      let same_notices : unanswered sites_go.after ≡ unanswered list.bank = ap (λ (l : List Node). unanswered (record { sites = []; nodes = l; clients = []; post = [] })) sites_go.nodes in
+      let same_notices : unanswered sites_go.after ≡ unanswered list.bank =
+      ap (λ (l : List Node). unanswered (record { sites = []; nodes = l; clients = []; post = [] })) sites_go.nodes in
       (omega arith, omega arith)
 
   rest_all : RestsWith setup f some sites_go.view list_sites sites_go.log
@@ -264,16 +285,20 @@ module _ (setup : Setup) (f : ℕ) (some : 1 ≤ f) (list : LegalList setup f) (
   list_done = longer list_rest all_done.moves all_done.after all_done.run
 
   -- each order has its end
-  ended_there : (c : ℕ) (n : Node) (order : PaymentOrder) → slice_get all_done.after.nodes c ≡ Some n → Contains (orders (book_of setup all_done.holds.more) c) order → has_end (book_of setup all_done.holds.more) c order.out ≡ true
+  ended_there : (c : ℕ) (n : Node) (order : PaymentOrder) → slice_get all_done.after.nodes c ≡ Some n
+      → Contains (orders (book_of setup all_done.holds.more) c) order → has_end (book_of setup all_done.holds.more) c order.out ≡ true
   unfolding list_done list_rest list_sites
   ended_there c n order at in' =
-      let t = filter_map-has (λ (e : Entry). order_by c e.client e.cmd e.reply) (book_of setup rest.log) order (subst (λ (os : List PaymentOrder). Contains os order) (all_done.holds.ordered c) in') in
+      let t =
+      filter_map-has (λ (e : Entry). order_by c e.client e.cmd e.reply) (book_of setup rest.log) order
+      (subst (λ (os : List PaymentOrder). Contains os order) (all_done.holds.ordered c) in') in
       let a = (here setup f some list_done sites_go.view all_done.holds.more all_done.holds.working).count in
       let low = slice_get_within all_done.after.nodes c n at in
       all_done.holds.ended t.0 c order t.1 t.2 (omega arith)
 
   -- an order that has its end is known to its node
-  known_there : (c : ℕ) (n : Node) (out : ℕ) → slice_get all_done.after.nodes c ≡ Some n → has_end (book_of setup all_done.holds.more) c out ≡ true → is_known n out ≡ true
+  known_there : (c : ℕ) (n : Node) (out : ℕ) → slice_get all_done.after.nodes c ≡ Some n → has_end (book_of setup all_done.holds.more) c out ≡ true
+      → is_known n out ≡ true
   unfolding list_done list_rest list_sites
   known_there c n out at is = by (end_parts (book_of setup all_done.holds.more) c out is)
     where
@@ -283,7 +308,8 @@ module _ (setup : Setup) (f : ℕ) (some : 1 ≤ f) (list : LegalList setup f) (
       begins : Begins all_done.holds.more h.history
       begins = log_begins setup f some list_done sites_go.view all_done.holds.more all_done.holds.working h
 
-      by : (has_payment (book_of setup all_done.holds.more) c out ≡ true) ⊎ (has_return (book_of setup all_done.holds.more) c out ≡ true) → is_known n out ≡ true
+      by : (has_payment (book_of setup all_done.holds.more) c out ≡ true) ⊎ (has_return (book_of setup all_done.holds.more) c out ≡ true)
+          → is_known n out ≡ true
       by (inl pays) =
           let d : IsPaid list_done.bank c out = laws.paid h all_done.holds.more begins c out pays in
           or_left (has_done n out) (has_returned n out) (subst (λ (k : Node). has_done k out ≡ true) (some-same d.node n (sym d.is_there ∙ at)) d.done)
@@ -295,7 +321,8 @@ module _ (setup : Setup) (f : ℕ) (some : 1 ≤ f) (list : LegalList setup f) (
   served_there : (k : ℕ) (x y : Client) → slice_get list.bank.clients k ≡ Some x → slice_get all_done.after.clients k ≡ Some y → progress.IsServed x y
   unfolding list_rest list_sites
   served_there k x y at at' =
-      rest.clients k x y (ap (λ (l : List Client). slice_get l k) sites_go.clients ∙ at) (ap (λ (l : List Client). slice_get l k) (sym all_done.holds.clients) ∙ at')
+      rest.clients k x y (ap (λ (l : List Client). slice_get l k) sites_go.clients ∙ at)
+      (ap (λ (l : List Client). slice_get l k) (sym all_done.holds.clients) ∙ at')
 
   idle_there : (y : Client) → Contains all_done.after.clients y → y.waiting ≡ None
   unfolding list_done list_rest list_sites
@@ -328,7 +355,9 @@ module _ (setup : Setup) (f : ℕ) (some : 1 ≤ f) (list : LegalList setup f) (
 
   kept_there : (m : MomentOf list) (x : Site Cmd) → Contains m.then.sites x → Begins (executed_rows x) all_done.holds.more
   unfolding list_rest list_sites at_first
-  kept_there m x in' = begins-trans (before.begins x in') (begins-trans (once_whole setup f some list_rest sites_go.view rest.log rest.working rest_room (at_first m) before) all_done.holds.longer)
+  kept_there m x in' =
+      begins-trans (before.begins x in')
+      (begins-trans (once_whole setup f some list_rest sites_go.view rest.log rest.working rest_room (at_first m) before) all_done.holds.longer)
     where
       before : Holds setup list.choose f list.cells m.before m.then
       before = legal-holds setup (valid-members setup list.valid).1 list.choose f list.right list.cells m.before m.then m.legal.all m.legal.run
@@ -345,18 +374,23 @@ module _ (setup : Setup) (f : ℕ) (some : 1 ≤ f) (list : LegalList setup f) (
     credited_there k p paid =
         let t = all_done.holds.nodes c n at in
         credit_stays setup rest.log all_done.holds.more c (k + 1) all_done.holds.longer
-        (credited setup f some list_rest sites_go.view rest.log rest.working rest_room c t.0 t.1 (calm_rest c t.0 t.1) k p (ap (λ (l : List PayIn). slice_get l k) (sym t.2.pay_ins) ∙ paid))
+        (credited setup f some list_rest sites_go.view rest.log rest.working rest_room c t.0 t.1 (calm_rest c t.0 t.1) k p
+        (ap (λ (l : List PayIn). slice_get l k) (sym t.2.pay_ins) ∙ paid))
 
     -- each pay-out is an order of the book
     ordered_there : (o : PaymentOrder) → Contains n.pay_outs o → Contains (orders book_there c) o
     unfolding list_rest list_sites
-    ordered_there o in' = let t = all_done.holds.nodes c n at in subst (λ (os : List PaymentOrder). Contains os o) (sym (all_done.holds.ordered c)) (by t.0 t.1 (t.2.pay_outs o in'))
+    ordered_there o in' = let t = all_done.holds.nodes c n at in
+        subst (λ (os : List PaymentOrder). Contains os o) (sym (all_done.holds.ordered c)) (by t.0 t.1 (t.2.pay_outs o in'))
       where
         h : Holds setup list_rest.choose f list_rest.cells list_rest.moves list_rest.bank
         h = here setup f some list_rest sites_go.view rest.log rest.working
 
-        by : (w : Node) → slice_get rest.after.nodes c ≡ Some w → Contains w.pay_outs o ⊎ Contains (orders (book_of setup rest.log) c) o → Contains (orders (book_of setup rest.log) c) o
-        by w at_w (inl old) = ordered-more setup h.history rest.log c o (whole setup f some list_rest sites_go.view rest.log rest.working rest_room h) (h.done c w o at_w old).ordered
+        by : (w : Node) → slice_get rest.after.nodes c ≡ Some w → Contains w.pay_outs o ⊎ Contains (orders (book_of setup rest.log) c) o
+            → Contains (orders (book_of setup rest.log) c) o
+        by w at_w (inl old) =
+            ordered-more setup h.history rest.log c o (whole setup f some list_rest sites_go.view rest.log rest.working rest_room h)
+            (h.done c w o at_w old).ordered
         by w at_w (inr new) = new
 
     -- each order is paid or returned in the book, and so done here or returned there
@@ -371,10 +405,13 @@ module _ (setup : Setup) (f : ℕ) (some : 1 ≤ f) (list : LegalList setup f) (
         none true e = refl
         none false e = absurd (true≢false (sym e))
 
-        by : (has_payment book_there c o.out ≡ true) ⊎ (has_return book_there c o.out ≡ true) → (if has_done n o.out || has_return book_there c o.out then 0 else o.amt) ≡ 0
+        by : (has_payment book_there c o.out ≡ true) ⊎ (has_return book_there c o.out ≡ true)
+            → (if has_done n o.out || has_return book_there c o.out then 0 else o.amt) ≡ 0
         by (inl pays) =
-            let d : IsPaid list_done.bank c o.out = laws.paid h all_done.holds.more (log_begins setup f some list_done sites_go.view all_done.holds.more all_done.holds.working h) c o.out pays in
-            none _ (or_left (has_done n o.out) (has_return book_there c o.out) (subst (λ (k : Node). has_done k o.out ≡ true) (some-same d.node n (sym d.is_there ∙ at)) d.done))
+            let d : IsPaid list_done.bank c o.out =
+            laws.paid h all_done.holds.more (log_begins setup f some list_done sites_go.view all_done.holds.more all_done.holds.working h) c o.out pays in
+            none _ (or_left (has_done n o.out) (has_return book_there c o.out)
+            (subst (λ (k : Node). has_done k o.out ≡ true) (some-same d.node n (sym d.is_there ∙ at)) d.done))
         by (inr returns) = none _ (or_right (has_done n o.out) (has_return book_there c o.out) returns)
 
     nothing_on_way : NothingOnTheWay setup c n book_there
@@ -402,13 +439,16 @@ module _ (setup : Setup) (f : ℕ) (some : 1 ≤ f) (list : LegalList setup f) (
         h = here setup f some list_done sites_go.view all_done.holds.more all_done.holds.working
 
         account_adds : account n ≡ figure setup book_there c +ℤ way c n book_there
-        account_adds = laws.account-is h all_done.holds.more (log_begins setup f some list_done sites_go.view all_done.holds.more all_done.holds.working h) c n at
+        account_adds =
+            laws.account-is h all_done.holds.more (log_begins setup f some list_done sites_go.view all_done.holds.more all_done.holds.working h) c n at
 
         nothing : (a b : ℤ) (x y z : ℕ) → a ≡ b +ℤ (pos (x + y) -ℤ pos z) → x ≡ 0 → y ≡ 0 → z ≡ 0 → a ≡ b
         nothing a b x y z e p q r = omega (arith, ints)
 
         account_same : account n ≡ figure setup book_there c
-        account_same = nothing (account n) (figure setup book_there c) (not_credited c n book_there) (not_done c n book_there) (not_ordered c n book_there) account_adds uncredited undone unordered
+        account_same =
+            nothing (account n) (figure setup book_there c) (not_credited c n book_there) (not_done c n book_there)
+            (not_ordered c n book_there) account_adds uncredited undone unordered
 
   pub progresses : Progresses list
   unfolding list_done list_rest list_sites
@@ -417,7 +457,9 @@ module _ (setup : Setup) (f : ℕ) (some : 1 ≤ f) (list : LegalList setup f) (
     after = all_done.after;
     run = run_append setup list.choose f sites_go.moves (rest.moves ++ all_done.moves) list.bank sites_go.after all_done.after sites_go.run
         (run_append setup list.choose f rest.moves all_done.moves sites_go.after rest.after all_done.after rest.run all_done.run);
-    gentle = All-append IsGentle sites_go.moves (rest.moves ++ all_done.moves) sites_go.gentle (All-append IsGentle rest.moves all_done.moves rest.gentle all_done.gentle);
+    gentle =
+        All-append IsGentle sites_go.moves (rest.moves ++ all_done.moves) sites_go.gentle
+        (All-append IsGentle rest.moves all_done.moves rest.gentle all_done.gentle);
     view = sites_go.view;
     log = all_done.holds.more;
     work = record {
@@ -437,6 +479,7 @@ module _ (setup : Setup) (f : ℕ) (some : 1 ≤ f) (list : LegalList setup f) (
     served = served_there;
   }
     where
-      by : (c : ℕ) (n : Node) (order : PaymentOrder) → slice_get all_done.after.nodes c ≡ Some n → has_end (book_of setup all_done.holds.more) c order.out ≡ true
+      by : (c : ℕ) (n : Node) (order : PaymentOrder) → slice_get all_done.after.nodes c ≡ Some n
+          → has_end (book_of setup all_done.holds.more) c order.out ≡ true
           → (is_known n order.out ≡ true) × (has_end (book_of setup all_done.holds.more) c order.out ≡ true)
       by c n order at is = (known_there c n order.out at is, is)

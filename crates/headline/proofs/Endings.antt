@@ -40,7 +40,8 @@ or_second false b e = e
 -- AN END IS NOTED
 
 -- an end stays
-pub end_stays : (setup : Setup) (rows longer : List Row) (c n : ℕ) → Begins rows longer → has_end (book_of setup rows) c n ≡ true → has_end (book_of setup longer) c n ≡ true
+pub end_stays : (setup : Setup) (rows longer : List Row) (c n : ℕ) → Begins rows longer → has_end (book_of setup rows) c n ≡ true
+    → has_end (book_of setup longer) c n ≡ true
 end_stays setup rows longer c n b is =
     let grown = begins setup rows b.rest in
     ap (λ (l : List Row). has_end (book_of setup l) c n) (sym b.is)
@@ -49,9 +50,11 @@ end_stays setup rows longer c n b is =
 
 -- an order is found by its number
 pub order_there : (os : List PaymentOrder) (o : PaymentOrder) (out : ℕ) → Contains os o → o.out ≡ out → list_any (λ (p : PaymentOrder). p.out == out) os ≡ true
-order_there os o out (k, low, is) same = list_any_at (λ (p : PaymentOrder). p.out == out) os k o low (ap (λ (p : PaymentOrder). p.out == out) is ∙ eq-eqb o.out out same)
+order_there os o out (k, low, is) same =
+    list_any_at (λ (p : PaymentOrder). p.out == out) os k o low (ap (λ (p : PaymentOrder). p.out == out) is ∙ eq-eqb o.out out same)
 
-end_answer : (setup : Setup) (entries : List Entry) (client : ℕ) (cmd : Cmd) (c out : ℕ) → is_end c out cmd ≡ true → answer setup entries client cmd ≡ on_end setup entries client c out
+end_answer : (setup : Setup) (entries : List Entry) (client : ℕ) (cmd : Cmd) (c out : ℕ) → is_end c out cmd ≡ true
+    → answer setup entries client cmd ≡ on_end setup entries client c out
 unfolding answer
 end_answer setup entries client (Paid ccy n) c out is =
     let both = and_parts (ccy == c) (n == out) is in
@@ -61,21 +64,26 @@ end_answer setup entries client (Returned ccy n) c out is =
     ap (λ d. on_end setup entries client d n) (eqb-true ccy c both.0) ∙ ap (λ k. on_end setup entries client c k) (eqb-true n out both.1)
 end_answer setup entries client _ c out is = absurd (true≢false (sym is))
 
-end_done : (setup : Setup) (entries : List Entry) (c out : ℕ) → c < length setup.currencies → has_order entries c out ≡ true → has_end entries c out ≡ false → on_end setup entries (node_of c) c out ≡ Done
-end_done setup entries c out low there open_still = by (node_of c == node_of c) (has_currency setup c) (has_order entries c out) (has_end entries c out) (eq-eqb (node_of c) (node_of c) refl) (less c (length setup.currencies) low) there open_still
+end_done : (setup : Setup) (entries : List Entry) (c out : ℕ) → c < length setup.currencies → has_order entries c out ≡ true → has_end entries c out ≡ false
+    → on_end setup entries (node_of c) c out ≡ Done
+end_done setup entries c out low there open_still =
+    by (node_of c == node_of c) (has_currency setup c) (has_order entries c out) (has_end entries c out) (eq-eqb (node_of c) (node_of c) refl)
+    (less c (length setup.currencies) low) there open_still
   where
     less : (a b : ℕ) → a < b → nat_lt a b ≡ true
     less a b h = grind (arith, nat_tests, h)
 
     by : (yours known made paid : Bool) → yours ≡ true → known ≡ true → made ≡ true → paid ≡ false
-        → (if not yours then No NotYours else if not known then No UnknownMember else if not made then No UnknownReference else if paid then No Repeated else Done) ≡ Done
+        → (if not yours then No NotYours else if not known then No UnknownMember else if not made then No UnknownReference else if paid then No Repeated
+        else Done) ≡ Done
     by true true true false a b d e = refl
     by true true true true a b d e = absurd (true≢false e)
     by true true false paid a b d e = absurd (true≢false (sym d))
     by true false made paid a b d e = absurd (true≢false (sym b))
     by false known made paid a b d e = absurd (true≢false (sym a))
 
-pub ends_now : (setup : Setup) (rows : List Row) (c out : ℕ) (row : Row) (order : PaymentOrder) → c < length setup.currencies → Contains (orders (book_of setup rows) c) order → order.out ≡ out
+pub ends_now : (setup : Setup) (rows : List Row) (c out : ℕ) (row : Row) (order : PaymentOrder) → c < length setup.currencies
+    → Contains (orders (book_of setup rows) c) order → order.out ≡ out
     → row.client ≡ node_of c → is_end c out row.cmd ≡ true → has_end (book_of setup (rows ++ row ∷ [])) c out ≡ true
 ends_now setup rows c out row order low in' same from is = by (has_end (book_of setup rows) c out) refl
   where
@@ -90,7 +98,8 @@ ends_now setup rows c out row order low in' same from is = by (has_end (book_of 
     by false open_still =
         let done = new ∙ end_done setup (book_of setup rows) c out low (order_there (orders (book_of setup rows) c) order out in' same) open_still in
         ap (λ (es : List Entry). has_end es c out) (reached-more setup rows row ∙ ap (λ (r : Reply). with_entry (book_of setup rows) row.client row.cmd r) done)
-        ∙ (list_any-append (λ (e : Entry). is_end c out e.cmd) (book_of setup rows) (record { client = row.client; cmd = row.cmd; reply = Done } ∷ []) ∙ or_second _ _ (or_first _ false is))
+        ∙ (list_any-append (λ (e : Entry). is_end c out e.cmd) (book_of setup rows) (record { client = row.client; cmd = row.cmd; reply = Done } ∷ [])
+        ∙ or_second _ _ (or_first _ false is))
 
 -- it makes no order
 no_order : (c out d client : ℕ) (cmd : Cmd) (reply : Reply) → is_end c out cmd ≡ true → order_by d client cmd reply ≡ None
@@ -102,34 +111,45 @@ append_none : {A : Type 0} (xs : List A) → xs ++ [] ≡ xs
 append_none [] = refl
 append_none {A} (x ∷ xs) = ap (λ (l : List A). x ∷ l) (append_none xs)
 
-pub orders_same : (setup : Setup) (rows : List Row) (row : Row) (c out d : ℕ) → is_end c out row.cmd ≡ true → orders (book_of setup (rows ++ row ∷ [])) d ≡ orders (book_of setup rows) d
-orders_same setup rows row c out d is = ap (λ (es : List Entry). orders es d) (reached-more setup rows row) ∙ by (is_refusal (answer setup (book_of setup rows) row.client row.cmd)) (answer setup (book_of setup rows) row.client row.cmd)
+pub orders_same : (setup : Setup) (rows : List Row) (row : Row) (c out d : ℕ) → is_end c out row.cmd ≡ true
+    → orders (book_of setup (rows ++ row ∷ [])) d ≡ orders (book_of setup rows) d
+orders_same setup rows row c out d is =
+    ap (λ (es : List Entry). orders es d) (reached-more setup rows row) ∙ by (is_refusal (answer setup (book_of setup rows) row.client row.cmd))
+    (answer setup (book_of setup rows) row.client row.cmd)
   where
-    by : (refused : Bool) (reply : Reply) → orders (if refused then book_of setup rows else book_of setup rows ++ record { client = row.client; cmd = row.cmd; reply = reply } ∷ []) d ≡ orders (book_of setup rows) d
+    by : (refused : Bool) (reply : Reply)
+        → orders (if refused then book_of setup rows else book_of setup rows ++ record { client = row.client; cmd = row.cmd; reply = reply } ∷ []) d
+        ≡ orders (book_of setup rows) d
     by true reply = refl
     by false reply =
-        filter_map-append (λ (e : Entry). order_by d e.client e.cmd e.reply) (book_of setup rows) (record { client = row.client; cmd = row.cmd; reply = reply } ∷ [])
-        ∙ (ap (λ (o : Option PaymentOrder). orders (book_of setup rows) d ++ cons_option o []) (no_order c out d row.client row.cmd reply is) ∙ append_none (orders (book_of setup rows) d))
+        filter_map-append (λ (e : Entry). order_by d e.client e.cmd e.reply) (book_of setup rows)
+        (record { client = row.client; cmd = row.cmd; reply = reply } ∷ [])
+        ∙ (ap (λ (o : Option PaymentOrder). orders (book_of setup rows) d ++ cons_option o []) (no_order c out d row.client row.cmd reply is)
+        ∙ append_none (orders (book_of setup rows) d))
 
 -- what is in a list parts it
 pub split_at : {A : Type 0} (xs : List A) (x : A) → Contains xs x → (first : List A) × (last : List A) × (xs ≡ first ++ x ∷ last)
 split_at [] x in' = absurd (Contains-none x in')
 split_at {A} (y ∷ xs) x in' = by (Contains-cases y x xs in') (split_at xs x)
   where
-    by : (y ≡ x) ⊎ Contains xs x → (Contains xs x → (first : List A) × (last : List A) × (xs ≡ first ++ x ∷ last)) → (first : List A) × (last : List A) × (y ∷ xs ≡ first ++ x ∷ last)
+    by : (y ≡ x) ⊎ Contains xs x → (Contains xs x → (first : List A) × (last : List A) × (xs ≡ first ++ x ∷ last))
+        → (first : List A) × (last : List A) × (y ∷ xs ≡ first ++ x ∷ last)
     by (inl is) rest = ([], xs, ap (λ (z : A). z ∷ xs) is)
     by (inr later) rest = let t = rest later in (y ∷ t.0, t.1, ap (λ (l : List A). y ∷ l) t.2)
 
 -- a row of a node on an order ends it, where the book had the order before that row
-pub ended_by : (setup : Setup) (past log : List Row) (c out : ℕ) (row : Row) (order : PaymentOrder) → c < length setup.currencies → Begins past log → Contains (orders (book_of setup past) c) order → order.out ≡ out
+pub ended_by : (setup : Setup) (past log : List Row) (c out : ℕ) (row : Row) (order : PaymentOrder) → c < length setup.currencies → Begins past log
+    → Contains (orders (book_of setup past) c) order → order.out ≡ out
     → Contains log row → row.client ≡ node_of c → is_end c out row.cmd ≡ true → (Contains past row → ⊥) → has_end (book_of setup log) c out ≡ true
-ended_by setup past log c out row order low b ordered same in' from is fresh = by (Contains-append_cases past b.rest row (subst (λ (l : List Row). Contains l row) (sym b.is) in'))
+ended_by setup past log c out row order low b ordered same in' from is fresh =
+    by (Contains-append_cases past b.rest row (subst (λ (l : List Row). Contains l row) (sym b.is) in'))
   where
     by : Contains past row ⊎ Contains b.rest row → has_end (book_of setup log) c out ≡ true
     by (inl old) = absurd (fresh old)
     by (inr new) =
         let t = split_at b.rest row new in
-        let now = ends_now setup (past ++ t.0) c out row order low (ordered-more setup past (past ++ t.0) c order (append_begins past t.0) ordered) same from is in
+        let now =
+        ends_now setup (past ++ t.0) c out row order low (ordered-more setup past (past ++ t.0) c order (append_begins past t.0) ordered) same from is in
         end_stays setup ((past ++ t.0) ++ row ∷ []) log c out
         (record {
           rest = t.1;
@@ -148,7 +168,8 @@ is_made setup rows c order in' =
     let t = filter_map-has (λ (e : Entry). order_by c e.client e.cmd e.reply) (book_of setup rows) order in' in
     by t.0.client t.0.cmd t.0.reply (all-accepted setup rows t.0 t.1) t.2
   where
-    by_ccy : (client ccy amt out : ℕ) → (has_member setup client ≡ true) × (is_amount amt ≡ true) → (b : Bool) → (if b then Some (record { ccy = ccy; out = out; member = client; amt = amt }) else None) ≡ Some order → IsMade setup order
+    by_ccy : (client ccy amt out : ℕ) → (has_member setup client ≡ true) × (is_amount amt ≡ true) → (b : Bool)
+        → (if b then Some (record { ccy = ccy; out = out; member = client; amt = amt }) else None) ≡ Some order → IsMade setup order
     by_ccy client ccy amt out ok true e =
         let same = some-same _ order e in
         subst (λ (o : PaymentOrder). IsMade setup o) same (record { member = ok.0; amount = ok.1 })
@@ -191,19 +212,25 @@ filter_keeps : {A : Type 0} (test : A → Bool) (xs : List A) (x : A) → Contai
 filter_keeps test [] x in' passes = absurd (Contains-none x in')
 filter_keeps {A} test (y ∷ xs) x in' passes = by_place (test y) refl (Contains-cases y x xs in') (λ there. filter_keeps test xs x there passes)
   where
-    by_place : (b : Bool) → test y ≡ b → (y ≡ x) ⊎ Contains xs x → (Contains xs x → Contains (filter test xs) x) → Contains (if b then y ∷ filter test xs else filter test xs) x
+    by_place : (b : Bool) → test y ≡ b → (y ≡ x) ⊎ Contains xs x → (Contains xs x → Contains (filter test xs) x)
+        → Contains (if b then y ∷ filter test xs else filter test xs) x
     by_place true e (inl same) rest = subst (λ (z : A). Contains (y ∷ filter test xs) z) same (Contains-here y (filter test xs))
     by_place true e (inr there) rest = Contains-there y x (filter test xs) (rest there)
     by_place false e (inl same) rest = absurd (true≢false (sym (ap test same ∙ passes) ∙ e))
     by_place false e (inr there) rest = rest there
 
 -- an open order is outstanding
-pub is_due : (setup : Setup) (entries : List Entry) (c : ℕ) (order : PaymentOrder) → c < length setup.currencies → Contains (orders entries c) order → has_end entries c order.out ≡ false
+pub is_due : (setup : Setup) (entries : List Entry) (c : ℕ) (order : PaymentOrder) → c < length setup.currencies → Contains (orders entries c) order
+    → has_end entries c order.out ≡ false
     → Contains (outstanding setup entries) (node_of c, order)
 is_due setup entries c order low in' open_still =
-    flat_map_in (outstanding_in entries) (range_with_len 0 (length setup.currencies)) c (node_of c, order)
-    (c, (let l = length-range_with_len 0 (length setup.currencies) in omega arith), get_or-range_with_len 0 (length setup.currencies) c c low ∙ (let e : 0 + c ≡ c = omega arith in e))
-    (map-in (λ (o : PaymentOrder). (node_of c, o)) _ order (filter_keeps (λ (o : PaymentOrder). not (has_end entries c o.out)) (orders entries c) order in' (ap not open_still)))
+    flat_map_in (outstanding_in entries) (range_with_len 0 (length setup.currencies)) c (node_of c, order) (
+      c,
+      (let l = length-range_with_len 0 (length setup.currencies) in omega arith),
+      get_or-range_with_len 0 (length setup.currencies) c c low ∙ (let e : 0 + c ≡ c = omega arith in e),
+    )
+    (map-in (λ (o : PaymentOrder). (node_of c, o)) _ order
+    (filter_keeps (λ (o : PaymentOrder). not (has_end entries c o.out)) (orders entries c) order in' (ap not open_still)))
 
 -- HOW MANY ORDERS there can be
 
@@ -226,7 +253,9 @@ few_entries held (row ∷ rows) =
     let one = by (is_refusal (answer_to held row.client row.cmd)) in
     omega arith
   where
-    by : (refused : Bool) → length (if refused then held.entries else held.entries ++ record { client = row.client; cmd = row.cmd; reply = answer_to held row.client row.cmd } ∷ []) ≤ length held.entries + 1
+    by : (refused : Bool)
+        → length (if refused then held.entries else held.entries ++ record { client = row.client; cmd = row.cmd; reply = answer_to held row.client row.cmd }
+        ∷ []) ≤ length held.entries + 1
     by true = omega arith
     by false = let l = length-append held.entries (record { client = row.client; cmd = row.cmd; reply = answer_to held row.client row.cmd } ∷ []) in omega arith
 
@@ -247,25 +276,39 @@ not_member c = by (nat_le 1 (101 + c)) (nat_le (101 + c) 64) (above (101 + c) 64
     by false b e = refl
 
 -- a node makes none
-node_refused : (setup : Setup) (entries : List Entry) (client : ℕ) (cmd : Cmd) → is_member_number client ≡ false → is_refusal (answer setup entries client cmd) ≡ false → is_pay_out cmd ≡ false
+node_refused : (setup : Setup) (entries : List Entry) (client : ℕ) (cmd : Cmd) → is_member_number client ≡ false
+    → is_refusal (answer setup entries client cmd) ≡ false → is_pay_out cmd ≡ false
 unfolding answer
 node_refused setup entries client (PayOut ccy amt) none ok =
     let t = passed (pay_out_checks setup entries client ccy amt) (Order (length (orders entries ccy) + 1)) ok in
     absurd (true≢false (sym (is-so _ t.0) ∙ none))
 node_refused setup entries client _ none ok = refl
 
-pub node_makes_none : (setup : Setup) (rows : List Row) (row : Row) (c : ℕ) → row.client ≡ node_of c → pay_outs_in (book_of setup (rows ++ row ∷ [])) ≡ pay_outs_in (book_of setup rows)
-node_makes_none setup rows row c from = ap pay_outs_in (reached-more setup rows row) ∙ by (is_refusal (answer setup (book_of setup rows) row.client row.cmd)) refl
+pub node_makes_none : (setup : Setup) (rows : List Row) (row : Row) (c : ℕ) → row.client ≡ node_of c
+    → pay_outs_in (book_of setup (rows ++ row ∷ [])) ≡ pay_outs_in (book_of setup rows)
+node_makes_none setup rows row c from =
+    ap pay_outs_in (reached-more setup rows row) ∙ by (is_refusal (answer setup (book_of setup rows) row.client row.cmd)) refl
   where
     new : Entry
     new = record { client = row.client; cmd = row.cmd; reply = answer setup (book_of setup rows) row.client row.cmd }
 
     by : (refused : Bool) → is_refusal (answer setup (book_of setup rows) row.client row.cmd) ≡ refused
-        → pay_outs_in (if refused then book_of setup rows else book_of setup rows ++ record { client = row.client; cmd = row.cmd; reply = answer setup (book_of setup rows) row.client row.cmd } ∷ []) ≡ pay_outs_in (book_of setup rows)
+        → pay_outs_in (if refused then book_of setup rows else book_of setup rows ++ record {
+          client = row.client;
+          cmd = row.cmd;
+          reply = answer setup (book_of setup rows) row.client row.cmd;
+        } ∷ []) ≡ pay_outs_in (book_of setup rows)
     by true is = refl
     by false is =
         let none = node_refused setup (book_of setup rows) row.client row.cmd (ap is_member_number from ∙ not_member c) is in
-        let a = count-append (λ (e : Entry). is_pay_out e.cmd) (book_of setup rows) (record { client = row.client; cmd = row.cmd; reply = answer setup (book_of setup rows) row.client row.cmd } ∷ []) in
-        let b : count_by (λ (e : Entry). is_pay_out e.cmd) (record { client = row.client; cmd = row.cmd; reply = answer setup (book_of setup rows) row.client row.cmd } ∷ []) ≡ 0 =
-        count-cons (λ (e : Entry). is_pay_out e.cmd) (record { client = row.client; cmd = row.cmd; reply = answer setup (book_of setup rows) row.client row.cmd }) [] ∙ ap (λ (t : Bool). (if t then 1 else 0) + 0) none in
+        let a =
+        count-append (λ (e : Entry). is_pay_out e.cmd) (book_of setup rows)
+        (record { client = row.client; cmd = row.cmd; reply = answer setup (book_of setup rows) row.client row.cmd } ∷ []) in
+        let b : count_by (λ (e : Entry). is_pay_out e.cmd)
+        (record { client = row.client; cmd = row.cmd; reply = answer setup (book_of setup rows) row.client row.cmd } ∷ []) ≡ 0 =
+        count-cons (λ (e : Entry). is_pay_out e.cmd) (record {
+          client = row.client;
+          cmd = row.cmd;
+          reply = answer setup (book_of setup rows) row.client row.cmd;
+        }) [] ∙ ap (λ (t : Bool). (if t then 1 else 0) + 0) none in
         omega arith

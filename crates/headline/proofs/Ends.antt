@@ -74,7 +74,8 @@ pub record IsGrown (setup : Setup) (log : List Row) (d : ℕ) (w z : Node) : Typ
 
 -- and so of each node
 abbrev pub AreGrown : Setup → List Row → Bank → Bank → Type 0
-AreGrown setup log before after = (d : ℕ) (z : Node) → slice_get after.nodes d ≡ Some z → (w : Node) × (slice_get before.nodes d ≡ Some w) × IsGrown setup log d w z
+AreGrown setup log before after = (d : ℕ) (z : Node) → slice_get after.nodes d ≡ Some z
+    → (w : Node) × (slice_get before.nodes d ≡ Some w) × IsGrown setup log d w z
 
 -- nodes that have not changed
 pub grown_still : (setup : Setup) (log : List Row) (bank : Bank) → AreGrown setup log bank bank
@@ -93,7 +94,8 @@ pub record IsDone (setup : Setup) (f view : ℕ) (log : List Row) (c out : ℕ) 
   pub nodes : AreGrown setup log before after
   pub clients : after.clients ≡ before.clients
 
-module _ (setup : Setup) (f : ℕ) (some : 1 ≤ f) (list : LegalList setup f) (view : ℕ) (log : List Row) (are : AreWorking f view log list.bank.sites) (room : length log < MAX_ROWS) (calm : AreCalm list.bank)
+module _ (setup : Setup) (f : ℕ) (some : 1 ≤ f) (list : LegalList setup f) (view : ℕ) (log : List Row) (are : AreWorking f view log list.bank.sites)
+    (room : length log < MAX_ROWS) (calm : AreCalm list.bank)
     (c : ℕ) (x : Node) (at : slice_get list.bank.nodes c ≡ Some x) (order : PaymentOrder) (ordered : Contains (orders (book_of setup log) c) order) where
   abbrev holds : Holds setup list.choose f list.cells list.moves list.bank
   holds = here setup f some list view log are
@@ -126,12 +128,14 @@ module _ (setup : Setup) (f : ℕ) (some : 1 ≤ f) (list : LegalList setup f) (
       let t = knows.ends order.out known in
       let low_notice = slice_get_within x.notices t.0 t.1 t.2 in
       let all = calm c x at in
-      let row : HasRow setup f some list view log are room c (t.0 + 1) = heard_row setup f some list view log are room c (t.0 + 1) (knows.heard t.0 (omega arith)) in
+      let row : HasRow setup f some list view log are room c (t.0 + 1) =
+      heard_row setup f some list view log are room c (t.0 + 1) (knows.heard t.0 (omega arith)) in
       let due : WasDue setup list.choose f list.cells list.moves list.bank c (t.0 + 1) order.out = knows.due t.0 t.1 order.out t.2 t.3 in
       let n = is_notice row.row row.among row.client in
       let back : row.row.number - 1 ≡ t.0 = (let e = row.number_is in omega arith) in
       let cmd : t.1 ≡ row.row.cmd = some-same t.1 row.row.cmd (sym t.2 ∙ (ap (λ (k : ℕ). slice_get x.notices k) (sym back) ∙ n.1)) in
-      ended_by setup due.holds.history log c order.out row.row due.order low (once_whole setup f some list view log are room due.moment due.holds) due.ordered due.out_is row.among row.client
+      ended_by setup due.holds.history log c order.out row.row due.order low (once_whole setup f some list view log are room due.moment due.holds) due.ordered
+      due.out_is row.among row.client
       (ap (is_end c order.out) (sym cmd) ∙ t.3) (λ old. due.fresh row.row old row.client row.number_is)
 
   -- A NEW ONE
@@ -192,8 +196,11 @@ module _ (setup : Setup) (f : ℕ) (some : 1 ≤ f) (list : LegalList setup f) (
     unfolding beaten told mail
     posted =
         Contains-append_right list.bank.post (envelopes book (opening setup) p told) mail
-        (Contains-append_right (told.sent ++ filter_map (reply_to book (opening setup) p told.site) told.replies) (map (order_to p) (book.orders (machine_of book (opening setup) s))) mail
-        (map-in (order_to p) (book.orders (machine_of book (opening setup) s)) (node_of c, order) (subst (λ (l : List (ℕ × PaymentOrder)). Contains l (node_of c, order)) (sym outstanding_is) (is_due setup (book_of setup log) c order low ordered open_still))))
+        (Contains-append_right (told.sent ++ filter_map (reply_to book (opening setup) p told.site) told.replies)
+        (map (order_to p) (book.orders (machine_of book (opening setup) s))) mail
+        (map-in (order_to p) (book.orders (machine_of book (opening setup) s)) (node_of c, order)
+        (subst (λ (l : List (ℕ × PaymentOrder)). Contains l (node_of c, order)) (sym outstanding_is)
+        (is_due setup (book_of setup log) c order low ordered open_still))))
 
     -- THE NODE
     not_full : is_full (length x.pay_outs + length x.returned) ≡ false
@@ -237,17 +244,41 @@ module _ (setup : Setup) (f : ℕ) (some : 1 ≤ f) (list : LegalList setup f) (
 
     not_short : (node_step setup f c x (node.Takes mail)).fault ≡ Some fault.Short → ⊥
     unfolding list_told
-    not_short = never-short (legal-holds setup (valid-members setup list.valid).1 list.choose f list.right list.cells list_told.moves list_told.bank list_told.legal.all list_told.legal.run) c x still_at mail posted
+    not_short =
+        never-short (legal-holds setup (valid-members setup list.valid).1 list.choose f list.right list.cells list_told.moves list_told.bank list_told.legal.all
+        list_told.legal.run) c x still_at mail posted
 
     handles : Handles
     handles = by_closed (is_closed x order.member) passes
       where
-        by_short : (b : Bool) → node_step setup f c x (node.Takes mail) ≡ (if b then nodes.refuses x fault.Short else notes f c (with_pay_out x order) (Paid c order.out)) → Handles
+        by_short : (b : Bool)
+            → node_step setup f c x (node.Takes mail) ≡ (if b then nodes.refuses x fault.Short else notes f c (with_pay_out x order) (Paid c order.out))
+            → Handles
         by_short true e = absurd (not_short (ap (λ (t : NodeStep). t.fault) e))
-        by_short false e = record { y = with_pay_out x order; cmd = Paid c order.out; step = e; says = end_says c order.out; notices = refl; answered = refl; pay_ins = refl; pay_outs = λ o in'. push-has x.pay_outs order o in' }
+        by_short false e =
+            record {
+              y = with_pay_out x order;
+              cmd = Paid c order.out;
+              step = e;
+              says = end_says c order.out;
+              notices = refl;
+              answered = refl;
+              pay_ins = refl;
+              pay_outs = λ o in'. push-has x.pay_outs order o in';
+            }
 
         by_closed : (b : Bool) → node_step setup f c x (node.Takes mail) ≡ (if b then on_return setup f c x order else on_pay_out setup f c x order) → Handles
-        by_closed true e = record { y = with_return x order; cmd = Returned c order.out; step = e; says = end_says c order.out; notices = refl; answered = refl; pay_ins = refl; pay_outs = λ o in'. inl in' }
+        by_closed true e =
+            record {
+              y = with_return x order;
+              cmd = Returned c order.out;
+              step = e;
+              says = end_says c order.out;
+              notices = refl;
+              answered = refl;
+              pay_ins = refl;
+              pay_outs = λ o in'. inl in';
+            }
         by_closed false e = by_short (int_lt (account x) (pos order.amt)) e
 
     abbrev y : Node
@@ -289,8 +320,12 @@ module _ (setup : Setup) (f : ℕ) (some : 1 ≤ f) (list : LegalList setup f) (
 
     are_noted : AreWorking f view log noted.sites
     are_noted = record {
-      many = subst (λ (l : List (Site Cmd)). f < count_by (λ i. option_map_or (λ (z : Site Cmd). is_running z.status) (slice_get l i) false) (sites f)) (sym noted_sites) are.many;
-      leads = subst (λ (l : List (Site Cmd)). option_map_or (λ (z : Site Cmd). is_running z.status) (slice_get l (primary f view)) false ≡ true) (sym noted_sites) are.leads;
+      many =
+          subst (λ (l : List (Site Cmd)). f < count_by (λ i. option_map_or (λ (z : Site Cmd). is_running z.status) (slice_get l i) false) (sites f))
+          (sym noted_sites) are.many;
+      leads =
+          subst (λ (l : List (Site Cmd)). option_map_or (λ (z : Site Cmd). is_running z.status) (slice_get l (primary f view)) false ≡ true)
+          (sym noted_sites) are.leads;
       each = λ z in'. are.each z (subst (λ (l : List (Site Cmd)). Contains l z) noted_sites in');
     }
 
@@ -324,7 +359,9 @@ module _ (setup : Setup) (f : ℕ) (some : 1 ≤ f) (list : LegalList setup f) (
     grown : heard.holds.more ≡ log ++ row ∷ []
     grown = by heard.holds.rows
       where
-        by : ((heard.holds.more ≡ log) × (newest log (node_of c) ≡ y.answered + 1)) ⊎ (heard.holds.more ≡ log ++ record { client = node_of c; number = y.answered + 1; cmd = heard.holds.notice } ∷ []) → heard.holds.more ≡ log ++ row ∷ []
+        by : ((heard.holds.more ≡ log) × (newest log (node_of c) ≡ y.answered + 1))
+            ⊎ (heard.holds.more ≡ log ++ record { client = node_of c; number = y.answered + 1; cmd = heard.holds.notice } ∷ [])
+            → heard.holds.more ≡ log ++ row ∷ []
         by (inl old) = absurd (not_old old.1)
         by (inr new) =
             let same : heard.holds.notice ≡ handles.cmd = some-same heard.holds.notice handles.cmd (sym heard.holds.was_out ∙ is_out) in
@@ -340,7 +377,8 @@ module _ (setup : Setup) (f : ℕ) (some : 1 ≤ f) (list : LegalList setup f) (
         by : (d ≡ c) ⊎ (d ≡ c → ⊥) → z.answered ≡ length z.notices
         by (inr apart) = calm d z (others apart)
         by (inl is) =
-            let same : record y { answered = y.answered + 1 } ≡ z = some-same _ z (sym heard.holds.here ∙ (ap (λ (k : ℕ). slice_get heard.after.nodes k) (sym is) ∙ at_z)) in
+            let same : record y { answered = y.answered + 1 } ≡ z =
+            some-same _ z (sym heard.holds.here ∙ (ap (λ (k : ℕ). slice_get heard.after.nodes k) (sym is) ∙ at_z)) in
             let a = calm c x at in
             let b = handles.answered in
             let e = ap (length {A = Cmd}) handles.notices in
@@ -362,7 +400,8 @@ module _ (setup : Setup) (f : ℕ) (some : 1 ≤ f) (list : LegalList setup f) (
         by (inr apart) =
             (z, sym (set-other list.bank.nodes c y d apart) ∙ (sym (heard.holds.others d apart) ∙ at_z), record { pay_ins = refl; pay_outs = λ o in'. inl in' })
         by (inl is) =
-            let same : record y { answered = y.answered + 1 } ≡ z = some-same _ z (sym heard.holds.here ∙ (ap (λ (k : ℕ). slice_get heard.after.nodes k) (sym is) ∙ at_z)) in
+            let same : record y { answered = y.answered + 1 } ≡ z =
+            some-same _ z (sym heard.holds.here ∙ (ap (λ (k : ℕ). slice_get heard.after.nodes k) (sym is) ∙ at_z)) in
             subst (λ (k : ℕ). (w : Node) × (slice_get list.bank.nodes k ≡ Some w) × IsGrown setup log k w z) (sym is)
             (x, at, subst (λ (n : Node). IsGrown setup log c x n) same grown_here)
 
@@ -373,9 +412,21 @@ module _ (setup : Setup) (f : ℕ) (some : 1 ≤ f) (list : LegalList setup f) (
     unfolding list_told list_noted noted beaten
     new_done =
         comes_then list (λ b. b ≡ beaten) (IsDone setup f view log c order.out list.bank)
-        (record { moves = Takes (Beats (actor_of p)) ∷ []; after = beaten; run = (beaten, beats, refl); gentle = All-cons IsGentle (Takes (Beats (actor_of p))) [] tt (All-nil IsGentle); holds = refl })
+        (record {
+          moves = Takes (Beats (actor_of p)) ∷ [];
+          after = beaten;
+          run = (beaten, beats, refl);
+          gentle = All-cons IsGentle (Takes (Beats (actor_of p))) [] tt (All-nil IsGentle);
+          holds = refl;
+        })
         (comes_then list_told (λ b. b ≡ noted) (IsDone setup f view log c order.out list.bank)
-        (record { moves = Takes (Delivers number.number) ∷ []; after = noted; run = (noted, takes, refl); gentle = All-cons IsGentle (Takes (Delivers number.number)) [] tt (All-nil IsGentle); holds = refl })
+        (record {
+          moves = Takes (Delivers number.number) ∷ [];
+          after = noted;
+          run = (noted, takes, refl);
+          gentle = All-cons IsGentle (Takes (Delivers number.number)) [] tt (All-nil IsGentle);
+          holds = refl;
+        })
         (record {
           moves = heard.moves;
           after = heard.after;
@@ -386,7 +437,9 @@ module _ (setup : Setup) (f : ℕ) (some : 1 ≤ f) (list : LegalList setup f) (
             grows = heard.holds.grows;
             longer = subst (λ (l : List Row). Begins log l) (sym grown) (append_begins log (row ∷ []));
             ordered = λ d. ap (λ (l : List Row). orders (book_of setup l) d) grown ∙ orders_same setup log row c order.out d handles.says;
-            ended = ap (λ (l : List Row). has_end (book_of setup l) c order.out) grown ∙ ends_now setup log c order.out row order low ordered refl refl handles.says;
+            ended =
+                ap (λ (l : List Row). has_end (book_of setup l) c order.out) grown ∙ ends_now setup log c order.out row order low
+                ordered refl refl handles.says;
             working = heard.holds.working;
             runs = λ i e. heard.holds.runs i (runs_before i e);
             calm = calm_after;
@@ -412,7 +465,8 @@ module _ (setup : Setup) (f : ℕ) (some : 1 ≤ f) (list : LegalList setup f) (
         clients = refl;
       })
 
-      by : (e : Bool) → has_end (book_of setup log) c order.out ≡ e → (k : Bool) → is_known x order.out ≡ k → Comes list (IsDone setup f view log c order.out list.bank)
+      by : (e : Bool) → has_end (book_of setup log) c order.out ≡ e → (k : Bool) → is_known x order.out ≡ k
+          → Comes list (IsDone setup f view log c order.out list.bank)
       by true ended k known = ended_already ended
       by false ended true known = ended_already (known_ended known)
       by false ended false known = new_done ended known

@@ -33,9 +33,11 @@ came held (row ∷ rows) e in' = by_rest (came (after held row.client row.cmd) r
   where
     by_last : Contains held.entries e ⊎ (entry_of held.setup held.entries row.client row.cmd ≡ e) → Contains held.entries e ⊎ CameBy (row ∷ rows) e
     by_last (inl old) = inl old
-    by_last (inr same) = inr (record { row = row; among = Contains-here row rows; client = ap (λ (d : Entry). d.client) same; cmd = ap (λ (d : Entry). d.cmd) same })
+    by_last (inr same) =
+        inr (record { row = row; among = Contains-here row rows; client = ap (λ (d : Entry). d.client) same; cmd = ap (λ (d : Entry). d.cmd) same })
 
-    by_first : (refused : Bool) → Contains (if refused then held.entries else held.entries ++ entry_of held.setup held.entries row.client row.cmd ∷ []) e → Contains held.entries e ⊎ CameBy (row ∷ rows) e
+    by_first : (refused : Bool) → Contains (if refused then held.entries else held.entries ++ entry_of held.setup held.entries row.client row.cmd ∷ []) e
+        → Contains held.entries e ⊎ CameBy (row ∷ rows) e
     by_first true h = inl h
     by_first false h = by_last (push-has held.entries (entry_of held.setup held.entries row.client row.cmd) e h)
 
@@ -92,12 +94,15 @@ pay_out-accepted : (setup : Setup) (entries : List Entry) (client c amt : ℕ)
     → is_refusal (on_pay_out setup entries client c amt) ≡ false → on_pay_out setup entries client c amt ≡ Order (length (orders entries c) + 1)
 pay_out-accepted setup entries client c amt e =
     by (is_member_number client) (has_member setup client) (has_currency setup c) (is_amount amt) (int_lt (balance setup entries client c) (pos amt))
-    (passes setup client (balances_less setup entries (settled setup entries) client c amt)) (int_lt (figure setup entries c) (pos amt)) (length (orders entries c) + 1) e
+    (passes setup client (balances_less setup entries (settled setup entries) client c amt)) (int_lt (figure setup entries c) (pos amt))
+    (length (orders entries c) + 1) e
   where
     by : (yours member currency small short passing bare : Bool) (n : ℕ)
-        → is_refusal (if not yours then No NotYours else if not member then No UnknownMember else if not currency then No UnknownCurrency else if not small then No BadAmount
+        → is_refusal (if not yours then No NotYours else if not member then No UnknownMember else if not currency then No UnknownCurrency else if not small
+        then No BadAmount
         else if short then No Short else if not passing then No TestFails else if bare then No BankShort else Order n) ≡ false
-        → (if not yours then No NotYours else if not member then No UnknownMember else if not currency then No UnknownCurrency else if not small then No BadAmount
+        → (if not yours then No NotYours else if not member then No UnknownMember else if not currency then No UnknownCurrency else if not small
+        then No BadAmount
         else if short then No Short else if not passing then No TestFails else if bare then No BankShort else Order n) ≡ Order n
     by true true true true false true false n e = refl
     by true true true true false true true n e = absurd (cc e)
@@ -108,7 +113,8 @@ pay_out-accepted setup entries client c amt e =
     by true false currency small short passing bare n e = absurd (cc e)
     by false member currency small short passing bare n e = absurd (cc e)
 
-accepted : (setup : Setup) (entries : List Entry) (client : ℕ) (cmd : Cmd) → is_refusal (answer setup entries client cmd) ≡ false → IsAccepted setup client cmd (answer setup entries client cmd)
+accepted : (setup : Setup) (entries : List Entry) (client : ℕ) (cmd : Cmd) → is_refusal (answer setup entries client cmd) ≡ false
+    → IsAccepted setup client cmd (answer setup entries client cmd)
 unfolding answer
 accepted setup entries client (Fund ccy pay member amt) e = fund-accepted setup entries client ccy pay member amt e
 accepted setup entries client (Paid ccy out) e = end-accepted setup entries client ccy out e
@@ -123,7 +129,8 @@ all-accepted setup history =
     reached setup (λ entries. (e : Entry) → Contains entries e → IsAccepted setup e.client e.cmd e.reply) (λ e in'. absurd (Contains-none e in'))
     (λ entries client cmd held ok e in'. by entries client cmd held ok e (push-has entries (entry_of setup entries client cmd) e in')) history
   where
-    by : (entries : List Entry) (client : ℕ) (cmd : Cmd) → ((e : Entry) → Contains entries e → IsAccepted setup e.client e.cmd e.reply) → is_refusal (answer setup entries client cmd) ≡ false
+    by : (entries : List Entry) (client : ℕ) (cmd : Cmd) → ((e : Entry) → Contains entries e → IsAccepted setup e.client e.cmd e.reply)
+        → is_refusal (answer setup entries client cmd) ≡ false
         → (e : Entry) → Contains entries e ⊎ (entry_of setup entries client cmd ≡ e) → IsAccepted setup e.client e.cmd e.reply
     by entries client cmd held ok e (inl old) = held e old
     by entries client cmd held ok e (inr same) = subst (λ (d : Entry). IsAccepted setup d.client d.cmd d.reply) same (accepted setup entries client cmd ok)
@@ -133,6 +140,7 @@ pub any-has : {A : Type 0} (test : A → Bool) (xs : List A) → list_any test x
 any-has test [] e = absurd (true≢false (sym e))
 any-has {A} test (x ∷ xs) e = by (test x) refl e (any-has test xs)
   where
-    by : (b : Bool) → test x ≡ b → (b || list_any test xs) ≡ true → (list_any test xs ≡ true → (y : A) × Contains xs y × (test y ≡ true)) → (y : A) × Contains (x ∷ xs) y × (test y ≡ true)
+    by : (b : Bool) → test x ≡ b → (b || list_any test xs) ≡ true → (list_any test xs ≡ true → (y : A) × Contains xs y × (test y ≡ true))
+        → (y : A) × Contains (x ∷ xs) y × (test y ≡ true)
     by true is h rest = (x, Contains-here x xs, is)
     by false is h rest = let t = rest h in (t.0, Contains-there x t.0 xs t.1, t.2)

@@ -102,7 +102,8 @@ module _ (setup : Setup) (choose : Choice Cmd) (f : ℕ) (cells : List Boot) whe
     -- the post
     pub between : (e : Envelope) → Contains bank.post e → is_between e.msg ≡ true → Contains world.sent e
     pub back : (e : Envelope) → Contains world.sent e → Contains bank.post e
-    pub told : (r : Replied Cmd) (e : Envelope) → Contains world.replies r → reply_to book (opening setup) r.from r.sender r.place ≡ Some e → Contains bank.post e
+    pub told : (r : Replied Cmd) (e : Envelope) → Contains world.replies r → reply_to book (opening setup) r.from r.sender r.place ≡ Some e
+        → Contains bank.post e
     pub requests : (e : Envelope) → Contains bank.post e → IsAsked bank.nodes e
     pub orders : (e : Envelope) (order : PaymentOrder) → Contains bank.post e → e.msg ≡ PayOrder order → IsOrder moves bank history order.ccy order
     pub replies : (e : Envelope) (said : ReplyOf Answer) → Contains bank.post e → e.msg ≡ Reply said → IsReply moves bank world e

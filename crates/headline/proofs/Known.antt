@@ -166,7 +166,8 @@ module _ (setup : Setup) (f c : ℕ) (x : Node) (event : NodeEvent) where
           by out false b true e h = inr (eqb-true o.out out e)
           by out false b false e h = inl h
 
-  reply_does : (e : Envelope) (said : ReplyOf Answer) → event ≡ Takes e → e.to ≡ node_of c → e.msg ≡ Reply said → Does c event x (on_reply setup f c x said.number)
+  reply_does : (e : Envelope) (said : ReplyOf Answer) → event ≡ Takes e → e.to ≡ node_of c → e.msg ≡ Reply said
+      → Does c event x (on_reply setup f c x said.number)
   reply_does e said came to msg =
       by_if ((said.number == x.answered + 1) && nat_lt x.answered (length x.notices))
       (λ is. record {
@@ -185,7 +186,8 @@ module _ (setup : Setup) (f c : ℕ) (x : Node) (event : NodeEvent) where
       })
       (λ _. same [] None)
 
-  message_does : (e : Envelope) (msg : MsgOf Cmd Answer PaymentOrder) → event ≡ Takes e → e.to ≡ node_of c → e.msg ≡ msg → Does c event x (on_message setup f c x msg)
+  message_does : (e : Envelope) (msg : MsgOf Cmd Answer PaymentOrder) → event ≡ Takes e → e.to ≡ node_of c → e.msg ≡ msg
+      → Does c event x (on_message setup f c x msg)
   message_does e (Reply said) came to is = reply_does e said came to is
   message_does e (PayOrder order) came to is = order_does e order came is
   message_does e _ came to is = same [] (Some fault.NotMine)
@@ -197,12 +199,23 @@ module _ (setup : Setup) (f c : ℕ) (x : Node) (event : NodeEvent) where
       by_if (is_closed x member) (λ _. same [] (Some fault.Closed)) (λ _.
       by_if (is_full (length x.pay_ins)) (λ _. same [] (Some fault.Spent)) (λ _.
       by_if (int_lt (member_account setup c member x) (pos amt)) (λ _. same [] (Some fault.Short)) (λ _.
-      record { kind = inr (inl (record { pay_outs = refl; returned = refl; cmd = Fund c (length x.pay_ins + 1) member amt; none = λ out. refl; notices = refl; answered = refl })) })))))
+      record {
+        kind = inr
+            (inl (record {
+              pay_outs = refl;
+              returned = refl;
+              cmd = Fund c (length x.pay_ins + 1) member amt;
+              none = λ out. refl;
+              notices = refl;
+              answered = refl;
+            }));
+      })))))
   by_event (Closes member) is =
       by_if (not (has_member setup member)) (λ _. same [] (Some fault.UnknownMember)) (λ _.
       by_if (is_closed x member) (λ _. same [] (Some fault.Closed)) (λ _.
       quiet (record x { closed = x.closed ++ member ∷ [] }) [] None (record { pay_outs = refl; returned = refl; notices = refl; answered = refl })))
-  by_event (Takes e) is = by_if (not (e.to == node_of c)) (λ _. same [] (Some fault.NotMine)) (λ to. message_does e e.msg is (eqb-true e.to (node_of c) (not_false _ to)) refl)
+  by_event (Takes e) is =
+      by_if (not (e.to == node_of c)) (λ _. same [] (Some fault.NotMine)) (λ to. message_does e e.msg is (eqb-true e.to (node_of c) (not_false _ to)) refl)
   by_event Beats is = same (notice_out f c x) None
 
   pub node_does : Does c event x (node_step setup f c x event)
@@ -238,7 +251,8 @@ module _ (setup : Setup) (choose : Choice Cmd) (f : ℕ) (cells : List Boot) whe
   abbrev pub AllKnow : List Move → Bank → Type 0
   AllKnow moves bank = (c : ℕ) (x : Node) → slice_get bank.nodes c ≡ Some x → Knows moves bank c x
 
-  module _ (moves : List Move) (bank : Bank) (move : Move) (after : Bank) (leads : Leads setup choose f bank move after) (post : (e : Envelope) → Contains bank.post e → Contains after.post e) where
+  module _ (moves : List Move) (bank : Bank) (move : Move) (after : Bank) (leads : Leads setup choose f bank move after)
+      (post : (e : Envelope) → Contains bank.post e → Contains after.post e) where
     due_on : (c number out : ℕ) → WasDue moves bank c number out → WasDue (moves ++ move ∷ []) after c number out
     due_on c number out d = record {
       moment = moment-more setup choose f cells moves bank move after leads d.moment;
@@ -255,9 +269,12 @@ module _ (setup : Setup) (choose : Choice Cmd) (f : ℕ) (cells : List Boot) whe
     -- a node that has not changed
     knows_on : (c : ℕ) (x y : Node) → Knows moves bank c x → IsQuiet x y → Knows (moves ++ move ∷ []) after c y
     knows_on c x y k q = record {
-      count = let a = ap (length {A = PaymentOrder}) q.pay_outs in let b = ap (length {A = PaymentOrder}) q.returned in let d = ap (length {A = Cmd}) q.notices in let o = k.count in omega arith;
+      count = let a = ap (length {A = PaymentOrder}) q.pay_outs in let b = ap (length {A = PaymentOrder}) q.returned in
+          let d = ap (length {A = Cmd}) q.notices in let o = k.count in omega arith;
       ends = λ out is.
-          let t = k.ends out (ap (λ (os : List PaymentOrder). list_any (λ (o : PaymentOrder). o.out == out) os || has_returned x out) (sym q.pay_outs) ∙ (ap (λ (os : List PaymentOrder). has_done y out || list_any (λ (o : PaymentOrder). o.out == out) os) (sym q.returned) ∙ is)) in
+          let t =
+          k.ends out (ap (λ (os : List PaymentOrder). list_any (λ (o : PaymentOrder). o.out == out) os || has_returned x out) (sym q.pay_outs)
+          ∙ (ap (λ (os : List PaymentOrder). has_done y out || list_any (λ (o : PaymentOrder). o.out == out) os) (sym q.returned) ∙ is)) in
           (t.0, t.1, ap (λ (l : List Cmd). slice_get l t.0) q.notices ∙ t.2, t.3);
       heard = λ n low. heard_on c (n + 1) (k.heard n (let a = q.answered in omega arith));
       due = λ n cmd out at is. due_on c (n + 1) out (k.due n cmd out (ap (λ (l : List Cmd). slice_get l n) (sym q.notices) ∙ at) is);
@@ -265,23 +282,31 @@ module _ (setup : Setup) (choose : Choice Cmd) (f : ℕ) (cells : List Boot) whe
 
     knows_noted : (c : ℕ) (x y : Node) → Knows moves bank c x → IsNoted c x y → Knows (moves ++ move ∷ []) after c y
     knows_noted c x y k q = record {
-      count = let a = ap (length {A = PaymentOrder}) q.pay_outs in let b = ap (length {A = PaymentOrder}) q.returned in let d = ap (length {A = Cmd}) q.notices in let l = length-append x.notices (q.cmd ∷ []) in let o = k.count in omega arith;
+      count = let a = ap (length {A = PaymentOrder}) q.pay_outs in let b = ap (length {A = PaymentOrder}) q.returned in
+          let d = ap (length {A = Cmd}) q.notices in let l = length-append x.notices (q.cmd ∷ []) in let o = k.count in omega arith;
       ends = λ out is.
-          let t = k.ends out (ap (λ (os : List PaymentOrder). list_any (λ (o : PaymentOrder). o.out == out) os || has_returned x out) (sym q.pay_outs) ∙ (ap (λ (os : List PaymentOrder). has_done y out || list_any (λ (o : PaymentOrder). o.out == out) os) (sym q.returned) ∙ is)) in
+          let t =
+          k.ends out (ap (λ (os : List PaymentOrder). list_any (λ (o : PaymentOrder). o.out == out) os || has_returned x out) (sym q.pay_outs)
+          ∙ (ap (λ (os : List PaymentOrder). has_done y out || list_any (λ (o : PaymentOrder). o.out == out) os) (sym q.returned) ∙ is)) in
           (t.0, t.1, ap (λ (l : List Cmd). slice_get l t.0) q.notices ∙ at-append x.notices (q.cmd ∷ []) t.0 t.1 t.2, t.3);
       heard = λ n low. heard_on c (n + 1) (k.heard n (let a = q.answered in omega arith));
       due = λ n cmd out at is. by_place n cmd out is (at-push x.notices q.cmd n cmd (ap (λ (l : List Cmd). slice_get l n) (sym q.notices) ∙ at));
     }
       where
-        by_place : (n : ℕ) (cmd : Cmd) (out : ℕ) → is_end c out cmd ≡ true → (slice_get x.notices n ≡ Some cmd) ⊎ ((n ≡ length x.notices) × (q.cmd ≡ cmd)) → WasDue (moves ++ move ∷ []) after c (n + 1) out
+        by_place : (n : ℕ) (cmd : Cmd) (out : ℕ) → is_end c out cmd ≡ true → (slice_get x.notices n ≡ Some cmd) ⊎ ((n ≡ length x.notices) × (q.cmd ≡ cmd))
+            → WasDue (moves ++ move ∷ []) after c (n + 1) out
         by_place n cmd out is (inl old) = due_on c (n + 1) out (k.due n cmd out old is)
         by_place n cmd out is (inr new) = absurd (true≢false (sym is ∙ (ap (is_end c out) (sym new.1) ∙ q.none out)))
 
-    knows_hearing : (c : ℕ) (event : NodeEvent) (x y : Node) → ((e : Envelope) → event ≡ Takes e → Contains bank.post e) → Knows moves bank c x → IsHearing c event x y → Knows (moves ++ move ∷ []) after c y
+    knows_hearing : (c : ℕ) (event : NodeEvent) (x y : Node) → ((e : Envelope) → event ≡ Takes e → Contains bank.post e) → Knows moves bank c x
+        → IsHearing c event x y → Knows (moves ++ move ∷ []) after c y
     knows_hearing c event x y arrived k q = record {
-      count = let a = ap (length {A = PaymentOrder}) q.pay_outs in let b = ap (length {A = PaymentOrder}) q.returned in let d = ap (length {A = Cmd}) q.notices in let o = k.count in omega arith;
+      count = let a = ap (length {A = PaymentOrder}) q.pay_outs in let b = ap (length {A = PaymentOrder}) q.returned in
+          let d = ap (length {A = Cmd}) q.notices in let o = k.count in omega arith;
       ends = λ out is.
-          let t = k.ends out (ap (λ (os : List PaymentOrder). list_any (λ (o : PaymentOrder). o.out == out) os || has_returned x out) (sym q.pay_outs) ∙ (ap (λ (os : List PaymentOrder). has_done y out || list_any (λ (o : PaymentOrder). o.out == out) os) (sym q.returned) ∙ is)) in
+          let t =
+          k.ends out (ap (λ (os : List PaymentOrder). list_any (λ (o : PaymentOrder). o.out == out) os || has_returned x out) (sym q.pay_outs)
+          ∙ (ap (λ (os : List PaymentOrder). has_done y out || list_any (λ (o : PaymentOrder). o.out == out) os) (sym q.returned) ∙ is)) in
           (t.0, t.1, ap (λ (l : List Cmd). slice_get l t.0) q.notices ∙ t.2, t.3);
       heard = λ n low. by_last n low (cases_lt n x.answered);
       due = λ n cmd out at is. due_on c (n + 1) out (k.due n cmd out (ap (λ (l : List Cmd). slice_get l n) (sym q.notices) ∙ at) is);
@@ -298,7 +323,8 @@ module _ (setup : Setup) (choose : Choice Cmd) (f : ℕ) (cells : List Boot) whe
           number_is = let a = q.number in let b = q.answered in omega arith;
         }
 
-    knows_ended : Holds setup choose f cells moves bank → (c : ℕ) (event : NodeEvent) (x y : Node) → slice_get bank.nodes c ≡ Some x → ((e : Envelope) → event ≡ Takes e → Contains bank.post e)
+    knows_ended : Holds setup choose f cells moves bank → (c : ℕ) (event : NodeEvent) (x y : Node) → slice_get bank.nodes c ≡ Some x
+        → ((e : Envelope) → event ≡ Takes e → Contains bank.post e)
         → Knows moves bank c x → IsEnded c event x y → Knows (moves ++ move ∷ []) after c y
     knows_ended h c event x y at_x arrived k q = record {
       count = let a = q.count in let d = ap (length {A = Cmd}) q.notices in let l = length-append x.notices (q.cmd ∷ []) in let o = k.count in omega arith;
@@ -307,25 +333,36 @@ module _ (setup : Setup) (choose : Choice Cmd) (f : ℕ) (cells : List Boot) whe
       due = λ n cmd out at is. by_place n cmd out is (at-push x.notices q.cmd n cmd (ap (λ (l : List Cmd). slice_get l n) (sym q.notices) ∙ at));
     }
       where
-        by_known : (out : ℕ) → (is_known x out ≡ true) ⊎ (q.order.out ≡ out) → (k : ℕ) × (cmd : Cmd) × (slice_get y.notices k ≡ Some cmd) × (is_end c out cmd ≡ true)
-        by_known out (inl old) = let t = k.ends out old in (t.0, t.1, ap (λ (l : List Cmd). slice_get l t.0) q.notices ∙ at-append x.notices (q.cmd ∷ []) t.0 t.1 t.2, t.3)
-        by_known out (inr new) = (length x.notices, q.cmd, ap (λ (l : List Cmd). slice_get l (length x.notices)) q.notices ∙ at-end x.notices q.cmd, subst (λ (n : ℕ). is_end c n q.cmd ≡ true) new q.says)
+        by_known : (out : ℕ) → (is_known x out ≡ true) ⊎ (q.order.out ≡ out)
+            → (k : ℕ) × (cmd : Cmd) × (slice_get y.notices k ≡ Some cmd) × (is_end c out cmd ≡ true)
+        by_known out (inl old) = let t = k.ends out old in
+            (t.0, t.1, ap (λ (l : List Cmd). slice_get l t.0) q.notices ∙ at-append x.notices (q.cmd ∷ []) t.0 t.1 t.2, t.3)
+        by_known out (inr new) = (
+          length x.notices,
+          q.cmd,
+          ap (λ (l : List Cmd). slice_get l (length x.notices)) q.notices ∙ at-end x.notices q.cmd,
+          subst (λ (n : ℕ). is_end c n q.cmd ≡ true) new q.says,
+        )
 
         now : WasDue moves bank c (length x.notices + 1) q.order.out
         now = record {
           moment = moment-now setup choose f cells moves bank h.legal;
           holds = h;
           order = q.order;
-          ordered = subst (λ (d : ℕ). Contains (orders (book_of setup h.history) d) q.order) q.ccy (h.orders q.envelope q.order (arrived q.envelope q.came) q.msg).ordered;
+          ordered =
+              subst (λ (d : ℕ). Contains (orders (book_of setup h.history) d) q.order) q.ccy
+              (h.orders q.envelope q.order (arrived q.envelope q.came) q.msg).ordered;
           out_is = refl;
           fresh = λ row in' from number.
               let n = h.rows row in' c (slice_get_within bank.nodes c x at_x) from in
-              let at : slice_get x.notices (row.number - 1) ≡ Some row.cmd = ap (λ (o : Option Node). slice_get (notices_of o) (row.number - 1)) (sym at_x) ∙ n.is in
+              let at : slice_get x.notices (row.number - 1) ≡ Some row.cmd =
+              ap (λ (o : Option Node). slice_get (notices_of o) (row.number - 1)) (sym at_x) ∙ n.is in
               let low = slice_get_within x.notices (row.number - 1) row.cmd at in
               omega arith;
         }
 
-        by_place : (n : ℕ) (cmd : Cmd) (out : ℕ) → is_end c out cmd ≡ true → (slice_get x.notices n ≡ Some cmd) ⊎ ((n ≡ length x.notices) × (q.cmd ≡ cmd)) → WasDue (moves ++ move ∷ []) after c (n + 1) out
+        by_place : (n : ℕ) (cmd : Cmd) (out : ℕ) → is_end c out cmd ≡ true → (slice_get x.notices n ≡ Some cmd) ⊎ ((n ≡ length x.notices) × (q.cmd ≡ cmd))
+            → WasDue (moves ++ move ∷ []) after c (n + 1) out
         by_place n cmd out is (inl old) = due_on c (n + 1) out (k.due n cmd out old is)
         by_place n cmd out is (inr new) =
             due_on c (n + 1) out
@@ -334,12 +371,15 @@ module _ (setup : Setup) (choose : Choice Cmd) (f : ℕ) (cells : List Boot) whe
 
     -- nodes that have not changed
     all_on : after.nodes ≡ bank.nodes → AllKnow moves bank → AllKnow (moves ++ move ∷ []) after
-    all_on same know c x at = knows_on c x x (know c x (ap (λ (l : List Node). slice_get l c) (sym same) ∙ at)) (record { pay_outs = refl; returned = refl; notices = refl; answered = refl })
+    all_on same know c x at =
+        knows_on c x x (know c x (ap (λ (l : List Node). slice_get l c) (sym same) ∙ at))
+        (record { pay_outs = refl; returned = refl; notices = refl; answered = refl })
 
   -- A MOVE
   module _ (moves : List Move) (bank : Bank) (h : Holds setup choose f cells moves bank) (know : AllKnow moves bank) (move : Move) where
     by_node : (c : ℕ) (event : NodeEvent) (x : Node) → slice_get bank.nodes c ≡ Some x → ((e : Envelope) → event ≡ Takes e → Contains bank.post e)
-        → Leads setup choose f bank move (with_node bank c (node_step setup f c x event).node (node_step setup f c x event).sent) → AllKnow (moves ++ move ∷ []) (with_node bank c (node_step setup f c x event).node (node_step setup f c x event).sent)
+        → Leads setup choose f bank move (with_node bank c (node_step setup f c x event).node (node_step setup f c x event).sent)
+        → AllKnow (moves ++ move ∷ []) (with_node bank c (node_step setup f c x event).node (node_step setup f c x event).sent)
     by_node c event x at_x arrived leads d y at_y = by (set-at bank.nodes c step.node d y at_y)
       where
         step : NodeStep
@@ -351,40 +391,54 @@ module _ (setup : Setup) (choose : Choice Cmd) (f : ℕ) (cells : List Boot) whe
         post : (e : Envelope) → Contains bank.post e → Contains after.post e
         post e in' = Contains-append_left bank.post step.sent e in'
 
-        here : IsQuiet x step.node ⊎ (IsNoted c x step.node ⊎ (IsEnded c event x step.node ⊎ IsHearing c event x step.node)) → Knows (moves ++ move ∷ []) after c step.node
+        here : IsQuiet x step.node ⊎ (IsNoted c x step.node ⊎ (IsEnded c event x step.node ⊎ IsHearing c event x step.node))
+            → Knows (moves ++ move ∷ []) after c step.node
         here (inl q) = knows_on moves bank move after leads post c x step.node (know c x at_x) q
         here (inr (inl q)) = knows_noted moves bank move after leads post c x step.node (know c x at_x) q
         here (inr (inr (inl q))) = knows_ended moves bank move after leads post h c event x step.node at_x arrived (know c x at_x) q
         here (inr (inr (inr q))) = knows_hearing moves bank move after leads post c event x step.node arrived (know c x at_x) q
 
         by : ((c ≡ d) × (step.node ≡ y)) ⊎ (slice_get bank.nodes d ≡ Some y) → Knows (moves ++ move ∷ []) after d y
-        by (inl is) = subst (λ (k : ℕ). Knows (moves ++ move ∷ []) after k y) is.0 (subst (λ (z : Node). Knows (moves ++ move ∷ []) after c z) is.1 (here (node_does setup f c x event).kind))
-        by (inr old) = knows_on moves bank move after leads post d y y (know d y old) (record { pay_outs = refl; returned = refl; notices = refl; answered = refl })
+        by (inl is) =
+            subst (λ (k : ℕ). Knows (moves ++ move ∷ []) after k y) is.0
+            (subst (λ (z : Node). Knows (moves ++ move ∷ []) after c z) is.1 (here (node_does setup f c x event).kind))
+        by (inr old) =
+            knows_on moves bank move after leads post d y y (know d y old) (record { pay_outs = refl; returned = refl; notices = refl; answered = refl })
 
-    by_acts : (after : Bank) (t : Turn) → Carries bank.post t → Acts setup choose f bank t after → Leads setup choose f bank move after → AllKnow (moves ++ move ∷ []) after
+    by_acts : (after : Bank) (t : Turn) → Carries bank.post t → Acts setup choose f bank t after → Leads setup choose f bank move after
+        → AllKnow (moves ++ move ∷ []) after
     by_acts after (OfSite i event) came a leads =
-        all_on moves bank move after leads (λ e in'. subst (λ (b : Bank). Contains b.post e) (sym a.leads) (Contains-append_left bank.post _ e in')) (ap (λ (b : Bank). b.nodes) a.leads) know
+        all_on moves bank move after leads (λ e in'. subst (λ (b : Bank). Contains b.post e) (sym a.leads) (Contains-append_left bank.post _ e in'))
+        (ap (λ (b : Bank). b.nodes) a.leads) know
     by_acts after (OfNode c event) came a leads =
         subst (λ (b : Bank). Leads setup choose f bank move b → AllKnow (moves ++ move ∷ []) b) (sym a.leads) (by_node c event a.before a.is_there came) leads
     by_acts after (OfClient k event) came a leads =
-        all_on moves bank move after leads (λ e in'. subst (λ (b : Bank). Contains b.post e) (sym a.leads) (Contains-append_left bank.post _ e in')) (ap (λ (b : Bank). b.nodes) a.leads) know
+        all_on moves bank move after leads (λ e in'. subst (λ (b : Bank). Contains b.post e) (sym a.leads) (Contains-append_left bank.post _ e in'))
+        (ap (λ (b : Bank). b.nodes) a.leads) know
 
-    by_falls : (cell : Boot) (after : Bank) (t : Turn) → FallsBy setup choose f bank t cell after → Leads setup choose f bank move after → AllKnow (moves ++ move ∷ []) after
-    by_falls cell after (OfSite i event) a leads = all_on moves bank move after leads (λ e in'. subst (λ (b : Bank). Contains b.post e) (sym a.leads) in') (ap (λ (b : Bank). b.nodes) a.leads) know
+    by_falls : (cell : Boot) (after : Bank) (t : Turn) → FallsBy setup choose f bank t cell after → Leads setup choose f bank move after
+        → AllKnow (moves ++ move ∷ []) after
+    by_falls cell after (OfSite i event) a leads =
+        all_on moves bank move after leads (λ e in'. subst (λ (b : Bank). Contains b.post e) (sym a.leads) in') (ap (λ (b : Bank). b.nodes) a.leads) know
     by_falls cell after (OfNode c event) a leads = absurd a
     by_falls cell after (OfClient k event) a leads = absurd a
 
-  move_knows : (moves : List Move) (bank : Bank) (h : Holds setup choose f cells moves bank) → AllKnow moves bank → (m : Move) (after : Bank) → Leads setup choose f bank m after → AllKnow (moves ++ m ∷ []) after
-  move_knows moves bank h know (move.Takes step) after leads = by_acts moves bank h know (move.Takes step) after leads.turn_is (carries bank.post step leads.turn_is leads.has_turn) leads.acts leads
+  move_knows : (moves : List Move) (bank : Bank) (h : Holds setup choose f cells moves bank) → AllKnow moves bank → (m : Move) (after : Bank)
+      → Leads setup choose f bank m after → AllKnow (moves ++ m ∷ []) after
+  move_knows moves bank h know (move.Takes step) after leads =
+      by_acts moves bank h know (move.Takes step) after leads.turn_is (carries bank.post step leads.turn_is leads.has_turn) leads.acts leads
   move_knows moves bank h know (move.Falls step cell) after leads = by_falls moves bank h know (move.Falls step cell) cell after leads.turn_is leads.falls leads
 
   module _ (few : length setup.members ≤ 64) (right : IsRight f choose) (all : length cells ≡ 2 * f + 1) where
-    run_knows : (moves : List Move) (bank : Bank) → IsRun setup choose f (opening_bank setup f cells) moves bank → AllKnow moves bank → (more : List Move) (after : Bank) → IsRun setup choose f bank more after → AllKnow (moves ++ more) after
-    run_knows moves bank run know [] after rest = subst (λ (b : Bank). AllKnow (moves ++ []) b) (sym rest) (subst (λ (ms : List Move). AllKnow ms bank) (sym (append-nil moves)) know)
+    run_knows : (moves : List Move) (bank : Bank) → IsRun setup choose f (opening_bank setup f cells) moves bank → AllKnow moves bank
+        → (more : List Move) (after : Bank) → IsRun setup choose f bank more after → AllKnow (moves ++ more) after
+    run_knows moves bank run know [] after rest =
+        subst (λ (b : Bank). AllKnow (moves ++ []) b) (sym rest) (subst (λ (ms : List Move). AllKnow ms bank) (sym (append-nil moves)) know)
     run_knows moves bank run know (m ∷ more) after rest =
         let h = legal-holds setup few choose f right cells moves bank all run in
         subst (λ (ms : List Move). AllKnow ms after) (append_assoc moves (m ∷ []) more)
-        (run_knows (moves ++ m ∷ []) rest.0 (leads-more setup choose f (opening_bank setup f cells) moves bank rest.0 m run rest.1) (move_knows moves bank h know m rest.0 rest.1) more after rest.2)
+        (run_knows (moves ++ m ∷ []) rest.0 (leads-more setup choose f (opening_bank setup f cells) moves bank rest.0 m run rest.1)
+        (move_knows moves bank h know m rest.0 rest.1) more after rest.2)
 
     opening_knows : AllKnow [] (opening_bank setup f cells)
     opening_knows c x at =

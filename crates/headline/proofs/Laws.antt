@@ -52,10 +52,12 @@ begins-has : (rows history : List Row) → Begins rows history → (row : Row) �
 begins-has rows history b row in' = subst (λ (l : List Row). Contains l row) b.is (Contains-append_left rows b.rest row in')
 
 -- the node of a notice
-notice-node : (nodes : List Node) (c i : ℕ) (cmd : Cmd) → notice_at nodes c i ≡ Some cmd → (x : Node) × (slice_get nodes c ≡ Some x) × (slice_get x.notices i ≡ Some cmd)
+notice-node : (nodes : List Node) (c i : ℕ) (cmd : Cmd) → notice_at nodes c i ≡ Some cmd
+    → (x : Node) × (slice_get nodes c ≡ Some x) × (slice_get x.notices i ≡ Some cmd)
 notice-node nodes c i cmd is = by (slice_get nodes c) refl is
   where
-    by : (found : Option Node) → slice_get nodes c ≡ found → slice_get (notices_of found) i ≡ Some cmd → (x : Node) × (slice_get nodes c ≡ Some x) × (slice_get x.notices i ≡ Some cmd)
+    by : (found : Option Node) → slice_get nodes c ≡ found → slice_get (notices_of found) i ≡ Some cmd
+        → (x : Node) × (slice_get nodes c ≡ Some x) × (slice_get x.notices i ≡ Some cmd)
     by None at e = absurd (none-some cmd e)
     by (Some x) at e = (x, at, e)
 
@@ -63,7 +65,8 @@ abbrev numbers : ℕ → List ℕ
 numbers n = range_with_len 1 n
 
 -- of orders that are numbered by their places one number is one order
-one-order : (os : List PaymentOrder) (n : ℕ) → map (λ (o : PaymentOrder). o.out) os ≡ numbers n → (a b : PaymentOrder) → Contains os a → Contains os b → a.out ≡ b.out → a ≡ b
+one-order : (os : List PaymentOrder) (n : ℕ) → map (λ (o : PaymentOrder). o.out) os ≡ numbers n → (a b : PaymentOrder) → Contains os a → Contains os b
+    → a.out ≡ b.out → a ≡ b
 one-order os n is a b in_a in_b same =
     let p = place_of os a in_a in
     let q = place_of os b in_b in
@@ -95,14 +98,17 @@ sum-has {A} g (y ∷ xs) x in' = by (Contains-cases y x xs in') (sum-has g xs x)
 
 -- what is done is found by its number
 done-there : (os : List PaymentOrder) (o : PaymentOrder) → Contains os o → list_any (λ (p : PaymentOrder). p.out == o.out) os ≡ true
-done-there os o (k, low, is) = list_any_at (λ (p : PaymentOrder). p.out == o.out) os k o low (ap (λ (p : PaymentOrder). p.out == o.out) is ∙ eq-eqb o.out o.out refl)
+done-there os o (k, low, is) =
+    list_any_at (λ (p : PaymentOrder). p.out == o.out) os k o low (ap (λ (p : PaymentOrder). p.out == o.out) is ∙ eq-eqb o.out o.out refl)
 
 -- the algebra of the account
-adjusted : (came went funded paid back both uncredited undone unordered : ℕ) → came ≡ funded + uncredited → paid ≡ (both + undone) + back → went ≡ both + unordered
+adjusted : (came went funded paid back both uncredited undone unordered : ℕ) → came ≡ funded + uncredited → paid ≡ (both + undone) + back
+    → went ≡ both + unordered
     → (pos came -ℤ pos went) ≡ ((pos funded -ℤ pos paid) +ℤ pos back) +ℤ (pos (uncredited + undone) -ℤ pos unordered)
 adjusted came went funded paid back both uncredited undone unordered e g h = omega (arith, ints)
 
-covering : (came went funded paid back both uncredited undone less : ℕ) → came ≡ funded + uncredited → paid ≡ (both + undone) + back → went ≡ both → pos 0 ≤ℤ ((pos funded -ℤ pos paid) +ℤ pos back) → less ≤ undone
+covering : (came went funded paid back both uncredited undone less : ℕ) → came ≡ funded + uncredited → paid ≡ (both + undone) + back → went ≡ both
+    → pos 0 ≤ℤ ((pos funded -ℤ pos paid) +ℤ pos back) → less ≤ undone
     → pos less ≤ℤ (pos came -ℤ pos went)
 covering came went funded paid back both uncredited undone less e g h covered low = omega (arith, ints)
 
@@ -110,7 +116,8 @@ not_short : (account : ℤ) (amt undone : ℕ) → pos undone ≤ℤ account →
 not_short account amt undone covered low short = grind (arith, ints)
 
 -- a book that the history begins with
-module _ {setup : Setup} {choose : Choice Cmd} {f : ℕ} {cells : List Boot} {moves : List Move} {bank : Bank} (h : Holds setup choose f cells moves bank) (rows : List Row) (b : Begins rows h.history) where
+module _ {setup : Setup} {choose : Choice Cmd} {f : ℕ} {cells : List Boot} {moves : List Move} {bank : Bank} (h : Holds setup choose f cells moves bank)
+    (rows : List Row) (b : Begins rows h.history) where
   abbrev entries : List Entry
   entries = book_of setup rows
 
@@ -118,7 +125,8 @@ module _ {setup : Setup} {choose : Choice Cmd} {f : ℕ} {cells : List Boot} {mo
   asked row in' c low from = h.rows row (begins-has rows h.history b row in') c (let count = h.count in omega arith) from
 
   -- an entry of a node is one of its notices
-  noticed : (e : Entry) (c : ℕ) → Contains entries e → c < length setup.currencies → e.client ≡ node_of c → (x : Node) × (i : ℕ) × (slice_get bank.nodes c ≡ Some x) × (slice_get x.notices i ≡ Some e.cmd)
+  noticed : (e : Entry) (c : ℕ) → Contains entries e → c < length setup.currencies → e.client ≡ node_of c
+      → (x : Node) × (i : ℕ) × (slice_get bank.nodes c ≡ Some x) × (slice_get x.notices i ≡ Some e.cmd)
   noticed e c in' low from =
       let t = came_by setup rows e in' in
       let n = asked t.row t.among c low (t.client ∙ from) in
@@ -198,7 +206,8 @@ module _ {setup : Setup} {choose : Choice Cmd} {f : ℕ} {cells : List Boot} {mo
 
     -- what the book has as returned is returned here, and so is not done
     returned-here : (out : ℕ) → has_return entries c out ≡ true → has_returned x out ≡ true
-    returned-here out is = let r = returned c out is in subst (λ (n : Node). has_returned n out ≡ true) (some-same r.node x (sym r.is_there ∙ is_there)) r.returned
+    returned-here out is = let r = returned c out is in
+        subst (λ (n : Node). has_returned n out ≡ true) (some-same r.node x (sym r.is_there ∙ is_there)) r.returned
 
     not-back : (o : PaymentOrder) → Contains x.pay_outs o → has_return entries c o.out ≡ false
     not-back o in' = by (has_return entries c o.out) refl
@@ -212,7 +221,9 @@ module _ {setup : Setup} {choose : Choice Cmd} {f : ℕ} {cells : List Boot} {mo
         let p = made-are (kept c entries) a in_a in
         let q = made-are x.pay_outs z in_z in
         let out : p.0.out ≡ q.0.out = ap (λ (i : Amount). i.number) p.2 ∙ same ∙ sym (ap (λ (i : Amount). i.number) q.2) in
-        let one = one-order (orders (book_of setup h.history) c) _ (are-ordered setup c h.history).numbered p.0 q.0 (in-history p.0 (kept-has p.0 p.1)) (done-history q.0 q.1) out in
+        let one =
+        one-order (orders (book_of setup h.history) c) _ (are-ordered setup c h.history).numbered p.0 q.0 (in-history p.0 (kept-has p.0 p.1))
+        (done-history q.0 q.1) out in
         sym (ap (λ (i : Amount). i.amt) p.2) ∙ ap (λ (o : PaymentOrder). o.amt) one ∙ ap (λ (i : Amount). i.amt) q.2
 
     abbrev both : ℕ
@@ -229,19 +240,22 @@ module _ {setup : Setup} {choose : Choice Cmd} {f : ℕ} {cells : List Boot} {mo
     done-all =
         sym (made-total x.pay_outs) ∙ total-parts (made (kept c entries)) (made x.pay_outs)
         ∙ ap (λ n. n + total_out (made (kept c entries)) (made x.pay_outs))
-        (sym (matched (made (kept c entries)) (made x.pay_outs) (kept-once c entries (numbered-once (orders entries c) _ numbers_are.numbered)) (done-once x sound.once) orders-match))
+        (sym (matched (made (kept c entries)) (made x.pay_outs) (kept-once c entries (numbered-once (orders entries c) _ numbers_are.numbered))
+        (done-once x sound.once) orders-match))
         ∙ ap (λ n. both + n) (sym (way-kept c x entries not-back))
 
     -- ACCOUNT EQUALLED FIGURE ADJUSTED
     pub account-is : account x ≡ figure setup entries c +ℤ way c x entries
     account-is =
-        adjusted (came_in x) (went_out x) (funds entries c) (all_paid_out entries c) (all_returned entries c) both (not_credited c x entries) (not_done c x entries) (not_ordered c x entries) taken-in-all ordered-all done-all
+        adjusted (came_in x) (went_out x) (funds entries c) (all_paid_out entries c) (all_returned entries c) both (not_credited c x entries)
+        (not_done c x entries) (not_ordered c x entries) taken-in-all ordered-all done-all
         ∙ ap (λ z. z +ℤ way c x entries) (sym (is-covered setup c rows).difference)
 
     -- what the node has neither done nor returned it has not done, and the book has it not as returned
     known-done : not_known c x entries ≤ not_done c x entries
     known-done =
-        sum-le (λ (o : PaymentOrder). if is_known x o.out then 0 else o.amt) (λ (o : PaymentOrder). if has_done x o.out || has_return entries c o.out then 0 else o.amt)
+        sum-le (λ (o : PaymentOrder). if is_known x o.out then 0 else o.amt) (λ (o : PaymentOrder). if has_done x o.out || has_return entries c o.out then 0
+        else o.amt)
         (λ o. by (has_done x o.out) (has_returned x o.out) (has_return entries c o.out) o.amt (returned-here o.out)) (orders entries c)
       where
         by : (done here book : Bool) (amt : ℕ) → (book ≡ true → here ≡ true) → (if done || here then 0 else amt) ≤ (if done || book then 0 else amt)
@@ -255,7 +269,8 @@ module _ {setup : Setup} {choose : Choice Cmd} {f : ℕ} {cells : List Boot} {mo
     grown =
         let more = begins setup rows b.rest in
         let os : orders (book_of setup h.history) c ≡ orders entries c ++ orders more.0 c =
-        ap (λ (l : List Row). orders (book_of setup l) c) (sym b.is) ∙ ap (λ (es : List Entry). orders es c) more.1 ∙ filter_map-append (λ (e : Entry). order_by c e.client e.cmd e.reply) entries more.0 in
+        ap (λ (l : List Row). orders (book_of setup l) c) (sym b.is) ∙ ap (λ (es : List Entry). orders es c) more.1
+        ∙ filter_map-append (λ (e : Entry). order_by c e.client e.cmd e.reply) entries more.0 in
         let sum = ap (λ (l : List PaymentOrder). sum_by (λ o. if is_known x o.out then 0 else o.amt) l) os in
         let parts = sum_by-append (λ (o : PaymentOrder). if is_known x o.out then 0 else o.amt) (orders entries c) (orders more.0 c) in
         omega arith
@@ -283,13 +298,15 @@ module _ {setup : Setup} {choose : Choice Cmd} {f : ℕ} {cells : List Boot} {mo
       let went = done-all h h.history itself c x is_there in
       let more = grown h rows b c x is_there in
       let known = known-done h h.history itself c x is_there in
-      covering (came_in x) (went_out x) (funds history_book c) (all_paid_out history_book c) (all_returned history_book c) (both h h.history itself c x is_there) (not_credited c x history_book) (not_done c x history_book) (not_known c x (book_of setup rows))
+      covering (came_in x) (went_out x) (funds history_book c) (all_paid_out history_book c) (all_returned history_book c)
+      (both h h.history itself c x is_there) (not_credited c x history_book) (not_done c x history_book) (not_known c x (book_of setup rows))
       (taken-in-all h h.history itself c x is_there) (ordered-all h h.history itself c x is_there) (omega arith)
       (subst (λ z. pos 0 ≤ℤ z) cover.difference cover.covered) (omega arith)
 
 -- NO NODE IS EVER SHORT
 short-is : (x : Node) (back step : NodeStep) (mine known member amount full closed short : Bool) → back.fault ≡ None → step.fault ≡ None
-    → (if not mine then refuses x fault.NotMine else if known then does x [] else if not member then refuses x fault.UnknownMember else if not amount then refuses x fault.BadAmount
+    → (if not mine then refuses x fault.NotMine else if known then does x [] else if not member then refuses x fault.UnknownMember else if not amount
+    then refuses x fault.BadAmount
     else if full then refuses x fault.Spent else if closed then back else if short then refuses x fault.Short else step).fault ≡ Some fault.Short
     → (mine ≡ true) × (known ≡ false) × (short ≡ true)
 short-is x back step true false true true false false true none silent is = (refl, refl, refl)
@@ -305,8 +322,11 @@ module _ {setup : Setup} {choose : Choice Cmd} {f : ℕ} {cells : List Boot} {mo
     (c : ℕ) (x : Node) (is_there : slice_get bank.nodes c ≡ Some x) (e : Envelope) (in' : Contains bank.post e) where
   order-not_short : (o : PaymentOrder) → e.msg ≡ PayOrder o → (on_order setup f c x o).fault ≡ Some fault.Short → ⊥
   order-not_short o msg is =
-      let t = short-is x (notes f c (record x { returned = x.returned ++ o ∷ [] }) (Returned c o.out)) (notes f c (record x { pay_outs = x.pay_outs ++ o ∷ [] }) (Paid c o.out))
-      (o.ccy == c) (is_known x o.out) (has_member setup o.member) (is_amount o.amt) (is_full (length x.pay_outs + length x.returned)) (is_closed x o.member) (int_lt (account x) (pos o.amt)) refl refl is in
+      let t =
+      short-is x (notes f c (record x { returned = x.returned ++ o ∷ [] }) (Returned c o.out))
+      (notes f c (record x { pay_outs = x.pay_outs ++ o ∷ [] }) (Paid c o.out))
+      (o.ccy == c) (is_known x o.out) (has_member setup o.member) (is_amount o.amt) (is_full (length x.pay_outs + length x.returned)) (is_closed x o.member)
+      (int_lt (account x) (pos o.amt)) refl refl is in
       let ordered = subst (λ d. Contains (orders (book_of setup h.history) d) o) (eqb-true o.ccy c t.0) (h.orders e o in' msg).ordered in
       let one = sum-has (λ (p : PaymentOrder). if is_known x p.out then 0 else p.amt) (orders (book_of setup h.history) c) o ordered in
       let amt : (if is_known x o.out then 0 else o.amt) ≡ o.amt = ap (λ b. if b then 0 else o.amt) t.1 in
@@ -352,16 +372,21 @@ module _ {setup : Setup} {f : ℕ} (list : LegalList setup f) where
 
     pub rows-agree : Agree (executed_rows x) (executed_rows y)
     rows-agree n a b at_a at_b =
-        some-same a b (sym (at-append (executed_rows x) first.rest n a at_a) ∙ ap (λ (l : List Row). slice_get l n) (first.is ∙ sym second.is) ∙ at-append (executed_rows y) second.rest n b at_b)
+        some-same a b (sym (at-append (executed_rows x) first.rest n a at_a) ∙ ap (λ (l : List Row). slice_get l n) (first.is ∙ sym second.is)
+        ∙ at-append (executed_rows y) second.rest n b at_b)
 
-    pub books-agree : (n : ℕ) → n ≤ length (executed_rows x) → n ≤ length (executed_rows y) → after_rows (opening setup) (take n (executed_rows x)) ≡ after_rows (opening setup) (take n (executed_rows y))
+    pub books-agree : (n : ℕ) → n ≤ length (executed_rows x) → n ≤ length (executed_rows y)
+        → after_rows (opening setup) (take n (executed_rows x)) ≡ after_rows (opening setup) (take n (executed_rows y))
     books-agree n low high =
         ap (λ (l : List Row). after_rows (opening setup) l)
-        (sym (take-append-le n (executed_rows x) first.rest low) ∙ ap (λ (l : List Row). take n l) (first.is ∙ sym second.is) ∙ take-append-le n (executed_rows y) second.rest high)
+        (sym (take-append-le n (executed_rows x) first.rest low) ∙ ap (λ (l : List Row). take n l) (first.is ∙ sym second.is)
+        ∙ take-append-le n (executed_rows y) second.rest high)
 
-  pub paid_in_at : (x : Site Cmd) (e : Entry) (c k m amt : ℕ) → Contains list.bank.sites x → Contains (executed_book setup x) e → e.cmd ≡ Fund c k m amt → IsPayIn list.bank c k m amt
+  pub paid_in_at : (x : Site Cmd) (e : Entry) (c k m amt : ℕ) → Contains list.bank.sites x → Contains (executed_book setup x) e → e.cmd ≡ Fund c k m amt
+      → IsPayIn list.bank c k m amt
   paid_in_at x e c k m amt among in' is = paid_in here (executed_rows x) (here.begins x among) e c k m amt in' is
 
-  pub covered-later : (late : Continued list) (x : Site Cmd) (c : ℕ) (n : Node) → Contains list.bank.sites x → slice_get late.bank.nodes c ≡ Some n → pos (not_known c n (executed_book setup x)) ≤ℤ account n
+  pub covered-later : (late : Continued list) (x : Site Cmd) (c : ℕ) (n : Node) → Contains list.bank.sites x → slice_get late.bank.nodes c ≡ Some n
+      → pos (not_known c n (executed_book setup x)) ≤ℤ account n
   covered-later late x c n in' at =
       covered (later late).holds c n at (executed_rows x) (begins-trans (here.begins x in') (later late).longer)

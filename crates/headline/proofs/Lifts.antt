@@ -63,7 +63,8 @@ module _ (setup : Setup) (choose : Choice Cmd) (f : ℕ) where
   pub record Beside (world : SitesWorld) (bank : Bank) : Type 0 where
     pub sites : world.sites ≡ bank.sites
     pub back : (e : Envelope) → Contains world.sent e → Contains bank.post e
-    pub told : (r : Replied Cmd) (e : Envelope) → Contains world.replies r → reply_to book (opening setup) r.from r.sender r.place ≡ Some e → Contains bank.post e
+    pub told : (r : Replied Cmd) (e : Envelope) → Contains world.replies r → reply_to book (opening setup) r.from r.sender r.place ≡ Some e
+        → Contains bank.post e
 
   -- the bank after a move of a site alone
   pub record OneLifted (bank : Bank) (next : SitesWorld) : Type 0 where
@@ -77,10 +78,13 @@ module _ (setup : Setup) (choose : Choice Cmd) (f : ℕ) where
     pub post : (e : Envelope) → Contains bank.post e → Contains after.post e
 
   -- an envelope that a site does not refuse is addressed to it
-  addressed : (i : ℕ) (x : Site Cmd) (e : Envelope) → is_refused (site_step {R = Answer} {O = PaymentOrder} choose f i x (Deliver e)).ending ≡ false → e.to ≡ actor_of i
+  addressed : (i : ℕ) (x : Site Cmd) (e : Envelope) → is_refused (site_step {R = Answer} {O = PaymentOrder} choose f i x (Deliver e)).ending ≡ false
+      → e.to ≡ actor_of i
   addressed i x e taken = by (is_down x.status) (is_mine f i e) refl taken
     where
-      by : (down mine : Bool) → is_mine f i e ≡ mine → is_refused (refused_or x (if down then Some NotUp else if not mine then Some NotMine else None) (on_event choose f i x (Deliver e))).ending ≡ false → e.to ≡ actor_of i
+      by : (down mine : Bool) → is_mine f i e ≡ mine
+          → is_refused (refused_or x (if down then Some NotUp else if not mine then Some NotMine else None) (on_event choose f i x (Deliver e))).ending ≡ false
+          → e.to ≡ actor_of i
       by true mine is h = absurd (true≢false h)
       by false false is h = absurd (true≢false h)
       by false true is h = eq_is e.to (actor_of i) (and_left (e.to == actor_of i) (may_send f i e.from e.msg) is)
@@ -93,7 +97,12 @@ module _ (setup : Setup) (choose : Choice Cmd) (f : ℕ) where
     by_move i event x there allowed step is gentle = record {
       move = Takes step;
       after = with_site bank i taken.site new;
-      leads = record { turn_is = OfSite i event; has_turn = is; acts = record { before = x; is_there = ap (λ (l : List (Site Cmd)). slice_get l i) (sym b.sites) ∙ there; allowed = allowed; leads = refl } };
+      leads =
+          record {
+            turn_is = OfSite i event;
+            has_turn = is;
+            acts = record { before = x; is_there = ap (λ (l : List (Site Cmd)). slice_get l i) (sym b.sites) ∙ there; allowed = allowed; leads = refl };
+          };
       gentle = gentle;
       beside = record {
         sites = ap (λ (l : List (Site Cmd)). slice_set l i taken.site) b.sites;
@@ -119,41 +128,53 @@ module _ (setup : Setup) (choose : Choice Cmd) (f : ℕ) where
 
         back_by : (e : Envelope) → Contains world.sent e ⊎ Contains taken.sent e → Contains (bank.post ++ new) e
         back_by e (inl old) = Contains-append_left bank.post new e (b.back e old)
-        back_by e (inr sent) = Contains-append_right bank.post new e (Contains-append_left (taken.sent ++ said) ordered e (Contains-append_left taken.sent said e sent))
+        back_by e (inr sent) =
+            Contains-append_right bank.post new e (Contains-append_left (taken.sent ++ said) ordered e (Contains-append_left taken.sent said e sent))
 
-        told_by : (r : Replied Cmd) (e : Envelope) → reply_to book (opening setup) r.from r.sender r.place ≡ Some e → Contains world.replies r ⊎ Contains (replied i taken) r → Contains (bank.post ++ new) e
+        told_by : (r : Replied Cmd) (e : Envelope) → reply_to book (opening setup) r.from r.sender r.place ≡ Some e
+            → Contains world.replies r ⊎ Contains (replied i taken) r → Contains (bank.post ++ new) e
         told_by r e is' (inl old) = Contains-append_left bank.post new e (b.told r e old is')
         told_by r e is' (inr fresh) =
             let t = map-has (λ place. record { from = i; sender = taken.site; place = place }) taken.replies r fresh in
-            let same : reply_to book (opening setup) i taken.site t.0 ≡ Some e = ap (λ (q : Replied Cmd). reply_to book (opening setup) q.from q.sender q.place) t.2 ∙ is' in
-            Contains-append_right bank.post new e (Contains-append_left (taken.sent ++ said) ordered e (Contains-append_right taken.sent said e (filter_map-in (reply_to book (opening setup) i taken.site) taken.replies t.0 e t.1 same)))
+            let same : reply_to book (opening setup) i taken.site t.0 ≡ Some e =
+            ap (λ (q : Replied Cmd). reply_to book (opening setup) q.from q.sender q.place) t.2 ∙ is' in
+            Contains-append_right bank.post new e (Contains-append_left (taken.sent ++ said) ordered e
+            (Contains-append_right taken.sent said e (filter_map-in (reply_to book (opening setup) i taken.site) taken.replies t.0 e t.1 same)))
 
     -- an envelope of the post comes to a site
     pub by_delivery : (i : ℕ) (e : Envelope) (x : Site Cmd) → slice_get world.sites i ≡ Some x → Contains bank.post e
-        → is_refused (site_step {R = Answer} {O = PaymentOrder} choose f i x (Deliver e)).ending ≡ false → OneLifted bank (stepped world i (site_step choose f i x (Deliver e)))
+        → is_refused (site_step {R = Answer} {O = PaymentOrder} choose f i x (Deliver e)).ending ≡ false
+        → OneLifted bank (stepped world i (site_step choose f i x (Deliver e)))
     by_delivery i e x there posted allowed =
         let t = place_of bank.post e posted in
         let to = addressed i x e allowed in
         by_move i (Deliver e) x there allowed (Delivers (t.0 + 1))
-        (numbered t.0 e t.1 ∙ ap (λ (u : Turn). Some u) (ap (λ (n : ℕ). turn_of n (Deliver e) (node.Takes e) (client.Takes e)) to ∙ turn_of_site (Deliver e) (node.Takes e) (client.Takes e) i)) tt
+        (numbered t.0 e t.1 ∙ ap (λ (u : Turn). Some u) (ap (λ (n : ℕ). turn_of n (Deliver e) (node.Takes e) (client.Takes e)) to
+        ∙ turn_of_site (Deliver e) (node.Takes e) (client.Takes e) i)) tt
       where
         numbered : (n : ℕ) (e : Envelope) → slice_get bank.post n ≡ Some e → turn bank.post (Delivers (n + 1)) ≡ Some (delivery e)
-        numbered n e there = if_false (n + 1 == 0) _ _ (not_zero n) ∙ (ap (λ (m : ℕ). option_map delivery (slice_get bank.post m)) (let d : (n + 1) - 1 ≡ n = omega arith in d) ∙ ap (option_map delivery) there)
+        numbered n e there =
+            if_false (n + 1 == 0) _ _ (not_zero n) ∙ (ap (λ (m : ℕ). option_map delivery (slice_get bank.post m)) (let d : (n + 1) - 1 ≡ n = omega arith in d)
+            ∙ ap (option_map delivery) there)
 
     -- one gentle event
     one_lifted : (next : SitesWorld) (h : Happening Cmd Answer PaymentOrder) → Happens choose f world h next → sites_alone.IsGentleTurn h → OneLifted bank next
     one_lifted next h p gentle = by_course h.course gentle.1 p.ends
       where
-        by_event : (event : EventOf Cmd Answer PaymentOrder) → sites_alone.IsGentle event → MayHappen world.sent event → is_refused (site_step {R = Answer} {O = PaymentOrder} choose f h.site p.before event).ending ≡ false
+        by_event : (event : EventOf Cmd Answer PaymentOrder) → sites_alone.IsGentle event → MayHappen world.sent event
+            → is_refused (site_step {R = Answer} {O = PaymentOrder} choose f h.site p.before event).ending ≡ false
             → OneLifted bank (stepped world h.site (site_step choose f h.site p.before event))
         by_event (Deliver e) kind (inl request) allowed = absurd (true≢false (sym request ∙ kind))
         by_event (Deliver e) kind (inr sent) allowed = by_delivery h.site e p.before p.is_there (b.back e sent) allowed
         by_event Timer kind may allowed = by_move h.site Timer p.before p.is_there allowed (Times h.site) refl tt
-        by_event Beat kind may allowed = by_move h.site Beat p.before p.is_there allowed (Beats (actor_of h.site)) (ap (λ (u : Turn). Some u) (turn_of_site Beat node.Beats client.Beats h.site)) tt
+        by_event Beat kind may allowed =
+            by_move h.site Beat p.before p.is_there allowed (Beats (actor_of h.site))
+            (ap (λ (u : Turn). Some u) (turn_of_site Beat node.Beats client.Beats h.site)) tt
         by_event Crash kind may allowed = absurd kind
         by_event Restart kind may allowed = by_move h.site Restart p.before p.is_there allowed (Restarts h.site) refl tt
 
-        by_course : (course : Course) → course ≡ Ends → EndsIn world h.site p.before (site_step choose f h.site p.before h.event) course next → OneLifted bank next
+        by_course : (course : Course) → course ≡ Ends → EndsIn world h.site p.before (site_step choose f h.site p.before h.event) course next
+            → OneLifted bank next
         by_course Ends is ends = subst (λ (w : SitesWorld). OneLifted bank w) (sym ends.1) (by_event h.event gentle.0 p.may_happen ends.0)
         by_course (FallsOver cell) is ends = absurd (cc)
 
@@ -168,7 +189,8 @@ module _ (setup : Setup) (choose : Choice Cmd) (f : ℕ) where
     pub clients : end.clients ≡ bank.clients
     pub post : (e : Envelope) → Contains bank.post e → Contains end.post e
 
-  lift_run : (events : List (Happening Cmd Answer PaymentOrder)) (world after : SitesWorld) (bank : Bank) → Beside world bank → worlds.IsRun choose f world events after → All sites_alone.IsGentleTurn events → Lifted bank after
+  lift_run : (events : List (Happening Cmd Answer PaymentOrder)) (world after : SitesWorld) (bank : Bank) → Beside world bank
+      → worlds.IsRun choose f world events after → All sites_alone.IsGentleTurn events → Lifted bank after
   lift_run [] world after bank b run gentle = record {
     moves = [];
     end = bank;

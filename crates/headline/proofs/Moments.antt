@@ -42,7 +42,8 @@ module _ (choose : Choice Cmd) (f : ℕ) where
   breaks : RowsAgree parted parted → ⊥
   breaks agree =
       let same = agree (executed (paid_in 5)) (executed (paid_in 6)) (Contains-here (executed (paid_in 5)) (executed (paid_in 6) ∷ []))
-      (Contains-there (executed (paid_in 5)) (executed (paid_in 6)) (executed (paid_in 6) ∷ []) (Contains-here (executed (paid_in 6)) [])) 0 (paid_in 5) (paid_in 6) refl refl in
+      (Contains-there (executed (paid_in 5)) (executed (paid_in 6)) (executed (paid_in 6) ∷ []) (Contains-here (executed (paid_in 6)) [])) 0
+      (paid_in 5) (paid_in 6) refl refl in
       absurd (omega (arith, ap (λ (row : Row). amount_of row.cmd) same))
     where
       amount_of : Cmd → ℕ

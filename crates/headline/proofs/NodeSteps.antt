@@ -53,10 +53,12 @@ nothing x in' = let low = in'.1 in omega arith
 notice_out-is : (f c : ℕ) (x : Node) (e : Envelope) → Contains (notice_out f c x) e → IsNoticeOf c x e
 notice_out-is f c x e in' = by (slice_get x.notices x.answered) refl in'
   where
-    by : (found : Option Cmd) → slice_get x.notices x.answered ≡ found → Contains (option_map_or (λ cmd. to_sites f (node_of c) (x.answered + 1) cmd) found []) e → IsNoticeOf c x e
+    by : (found : Option Cmd) → slice_get x.notices x.answered ≡ found
+        → Contains (option_map_or (λ cmd. to_sites f (node_of c) (x.answered + 1) cmd) found []) e → IsNoticeOf c x e
     by None same h = absurd (nothing e h)
     by (Some cmd) same h =
-        let t = map-has (λ (j : ℕ). record { from = node_of c; to = actor_of j; msg = Request (record { number = x.answered + 1; cmd = cmd }) }) (sites f) e h in
+        let t =
+        map-has (λ (j : ℕ). record { from = node_of c; to = actor_of j; msg = Request (record { number = x.answered + 1; cmd = cmd }) }) (sites f) e h in
         let back : x.answered + 1 - 1 ≡ x.answered = omega arith in
         record {
           asked = record { number = x.answered + 1; cmd = cmd };
@@ -109,7 +111,8 @@ module _ (f c : ℕ) (event : NodeEvent) (x y : Node) (cmd : Cmd) where
           by (inl old) = so-grows c x y grows d (s.notices i d (ap (λ (l : List Cmd). slice_get l i) (sym same) ∙ old))
           by (inr new) = subst (λ (k : Cmd). IsSo c y k) new.1 so
 
-  notes-keep : y.notices ≡ x.notices → (IsSound c x → IsSound c noted) → ((o : PaymentOrder) → Contains y.pay_outs o → Contains x.pay_outs o ⊎ IsOrdered c event o)
+  notes-keep : y.notices ≡ x.notices → (IsSound c x → IsSound c noted)
+      → ((o : PaymentOrder) → Contains y.pay_outs o → Contains x.pay_outs o ⊎ IsOrdered c event o)
       → Keeps c event x (notes f c y cmd)
   notes-keep same sound done = record {
     sent = notes-sent (y.answered == length y.notices);
@@ -144,10 +147,13 @@ or-first true b e = refl
 or-first false b e = absurd (true≢false (sym e))
 
 -- one more order in a list
-pub more-outs : (os : List PaymentOrder) (o : PaymentOrder) (out : ℕ) → list_any (λ (p : PaymentOrder). p.out == out) (os ++ o ∷ []) ≡ (list_any (λ (p : PaymentOrder). p.out == out) os || list_any (λ (p : PaymentOrder). p.out == out) (o ∷ []))
+pub more-outs : (os : List PaymentOrder) (o : PaymentOrder) (out : ℕ)
+    → list_any (λ (p : PaymentOrder). p.out == out) (os ++ o ∷ [])
+    ≡ (list_any (λ (p : PaymentOrder). p.out == out) os || list_any (λ (p : PaymentOrder). p.out == out) (o ∷ []))
 more-outs os o out = list_any-append (λ (p : PaymentOrder). p.out == out) os (o ∷ [])
 
-old-out : (os : List PaymentOrder) (o : PaymentOrder) (out : ℕ) → list_any (λ (p : PaymentOrder). p.out == out) os ≡ true → list_any (λ (p : PaymentOrder). p.out == out) (os ++ o ∷ []) ≡ true
+old-out : (os : List PaymentOrder) (o : PaymentOrder) (out : ℕ) → list_any (λ (p : PaymentOrder). p.out == out) os ≡ true
+    → list_any (λ (p : PaymentOrder). p.out == out) (os ++ o ∷ []) ≡ true
 old-out os o out is = more-outs os o out ∙ or-first _ _ is
 
 new-out : (os : List PaymentOrder) (o : PaymentOrder) → list_any (λ (p : PaymentOrder). p.out == o.out) (os ++ o ∷ []) ≡ true
@@ -169,7 +175,8 @@ module _ (f c : ℕ) (event : NodeEvent) (o : PaymentOrder) (x : Node) (fresh : 
       noted-sound f c event x paid_out (Paid c o.out) refl s
       (record { pay_ins = λ i p is. is; done = λ out is. old-out x.pay_outs o out is; returned = λ out is. is })
       (refl, new-out x.pay_outs o)
-      (λ out. count-push (λ (p : PaymentOrder). p.out == out) x.pay_outs o (s.once out) (λ is. subst (λ n. has_done x n ≡ false) (eqb-true o.out out is) not-done))
+      (λ out. count-push (λ (p : PaymentOrder). p.out == out) x.pay_outs o (s.once out)
+      (λ is. subst (λ n. has_done x n ≡ false) (eqb-true o.out out is) not-done))
       (λ out is. by out (has_done x out) refl (o.out == out) refl (sym (more-outs x.pay_outs o out) ∙ is))
     where
       by : (out : ℕ) (old : Bool) → has_done x out ≡ old → (new : Bool) → (o.out == out) ≡ new → (old || (new || false)) ≡ true → has_returned x out ≡ false
@@ -220,7 +227,8 @@ module _ (setup : Setup) (f c : ℕ) (x : Node) where
       by_if c event x (not (is_amount o.amt)) (λ _. refused c event x BadAmount) (λ _.
       by_if c event x (is_full (length x.pay_outs + length x.returned)) (λ _. refused c event x Spent) (λ _.
       by_if c event x (is_closed x o.member)
-      (λ _. notes-keep f c event x (record x { returned = x.returned ++ o ∷ [] }) (Returned c o.out) refl (return-sound f c event o x fresh) (λ p in'. inl in')) (λ _.
+      (λ _. notes-keep f c event x (record x { returned = x.returned ++ o ∷ [] }) (Returned c o.out) refl (return-sound f c event o x fresh) (λ p in'. inl in'))
+      (λ _.
       by_if c event x (int_lt (account x) (pos o.amt)) (λ _. refused c event x Short) (λ _.
       notes-keep f c event x (record x { pay_outs = x.pay_outs ++ o ∷ [] }) (Paid c o.out) refl
       (pay_out-sound f c event o x fresh) (done (not_false _ mine)))))))))
@@ -230,7 +238,13 @@ module _ (setup : Setup) (f c : ℕ) (x : Node) where
         where
           by : Contains x.pay_outs p ⊎ (o ≡ p) → Contains x.pay_outs p ⊎ IsOrdered c event p
           by (inl old) = inl old
-          by (inr same) = inr (record { envelope = e; came = came; msg = msg ∙ ap (λ (q : PaymentOrder). PayOrder q) same; ccy = ap (λ (q : PaymentOrder). q.ccy) (sym same) ∙ eqb-true o.ccy c mine })
+          by (inr same) =
+              inr (record {
+                envelope = e;
+                came = came;
+                msg = msg ∙ ap (λ (q : PaymentOrder). PayOrder q) same;
+                ccy = ap (λ (q : PaymentOrder). q.ccy) (sym same) ∙ eqb-true o.ccy c mine;
+              })
 
   reply-keeps : (event : NodeEvent) (number : ℕ) → Keeps c event x (on_reply setup f c x number)
   reply-keeps event number =
@@ -241,7 +255,8 @@ module _ (setup : Setup) (f c : ℕ) (x : Node) where
         done = λ o in'. inl in';
       }) (λ _. idle c event x)
 
-  message-keeps : (event : NodeEvent) (e : Envelope) (msg : MsgOf Cmd Answer PaymentOrder) → event ≡ Takes e → e.msg ≡ msg → Keeps c event x (on_message setup f c x msg)
+  message-keeps : (event : NodeEvent) (e : Envelope) (msg : MsgOf Cmd Answer PaymentOrder) → event ≡ Takes e → e.msg ≡ msg
+      → Keeps c event x (on_message setup f c x msg)
   message-keeps event e (Reply msg) came is = reply-keeps event msg.number
   message-keeps event e (PayOrder order) came is = order-keeps event e order came is
   message-keeps event e _ came is = refused c event x NotMine

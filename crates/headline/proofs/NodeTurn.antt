@@ -27,7 +27,8 @@ use Rattle.headline.proofs.NodeSteps.{IsNoticeOf, IsOrdered, Keeps, node-keeps}
 use Rattle.headline.proofs.SiteTurn.{order-more, reply-more}
 
 -- notices stay where one node's grow
-notice-grows : (nodes : List Node) (c : ℕ) (x y : Node) → slice_get nodes c ≡ Some x → ((i : ℕ) (cmd : Cmd) → slice_get x.notices i ≡ Some cmd → slice_get y.notices i ≡ Some cmd)
+notice-grows : (nodes : List Node) (c : ℕ) (x y : Node) → slice_get nodes c ≡ Some x
+    → ((i : ℕ) (cmd : Cmd) → slice_get x.notices i ≡ Some cmd → slice_get y.notices i ≡ Some cmd)
     → (d i : ℕ) (cmd : Cmd) → notice_at nodes d i ≡ Some cmd → notice_at (slice_set nodes c y) d i ≡ Some cmd
 notice-grows [] c x y at grows d i cmd is = absurd (none-some x at)
 notice-grows (z ∷ nodes) zero x y at grows zero i cmd is = grows i cmd (ap (λ (n : Node). slice_get n.notices i) (sym (some-same z x at)) ∙ is)
@@ -38,8 +39,10 @@ notice-grows (z ∷ nodes) (suc c) x y at grows (suc d) i cmd is = notice-grows 
 node_of-one : (c d : ℕ) → node_of c ≡ node_of d → c ≡ d
 node_of-one c d e = omega arith
 
-module _ (setup : Setup) (choose : Choice Cmd) (f : ℕ) (cells : List Boot) (moves : List Move) (bank : Bank) (h : Holds setup choose f cells moves bank) (move : Move)
-    (c : ℕ) (event : NodeEvent) (x : Node) (is_there : slice_get bank.nodes c ≡ Some x) (arrived : (e : Envelope) → event ≡ Takes e → Contains bank.post e) where
+module _ (setup : Setup) (choose : Choice Cmd) (f : ℕ) (cells : List Boot) (moves : List Move) (bank : Bank)
+    (h : Holds setup choose f cells moves bank) (move : Move)
+    (c : ℕ) (event : NodeEvent) (x : Node) (is_there : slice_get bank.nodes c ≡ Some x)
+    (arrived : (e : Envelope) → event ≡ Takes e → Contains bank.post e) where
   abbrev step : NodeStep
   step = node_step setup f c x event
 
@@ -56,7 +59,8 @@ module _ (setup : Setup) (choose : Choice Cmd) (f : ℕ) (cells : List Boot) (mo
     asks-stays : (client number : ℕ) (cmd : Cmd) → AsksAs bank.nodes client number cmd → AsksAs after.nodes client number cmd
     asks-stays client number cmd asks d low from = notice-stays d number cmd (asks d (let same = set-length bank.nodes c step.node in omega arith) from)
 
-    order-stays : (d : ℕ) (o : PaymentOrder) → IsOrder setup choose f cells moves bank h.history d o → IsOrder setup choose f cells (moves ++ move ∷ []) after h.history d o
+    order-stays : (d : ℕ) (o : PaymentOrder) → IsOrder setup choose f cells moves bank h.history d o
+        → IsOrder setup choose f cells (moves ++ move ∷ []) after h.history d o
     order-stays d o is = order-more setup choose f cells moves bank move after h.history h.history d o leads (begins_itself h.history) is
 
     -- the node's new notices
@@ -65,7 +69,8 @@ module _ (setup : Setup) (choose : Choice Cmd) (f : ℕ) (cells : List Boot) (mo
         let same = sym n.msg ∙ is in
         let place : c ≡ d = node_of-one c d (sym n.from ∙ from) in
         let one : n.asked ≡ asked = cc in
-        let at : notice_at after.nodes c (n.asked.number - 1) ≡ Some n.asked.cmd = ap (λ (o : Option Node). slice_get (notices_of o) (n.asked.number - 1)) (set-here bank.nodes c x step.node is_there) ∙ n.is in
+        let at : notice_at after.nodes c (n.asked.number - 1) ≡ Some n.asked.cmd =
+        ap (λ (o : Option Node). slice_get (notices_of o) (n.asked.number - 1)) (set-here bank.nodes c x step.node is_there) ∙ n.is in
         subst (λ k. IsNotice after.nodes k asked.number asked.cmd) place
         (subst (λ (k : RequestOf Cmd). IsNotice after.nodes c k.number k.cmd) one (record { counted = n.counted; is = at }))
 
@@ -83,7 +88,8 @@ module _ (setup : Setup) (choose : Choice Cmd) (f : ℕ) (cells : List Boot) (mo
         by (inl old) = λ asked is. asks-stays e.from asked.number asked.cmd (h.requests e old asked is)
         by (inr new) = new-asked e (keeps.sent e new)
 
-    orders_too : (e : Envelope) (o : PaymentOrder) → Contains after.post e → e.msg ≡ PayOrder o → IsOrder setup choose f cells (moves ++ move ∷ []) after h.history o.ccy o
+    orders_too : (e : Envelope) (o : PaymentOrder) → Contains after.post e → e.msg ≡ PayOrder o
+        → IsOrder setup choose f cells (moves ++ move ∷ []) after h.history o.ccy o
     orders_too e o in' is = by (Contains-append_cases bank.post step.sent e in')
       where
         by : Contains bank.post e ⊎ Contains step.sent e → IsOrder setup choose f cells (moves ++ move ∷ []) after h.history o.ccy o
@@ -97,19 +103,23 @@ module _ (setup : Setup) (choose : Choice Cmd) (f : ℕ) (cells : List Boot) (mo
         by (inl here) = subst (λ k. IsSound k y) here.0 (subst (λ (z : Node). IsSound c z) here.1 (keeps.sound (h.nodes c x is_there)))
         by (inr old) = h.nodes d y old
 
-    done_too : (d : ℕ) (y : Node) (o : PaymentOrder) → slice_get after.nodes d ≡ Some y → Contains y.pay_outs o → IsOrder setup choose f cells (moves ++ move ∷ []) after h.history d o
+    done_too : (d : ℕ) (y : Node) (o : PaymentOrder) → slice_get after.nodes d ≡ Some y → Contains y.pay_outs o
+        → IsOrder setup choose f cells (moves ++ move ∷ []) after h.history d o
     done_too d y o at in' = by (set-at bank.nodes c step.node d y at)
       where
         by_done : Contains x.pay_outs o ⊎ IsOrdered c event o → IsOrder setup choose f cells (moves ++ move ∷ []) after h.history c o
         by_done (inl old) = order-stays c o (h.done c x o is_there old)
-        by_done (inr new) = subst (λ k. IsOrder setup choose f cells (moves ++ move ∷ []) after h.history k o) new.ccy (order-stays o.ccy o (h.orders new.envelope o (arrived new.envelope new.came) new.msg))
+        by_done (inr new) =
+            subst (λ k. IsOrder setup choose f cells (moves ++ move ∷ []) after h.history k o) new.ccy
+            (order-stays o.ccy o (h.orders new.envelope o (arrived new.envelope new.came) new.msg))
 
         by : ((c ≡ d) × (step.node ≡ y)) ⊎ (slice_get bank.nodes d ≡ Some y) → IsOrder setup choose f cells (moves ++ move ∷ []) after h.history d o
         by (inl here) = subst (λ k. IsOrder setup choose f cells (moves ++ move ∷ []) after h.history k o) here.0
             (by_done (keeps.done o (subst (λ (z : Node). Contains z.pay_outs o) (sym here.1) in')))
         by (inr old) = order-stays d o (h.done d y o old in')
 
-    replies_too : (e : Envelope) (said : ReplyOf Answer) → Contains after.post e → e.msg ≡ Reply said → IsReply setup choose f cells (moves ++ move ∷ []) after h.world e
+    replies_too : (e : Envelope) (said : ReplyOf Answer) → Contains after.post e → e.msg ≡ Reply said
+        → IsReply setup choose f cells (moves ++ move ∷ []) after h.world e
     replies_too e said in' is = by (Contains-append_cases bank.post step.sent e in')
       where
         by : Contains bank.post e ⊎ Contains step.sent e → IsReply setup choose f cells (moves ++ move ∷ []) after h.world e

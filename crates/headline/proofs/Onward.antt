@@ -42,8 +42,23 @@ module _ (setup : Setup) (f : ℕ) (some : 1 ≤ f) (list : LegalList setup f) w
   beside = record { sites = here.sites; back = here.back; told = here.told }
 
   module _ (can : CanGoOn f list.bank) where
-    goes : sites_alone.Progresses (record { choose = list.choose; right = list.right; cells = list.cells; events = here.events; world = here.world; legal = here.alone })
-    goes = alone.progresses f some (record { choose = list.choose; right = list.right; cells = list.cells; events = here.events; world = here.world; legal = here.alone }) (subst (sites_alone.CanGoOn f) (sym here.sites) can.sites)
+    goes : sites_alone.Progresses (record {
+      choose = list.choose;
+      right = list.right;
+      cells = list.cells;
+      events = here.events;
+      world = here.world;
+      legal = here.alone;
+    })
+    goes =
+        alone.progresses f some (record {
+          choose = list.choose;
+          right = list.right;
+          cells = list.cells;
+          events = here.events;
+          world = here.world;
+          legal = here.alone;
+        }) (subst (sites_alone.CanGoOn f) (sym here.sites) can.sites)
 
     lifted : Lifted setup list.choose f list.bank goes.after
     lifted = lift setup list.choose f here.world goes.after list.bank beside goes.goes
@@ -62,7 +77,8 @@ module _ (setup : Setup) (f : ℕ) (some : 1 ≤ f) (list : LegalList setup f) w
     -- the log is all that was ever executed
     kept : KeepsExecuted list goes.log
     kept m x in' =
-        begins-trans (before.begins x in') (once_whole setup f some (longer list lifted.moves lifted.end lifted.run) goes.view goes.log work.working room (moment_longer list lifted.moves lifted.end lifted.run m) before)
+        begins-trans (before.begins x in') (once_whole setup f some (longer list lifted.moves lifted.end lifted.run) goes.view goes.log work.working room
+        (moment_longer list lifted.moves lifted.end lifted.run m) before)
       where
         before : Holds setup list.choose f list.cells m.before m.then
         before = legal-holds setup (valid-members setup list.valid).1 list.choose f list.right list.cells m.before m.then m.legal.all m.legal.run
@@ -82,23 +98,43 @@ module _ (setup : Setup) (f : ℕ) (some : 1 ≤ f) (list : LegalList setup f) w
       clients = lifted.clients;
     }
 
-  module _ (view : ℕ) (log : List Row) (row : Row) (are : AreWorking f view log list.bank.sites) (new : sites_alone.IsNew log row) (posted : Contains list.bank.post (request_of (actor_of (primary f view)) row)) where
+  module _ (view : ℕ) (log : List Row) (row : Row) (are : AreWorking f view log list.bank.sites) (new : sites_alone.IsNew log row)
+      (posted : Contains list.bank.post (request_of (actor_of (primary f view)) row)) where
     serving : sites_alone.Serves list.choose f here.world view log row
-    serving = alone.served f some (record { choose = list.choose; right = list.right; cells = list.cells; events = here.events; world = here.world; legal = here.alone }) view log row (subst (AreWorking f view log) (sym here.sites) are) new
+    serving =
+        alone.served f some (record {
+          choose = list.choose;
+          right = list.right;
+          cells = list.cells;
+          events = here.events;
+          world = here.world;
+          legal = here.alone;
+        }) view log row (subst (AreWorking f view log) (sym here.sites) are) new
 
     -- the REQUEST comes to the primary
     first : OneLifted setup list.choose f list.bank serving.asked
     first = by_ends serving.asks.1
       where
-        by_ends : Happens list.choose f here.world (step_of (primary f view) (Deliver (request_of (actor_of (primary f view)) row))) serving.asks.0 → OneLifted setup list.choose f list.bank serving.asked
+        by_ends : Happens list.choose f here.world (step_of (primary f view) (Deliver (request_of (actor_of (primary f view)) row))) serving.asks.0
+            → OneLifted setup list.choose f list.bank serving.asked
         by_ends p = subst (λ (w : SitesWorld). OneLifted setup list.choose f list.bank w) (sym (serving.asks.2 ∙ p.ends.1))
-            (by_delivery setup list.choose f here.world list.bank beside (primary f view) (request_of (actor_of (primary f view)) row) p.before p.is_there posted p.ends.0)
+            (by_delivery setup list.choose f here.world list.bank beside (primary f view)
+            (request_of (actor_of (primary f view)) row) p.before p.is_there posted p.ends.0)
 
     rest : Lifted setup list.choose f first.after serving.served
     rest = lift setup list.choose f serving.asked serving.served first.after first.beside serving.goes
 
     abbrev reply : Envelope
-    reply = record { from = actor_of (primary f view); to = row.client; msg = Reply (record { view = serving.sender.view; number = row.number; reply = answer_at book (opening setup) serving.sender.log (length log + 1) row }) }
+    reply =
+        record {
+          from = actor_of (primary f view);
+          to = row.client;
+          msg = Reply (record {
+            view = serving.sender.view;
+            number = row.number;
+            reply = answer_at book (opening setup) serving.sender.log (length log + 1) row;
+          });
+        }
 
     is_reply : reply_to book (opening setup) (primary f view) serving.sender (length log + 1) ≡ Some reply
     is_reply =
@@ -106,7 +142,16 @@ module _ (setup : Setup) (f : ℕ) (some : 1 ≤ f) (list : LegalList setup f) w
         ∙ (ap (λ (l : List Row). option_map answer_to (slice_get l (length log))) serving.with_row ∙ ap (option_map answer_to) (at_end log row))
       where
         answer_to : Row → Envelope
-        answer_to r = record { from = actor_of (primary f view); to = r.client; msg = Reply (record { view = serving.sender.view; number = r.number; reply = answer_at book (opening setup) serving.sender.log (length log + 1) r }) }
+        answer_to r =
+            record {
+              from = actor_of (primary f view);
+              to = r.client;
+              msg = Reply (record {
+                view = serving.sender.view;
+                number = r.number;
+                reply = answer_at book (opening setup) serving.sender.log (length log + 1) r;
+              });
+            }
 
     pub serves : Serves list view log row
     serves = record {
@@ -115,12 +160,19 @@ module _ (setup : Setup) (f : ℕ) (some : 1 ≤ f) (list : LegalList setup f) w
       run = (first.after, first.leads, rest.run);
       gentle = All-cons IsGentle first.move rest.moves first.gentle rest.gentle;
       working = subst (AreWorking f view (log ++ row ∷ [])) rest.beside.sites serving.working;
-      runs = λ i e. subst (λ (l : List (Site Cmd)). runs_at l i ≡ true) rest.beside.sites (serving.runs i (subst (λ (l : List (Site Cmd)). runs_at l i ≡ true) (sym here.sites) e));
+      runs =
+          λ i e. subst (λ (l : List (Site Cmd)). runs_at l i ≡ true) rest.beside.sites
+          (serving.runs i (subst (λ (l : List (Site Cmd)). runs_at l i ≡ true) (sym here.sites) e));
       reply = reply;
       posted = rest.beside.told (record { from = primary f view; sender = serving.sender; place = length log + 1 }) reply serving.answered is_reply;
       to = refl;
       in_view = serving.sender.view;
-      said = ap (λ (l : List Row). Reply (record { view = serving.sender.view; number = row.number; reply = answer_at book (opening setup) l (length log + 1) row })) serving.with_row;
+      said =
+          ap (λ (l : List Row). Reply (record {
+            view = serving.sender.view;
+            number = row.number;
+            reply = answer_at book (opening setup) l (length log + 1) row;
+          })) serving.with_row;
       post = λ e in'. rest.post e (first.post e in');
       nodes = rest.nodes ∙ first.nodes;
       clients = rest.clients ∙ first.clients;

@@ -70,10 +70,16 @@ module _ (setup : Setup) (f c : ℕ) (x : Node) (noted : AreNoted setup c x) whe
   pays_in : (member amt : ℕ) → has_member setup member ≡ true → is_amount amt ≡ true → AreNoted setup c (paying member amt)
   pays_in member amt known small = record { each = λ k p at. by k p (at-push x.pay_ins (record { member = member; amt = amt }) k p at) }
     where
-      by : (k : ℕ) (p : PayIn) → (slice_get x.pay_ins k ≡ Some p) ⊎ ((k ≡ length x.pay_ins) × (record { member = member; amt = amt } ≡ p)) → HasNotice setup c k p (paying member amt)
+      by : (k : ℕ) (p : PayIn) → (slice_get x.pay_ins k ≡ Some p) ⊎ ((k ≡ length x.pay_ins) × (record { member = member; amt = amt } ≡ p))
+          → HasNotice setup c k p (paying member amt)
       by k p (inl old) =
           let h = noted.each k p old in
-          record { place = h.place; is = at-append x.notices (Fund c (length x.pay_ins + 1) member amt ∷ []) h.place (Fund c (k + 1) p.member p.amt) h.is; member = h.member; amount = h.amount }
+          record {
+            place = h.place;
+            is = at-append x.notices (Fund c (length x.pay_ins + 1) member amt ∷ []) h.place (Fund c (k + 1) p.member p.amt) h.is;
+            member = h.member;
+            amount = h.amount;
+          }
       by k p (inr new) =
           subst (λ (n : ℕ). HasNotice setup c n p (paying member amt)) (sym new.0)
           (subst (λ (q : PayIn). HasNotice setup c (length x.pay_ins) q (paying member amt)) new.1
@@ -134,11 +140,13 @@ module _ (setup : Setup) (choose : Choice Cmd) (f : ℕ) where
   all_on : (bank after : Bank) → after.nodes ≡ bank.nodes → AllNoted setup bank → AllNoted setup after
   all_on bank after same all c x at = all c x (ap (λ (l : List Node). slice_get l c) (sym same) ∙ at)
 
-  by_node : (bank : Bank) (c : ℕ) (event : NodeEvent) (x : Node) (sent : List Envelope) → slice_get bank.nodes c ≡ Some x → AllNoted setup bank → AllNoted setup (with_node bank c (node_step setup f c x event).node sent)
+  by_node : (bank : Bank) (c : ℕ) (event : NodeEvent) (x : Node) (sent : List Envelope) → slice_get bank.nodes c ≡ Some x → AllNoted setup bank
+      → AllNoted setup (with_node bank c (node_step setup f c x event).node sent)
   by_node bank c event x sent at_x all d y at = by (set-at bank.nodes c (node_step setup f c x event).node d y at)
     where
       by : ((c ≡ d) × ((node_step setup f c x event).node ≡ y)) ⊎ (slice_get bank.nodes d ≡ Some y) → AreNoted setup d y
-      by (inl is) = subst (λ (k : ℕ). AreNoted setup k y) is.0 (subst (λ (z : Node). AreNoted setup c z) is.1 (step_keeps setup f c x (all c x at_x) event).keeps)
+      by (inl is) =
+          subst (λ (k : ℕ). AreNoted setup k y) is.0 (subst (λ (z : Node). AreNoted setup c z) is.1 (step_keeps setup f c x (all c x at_x) event).keeps)
       by (inr old) = all d y old
 
   by_acts : (bank after : Bank) → AllNoted setup bank → (t : Turn) → Acts setup choose f bank t after → AllNoted setup after

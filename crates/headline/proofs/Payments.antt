@@ -53,7 +53,8 @@ taken-total n (p ∷ ps) =
     ∙ ap (λ k. p.amt + k) (taken-total (n + 1) ps) ∙ sym (sum_by-cons (λ (q : PayIn). q.amt) p ps)
 
 -- they are numbered from here on
-taken-counts : (n : ℕ) (ps : List PayIn) (number : ℕ) → (count_by (λ (a : Amount). a.number == number) (taken_from n ps) ≤ 1) × (number < n → count_by (λ (a : Amount). a.number == number) (taken_from n ps) ≡ 0)
+taken-counts : (n : ℕ) (ps : List PayIn) (number : ℕ)
+    → (count_by (λ (a : Amount). a.number == number) (taken_from n ps) ≤ 1) × (number < n → count_by (λ (a : Amount). a.number == number) (taken_from n ps) ≡ 0)
 taken-counts n [] number = (omega arith, λ low. refl)
 taken-counts n (p ∷ ps) number = by (n == number) refl (taken-counts (n + 1) ps number)
   where
@@ -61,8 +62,10 @@ taken-counts n (p ∷ ps) number = by (n == number) refl (taken-counts (n + 1) p
     test a = a.number == number
 
     by : (b : Bool) → (n == number) ≡ b
-        → (count_by (λ (a : Amount). a.number == number) (taken_from (n + 1) ps) ≤ 1) × (number < n + 1 → count_by (λ (a : Amount). a.number == number) (taken_from (n + 1) ps) ≡ 0)
-        → (count_by (λ (a : Amount). a.number == number) (taken_from n (p ∷ ps)) ≤ 1) × (number < n → count_by (λ (a : Amount). a.number == number) (taken_from n (p ∷ ps)) ≡ 0)
+        → (count_by (λ (a : Amount). a.number == number) (taken_from (n + 1) ps) ≤ 1)
+        × (number < n + 1 → count_by (λ (a : Amount). a.number == number) (taken_from (n + 1) ps) ≡ 0)
+        → (count_by (λ (a : Amount). a.number == number) (taken_from n (p ∷ ps)) ≤ 1)
+        × (number < n → count_by (λ (a : Amount). a.number == number) (taken_from n (p ∷ ps)) ≡ 0)
     by true is rest =
         let same : n ≡ number = eqb-true n number is in
         let more = count-cons (λ (a : Amount). a.number == number) (paid_in (n, p)) (taken_from (n + 1) ps) in
@@ -79,7 +82,8 @@ pub taken-once : (x : Node) → Once (taken x)
 taken-once x number = (taken-counts 1 x.pay_ins number).0
 
 -- each number is the pay-in's place
-taken-at : (n : ℕ) (ps : List PayIn) (a : Amount) → Contains (taken_from n ps) a → (p : PayIn) × (n ≤ a.number) × (slice_get ps (a.number - n) ≡ Some p) × (p.amt ≡ a.amt)
+taken-at : (n : ℕ) (ps : List PayIn) (a : Amount) → Contains (taken_from n ps) a
+    → (p : PayIn) × (n ≤ a.number) × (slice_get ps (a.number - n) ≡ Some p) × (p.amt ≡ a.amt)
 taken-at n [] a in' = absurd (Contains-none a in')
 taken-at n (q ∷ ps) a in' = by (Contains-cases (paid_in (n, q)) a (taken_from (n + 1) ps) in') (taken-at (n + 1) ps a)
   where
@@ -111,10 +115,12 @@ taken-has n (q ∷ ps) (suc i) p at =
     subst (λ k. Contains (taken_from n (q ∷ ps)) (record { number = k; amt = p.amt })) number
     (Contains-there (paid_in (n, q)) (record { number = n + 1 + i; amt = p.amt }) (taken_from (n + 1) ps) (taken-has (n + 1) ps i p at))
 
-pub taken-in : (x : Node) (a : Amount) (member : ℕ) → 1 ≤ a.number → slice_get x.pay_ins (a.number - 1) ≡ Some (record { member = member; amt = a.amt }) → Contains (taken x) a
+pub taken-in : (x : Node) (a : Amount) (member : ℕ) → 1 ≤ a.number → slice_get x.pay_ins (a.number - 1) ≡ Some (record { member = member; amt = a.amt })
+    → Contains (taken x) a
 taken-in x a member low at =
     let number : 1 + (a.number - 1) ≡ a.number = omega arith in
-    subst (λ k. Contains (taken x) (record { number = k; amt = a.amt })) number (taken-has 1 x.pay_ins (a.number - 1) (record { member = member; amt = a.amt }) at)
+    subst (λ k. Contains (taken x) (record { number = k; amt = a.amt })) number
+    (taken-has 1 x.pay_ins (a.number - 1) (record { member = member; amt = a.amt }) at)
 
 -- WHAT A BOOK CREDITS
 
@@ -128,27 +134,36 @@ credits c entries = filter_map (λ e. credit_of c e.cmd) entries
 credits-parts : (c : ℕ) (cmd : Cmd) (rest : List Amount) (number : ℕ)
     → (total (cons_option (credit_of c cmd) rest) ≡ funded c cmd + total rest)
     × (has (cons_option (credit_of c cmd) rest) number ≡ (is_pay_in c number cmd || has rest number))
-    × (count_by (λ (a : Amount). a.number == number) (cons_option (credit_of c cmd) rest) ≡ bit (is_pay_in c number cmd) + count_by (λ (a : Amount). a.number == number) rest)
+    × (count_by (λ (a : Amount). a.number == number) (cons_option (credit_of c cmd) rest)
+    ≡ bit (is_pay_in c number cmd) + count_by (λ (a : Amount). a.number == number) rest)
 credits-parts c (Fund ccy pay member amt) rest number = by (ccy == c)
   where
     by : (b : Bool)
         → (total (cons_option (if b then Some (record { number = pay; amt = amt }) else None) rest) ≡ (if b then amt else 0) + total rest)
         × (has (cons_option (if b then Some (record { number = pay; amt = amt }) else None) rest) number ≡ ((b && (pay == number)) || has rest number))
-        × (count_by (λ (a : Amount). a.number == number) (cons_option (if b then Some (record { number = pay; amt = amt }) else None) rest) ≡ bit (b && (pay == number)) + count_by (λ (a : Amount). a.number == number) rest)
-    by true = (sum_by-cons (λ (a : Amount). a.amt) (record { number = pay; amt = amt }) rest, refl, count-cons (λ (a : Amount). a.number == number) (record { number = pay; amt = amt }) rest)
+        × (count_by (λ (a : Amount). a.number == number) (cons_option (if b then Some (record { number = pay; amt = amt }) else None) rest)
+        ≡ bit (b && (pay == number)) + count_by (λ (a : Amount). a.number == number) rest)
+    by true = (
+      sum_by-cons (λ (a : Amount). a.amt) (record { number = pay; amt = amt }) rest,
+      refl,
+      count-cons (λ (a : Amount). a.number == number) (record { number = pay; amt = amt }) rest,
+    )
     by false = (omega arith, refl, omega arith)
 credits-parts c _ rest number = (omega arith, refl, omega arith)
 
 pub credits-total : (c : ℕ) (entries : List Entry) → total (credits c entries) ≡ funds entries c
 credits-total c [] = refl
 credits-total c (e ∷ entries) =
-    (credits-parts c e.cmd (credits c entries) 0).0 ∙ ap (λ n. funded c e.cmd + n) (credits-total c entries) ∙ sym (sum_by-cons (λ (d : Entry). funded c d.cmd) e entries)
+    (credits-parts c e.cmd (credits c entries) 0).0 ∙ ap (λ n. funded c e.cmd + n) (credits-total c entries)
+    ∙ sym (sum_by-cons (λ (d : Entry). funded c d.cmd) e entries)
 
 pub credits-has : (c : ℕ) (entries : List Entry) (number : ℕ) → has (credits c entries) number ≡ has_pay_in entries c number
 credits-has c [] number = refl
-credits-has c (e ∷ entries) number = (credits-parts c e.cmd (credits c entries) number).1 ∙ ap (λ b. is_pay_in c number e.cmd || b) (credits-has c entries number)
+credits-has c (e ∷ entries) number =
+    (credits-parts c e.cmd (credits c entries) number).1 ∙ ap (λ b. is_pay_in c number e.cmd || b) (credits-has c entries number)
 
-credits-count : (c : ℕ) (entries : List Entry) (number : ℕ) → count_by (λ (a : Amount). a.number == number) (credits c entries) ≡ count_by (λ (e : Entry). is_pay_in c number e.cmd) entries
+credits-count : (c : ℕ) (entries : List Entry) (number : ℕ)
+    → count_by (λ (a : Amount). a.number == number) (credits c entries) ≡ count_by (λ (e : Entry). is_pay_in c number e.cmd) entries
 credits-count c [] number = refl
 credits-count c (e ∷ entries) number =
     (credits-parts c e.cmd (credits c entries) number).2 ∙ ap (λ n. bit (is_pay_in c number e.cmd) + n) (credits-count c entries number)
@@ -160,14 +175,16 @@ credits-once c entries once number = let h = credits-count c entries number in l
 credit-is : (c : ℕ) (cmd : Cmd) (a : Amount) → credit_of c cmd ≡ Some a → (member : ℕ) × (cmd ≡ Fund c a.number member a.amt)
 credit-is c (Fund ccy pay member amt) a is = by (ccy == c) refl is
   where
-    by : (b : Bool) → (ccy == c) ≡ b → (if b then Some (record { number = pay; amt = amt }) else None) ≡ Some a → (m : ℕ) × (Fund ccy pay member amt ≡ Fund c a.number m a.amt)
+    by : (b : Bool) → (ccy == c) ≡ b → (if b then Some (record { number = pay; amt = amt }) else None) ≡ Some a
+        → (m : ℕ) × (Fund ccy pay member amt ≡ Fund c a.number m a.amt)
     by true same e =
         let one = some-same _ a e in
         (member, ap (λ d. Fund d pay member amt) (eqb-true ccy c same) ∙ ap (λ (z : Amount). Fund c z.number member z.amt) one)
     by false other e = absurd (none-some a e)
 credit-is c _ a is = absurd (none-some a is)
 
-pub credits-are : (c : ℕ) (entries : List Entry) (a : Amount) → Contains (credits c entries) a → (e : Entry) × Contains entries e × ((member : ℕ) × (e.cmd ≡ Fund c a.number member a.amt))
+pub credits-are : (c : ℕ) (entries : List Entry) (a : Amount) → Contains (credits c entries) a
+    → (e : Entry) × Contains entries e × ((member : ℕ) × (e.cmd ≡ Fund c a.number member a.amt))
 credits-are c entries a in' = let t = filter_map-has (λ (e : Entry). credit_of c e.cmd) entries a in' in (t.0, t.1, credit-is c t.0.cmd a t.2)
 
 -- ORDERS, of a book or done by a node
@@ -188,7 +205,8 @@ made-has (o ∷ os) out = ap (λ b. (o.out == out) || b) (made-has os out)
 pub made-count : (os : List PayOrder) (out : ℕ) → count_by (λ (a : Amount). a.number == out) (made os) ≡ count_by (λ (o : PayOrder). o.out == out) os
 made-count [] out = refl
 made-count (o ∷ os) out =
-    count-cons (λ (a : Amount). a.number == out) (ordered o) (made os) ∙ ap (λ n. bit (o.out == out) + n) (made-count os out) ∙ sym (count-cons (λ (p : PayOrder). p.out == out) o os)
+    count-cons (λ (a : Amount). a.number == out) (ordered o) (made os) ∙ ap (λ n. bit (o.out == out) + n) (made-count os out)
+    ∙ sym (count-cons (λ (p : PayOrder). p.out == out) o os)
 
 pub made-are : (os : List PayOrder) (a : Amount) → Contains (made os) a → (o : PayOrder) × Contains os o × (ordered o ≡ a)
 made-are os a in' = map-has ordered os a in'
@@ -202,7 +220,8 @@ made-in (p ∷ os) o in' = by (Contains-cases p o os in') (made-in os o)
     by (inr later) rest = Contains-there (ordered p) (ordered o) (made os) (rest later)
 
 -- numbered orders: the number is the place
-pub numbered-at : (os : List PayOrder) (a n : ℕ) → map (λ (o : PayOrder). o.out) os ≡ range_with_len a n → (i : ℕ) (o : PayOrder) → slice_get os i ≡ Some o → o.out ≡ a + i
+pub numbered-at : (os : List PayOrder) (a n : ℕ) → map (λ (o : PayOrder). o.out) os ≡ range_with_len a n → (i : ℕ) (o : PayOrder) → slice_get os i ≡ Some o
+    → o.out ≡ a + i
 numbered-at [] a n is i o at = absurd (none-some o at)
 numbered-at (p ∷ os) a zero is i o at = absurd (cc)
 numbered-at (p ∷ os) a (suc n) is zero o at =
@@ -249,15 +268,19 @@ order-amount : (setup : Setup) (c client : ℕ) (cmd : Cmd) (reply : Reply) (res
     → sum_by (λ (o : PayOrder). o.amt) (cons_option (order_by c client cmd reply) rest) ≡ paid_out c cmd + sum_by (λ (o : PayOrder). o.amt) rest
 order-amount setup c client (PayOut ccy amt) reply rest says =
     let t = says in
-    subst (λ (r : Reply). sum_by (λ (o : PayOrder). o.amt) (cons_option (order_by c client (PayOut ccy amt) r) rest) ≡ paid_out c (PayOut ccy amt) + sum_by (λ (o : PayOrder). o.amt) rest) (sym t.1)
+    subst (λ (r : Reply). sum_by (λ (o : PayOrder). o.amt) (cons_option (order_by c client (PayOut ccy amt) r) rest)
+    ≡ paid_out c (PayOut ccy amt) + sum_by (λ (o : PayOrder). o.amt) rest) (sym t.1)
     (by (ccy == c) t.0)
   where
-    by : (b : Bool) (out : ℕ) → sum_by (λ (o : PayOrder). o.amt) (cons_option (if b then Some (record { ccy = ccy; out = out; member = client; amt = amt }) else None) rest) ≡ (if b then amt else 0) + sum_by (λ (o : PayOrder). o.amt) rest
+    by : (b : Bool) (out : ℕ)
+        → sum_by (λ (o : PayOrder). o.amt) (cons_option (if b then Some (record { ccy = ccy; out = out; member = client; amt = amt }) else None) rest)
+        ≡ (if b then amt else 0) + sum_by (λ (o : PayOrder). o.amt) rest
     by true out = sum_by-cons (λ (o : PayOrder). o.amt) (record { ccy = ccy; out = out; member = client; amt = amt }) rest
     by false out = omega arith
 order-amount setup c client _ reply rest says = omega arith
 
-pub orders-total : (setup : Setup) (c : ℕ) (entries : List Entry) → ((e : Entry) → Contains entries e → IsAccepted setup e.client e.cmd e.reply) → sum_by (λ (o : PayOrder). o.amt) (orders entries c) ≡ all_paid_out entries c
+pub orders-total : (setup : Setup) (c : ℕ) (entries : List Entry) → ((e : Entry) → Contains entries e → IsAccepted setup e.client e.cmd e.reply)
+    → sum_by (λ (o : PayOrder). o.amt) (orders entries c) ≡ all_paid_out entries c
 orders-total setup c [] all = refl
 orders-total setup c (e ∷ entries) all =
     order-amount setup c e.client e.cmd e.reply (orders entries c) (all e (Contains-here e entries))
@@ -290,10 +313,12 @@ kept-amounts told [] = refl
 kept-amounts told (o ∷ os) =
     let all = sum_by-cons (λ (p : PayOrder). p.amt) o os in
     let back = sum_by-cons (λ (p : PayOrder). if told p.out then p.amt else 0) o os in
-    by (told o.out) (sum_by (λ (p : PayOrder). p.amt) (o ∷ os)) (sum_by (λ (p : PayOrder). if told p.out then p.amt else 0) (o ∷ os)) (kept-amounts told os) all back
+    by (told o.out) (sum_by (λ (p : PayOrder). p.amt) (o ∷ os)) (sum_by (λ (p : PayOrder). if told p.out then p.amt else 0) (o ∷ os))
+    (kept-amounts told os) all back
   where
     by : (b : Bool) (all back : ℕ)
-        → sum_by (λ (p : PayOrder). p.amt) os ≡ sum_by (λ (p : PayOrder). p.amt) (kept_of told os) + sum_by (λ (p : PayOrder). if told p.out then p.amt else 0) os
+        → sum_by (λ (p : PayOrder). p.amt) os ≡ sum_by (λ (p : PayOrder). p.amt) (kept_of told os) + sum_by
+        (λ (p : PayOrder). if told p.out then p.amt else 0) os
         → all ≡ o.amt + sum_by (λ (p : PayOrder). p.amt) os → back ≡ (if b then o.amt else 0) + sum_by (λ (p : PayOrder). if told p.out then p.amt else 0) os
         → all ≡ sum_by (λ (p : PayOrder). p.amt) (if not b then o ∷ kept_of told os else kept_of told os) + back
     by true all back rest whole part = omega arith
@@ -302,9 +327,11 @@ kept-amounts told (o ∷ os) =
 pub kept-total : (setup : Setup) (c : ℕ) (entries : List Entry) → ((e : Entry) → Contains entries e → IsAccepted setup e.client e.cmd e.reply)
     → all_paid_out entries c ≡ total (made (kept c entries)) + all_returned entries c
 kept-total setup c entries all =
-    sym (orders-total setup c entries all) ∙ kept-amounts (has_return entries c) (orders entries c) ∙ ap (λ n. n + all_returned entries c) (sym (made-total (kept c entries)))
+    sym (orders-total setup c entries all) ∙ kept-amounts (has_return entries c) (orders entries c)
+    ∙ ap (λ n. n + all_returned entries c) (sym (made-total (kept c entries)))
 
-kept-count : (told : ℕ → Bool) (os : List PayOrder) (out : ℕ) → count_by (λ (o : PayOrder). o.out == out) (kept_of told os) ≤ count_by (λ (o : PayOrder). o.out == out) os
+kept-count : (told : ℕ → Bool) (os : List PayOrder) (out : ℕ)
+    → count_by (λ (o : PayOrder). o.out == out) (kept_of told os) ≤ count_by (λ (o : PayOrder). o.out == out) os
 kept-count told [] out = omega arith
 kept-count told (o ∷ os) out =
     by (told o.out) (count_by (λ (p : PayOrder). p.out == out) (o ∷ os)) (kept-count told os out) (count-cons (λ (p : PayOrder). p.out == out) o os)
@@ -324,12 +351,15 @@ kept-once c entries once out =
     omega arith
 
 -- a number that is not told is kept
-kept-any : (told : ℕ → Bool) (os : List PayOrder) (out : ℕ) → told out ≡ false → list_any (λ (o : PayOrder). o.out == out) os ≡ list_any (λ (o : PayOrder). o.out == out) (kept_of told os)
+kept-any : (told : ℕ → Bool) (os : List PayOrder) (out : ℕ) → told out ≡ false
+    → list_any (λ (o : PayOrder). o.out == out) os ≡ list_any (λ (o : PayOrder). o.out == out) (kept_of told os)
 kept-any told [] out not_told = refl
 kept-any told (o ∷ os) out not_told = by (o.out == out) refl (told o.out) refl (kept-any told os out not_told)
   where
-    by : (here : Bool) → (o.out == out) ≡ here → (b : Bool) → told o.out ≡ b → list_any (λ (p : PayOrder). p.out == out) os ≡ list_any (λ (p : PayOrder). p.out == out) (kept_of told os)
-        → (here || list_any (λ (p : PayOrder). p.out == out) os) ≡ list_any (λ (p : PayOrder). p.out == out) (if not b then o ∷ kept_of told os else kept_of told os)
+    by : (here : Bool) → (o.out == out) ≡ here → (b : Bool) → told o.out ≡ b
+        → list_any (λ (p : PayOrder). p.out == out) os ≡ list_any (λ (p : PayOrder). p.out == out) (kept_of told os)
+        → (here || list_any (λ (p : PayOrder). p.out == out) os) ≡ list_any (λ (p : PayOrder). p.out == out)
+        (if not b then o ∷ kept_of told os else kept_of told os)
     by true is true e rest = absurd (true≢false (sym e ∙ ap told (eqb-true o.out out is) ∙ not_told))
     by true is false e rest = sym (ap (λ b. b || list_any (λ (p : PayOrder). p.out == out) (kept_of told os)) is)
     by false is true e rest = rest
@@ -338,14 +368,16 @@ kept-any told (o ∷ os) out not_told = by (o.out == out) refl (told o.out) refl
 sum-on : {A : Type 0} (g h : A → ℕ) (xs : List A) → ((x : A) → Contains xs x → g x ≡ h x) → sum_by g xs ≡ sum_by h xs
 sum-on g h [] same = refl
 sum-on g h (x ∷ xs) same =
-    sum_by-cons g x xs ∙ ap (λ n. n + sum_by g xs) (same x (Contains-here x xs)) ∙ ap (λ n. h x + n) (sum-on g h xs (λ y in'. same y (Contains-there x y xs in')))
+    sum_by-cons g x xs ∙ ap (λ n. n + sum_by g xs) (same x (Contains-here x xs)) ∙ ap (λ n. h x + n)
+    (sum-on g h xs (λ y in'. same y (Contains-there x y xs in')))
     ∙ sym (sum_by-cons h x xs)
 
 -- where nothing that is done is returned in the book, what is left out of the kept orders is left out of all
 pub way-kept : (c : ℕ) (x : Node) (entries : List Entry) → ((o : PayOrder) → Contains x.pay_outs o → has_return entries c o.out ≡ false)
     → not_ordered c x entries ≡ total_out (made (kept c entries)) (made x.pay_outs)
 way-kept c x entries none =
-    sum-on (λ (o : PayOrder). if has_order entries c o.out then 0 else o.amt) (λ (o : PayOrder). if has (made (kept c entries)) o.out then 0 else o.amt) x.pay_outs
+    sum-on (λ (o : PayOrder). if has_order entries c o.out then 0 else o.amt)
+    (λ (o : PayOrder). if has (made (kept c entries)) o.out then 0 else o.amt) x.pay_outs
     (λ o in'. ap (λ b. if b then 0 else o.amt) (kept-any (has_return entries c) (orders entries c) o.out (none o in') ∙ sym (made-has (kept c entries) o.out)))
     ∙ sym (sum-map (λ (a : Amount). if has (made (kept c entries)) a.number then 0 else a.amt) ordered x.pay_outs)
 
@@ -356,7 +388,8 @@ kept-sum done told (o ∷ os) =
     sum_by-cons (λ (p : PayOrder). if done p.out || told p.out then 0 else p.amt) o os ∙ by (done o.out) refl (told o.out) (kept-sum done told os)
   where
     by : (d : Bool) → done o.out ≡ d → (b : Bool)
-        → sum_by (λ (p : PayOrder). if done p.out || told p.out then 0 else p.amt) os ≡ sum_by (λ (p : PayOrder). if done p.out then 0 else p.amt) (kept_of told os)
+        → sum_by (λ (p : PayOrder). if done p.out || told p.out then 0 else p.amt) os
+        ≡ sum_by (λ (p : PayOrder). if done p.out then 0 else p.amt) (kept_of told os)
         → (if d || b then 0 else o.amt) + sum_by (λ (p : PayOrder). if done p.out || told p.out then 0 else p.amt) os
         ≡ sum_by (λ (p : PayOrder). if done p.out then 0 else p.amt) (if not b then o ∷ kept_of told os else kept_of told os)
     by true is true rest = omega arith

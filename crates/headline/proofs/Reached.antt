@@ -111,7 +111,8 @@ beat-carries post actor = by (id_of actor)
 pub carries : (post : List Envelope) (step : Step) (t : Turn) → turn post step ≡ Some t → Carries post t
 carries post (Delivers number) t is = by (number == 0) (slice_get post (number - 1)) refl is
   where
-    by : (zero : Bool) (found : Option Envelope) → slice_get post (number - 1) ≡ found → (if zero then None else option_map delivery found) ≡ Some t → Carries post t
+    by : (zero : Bool) (found : Option Envelope) → slice_get post (number - 1) ≡ found → (if zero then None else option_map delivery found) ≡ Some t
+        → Carries post t
     by true found at e = absurd (none-some t e)
     by false None at e = absurd (none-some t e)
     by false (Some d) at e = subst (λ (u : Turn). Carries post u) (some-same (delivery d) t e) (delivery-carries post d (there post (number - 1) d at))
@@ -149,15 +150,20 @@ module _ (setup : Setup) (few : length setup.members ≤ 64) (choose : Choice Cm
   falls-keep moves bank h move cell after (OfNode c event) came a leads = absurd a
   falls-keep moves bank h move cell after (OfClient k event) came a leads = absurd a
 
-  pub move-keeps : (moves : List Move) (bank : Bank) (h : Holds setup choose f cells moves bank) (move : Move) (after : Bank) → Leads setup choose f bank move after → KeptBy h move after
-  move-keeps moves bank h (Takes step) after leads = acts-keep moves bank h (Takes step) after leads.turn_is (carries bank.post step leads.turn_is leads.has_turn) leads.acts leads
-  move-keeps moves bank h (Falls step cell) after leads = falls-keep moves bank h (Falls step cell) cell after leads.turn_is (carries bank.post step leads.turn_is leads.has_turn) leads.falls leads
+  pub move-keeps : (moves : List Move) (bank : Bank) (h : Holds setup choose f cells moves bank) (move : Move) (after : Bank)
+      → Leads setup choose f bank move after → KeptBy h move after
+  move-keeps moves bank h (Takes step) after leads =
+      acts-keep moves bank h (Takes step) after leads.turn_is (carries bank.post step leads.turn_is leads.has_turn) leads.acts leads
+  move-keeps moves bank h (Falls step cell) after leads =
+      falls-keep moves bank h (Falls step cell) cell after leads.turn_is (carries bank.post step leads.turn_is leads.has_turn) leads.falls leads
 
-  pub run-keeps : (moves : List Move) (bank : Bank) (h : Holds setup choose f cells moves bank) (more : List Move) (after : Bank) → IsRun setup choose f bank more after
+  pub run-keeps : (moves : List Move) (bank : Bank) (h : Holds setup choose f cells moves bank) (more : List Move) (after : Bank)
+      → IsRun setup choose f bank more after
       → HoldsOn setup choose f cells h.history h.world (moves ++ more) after
   run-keeps moves bank h [] after run =
       subst (λ (b : Bank). HoldsOn setup choose f cells h.history h.world (moves ++ []) b) (sym run)
-      (subst (λ (ms : List Move). HoldsOn setup choose f cells h.history h.world ms bank) (sym (append-nil moves)) (record { holds = h; longer = begins_itself h.history; more = []; run = refl }))
+      (subst (λ (ms : List Move). HoldsOn setup choose f cells h.history h.world ms bank) (sym (append-nil moves))
+      (record { holds = h; longer = begins_itself h.history; more = []; run = refl }))
   run-keeps moves bank h (move ∷ more) after run =
       let one = move-keeps moves bank h move run.0 run.1 in
       let rest = run-keeps (moves ++ move ∷ []) run.0 one.holds more after run.2 in
@@ -169,5 +175,6 @@ module _ (setup : Setup) (few : length setup.members ≤ 64) (choose : Choice Cm
         run = runs-join choose f h.world one.more rest.more one.holds.world rest.holds.world one.run rest.run;
       })
 
-  pub legal-holds : (moves : List Move) (bank : Bank) → length cells ≡ 2 * f + 1 → IsRun setup choose f (opening_bank setup f cells) moves bank → Holds setup choose f cells moves bank
+  pub legal-holds : (moves : List Move) (bank : Bank) → length cells ≡ 2 * f + 1 → IsRun setup choose f (opening_bank setup f cells) moves bank
+      → Holds setup choose f cells moves bank
   legal-holds moves bank all run = (run-keeps [] (opening_bank setup f cells) (opening-holds setup choose f cells all) moves bank run).holds

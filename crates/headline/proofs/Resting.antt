@@ -53,7 +53,8 @@ pub record AreServed (f view m n : ℕ) (log : List Row) (before after : Bank) :
   pub nodes : after.nodes ≡ before.nodes
 
 module _ (setup : Setup) (f : ℕ) (some : 1 ≤ f) (view : ℕ) where
-  pub serve_clients : (n m : ℕ) (list : LegalList setup f) (log : List Row) → AreWorking f view log list.bank.sites → length list.bank.clients ≤ m + n → length log + n ≤ MAX_ROWS → Comes list (AreServed f view m n log list.bank)
+  pub serve_clients : (n m : ℕ) (list : LegalList setup f) (log : List Row) → AreWorking f view log list.bank.sites → length list.bank.clients ≤ m + n
+      → length log + n ≤ MAX_ROWS → Comes list (AreServed f view m n log list.bank)
   serve_clients zero m list log are all room = stays list (AreServed f view m 0 log list.bank) (record {
     more = log;
     grows = omega arith;
@@ -66,7 +67,8 @@ module _ (setup : Setup) (f : ℕ) (some : 1 ≤ f) (view : ℕ) where
   serve_clients (suc n) m list log are all room = by_place (cases_lt m (length list.bank.clients)) (λ l lg a h r. serve_clients n (m + 1) l lg a h r)
     where
       by_waiting : (x : Client) → slice_get list.bank.clients m ≡ Some x → (waiting : Option Cmd) → x.waiting ≡ waiting
-          → ((l : LegalList setup f) (lg : List Row) → AreWorking f view lg l.bank.sites → length l.bank.clients ≤ (m + 1) + n → length lg + n ≤ MAX_ROWS → Comes l (AreServed f view (m + 1) n lg l.bank))
+          → ((l : LegalList setup f) (lg : List Row) → AreWorking f view lg l.bank.sites → length l.bank.clients ≤ (m + 1) + n → length lg + n ≤ MAX_ROWS
+          → Comes l (AreServed f view (m + 1) n lg l.bank))
           → Comes list (AreServed f view m (suc n) log list.bank)
       by_waiting x at None idle rest =
           let r = rest list log are (omega arith) (omega arith) in
@@ -86,7 +88,8 @@ module _ (setup : Setup) (f : ℕ) (some : 1 ≤ f) (view : ℕ) where
             };
           }
         where
-          by_k : (after : Bank) → AreServed f view (m + 1) n log list.bank after → (k : ℕ) (u y : Client) → m ≤ k → slice_get list.bank.clients k ≡ Some u → slice_get after.clients k ≡ Some y → (k ≡ m) ⊎ (k ≡ m → ⊥) → IsServed u y
+          by_k : (after : Bank) → AreServed f view (m + 1) n log list.bank after → (k : ℕ) (u y : Client) → m ≤ k → slice_get list.bank.clients k ≡ Some u
+              → slice_get after.clients k ≡ Some y → (k ≡ m) ⊎ (k ≡ m → ⊥) → IsServed u y
           by_k after h k u y high at_u at_y (inr other) = h.served k u y (omega arith) at_u at_y
           by_k after h k u y high at_u at_y (inl is) =
               let same : y ≡ u = some-same y u (sym at_y ∙ (h.first k (omega arith) ∙ at_u)) in
@@ -100,7 +103,9 @@ module _ (setup : Setup) (f : ℕ) (some : 1 ≤ f) (view : ℕ) where
               }
       by_waiting x at (Some cmd) waiting rest =
           let one = client_served setup f some list view log are (omega arith) m x cmd at waiting in
-          let r = rest (longer list one.moves one.after one.run) one.holds.more one.holds.working (long one.after one.holds) (let g = one.holds.grows in omega arith) in
+          let r =
+          rest (longer list one.moves one.after one.run) one.holds.more one.holds.working (long one.after one.holds) (let g = one.holds.grows in
+          omega arith) in
           comes_then list (IsIdle f view m log x list.bank) (AreServed f view m (suc n) log list.bank) one
           (record { moves = r.moves; after = r.after; run = r.run; gentle = r.gentle; holds = after_one one.after r.after one.holds r.holds })
         where
@@ -115,7 +120,8 @@ module _ (setup : Setup) (f : ℕ) (some : 1 ≤ f) (view : ℕ) where
                   let at' = sym (h.others (m + 1 + n) (λ e. (let d = e in omega arith))) ∙ t.1 in
                   absurd (let low = slice_get_within list.bank.clients (m + 1 + n) t.0 at' in omega arith)
 
-          after_one : (middle end : Bank) (h : IsIdle f view m log x list.bank middle) → AreServed f view (m + 1) n h.more middle end → AreServed f view m (suc n) log list.bank end
+          after_one : (middle end : Bank) (h : IsIdle f view m log x list.bank middle) → AreServed f view (m + 1) n h.more middle end
+              → AreServed f view m (suc n) log list.bank end
           after_one middle end h r = record {
             more = r.more;
             grows = let g = r.grows in let i = h.grows in omega arith;
@@ -126,12 +132,15 @@ module _ (setup : Setup) (f : ℕ) (some : 1 ≤ f) (view : ℕ) where
             nodes = r.nodes ∙ h.nodes;
           }
             where
-              by_k : (k : ℕ) (u y : Client) → m ≤ k → slice_get list.bank.clients k ≡ Some u → slice_get end.clients k ≡ Some y → (k ≡ m) ⊎ (k ≡ m → ⊥) → IsServed u y
+              by_k : (k : ℕ) (u y : Client) → m ≤ k → slice_get list.bank.clients k ≡ Some u → slice_get end.clients k ≡ Some y → (k ≡ m) ⊎ (k ≡ m → ⊥)
+                  → IsServed u y
               by_k k u y high at_u at_y (inr other) = r.served k u y (omega arith) (h.others k other ∙ at_u) at_y
               by_k k u y high at_u at_y (inl is) =
                   let is_x : x ≡ u = some-same x u (sym at ∙ (ap (λ (j : ℕ). slice_get list.bank.clients j) (sym is) ∙ at_u)) in
-                  let now : record { number = x.number; waiting = None; answer = Some h.answer } ≡ y = some-same _ y (sym h.here ∙ (ap (λ (j : ℕ). slice_get middle.clients j) (sym is) ∙ (sym (r.first k (omega arith)) ∙ at_y))) in
-                  subst (λ (c : Client). IsServed u c) now (subst (λ (c : Client). IsServed c (record { number = x.number; waiting = None; answer = Some h.answer })) is_x (record {
+                  let now : record { number = x.number; waiting = None; answer = Some h.answer } ≡ y =
+                  some-same _ y (sym h.here ∙ (ap (λ (j : ℕ). slice_get middle.clients j) (sym is) ∙ (sym (r.first k (omega arith)) ∙ at_y))) in
+                  subst (λ (c : Client). IsServed u c) now
+                  (subst (λ (c : Client). IsServed c (record { number = x.number; waiting = None; answer = Some h.answer })) is_x (record {
                     still = λ none. absurd (none-some cmd (sym none ∙ waiting));
                     same = refl;
                     idle = refl;
@@ -139,7 +148,8 @@ module _ (setup : Setup) (f : ℕ) (some : 1 ≤ f) (view : ℕ) where
                   }))
 
       by_place : (m < length list.bank.clients) ⊎ (length list.bank.clients ≤ m)
-          → ((l : LegalList setup f) (lg : List Row) → AreWorking f view lg l.bank.sites → length l.bank.clients ≤ (m + 1) + n → length lg + n ≤ MAX_ROWS → Comes l (AreServed f view (m + 1) n lg l.bank))
+          → ((l : LegalList setup f) (lg : List Row) → AreWorking f view lg l.bank.sites → length l.bank.clients ≤ (m + 1) + n → length lg + n ≤ MAX_ROWS
+          → Comes l (AreServed f view (m + 1) n lg l.bank))
           → Comes list (AreServed f view m (suc n) log list.bank)
       by_place (inl low) rest = let t = there_is list.bank.clients m low in by_waiting t.0 t.1 t.0.waiting refl rest
       by_place (inr high) rest = stays list (AreServed f view m (suc n) log list.bank) (record {
@@ -204,7 +214,8 @@ pub record IsCaughtUp (setup : Setup) (f view c n : ℕ) (log : List Row) (x : N
   pub clients : after.clients ≡ before.clients
 
 module _ (setup : Setup) (f : ℕ) (some : 1 ≤ f) (view : ℕ) where
-  catch_up : (n c : ℕ) (list : LegalList setup f) (log : List Row) (x : Node) → AreWorking f view log list.bank.sites → slice_get list.bank.nodes c ≡ Some x → x.answered + n ≤ length x.notices → length log + n ≤ MAX_ROWS
+  catch_up : (n c : ℕ) (list : LegalList setup f) (log : List Row) (x : Node) → AreWorking f view log list.bank.sites → slice_get list.bank.nodes c ≡ Some x
+      → x.answered + n ≤ length x.notices → length log + n ≤ MAX_ROWS
       → Comes list (IsCaughtUp setup f view c n log x list.bank)
   catch_up zero c list log x are at fits room = stays list (IsCaughtUp setup f view c 0 log x list.bank) (record {
     more = log;
@@ -219,7 +230,9 @@ module _ (setup : Setup) (f : ℕ) (some : 1 ≤ f) (view : ℕ) where
   catch_up (suc n) c list log x are at fits room =
       let t = there_is x.notices x.answered (omega arith) in
       let one = notice_served setup f some list view log are (omega arith) c x t.0 at t.1 in
-      let r = catch_up n c (longer list one.moves one.after one.run) one.holds.more (record x { answered = x.answered + 1 }) one.holds.working one.holds.here (omega arith) (let g = one.holds.grows in omega arith) in
+      let r =
+      catch_up n c (longer list one.moves one.after one.run) one.holds.more (record x { answered = x.answered + 1 }) one.holds.working one.holds.here
+      (omega arith) (let g = one.holds.grows in omega arith) in
       comes_then list (IsTold f view c log x list.bank) (IsCaughtUp setup f view c (suc n) log x list.bank) one
       (record {
         moves = r.moves;
@@ -241,9 +254,13 @@ module _ (setup : Setup) (f : ℕ) (some : 1 ≤ f) (view : ℕ) where
       same_pay_outs : (after : Bank) (t : IsTold f view c log x list.bank after) → pay_outs_in (book_of setup t.more) ≡ pay_outs_in (book_of setup log)
       same_pay_outs after t = by t.rows
         where
-          by : ((t.more ≡ log) × (newest log (node_of c) ≡ x.answered + 1)) ⊎ (t.more ≡ log ++ record { client = node_of c; number = x.answered + 1; cmd = t.notice } ∷ []) → pay_outs_in (book_of setup t.more) ≡ pay_outs_in (book_of setup log)
+          by : ((t.more ≡ log) × (newest log (node_of c) ≡ x.answered + 1))
+              ⊎ (t.more ≡ log ++ record { client = node_of c; number = x.answered + 1; cmd = t.notice } ∷ [])
+              → pay_outs_in (book_of setup t.more) ≡ pay_outs_in (book_of setup log)
           by (inl old) = ap (λ (l : List Row). pay_outs_in (book_of setup l)) old.0
-          by (inr new) = ap (λ (l : List Row). pay_outs_in (book_of setup l)) new ∙ node_makes_none setup log (record { client = node_of c; number = x.answered + 1; cmd = t.notice }) c refl
+          by (inr new) =
+              ap (λ (l : List Row). pay_outs_in (book_of setup l)) new ∙ node_makes_none setup log
+              (record { client = node_of c; number = x.answered + 1; cmd = t.notice }) c refl
 
   -- the nodes from the m-th on are heard
   record AreHeard (m n : ℕ) (log : List Row) (before after : Bank) : Type 0 where
@@ -256,7 +273,8 @@ module _ (setup : Setup) (f : ℕ) (some : 1 ≤ f) (view : ℕ) where
     first : (c : ℕ) → c < m → slice_get after.nodes c ≡ slice_get before.nodes c
     clients : after.clients ≡ before.clients
 
-  hear_nodes : (n m : ℕ) (list : LegalList setup f) (log : List Row) → AreWorking f view log list.bank.sites → length list.bank.nodes ≤ m + n → length log + left_from list.bank.nodes m n ≤ MAX_ROWS → Comes list (AreHeard m n log list.bank)
+  hear_nodes : (n m : ℕ) (list : LegalList setup f) (log : List Row) → AreWorking f view log list.bank.sites → length list.bank.nodes ≤ m + n
+      → length log + left_from list.bank.nodes m n ≤ MAX_ROWS → Comes list (AreHeard m n log list.bank)
   unfolding left_from
   hear_nodes zero m list log are all room = stays list (AreHeard m 0 log list.bank) (record {
     more = log;
@@ -271,13 +289,17 @@ module _ (setup : Setup) (f : ℕ) (some : 1 ≤ f) (view : ℕ) where
   hear_nodes (suc n) m list log are all room = by_place (cases_lt m (length list.bank.nodes)) (λ l lg a h r. hear_nodes n (m + 1) l lg a h r)
     where
       go_on : (x : Node) → slice_get list.bank.nodes m ≡ Some x → (x.answered ≤ length x.notices) ⊎ (length x.notices < x.answered)
-          → ((l : LegalList setup f) (lg : List Row) → AreWorking f view lg l.bank.sites → length l.bank.nodes ≤ (m + 1) + n → length lg + left_from l.bank.nodes (m + 1) n ≤ MAX_ROWS → Comes l (AreHeard (m + 1) n lg l.bank))
+          → ((l : LegalList setup f) (lg : List Row) → AreWorking f view lg l.bank.sites → length l.bank.nodes ≤ (m + 1) + n
+          → length lg + left_from l.bank.nodes (m + 1) n ≤ MAX_ROWS → Comes l (AreHeard (m + 1) n lg l.bank))
           → Comes list (AreHeard m (suc n) log list.bank)
       go_on x at fits rest =
-          let left : left_at list.bank.nodes m ≡ length x.notices - x.answered = ap (λ (o : Option Node). option_map_or (λ (x : Node). length x.notices - x.answered) o 0) at in
+          let left : left_at list.bank.nodes m ≡ length x.notices - x.answered =
+          ap (λ (o : Option Node). option_map_or (λ (x : Node). length x.notices - x.answered) o 0) at in
           let one = catch_up (length x.notices - x.answered) m list log x are at (reach fits) (omega arith) in
           let same = left_same one.after.nodes list.bank.nodes (m + 1) n (λ c low. one.holds.others c (λ e. (let d = e in omega arith))) in
-          let r = rest (longer list one.moves one.after one.run) one.holds.more one.holds.working (long one.after one.holds) (let g = one.holds.grows in omega arith) in
+          let r =
+          rest (longer list one.moves one.after one.run) one.holds.more one.holds.working (long one.after one.holds) (let g = one.holds.grows in
+          omega arith) in
           comes_then list (IsCaughtUp setup f view m (length x.notices - x.answered) log x list.bank) (AreHeard m (suc n) log list.bank) one
           (record {
             moves = r.moves;
@@ -310,21 +332,26 @@ module _ (setup : Setup) (f : ℕ) (some : 1 ≤ f) (view : ℕ) where
                   let at' = sym (h.others (m + 1 + n) (λ e. (let d = e in omega arith))) ∙ t.1 in
                   absurd (let low = slice_get_within list.bank.nodes (m + 1 + n) t.0 at' in omega arith)
 
-          by_c : (middle end : Bank) (h : IsCaughtUp setup f view m (length x.notices - x.answered) log x list.bank middle) → AreHeard (m + 1) n h.more middle end
-              → (c : ℕ) (u y : Node) → m ≤ c → slice_get list.bank.nodes c ≡ Some u → slice_get end.nodes c ≡ Some y → u.answered ≤ length u.notices → (c ≡ m) ⊎ (c ≡ m → ⊥) → IsHeard u y
+          by_c : (middle end : Bank) (h : IsCaughtUp setup f view m (length x.notices - x.answered) log x list.bank middle)
+              → AreHeard (m + 1) n h.more middle end
+              → (c : ℕ) (u y : Node) → m ≤ c → slice_get list.bank.nodes c ≡ Some u → slice_get end.nodes c ≡ Some y → u.answered ≤ length u.notices
+              → (c ≡ m) ⊎ (c ≡ m → ⊥) → IsHeard u y
           by_c middle end h r c u y high at_u at_y ok (inr other) = r.heard c u y (omega arith) (h.others c other ∙ at_u) at_y ok
           by_c middle end h r c u y high at_u at_y ok (inl is) =
               let is_x : x ≡ u = some-same x u (sym at ∙ (ap (λ (j : ℕ). slice_get list.bank.nodes j) (sym is) ∙ at_u)) in
               let low : x.answered ≤ length x.notices = subst (λ (k : Node). k.answered ≤ length k.notices) (sym is_x) ok in
-              let now : record x { answered = x.answered + (length x.notices - x.answered) } ≡ y = some-same _ y (sym h.here ∙ (ap (λ (j : ℕ). slice_get middle.nodes j) (sym is) ∙ (sym (r.first c (omega arith)) ∙ at_y))) in
-              subst (λ (k : Node). IsHeard u k) now (subst (λ (k : Node). IsHeard k (record x { answered = x.answered + (length x.notices - x.answered) })) is_x (record {
+              let now : record x { answered = x.answered + (length x.notices - x.answered) } ≡ y =
+              some-same _ y (sym h.here ∙ (ap (λ (j : ℕ). slice_get middle.nodes j) (sym is) ∙ (sym (r.first c (omega arith)) ∙ at_y))) in
+              subst (λ (k : Node). IsHeard u k) now
+              (subst (λ (k : Node). IsHeard k (record x { answered = x.answered + (length x.notices - x.answered) })) is_x (record {
                 same = refl;
                 all = omega arith;
                 books = (refl, refl, refl);
               }))
 
       by_place : (m < length list.bank.nodes) ⊎ (length list.bank.nodes ≤ m)
-          → ((l : LegalList setup f) (lg : List Row) → AreWorking f view lg l.bank.sites → length l.bank.nodes ≤ (m + 1) + n → length lg + left_from l.bank.nodes (m + 1) n ≤ MAX_ROWS → Comes l (AreHeard (m + 1) n lg l.bank))
+          → ((l : LegalList setup f) (lg : List Row) → AreWorking f view lg l.bank.sites → length l.bank.nodes ≤ (m + 1) + n
+          → length lg + left_from l.bank.nodes (m + 1) n ≤ MAX_ROWS → Comes l (AreHeard (m + 1) n lg l.bank))
           → Comes list (AreHeard m (suc n) log list.bank)
       by_place (inl low) rest = let t = there_is list.bank.nodes m low in go_on t.0 t.1 (le_or t.0.answered (length t.0.notices)) rest
       by_place (inr high) rest = stays list (AreHeard m (suc n) log list.bank) (record {
@@ -344,13 +371,19 @@ module _ (setup : Setup) (f : ℕ) (some : 1 ≤ f) (view : ℕ) where
     pub pay_outs : pay_outs_in (book_of setup rests.log) ≤ length log + length list.bank.clients
     pub grows : length rests.log ≤ length log + length list.bank.clients + unanswered list.bank
 
-  pub rests_with : (list : LegalList setup f) (log : List Row) → AreWorking f view log list.bank.sites → length log + length list.bank.clients + unanswered list.bank ≤ MAX_ROWS → RestsWith list log
+  pub rests_with : (list : LegalList setup f) (log : List Row) → AreWorking f view log list.bank.sites
+      → length log + length list.bank.clients + unanswered list.bank ≤ MAX_ROWS → RestsWith list log
   rests_with list log are room =
       let one = serve_clients setup f some view (length list.bank.clients) 0 list log are (omega arith) (omega arith) in
-      let same : unanswered list.bank ≡ unanswered one.after = ap (λ (l : List Node). sum_by (λ (n : Node). length n.notices - n.answered) l) (sym one.holds.nodes) in
+      let same : unanswered list.bank ≡ unanswered one.after =
+      ap (λ (l : List Node). sum_by (λ (n : Node). length n.notices - n.answered) l) (sym one.holds.nodes) in
       let left = left_sum one.after.nodes in
-      let two = hear_nodes (length one.after.nodes) 0 (longer list one.moves one.after one.run) one.holds.more one.holds.working (omega arith) (let g = one.holds.grows in omega arith) in
-      let both = comes_then list (AreServed f view 0 (length list.bank.clients) log list.bank) (λ b. AreHeard 0 (length one.after.nodes) one.holds.more one.after b) one two in
+      let two =
+      hear_nodes (length one.after.nodes) 0 (longer list one.moves one.after one.run) one.holds.more one.holds.working (omega arith)
+      (let g = one.holds.grows in omega arith) in
+      let both =
+      comes_then list (AreServed f view 0 (length list.bank.clients) log list.bank)
+      (λ b. AreHeard 0 (length one.after.nodes) one.holds.more one.after b) one two in
       record {
         pay_outs = let a = few_pay_outs setup one.holds.more in let b = both.holds.pay_outs in let g = one.holds.grows in omega arith;
         grows = let a = both.holds.grows in let g = one.holds.grows in omega arith;
@@ -363,9 +396,12 @@ module _ (setup : Setup) (f : ℕ) (some : 1 ≤ f) (view : ℕ) where
           working = both.holds.working;
           runs = λ i e. both.holds.runs i (one.holds.runs i e);
           clients = λ k x y at at'. one.holds.served k x y (omega arith) at (ap (λ (l : List Client). slice_get l k) (sym both.holds.clients) ∙ at');
-          nodes = λ c x y at at'. both.holds.heard c x y (omega arith) (ap (λ (l : List Node). slice_get l c) one.holds.nodes ∙ at) at' ((due_here setup f some list).heard c x at);
+          nodes =
+              λ c x y at at'. both.holds.heard c x y (omega arith) (ap (λ (l : List Node). slice_get l c) one.holds.nodes ∙ at) at'
+              ((due_here setup f some list).heard c x at);
         };
       }
 
-  pub rests : (list : LegalList setup f) (log : List Row) → AreWorking f view log list.bank.sites → length log + length list.bank.clients + unanswered list.bank ≤ MAX_ROWS → Rests list view
+  pub rests : (list : LegalList setup f) (log : List Row) → AreWorking f view log list.bank.sites
+      → length log + length list.bank.clients + unanswered list.bank ≤ MAX_ROWS → Rests list view
   rests list log are room = (rests_with list log are room).rests

@@ -93,7 +93,8 @@ module _ (setup : Setup) (f : ℕ) (some : 1 ≤ f) (list : LegalList setup f) (
   pub primary_here : HasPrimary
   primary_here = by (slice_get list.bank.sites (primary f view)) refl are.leads
     where
-      by : (found : Option (Site Cmd)) → slice_get list.bank.sites (primary f view) ≡ found → option_map_or (λ (x : Site Cmd). is_running x.status) found false ≡ true → HasPrimary
+      by : (found : Option (Site Cmd)) → slice_get list.bank.sites (primary f view) ≡ found
+          → option_map_or (λ (x : Site Cmd). is_running x.status) found false ≡ true → HasPrimary
       by None at e = absurd (true≢false (sym e))
       by (Some x) at e = record { site = x; at = at; works = are.each x (there list.bank.sites (primary f view) x at) e }
 
@@ -110,7 +111,9 @@ module _ (setup : Setup) (f : ℕ) (some : 1 ≤ f) (list : LegalList setup f) (
       fresh = record { client = 0; number = newest log 0 + other.number + 1; cmd = other.cmd }
 
       serving : Serves list.choose f h.world view log fresh
-      serving = alone.served f some (record { choose = list.choose; right = list.right; cells = list.cells; events = h.events; world = h.world; legal = h.alone }) view log fresh
+      serving =
+          alone.served f some (record { choose = list.choose; right = list.right; cells = list.cells; events = h.events; world = h.world; legal = h.alone })
+          view log fresh
           (subst (AreWorking f view log) (sym h.sites) are) (record { client = refl; above = omega arith; room = room })
 
       record Executes : Type 0 where
@@ -121,15 +124,18 @@ module _ (setup : Setup) (f : ℕ) (some : 1 ≤ f) (list : LegalList setup f) (
       executes : Executes
       executes = by (slice_get serving.served.sites (primary f view)) refl serving.working.leads
         where
-          by : (found : Option (Site Cmd)) → slice_get serving.served.sites (primary f view) ≡ found → option_map_or (λ (x : Site Cmd). is_running x.status) found false ≡ true → Executes
+          by : (found : Option (Site Cmd)) → slice_get serving.served.sites (primary f view) ≡ found
+              → option_map_or (λ (x : Site Cmd). is_running x.status) found false ≡ true → Executes
           by None at e = absurd (true≢false (sym e))
           by (Some x) at e =
               let in' = there serving.served.sites (primary f view) x at in
               record { site = x; among = in'; rows = works_rows view (log ++ fresh ∷ []) x (serving.working.each x in' e) }
 
       not_beyond : ⊥
-      not_beyond = by (h.one (step_of (primary f view) (Deliver (request_of (actor_of (primary f view)) fresh)) ∷ serving.goes.events) serving.served executes.site
-          (runs-join list.choose f h.world (step_of (primary f view) (Deliver (request_of (actor_of (primary f view)) fresh)) ∷ []) serving.goes.events serving.asked serving.served serving.asks serving.goes.run) executes.among)
+      not_beyond =
+          by (h.one (step_of (primary f view) (Deliver (request_of (actor_of (primary f view)) fresh)) ∷ serving.goes.events) serving.served executes.site
+          (runs-join list.choose f h.world (step_of (primary f view) (Deliver (request_of (actor_of (primary f view)) fresh)) ∷ []) serving.goes.events
+          serving.asked serving.served serving.asks serving.goes.run) executes.among)
         where
           new_at : slice_get (executed_rows executes.site) (length log) ≡ Some fresh
           new_at = ap (λ (l : List Row). slice_get l (length log)) executes.rows ∙ at-end log fresh
@@ -138,8 +144,14 @@ module _ (setup : Setup) (f : ℕ) (some : 1 ≤ f) (list : LegalList setup f) (
           same e = let n : other.number ≡ newest log 0 + other.number + 1 = ap (λ (r : Row). r.number) e in omega arith
 
           by : Begins (executed_rows executes.site) h.history ⊎ Begins h.history (executed_rows executes.site) → ⊥
-          by (inl b) = same (some-same other fresh (sym beyond ∙ (ap (λ (l : List Row). slice_get l (length log)) (sym b.is) ∙ at-append (executed_rows executes.site) b.rest (length log) fresh new_at)))
-          by (inr b) = same (some-same other fresh (sym (at-append h.history b.rest (length log) other beyond) ∙ (ap (λ (l : List Row). slice_get l (length log)) b.is ∙ new_at)))
+          by (inl b) =
+              same
+              (some-same other fresh
+              (sym beyond ∙ (ap (λ (l : List Row). slice_get l (length log)) (sym b.is) ∙ at-append (executed_rows executes.site) b.rest
+              (length log) fresh new_at)))
+          by (inr b) =
+              same (some-same other fresh (sym (at-append h.history b.rest (length log) other beyond)
+              ∙ (ap (λ (l : List Row). slice_get l (length log)) b.is ∙ new_at)))
 
     pub whole : (h : Holds setup list.choose f list.cells list.moves list.bank) → Begins h.history log
     whole h = by (cases_lt (length log) (length h.history))
@@ -154,7 +166,8 @@ module _ (setup : Setup) (f : ℕ) (some : 1 ≤ f) (list : LegalList setup f) (
         by (inr short) = record { rest = []; is = append-nil h.history ∙ sym (begins_whole (log_begins h) short) }
 
     -- so is what any moment's history was
-    pub once_whole : (m : Moment setup list.choose f list.cells list.moves list.bank) (h : Holds setup list.choose f list.cells m.before m.then) → Begins h.history log
+    pub once_whole : (m : Moment setup list.choose f list.cells list.moves list.bank) (h : Holds setup list.choose f list.cells m.before m.then)
+        → Begins h.history log
     once_whole m h =
         let on = run-keeps setup (valid-members setup list.valid).1 list.choose f list.right list.cells m.before m.then h m.after list.bank m.rest in
         by (m.before ++ m.after) m.parts on.holds on.longer
@@ -176,7 +189,9 @@ module _ (setup : Setup) (f : ℕ) (some : 1 ≤ f) (list : LegalList setup f) (
     pub heard_row : (c number : ℕ) → WasHeard list.bank c number → HasRow c number
     heard_row c number w = record {
       row = by.row;
-      among = subst (λ (l : List Row). Contains l by.row) all.is (Contains-append_left (executed_rows by.site) all.rest by.row (there (executed_rows by.site) (by.place - 1) by.row by.executed));
+      among =
+          subst (λ (l : List Row). Contains l by.row) all.is
+          (Contains-append_left (executed_rows by.site) all.rest by.row (there (executed_rows by.site) (by.place - 1) by.row by.executed));
       client = by.client ∙ w.to;
       number_is = by.named ∙ w.number_is;
     }
@@ -188,7 +203,8 @@ module _ (setup : Setup) (f : ℕ) (some : 1 ≤ f) (list : LegalList setup f) (
         by = told.answered list.right here w.envelope w.said (record { posted = w.posted; is = w.msg })
 
         then_holds : Holds setup list.choose f list.cells moment.before moment.then
-        then_holds = legal-holds setup (valid-members setup list.valid).1 list.choose f list.right list.cells moment.before moment.then moment.legal.all moment.legal.run
+        then_holds =
+            legal-holds setup (valid-members setup list.valid).1 list.choose f list.right list.cells moment.before moment.then moment.legal.all moment.legal.run
 
         all : Begins (executed_rows by.site) log
         all = begins-trans (then_holds.begins by.site (there moment.then.sites by.sender by.site by.is_there)) (once_whole moment then_holds)
@@ -201,4 +217,6 @@ module _ (setup : Setup) (f : ℕ) (some : 1 ≤ f) (list : LegalList setup f) (
         omega arith
       where
         has : (k : ℕ) → HasRow c (k + 1) → Contains (map (λ (r : Row). r.number - 1) log) k
-        has k r = subst (λ (m : ℕ). Contains (map (λ (q : Row). q.number - 1) log) m) (let e = r.number_is in omega arith) (map-in (λ (q : Row). q.number - 1) log r.row r.among)
+        has k r =
+            subst (λ (m : ℕ). Contains (map (λ (q : Row). q.number - 1) log) m) (let e = r.number_is in
+            omega arith) (map-in (λ (q : Row). q.number - 1) log r.row r.among)

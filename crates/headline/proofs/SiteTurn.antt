@@ -112,7 +112,8 @@ New e sent due =
     ⊎ ((said : ReplyOf Answer) × (e.msg ≡ Reply said))
     ⊎ ((d : ℕ × PaymentOrder) × Contains due d × (e.msg ≡ PayOrder d.1))
 
-module _ (setup : Setup) (choose : Choice Cmd) (f : ℕ) (cells : List Boot) (right : IsRight f choose) (moves : List Move) (bank : Bank) (h : Holds setup choose f cells moves bank) (move : Move) where
+module _ (setup : Setup) (choose : Choice Cmd) (f : ℕ) (cells : List Boot) (right : IsRight f choose) (moves : List Move) (bank : Bank)
+    (h : Holds setup choose f cells moves bank) (move : Move) where
   module _ (i : ℕ) (event : EventOf Cmd Answer PaymentOrder) (x : Site Cmd) (is_there : slice_get bank.sites i ≡ Some x)
       (allowed : is_refused (site_step {R = Answer} {O = PaymentOrder} choose f i x event).ending ≡ false)
       (arrived : (e : Envelope) → event ≡ Deliver e → Contains bank.post e) where
@@ -138,8 +139,11 @@ module _ (setup : Setup) (choose : Choice Cmd) (f : ℕ) (cells : List Boot) (ri
     may : MayHappen h.world.sent event
     may = by event arrived allowed
       where
-        by : (v : EventOf Cmd Answer PaymentOrder) → ((e : Envelope) → v ≡ Deliver e → Contains bank.post e) → is_refused (site_step {R = Answer} {O = PaymentOrder} choose f i x v).ending ≡ false → MayHappen h.world.sent v
-        by (Deliver e) came ok = by_kind (taken-kind f i e.from e.msg (and_right (e.to == actor_of i) (may_send f i e.from e.msg) (not-refused x (is_down x.status) (is_mine f i e) (on_event choose f i x (Deliver e)) ok)))
+        by : (v : EventOf Cmd Answer PaymentOrder) → ((e : Envelope) → v ≡ Deliver e → Contains bank.post e)
+            → is_refused (site_step {R = Answer} {O = PaymentOrder} choose f i x v).ending ≡ false → MayHappen h.world.sent v
+        by (Deliver e) came ok =
+            by_kind (taken-kind f i e.from e.msg (and_right (e.to == actor_of i) (may_send f i e.from e.msg)
+            (not-refused x (is_down x.status) (is_mine f i e) (on_event choose f i x (Deliver e)) ok)))
           where
             by_kind : (is_request e.msg ≡ true) ⊎ (is_between e.msg ≡ true) → (is_request e.msg ≡ true) ⊎ Contains h.world.sent e
             by_kind (inl request) = inl request
@@ -170,7 +174,8 @@ module _ (setup : Setup) (choose : Choice Cmd) (f : ℕ) (cells : List Boot) (ri
     rows_asked : (row : Row) → Contains (executed_rows step.site) row → AsksAs bank.nodes row.client row.number row.cmd
     rows_asked row in' =
         let kept = (legal_rows choose f right cells (h.events ++ happening ∷ []) next alone_too).sites step.site is_next in
-        let was : WasAsked (h.events ++ happening ∷ []) row = All-contains (WasAsked (h.events ++ happening ∷ [])) step.site.log row kept.log (executed-has step.site row in') in
+        let was : WasAsked (h.events ++ happening ∷ []) row =
+        All-contains (WasAsked (h.events ++ happening ∷ [])) step.site.log row kept.log (executed-has step.site row in') in
         asked_too was.site (request_of was.to row) was.taken (record { number = row.number; cmd = row.cmd }) refl
 
     -- THE HISTORY after the step
@@ -211,8 +216,11 @@ module _ (setup : Setup) (choose : Choice Cmd) (f : ℕ) (cells : List Boot) (ri
     ledger : machine_of book (opening setup) step.site ≡ after_rows (opening setup) (executed_rows step.site)
     ledger = held-is (opening setup) (executed_rows step.site)
 
-    due_orders : (d : ℕ × PaymentOrder) → Contains (book.orders (machine_of book (opening setup) step.site)) d → Contains (orders (book_of setup (executed_rows step.site)) d.1.ccy) d.1
-    due_orders d in' = due-ordered (after_rows (opening setup) (executed_rows step.site)).setup (book_of setup (executed_rows step.site)) d (subst (λ (held : Ledger). Contains (outstanding held.setup held.entries) d) ledger in')
+    due_orders : (d : ℕ × PaymentOrder) → Contains (book.orders (machine_of book (opening setup) step.site)) d
+        → Contains (orders (book_of setup (executed_rows step.site)) d.1.ccy) d.1
+    due_orders d in' =
+        due-ordered (after_rows (opening setup) (executed_rows step.site)).setup (book_of setup (executed_rows step.site)) d
+        (subst (λ (held : Ledger). Contains (outstanding held.setup held.entries) d) ledger in')
 
     abbrev machine_before : ℕ → Ledger
     machine_before place = held_after book (opening setup) (take (place - 1) step.site.log)
@@ -220,10 +228,19 @@ module _ (setup : Setup) (choose : Choice Cmd) (f : ℕ) (cells : List Boot) (ri
     is_reply : (e : Envelope) (place : ℕ) → reply_to book (opening setup) i step.site place ≡ Some e → (said : ReplyOf Answer) × (e.msg ≡ Reply said)
     is_reply e place same = by (slice_get step.site.log (place - 1)) same
       where
-        by : (found : Option Row) → option_map (λ (row : Row). record { from = actor_of i; to = row.client; msg = Reply (record { view = step.site.view; number = row.number; reply = book.answer (machine_before place) row.client row.cmd }) }) found ≡ Some e
+        by : (found : Option Row)
+            → option_map (λ (row : Row). record {
+              from = actor_of i;
+              to = row.client;
+              msg = Reply (record { view = step.site.view; number = row.number; reply = book.answer (machine_before place) row.client row.cmd });
+            }) found
+            ≡ Some e
             → (said : ReplyOf Answer) × (e.msg ≡ Reply said)
         by None none = absurd (none-some e none)
-        by (Some row) some = (record { view = step.site.view; number = row.number; reply = book.answer (machine_before place) row.client row.cmd }, sym (ap (λ (d : Envelope). d.msg) (some-same _ e some)))
+        by (Some row) some = (
+          record { view = step.site.view; number = row.number; reply = book.answer (machine_before place) row.client row.cmd },
+          sym (ap (λ (d : Envelope). d.msg) (some-same _ e some)),
+        )
 
     abbrev due : List (ℕ × PaymentOrder)
     due = book.orders (machine_of book (opening setup) step.site)
@@ -250,20 +267,25 @@ module _ (setup : Setup) (choose : Choice Cmd) (f : ℕ) (cells : List Boot) (ri
         by_part (inr ordered) = by_due step.orders ordered
 
     sent-kind : (e : Envelope) → Contains step.sent e → is_between e.msg ≡ true
-    sent-kind e in' = All-contains (λ (d : Envelope). is_between d.msg ≡ true) step.sent e (step_between {R = Answer} {O = PaymentOrder} f i x choose event).sent in'
+    sent-kind e in' =
+        All-contains (λ (d : Envelope). is_between d.msg ≡ true) step.sent e (step_between {R = Answer} {O = PaymentOrder} f i x choose event).sent in'
 
-    reply-place : (e : Envelope) (said : ReplyOf Answer) → Contains new e → e.msg ≡ Reply said → (place : ℕ) × Contains step.replies place × (reply_to book (opening setup) i step.site place ≡ Some e)
+    reply-place : (e : Envelope) (said : ReplyOf Answer) → Contains new e → e.msg ≡ Reply said
+        → (place : ℕ) × Contains step.replies place × (reply_to book (opening setup) i step.site place ≡ Some e)
     reply-place e said in' is = by_part (Contains-append_cases (step.sent ++ replies) orders_out e in')
       where
-        by_due : (b : Bool) → Contains (if b then map (order_to i) due else []) e → (place : ℕ) × Contains step.replies place × (reply_to book (opening setup) i step.site place ≡ Some e)
+        by_due : (b : Bool) → Contains (if b then map (order_to i) due else []) e
+            → (place : ℕ) × Contains step.replies place × (reply_to book (opening setup) i step.site place ≡ Some e)
         by_due true ordered = let t = map-has (order_to i) due e ordered in let same = ap (λ (d : Envelope). d.msg) t.2 ∙ is in absurd (cc)
         by_due false ordered = absurd (let low = ordered.1 in omega arith)
 
-        by_first : Contains step.sent e ⊎ Contains replies e → (place : ℕ) × Contains step.replies place × (reply_to book (opening setup) i step.site place ≡ Some e)
+        by_first : Contains step.sent e ⊎ Contains replies e
+            → (place : ℕ) × Contains step.replies place × (reply_to book (opening setup) i step.site place ≡ Some e)
         by_first (inl sent) = absurd (true≢false (sym (sent-kind e sent) ∙ ap is_between is))
         by_first (inr reply) = filter_map-has (reply_to book (opening setup) i step.site) step.replies e reply
 
-        by_part : Contains (step.sent ++ replies) e ⊎ Contains orders_out e → (place : ℕ) × Contains step.replies place × (reply_to book (opening setup) i step.site place ≡ Some e)
+        by_part : Contains (step.sent ++ replies) e ⊎ Contains orders_out e
+            → (place : ℕ) × Contains step.replies place × (reply_to book (opening setup) i step.site place ≡ Some e)
         by_part (inl first) = by_first (Contains-append_cases step.sent replies e first)
         by_part (inr ordered) = by_due step.orders ordered
 
@@ -298,17 +320,21 @@ module _ (setup : Setup) (choose : Choice Cmd) (f : ℕ) (cells : List Boot) (ri
         where
           by : Contains h.world.sent e ⊎ Contains step.sent e → Contains after.post e
           by (inl old) = Contains-append_left bank.post new e (h.back e old)
-          by (inr sent) = Contains-append_right bank.post new e (Contains-append_left (step.sent ++ replies) orders_out e (Contains-append_left step.sent replies e sent))
+          by (inr sent) =
+              Contains-append_right bank.post new e (Contains-append_left (step.sent ++ replies) orders_out e (Contains-append_left step.sent replies e sent))
 
-      told_too : (r : Replied Cmd) (e : Envelope) → Contains next.replies r → reply_to book (opening setup) r.from r.sender r.place ≡ Some e → Contains after.post e
+      told_too : (r : Replied Cmd) (e : Envelope) → Contains next.replies r → reply_to book (opening setup) r.from r.sender r.place ≡ Some e
+          → Contains after.post e
       told_too r e in' is = by (Contains-append_cases h.world.replies (replied i step) r in')
         where
           by : Contains h.world.replies r ⊎ Contains (replied i step) r → Contains after.post e
           by (inl old) = Contains-append_left bank.post new e (h.told r e old is)
           by (inr fresh) =
               let t = map-has (λ place. record { from = i; sender = step.site; place = place }) step.replies r fresh in
-              let same : reply_to book (opening setup) i step.site t.0 ≡ Some e = ap (λ (q : Replied Cmd). reply_to book (opening setup) q.from q.sender q.place) t.2 ∙ is in
-              Contains-append_right bank.post new e (Contains-append_left (step.sent ++ replies) orders_out e (Contains-append_right step.sent replies e (filter_map-in (reply_to book (opening setup) i step.site) step.replies t.0 e t.1 same)))
+              let same : reply_to book (opening setup) i step.site t.0 ≡ Some e =
+              ap (λ (q : Replied Cmd). reply_to book (opening setup) q.from q.sender q.place) t.2 ∙ is in
+              Contains-append_right bank.post new e (Contains-append_left (step.sent ++ replies) orders_out e
+              (Contains-append_right step.sent replies e (filter_map-in (reply_to book (opening setup) i step.site) step.replies t.0 e t.1 same)))
 
       requests_too : (e : Envelope) → Contains after.post e → IsAsked bank.nodes e
       requests_too e in' asked is = by (post_cases e in')
@@ -319,7 +345,8 @@ module _ (setup : Setup) (choose : Choice Cmd) (f : ℕ) (cells : List Boot) (ri
           by (inr (inr (inl reply))) = let same = sym is ∙ reply.1 in absurd (cc)
           by (inr (inr (inr ordered))) = let same = sym is ∙ ordered.2 in absurd (cc)
 
-      ordered_now : (c : ℕ) (o : PaymentOrder) → Contains (orders (book_of setup (executed_rows step.site)) c) o → IsOrder setup choose f cells (moves ++ move ∷ []) after longer.rows c o
+      ordered_now : (c : ℕ) (o : PaymentOrder) → Contains (orders (book_of setup (executed_rows step.site)) c) o
+          → IsOrder setup choose f cells (moves ++ move ∷ []) after longer.rows c o
       ordered_now c o in' = record {
         moment = moment-now setup choose f cells (moves ++ move ∷ []) after (legal-more setup choose f cells moves bank move after h.legal leads);
         by = record {
@@ -330,7 +357,8 @@ module _ (setup : Setup) (choose : Choice Cmd) (f : ℕ) (cells : List Boot) (ri
         ordered = ordered-more setup (executed_rows step.site) longer.rows c o longer.covers in';
       }
 
-      orders_too : (e : Envelope) (o : PaymentOrder) → Contains after.post e → e.msg ≡ PayOrder o → IsOrder setup choose f cells (moves ++ move ∷ []) after longer.rows o.ccy o
+      orders_too : (e : Envelope) (o : PaymentOrder) → Contains after.post e → e.msg ≡ PayOrder o
+          → IsOrder setup choose f cells (moves ++ move ∷ []) after longer.rows o.ccy o
       orders_too e o in' is = by (post_cases e in')
         where
           by : Contains bank.post e ⊎ New e step.sent due → IsOrder setup choose f cells (moves ++ move ∷ []) after longer.rows o.ccy o
@@ -339,20 +367,26 @@ module _ (setup : Setup) (choose : Choice Cmd) (f : ℕ) (cells : List Boot) (ri
           by (inr (inr (inl reply))) = let same = sym is ∙ reply.1 in absurd (cc)
           by (inr (inr (inr ordered))) =
               let same : ordered.0.1 ≡ o = let e = sym ordered.2 ∙ is in cc in
-              ordered_now o.ccy o (subst (λ (d : PaymentOrder). Contains (orders (book_of setup (executed_rows step.site)) d.ccy) d) same (due_orders ordered.0 ordered.1))
+              ordered_now o.ccy o (subst (λ (d : PaymentOrder). Contains (orders (book_of setup (executed_rows step.site)) d.ccy) d) same
+              (due_orders ordered.0 ordered.1))
 
-      replies_too : (e : Envelope) (said : ReplyOf Answer) → Contains after.post e → e.msg ≡ Reply said → IsReply setup choose f cells (moves ++ move ∷ []) after next e
+      replies_too : (e : Envelope) (said : ReplyOf Answer) → Contains after.post e → e.msg ≡ Reply said
+          → IsReply setup choose f cells (moves ++ move ∷ []) after next e
       replies_too e said in' is = by (Contains-append_cases bank.post new e in')
         where
           by : Contains bank.post e ⊎ Contains new e → IsReply setup choose f cells (moves ++ move ∷ []) after next e
-          by (inl old) = reply-more setup choose f cells moves bank move after h.world next e leads (λ r in'. Contains-append_left h.world.replies (replied i step) r in') (h.replies e said old is)
+          by (inl old) =
+              reply-more setup choose f cells moves bank move after h.world next e leads (λ r in'. Contains-append_left h.world.replies (replied i step) r in')
+              (h.replies e said old is)
           by (inr fresh) =
               let t = reply-place e said fresh is in
               record {
                 reply = record { from = i; sender = step.site; place = t.0 };
                 moment = moment-now setup choose f cells (moves ++ move ∷ []) after (legal-more setup choose f cells moves bank move after h.legal leads);
                 is_there = set-here bank.sites i x step.site is_there;
-                among = Contains-append_right h.world.replies (replied i step) _ (map-in (λ place. record { from = i; sender = step.site; place = place }) step.replies t.0 t.1);
+                among =
+                    Contains-append_right h.world.replies (replied i step) _
+                    (map-in (λ place. record { from = i; sender = step.site; place = place }) step.replies t.0 t.1);
                 is = t.2;
               }
 
@@ -396,7 +430,8 @@ module _ (setup : Setup) (choose : Choice Cmd) (f : ℕ) (cells : List Boot) (ri
   -- a fall
   module _ (i : ℕ) (event : EventOf Cmd Answer PaymentOrder) (x : Site Cmd) (is_there : slice_get bank.sites i ≡ Some x) (cell : Boot)
       (falls : IsFall x (site_step {R = Answer} {O = PaymentOrder} choose f i x event) (over cell Down))
-      (arrived : (e : Envelope) → event ≡ Deliver e → Contains bank.post e) (leads : Leads setup choose f bank move (record bank { sites = slice_set bank.sites i (over cell Down) })) where
+      (arrived : (e : Envelope) → event ≡ Deliver e
+      → Contains bank.post e) (leads : Leads setup choose f bank move (record bank { sites = slice_set bank.sites i (over cell Down) })) where
     abbrev fallen_bank : Bank
     fallen_bank = record bank { sites = slice_set bank.sites i (over cell Down) }
 
@@ -420,7 +455,11 @@ module _ (setup : Setup) (choose : Choice Cmd) (f : ℕ) (cells : List Boot) (ri
         legal = legal-more setup choose f cells moves bank move fallen_bank h.legal leads;
         events = h.events ++ fall ∷ [];
         world = fallen h.world i cell;
-        alone = record { all = h.alone.all; run = happens-more choose f (worlds.opening_world f cells) h.events h.world (fallen h.world i cell) fall h.alone.run fall_happens };
+        alone =
+            record {
+              all = h.alone.all;
+              run = happens-more choose f (worlds.opening_world f cells) h.events h.world (fallen h.world i cell) fall h.alone.run fall_happens;
+            };
         sites = ap (λ (l : List (Site Cmd)). slice_set l i (over cell Down)) h.sites;
         history = h.history;
         begins = begins_too;
@@ -432,12 +471,18 @@ module _ (setup : Setup) (choose : Choice Cmd) (f : ℕ) (cells : List Boot) (ri
         back = λ e in'. h.back e in';
         told = λ r e in' is. h.told r e in' is;
         requests = λ e in'. h.requests e in';
-        replies = λ e said in' is. reply-more setup choose f cells moves bank move fallen_bank h.world (fallen h.world i cell) e leads (λ r old. old) (h.replies e said in' is);
-        orders = λ e o in' is. order-more setup choose f cells moves bank move fallen_bank h.history h.history o.ccy o leads (begins_itself h.history) (h.orders e o in' is);
+        replies =
+            λ e said in' is. reply-more setup choose f cells moves bank move fallen_bank h.world (fallen h.world i cell) e leads (λ r old. old)
+            (h.replies e said in' is);
+        orders =
+            λ e o in' is. order-more setup choose f cells moves bank move fallen_bank h.history h.history o.ccy o leads
+            (begins_itself h.history) (h.orders e o in' is);
         count = h.count;
         people = h.people;
         nodes = h.nodes;
-        done = λ c n o at in'. order-more setup choose f cells moves bank move fallen_bank h.history h.history c o leads (begins_itself h.history) (h.done c n o at in');
+        done =
+            λ c n o at in'. order-more setup choose f cells moves bank move fallen_bank h.history h.history c o leads
+            (begins_itself h.history) (h.done c n o at in');
       };
     }
       where

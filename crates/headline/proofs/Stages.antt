@@ -50,7 +50,8 @@ pub record Comes {setup : Setup} {f : ℕ} (list : LegalList setup f) (P : Bank 
 pub stays : {setup : Setup} {f : ℕ} (list : LegalList setup f) (P : Bank → Type 0) → P list.bank → Comes list P
 stays list P p = record { moves = []; after = list.bank; run = refl; gentle = All-nil IsGentle; holds = p }
 
-pub comes_then : {setup : Setup} {f : ℕ} (list : LegalList setup f) (P Q : Bank → Type 0) (a : Comes list P) → Comes (longer list a.moves a.after a.run) Q → Comes list Q
+pub comes_then : {setup : Setup} {f : ℕ} (list : LegalList setup f) (P Q : Bank → Type 0) (a : Comes list P) → Comes (longer list a.moves a.after a.run) Q
+    → Comes list Q
 comes_then {setup} {f} list P Q a b = record {
   moves = a.moves ++ b.moves;
   after = b.after;
@@ -85,7 +86,9 @@ module _ (setup : Setup) (f : ℕ) (some : 1 ≤ f) (list : LegalList setup f) w
   here = legal-holds setup (valid-members setup list.valid).1 list.choose f list.right list.cells list.moves list.bank list.legal.all list.legal.run
 
   pub due_here : IsDue list.bank
-  due_here = run_due setup list.choose f list.moves (opening_bank setup f list.cells) list.bank (opening_due setup list.choose f list.cells (valid-members setup list.valid).1) list.legal.run
+  due_here =
+      run_due setup list.choose f list.moves (opening_bank setup f list.cells) list.bank
+      (opening_due setup list.choose f list.cells (valid-members setup list.valid).1) list.legal.run
 
   module _ (view : ℕ) (log : List Row) (are : AreWorking f view log list.bank.sites) where
     -- the log is a site's
@@ -97,15 +100,19 @@ module _ (setup : Setup) (f : ℕ) (some : 1 ≤ f) (list : LegalList setup f) w
     has_site : HasSite
     has_site = by (slice_get list.bank.sites (primary f view)) refl are.leads
       where
-        by : (found : Option (Site Cmd)) → slice_get list.bank.sites (primary f view) ≡ found → option_map_or (λ (x : Site Cmd). is_running x.status) found false ≡ true → HasSite
+        by : (found : Option (Site Cmd)) → slice_get list.bank.sites (primary f view) ≡ found
+            → option_map_or (λ (x : Site Cmd). is_running x.status) found false ≡ true → HasSite
         by None at e = absurd (true≢false (sym e))
         by (Some x) at e = let in' = there list.bank.sites (primary f view) x at in record { site = x; among = in'; is = (are.each x in' e).log_is }
 
     -- each row of it was asked for
     row_due : (row : Row) → Contains log row → row.number ≤ due list.bank row.client
     row_due row in' =
-        let kept = (legal_rows list.choose f list.right list.cells here.events here.world here.alone).sites has_site.site (subst (λ (l : List (Site Cmd)). Contains l has_site.site) (sym here.sites) has_site.among) in
-        let was : WasAsked here.events row = All-contains (WasAsked here.events) has_site.site.log row kept.log (subst (λ (l : List Row). Contains l row) (sym has_site.is) in') in
+        let kept =
+        (legal_rows list.choose f list.right list.cells here.events here.world here.alone).sites has_site.site
+        (subst (λ (l : List (Site Cmd)). Contains l has_site.site) (sym here.sites) has_site.among) in
+        let was : WasAsked here.events row =
+        All-contains (WasAsked here.events) has_site.site.log row kept.log (subst (λ (l : List Row). Contains l row) (sym has_site.is) in') in
         due_here.post (request_of was.to row) (record { number = row.number; cmd = row.cmd }) (here.arrived was.site (request_of was.to row) was.taken) refl
 
     pub newest_due : (c : ℕ) → newest log c ≤ due list.bank c
@@ -120,7 +127,8 @@ module _ (setup : Setup) (f : ℕ) (some : 1 ≤ f) (list : LegalList setup f) w
             let d : due list.bank l.last.1.client ≡ due list.bank c = ap (due list.bank) l.there.of in
             omega arith
 
-    module _ (row : Row) (client : is_client row.client ≡ true) (counted : 0 < row.number) (low : newest log row.client ≤ row.number) (room : length log < MAX_ROWS)
+    module _ (row : Row) (client : is_client row.client ≡ true) (counted : 0 < row.number) (low : newest log row.client ≤ row.number)
+        (room : length log < MAX_ROWS)
         (posted : Contains list.bank.post (request_of (actor_of (primary f view)) row)) where
       beside : Beside setup list.choose f here.world list.bank
       beside = record { sites = here.sites; back = here.back; told = here.told }
@@ -161,10 +169,22 @@ module _ (setup : Setup) (f : ℕ) (some : 1 ≤ f) (list : LegalList setup f) w
           rows = inl (refl, same);
           grows = omega arith;
           working = subst (AreWorking f view log) first.beside.sites repeats.working;
-          runs = λ i e. subst (λ (l : List (Site Cmd)). runs_at l i ≡ true) first.beside.sites (repeats.runs i (subst (λ (l : List (Site Cmd)). runs_at l i ≡ true) (sym here.sites) e));
+          runs =
+              λ i e. subst (λ (l : List (Site Cmd)). runs_at l i ≡ true) first.beside.sites
+              (repeats.runs i (subst (λ (l : List (Site Cmd)). runs_at l i ≡ true) (sym here.sites) e));
           reply = reply;
           posted = first.beside.told (record { from = primary f view; sender = repeats.sender; place = repeats.place }) reply repeats.answered is_reply;
-          is = record { to = repeats.client; view = repeats.sender.view; answer = answer_at book (opening setup) repeats.sender.log repeats.place repeats.old; msg = ap (λ (n : ℕ). Reply (record { view = repeats.sender.view; number = n; reply = answer_at book (opening setup) repeats.sender.log repeats.place repeats.old })) repeats.number };
+          is =
+              record {
+                to = repeats.client;
+                view = repeats.sender.view;
+                answer = answer_at book (opening setup) repeats.sender.log repeats.place repeats.old;
+                msg = ap (λ (n : ℕ). Reply (record {
+                  view = repeats.sender.view;
+                  number = n;
+                  reply = answer_at book (opening setup) repeats.sender.log repeats.place repeats.old;
+                })) repeats.number;
+              };
           nodes = first.nodes;
           clients = first.clients;
           post = first.post;
@@ -172,18 +192,37 @@ module _ (setup : Setup) (f : ℕ) (some : 1 ≤ f) (list : LegalList setup f) w
       }
         where
           repeats : Repeats list.choose f here.world view log row
-          repeats = alone.repeated f (record { choose = list.choose; right = list.right; cells = list.cells; events = here.events; world = here.world; legal = here.alone }) view log row
+          repeats =
+              alone.repeated f (record {
+                choose = list.choose;
+                right = list.right;
+                cells = list.cells;
+                events = here.events;
+                world = here.world;
+                legal = here.alone;
+              }) view log row
               (subst (AreWorking f view log) (sym here.sites) are) (record { client = client; some = counted; same = same })
 
-          by_ends : Happens list.choose f here.world (step_of (primary f view) (Deliver (request_of (actor_of (primary f view)) row))) repeats.asks.0 → OneLifted setup list.choose f list.bank repeats.asked
+          by_ends : Happens list.choose f here.world (step_of (primary f view) (Deliver (request_of (actor_of (primary f view)) row))) repeats.asks.0
+              → OneLifted setup list.choose f list.bank repeats.asked
           by_ends p = subst (λ (w : SitesWorld). OneLifted setup list.choose f list.bank w) (sym (repeats.asks.2 ∙ p.ends.1))
-              (by_delivery setup list.choose f here.world list.bank beside (primary f view) (request_of (actor_of (primary f view)) row) p.before p.is_there posted p.ends.0)
+              (by_delivery setup list.choose f here.world list.bank beside (primary f view)
+              (request_of (actor_of (primary f view)) row) p.before p.is_there posted p.ends.0)
 
           first : OneLifted setup list.choose f list.bank repeats.asked
           first = by_ends repeats.asks.1
 
           answer_to : Row → Envelope
-          answer_to r = record { from = actor_of (primary f view); to = r.client; msg = Reply (record { view = repeats.sender.view; number = r.number; reply = answer_at book (opening setup) repeats.sender.log repeats.place r }) }
+          answer_to r =
+              record {
+                from = actor_of (primary f view);
+                to = r.client;
+                msg = Reply (record {
+                  view = repeats.sender.view;
+                  number = r.number;
+                  reply = answer_at book (opening setup) repeats.sender.log repeats.place r;
+                });
+              }
 
           reply : Envelope
           reply = answer_to repeats.old

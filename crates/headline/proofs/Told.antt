@@ -39,19 +39,23 @@ the_reply said = Reply said
 says : (a b : ReplyOf Answer) → the_reply a ≡ the_reply b → a ≡ b
 says a b e = cc
 
-module _ {setup : Setup} {choose : Choice Cmd} {f : ℕ} {cells : List Boot} (right : IsRight f choose) {moves : List Move} {bank : Bank} (h : Holds setup choose f cells moves bank) where
+module _ {setup : Setup} {choose : Choice Cmd} {f : ℕ} {cells : List Boot} (right : IsRight f choose) {moves : List Move} {bank : Bank}
+    (h : Holds setup choose f cells moves bank) where
   pub rise : (x : Site Cmd) → Contains bank.sites x → IsRising x.log
   rise x in' = sites.rising choose f right cells h.events h.world h.alone x (subst (λ (l : List (Site Cmd)). Contains l x) (sym h.sites) in')
 
-  tells : (e : Envelope) (said : ReplyOf Answer) → WasTold bank e said → (r : IsReply setup choose f cells moves bank h.world e) → Tells book (opening setup) r.reply e.to said.number said.reply
+  tells : (e : Envelope) (said : ReplyOf Answer) → WasTold bank e said → (r : IsReply setup choose f cells moves bank h.world e)
+      → Tells book (opening setup) r.reply e.to said.number said.reply
   tells e said told r = record { envelope = e; is = r.is; to = refl; view = said.view; msg = told.is }
 
   pub agree : (d e : Envelope) (a b : ReplyOf Answer) → WasTold bank d a → WasTold bank e b → d.to ≡ e.to → a.number ≡ b.number → a.reply ≡ b.reply
   agree d e a b told too same number =
       let p = h.replies d a told.posted told.is in
       let q = h.replies e b too.posted too.is in
-      sites.one_answer choose f right cells h.events h.world h.alone book (opening setup) p.reply q.reply d.to a.number a.reply b.reply p.among q.among (tells d a told p)
-      (subst (λ c. Tells book (opening setup) q.reply c a.number b.reply) (sym same) (subst (λ n. Tells book (opening setup) q.reply e.to n b.reply) (sym number) (tells e b too q)))
+      sites.one_answer choose f right cells h.events h.world h.alone book (opening setup) p.reply q.reply d.to a.number a.reply b.reply p.among
+      q.among (tells d a told p)
+      (subst (λ c. Tells book (opening setup) q.reply c a.number b.reply) (sym same)
+      (subst (λ n. Tells book (opening setup) q.reply e.to n b.reply) (sym number) (tells e b too q)))
 
   -- each REPLY is for a row that its sender had executed, at the moment at which it was sent
   module _ (e : Envelope) (said : ReplyOf Answer) (told : WasTold bank e said) where
@@ -70,13 +74,28 @@ module _ {setup : Setup} {choose : Choice Cmd} {f : ℕ} {cells : List Boot} (ri
     within : r.place ≤ length (executed_rows r.sender)
     within = let low = slice_get_within (executed_rows r.sender) (r.place - 1) done.row done.is_there in let counted = done.counted in omega arith
 
-    pub spoken : record { from = actor_of r.from; to = done.row.client; msg = Reply (record { view = r.sender.view; number = done.row.number; reply = answer_at book (opening setup) (executed_rows r.sender) r.place done.row }) } ≡ e
+    pub spoken : record {
+      from = actor_of r.from;
+      to = done.row.client;
+      msg = Reply (record {
+        view = r.sender.view;
+        number = done.row.number;
+        reply = answer_at book (opening setup) (executed_rows r.sender) r.place done.row;
+      });
+    } ≡ e
     spoken =
-        ap (λ (a : Answer). record { from = actor_of r.from; to = done.row.client; msg = Reply (record { view = r.sender.view; number = done.row.number; reply = a }) }) (sym (answer-begins book (opening setup) (executed_rows r.sender) r.sender.log r.place done.row begins done.is_there))
+        ap (λ (a : Answer). record {
+          from = actor_of r.from;
+          to = done.row.client;
+          msg = Reply (record { view = r.sender.view; number = done.row.number; reply = a });
+        })
+        (sym (answer-begins book (opening setup) (executed_rows r.sender) r.sender.log r.place done.row begins done.is_there))
         ∙ some-same _ e (sym (reply-at book (opening setup) r.from r.sender r.place done.row at) ∙ from.is)
       where
         at : slice_get r.sender.log (r.place - 1) ≡ Some done.row
-        at = subst (λ (l : List Row). slice_get l (r.place - 1) ≡ Some done.row) begins.is (at-append (executed_rows r.sender) begins.rest (r.place - 1) done.row done.is_there)
+        at =
+            subst (λ (l : List Row). slice_get l (r.place - 1) ≡ Some done.row) begins.is
+            (at-append (executed_rows r.sender) begins.rest (r.place - 1) done.row done.is_there)
 
     abbrev pub moment : Moment setup choose f cells moves bank
     moment = from.moment
@@ -106,19 +125,24 @@ module _ {setup : Setup} {choose : Choice Cmd} {f : ℕ} {cells : List Boot} (ri
     pub rows-are : take r.place (executed_rows r.sender) ≡ answered_rows r
     rows-are = begins-take r.place begins within
 
-  module _ (early : Bank) (before : SitesEvents) (first : SitesWorld) (legal : worlds.IsLegal choose f cells before first) (same : first.sites ≡ early.sites) (more : SitesEvents) (run : worlds.IsRun choose f first more h.world) where
+  module _ (early : Bank) (before : SitesEvents) (first : SitesWorld) (legal : worlds.IsLegal choose f cells before first) (same : first.sites ≡ early.sites)
+      (more : SitesEvents) (run : worlds.IsRun choose f first more h.world) where
     either : (x : Site Cmd) → IsSiteOf early bank x → Contains first.sites x ⊎ Contains h.world.sites x
     either x (inl in') = inl (subst (λ (l : List (Site Cmd)). Contains l x) (sym same) in')
     either x (inr in') = inr (subst (λ (l : List (Site Cmd)). Contains l x) (sym h.sites) in')
 
     pub right_answers : (e : Envelope) (said : ReplyOf Answer) (x : Site Cmd) (place : ℕ) (row : Row) → WasTold bank e said → IsSiteOf early bank x → 1 ≤ place
-        → row_at (executed_rows x) place ≡ Some row → row.client ≡ e.to → row.number ≡ said.number → said.reply ≡ answer_at book (opening setup) (executed_rows x) place row
+        → row_at (executed_rows x) place ≡ Some row → row.client ≡ e.to → row.number ≡ said.number
+        → said.reply ≡ answer_at book (opening setup) (executed_rows x) place row
     right_answers e said x place row told in' low at client named =
         let r = h.replies e said told.posted told.is in
-        sites.right_answer choose f right cells before more first h.world legal run book (opening setup) r.reply said.reply x place row r.among (either x in') low at
-        (subst (λ c. Tells book (opening setup) r.reply c row.number said.reply) (sym client) (subst (λ n. Tells book (opening setup) r.reply e.to n said.reply) (sym named) (tells e said told r)))
+        sites.right_answer choose f right cells before more first h.world legal run book
+        (opening setup) r.reply said.reply x place row r.among (either x in') low at
+        (subst (λ c. Tells book (opening setup) r.reply c row.number said.reply) (sym client)
+        (subst (λ n. Tells book (opening setup) r.reply e.to n said.reply) (sym named) (tells e said told r)))
 
-    pub begin : (e : Envelope) (said : ReplyOf Answer) (told : WasTold bank e said) (x : Site Cmd) → IsSiteOf early bank x → x.status ≡ Normal → said.view < x.view
+    pub begin : (e : Envelope) (said : ReplyOf Answer) (told : WasTold bank e said) (x : Site Cmd) → IsSiteOf early bank x → x.status ≡ Normal
+        → said.view < x.view
         → let by = answered e said told in Begins (take by.place (executed_rows by.site)) x.log
     begin e said told x in' normal low =
         let r = h.replies e said told.posted told.is in

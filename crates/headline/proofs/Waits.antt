@@ -78,7 +78,9 @@ numbered bank e t posted is =
     let at = place_of bank.post e posted in
     record {
       number = at.0 + 1;
-      is = if_no (at.0 + 1 == 0) _ _ (not_zero at.0) ∙ (ap (λ (m : ℕ). option_map delivery (slice_get bank.post m)) (let d : (at.0 + 1) - 1 ≡ at.0 = omega arith in d) ∙ (ap (option_map delivery) at.1 ∙ ap (λ (u : Turn). Some u) is));
+      is =
+          if_no (at.0 + 1 == 0) _ _ (not_zero at.0) ∙ (ap (λ (m : ℕ). option_map delivery (slice_get bank.post m))
+          (let d : (at.0 + 1) - 1 ≡ at.0 = omega arith in d) ∙ (ap (option_map delivery) at.1 ∙ ap (λ (u : Turn). Some u) is));
     }
   where
     not_zero : (n : ℕ) → (n + 1 == 0) ≡ false
@@ -89,9 +91,11 @@ numbered bank e t posted is =
         by false e = refl
 
 -- what is sent to all sites is sent to the primary
-to_primary : (f c view number : ℕ) (cmd : Cmd) → Contains (to_sites f c number cmd) (request_of (actor_of (primary f view)) (record { client = c; number = number; cmd = cmd }))
+to_primary : (f c view number : ℕ) (cmd : Cmd)
+    → Contains (to_sites f c number cmd) (request_of (actor_of (primary f view)) (record { client = c; number = number; cmd = cmd }))
 to_primary f c view number cmd =
-    map-in (λ (j : ℕ). record { from = c; to = actor_of j; msg = Request (record { number = number; cmd = cmd }) }) (sites f) (primary f view) (has_site f (primary f view) (mod-lt view (omega arith)))
+    map-in (λ (j : ℕ). record { from = c; to = actor_of j; msg = Request (record { number = number; cmd = cmd }) }) (sites f) (primary f view)
+    (has_site f (primary f view) (mod-lt view (omega arith)))
 
 -- A CLIENT
 
@@ -113,7 +117,8 @@ pub record IsTold (f view c : ℕ) (log : List Row) (x : Node) (before after : B
   pub more : List Row
   pub notice : Cmd
   pub was_out : slice_get x.notices x.answered ≡ Some notice
-  pub rows : ((more ≡ log) × (newest log (node_of c) ≡ x.answered + 1)) ⊎ (more ≡ log ++ record { client = node_of c; number = x.answered + 1; cmd = notice } ∷ [])
+  pub rows : ((more ≡ log) × (newest log (node_of c) ≡ x.answered + 1))
+      ⊎ (more ≡ log ++ record { client = node_of c; number = x.answered + 1; cmd = notice } ∷ [])
   pub grows : length more ≤ length log + 1
   pub working : AreWorking f view more after.sites
   pub runs : (i : ℕ) → runs_at before.sites i ≡ true → runs_at after.sites i ≡ true
@@ -121,7 +126,8 @@ pub record IsTold (f view c : ℕ) (log : List Row) (x : Node) (before after : B
   pub others : (d : ℕ) → d ≢ c → slice_get after.nodes d ≡ slice_get before.nodes d
   pub clients : after.clients ≡ before.clients
 
-module _ (setup : Setup) (f : ℕ) (some : 1 ≤ f) (list : LegalList setup f) (view : ℕ) (log : List Row) (are : AreWorking f view log list.bank.sites) (room : length log < MAX_ROWS) where
+module _ (setup : Setup) (f : ℕ) (some : 1 ≤ f) (list : LegalList setup f) (view : ℕ) (log : List Row) (are : AreWorking f view log list.bank.sites)
+    (room : length log < MAX_ROWS) where
   module _ (k : ℕ) (x : Client) (cmd : Cmd) (at : slice_get list.bank.clients k ≡ Some x) (waiting : x.waiting ≡ Some cmd) where
     abbrev row : Row
     row = record { client = k; number = x.number; cmd = cmd }
@@ -165,7 +171,9 @@ module _ (setup : Setup) (f : ℕ) (some : 1 ≤ f) (list : LegalList setup f) (
         omega arith
 
     told : Comes next (IsAnswered f view log row asked)
-    told = answered setup f some next view log (record { many = are.many; leads = are.leads; each = are.each }) row is_a_client ((due_here setup f some list).waits k x cmd at waiting) low room
+    told =
+        answered setup f some next view log (record { many = are.many; leads = are.leads; each = are.each }) row is_a_client
+        ((due_here setup f some list).waits k x cmd at waiting) low room
         (Contains-append_right list.bank.post (to_sites f k x.number cmd) _ (to_primary f k view x.number cmd))
 
     there : slice_get told.after.clients k ≡ Some x
@@ -202,7 +210,14 @@ module _ (setup : Setup) (f : ℕ) (some : 1 ≤ f) (list : LegalList setup f) (
 
     pub client_served : Comes list (IsIdle f view k log x list.bank)
     client_served =
-        comes_then list (λ b. b ≡ asked) (IsIdle f view k log x list.bank) (record { moves = Takes (Beats k) ∷ []; after = asked; run = (asked, asks, refl); gentle = All-cons IsGentle (Takes (Beats k)) [] tt (All-nil IsGentle); holds = refl })
+        comes_then list (λ b. b ≡ asked) (IsIdle f view k log x list.bank)
+        (record {
+          moves = Takes (Beats k) ∷ [];
+          after = asked;
+          run = (asked, asks, refl);
+          gentle = All-cons IsGentle (Takes (Beats k)) [] tt (All-nil IsGentle);
+          holds = refl;
+        })
         (comes_then next (IsAnswered f view log row asked) (IsIdle f view k log x list.bank) told
         (record {
           moves = Takes (Delivers number.number) ∷ [];
@@ -216,7 +231,9 @@ module _ (setup : Setup) (f : ℕ) (some : 1 ≤ f) (list : LegalList setup f) (
             working = record { many = told.holds.working.many; leads = told.holds.working.leads; each = told.holds.working.each };
             answer = told.holds.is.answer;
             here = set-here told.after.clients k x y there;
-            others = λ j apart. set-other told.after.clients k y j apart ∙ (ap (λ (l : List Client). slice_get l j) told.holds.clients ∙ set-other list.bank.clients k x j apart);
+            others =
+                λ j apart. set-other told.after.clients k y j apart
+                ∙ (ap (λ (l : List Client). slice_get l j) told.holds.clients ∙ set-other list.bank.clients k x j apart);
             nodes = told.holds.nodes;
           };
         }))
@@ -227,14 +244,17 @@ module _ (setup : Setup) (f : ℕ) (some : 1 ≤ f) (list : LegalList setup f) (
 
     few : c < 8
     few =
-        let h : Holds setup list.choose f list.cells list.moves list.bank = legal-holds setup (valid-members setup list.valid).1 list.choose f list.right list.cells list.moves list.bank list.legal.all list.legal.run in
+        let h : Holds setup list.choose f list.cells list.moves list.bank =
+        legal-holds setup (valid-members setup list.valid).1 list.choose f list.right list.cells list.moves list.bank list.legal.all list.legal.run in
         let a = slice_get_within list.bank.nodes c x at in
         let b = h.count in
         let d = (valid-currencies setup list.valid).1 in
         omega arith
 
     node_client : is_client (node_of c) ≡ true
-    node_client = by (nat_le (101 + c) 64) (nat_le 101 (101 + c)) (nat_le (101 + c) 108) (within 101 (101 + c) (omega arith)) (within (101 + c) 108 (let s = few in omega arith))
+    node_client =
+        by (nat_le (101 + c) 64) (nat_le 101 (101 + c)) (nat_le (101 + c) 108) (within 101 (101 + c) (omega arith))
+        (within (101 + c) 108 (let s = few in omega arith))
       where
         by : (a b d : Bool) → b ≡ true → d ≡ true → (a || (b && d)) ≡ true
         by true b d e h = refl
@@ -260,15 +280,21 @@ module _ (setup : Setup) (f : ℕ) (some : 1 ≤ f) (list : LegalList setup f) (
     low_notice : newest log (node_of c) ≤ x.answered + 1
     low_notice =
         let h = newest_due setup f some list view log are (node_of c) in
-        let d : due list.bank (node_of c) ≡ node_due list.bank.nodes ((101 + c) - 101) = if_yes (nat_le 101 (101 + c)) _ _ (within 101 (101 + c) (omega arith)) in
-        let s : node_due list.bank.nodes ((101 + c) - 101) ≡ node_due list.bank.nodes c = ap (λ (m : ℕ). node_due list.bank.nodes m) (let q : (101 + c) - 101 ≡ c = omega arith in q) in
+        let d : due list.bank (node_of c) ≡ node_due list.bank.nodes ((101 + c) - 101) =
+        if_yes (nat_le 101 (101 + c)) _ _ (within 101 (101 + c) (omega arith)) in
+        let s : node_due list.bank.nodes ((101 + c) - 101) ≡ node_due list.bank.nodes c =
+        ap (λ (m : ℕ). node_due list.bank.nodes m) (let q : (101 + c) - 101 ≡ c = omega arith in q) in
         let e : node_due list.bank.nodes c ≡ x.answered + 1 = ap (λ (o : Option Node). option_map_or (λ (n : Node). n.answered + 1) o 0) at in
         omega arith
 
     heard : Comes after_beat (IsAnswered f view log notice noted)
-    heard = answered setup f some after_beat view log (record { many = are.many; leads = are.leads; each = are.each }) notice node_client (omega arith) low_notice room
+    heard =
+        answered setup f some after_beat view log (record { many = are.many; leads = are.leads; each = are.each }) notice node_client
+        (omega arith) low_notice room
         (Contains-append_right list.bank.post (notice_out f c x) _
-        (subst (λ (es : List Envelope). Contains es (request_of (actor_of (primary f view)) (record { client = node_of c; number = x.answered + 1; cmd = cmd }))) (sym out_is) (to_primary f (node_of c) view (x.answered + 1) cmd)))
+        (subst (λ (es : List Envelope).
+        Contains es (request_of (actor_of (primary f view)) (record { client = node_of c; number = x.answered + 1; cmd = cmd }))) (sym out_is)
+        (to_primary f (node_of c) view (x.answered + 1) cmd)))
 
     there_still : slice_get heard.after.nodes c ≡ Some x
     there_still = ap (λ (l : List Node). slice_get l c) heard.holds.nodes ∙ set-here list.bank.nodes c x x at
@@ -280,7 +306,8 @@ module _ (setup : Setup) (f : ℕ) (some : 1 ≤ f) (list : LegalList setup f) (
     hears =
         if_no (not (heard.holds.reply.to == node_of c)) _ _ (ap (λ (n : ℕ). not (n == node_of c)) heard.holds.is.to ∙ ap not (same_number (node_of c)))
         ∙ (ap (λ (m : MsgOf Cmd Answer PaymentOrder). nodes.on_message setup f c x m) heard.holds.is.msg
-        ∙ if_yes ((x.answered + 1 == x.answered + 1) && nat_lt x.answered (length x.notices)) _ _ (both _ _ (same_number (x.answered + 1)) (less x.answered (length x.notices) (slice_get_within x.notices x.answered cmd is_out))))
+        ∙ if_yes ((x.answered + 1 == x.answered + 1) && nat_lt x.answered (length x.notices)) _ _
+        (both _ _ (same_number (x.answered + 1)) (less x.answered (length x.notices) (slice_get_within x.notices x.answered cmd is_out))))
       where
         both : (a b : Bool) → a ≡ true → b ≡ true → (a && b) ≡ true
         both true b e h = h
@@ -311,7 +338,14 @@ module _ (setup : Setup) (f : ℕ) (some : 1 ≤ f) (list : LegalList setup f) (
 
     pub notice_served : Comes list (IsTold f view c log x list.bank)
     notice_served =
-        comes_then list (λ b. b ≡ noted) (IsTold f view c log x list.bank) (record { moves = Takes (Beats (node_of c)) ∷ []; after = noted; run = (noted, beats, refl); gentle = All-cons IsGentle (Takes (Beats (node_of c))) [] tt (All-nil IsGentle); holds = refl })
+        comes_then list (λ b. b ≡ noted) (IsTold f view c log x list.bank)
+        (record {
+          moves = Takes (Beats (node_of c)) ∷ [];
+          after = noted;
+          run = (noted, beats, refl);
+          gentle = All-cons IsGentle (Takes (Beats (node_of c))) [] tt (All-nil IsGentle);
+          holds = refl;
+        })
         (comes_then after_beat (IsAnswered f view log notice noted) (IsTold f view c log x list.bank) heard
         (record {
           moves = Takes (Delivers node_number.number) ∷ [];
@@ -327,7 +361,9 @@ module _ (setup : Setup) (f : ℕ) (some : 1 ≤ f) (list : LegalList setup f) (
             runs = λ i e. heard.holds.runs i e;
             working = record { many = heard.holds.working.many; leads = heard.holds.working.leads; each = heard.holds.working.each };
             here = set-here heard.after.nodes c x z there_still;
-            others = λ d apart. set-other heard.after.nodes c z d apart ∙ (ap (λ (l : List Node). slice_get l d) heard.holds.nodes ∙ set-other list.bank.nodes c x d apart);
+            others =
+                λ d apart. set-other heard.after.nodes c z d apart
+                ∙ (ap (λ (l : List Node). slice_get l d) heard.holds.nodes ∙ set-other list.bank.nodes c x d apart);
             clients = heard.holds.clients;
           };
         }))

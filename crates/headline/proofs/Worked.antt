@@ -69,17 +69,21 @@ module _ (setup : Setup) (choose : Choice Cmd) (f : ℕ) (bank : Bank) where
   none-is None after b is = (refl, sym (some-same b after is))
   none-is (Some fault) after b is = absurd (none-some after is)
 
-  site-sound : (i : ℕ) (event : EventOf Cmd Answer PaymentOrder) (after : Bank) → acts (OfSite i event) ≡ Some after → Acts setup choose f bank (OfSite i event) after
+  site-sound : (i : ℕ) (event : EventOf Cmd Answer PaymentOrder) (after : Bank) → acts (OfSite i event) ≡ Some after
+      → Acts setup choose f bank (OfSite i event) after
   unfolding acts site_acts
   site-sound i event after is = by (slice_get bank.sites i) refl is
     where
-      by_test : (x : Site Cmd) → slice_get bank.sites i ≡ Some x → (refused : Bool) → is_refused (site_step {R = Answer} {O = PaymentOrder} choose f i x event).ending ≡ refused
-          → (if refused then None else Some (with_site bank i (site_step choose f i x event).site (envelopes book (opening setup) i (site_step choose f i x event)))) ≡ Some after
+      by_test : (x : Site Cmd) → slice_get bank.sites i ≡ Some x → (refused : Bool)
+          → is_refused (site_step {R = Answer} {O = PaymentOrder} choose f i x event).ending ≡ refused
+          → (if refused then None else Some (with_site bank i (site_step choose f i x event).site
+          (envelopes book (opening setup) i (site_step choose f i x event)))) ≡ Some after
           → Acts setup choose f bank (OfSite i event) after
       by_test x at true e is = absurd (none-some after is)
       by_test x at false e is = record { before = x; is_there = at; allowed = e; leads = sym (some-same _ after is) }
 
-      by : (found : Option (Site Cmd)) → slice_get bank.sites i ≡ found → site_acts i found (λ x. site_step choose f i x event) ≡ Some after → Acts setup choose f bank (OfSite i event) after
+      by : (found : Option (Site Cmd)) → slice_get bank.sites i ≡ found → site_acts i found (λ x. site_step choose f i x event) ≡ Some after
+          → Acts setup choose f bank (OfSite i event) after
       by None at e = absurd (none-some after e)
       by (Some x) at e = by_test x at (is_refused (site_step {R = Answer} {O = PaymentOrder} choose f i x event).ending) refl e
 
@@ -93,7 +97,8 @@ module _ (setup : Setup) (choose : Choice Cmd) (f : ℕ) (bank : Bank) where
       by (Some x) at e = let t = none-is (node_step setup f c x event).fault after _ e in record { before = x; is_there = at; allowed = t.0; leads = t.1 }
   acts-sound (OfClient k event) after is = by (slice_get bank.clients k) refl is
     where
-      by : (found : Option Client) → slice_get bank.clients k ≡ found → client_acts k event found ≡ Some after → Acts setup choose f bank (OfClient k event) after
+      by : (found : Option Client) → slice_get bank.clients k ≡ found → client_acts k event found ≡ Some after
+          → Acts setup choose f bank (OfClient k event) after
       by None at e = absurd (none-some after e)
       by (Some x) at e = let t = none-is (client_step f k x event).fault after _ e in record { before = x; is_there = at; allowed = t.0; leads = t.1 }
 
@@ -103,7 +108,8 @@ module _ (setup : Setup) (choose : Choice Cmd) (f : ℕ) where
   plays (Some bank) [] = Some bank
   plays (Some bank) (s ∷ more) = plays (steps setup choose f bank (turn bank.post s)) more
 
-  plays-sound : (bank : Bank) (more : List Step) (after : Bank) → plays (Some bank) more ≡ Some after → IsRun setup choose f bank (map (λ s. Takes s) more) after
+  plays-sound : (bank : Bank) (more : List Step) (after : Bank) → plays (Some bank) more ≡ Some after
+      → IsRun setup choose f bank (map (λ s. Takes s) more) after
   unfolding plays steps
   plays-sound bank [] after is = sym (some-same bank after is)
   plays-sound bank (s ∷ more) after is = by (turn bank.post s) refl is (λ next. plays-sound next more after)
@@ -183,20 +189,24 @@ module _ (same : Cmd → Cmd → Bool) (tells : (a b : Cmd) → IsTrue (same a b
   played moves = plays worked choose 1 (Some (opening_bank worked 1 cells)) moves
 
   after_first : seen (played first) ≡ pos 1200 ∷ pos 0 ∷ pos 21 ∷ pos 1000 ∷ pos 1200 ∷ pos 1200 ∷ pos 200 ∷ pos 0 ∷ pos 0 ∷ []
-  unfolding seen plays steps acts site_acts node_acts client_acts if_none worked member on_request on_prepare on_prepare_ok on_commit beats_normal answer both_pass pass taken_by settled_after settled
+  unfolding seen plays steps acts site_acts node_acts client_acts if_none worked member on_request on_prepare on_prepare_ok on_commit beats_normal answer
+      both_pass pass taken_by settled_after settled
   after_first = refl
 
   after_second : seen (played second) ≡ pos 1000 ∷ pos 1 ∷ pos 29 ∷ pos 1000 ∷ pos 1000 ∷ pos 1000 ∷ pos 0 ∷ pos 0 ∷ pos 0 ∷ []
-  unfolding seen plays steps acts site_acts node_acts client_acts if_none worked member on_request on_prepare on_prepare_ok on_commit beats_normal answer both_pass pass taken_by settled_after settled
+  unfolding seen plays steps acts site_acts node_acts client_acts if_none worked member on_request on_prepare on_prepare_ok on_commit beats_normal answer
+      both_pass pass taken_by settled_after settled
   after_second = refl
 
   -- ALFA's account is closed before the order comes: the node returns it, and the amount is ALFA's again in each book
   closed_first : seen (played closing) ≡ pos 1200 ∷ pos 0 ∷ pos 21 ∷ pos 1000 ∷ pos 1200 ∷ pos 1200 ∷ pos 200 ∷ pos 0 ∷ pos 0 ∷ []
-  unfolding seen plays steps acts site_acts node_acts client_acts if_none worked member on_request on_prepare on_prepare_ok on_commit beats_normal answer both_pass pass taken_by settled_after settled
+  unfolding seen plays steps acts site_acts node_acts client_acts if_none worked member on_request on_prepare on_prepare_ok on_commit beats_normal answer
+      both_pass pass taken_by settled_after settled
   closed_first = refl
 
   closed_second : seen (played closed) ≡ pos 1200 ∷ pos 0 ∷ pos 31 ∷ pos 1200 ∷ pos 1200 ∷ pos 1200 ∷ pos 0 ∷ pos 0 ∷ pos 0 ∷ []
-  unfolding seen plays steps acts site_acts node_acts client_acts if_none worked member on_request on_prepare on_prepare_ok on_commit beats_normal answer both_pass pass taken_by settled_after settled
+  unfolding seen plays steps acts site_acts node_acts client_acts if_none worked member on_request on_prepare on_prepare_ok on_commit beats_normal answer
+      both_pass pass taken_by settled_after settled
   closed_second = refl
 
   -- the headline speaks of it

@@ -44,7 +44,8 @@ PairsAreWhole setup bank = (x : Site Cmd) → Contains bank.sites x → BothLegs
 
 -- so the bank's figure in a currency is pay-ins less pay-outs with what was returned, and never below 0
 abbrev pub FiguresAreCovered : Setup → Bank → Type 0
-FiguresAreCovered setup bank = (x : Site Cmd) (c : ℕ) → Contains bank.sites x → IsCovered setup (executed_book setup x) c
+FiguresAreCovered setup bank =
+    (x : Site Cmd) (c : ℕ) → Contains bank.sites x → IsCovered setup (executed_book setup x) c
 
 -- CREDITED OR DEBITED ONCE
 

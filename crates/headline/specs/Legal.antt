@@ -48,7 +48,8 @@ module _ (setup : Setup) (choose : Choice Cmd) (f : ℕ) where
     pub leads : let step = client_step f k before event in after ≡ with_client bank k step.client step.sent
 
   -- a site falls in place of a step that it doesn't refuse, over a cell of this value
-  pub record SiteFalls (bank : Bank) (i : ℕ) (event : EventOf Cmd Answer PaymentOrder) (cell : Boot) (after : Bank) : Type 0 where
+  pub record SiteFalls (bank : Bank) (i : ℕ) (event : EventOf Cmd Answer PaymentOrder) (cell : Boot) (after : Bank)
+      : Type 0 where
     pub before : Site Cmd
     pub is_there : slice_get bank.sites i ≡ Some before
     pub falls : IsFall before (site_step {R = Answer} {O = PaymentOrder} choose f i before event) (over cell Down)

@@ -30,8 +30,8 @@ pub record WasTold (bank : Bank) (e : Envelope) (said : ReplyOf Answer) : Type 0
   pub posted : Contains bank.post e
   pub is : e.msg ≡ Reply said
 
--- The site that an envelope is from has executed, in the REPLY's view, a row of the client that it is for, with its number;
--- and its answer is the book's at that row's place.
+-- The site that an envelope is from has executed, in the REPLY's view, a row of the client that it is for, with its
+-- number; and its answer is the book's at that row's place.
 pub record HasAnswered (setup : Setup) (bank : Bank) (e : Envelope) (said : ReplyOf Answer) : Type 0 where
   pub sender : ℕ
   pub site : Site Cmd
@@ -49,18 +49,21 @@ pub record HasAnswered (setup : Setup) (bank : Bank) (e : Envelope) (said : Repl
 -- each REPLY answers a row that its sender had executed by then
 abbrev pub AnsweredWereExecuted : {setup : Setup} {f : ℕ} → LegalList setup f → Type 0
 AnsweredWereExecuted {setup} list =
-    (e : Envelope) (said : ReplyOf Answer) → WasTold list.bank e said → (moment : MomentOf list) × HasAnswered setup moment.then e said
+    (e : Envelope) (said : ReplyOf Answer) → WasTold list.bank e said
+    → (moment : MomentOf list) × HasAnswered setup moment.then e said
 
 -- all REPLYs to one request of a client carry one answer
 abbrev pub AnswersAgree : Bank → Type 0
 AnswersAgree bank =
-    (d e : Envelope) (a b : ReplyOf Answer) → WasTold bank d a → WasTold bank e b → d.to ≡ e.to → a.number ≡ b.number → a.reply ≡ b.reply
+    (d e : Envelope) (a b : ReplyOf Answer) → WasTold bank d a → WasTold bank e b → d.to ≡ e.to → a.number ≡ b.number
+    → a.reply ≡ b.reply
 
 -- it is the book's answer, at the place of that request's row in the executed rows of any site at either moment
 abbrev pub AnswersAreRight : Setup → Bank → Bank → Type 0
 AnswersAreRight setup early late =
     (e : Envelope) (said : ReplyOf Answer) (x : Site Cmd) (place : ℕ) (row : Row) → WasTold late e said
-    → IsSiteOf early late x → 1 ≤ place → row_at (executed_rows x) place ≡ Some row → row.client ≡ e.to → row.number ≡ said.number
+    → IsSiteOf early late x → 1 ≤ place → row_at (executed_rows x) place ≡ Some row → row.client ≡ e.to
+    → row.number ≡ said.number
     → said.reply ≡ answer_at book (opening setup) (executed_rows x) place row
 
 -- What a site had executed up to the row that it answered in a view begins the log of every site that is normal in a

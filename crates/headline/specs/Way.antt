@@ -13,7 +13,8 @@ not_credited c x entries = sum_by (λ p. if has_pay_in entries c p.0 then 0 else
 
 -- the book's orders that the node has not done, and that are not returned in the book
 abbrev pub not_done : ℕ → Node → List Entry → ℕ
-not_done c x entries = sum_by (λ o. if has_done x o.out || has_return entries c o.out then 0 else o.amt) (orders entries c)
+not_done c x entries =
+    sum_by (λ o. if has_done x o.out || has_return entries c o.out then 0 else o.amt) (orders entries c)
 
 -- the book's orders that the node has neither done nor returned
 abbrev pub not_known : ℕ → Node → List Entry → ℕ

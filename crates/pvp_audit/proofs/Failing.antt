@@ -8,8 +8,10 @@ use Rattle.pvp_audit.specs.Runs.{number_at}
 use Rattle.pvp_audit.specs.Verdicts.{HoldOfAll, IsAlone, ClocksRise, MeansNo, MeansNoRun}
 use Rattle.pvp_audit.specs.Merging.{HasFailed}
 
-module _ {A N E O L : Type 0} (m : Ghosts A N E O) (delivers : E → Option L) (sent : O → List L) (is_for : A → E → Bool) (closed : List (Closed A N E O)) (start : ℕ → m.State) (place actor event : ℕ) (number : number_at closed place ≡ actor) where
-  pub failed_means : (why : Why) → HoldOfAll closed (λ _ c. IsAlone c) → HasFailed m delivers sent is_for closed start place event why → MeansNo m delivers sent is_for closed start actor event why
+module _ {A N E O L : Type 0} (m : Ghosts A N E O) (delivers : E → Option L) (sent : O → List L) (is_for : A → E → Bool) (closed : List (Closed A N E O))
+    (start : ℕ → m.State) (place actor event : ℕ) (number : number_at closed place ≡ actor) where
+  pub failed_means : (why : Why) → HoldOfAll closed (λ _ c. IsAlone c) → HasFailed m delivers sent is_for closed start place event why
+      → MeansNo m delivers sent is_for closed start actor event why
   failed_means Stamped alone fails = record { place = place; number = number; alone = alone; fails = fails }
   failed_means Answered alone fails = record { place = place; number = number; alone = alone; fails = fails }
   failed_means Clock alone fails = absurd fails
@@ -17,7 +19,8 @@ module _ {A N E O L : Type 0} (m : Ghosts A N E O) (delivers : E → Option L) (
   failed_means Receipts alone fails = absurd fails
   failed_means NoMemory alone fails = absurd fails
 
-  pub failed_means_run : (why : Why) → ClocksRise closed → HasFailed m delivers sent is_for closed start place event why → MeansNoRun m delivers sent is_for closed start actor event why
+  pub failed_means_run : (why : Why) → ClocksRise closed → HasFailed m delivers sent is_for closed start place event why
+      → MeansNoRun m delivers sent is_for closed start actor event why
   failed_means_run Stamped clocks fails = record { place = place; number = number; alone = clocks; fails = fails }
   failed_means_run Answered clocks fails = record { place = place; number = number; alone = clocks; fails = fails }
   failed_means_run Clock clocks fails = absurd fails

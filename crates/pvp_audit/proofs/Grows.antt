@@ -24,13 +24,16 @@ first_below (y ∷ xs) zero i x e = cc
 first_below (y ∷ xs) (suc n) zero x e = omega arith
 first_below (y ∷ xs) (suc n) (suc i) x e = let h = first_below xs n i x e in omega (arith, h)
 
-module _ {A N E O L : Type 0} (delivers : E → Option L) (sent : O → List L) (is_for : A → E → Bool) (closed : List (Closed A N E O)) (at : List ℕ) (run : List (Tagged E O)) (each : (k : ℕ) → own run k ≡ take (slice_index at k) (history_of closed k)) where
+module _ {A N E O L : Type 0} (delivers : E → Option L) (sent : O → List L) (is_for : A → E → Bool) (closed : List (Closed A N E O)) (at : List ℕ)
+    (run : List (Tagged E O)) (each : (k : ℕ) → own run k ≡ take (slice_index at k) (history_of closed k)) where
   named_sent : (stamp : Stamp) (event : E) → IsSent delivers sent closed at stamp event → WasSent delivers sent closed run stamp event
   named_sent stamp event f = record {
     by = f.by;
     place = f.there.place;
     what = f.there.what;
-    there = ap (λ l. slice_get l f.there.place) (each f.by) ∙ slice_get-first (history_of closed f.by) (slice_index at f.by) f.there.place f.there.within ∙ ap (λ o. slice_get (history_in o) f.there.place) f.is ∙ f.there.there;
+    there =
+        ap (λ l. slice_get l f.there.place) (each f.by) ∙ slice_get-first (history_of closed f.by) (slice_index at f.by) f.there.place f.there.within
+        ∙ ap (λ o. slice_get (history_in o) f.there.place) f.is ∙ f.there.there;
     number = ap number_in f.is ∙ f.number;
     clock = f.there.clock;
     sends = f.there.sends;
@@ -38,9 +41,11 @@ module _ {A N E O L : Type 0} (delivers : E → Option L) (sent : O → List L) 
 
   sent_named : (stamp : Stamp) (event : E) → WasSent delivers sent closed run stamp event → IsSent delivers sent closed at stamp event
   sent_named stamp event w =
-      let there : slice_get (take (slice_index at w.by) (history_of closed w.by)) w.place ≡ Some w.what = ap (λ l. slice_get l w.place) (sym (each w.by)) ∙ w.there in
+      let there : slice_get (take (slice_index at w.by) (history_of closed w.by)) w.place ≡ Some w.what =
+      ap (λ l. slice_get l w.place) (sym (each w.by)) ∙ w.there in
       let below = first_below (history_of closed w.by) (slice_index at w.by) w.place w.what there in
-      let got : slice_get (history_of closed w.by) w.place ≡ Some w.what = sym (slice_get-first (history_of closed w.by) (slice_index at w.by) w.place below) ∙ there in
+      let got : slice_get (history_of closed w.by) w.place ≡ Some w.what =
+      sym (slice_get-first (history_of closed w.by) (slice_index at w.by) w.place below) ∙ there in
       let who = who_took closed w.by w.place w.what got in
       record {
         by = w.by;
@@ -57,18 +62,24 @@ module _ {A N E O L : Type 0} (delivers : E → Option L) (sent : O → List L) 
   arrives_named actor r n = elim n [ inl e ↦ inl e | inr w ↦ inr (w.0, w.1, w.2, sent_named w.0 r.event w.3) ]
 
 -- THE NEXT EVENT OF ALL IS THE MERGED LIST'S NEXT
-module _ {A N E O : Type 0} (closed : List (Closed A N E O)) (order : AreInOrder closed) (clocks : ClocksRise closed) (at : List ℕ) (run : List (Tagged E O)) (merged : IsMerged closed run at) where
+module _ {A N E O : Type 0} (closed : List (Closed A N E O)) (order : AreInOrder closed) (clocks : ClocksRise closed) (at : List ℕ) (run : List (Tagged E O))
+    (merged : IsMerged closed run at) where
   module _ (k : ℕ) (next : IsNextActor closed at k) (now : List ℕ) (stepped : IsStepped at now k) where
     each_next : (j : ℕ) (b : Bool) → (k == j) ≡ b → own run j ++ (if b then next.what ∷ [] else []) ≡ take (slice_index now j) (history_of closed j)
     each_next j true e =
         let P : ℕ → Type 0 = λ n. own run n ++ next.what ∷ [] ≡ take (slice_index now n) (history_of closed n) in
-        subst P (eqb-true k j e) (ap (λ l. l ++ next.what ∷ []) (merged.each k) ∙ sym (take_next (history_of closed k) (slice_index at k) next.what next.next) ∙ ap (λ n. take n (history_of closed k)) (sym stepped.here))
+        subst P (eqb-true k j e) (ap (λ l. l ++ next.what ∷ []) (merged.each k) ∙ sym (take_next (history_of closed k) (slice_index at k) next.what next.next)
+        ∙ ap (λ n. take n (history_of closed k)) (sym stepped.here))
     each_next j false e = append-nil (own run j) ∙ merged.each j ∙ ap (λ n. take n (history_of closed j)) (sym (stepped.others j (eqb-false k j e)))
 
-    ahead_next : (j i : ℕ) (r : Recorded E O) (b : Bool) → (k == j) ≡ b → slice_index now j ≤ i → slice_get (history_of closed j) i ≡ Some r → AreBefore closed (record { by = k; what = next.what } ∷ run) (record { by = j; what = r })
+    ahead_next : (j i : ℕ) (r : Recorded E O) (b : Bool) → (k == j) ≡ b → slice_index now j ≤ i → slice_get (history_of closed j) i ≡ Some r
+        → AreBefore closed (record { by = k; what = next.what } ∷ run) (record { by = j; what = r })
     ahead_next j i r true e =
-        let P : ℕ → Type 0 = λ n. slice_index now n ≤ i → slice_get (history_of closed n) i ≡ Some r → AreBefore closed (record { by = k; what = next.what } ∷ run) (record { by = n; what = r }) in
-        subst P (eqb-true k j e) (λ low there. (let h = stepped.here in (is_after_own closed clocks at k next i r (omega (arith, low, h)) there, merged.ahead k i r (omega (arith, low, h)) there)))
+        let P : ℕ → Type 0 =
+        λ n. slice_index now n ≤ i → slice_get (history_of closed n) i ≡ Some r
+        → AreBefore closed (record { by = k; what = next.what } ∷ run) (record { by = n; what = r }) in
+        subst P (eqb-true k j e) (λ low there. (let h = stepped.here in
+        (is_after_own closed clocks at k next i r (omega (arith, low, h)) there, merged.ahead k i r (omega (arith, low, h)) there)))
     ahead_next j i r false e = λ low there.
         let other = eqb-false k j e in
         let o = stepped.others j other in
@@ -94,7 +105,8 @@ merged_none closed at none = record {
   ahead = λ k i r low there. tt;
 }
 
-module _ {A N E O L : Type 0} (m : Ghosts A N E O) (delivers : E → Option L) (sent : O → List L) (is_for : A → E → Bool) (closed : List (Closed A N E O)) (clocks : ClocksRise closed) (start : ℕ → m.State) (at : List ℕ) (p : IsProgress m delivers sent is_for closed start at) where
+module _ {A N E O L : Type 0} (m : Ghosts A N E O) (delivers : E → Option L) (sent : O → List L) (is_for : A → E → Bool) (closed : List (Closed A N E O))
+    (clocks : ClocksRise closed) (start : ℕ → m.State) (at : List ℕ) (p : IsProgress m delivers sent is_for closed start at) where
   module _ (k : ℕ) (next : IsNextActor closed at k) where
     pub reached : IsReached m delivers sent is_for closed start p.run at (record { by = k; what = next.what })
     reached = record {
@@ -112,10 +124,23 @@ module _ {A N E O L : Type 0} (m : Ghosts A N E O) (delivers : E → Option L) (
       own_is : own p.run k ≡ take (slice_index at k) c.history.items
       own_is = p.merged.each k ∙ ap (λ o. take (slice_index at k) (history_in o)) is
 
-      pub cannot_arrive : (event : ℕ) → event ≡ slice_index at k + 1 → ¬ IsNamed delivers sent is_for closed at c.end next.what → FailsAt m delivers sent is_for closed start k event (CannotArrive delivers sent is_for closed)
-      cannot_arrive event count never = record { who = c; is = is; what = next.what; past = p.run; at = at; count = count; next = next_is; reached = reached; fails = λ a. never (arrives_named delivers sent is_for closed at p.run p.merged.each c.end next.what a) }
+      pub cannot_arrive : (event : ℕ) → event ≡ slice_index at k + 1 → ¬ IsNamed delivers sent is_for closed at c.end next.what
+          → FailsAt m delivers sent is_for closed start k event (CannotArrive delivers sent is_for closed)
+      cannot_arrive event count never =
+          record {
+            who = c;
+            is = is;
+            what = next.what;
+            past = p.run;
+            at = at;
+            count = count;
+            next = next_is;
+            reached = reached;
+            fails = λ a. never (arrives_named delivers sent is_for closed at p.run p.merged.each c.end next.what a);
+          }
 
-      pub cannot_come : (event : ℕ) → event ≡ slice_index at k + 1 → IsNamed delivers sent is_for closed at c.end next.what → ¬ m.comes (replay m.after (take (slice_index at k) c.history.items) (start k)) next.what.event next.what.outcome
+      pub cannot_come : (event : ℕ) → event ≡ slice_index at k + 1 → IsNamed delivers sent is_for closed at c.end next.what
+          → ¬ m.comes (replay m.after (take (slice_index at k) c.history.items) (start k)) next.what.event next.what.outcome
           → FailsAt m delivers sent is_for closed start k event (CannotCome m delivers sent is_for closed start)
       cannot_come event count named never = record {
         who = c;
@@ -126,7 +151,11 @@ module _ {A N E O L : Type 0} (m : Ghosts A N E O) (delivers : E → Option L) (
         count = count;
         next = next_is;
         reached = reached;
-        fails = (named_arrives delivers sent is_for closed at p.run p.merged.each c.end next.what named, λ comes. never (subst (λ h. m.comes (replay m.after h (start k)) next.what.event next.what.outcome) own_is comes));
+        fails = (
+          named_arrives delivers sent is_for closed at p.run p.merged.each c.end next.what named,
+          λ comes.
+              never (subst (λ h. m.comes (replay m.after h (start k)) next.what.event next.what.outcome) own_is comes),
+        );
       }
 
 -- how many events are left
@@ -135,23 +164,28 @@ left [] at = 0
 left (c ∷ cs) [] = length c.history.items + left cs []
 left (c ∷ cs) (n ∷ at) = (length c.history.items - n) + left cs at
 
-pub left_less : {A N E O : Type 0} (closed : List (Closed A N E O)) (at : List ℕ) (k v : ℕ) → k < length at → k < length closed → slice_index at k ≡ v → v < length (history_of closed k) → left closed (slice_set at k (v + 1)) < left closed at
+pub left_less : {A N E O : Type 0} (closed : List (Closed A N E O)) (at : List ℕ) (k v : ℕ) → k < length at → k < length closed → slice_index at k ≡ v
+    → v < length (history_of closed k) → left closed (slice_set at k (v + 1)) < left closed at
 left_less [] at k v h w is more = absurd (omega (arith, w))
 left_less (c ∷ cs) [] k v h w is more = absurd (omega (arith, h))
 left_less (c ∷ cs) (n ∷ at) zero v h w is more = omega (arith, is, more)
 left_less (c ∷ cs) (n ∷ at) (suc k) v h w is more = let ih = left_less cs at k v (omega (arith, h)) (omega (arith, w)) is more in omega (arith, ih)
 
 -- the next event, as it is read
-pub next_place : {A N E O : Type 0} (closed : List (Closed A N E O)) (at : List ℕ) (k place : ℕ) (one : Closed A N E O) → length at ≡ length closed → (next : IsNextActor closed at k) → one ≡ get_or closed k one → place ≡ get_or at k place
+pub next_place : {A N E O : Type 0} (closed : List (Closed A N E O)) (at : List ℕ) (k place : ℕ) (one : Closed A N E O) → length at ≡ length closed
+    → (next : IsNextActor closed at k) → one ≡ get_or closed k one → place ≡ get_or at k place
     → (slice_get closed k ≡ Some one) × (slice_index at k ≡ place) × (slice_get one.history.items place ≡ Some next.what) × (place < length one.history.items)
 next_place closed at k place one same next c p =
     let low = next.within in
     let is = slice_get_read closed (length closed) k one refl low c in
     let v : slice_index at k ≡ place = get_or_from_slice_get at k place 0 (slice_get_read at (length at) k place refl (omega (arith, low, same)) p) in
-    let got : slice_get one.history.items place ≡ Some next.what = ap (λ o. slice_get (history_in o) place) (sym is) ∙ ap (slice_get (history_of closed k)) (sym v) ∙ next.next in
+    let got : slice_get one.history.items place ≡ Some next.what =
+    ap (λ o. slice_get (history_in o) place) (sym is) ∙ ap (slice_get (history_of closed k)) (sym v) ∙ next.next in
     (is, v, got, slice_get_within one.history.items place next.what got)
 
-pub event_is : {A N E O : Type 0} (closed : List (Closed A N E O)) (at : List ℕ) (k place : ℕ) (one : Closed A N E O) (next : IsNextActor closed at k) (list : List (Recorded E O)) (r : Recorded E O) → slice_get one.history.items place ≡ Some next.what → list ≡ one.history.items → r ≡ get_or list place r → next.what ≡ r
+pub event_is : {A N E O : Type 0} (closed : List (Closed A N E O)) (at : List ℕ) (k place : ℕ) (one : Closed A N E O) (next : IsNextActor closed at k)
+    (list : List (Recorded E O)) (r : Recorded E O) → slice_get one.history.items place ≡ Some next.what → list ≡ one.history.items → r ≡ get_or list place r
+    → next.what ≡ r
 event_is closed at k place one next list r got same e =
     let in_list : slice_get list place ≡ Some next.what = ap (λ l. slice_get l place) same ∙ got in
     same_some next.what r (sym in_list ∙ slice_get_read list (length list) place r refl (slice_get_within list place next.what in_list) e)

@@ -21,7 +21,8 @@ module _ {X : Type 0} (key : X → ℕ) (xs : List X) (rises : Rises key xs) whe
     | inl same ↦ (let e : key (get_or xs i d) ≡ key (get_or xs j d) = ap (λ n. key (get_or xs n d)) same in omega (arith, e))
     | inr w ↦ elim w [
       | inl less ↦
-          (let a = rises i j (get_or xs i d) (get_or xs j d) less (slice_get-get_or xs i d (omega (arith, less, within))) (slice_get-get_or xs j d within) in omega (arith, a))
+          (let a = rises i j (get_or xs i d) (get_or xs j d) less (slice_get-get_or xs i d (omega (arith, less, within))) (slice_get-get_or xs j d within) in
+          omega (arith, a))
       | inr more ↦ absurd (omega (arith, more, low))
     ]
   ]

@@ -5,7 +5,8 @@ use Rattle.std.proofs.lemmas.Bool.{cases_order, eqb-true, eqb-false}
 use Rattle.pvp_rooms.specs.declared.cell.Closed.{Closed}
 use Rattle.pvp_audit.specs.Runs.{history_in, history_of}
 
-pub history_read : {A N E O : Type 0} (closed : List (Closed A N E O)) (k : ℕ) (c : Closed A N E O) → k < length closed → c ≡ get_or closed k c → history_of closed k ≡ c.history.items
+pub history_read : {A N E O : Type 0} (closed : List (Closed A N E O)) (k : ℕ) (c : Closed A N E O) → k < length closed → c ≡ get_or closed k c
+    → history_of closed k ≡ c.history.items
 history_read closed k c h e = ap history_in (slice_get_read closed (length closed) k c refl h e)
 
 -- the first n items have the items below n
@@ -36,7 +37,8 @@ get_set_other (x ∷ xs) (suc k) zero a h = refl
 get_set_other (x ∷ xs) (suc k) (suc j) a h = get_set_other xs k j a (λ e. h (ap suc e))
 
 -- what holds of each item below n and of item n
-pub below_more : {X : Type 0} (P : X → Type 0) (xs : List X) (n : ℕ) (x : X) → n < length xs → x ≡ get_or xs n x → ((k : ℕ) (y : X) → slice_get xs k ≡ Some y → k < n → P y) → P x → (k : ℕ) (y : X) → slice_get xs k ≡ Some y → k < n + 1 → P y
+pub below_more : {X : Type 0} (P : X → Type 0) (xs : List X) (n : ℕ) (x : X) → n < length xs → x ≡ get_or xs n x
+    → ((k : ℕ) (y : X) → slice_get xs k ≡ Some y → k < n → P y) → P x → (k : ℕ) (y : X) → slice_get xs k ≡ Some y → k < n + 1 → P y
 below_more {X = X} P xs n x within is old here k y hy h = go (n == k) refl
   where
     some : (a b : X) → Some a ≡ Some b → a ≡ b
@@ -47,7 +49,8 @@ below_more {X = X} P xs n x within is old here k y hy h = go (n == k) refl
     go false e = let ne = eqb-false n k e in old k y hy (omega (arith, h, ne))
 
 -- what holds of each item below a place and of the item there
-pub below_place : {X : Type 0} (P : ℕ → X → Type 0) (xs : List X) (n : ℕ) (x : X) → slice_get xs n ≡ Some x → ((k : ℕ) (y : X) → slice_get xs k ≡ Some y → k < n → P k y) → P n x → (k : ℕ) (y : X) → slice_get xs k ≡ Some y → k < n + 1 → P k y
+pub below_place : {X : Type 0} (P : ℕ → X → Type 0) (xs : List X) (n : ℕ) (x : X) → slice_get xs n ≡ Some x
+    → ((k : ℕ) (y : X) → slice_get xs k ≡ Some y → k < n → P k y) → P n x → (k : ℕ) (y : X) → slice_get xs k ≡ Some y → k < n + 1 → P k y
 below_place {X = X} P xs n x is old here k y hy h = go (n == k) refl
   where
     some : (a b : X) → Some a ≡ Some b → a ≡ b
@@ -59,4 +62,5 @@ below_place {X = X} P xs n x is old here k y hy h = go (n == k) refl
 
 -- what is below one more is below, or there
 pub below_one_more : {X : Type 0} (i p : ℕ) → p < i + 1 → (p < i → X) → (i ≡ p → X) → X
-below_one_more i p low below here = elim (cases_order i p) [ inl e ↦ here e | inr w ↦ elim w [ inl less ↦ absurd (omega (arith, less, low)) | inr more ↦ below more ] ]
+below_one_more i p low below here =
+    elim (cases_order i p) [ inl e ↦ here e | inr w ↦ elim w [ inl less ↦ absurd (omega (arith, less, low)) | inr more ↦ below more ] ]

@@ -8,12 +8,17 @@ use Rattle.pvp_audit.specs.Together.{IsNext, receipts_of}
 use Rattle.pvp_audit.specs.Verdicts.{IsLowest, AreUsedUp}
 use Rattle.pvp_audit.proofs.Together.{take_next, IsStepped, stepped}
 
-pub used_up-push : {E O : Type 0} (seats : List (Held E O)) (at : List ℕ) (events : List (Recorded E O)) (event : Recorded E O) (now : List ℕ) (k : ℕ) → AreUsedUp seats at events now → IsLowest seats now event k → AreUsedUp seats at (events ++ event ∷ []) (slice_set now k (slice_index now k + 1))
-used_up-push seats at [] event now k used low = let P : List ℕ → Type 0 = λ l. AreUsedUp seats l (event ∷ []) (slice_set now k (slice_index now k + 1)) in subst P used (k, low, refl)
-used_up-push seats at (e ∷ es) event now k used low = (used.0, used.1, used_up-push seats (slice_set at used.0 (slice_index at used.0 + 1)) es event now k used.2 low)
+pub used_up-push : {E O : Type 0} (seats : List (Held E O)) (at : List ℕ) (events : List (Recorded E O)) (event : Recorded E O) (now : List ℕ) (k : ℕ)
+    → AreUsedUp seats at events now → IsLowest seats now event k → AreUsedUp seats at (events ++ event ∷ []) (slice_set now k (slice_index now k + 1))
+used_up-push seats at [] event now k used low = let P : List ℕ → Type 0 = λ l. AreUsedUp seats l (event ∷ []) (slice_set now k (slice_index now k + 1)) in
+    subst P used (k, low, refl)
+used_up-push seats at (e ∷ es) event now k used low =
+    (used.0, used.1, used_up-push seats (slice_set at used.0 (slice_index at used.0 + 1)) es event now k used.2 low)
 
 -- an event more is used up
-pub used_up_more : {E O : Type 0} (history : List (Recorded E O)) (seats : List (Held E O)) (first at : List ℕ) (done k v : ℕ) (r : Recorded E O) → done < length history → r ≡ get_or history done r → k < length at → v ≡ get_or at k v → AreUsedUp seats first (take done history) at → IsLowest seats at r k
+pub used_up_more : {E O : Type 0} (history : List (Recorded E O)) (seats : List (Held E O)) (first at : List ℕ) (done k v : ℕ) (r : Recorded E O)
+    → done < length history → r ≡ get_or history done r → k < length at → v ≡ get_or at k v → AreUsedUp seats first (take done history) at
+    → IsLowest seats at r k
     → AreUsedUp seats first (take (done + 1) history) (slice_set at k (v + 1))
 used_up_more history seats first at done k v r h e within is used low =
     let n : slice_index at k ≡ v = get_or_from_slice_get at k v 0 (slice_get_read at (length at) k v refl within is) in
@@ -22,7 +27,8 @@ used_up_more history seats first at done k v r h e within is used low =
     (subst (λ m. AreUsedUp seats first (take done history ++ r ∷ []) (slice_set at k (m + 1))) n (used_up-push seats first (take done history) r at k used low))
 
 -- of no seat more receipts are used than it has
-pub few_more : {E O : Type 0} (seats : List (Held E O)) (at : List ℕ) (k v : ℕ) (r : Recorded E O) → ((j : ℕ) → slice_index at j ≤ length (receipts_of seats j)) → IsNext seats at r k → k < length at → v ≡ get_or at k v → (j : ℕ) → slice_index (slice_set at k (v + 1)) j ≤ length (receipts_of seats j)
+pub few_more : {E O : Type 0} (seats : List (Held E O)) (at : List ℕ) (k v : ℕ) (r : Recorded E O) → ((j : ℕ) → slice_index at j ≤ length (receipts_of seats j))
+    → IsNext seats at r k → k < length at → v ≡ get_or at k v → (j : ℕ) → slice_index (slice_set at k (v + 1)) j ≤ length (receipts_of seats j)
 few_more seats at k v r few next within is j = go (k == j) refl
   where
     s : IsStepped at (slice_set at k (v + 1)) k

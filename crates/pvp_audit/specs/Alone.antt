@@ -8,8 +8,10 @@ use Rattle.pvp_audit.specs.Verdicts.{IsAlone, FailsAlone, ReceiptsFail, ClockFai
 
 -- an actor alone fails a test at an event, and each before it passes both
 abbrev pub AloneNo : {A N E O : Type 0} → List (Closed A N E O) → ℕ → ℕ → Why → Type 0
-AloneNo closed actor event Receipts = FailsAlone IsAlone closed actor (λ c. ReceiptsFail c.history.items c.seats.items event)
-AloneNo closed actor event Clock = FailsAlone IsAlone closed actor (λ c. AreTogether c.history.items c.seats.items × ClockFails c.history.items event)
+AloneNo closed actor event Receipts =
+    FailsAlone IsAlone closed actor (λ c. ReceiptsFail c.history.items c.seats.items event)
+AloneNo closed actor event Clock =
+    FailsAlone IsAlone closed actor (λ c. AreTogether c.history.items c.seats.items × ClockFails c.history.items event)
 AloneNo closed actor event Stamped = ⊥
 AloneNo closed actor event Answered = ⊥
 AloneNo closed actor event End = ⊥

@@ -6,10 +6,13 @@ use Rattle.pvp_rooms.specs.declared.cell.Closed.{Closed}
 
 -- the end states below a place read like the replays
 abbrev pub AreAlike : {A N E O : Type 0} → (m : Ghosts A N E O) → List (Closed A N E O) → (ℕ → m.State) → ℕ → Type 0
-AreAlike {A} {N} {E} {O} m closed start k = (j : ℕ) (c : Closed A N E O) → slice_get closed j ≡ Some c → j < k → m.reads c.end (replay m.after c.history.items (start j))
+AreAlike {A} {N} {E} {O} m closed start k =
+    (j : ℕ) (c : Closed A N E O) → slice_get closed j ≡ Some c → j < k
+    → m.reads c.end (replay m.after c.history.items (start j))
 
 -- and the one at this place does not
-pub record IsFirstUnlike {A N E O : Type 0} (m : Ghosts A N E O) (closed : List (Closed A N E O)) (start : ℕ → m.State) (k : ℕ) : Type 0 where
+pub record IsFirstUnlike {A N E O : Type 0} (m : Ghosts A N E O) (closed : List (Closed A N E O))
+    (start : ℕ → m.State) (k : ℕ) : Type 0 where
   pub who : Closed A N E O
   pub is : slice_get closed k ≡ Some who
   pub before : AreAlike m closed start k

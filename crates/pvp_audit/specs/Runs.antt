@@ -7,7 +7,8 @@ use Rattle.pvp_rooms.specs.Histories.{Takes, replay}
 use Rattle.pvp_rooms.specs.declared.cell.Closed.{Closed}
 
 -- the event can come out so exactly where the answer is true
-abbrev pub Follows : {S E O : Type 0} → (S → E → O → Type 0) → (S → E → O → S) → S → E → O → (S → Type 0) → Bool → Type 0
+abbrev pub Follows : {S E O : Type 0} → (S → E → O → Type 0) → (S → E → O → S) → S → E → O → (S → Type 0) → Bool
+    → Type 0
 Follows comes after x event outcome shown true = Takes comes after x event outcome shown
 Follows comes after x event outcome shown false = ¬ comes x event outcome
 
@@ -17,7 +18,8 @@ is_some (Some x) = true
 
 -- the event delivers what the outcome sent at this place
 abbrev pub Sends : {E O L : Type 0} → (E → Option L) → (O → List L) → E → O → ℕ → Type 0
-Sends {L = L} delivers sent event outcome at = (letter : L) × (delivers event ≡ Some letter) × (slice_get (sent outcome) at ≡ Some letter)
+Sends {L = L} delivers sent event outcome at =
+    (letter : L) × (delivers event ≡ Some letter) × (slice_get (sent outcome) at ≡ Some letter)
 
 -- an event, and the place of its actor
 pub record Tagged (E O : Type 0) : Type 0 where
@@ -51,7 +53,8 @@ AreInOrder closed = (i j : ℕ) → i < j → j < length closed → number_at cl
 
 -- an event of one actor comes before an event of another: by clock, and then by actor number
 abbrev pub IsBefore : {A N E O : Type 0} → List (Closed A N E O) → Tagged E O → Tagged E O → Type 0
-IsBefore closed s t = (s.what.clock < t.what.clock) ⊎ ((s.what.clock ≡ t.what.clock) × (number_at closed s.by < number_at closed t.by))
+IsBefore closed s t =
+    (s.what.clock < t.what.clock) ⊎ ((s.what.clock ≡ t.what.clock) × (number_at closed s.by < number_at closed t.by))
 
 -- these events come before an event
 abbrev pub AreBefore : {A N E O : Type 0} → List (Closed A N E O) → List (Tagged E O) → Tagged E O → Type 0
@@ -63,8 +66,10 @@ abbrev pub IsSorted : {A N E O : Type 0} → List (Closed A N E O) → List (Tag
 IsSorted closed [] = Unit {0}
 IsSorted closed (t ∷ past) = IsSorted closed past × AreBefore closed past t
 
--- What the event delivers was sent: an actor of the stamp's number took an event at the stamp's clock, and sent it at the stamp's place.
-pub record WasSent {A N E O L : Type 0} (delivers : E → Option L) (sent : O → List L) (closed : List (Closed A N E O)) (past : List (Tagged E O)) (stamp : Stamp) (event : E) : Type 0 where
+-- What the event delivers was sent: an actor of the stamp's number took an event at the stamp's clock, and sent it at
+-- the stamp's place.
+pub record WasSent {A N E O L : Type 0} (delivers : E → Option L) (sent : O → List L) (closed : List (Closed A N E O))
+    (past : List (Tagged E O)) (stamp : Stamp) (event : E) : Type 0 where
   pub by : ℕ
   pub place : ℕ
   pub what : Recorded E O
@@ -74,36 +79,49 @@ pub record WasSent {A N E O L : Type 0} (delivers : E → Option L) (sent : O �
   pub sends : Sends delivers sent event what.outcome stamp.index
 
 -- An event delivers nothing, or it may come to its actor, and its stamp names what it delivers.
-abbrev pub Arrives : {A N E O L : Type 0} → (E → Option L) → (O → List L) → (A → E → Bool) → List (Closed A N E O) → List (Tagged E O) → A → Recorded E O → Type 0
-Arrives delivers sent is_for closed past actor r = (delivers r.event ≡ None) ⊎ ((stamp : Stamp) × (r.stamp ≡ Some stamp) × (is_for actor r.event ≡ true) × WasSent delivers sent closed past stamp r.event)
+abbrev pub Arrives : {A N E O L : Type 0} → (E → Option L) → (O → List L) → (A → E → Bool) → List (Closed A N E O)
+    → List (Tagged E O) → A → Recorded E O → Type 0
+Arrives delivers sent is_for closed past actor r =
+    (delivers r.event ≡ None) ⊎ ((stamp : Stamp) × (r.stamp ≡ Some stamp) × (is_for actor r.event ≡ true)
+    × WasSent delivers sent closed past stamp r.event)
 
 -- An actor can take the event as its next, and it comes out so. start has the states in which the actors opened.
-pub record CanCome {A N E O L : Type 0} (m : Ghosts A N E O) (delivers : E → Option L) (sent : O → List L) (is_for : A → E → Bool) (closed : List (Closed A N E O)) (start : ℕ → m.State) (past : List (Tagged E O)) (t : Tagged E O) : Type 0 where
+pub record CanCome {A N E O L : Type 0} (m : Ghosts A N E O) (delivers : E → Option L) (sent : O → List L)
+    (is_for : A → E → Bool) (closed : List (Closed A N E O)) (start : ℕ → m.State) (past : List (Tagged E O))
+    (t : Tagged E O) : Type 0 where
   pub who : Closed A N E O
   pub is : slice_get closed t.by ≡ Some who
   pub arrives : Arrives delivers sent is_for closed past who.end t.what
   pub comes : m.comes (replay m.after (own past t.by) (start t.by)) t.what.event t.what.outcome
 
 -- each event can come after those before it
-abbrev pub IsRun : {A N E O L : Type 0} → (m : Ghosts A N E O) → (E → Option L) → (O → List L) → (A → E → Bool) → List (Closed A N E O) → (ℕ → m.State) → List (Tagged E O) → Type 0
+abbrev pub IsRun : {A N E O L : Type 0} → (m : Ghosts A N E O) → (E → Option L) → (O → List L) → (A → E → Bool)
+    → List (Closed A N E O) → (ℕ → m.State) → List (Tagged E O) → Type 0
 IsRun m delivers sent is_for closed start [] = Unit {0}
-IsRun m delivers sent is_for closed start (t ∷ past) = IsRun m delivers sent is_for closed start past × CanCome m delivers sent is_for closed start past t
+IsRun m delivers sent is_for closed start (t ∷ past) =
+    IsRun m delivers sent is_for closed start past × CanCome m delivers sent is_for closed start past t
 
 -- these are states in which the actors opened
 abbrev pub AreOpenings : {A N E O : Type 0} → (m : Ghosts A N E O) → List (Closed A N E O) → (ℕ → m.State) → Type 0
-AreOpenings {A} {N} {E} {O} m closed start = (k : ℕ) (c : Closed A N E O) → slice_get closed k ≡ Some c → m.opens c.end c.opening (start k)
+AreOpenings {A} {N} {E} {O} m closed start =
+    (k : ℕ) (c : Closed A N E O) → slice_get closed k ≡ Some c → m.opens c.end c.opening (start k)
 
 -- THE MERGED LIST IS LEGAL: all events of all histories, ordered by clock and actor number, are a run.
-pub record IsLegal {A N E O L : Type 0} (m : Ghosts A N E O) (delivers : E → Option L) (sent : O → List L) (is_for : A → E → Bool) (closed : List (Closed A N E O)) (start : ℕ → m.State) : Type 0 where
+pub record IsLegal {A N E O L : Type 0} (m : Ghosts A N E O) (delivers : E → Option L) (sent : O → List L)
+    (is_for : A → E → Bool) (closed : List (Closed A N E O)) (start : ℕ → m.State) : Type 0 where
   pub run : List (Tagged E O)
   pub sorted : IsSorted closed run
   pub each : (k : ℕ) → own run k ≡ history_of closed k
   pub legal : IsRun m delivers sent is_for closed start run
 
--- An event of the merged list, where the events before it were a run: past has just the events that come before it, in order; at says how many of each history.
-pub record IsReached {A N E O L : Type 0} (m : Ghosts A N E O) (delivers : E → Option L) (sent : O → List L) (is_for : A → E → Bool) (closed : List (Closed A N E O)) (start : ℕ → m.State) (past : List (Tagged E O)) (at : List ℕ) (t : Tagged E O) : Type 0 where
+-- An event of the merged list, where the events before it were a run: past has just the events that come before it, in
+-- order; at says how many of each history.
+pub record IsReached {A N E O L : Type 0} (m : Ghosts A N E O) (delivers : E → Option L) (sent : O → List L)
+    (is_for : A → E → Bool) (closed : List (Closed A N E O)) (start : ℕ → m.State) (past : List (Tagged E O))
+    (at : List ℕ) (t : Tagged E O) : Type 0 where
   pub sorted : IsSorted closed past
   pub legal : IsRun m delivers sent is_for closed start past
   pub before : AreBefore closed past t
   pub each : (k : ℕ) → own past k ≡ take (slice_index at k) (history_of closed k)
-  pub not_before : (k i : ℕ) (r : Recorded E O) → slice_index at k ≤ i → slice_get (history_of closed k) i ≡ Some r → ¬ IsBefore closed (record { by = k; what = r }) t
+  pub not_before : (k i : ℕ) (r : Recorded E O) → slice_index at k ≤ i → slice_get (history_of closed k) i ≡ Some r
+      → ¬ IsBefore closed (record { by = k; what = r }) t

@@ -18,17 +18,20 @@ pub record IsLowest {E O : Type 0} (seats : List (Held E O)) (at : List ℕ) (ev
   pub next : IsNext seats at event k
   pub lowest : (j : ℕ) → j < k → ¬ IsNext seats at event j
 
--- each event uses the next receipt of the lowest seat that has it there: at has how many are used of each seat before, now after
+-- each event uses the next receipt of the lowest seat that has it there: at has how many are used of each seat before,
+-- now after
 abbrev pub AreUsedUp : {E O : Type 0} → List (Held E O) → List ℕ → List (Recorded E O) → List ℕ → Type 0
 AreUsedUp seats at [] now = now ≡ at
-AreUsedUp seats at (event ∷ events) now = (k : ℕ) × IsLowest seats at event k × AreUsedUp seats (slice_set at k (slice_index at k + 1)) events now
+AreUsedUp seats at (event ∷ events) now =
+    (k : ℕ) × IsLowest seats at event k × AreUsedUp seats (slice_set at k (slice_index at k + 1)) events now
 
 -- none is used
 abbrev pub unused : {E O : Type 0} → List (Held E O) → List ℕ
 unused seats = replicate (length seats) 0
 
 -- the event after the first `many` is no seat's next receipt
-pub record HasNoReceipt {E O : Type 0} (history : List (Recorded E O)) (seats : List (Held E O)) (many : ℕ) : Type 0 where
+pub record HasNoReceipt {E O : Type 0} (history : List (Recorded E O)) (seats : List (Held E O)) (many : ℕ)
+    : Type 0 where
   pub event : Recorded E O
   pub is : slice_get history many ≡ Some event
   pub at : List ℕ
@@ -44,7 +47,8 @@ pub record IsLeftOver {E O : Type 0} (history : List (Recorded E O)) (seats : Li
 
 -- the test of receipts fails at this event, counted from 1, or at none
 abbrev pub ReceiptsFail : {E O : Type 0} → List (Recorded E O) → List (Held E O) → ℕ → Type 0
-ReceiptsFail history seats event = ((event ≡ 0) × IsLeftOver history seats) ⊎ ((many : ℕ) × (event ≡ many + 1) × HasNoReceipt history seats many)
+ReceiptsFail history seats event =
+    ((event ≡ 0) × IsLeftOver history seats) ⊎ ((many : ℕ) × (event ≡ many + 1) × HasNoReceipt history seats many)
 
 -- the clocks rise up to an event, counted from 1, and not at it
 pub record ClockFails {E O : Type 0} (history : List (Recorded E O)) (event : ℕ) : Type 0 where
@@ -80,15 +84,19 @@ pub record IsActor {A N E O : Type 0} (closed : List (Closed A N E O)) (actor k 
   pub number : c.number ≡ actor
 
 -- An actor alone fails, and each before it passes what an actor alone has to pass.
-pub record FailsAlone {A N E O : Type 0} (passes : Closed A N E O → Type 0) (closed : List (Closed A N E O)) (actor : ℕ) (failing : Closed A N E O → Type 0) : Type 0 where
+pub record FailsAlone {A N E O : Type 0} (passes : Closed A N E O → Type 0) (closed : List (Closed A N E O)) (actor : ℕ)
+    (failing : Closed A N E O → Type 0) : Type 0 where
   pub place : ℕ
   pub who : Closed A N E O
   pub is : IsActor closed actor place who
   pub before : HoldBelow closed place passes
   pub fails : failing who
 
--- A test of the merged list fails at an event of the actor at a place, counted from 1, and the events before it are a run.
-pub record FailsAt {A N E O L : Type 0} (m : Ghosts A N E O) (delivers : E → Option L) (sent : O → List L) (is_for : A → E → Bool) (closed : List (Closed A N E O)) (start : ℕ → m.State) (place event : ℕ) (failing : Closed A N E O → List (Tagged E O) → Tagged E O → Type 0) : Type 0 where
+-- A test of the merged list fails at an event of the actor at a place, counted from 1, and the events before it are a
+-- run.
+pub record FailsAt {A N E O L : Type 0} (m : Ghosts A N E O) (delivers : E → Option L) (sent : O → List L)
+    (is_for : A → E → Bool) (closed : List (Closed A N E O)) (start : ℕ → m.State) (place event : ℕ)
+    (failing : Closed A N E O → List (Tagged E O) → Tagged E O → Type 0) : Type 0 where
   pub who : Closed A N E O
   pub is : slice_get closed place ≡ Some who
   pub what : Recorded E O
@@ -100,22 +108,28 @@ pub record FailsAt {A N E O L : Type 0} (m : Ghosts A N E O) (delivers : E → O
   pub fails : failing who past (record { by = place; what = what })
 
 -- what is delivered isn't what the stamp names
-abbrev pub CannotArrive : {A N E O L : Type 0} → (E → Option L) → (O → List L) → (A → E → Bool) → List (Closed A N E O) → Closed A N E O → List (Tagged E O) → Tagged E O → Type 0
+abbrev pub CannotArrive : {A N E O L : Type 0} → (E → Option L) → (O → List L) → (A → E → Bool) → List (Closed A N E O)
+    → Closed A N E O → List (Tagged E O) → Tagged E O → Type 0
 CannotArrive delivers sent is_for closed who past t = ¬ Arrives delivers sent is_for closed past who.end t.what
 
 -- it is, and the event cannot come out as recorded
-abbrev pub CannotCome : {A N E O L : Type 0} → (m : Ghosts A N E O) → (E → Option L) → (O → List L) → (A → E → Bool) → List (Closed A N E O) → (ℕ → m.State) → Closed A N E O → List (Tagged E O) → Tagged E O → Type 0
-CannotCome m delivers sent is_for closed start who past t = Arrives delivers sent is_for closed past who.end t.what × ¬ m.comes (replay m.after (own past t.by) (start t.by)) t.what.event t.what.outcome
+abbrev pub CannotCome : {A N E O L : Type 0} → (m : Ghosts A N E O) → (E → Option L) → (O → List L) → (A → E → Bool)
+    → List (Closed A N E O) → (ℕ → m.State) → Closed A N E O → List (Tagged E O) → Tagged E O → Type 0
+CannotCome m delivers sent is_for closed start who past t =
+    Arrives delivers sent is_for closed past who.end t.what
+    × ¬ m.comes (replay m.after (own past t.by) (start t.by)) t.what.event t.what.outcome
 
 -- Such a test fails, and each actor alone passes.
-pub record FailsMerged {A N E O : Type 0} (passes : Closed A N E O → Type 0) (closed : List (Closed A N E O)) (actor : ℕ) (fails_at : ℕ → Type 0) : Type 0 where
+pub record FailsMerged {A N E O : Type 0} (passes : Closed A N E O → Type 0) (closed : List (Closed A N E O))
+    (actor : ℕ) (fails_at : ℕ → Type 0) : Type 0 where
   pub place : ℕ
   pub number : number_at closed place ≡ actor
   pub alone : HoldOfAll closed (λ _ c. passes c)
   pub fails : fails_at place
 
 -- An end state differs from the replay, and no end state before it; all other tests pass.
-pub record FailsEnd {A N E O L : Type 0} (m : Ghosts A N E O) (delivers : E → Option L) (sent : O → List L) (is_for : A → E → Bool) (closed : List (Closed A N E O)) (start : ℕ → m.State) (actor : ℕ) : Type 0 where
+pub record FailsEnd {A N E O L : Type 0} (m : Ghosts A N E O) (delivers : E → Option L) (sent : O → List L)
+    (is_for : A → E → Bool) (closed : List (Closed A N E O)) (start : ℕ → m.State) (actor : ℕ) : Type 0 where
   pub place : ℕ
   pub number : number_at closed place ≡ actor
   pub alone : HoldOfAll closed (λ _ c. IsAlone c)
@@ -123,43 +137,65 @@ pub record FailsEnd {A N E O L : Type 0} (m : Ghosts A N E O) (delivers : E → 
   pub unlike : IsFirstUnlike m closed start place
 
 -- The histories are one run: their clocks rise, and all their events, merged, are legal.
-pub record IsOneRun {A N E O L : Type 0} (m : Ghosts A N E O) (delivers : E → Option L) (sent : O → List L) (is_for : A → E → Bool) (closed : List (Closed A N E O)) (start : ℕ → m.State) : Type 0 where
+pub record IsOneRun {A N E O L : Type 0} (m : Ghosts A N E O) (delivers : E → Option L) (sent : O → List L)
+    (is_for : A → E → Bool) (closed : List (Closed A N E O)) (start : ℕ → m.State) : Type 0 where
   pub clocks : ClocksRise closed
   pub legal : IsLegal m delivers sent is_for closed start
 
--- Each test passes: of each actor the receipts are together its history, the histories are one run, and the ends read like the replays.
-pub record IsSound {A N E O L : Type 0} (m : Ghosts A N E O) (delivers : E → Option L) (sent : O → List L) (is_for : A → E → Bool) (closed : List (Closed A N E O)) (start : ℕ → m.State) : Type 0 where
+-- Each test passes: of each actor the receipts are together its history, the histories are one run, and the ends read
+-- like the replays.
+pub record IsSound {A N E O L : Type 0} (m : Ghosts A N E O) (delivers : E → Option L) (sent : O → List L)
+    (is_for : A → E → Bool) (closed : List (Closed A N E O)) (start : ℕ → m.State) : Type 0 where
   pub receipts : HoldOfAll closed (λ _ c. AreTogether c.history.items c.seats.items)
   pub run : IsOneRun m delivers sent is_for closed start
   pub ends : AreAlike m closed start (length closed)
 
-abbrev pub MeansNo : {A N E O L : Type 0} → (m : Ghosts A N E O) → (E → Option L) → (O → List L) → (A → E → Bool) → List (Closed A N E O) → (ℕ → m.State) → ℕ → ℕ → Why → Type 0
-MeansNo m delivers sent is_for closed start actor event Receipts = FailsAlone IsAlone closed actor (λ c. ReceiptsFail c.history.items c.seats.items event)
-MeansNo m delivers sent is_for closed start actor event Clock = FailsAlone IsAlone closed actor (λ c. AreTogether c.history.items c.seats.items × ClockFails c.history.items event)
-MeansNo m delivers sent is_for closed start actor event Stamped = FailsMerged IsAlone closed actor (λ place. FailsAt m delivers sent is_for closed start place event (CannotArrive delivers sent is_for closed))
-MeansNo m delivers sent is_for closed start actor event Answered = FailsMerged IsAlone closed actor (λ place. FailsAt m delivers sent is_for closed start place event (CannotCome m delivers sent is_for closed start))
-MeansNo m delivers sent is_for closed start actor event End = (event ≡ 0) × FailsEnd m delivers sent is_for closed start actor
+abbrev pub MeansNo : {A N E O L : Type 0} → (m : Ghosts A N E O) → (E → Option L) → (O → List L) → (A → E → Bool)
+    → List (Closed A N E O) → (ℕ → m.State) → ℕ → ℕ → Why → Type 0
+MeansNo m delivers sent is_for closed start actor event Receipts =
+    FailsAlone IsAlone closed actor (λ c. ReceiptsFail c.history.items c.seats.items event)
+MeansNo m delivers sent is_for closed start actor event Clock =
+    FailsAlone IsAlone closed actor (λ c. AreTogether c.history.items c.seats.items × ClockFails c.history.items event)
+MeansNo m delivers sent is_for closed start actor event Stamped =
+    FailsMerged IsAlone closed actor (λ place. FailsAt m delivers sent is_for closed start place event
+    (CannotArrive delivers sent is_for closed))
+MeansNo m delivers sent is_for closed start actor event Answered =
+    FailsMerged IsAlone closed actor (λ place. FailsAt m delivers sent is_for closed start place event
+    (CannotCome m delivers sent is_for closed start))
+MeansNo m delivers sent is_for closed start actor event End =
+    (event ≡ 0) × FailsEnd m delivers sent is_for closed start actor
 MeansNo m delivers sent is_for closed start actor event NoMemory = (actor ≡ 0) × (event ≡ 0)
 
 -- WHAT AN AUDIT SAYS, both ways
-abbrev pub Means : {A N E O L : Type 0} → (m : Ghosts A N E O) → (E → Option L) → (O → List L) → (A → E → Bool) → List (Closed A N E O) → (ℕ → m.State) → Verdict → Type 0
+abbrev pub Means : {A N E O L : Type 0} → (m : Ghosts A N E O) → (E → Option L) → (O → List L) → (A → E → Bool)
+    → List (Closed A N E O) → (ℕ → m.State) → Verdict → Type 0
 Means m delivers sent is_for closed start Yes = IsSound m delivers sent is_for closed start
-Means m delivers sent is_for closed start (No actor event why) = MeansNo m delivers sent is_for closed start actor event why
+Means m delivers sent is_for closed start (No actor event why) =
+    MeansNo m delivers sent is_for closed start actor event why
 
 -- ---- histories alone, whatever receipts and ends there are
 
-abbrev pub MeansNoRun : {A N E O L : Type 0} → (m : Ghosts A N E O) → (E → Option L) → (O → List L) → (A → E → Bool) → List (Closed A N E O) → (ℕ → m.State) → ℕ → ℕ → Why → Type 0
-MeansNoRun m delivers sent is_for closed start actor event Clock = FailsAlone HasRisingClocks closed actor (λ c. ClockFails c.history.items event)
-MeansNoRun m delivers sent is_for closed start actor event Stamped = FailsMerged HasRisingClocks closed actor (λ place. FailsAt m delivers sent is_for closed start place event (CannotArrive delivers sent is_for closed))
-MeansNoRun m delivers sent is_for closed start actor event Answered = FailsMerged HasRisingClocks closed actor (λ place. FailsAt m delivers sent is_for closed start place event (CannotCome m delivers sent is_for closed start))
+abbrev pub MeansNoRun : {A N E O L : Type 0} → (m : Ghosts A N E O) → (E → Option L) → (O → List L) → (A → E → Bool)
+    → List (Closed A N E O) → (ℕ → m.State) → ℕ → ℕ → Why → Type 0
+MeansNoRun m delivers sent is_for closed start actor event Clock =
+    FailsAlone HasRisingClocks closed actor (λ c. ClockFails c.history.items event)
+MeansNoRun m delivers sent is_for closed start actor event Stamped =
+    FailsMerged HasRisingClocks closed actor
+    (λ place. FailsAt m delivers sent is_for closed start place event (CannotArrive delivers sent is_for closed))
+MeansNoRun m delivers sent is_for closed start actor event Answered =
+    FailsMerged HasRisingClocks closed actor
+    (λ place. FailsAt m delivers sent is_for closed start place event
+    (CannotCome m delivers sent is_for closed start))
 MeansNoRun m delivers sent is_for closed start actor event Receipts = ⊥
 MeansNoRun m delivers sent is_for closed start actor event End = ⊥
 MeansNoRun m delivers sent is_for closed start actor event NoMemory = ⊥
 
 -- WHAT AN AUDIT OF HISTORIES SAYS, both ways
-abbrev pub MeansRun : {A N E O L : Type 0} → (m : Ghosts A N E O) → (E → Option L) → (O → List L) → (A → E → Bool) → List (Closed A N E O) → (ℕ → m.State) → Verdict → Type 0
+abbrev pub MeansRun : {A N E O L : Type 0} → (m : Ghosts A N E O) → (E → Option L) → (O → List L) → (A → E → Bool)
+    → List (Closed A N E O) → (ℕ → m.State) → Verdict → Type 0
 MeansRun m delivers sent is_for closed start Yes = IsOneRun m delivers sent is_for closed start
-MeansRun m delivers sent is_for closed start (No actor event why) = MeansNoRun m delivers sent is_for closed start actor event why
+MeansRun m delivers sent is_for closed start (No actor event why) =
+    MeansNoRun m delivers sent is_for closed start actor event why
 
 -- ---- which tests a verdict is of
 

@@ -25,8 +25,10 @@ pub trait Audited: Actor {
         event: &Self::Event,
         outcome: &Self::Outcome,
     ) -> Result<bool, AllocError>
-        ensures step { IfOk result (λ r. (x : Self.State) → Self.shows self.old x → Follows Self.comes Self.after x event.now outcome.now (Self.shows self.new) r) }
-        ensures opens { (opening : Self.Opening) (x : Self.State) → Self.opens self.new opening x → Self.opens self.old opening x };
+        ensures step { IfOk result (λ r. (x : Self.State) → Self.shows self.old x →
+            Follows Self.comes Self.after x event.now outcome.now (Self.shows self.new) r) }
+        ensures opens { (opening : Self.Opening) (x : Self.State) → Self.opens self.new opening x →
+            Self.opens self.old opening x };
 
     fn same_event(a: &Self::Event, b: &Self::Event) -> bool
         ensures { IsTrue result ↔ (a.now ≡ b.now) };

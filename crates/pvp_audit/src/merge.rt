@@ -10,7 +10,8 @@ pub fn next_actor<A: Audited>(closed: &[Closed<A>], at: &[usize]) -> Option<usiz
     requires same { length at.now ≡ length closed.now }
     requires order { AreInOrder closed.now }
     ensures some { IfSome result (λ k. IsNextActor closed.now at.now k) }
-    ensures none { IfNone result ((k : ℕ) → length (history_of closed.now k) ≤ slice_index at.now k) }
+    ensures none { IfNone result ((k : ℕ) →
+        length (history_of closed.now k) ≤ slice_index at.now k) }
 {
     let mut found: Option<usize> = None;
     let mut least = 0;

@@ -16,7 +16,8 @@ pub fn unreceipted<A: Audited>(
     seats: &[Seat<A::Event, A::Outcome>],
 ) -> Result<Option<usize>, AllocError>
     ensures none { IfOk result (λ found. IfNone found (AreTogether history.now seats.now)) }
-    ensures some { IfOk result (λ found. IfSome found (λ event. ReceiptsFail history.now seats.now event)) }
+    ensures some { IfOk result (λ found.
+        IfSome found (λ event. ReceiptsFail history.now seats.now event)) }
 {
     let mut at = zeros(alloc, seats.len())?;
     let mut done = 0;

@@ -27,7 +27,8 @@ pub fn place_of<A: Audited>(closed: &[Closed<A>], number: u16) -> usize
 /// Whether one of the first events of an actor has the stamp's clock, and sent at its place what this event delivers.
 fn is_sent_by<A: Audited>(one: &Closed<A>, upto: usize, stamp: Stamp, event: &A::Event) -> bool
     requires { IsRising one.now.history.items 0 }
-    ensures { IsTrue result ↔ IsSentBy A.delivers A.sent one.now.history.items upto stamp event.now }
+    ensures { IsTrue result ↔ IsSentBy A.delivers A.sent
+        one.now.history.items upto stamp event.now }
 {
     let history = one.history.as_slice();
     let place = place_at(history, stamp.clock);
@@ -63,7 +64,8 @@ pub fn is_named<A: Audited>(
     requires same { length at.now ≡ length closed.now }
     requires order { AreInOrder closed.now }
     requires clocks { ClocksRise closed.now }
-    ensures { IsTrue result ↔ IsNamed A.delivers A.sent A.is_for closed.now at.now actor.now event.now }
+    ensures { IsTrue result ↔ IsNamed A.delivers A.sent A.is_for closed.now
+        at.now actor.now event.now }
 {
     if !A::is_delivery(&event.event) {
         return true;

@@ -44,11 +44,13 @@ sum-zip-set f (x ∷ xs) (a ∷ bs) (suc c) d b within places =
 
 -- a value once a balance is another
 pub value-set : (cs : List Currency) (bs : List ℤ) (c : ℕ) (d : Currency) (b : ℤ) → c < length cs → c < length bs
-    → value_of cs (slice_set bs c b) ≡ (value_of cs bs -ℤ standing_of (slice_index_or cs c d, slice_index_or bs c (pos 0))) +ℤ standing_of (slice_index_or cs c d, b)
+    → value_of cs (slice_set bs c b) ≡ (value_of cs bs -ℤ standing_of (slice_index_or cs c d, slice_index_or bs c (pos 0))) +ℤ standing_of
+    (slice_index_or cs c d, b)
 value-set cs bs c d b within places =
     let worth = sum-zip-set worth_of cs bs c d b within places in
     let debt = sum-zip-set debt_of cs bs c d b within places in
-    difference (sum_by worth_of (zip cs (slice_set bs c b))) (sum_by debt_of (zip cs (slice_set bs c b))) (sum_by worth_of (zip cs bs)) (sum_by debt_of (zip cs bs))
+    difference (sum_by worth_of (zip cs (slice_set bs c b))) (sum_by debt_of (zip cs (slice_set bs c b))) (sum_by worth_of (zip cs bs))
+    (sum_by debt_of (zip cs bs))
     (worth_of (slice_index_or cs c d, slice_index_or bs c (pos 0))) (worth_of (slice_index_or cs c d, b))
     (debt_of (slice_index_or cs c d, slice_index_or bs c (pos 0))) (debt_of (slice_index_or cs c d, b)) worth debt
   where
@@ -57,23 +59,27 @@ value-set cs bs c d b within places =
 
 -- and a shortage
 pub shortage-set : (cs : List Currency) (bs : List ℤ) (c : ℕ) (d : Currency) (b : ℤ) → c < length cs → c < length bs
-    → sum_by shortage_of (zip cs (slice_set bs c b)) ≡ sum_by shortage_of (zip cs bs) - shortage_of (slice_index_or cs c d, slice_index_or bs c (pos 0)) + shortage_of (slice_index_or cs c d, b)
+    → sum_by shortage_of (zip cs (slice_set bs c b)) ≡ sum_by shortage_of (zip cs bs) - shortage_of
+    (slice_index_or cs c d, slice_index_or bs c (pos 0)) + shortage_of (slice_index_or cs c d, b)
 shortage-set cs bs c d b within places =
     let changed = sum-zip-set shortage_of cs bs c d b within places in
     let part = term-le shortage_of cs bs c d within places in
-    difference (sum_by shortage_of (zip cs (slice_set bs c b))) (sum_by shortage_of (zip cs bs)) (shortage_of (slice_index_or cs c d, slice_index_or bs c (pos 0))) (shortage_of (slice_index_or cs c d, b)) changed part
+    difference (sum_by shortage_of (zip cs (slice_set bs c b))) (sum_by shortage_of (zip cs bs))
+    (shortage_of (slice_index_or cs c d, slice_index_or bs c (pos 0))) (shortage_of (slice_index_or cs c d, b)) changed part
   where
     difference : (s' s x x' : ℕ) → s' + x ≡ s + x' → x ≤ s → s' ≡ s - x + x'
     difference s' s x x' p q = omega arith
 
 -- what a value comes to at most
-pub value-within : (setup : Setup) (bs : List ℤ) → IsValid setup → All (IsWithin (2 * most_total)) bs → IsWithin (8 * (2 * most_total * 1000000 * 20000)) (value_of setup.currencies bs)
+pub value-within : (setup : Setup) (bs : List ℤ) → IsValid setup → All (IsWithin (2 * most_total)) bs
+    → IsWithin (8 * (2 * most_total * 1000000 * 20000)) (value_of setup.currencies bs)
 value-within setup bs valid small =
     let worth = worth-within setup bs valid (valid-currencies setup valid).1 small in
     let debt = debt-within setup bs valid (valid-currencies setup valid).1 small in
     within (sum_by worth_of (zip setup.currencies bs)) (sum_by debt_of (zip setup.currencies bs)) worth debt
   where
-    within : (w d : ℕ) → w ≤ 8 * (2 * most_total * 1000000 * 20000) → d ≤ 8 * (2 * most_total * 1000000 * 20000) → IsWithin (8 * (2 * most_total * 1000000 * 20000)) (pos w -ℤ pos d)
+    within : (w d : ℕ) → w ≤ 8 * (2 * most_total * 1000000 * 20000) → d ≤ 8 * (2 * most_total * 1000000 * 20000)
+        → IsWithin (8 * (2 * most_total * 1000000 * 20000)) (pos w -ℤ pos d)
     within w d p q = record { above = omega (arith, ints); below = omega (arith, ints) }
 
 -- the arithmetic of a posting leaves no type
@@ -84,7 +90,8 @@ balance-posted b amt small few =
     (omega (arith, ints), record { above = omega (arith, ints); below = omega (arith, ints) })
 
 pub standing-fits : (x y : ℕ) → x ≤ 3 * most_total * 1000000 * 20000 → y ≤ 3 * most_total * 1000000 * 20000
-    → FitsSigned w128 (to_z w128 x -ℤ to_z w128 y) × (to_z w128 (of_z w128 (to_z w128 x -ℤ to_z w128 y)) ≡ pos x -ℤ pos y) × IsWithin most_standing (pos x -ℤ pos y)
+    → FitsSigned w128 (to_z w128 x -ℤ to_z w128 y) × (to_z w128 (of_z w128 (to_z w128 x -ℤ to_z w128 y)) ≡ pos x -ℤ pos y)
+    × IsWithin most_standing (pos x -ℤ pos y)
 standing-fits x y p q = (omega (arith, ints), omega (arith, ints), record { above = omega (arith, ints); below = omega (arith, ints) })
 
 pub value-less : (v s : ℤ) → IsWithin (8 * (2 * most_total * 1000000 * 20000)) v → IsWithin most_standing s
@@ -123,7 +130,8 @@ module _ (setup : Setup) (a : Account) (c : ℕ) (amt : ℤ) (read : Currency) (
   posting-small = All-get_or (IsWithin (2 * most_total)) a.balances c (pos 0) posting-within is.small
 
   pub posting-after : (at : ℕ) → at ≡ c
-      → (to_z w64 (of_z w64 (to_z w64 (of_z w64 (slice_index_or a.balances at (pos 0))) +ℤ to_z w64 (of_z w64 amt))) ≡ slice_index_or a.balances c (pos 0) +ℤ amt)
+      → (to_z w64 (of_z w64 (to_z w64 (of_z w64 (slice_index_or a.balances at (pos 0))) +ℤ to_z w64 (of_z w64 amt)))
+      ≡ slice_index_or a.balances c (pos 0) +ℤ amt)
       × IsWithin (3 * most_total) (to_z w64 (of_z w64 (to_z w64 (of_z w64 (slice_index_or a.balances at (pos 0))) +ℤ to_z w64 (of_z w64 amt))))
   posting-after at here =
       let both = balance-posted (slice_index_or a.balances c (pos 0)) amt posting-small is.amount in
@@ -137,7 +145,9 @@ module _ (setup : Setup) (a : Account) (c : ℕ) (amt : ℤ) (read : Currency) (
       same b few = let low = few.above in let high = few.below in omega (arith, ints)
 
   pub posting-value : IsWithin (8 * (2 * most_total * 1000000 * 20000)) a.value
-  posting-value = subst (IsWithin (8 * (2 * most_total * 1000000 * 20000))) (sym (ap (λ (x : Account). x.value) is.account.same)) (value-within setup a.balances is.valid is.small)
+  posting-value =
+      subst (IsWithin (8 * (2 * most_total * 1000000 * 20000))) (sym (ap (λ (x : Account). x.value) is.account.same))
+      (value-within setup a.balances is.valid is.small)
 
   shortage-is : a.shortage ≡ sum_by shortage_of (zip setup.currencies a.balances)
   shortage-is = ap (λ (x : Account). x.shortage) is.account.same
@@ -149,7 +159,8 @@ module _ (setup : Setup) (a : Account) (c : ℕ) (amt : ℤ) (read : Currency) (
       let all = shortage-is in
       omega arith
 
-  pub posting-shortage-fits : (after : ℤ) (less more : ℕ) → IsWithin (3 * most_total) after → more ≡ shortage_of (read, after) → Fits w128 (a.shortage - less + more)
+  pub posting-shortage-fits : (after : ℤ) (less more : ℕ) → IsWithin (3 * most_total) after → more ≡ shortage_of (read, after)
+      → Fits w128 (a.shortage - less + more)
   posting-shortage-fits after less more small is_more =
       let most = shortage-within setup a.balances is.valid (valid-currencies setup is.valid).1 is.small in
       let next = shortage-most read after (3 * most_total) posting-fair.0 small in
@@ -166,7 +177,8 @@ module _ (setup : Setup) (a : Account) (c : ℕ) (amt : ℤ) (read : Currency) (
       let values : (a.value -ℤ s) +ℤ t ≡ value_of setup.currencies (slice_set a.balances c (b +ℤ amt)) =
       (λ i. (a.value -ℤ is_s i) +ℤ is_t i) ∙ ap (λ (d : Currency). (a.value -ℤ standing_of (d, b)) +ℤ standing_of (d, after)) (sym is.currency)
       ∙ ap (λ z. (a.value -ℤ standing_of (slice_index_or setup.currencies c read, b)) +ℤ standing_of (slice_index_or setup.currencies c read, z)) is_after
-      ∙ ap (λ z. (z -ℤ standing_of (slice_index_or setup.currencies c read, b)) +ℤ standing_of (slice_index_or setup.currencies c read, b +ℤ amt)) (ap (λ (k : Account). k.value) is.account.same)
+      ∙ ap (λ z. (z -ℤ standing_of (slice_index_or setup.currencies c read, b)) +ℤ standing_of (slice_index_or setup.currencies c read, b +ℤ amt))
+      (ap (λ (k : Account). k.value) is.account.same)
       ∙ sym (value-set setup.currencies a.balances c read (b +ℤ amt) is.known posting-within) in
       let shortages : a.shortage - x + y ≡ sum_by shortage_of (zip setup.currencies (slice_set a.balances c (b +ℤ amt))) =
       (λ i. a.shortage - is_x i + is_y i) ∙ ap (λ (d : Currency). a.shortage - shortage_of (d, b) + shortage_of (d, after)) (sym is.currency)

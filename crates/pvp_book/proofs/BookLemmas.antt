@@ -61,7 +61,8 @@ none-held : (n c : ℕ) → sum_of_balances n [] [] c ≡ pos 0
 none-held zero c = refl
 none-held (suc n) c = ap (λ k. sum_of_balances k [] [] c) (sym (add-one n)) ∙ sum_of_balances-more [] [] n c ∙ ap (λ z. z +ℤ pos 0) (none-held n c)
 
-empty-accounts : (n m : ℕ) → slice_index_or (replicate n empty_account) m no_account ≡ empty_account ⊎ slice_index_or (replicate n empty_account) m no_account ≡ no_account
+empty-accounts : (n m : ℕ) → slice_index_or (replicate n empty_account) m no_account ≡ empty_account
+    ⊎ slice_index_or (replicate n empty_account) m no_account ≡ no_account
 empty-accounts zero m = inr refl
 empty-accounts (suc n) zero = inl refl
 empty-accounts (suc n) (suc m) = empty-accounts n m
@@ -71,7 +72,18 @@ zeros zero c = refl
 zeros (suc n) zero = refl
 zeros (suc n) (suc c) = zeros n c
 
-pub IsKept-opening : (setup : Setup) (shown : Seen) (table : OrderTable) (tally : Tally) → IsValid setup → HasSeen [] shown → AreMade [] table → ((s : PairState) → tallied tally s ≡ 0) → IsKept (opening setup) (record { pairs = []; references = []; line = []; members = replicate (length setup.members + 1) empty_account; totals = replicate 8 (pos 0); shown = shown; table = table; tally = tally })
+pub IsKept-opening : (setup : Setup) (shown : Seen) (table : OrderTable) (tally : Tally) → IsValid setup → HasSeen [] shown → AreMade [] table
+    → ((s : PairState) → tallied tally s ≡ 0)
+    → IsKept (opening setup) (record {
+      pairs = [];
+      references = [];
+      line = [];
+      members = replicate (length setup.members + 1) empty_account;
+      totals = replicate 8 (pos 0);
+      shown = shown;
+      table = table;
+      tally = tally;
+    })
 unfolding settled settled_after
 IsKept-opening setup shown table tally valid has made none = record {
   ledger = record { valid = valid; few = omega arith; small = omega arith; fewer = omega arith; within = IsWithinMatched-nil };
@@ -80,7 +92,9 @@ IsKept-opening setup shown table tally valid has made none = record {
   accounts = record {
     places = length-replicate (length setup.members + 1) empty_account;
     each = λ m within.
-        subst (IsAccount setup.currencies) (sym (get_or-replicate (length setup.members + 1) m empty_account no_account (subst (λ l. m < l) (length-replicate (length setup.members + 1) empty_account) within)))
+        subst (IsAccount setup.currencies)
+        (sym (get_or-replicate (length setup.members + 1) m empty_account no_account
+        (subst (λ l. m < l) (length-replicate (length setup.members + 1) empty_account) within)))
         (IsAccount-empty setup.currencies);
     same = λ m c. by c (slice_index_or (replicate (length setup.members + 1) empty_account) m no_account) (empty-accounts (length setup.members + 1) m);
   };
@@ -102,11 +116,13 @@ done-new : (setup : Setup) (entries : List Entry) (client reference other sell s
     → Done ≡ on_instruct setup entries client reference other sell sell_amt buy buy_amt → pair_of entries reference ≡ None
 done-new setup entries client reference other sell sell_amt buy buy_amt e =
     by (is_member_number client) (has_member setup client && (has_member setup other && not (other == client)))
-    (has_currency setup sell && (has_currency setup buy && not (sell == buy))) (is_amount sell_amt && is_amount buy_amt) (reference == 0) (pair_of entries reference) e
+    (has_currency setup sell && (has_currency setup buy && not (sell == buy))) (is_amount sell_amt && is_amount buy_amt) (reference == 0)
+    (pair_of entries reference) e
   where
     mirror : (pair : Option Pair) → Done ≡ on_mirror setup entries client pair other sell sell_amt buy buy_amt → pair ≡ None
     mirror None e = refl
-    mirror (Some p) e = cases ((client == p.first) || not (is_state (state_of setup entries p) Unmatched)) (is_mirror p client other sell sell_amt buy buy_amt) e
+    mirror (Some p) e =
+        cases ((client == p.first) || not (is_state (state_of setup entries p) Unmatched)) (is_mirror p client other sell sell_amt buy buy_amt) e
       where
         cases : (a b : Bool) → Done ≡ (if a then No Repeated else if not b then No Mismatch else Matched) → Some p ≡ None
         cases true b e = absurd (cc e)
@@ -143,7 +159,9 @@ settles-none : (setup : Setup) (entries : List Entry) (done : List Pair) (client
 unfolding answer taken_by
 settles-none setup entries done client (Settle most) other accepted = by (client == 0) other accepted
   where
-    by : (b : Bool) → b ≡ false → is_refusal (if not b then No NotYours else Settled (length (pass setup entries (settled setup entries) most (candidates entries (settled setup entries))))) ≡ false
+    by : (b : Bool) → b ≡ false
+        → is_refusal (if not b then No NotYours
+        else Settled (length (pass setup entries (settled setup entries) most (candidates entries (settled setup entries))))) ≡ false
         → pass setup entries done most (candidates entries done) ≡ []
     by true other accepted = absurd (cc other)
     by false other accepted = absurd (cc accepted)
@@ -159,17 +177,22 @@ is-reached setup entries history same =
     subst (IsReached setup) (sym same) (record { ordered = λ c. are-ordered setup c history; members = λ c. orders-of-members setup history c })
 
 -- the history with one command more
-more-reached : (setup : Setup) (entries : List Entry) (history : List Row) (client : ℕ) (cmd : Cmd) → entries ≡ book_of setup history → is_refusal (answer setup entries client cmd) ≡ false
+more-reached : (setup : Setup) (entries : List Entry) (history : List Row) (client : ℕ) (cmd : Cmd) → entries ≡ book_of setup history
+    → is_refusal (answer setup entries client cmd) ≡ false
     → entries ++ entry_of setup entries client cmd ∷ [] ≡ book_of setup (history ++ record { client = client; number = 0; cmd = cmd } ∷ [])
 more-reached setup entries history client cmd same accepted =
     ap (λ b. if b then entries else entries ++ entry_of setup entries client cmd ∷ []) (sym accepted)
-    ∙ ap (λ es. with_entry es client cmd (answer setup es client cmd)) same ∙ sym (reached-more setup history (record { client = client; number = 0; cmd = cmd }))
+    ∙ ap (λ es. with_entry es client cmd (answer setup es client cmd)) same ∙ sym
+    (reached-more setup history (record { client = client; number = 0; cmd = cmd }))
 
 -- what is kept of members and currencies once an entry is posted
-module _ (held : Ledger) (client : ℕ) (cmd : Cmd) (members : List Account) (totals : List ℤ) (reached : IsReached held.setup held.entries) (valid : IsValid held.setup)
+module _ (held : Ledger) (client : ℕ) (cmd : Cmd) (members : List Account) (totals : List ℤ) (reached : IsReached held.setup held.entries)
+    (valid : IsValid held.setup)
     (accepted : is_refusal (answer held.setup held.entries client cmd) ≡ false)
     (later : settled held.setup (held.entries ++ entry_of held.setup held.entries client cmd ∷ []) ≡ settled held.setup held.entries) where
-  moved : (m c : ℕ) → balance held.setup (held.entries ++ entry_of held.setup held.entries client cmd ∷ []) m c ≡ balance held.setup held.entries m c +ℤ moved_to m c (movement_by held.entries client cmd)
+  moved : (m c : ℕ)
+      → balance held.setup (held.entries ++ entry_of held.setup held.entries client cmd ∷ []) m c
+      ≡ balance held.setup held.entries m c +ℤ moved_to m c (movement_by held.entries client cmd)
   moved m c =
       ap (λ done. balance_with (held.entries ++ entry_of held.setup held.entries client cmd ∷ []) done m c) later
       ∙ balance-moved held.setup held.entries (settled held.setup held.entries) client cmd accepted reached.ordered m c
@@ -180,10 +203,13 @@ module _ (held : Ledger) (client : ℕ) (cmd : Cmd) (members : List Account) (to
   kept-accounts are = by (movement_by held.entries client cmd) refl
     where
       by : (x : Option Movement) → movement_by held.entries client cmd ≡ x
-          → AreAccounts held.setup.currencies (length held.setup.members) (balance held.setup (held.entries ++ entry_of held.setup held.entries client cmd ∷ [])) (accounts_after held.setup.currencies x members)
+          → AreAccounts held.setup.currencies (length held.setup.members)
+          (balance held.setup (held.entries ++ entry_of held.setup held.entries client cmd ∷ [])) (accounts_after held.setup.currencies x members)
       by None is =
-          AreAccounts-same held.setup.currencies (length held.setup.members) (balance held.setup held.entries) (balance held.setup (held.entries ++ entry_of held.setup held.entries client cmd ∷ [])) members
-          (λ m c. zero-added (balance held.setup held.entries m c) ∙ ap (λ x. balance held.setup held.entries m c +ℤ moved_to m c x) (sym is) ∙ sym (moved m c)) are
+          AreAccounts-same held.setup.currencies (length held.setup.members) (balance held.setup held.entries)
+          (balance held.setup (held.entries ++ entry_of held.setup held.entries client cmd ∷ [])) members
+          (λ m c. zero-added (balance held.setup held.entries m c) ∙ ap (λ x. balance held.setup held.entries m c +ℤ moved_to m c x) (sym is) ∙ sym (moved m c))
+          are
         where
           zero-added : (b : ℤ) → b ≡ b +ℤ pos 0
           zero-added b = omega (arith, ints)
@@ -200,14 +226,17 @@ module _ (held : Ledger) (client : ℕ) (cmd : Cmd) (members : List Account) (to
           (AreAccounts-moved held.setup.currencies (length held.setup.members) (balance held.setup held.entries) members x are (omega arith) (omega arith))
 
   pub kept-figures : AreFigures (figure held.setup held.entries) totals
-      → AreFigures (figure held.setup (held.entries ++ entry_of held.setup held.entries client cmd ∷ [])) (figures_after (movement_by held.entries client cmd) totals)
+      → AreFigures (figure held.setup (held.entries ++ entry_of held.setup held.entries client cmd ∷ []))
+      (figures_after (movement_by held.entries client cmd) totals)
   kept-figures are = by (movement_by held.entries client cmd) refl
     where
       by : (x : Option Movement) → movement_by held.entries client cmd ≡ x
           → AreFigures (figure held.setup (held.entries ++ entry_of held.setup held.entries client cmd ∷ [])) (figures_after x totals)
       by None is = record {
         places = are.places;
-        same = λ c. are.same c ∙ sym (sum-still (held.entries ++ entry_of held.setup held.entries client cmd ∷ []) held.entries (settled held.setup (held.entries ++ entry_of held.setup held.entries client cmd ∷ []))
+        same =
+            λ c. are.same c ∙ sym (sum-still (held.entries ++ entry_of held.setup held.entries client cmd ∷ []) held.entries
+            (settled held.setup (held.entries ++ entry_of held.setup held.entries client cmd ∷ []))
             (settled held.setup held.entries) (movement_by held.entries client cmd) c (λ m. moved m c) (length held.setup.members) is);
       }
       by (Some x) is =
@@ -218,13 +247,19 @@ module _ (held : Ledger) (client : ℕ) (cmd : Cmd) (members : List Account) (to
           let next = AreFigures-moved (figure held.setup held.entries) totals x are (omega arith) in
           record {
             places = next.places;
-            same = λ c. next.same c ∙ sym ((sum-moved (held.entries ++ entry_of held.setup held.entries client cmd ∷ []) held.entries (settled held.setup (held.entries ++ entry_of held.setup held.entries client cmd ∷ []))
-                (settled held.setup held.entries) (movement_by held.entries client cmd) c (λ m. moved m c) (length held.setup.members) x is member.0).1 member.1);
+            same =
+                λ c.
+                next.same c ∙ sym
+                ((sum-moved (held.entries ++ entry_of held.setup held.entries client cmd ∷ []) held.entries
+                (settled held.setup (held.entries ++ entry_of held.setup held.entries client cmd ∷ []))
+                (settled held.setup held.entries) (movement_by held.entries client cmd) c (λ m. moved m c) (length held.setup.members) x is member.0).1
+                member.1);
           }
 
 -- what an entry moves can be posted
 pub can-post : (held : Ledger) (client : ℕ) (cmd : Cmd) (kept : Kept) (x : Movement) → IsKept held kept
-    → is_refusal (answer held.setup held.entries client cmd) ≡ false → movement_by held.entries client cmd ≡ Some x → IsWithin most_total x.amt → CanPost held.setup kept.members kept.totals x
+    → is_refusal (answer held.setup held.entries client cmd) ≡ false → movement_by held.entries client cmd ≡ Some x → IsWithin most_total x.amt
+    → CanPost held.setup kept.members kept.totals x
 can-post held client cmd kept x is accepted moves amount =
     let reached = is-reached held.setup held.entries is.history is.reached in
     let known = known-movement held.setup held.entries client cmd x accepted reached.members moves in
@@ -238,7 +273,9 @@ can-post held client cmd kept x is accepted moves amount =
       member = within;
       currency = ltb-true x.ccy (length held.setup.currencies) known.currency;
       account = is.accounts.each x.member within;
-      small = small-account held.entries (settled held.setup held.entries) held.setup.currencies (length held.setup.members) kept.members small is.accounts x.member;
+      small =
+          small-account held.entries (settled held.setup held.entries) held.setup.currencies
+          (length held.setup.members) kept.members small is.accounts x.member;
       amount = amount;
       places = is.figures.places;
       figure = subst (IsWithin (64 * most_total)) (sym (is.figures.same x.ccy))
@@ -253,11 +290,13 @@ pairs-once : (setup : Setup) (history : List Row) (r : ℕ) → count_by (λ (p 
 pairs-once setup history r =
     reached setup (λ entries. count_by (λ (p : Pair). p.reference == r) (pairs entries) ≤ 1) (omega arith)
     (λ entries client cmd held accepted.
-    subst (λ ps. count_by (λ (p : Pair). p.reference == r) ps ≤ 1) (sym (filter_map-append (λ (x : Entry). opened_by x.client x.cmd x.reply) entries (entry_of setup entries client cmd ∷ [])))
+    subst (λ ps. count_by (λ (p : Pair). p.reference == r) ps ≤ 1)
+    (sym (filter_map-append (λ (x : Entry). opened_by x.client x.cmd x.reply) entries (entry_of setup entries client cmd ∷ [])))
     (step entries client cmd held (opened_by client cmd (answer setup entries client cmd)) refl))
     history
   where
-    step : (entries : List Entry) (client : ℕ) (cmd : Cmd) → count_by (λ (p : Pair). p.reference == r) (pairs entries) ≤ 1 → (o : Option Pair) → opened_by client cmd (answer setup entries client cmd) ≡ o
+    step : (entries : List Entry) (client : ℕ) (cmd : Cmd) → count_by (λ (p : Pair). p.reference == r) (pairs entries) ≤ 1 → (o : Option Pair)
+        → opened_by client cmd (answer setup entries client cmd) ≡ o
         → count_by (λ (p : Pair). p.reference == r) (pairs entries ++ cons_option o []) ≤ 1
     step entries client cmd few None opened = subst (λ ps. count_by (λ (p : Pair). p.reference == r) ps ≤ 1) (sym (append-nil (pairs entries))) few
     step entries client cmd few (Some p) opened =
@@ -266,10 +305,12 @@ pairs-once setup history r =
         (not-found (pairs entries) p.reference (opened-new setup entries client cmd (answer setup entries client cmd) p opened refl)))
 
 pub pairs-distinct : (held : Ledger) → {kept : Kept} → IsKept held kept → AreDistinct (pairs held.entries)
-pairs-distinct held is = subst (λ es. AreDistinct (pairs es)) (sym is.reached) (distinct-once (pairs (book_of held.setup is.history)) (pairs-once held.setup is.history))
+pairs-distinct held is =
+    subst (λ es. AreDistinct (pairs es)) (sym is.reached) (distinct-once (pairs (book_of held.setup is.history)) (pairs-once held.setup is.history))
 
 -- what a tally has of the pair that an entry names, and that no count is great
-pub tally-there : (held : Ledger) (kept : Kept) → IsKept held kept → (named : Option ℕ) (s : PairState) → is_at (state_named kept.shown kept.references kept.pairs named) s ≤ tallied kept.tally s
+pub tally-there : (held : Ledger) (kept : Kept) → IsKept held kept → (named : Option ℕ) (s : PairState)
+    → is_at (state_named kept.shown kept.references kept.pairs named) s ≤ tallied kept.tally s
 tally-there held kept is named s =
     found-at held.entries kept.shown is.seen (settled held.setup held.entries) kept.references is.done kept.pairs is.pairs kept.tally is.states named s
 
@@ -281,9 +322,12 @@ tally-few held kept is s =
     omega arith
 
 -- an entry that is no walk adds at most a pair, and moves what it moves
-pub IsKept-accepted : (held : Ledger) (entry : Entry) (kept : Kept) (later : Seen) (table : OrderTable) (tally : Tally) → HasSeen (held.entries ++ entry ∷ []) later → AreMade (held.entries ++ entry ∷ []) table
+pub IsKept-accepted : (held : Ledger) (entry : Entry) (kept : Kept) (later : Seen) (table : OrderTable) (tally : Tally)
+    → HasSeen (held.entries ++ entry ∷ []) later → AreMade (held.entries ++ entry ∷ []) table
     → ((s : PairState) → tallied tally s + is_at (state_named kept.shown kept.references kept.pairs (named_by entry.cmd)) s
-    ≡ tallied kept.tally s + is_at (state_named later kept.references (kept.pairs ++ map kept_as (cons_option (opened_by entry.client entry.cmd entry.reply) [])) (named_by entry.cmd)) s) → IsKept held kept → held.applied < 65535
+    ≡ tallied kept.tally s + is_at
+    (state_named later kept.references (kept.pairs ++ map kept_as (cons_option (opened_by entry.client entry.cmd entry.reply) [])) (named_by entry.cmd)) s)
+    → IsKept held kept → held.applied < 65535
     → is_walk entry.client entry.cmd ≡ false → entry.reply ≡ answer_to held entry.client entry.cmd → is_refusal entry.reply ≡ false
     → IsKept (record { setup = held.setup; entries = held.entries ++ entry ∷ []; applied = held.applied + 1 }) (record {
       pairs = kept.pairs ++ map kept_as (cons_option (opened_by entry.client entry.cmd entry.reply) []);
@@ -297,24 +341,32 @@ pub IsKept-accepted : (held : Ledger) (entry : Entry) (kept : Kept) (later : See
     })
 IsKept-accepted held entry kept later table tally has made moves is room other answered accepted =
     let new = cons_option (opened_by entry.client entry.cmd entry.reply) [] in
-    let more : pairs (held.entries ++ entry ∷ []) ≡ pairs held.entries ++ new = filter_map-append (λ (x : Entry). opened_by x.client x.cmd x.reply) held.entries (entry ∷ []) in
+    let more : pairs (held.entries ++ entry ∷ []) ≡ pairs held.entries ++ new =
+    filter_map-append (λ (x : Entry). opened_by x.client x.cmd x.reply) held.entries (entry ∷ []) in
     let taken = ap is_refusal (sym answered) ∙ accepted in
     let none = settles-none held.setup held.entries (settled held.setup held.entries) entry.client entry.cmd other taken in
-    let with_none : settled held.setup (held.entries ++ entry ∷ []) ≡ settled held.setup held.entries ++ [] = settled-push held.setup held.entries entry ∙ ap (λ ps. settled held.setup held.entries ++ ps) none in
+    let with_none : settled held.setup (held.entries ++ entry ∷ []) ≡ settled held.setup held.entries ++ [] =
+    settled-push held.setup held.entries entry ∙ ap (λ ps. settled held.setup held.entries ++ ps) none in
     let still = with_none ∙ append-nil (settled held.setup held.entries) in
     let same : entry ≡ entry_of held.setup held.entries entry.client entry.cmd = λ i. record { client = entry.client; cmd = entry.cmd; reply = answered i } in
     let reached = is-reached held.setup held.entries is.history is.reached in
     let still_so = ap (λ e. settled held.setup (held.entries ++ e ∷ [])) (sym same) ∙ still in
     let longer = ap (λ es. es ++ map kept_as new) is.pairs ∙ sym (map-append-kept (pairs held.entries) new) ∙ ap (map kept_as) (sym more) in
-    let before = named-same held.entries kept.shown is.seen (settled held.setup held.entries) kept.references is.done kept.pairs is.pairs (named_by entry.cmd) in
-    let now = named-same (held.entries ++ entry ∷ []) later has (settled held.setup held.entries) kept.references is.done (kept.pairs ++ map kept_as new) longer (named_by entry.cmd) in
+    let before =
+    named-same held.entries kept.shown is.seen (settled held.setup held.entries) kept.references is.done kept.pairs is.pairs (named_by entry.cmd) in
+    let now =
+    named-same (held.entries ++ entry ∷ []) later has (settled held.setup held.entries) kept.references is.done
+    (kept.pairs ++ map kept_as new) longer (named_by entry.cmd) in
     record {
       ledger = IsLedger-accepted held entry.client entry.cmd entry.reply is.ledger room answered accepted;
       history = is.history ++ record { client = entry.client; number = 0; cmd = entry.cmd } ∷ [];
       reached = ap (λ e. held.entries ++ e ∷ []) same ∙ more-reached held.setup held.entries is.history entry.client entry.cmd is.reached taken;
-      accounts = subst (λ e. AreAccounts held.setup.currencies (length held.setup.members) (balance held.setup (held.entries ++ e ∷ [])) (accounts_after held.setup.currencies (movement_by held.entries entry.client entry.cmd) kept.members))
+      accounts =
+          subst (λ e. AreAccounts held.setup.currencies (length held.setup.members) (balance held.setup (held.entries ++ e ∷ []))
+          (accounts_after held.setup.currencies (movement_by held.entries entry.client entry.cmd) kept.members))
           (sym same) (kept-accounts held entry.client entry.cmd kept.members kept.totals reached is.ledger.valid taken still_so is.accounts);
-      figures = subst (λ e. AreFigures (figure held.setup (held.entries ++ e ∷ [])) (figures_after (movement_by held.entries entry.client entry.cmd) kept.totals))
+      figures =
+          subst (λ e. AreFigures (figure held.setup (held.entries ++ e ∷ [])) (figures_after (movement_by held.entries entry.client entry.cmd) kept.totals))
           (sym same) (kept-figures held entry.client entry.cmd kept.members kept.totals reached is.ledger.valid taken still_so is.figures);
       seen = has;
       orders = made;
@@ -334,12 +386,14 @@ IsKept-accepted held entry kept later table tally has made moves is room other a
 
 -- the answer to the operator's word to settle
 pub answer-walk : (held : Ledger) (most : ℕ)
-    → answer_to held 0 (Settle most) ≡ Settled (length (pass held.setup held.entries (settled held.setup held.entries) most (candidates held.entries (settled held.setup held.entries))))
+    → answer_to held 0 (Settle most) ≡ Settled
+    (length (pass held.setup held.entries (settled held.setup held.entries) most (candidates held.entries (settled held.setup held.entries))))
 unfolding answer
 answer-walk held most = refl
 
 -- a walk changes no figure
-figure-walked : (setup : Setup) (entries : List Entry) (history : List Row) (most c : ℕ) → entries ≡ book_of setup history → is_refusal (answer setup entries 0 (Settle most)) ≡ false
+figure-walked : (setup : Setup) (entries : List Entry) (history : List Row) (most c : ℕ) → entries ≡ book_of setup history
+    → is_refusal (answer setup entries 0 (Settle most)) ≡ false
     → figure setup (entries ++ entry_of setup entries 0 (Settle most) ∷ []) c ≡ figure setup entries c
 figure-walked setup entries history most c same accepted =
     let longer = history ++ record { client = 0; number = 0; cmd = Settle most } ∷ [] in
@@ -355,12 +409,22 @@ offered-is held kept is =
     waiting-same held.entries kept.shown is.seen (settled held.setup held.entries) kept.references is.done kept.line ∙ is.line
 
 -- what an entry moves, by the table of orders
-pub moved-same : (entries : List Entry) (table : OrderTable) → AreMade entries table → (client : ℕ) (cmd : Cmd) → movement_by entries client cmd ≡ movement_with (order_at table) client cmd
+pub moved-same : (entries : List Entry) (table : OrderTable) → AreMade entries table → (client : ℕ) (cmd : Cmd)
+    → movement_by entries client cmd ≡ movement_with (order_at table) client cmd
 moved-same entries table are client cmd = λ i. movement_with (λ c n. sym (are.made c n) i) client cmd
 
 -- what was seen, and the table of orders, may be other values of which the same is so
 pub IsKept-same : (held : Ledger) (kept : Kept) (shown : Seen) (table : OrderTable) → IsKept held kept → HasSeen held.entries shown → AreMade held.entries table
-    → IsKept held (record { pairs = kept.pairs; references = kept.references; line = kept.line; members = kept.members; totals = kept.totals; shown = shown; table = table; tally = kept.tally })
+    → IsKept held (record {
+      pairs = kept.pairs;
+      references = kept.references;
+      line = kept.line;
+      members = kept.members;
+      totals = kept.totals;
+      shown = shown;
+      table = table;
+      tally = kept.tally;
+    })
 IsKept-same held kept shown table is has made = record {
   ledger = is.ledger;
   history = is.history;
@@ -376,7 +440,8 @@ IsKept-same held kept shown table is has made = record {
 }
 
 -- the open orders of a currency ascend by number
-pub open-ascending : (held : Ledger) (kept : Kept) (table : OrderTable) → IsKept held kept → AreMade held.entries table → (c : ℕ) → AreAscending (open_at table c)
+pub open-ascending : (held : Ledger) (kept : Kept) (table : OrderTable) → IsKept held kept → AreMade held.entries table → (c : ℕ)
+    → AreAscending (open_at table c)
 open-ascending held kept table is are c =
     let ordered = (is-reached held.setup held.entries is.history is.reached).ordered c in
     subst AreAscending (sym (are.outstanding c))
@@ -384,12 +449,15 @@ open-ascending held kept table is are c =
     (numbered-ascend 1 (orders held.entries c) ordered.numbered))
 
 -- an order that is made is new
-fresh-order : (setup : Setup) (entries : List Entry) (client : ℕ) (cmd : Cmd) (reply : Reply) (table : OrderTable) → ((c : ℕ) → AreOrdered entries c) → AreMade entries table
+fresh-order : (setup : Setup) (entries : List Entry) (client : ℕ) (cmd : Cmd) (reply : Reply) (table : OrderTable) → ((c : ℕ) → AreOrdered entries c)
+    → AreMade entries table
     → reply ≡ answer setup entries client cmd → is_refusal (answer setup entries client cmd) ≡ false → IsFresh (step_of client cmd reply) table
 unfolding answer
 fresh-order setup entries client (PayOut ccy amt) (Order out) table ordered are answered accepted =
-    let next : out ≡ length (orders entries ccy) + 1 = cc (answered ∙ pay_out-order setup entries client ccy amt accepted) in
-    (are.made ccy out ∙ ap (order_of entries ccy) next ∙ next-new entries ccy (ordered ccy), are.ended ccy out ∙ ap (has_end entries ccy) next ∙ next-open entries ccy (ordered ccy))
+    let next : out ≡ length (orders entries ccy) + 1 = cc (answered ∙ pay_out-order setup entries client ccy amt accepted) in (
+      are.made ccy out ∙ ap (order_of entries ccy) next ∙ next-new entries ccy (ordered ccy),
+      are.ended ccy out ∙ ap (has_end entries ccy) next ∙ next-open entries ccy (ordered ccy),
+    )
 fresh-order setup entries client (PayOut ccy amt) Done table ordered are answered accepted = tt
 fresh-order setup entries client (PayOut ccy amt) Matched table ordered are answered accepted = tt
 fresh-order setup entries client (PayOut ccy amt) (Settled n) table ordered are answered accepted = tt
@@ -404,7 +472,8 @@ fresh-order setup entries client (Returned ccy out) reply table ordered are answ
 pub fresh-step : (held : Ledger) (kept : Kept) (table : OrderTable) (client : ℕ) (cmd : Cmd) (reply : Reply) → IsKept held kept → AreMade held.entries table
     → reply ≡ answer_to held client cmd → is_refusal reply ≡ false → IsFresh (step_of client cmd reply) table
 fresh-step held kept table client cmd reply is are answered accepted =
-    fresh-order held.setup held.entries client cmd reply table (is-reached held.setup held.entries is.history is.reached).ordered are answered (ap is_refusal (sym answered) ∙ accepted)
+    fresh-order held.setup held.entries client cmd reply table (is-reached held.setup held.entries is.history is.reached).ordered are answered
+    (ap is_refusal (sym answered) ∙ accepted)
 
 -- there are few orders
 pub few-made : (held : Ledger) (table : OrderTable) → IsLedger held → held.applied < 65535 → AreMade held.entries table → All (λ n. n < 65535) table.counts
@@ -414,7 +483,8 @@ few-made held table is room are =
 
 -- what a walk looks up
 pub looked-up : (held : Ledger) (kept : Kept) (es : List Entry) → IsKept held kept → es ≡ held.entries → IsLookedUp es kept.shown kept.pairs
-looked-up held kept es is same = subst (λ x. IsLookedUp x kept.shown kept.pairs) (sym same) (record { has = is.seen; same = is.pairs; distinct = pairs-distinct held is })
+looked-up held kept es is same =
+    subst (λ x. IsLookedUp x kept.shown kept.pairs) (sym same) (record { has = is.seen; same = is.pairs; distinct = pairs-distinct held is })
 
 -- what a walk starts with
 pub walk-offered : (held : Ledger) (kept : Kept) (es : List Entry) (offered : List Pair)
@@ -422,7 +492,9 @@ pub walk-offered : (held : Ledger) (kept : Kept) (es : List Entry) (offered : Li
 walk-offered held kept es offered is same given = record {
   valid = is.ledger.valid;
   small = subst (λ x. total x ≤ most_total) (sym same) (total-small held is.ledger);
-  tradable = subst (AllByRecursion (IsTradable held.setup)) (sym given) (offered-tradable held.setup held.entries (settled held.setup held.entries) is.history is.reached);
+  tradable =
+      subst (AllByRecursion (IsTradable held.setup)) (sym given)
+      (offered-tradable held.setup held.entries (settled held.setup held.entries) is.history is.reached);
 }
 
 pub walk-start : (held : Ledger) (kept : Kept) (es : List Entry) (offered : List Pair) (references : List ℕ) (most : ℕ)
@@ -448,16 +520,24 @@ walk-start held kept es offered references most is same given reserved =
 -- and what it ends with
 module _ (held : Ledger) (most i count : ℕ) (kept : Kept) (references : List ℕ) (later : List Account) (tally : Tally)
     (is : IsKept held kept) (all : length (candidates held.entries (settled held.setup held.entries)) ≤ i)
-    (under_way : IsUnderWay held.setup held.entries (settled held.setup held.entries) (candidates held.entries (settled held.setup held.entries)) most i count references later tally) where
-  ended : (under_way.now ≡ settled held.setup held.entries ++ pass held.setup held.entries (settled held.setup held.entries) most (candidates held.entries (settled held.setup held.entries)))
+    (under_way : IsUnderWay held.setup held.entries (settled held.setup held.entries)
+    (candidates held.entries (settled held.setup held.entries)) most i count references later tally) where
+  ended : (under_way.now ≡ settled held.setup held.entries ++ pass held.setup held.entries (settled held.setup held.entries) most
+      (candidates held.entries (settled held.setup held.entries)))
       × (count ≡ length (pass held.setup held.entries (settled held.setup held.entries) most (candidates held.entries (settled held.setup held.entries))))
-  ended = IsWalked-all held.setup held.entries (settled held.setup held.entries) (candidates held.entries (settled held.setup held.entries)) (matched held.entries) most i count under_way.now all under_way.walking.walked
+  ended =
+      IsWalked-all held.setup held.entries (settled held.setup held.entries) (candidates held.entries (settled held.setup held.entries))
+      (matched held.entries) most i count under_way.now all under_way.walking.walked
 
   pub walk-answer : Settled count ≡ answer_to held 0 (Settle most)
   walk-answer = ap Settled ended.1 ∙ sym (answer-walk held most)
 
   pub IsKept-walked : held.applied < 65535
-      → IsKept (record { setup = held.setup; entries = held.entries ++ record { client = 0; cmd = Settle most; reply = Settled count } ∷ []; applied = held.applied + 1 }) (record {
+      → IsKept (record {
+        setup = held.setup;
+        entries = held.entries ++ record { client = 0; cmd = Settle most; reply = Settled count } ∷ [];
+        applied = held.applied + 1;
+      }) (record {
         pairs = kept.pairs;
         references = references;
         line = candidates held.entries (settled held.setup held.entries);
@@ -472,7 +552,8 @@ module _ (held : Ledger) (most i count : ℕ) (kept : Kept) (references : List �
       let entry : Entry = record { client = 0; cmd = Settle most; reply = Settled count } in
       let posted = settled held.setup held.entries in
       let now = under_way.now in
-      let more : pairs (held.entries ++ entry ∷ []) ≡ pairs held.entries ++ [] = filter_map-append (λ (x : Entry). opened_by x.client x.cmd x.reply) held.entries (entry ∷ []) in
+      let more : pairs (held.entries ++ entry ∷ []) ≡ pairs held.entries ++ [] =
+      filter_map-append (λ (x : Entry). opened_by x.client x.cmd x.reply) held.entries (entry ∷ []) in
       let same : entry ≡ entry_of held.setup held.entries 0 (Settle most) = λ i. record { client = 0; cmd = Settle most; reply = walk-answer i } in
       let accepted : is_refusal (answer held.setup held.entries 0 (Settle most)) ≡ false = ap is_refusal (answer-walk held most) in
       let reached = is-reached held.setup held.entries is.history is.reached in
@@ -481,23 +562,35 @@ module _ (held : Ledger) (most i count : ℕ) (kept : Kept) (references : List �
         ledger = IsLedger-accepted held 0 (Settle most) (Settled count) is.ledger room walk-answer refl;
         history = is.history ++ record { client = 0; number = 0; cmd = Settle most } ∷ [];
         reached = ap (λ e. held.entries ++ e ∷ []) same ∙ more-reached held.setup held.entries is.history 0 (Settle most) is.reached accepted;
-        accounts = AreAccounts-same held.setup.currencies (length held.setup.members) (balance_with held.entries now) (balance held.setup (held.entries ++ entry ∷ [])) later
+        accounts =
+            AreAccounts-same held.setup.currencies (length held.setup.members) (balance_with held.entries now)
+            (balance held.setup (held.entries ++ entry ∷ [])) later
             (λ m c. none (balance_with held.entries now m c) ∙ sym (balance-moved held.setup held.entries now 0 (Settle most) accepted reached.ordered m c)
-            ∙ ap (λ e. balance_with (held.entries ++ e ∷ []) now m c) (sym same) ∙ ap (λ done. balance_with (held.entries ++ entry ∷ []) done m c) settled_now) under_way.walking.accounts;
+            ∙ ap (λ e. balance_with (held.entries ++ e ∷ []) now m c) (sym same) ∙ ap (λ done. balance_with (held.entries ++ entry ∷ []) done m c) settled_now)
+            under_way.walking.accounts;
         figures = record {
           places = is.figures.places;
-          same = λ c. is.figures.same c ∙ sym (ap (λ e. figure held.setup (held.entries ++ e ∷ []) c) same ∙ figure-walked held.setup held.entries is.history most c is.reached accepted);
+          same =
+              λ c. is.figures.same c ∙ sym (ap (λ e. figure held.setup (held.entries ++ e ∷ []) c) same
+              ∙ figure-walked held.setup held.entries is.history most c is.reached accepted);
         };
         seen = HasSeen-more held.entries entry kept.shown kept.shown
-            (record { pay_ins = λ c k. still (seen_pay_in kept.shown c k); matched = λ r. still (seen_matched kept.shown r); asked = λ m r. still (seen_asked kept.shown m r) }) is.seen;
+            (record {
+              pay_ins = λ c k. still (seen_pay_in kept.shown c k);
+              matched = λ r. still (seen_matched kept.shown r);
+              asked = λ m r. still (seen_asked kept.shown m r);
+            }) is.seen;
         orders = AreMade-still held.entries entry kept.table refl is.orders;
         states = λ s. under_way.tallied s
-            ∙ (λ i. length (filter (λ p. is_state (state-kept held.entries entry now p (λ m. says-none (Settle most) (Settled count) 0 p.reference m refl) i) s) (sym (more ∙ append-nil (pairs held.entries)) i)))
+            ∙ (λ i. length (filter (λ p. is_state (state-kept held.entries entry now p (λ m. says-none (Settle most) (Settled count) 0 p.reference m refl) i) s)
+            (sym (more ∙ append-nil (pairs held.entries)) i)))
             ∙ ap (λ done. counted (state_with (held.entries ++ entry ∷ []) done) s (pairs (held.entries ++ entry ∷ []))) settled_now;
         done = subst (λ ps. AreSettled ps references) settled_now under_way.done;
         line = subst (λ ps. IsLine (held.entries ++ entry ∷ []) ps (candidates held.entries posted)) (sym (settled-push held.setup held.entries entry))
-            (subst (IsLine (held.entries ++ entry ∷ []) (posted ++ pass held.setup held.entries posted most (candidates held.entries posted))) (append-nil (candidates held.entries posted))
-            (line-more held.entries entry posted (pass held.setup held.entries posted most (candidates held.entries posted)) (candidates held.entries posted) (line-of-candidates held.entries posted)));
+            (subst (IsLine (held.entries ++ entry ∷ []) (posted ++ pass held.setup held.entries posted most (candidates held.entries posted)))
+            (append-nil (candidates held.entries posted))
+            (line-more held.entries entry posted (pass held.setup held.entries posted most (candidates held.entries posted)) (candidates held.entries posted)
+            (line-of-candidates held.entries posted)));
         pairs = is.pairs ∙ ap (map kept_as) (sym (more ∙ append-nil (pairs held.entries)));
       }
     where
@@ -506,6 +599,7 @@ module _ (held : Ledger) (most i count : ℕ) (kept : Kept) (references : List �
 
 -- what a walk leaves
 pub after-walk : (held : Ledger) (most count : ℕ) → Settled count ≡ answer_to held 0 (Settle most)
-    → record { setup = held.setup; entries = held.entries ++ record { client = 0; cmd = Settle most; reply = Settled count } ∷ []; applied = held.applied + 1 } ≡ after held 0 (Settle most)
+    → record { setup = held.setup; entries = held.entries ++ record { client = 0; cmd = Settle most; reply = Settled count } ∷ []; applied = held.applied + 1 }
+    ≡ after held 0 (Settle most)
 after-walk held most count answered =
     ap (λ reply. record { setup = held.setup; entries = with_entry held.entries 0 (Settle most) reply; applied = held.applied + 1 }) answered

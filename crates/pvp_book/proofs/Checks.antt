@@ -14,7 +14,8 @@ pub passed : (checks : List (Bool × Reason)) (reply : Reply) → is_refusal (un
 passed [] reply e = tt
 passed ((fails, reason) ∷ more) reply e = by fails e (passed more reply)
   where
-    by : (b : Bool) → is_refusal (if b then No reason else unless more reply) ≡ false → (is_refusal (unless more reply) ≡ false → Passed more) → (b ≡ false) × Passed more
+    by : (b : Bool) → is_refusal (if b then No reason else unless more reply) ≡ false → (is_refusal (unless more reply) ≡ false → Passed more)
+        → (b ≡ false) × Passed more
     by true e rest = absurd (cc e)
     by false e rest = (refl, rest e)
 
@@ -22,7 +23,8 @@ pub unless-is : (checks : List (Bool × Reason)) (reply : Reply) → is_refusal 
 unless-is [] reply e = refl
 unless-is ((fails, reason) ∷ more) reply e = by fails e (unless-is more reply)
   where
-    by : (b : Bool) → is_refusal (if b then No reason else unless more reply) ≡ false → (is_refusal (unless more reply) ≡ false → unless more reply ≡ reply) → (if b then No reason else unless more reply) ≡ reply
+    by : (b : Bool) → is_refusal (if b then No reason else unless more reply) ≡ false → (is_refusal (unless more reply) ≡ false → unless more reply ≡ reply)
+        → (if b then No reason else unless more reply) ≡ reply
     by true e rest = absurd (cc e)
     by false e rest = rest e
 

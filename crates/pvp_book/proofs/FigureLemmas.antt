@@ -103,7 +103,8 @@ legs-of-pairs m c (p ∷ ps) =
     both ∙ omega (arith, ints, here, rest, came, went)
 
 -- what all members buy by a pair is what they sell
-even-pair : (setup : Setup) (c : ℕ) (p : Pair) → IsExchange setup p → upto (λ m. bought m c p) (length setup.members) ≡ upto (λ m. sold m c p) (length setup.members)
+even-pair : (setup : Setup) (c : ℕ) (p : Pair) → IsExchange setup p
+    → upto (λ m. bought m c p) (length setup.members) ≡ upto (λ m. sold m c p) (length setup.members)
 even-pair setup c p is =
     let n = length setup.members in
     let first = is-member setup p.first is.first in
@@ -137,7 +138,8 @@ IsOfMember setup e = (c : ℕ) → (upto (λ m. paid_in_to m c e.cmd) (length se
     × (upto (λ m. paid_out_of m c e.client e.cmd) (length setup.members) ≡ paid_out c e.cmd)
 
 all-funds : (setup : Setup) (c : ℕ) (entries : List Entry) → AllByRecursion (IsOfMember setup) entries
-    → (upto (λ m. pay_ins entries m c) (length setup.members) ≡ funds entries c) × (upto (λ m. pay_outs entries m c) (length setup.members) ≡ all_paid_out entries c)
+    → (upto (λ m. pay_ins entries m c) (length setup.members) ≡ funds entries c)
+    × (upto (λ m. pay_outs entries m c) (length setup.members) ≡ all_paid_out entries c)
 unfolding IsOfMember
 all-funds setup c entries all = (
   upto-sum (λ m (e : Entry). paid_in_to m c e.cmd) entries (length setup.members) ∙ (each entries all).0,
@@ -169,7 +171,8 @@ all-returns : (setup : Setup) (c : ℕ) (entries : List Entry) → AllByRecursio
     → upto (λ m. returned entries m c) (length setup.members) ≡ all_returned entries c
 unfolding IsMembers
 all-returns setup c entries all =
-    upto-sum (λ m (o : PayOrder). if (o.member == m) && has_return entries c o.out then o.amt else 0) (orders entries c) (length setup.members) ∙ each (orders entries c) all
+    upto-sum (λ m (o : PayOrder). if (o.member == m) && has_return entries c o.out then o.amt else 0) (orders entries c) (length setup.members)
+    ∙ each (orders entries c) all
   where
     each : (os : List PayOrder) → AllByRecursion (IsMembers setup) os
         → sum_by (λ (o : PayOrder). upto (λ m. if (o.member == m) && has_return entries c o.out then o.amt else 0) (length setup.members)) os
@@ -199,7 +202,8 @@ balances-upto entries done c (suc n) =
     joined a b x y = omega (arith, ints)
 
 -- the figure is what was paid in less what was paid out, with what was returned
-figure-is : (setup : Setup) (entries : List Entry) (c : ℕ) → AllByRecursion (IsExchange setup) (settled setup entries) → AllByRecursion (IsOfMember setup) entries
+figure-is : (setup : Setup) (entries : List Entry) (c : ℕ) → AllByRecursion (IsExchange setup) (settled setup entries)
+    → AllByRecursion (IsOfMember setup) entries
     → AllByRecursion (IsMembers setup) (orders entries c)
     → figure setup entries c ≡ (pos (funds entries c) -ℤ pos (all_paid_out entries c)) +ℤ pos (all_returned entries c)
 figure-is setup entries c pairs_are all theirs =
@@ -214,7 +218,8 @@ figure-is setup entries c pairs_are all theirs =
     let funds_are = sums.0 in
     let outs_are = sums.1 in
     balances-upto entries done c n
-    ∙ difference (upto (λ m. received entries done m c) n) (upto (λ m. given entries done m c) n) (funds entries c) (all_returned entries c) (all_paid_out entries c)
+    ∙ difference (upto (λ m. received entries done m c) n) (upto (λ m. given entries done m c) n) (funds entries c)
+    (all_returned entries c) (all_paid_out entries c)
     (upto (λ m. sum_by (bought m c) done) n) (omega arith) (omega arith)
   where
     difference : (a b x r y z : ℕ) → a ≡ (x + r) + z → b ≡ y + z → pos a -ℤ pos b ≡ (pos x -ℤ pos y) +ℤ pos r
@@ -245,12 +250,14 @@ of-member setup entries client _ accepted c = (upto-none (length setup.members),
 of-members : (setup : Setup) (history : List Row) → AllByRecursion (IsOfMember setup) (book_of setup history)
 of-members setup history =
     reached setup (AllByRecursion (IsOfMember setup)) tt
-    (λ entries client cmd held accepted. each-append (IsOfMember setup) entries (entry_of setup entries client cmd ∷ []) held (of-member setup entries client cmd accepted, tt)) history
+    (λ entries client cmd held accepted. each-append (IsOfMember setup) entries (entry_of setup entries client cmd ∷ []) held
+    (of-member setup entries client cmd accepted, tt)) history
 
 -- what a command pays out is covered by what is left
 covers : (setup : Setup) (entries : List Entry) (client : ℕ) (cmd : Cmd) (c : ℕ) → is_refusal (answer setup entries client cmd) ≡ false
     → ((d : ℕ) → figure setup entries d ≡ (pos (funds entries d) -ℤ pos (all_paid_out entries d)) +ℤ pos (all_returned entries d))
-    → all_paid_out entries c ≤ funds entries c + all_returned entries c → all_paid_out entries c + paid_out c cmd ≤ (funds entries c + funded c cmd) + all_returned entries c
+    → all_paid_out entries c ≤ funds entries c + all_returned entries c
+    → all_paid_out entries c + paid_out c cmd ≤ (funds entries c + funded c cmd) + all_returned entries c
 unfolding answer
 covers setup entries client (PayOut ccy amt) c accepted figures held = by (ccy == c) refl
   where
@@ -269,11 +276,14 @@ covers setup entries client (PayOut ccy amt) c accepted figures held = by (ccy =
 covers setup entries client _ c accepted figures held = omega arith
 
 -- orders are made by members
-made-by : (setup : Setup) (c client ccy amt : ℕ) (reply : Reply) → has_member setup client ≡ true → AllByRecursion (IsMembers setup) (cons_option (order_by c client (PayOut ccy amt) reply) [])
+made-by : (setup : Setup) (c client ccy amt : ℕ) (reply : Reply) → has_member setup client ≡ true
+    → AllByRecursion (IsMembers setup) (cons_option (order_by c client (PayOut ccy amt) reply) [])
 unfolding IsMembers
 made-by setup c client ccy amt (Order out) known = by (ccy == c)
   where
-    by : (b : Bool) → AllByRecursion (λ (o : PayOrder). has_member setup o.member ≡ true) (cons_option (if b then Some (record { ccy = ccy; out = out; member = client; amt = amt }) else None) [])
+    by : (b : Bool)
+        → AllByRecursion (λ (o : PayOrder). has_member setup o.member ≡ true)
+        (cons_option (if b then Some (record { ccy = ccy; out = out; member = client; amt = amt }) else None) [])
     by true = (known, tt)
     by false = tt
 made-by setup c client ccy amt Done known = tt
@@ -291,7 +301,8 @@ made-new setup entries client _ c accepted = tt
 made-more : (setup : Setup) (entries : List Entry) (client : ℕ) (cmd : Cmd) (c : ℕ) → is_refusal (answer setup entries client cmd) ≡ false
     → AllByRecursion (IsMembers setup) (orders entries c) → AllByRecursion (IsMembers setup) (orders (entries ++ entry_of setup entries client cmd ∷ []) c)
 made-more setup entries client cmd c accepted held =
-    subst (AllByRecursion (IsMembers setup)) (sym (filter_map-append (λ (e : Entry). order_by c e.client e.cmd e.reply) entries (entry_of setup entries client cmd ∷ [])))
+    subst (AllByRecursion (IsMembers setup))
+    (sym (filter_map-append (λ (e : Entry). order_by c e.client e.cmd e.reply) entries (entry_of setup entries client cmd ∷ [])))
     (each-append (IsMembers setup) (orders entries c) (orders (entry_of setup entries client cmd ∷ []) c) held (made-new setup entries client cmd c accepted))
 
 -- what is returned stays returned
@@ -302,7 +313,8 @@ returns-more entries more c =
     let all = ap (λ (l : List PayOrder). sum_by (λ (o : PayOrder). if has_return longer c o.out then o.amt else 0) l) os in
     let parts = sum_by-append (λ (o : PayOrder). if has_return longer c o.out then o.amt else 0) (orders entries c) (orders more c) in
     let low = sum-le (λ (o : PayOrder). if has_return entries c o.out then o.amt else 0) (λ (o : PayOrder). if has_return longer c o.out then o.amt else 0)
-    (λ o. by (has_return entries c o.out) (has_return more c o.out) (has_return longer c o.out) o.amt (list_any-append (λ (e : Entry). is_return c o.out e.cmd) entries more)) (orders entries c) in
+    (λ o. by (has_return entries c o.out) (has_return more c o.out) (has_return longer c o.out) o.amt
+    (list_any-append (λ (e : Entry). is_return c o.out e.cmd) entries more)) (orders entries c) in
     omega arith
   where
     by : (a b both : Bool) (amt : ℕ) → both ≡ (a || b) → (if a then amt else 0) ≤ (if both then amt else 0)
@@ -316,7 +328,8 @@ record IsCoveredSoFar (setup : Setup) (entries : List Entry) : Type 0 where
   orders : (c : ℕ) → AllByRecursion (IsMembers setup) (orders entries c)
   covered : (c : ℕ) → all_paid_out entries c ≤ funds entries c + all_returned entries c
 
-covered-step : (setup : Setup) (entries : List Entry) (client : ℕ) (cmd : Cmd) → IsCoveredSoFar setup entries → is_refusal (answer setup entries client cmd) ≡ false
+covered-step : (setup : Setup) (entries : List Entry) (client : ℕ) (cmd : Cmd) → IsCoveredSoFar setup entries
+    → is_refusal (answer setup entries client cmd) ≡ false
     → (c : ℕ) → all_paid_out (entries ++ entry_of setup entries client cmd ∷ []) c
     ≤ funds (entries ++ entry_of setup entries client cmd ∷ []) c + all_returned (entries ++ entry_of setup entries client cmd ∷ []) c
 covered-step setup entries client cmd held accepted c =
@@ -341,7 +354,8 @@ covered-so-far setup history =
       covered = covered-step setup entries client cmd held accepted;
     }) history
 
-pub orders-of-members : (setup : Setup) (history : List Row) (c : ℕ) → AllByRecursion (λ (o : PayOrder). has_member setup o.member ≡ true) (orders (book_of setup history) c)
+pub orders-of-members : (setup : Setup) (history : List Row) (c : ℕ)
+    → AllByRecursion (λ (o : PayOrder). has_member setup o.member ≡ true) (orders (book_of setup history) c)
 unfolding IsMembers
 orders-of-members setup history c = (covered-so-far setup history).orders c
 
@@ -350,7 +364,10 @@ is-covered setup c history =
     let entries = book_of setup history in
     let held = covered-so-far setup history in
     let is = figure-is setup entries c (each-settled (IsExchange setup) setup entries held.sums.exchange) held.members (held.orders c) in
-    record { difference = is; covered = subst (λ z. pos 0 ≤ℤ z) (sym is) (positive (funds entries c) (all_returned entries c) (all_paid_out entries c) (held.covered c)) }
+    record {
+      difference = is;
+      covered = subst (λ z. pos 0 ≤ℤ z) (sym is) (positive (funds entries c) (all_returned entries c) (all_paid_out entries c) (held.covered c));
+    }
   where
     positive : (x r y : ℕ) → y ≤ x + r → pos 0 ≤ℤ ((pos x -ℤ pos y) +ℤ pos r)
     positive x r y h = omega (arith, ints)
@@ -360,7 +377,8 @@ pub even-legs : (setup : Setup) (p : Pair) → IsExchange setup p → IsEven p
 even-legs setup p is = record {
   sell = ap (λ b. length (those p.sell b (p.buy == p.sell))) (eq-eqb p.sell p.sell refl)
       ∙ ap (λ b. length (those p.sell true b)) (ne_eqb p.buy p.sell (λ e. is.currencies (sym e)));
-  buy = ap (λ b. length (those p.buy b (p.buy == p.buy))) (ne_eqb p.sell p.buy is.currencies) ∙ ap (λ b. length (those p.buy false b)) (eq-eqb p.buy p.buy refl);
+  buy =
+      ap (λ b. length (those p.buy b (p.buy == p.buy))) (ne_eqb p.sell p.buy is.currencies) ∙ ap (λ b. length (those p.buy false b)) (eq-eqb p.buy p.buy refl);
   zero = λ c. by c (p.sell == c) (p.buy == c);
 }
   where

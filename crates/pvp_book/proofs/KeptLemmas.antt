@@ -36,7 +36,8 @@ pub read-added : (bs : List ℤ) (k c : ℕ) (amt : ℤ) → k < length bs
     → slice_index_or (slice_set bs k (slice_index_or bs k (pos 0) +ℤ amt)) c (pos 0) ≡ slice_index_or bs c (pos 0) +ℤ (if k == c then amt else pos 0)
 read-added bs k c amt within = by (cases_eq k c)
   where
-    by : (k ≡ c) ⊎ (k ≡ c → ⊥) → slice_index_or (slice_set bs k (slice_index_or bs k (pos 0) +ℤ amt)) c (pos 0) ≡ slice_index_or bs c (pos 0) +ℤ (if k == c then amt else pos 0)
+    by : (k ≡ c) ⊎ (k ≡ c → ⊥)
+        → slice_index_or (slice_set bs k (slice_index_or bs k (pos 0) +ℤ amt)) c (pos 0) ≡ slice_index_or bs c (pos 0) +ℤ (if k == c then amt else pos 0)
     by (inl same) =
         ap (λ i. slice_index_or (slice_set bs k (slice_index_or bs k (pos 0) +ℤ amt)) i (pos 0)) (sym same)
         ∙ get_or-set_same bs k (slice_index_or bs k (pos 0) +ℤ amt) (pos 0) within
@@ -50,7 +51,8 @@ read-added bs k c amt within = by (cases_eq k c)
 
 module _ (currencies : List Currency) (n : ℕ) where
   -- one account is another
-  pub AreAccounts-set : (balance later : ℕ → ℕ → ℤ) (accounts : List Account) (m : ℕ) (account : Account) → AreAccounts currencies n balance accounts → m < length accounts
+  pub AreAccounts-set : (balance later : ℕ → ℕ → ℤ) (accounts : List Account) (m : ℕ) (account : Account) → AreAccounts currencies n balance accounts
+      → m < length accounts
       → IsAccount currencies account → ((c : ℕ) → slice_index_or account.balances c (pos 0) ≡ later m c) → ((k c : ℕ) → (k ≡ m → ⊥) → balance k c ≡ later k c)
       → AreAccounts currencies n later (slice_set accounts m account)
   AreAccounts-set balance later accounts m account are within is here others = record {
@@ -66,29 +68,35 @@ module _ (currencies : List Currency) (n : ℕ) where
       elsewhere k other = get_or-set_other accounts m k account _ other
 
       by-each : (k : ℕ) → k < length (slice_set accounts m account) → (k ≡ m) ⊎ (k ≡ m → ⊥) → IsAccount currencies (account_at (slice_set accounts m account) k)
-      by-each k known (inl same) = subst (λ j. IsAccount currencies (account_at (slice_set accounts m account) j)) (sym same) (subst (IsAccount currencies) (sym there) is)
-      by-each k known (inr other) = subst (IsAccount currencies) (sym (elsewhere k other)) (are.each k (subst (λ l. k < l) (length-set accounts m account) known))
+      by-each k known (inl same) =
+          subst (λ j. IsAccount currencies (account_at (slice_set accounts m account) j)) (sym same) (subst (IsAccount currencies) (sym there) is)
+      by-each k known (inr other) =
+          subst (IsAccount currencies) (sym (elsewhere k other)) (are.each k (subst (λ l. k < l) (length-set accounts m account) known))
 
       by-same : (k c : ℕ) → (k ≡ m) ⊎ (k ≡ m → ⊥) → balance_at (slice_set accounts m account) k c ≡ later k c
       by-same k c (inl same) =
-          ap (λ j. balance_at (slice_set accounts m account) j c) same ∙ ap (λ (a : Account). slice_index_or a.balances c (pos 0)) there ∙ here c ∙ ap (λ j. later j c) (sym same)
+          ap (λ j. balance_at (slice_set accounts m account) j c) same ∙ ap (λ (a : Account). slice_index_or a.balances c (pos 0)) there ∙ here c
+          ∙ ap (λ j. later j c) (sym same)
       by-same k c (inr other) = ap (λ (a : Account). slice_index_or a.balances c (pos 0)) (elsewhere k other) ∙ are.same k c ∙ others k c other
 
   -- other words for the same balances
-  pub AreAccounts-same : (balance later : ℕ → ℕ → ℤ) (accounts : List Account) → ((m c : ℕ) → balance m c ≡ later m c) → AreAccounts currencies n balance accounts → AreAccounts currencies n later accounts
+  pub AreAccounts-same : (balance later : ℕ → ℕ → ℤ) (accounts : List Account) → ((m c : ℕ) → balance m c ≡ later m c)
+      → AreAccounts currencies n balance accounts → AreAccounts currencies n later accounts
   AreAccounts-same balance later accounts same are = record { places = are.places; each = are.each; same = λ m c. are.same m c ∙ same m c }
 
   pub IsAccount-posted : (account : Account) (c : ℕ) (amt : ℤ) → IsAccount currencies account → IsAccount currencies (posted currencies c amt account)
   IsAccount-posted account c amt is = record { places = length-set account.balances c _ ∙ is.places; same = refl }
 
   -- a movement is posted
-  pub AreAccounts-moved : (balance : ℕ → ℕ → ℤ) (accounts : List Account) (x : Movement) → AreAccounts currencies n balance accounts → x.member < length accounts → x.ccy < 8
+  pub AreAccounts-moved : (balance : ℕ → ℕ → ℤ) (accounts : List Account) (x : Movement) → AreAccounts currencies n balance accounts
+      → x.member < length accounts → x.ccy < 8
       → AreAccounts currencies n (λ m c. balance m c +ℤ moved_to m c (Some x)) (accounts_after currencies (Some x) accounts)
   AreAccounts-moved balance accounts x are within known =
       let account = account_at accounts x.member in
       let is = are.each x.member within in
       let place : x.ccy < length account.balances = let all = is.places in omega arith in
-      AreAccounts-set balance (λ m c. balance m c +ℤ moved_to m c (Some x)) accounts x.member (posted currencies x.ccy x.amt account) are within (IsAccount-posted account x.ccy x.amt is)
+      AreAccounts-set balance (λ m c. balance m c +ℤ moved_to m c (Some x)) accounts x.member (posted currencies x.ccy x.amt account) are within
+      (IsAccount-posted account x.ccy x.amt is)
       (λ c. read-added account.balances x.ccy c x.amt place ∙ ap (λ z. z +ℤ (if x.ccy == c then x.amt else pos 0)) (are.same x.member c)
       ∙ ap (λ b. balance x.member c +ℤ (if b && (x.ccy == c) then x.amt else pos 0)) (sym (eq-eqb x.member x.member refl)))
       (λ k c other. none (balance k c) ∙ ap (λ b. balance k c +ℤ (if b && (x.ccy == c) then x.amt else pos 0)) (sym (ne_eqb x.member k (λ e. other (sym e)))))
@@ -123,7 +131,8 @@ within-limits currencies member account ds is few short places same =
     let all = is.places in
     let pairs = zip-same currencies account.balances ds (omega arith) (omega arith) same in
     let limits = zip-same member.short account.balances ds (omega arith) (omega arith) (λ c within. same c (omega arith)) in
-    let value : account.value ≡ value_of currencies ds = ap (λ (a : Account). a.value) is.same ∙ (λ i. pos (sum_by worth_of (pairs i)) -ℤ pos (sum_by debt_of (pairs i))) in
+    let value : account.value ≡ value_of currencies ds =
+    ap (λ (a : Account). a.value) is.same ∙ (λ i. pos (sum_by worth_of (pairs i)) -ℤ pos (sum_by debt_of (pairs i))) in
     let shortage : account.shortage ≡ sum_by shortage_of (zip currencies ds) = ap (λ (a : Account). a.shortage) is.same ∙ (λ i. sum_by shortage_of (pairs i)) in
     (λ i. not (int_lt (value i) (pos 0)) && (list_all (λ p. nat_le (below p.1) p.0) (limits i) && nat_le (shortage i) member.aggregate))
     ∙ ap (λ b. b && (is_within_short member.short ds && is_within_aggregate member.aggregate currencies ds))
@@ -160,7 +169,8 @@ passes-kept setup entries done m account valid is same = by (slice_get setup.mem
         ≡ option_map_or (λ member. meets_limits setup.currencies member (balances_with setup entries done m)) found false
     by None none = refl
     by (Some member) there =
-        within-limits setup.currencies member account (balances_with setup entries done m) is (valid-currencies setup valid).1 (short-places setup valid (m - 1) member there) places
+        within-limits setup.currencies member account (balances_with setup entries done m) is (valid-currencies setup valid).1
+        (short-places setup valid (m - 1) member there) places
         (λ c within. same c ∙ sym (get_or-map-range_with_len (λ d. balance_with entries done m d) 0 (length setup.currencies) c c (pos 0) within (omega arith)))
 
 -- a pair that can be settled, on accounts that are right
@@ -187,7 +197,8 @@ module _ (setup : Setup) (entries : List Entry) (done : List Pair) (accounts : L
       ∙ ap (λ z. z +ℤ (if buy == c then pos buy_amt else pos 0))
       (read-added bs sell c (neg_ℤ (pos sell_amt)) (omega arith) ∙ ap (λ z. z +ℤ (if sell == c then neg_ℤ (pos sell_amt) else pos 0)) (are.same m c))
 
-  pub traded-is : (m sell sell_amt buy buy_amt : ℕ) → m < length accounts → IsAccount setup.currencies (traded setup.currencies sell sell_amt buy buy_amt (account_at accounts m))
+  pub traded-is : (m sell sell_amt buy buy_amt : ℕ) → m < length accounts
+      → IsAccount setup.currencies (traded setup.currencies sell sell_amt buy buy_amt (account_at accounts m))
   traded-is m sell sell_amt buy buy_amt within =
       IsAccount-posted setup.currencies (length setup.members) (posted setup.currencies sell (neg_ℤ (pos sell_amt)) (account_at accounts m)) buy (pos buy_amt)
       (IsAccount-posted setup.currencies (length setup.members) (account_at accounts m) sell (neg_ℤ (pos sell_amt)) (are.each m within))
@@ -195,10 +206,13 @@ module _ (setup : Setup) (entries : List Entry) (done : List Pair) (accounts : L
   first-reads : (c : ℕ) → slice_index_or (first_with setup.currencies p accounts).balances c (pos 0) ≡ balance_with entries (done ++ p ∷ []) p.first c
   first-reads c =
       traded-reads p.first p.sell p.sell_amt p.buy p.buy_amt c (known p.first exchange.first) sells buys
-      ∙ sym (balance-settled entries done p p.first c ∙ ap (λ b. balance_with entries done p.first c +ℤ (pos ((if b && (p.buy == c) then p.buy_amt else 0) + (if (p.second == p.first) && (p.sell == c) then p.sell_amt else 0))
+      ∙ sym (balance-settled entries done p p.first c ∙ ap
+      (λ b. balance_with entries done p.first c +ℤ
+      (pos ((if b && (p.buy == c) then p.buy_amt else 0) + (if (p.second == p.first) && (p.sell == c) then p.sell_amt else 0))
       -ℤ pos ((if b && (p.sell == c) then p.sell_amt else 0) + (if (p.second == p.first) && (p.buy == c) then p.buy_amt else 0)))) (eq-eqb p.first p.first refl)
       ∙ ap (λ b. balance_with entries done p.first c +ℤ (pos ((if p.buy == c then p.buy_amt else 0) + (if b && (p.sell == c) then p.sell_amt else 0))
-      -ℤ pos ((if p.sell == c then p.sell_amt else 0) + (if b && (p.buy == c) then p.buy_amt else 0)))) (ne_eqb p.second p.first (λ e. exchange.members (sym e)))
+      -ℤ pos ((if p.sell == c then p.sell_amt else 0) + (if b && (p.buy == c) then p.buy_amt else 0))))
+      (ne_eqb p.second p.first (λ e. exchange.members (sym e)))
       ∙ by (balance_with entries done p.first c) (p.sell == c) (p.buy == c))
     where
       by : (b : ℤ) (sell buy : Bool) → b +ℤ (pos ((if buy then p.buy_amt else 0) + 0) -ℤ pos ((if sell then p.sell_amt else 0) + 0))
@@ -211,8 +225,11 @@ module _ (setup : Setup) (entries : List Entry) (done : List Pair) (accounts : L
   second-reads : (c : ℕ) → slice_index_or (second_with setup.currencies p accounts).balances c (pos 0) ≡ balance_with entries (done ++ p ∷ []) p.second c
   second-reads c =
       traded-reads p.second p.buy p.buy_amt p.sell p.sell_amt c (known p.second exchange.second) buys sells
-      ∙ sym (balance-settled entries done p p.second c ∙ ap (λ b. balance_with entries done p.second c +ℤ (pos ((if (p.first == p.second) && (p.buy == c) then p.buy_amt else 0) + (if b && (p.sell == c) then p.sell_amt else 0))
-      -ℤ pos ((if (p.first == p.second) && (p.sell == c) then p.sell_amt else 0) + (if b && (p.buy == c) then p.buy_amt else 0)))) (eq-eqb p.second p.second refl)
+      ∙ sym (balance-settled entries done p p.second c ∙ ap
+      (λ b. balance_with entries done p.second c +ℤ
+      (pos ((if (p.first == p.second) && (p.buy == c) then p.buy_amt else 0) + (if b && (p.sell == c) then p.sell_amt else 0))
+      -ℤ pos ((if (p.first == p.second) && (p.sell == c) then p.sell_amt else 0) + (if b && (p.buy == c) then p.buy_amt else 0))))
+      (eq-eqb p.second p.second refl)
       ∙ ap (λ b. balance_with entries done p.second c +ℤ (pos ((if b && (p.buy == c) then p.buy_amt else 0) + (if p.sell == c then p.sell_amt else 0))
       -ℤ pos ((if b && (p.sell == c) then p.sell_amt else 0) + (if p.buy == c then p.buy_amt else 0)))) (ne_eqb p.first p.second exchange.members)
       ∙ by (balance_with entries done p.second c) (p.sell == c) (p.buy == c))
@@ -228,19 +245,26 @@ module _ (setup : Setup) (entries : List Entry) (done : List Pair) (accounts : L
   pub both-pass-kept : both_pass_with setup p accounts ≡ both_pass setup entries (done ++ p ∷ []) p
   unfolding both_pass
   both-pass-kept =
-      λ i. passes-kept setup entries (done ++ p ∷ []) p.first (first_with setup.currencies p accounts) valid (traded-is p.first p.sell p.sell_amt p.buy p.buy_amt (known p.first exchange.first)) first-reads i
-      && passes-kept setup entries (done ++ p ∷ []) p.second (second_with setup.currencies p accounts) valid (traded-is p.second p.buy p.buy_amt p.sell p.sell_amt (known p.second exchange.second)) second-reads i
+      λ i. passes-kept setup entries (done ++ p ∷ []) p.first (first_with setup.currencies p accounts) valid
+      (traded-is p.first p.sell p.sell_amt p.buy p.buy_amt (known p.first exchange.first)) first-reads i
+      && passes-kept setup entries (done ++ p ∷ []) p.second (second_with setup.currencies p accounts) valid
+      (traded-is p.second p.buy p.buy_amt p.sell p.sell_amt (known p.second exchange.second)) second-reads i
 
   -- and with both accounts posted the balances are those with it settled
-  pub AreAccounts-settled : AreAccounts setup.currencies (length setup.members) (balance_with entries (done ++ p ∷ [])) (accounts_with setup.currencies p accounts)
+  pub AreAccounts-settled : AreAccounts setup.currencies (length setup.members) (balance_with entries (done ++ p ∷ []))
+      (accounts_with setup.currencies p accounts)
   AreAccounts-settled =
       let later = balance_with entries (done ++ p ∷ []) in
       let between = λ (k c : ℕ). if k == p.first then balance_with entries (done ++ p ∷ []) k c else balance_with entries done k c in
-      let once = AreAccounts-set setup.currencies (length setup.members) (balance_with entries done) between accounts p.first (first_with setup.currencies p accounts) are (known p.first exchange.first)
+      let once =
+      AreAccounts-set setup.currencies (length setup.members) (balance_with entries done) between accounts p.first
+      (first_with setup.currencies p accounts) are (known p.first exchange.first)
       (traded-is p.first p.sell p.sell_amt p.buy p.buy_amt (known p.first exchange.first))
-      (λ c. first-reads c ∙ ap (λ b. if b then balance_with entries (done ++ p ∷ []) p.first c else balance_with entries done p.first c) (sym (eq-eqb p.first p.first refl)))
+      (λ c. first-reads c ∙ ap (λ b. if b then balance_with entries (done ++ p ∷ []) p.first c else balance_with entries done p.first c)
+      (sym (eq-eqb p.first p.first refl)))
       (λ k c other. ap (λ b. if b then balance_with entries (done ++ p ∷ []) k c else balance_with entries done k c) (sym (ne_eqb k p.first other))) in
-      AreAccounts-set setup.currencies (length setup.members) between later (slice_set accounts p.first (first_with setup.currencies p accounts)) p.second (second_with setup.currencies p accounts) once
+      AreAccounts-set setup.currencies (length setup.members) between later (slice_set accounts p.first (first_with setup.currencies p accounts)) p.second
+      (second_with setup.currencies p accounts) once
       (subst (λ l. p.second < l) (sym (length-set accounts p.first (first_with setup.currencies p accounts))) (known p.second exchange.second))
       (traded-is p.second p.buy p.buy_amt p.sell p.sell_amt (known p.second exchange.second)) second-reads (λ k c other. others k c other (cases_eq k p.first))
     where
@@ -266,10 +290,12 @@ pub small-account : (entries : List Entry) (done : List Pair) (currencies : List
     → AreAccounts currencies n (balance_with entries done) accounts → (m : ℕ) → All (IsWithin most_total) (account_at accounts m).balances
 small-account entries done currencies n accounts small are m =
     All-from_get_or (IsWithin most_total) (account_at accounts m).balances (pos 0)
-    (λ c within. subst (IsWithin most_total) (sym (are.same m c)) (difference-small (received entries done m c) (given entries done m c) (small.received m c) (small.given m c)))
+    (λ c within. subst (IsWithin most_total) (sym (are.same m c))
+    (difference-small (received entries done m c) (given entries done m c) (small.received m c) (small.given m c)))
 
 -- nor a figure
-pub small-sum : (entries : List Entry) (done : List Pair) (c : ℕ) → IsSmall entries done → (n : ℕ) → IsWithin (n * most_total) (sum_of_balances n entries done c)
+pub small-sum : (entries : List Entry) (done : List Pair) (c : ℕ) → IsSmall entries done → (n : ℕ)
+    → IsWithin (n * most_total) (sum_of_balances n entries done c)
 small-sum entries done c small zero = record { above = omega (arith, ints); below = omega (arith, ints) }
 small-sum entries done c small (suc n) =
     let rest = small-sum entries done c small n in
@@ -292,18 +318,23 @@ small-pair entries done p small =
     let came = sum_by-append (bought p.first p.buy) done (p ∷ []) in
     let one_came = sum_by-cons (bought p.first p.buy) p [] in
     let its_sell : p.sell_amt ≤ sold p.first p.sell p =
-    subst (λ b. p.sell_amt ≤ (if b && (p.sell == p.sell) then p.sell_amt else 0) + (if (p.second == p.first) && (p.buy == p.sell) then p.buy_amt else 0)) (sym (eq-eqb p.first p.first refl))
-    (subst (λ b. p.sell_amt ≤ (if b then p.sell_amt else 0) + (if (p.second == p.first) && (p.buy == p.sell) then p.buy_amt else 0)) (sym (eq-eqb p.sell p.sell refl)) (omega arith)) in
+    subst (λ b. p.sell_amt ≤ (if b && (p.sell == p.sell) then p.sell_amt else 0) + (if (p.second == p.first) && (p.buy == p.sell) then p.buy_amt else 0))
+    (sym (eq-eqb p.first p.first refl))
+    (subst (λ b. p.sell_amt ≤ (if b then p.sell_amt else 0) + (if (p.second == p.first) && (p.buy == p.sell) then p.buy_amt else 0))
+    (sym (eq-eqb p.sell p.sell refl)) (omega arith)) in
     let its_buy : p.buy_amt ≤ bought p.first p.buy p =
-    subst (λ b. p.buy_amt ≤ (if b && (p.buy == p.buy) then p.buy_amt else 0) + (if (p.second == p.first) && (p.sell == p.buy) then p.sell_amt else 0)) (sym (eq-eqb p.first p.first refl))
-    (subst (λ b. p.buy_amt ≤ (if b then p.buy_amt else 0) + (if (p.second == p.first) && (p.sell == p.buy) then p.sell_amt else 0)) (sym (eq-eqb p.buy p.buy refl)) (omega arith)) in
+    subst (λ b. p.buy_amt ≤ (if b && (p.buy == p.buy) then p.buy_amt else 0) + (if (p.second == p.first) && (p.sell == p.buy) then p.sell_amt else 0))
+    (sym (eq-eqb p.first p.first refl))
+    (subst (λ b. p.buy_amt ≤ (if b then p.buy_amt else 0) + (if (p.second == p.first) && (p.sell == p.buy) then p.sell_amt else 0))
+    (sym (eq-eqb p.buy p.buy refl)) (omega arith)) in
     (omega arith, omega arith)
 
 -- an account with nothing in it
 zeros : (f : Currency × ℤ → ℕ) → ((c : Currency) → f (c, pos 0) ≡ 0) → (cs : List Currency) (n : ℕ) → sum_by f (zip cs (replicate n (pos 0))) ≡ 0
 zeros f none [] n = refl
 zeros f none (c ∷ cs) zero = refl
-zeros f none (c ∷ cs) (suc n) = let here = none c in let rest = zeros f none cs n in let all = sum_by-cons f (c, pos 0) (zip cs (replicate n (pos 0))) in omega arith
+zeros f none (c ∷ cs) (suc n) = let here = none c in let rest = zeros f none cs n in let all = sum_by-cons f (c, pos 0) (zip cs (replicate n (pos 0))) in
+    omega arith
 
 pub IsAccount-empty : (currencies : List Currency) → IsAccount currencies empty_account
 IsAccount-empty currencies =
@@ -316,11 +347,13 @@ IsAccount-empty currencies =
     }
 
 -- a member's value
-pub value-kept : (setup : Setup) (entries : List Entry) (accounts : List Account) (m : ℕ) → IsValid setup → AreAccounts setup.currencies (length setup.members) (balance setup entries) accounts
+pub value-kept : (setup : Setup) (entries : List Entry) (accounts : List Account) (m : ℕ) → IsValid setup
+    → AreAccounts setup.currencies (length setup.members) (balance setup entries) accounts
     → (account_at accounts m).value ≡ value setup entries m
 value-kept setup entries accounts m valid are = by (cases_lt m (length accounts))
   where
-    same : (account : Account) → length setup.currencies ≤ length account.balances → ((c : ℕ) → slice_index_or account.balances c (pos 0) ≡ balance setup entries m c)
+    same : (account : Account) → length setup.currencies ≤ length account.balances
+        → ((c : ℕ) → slice_index_or account.balances c (pos 0) ≡ balance setup entries m c)
         → value_of setup.currencies account.balances ≡ value setup entries m
     same account many reads =
         let pairs = zip-same setup.currencies account.balances (balances_with setup entries (settled setup entries) m) many (simp length-balances (omega arith))
@@ -328,7 +361,9 @@ value-kept setup entries accounts m valid are = by (cases_lt m (length accounts)
         λ i. pos (sum_by worth_of (pairs i)) -ℤ pos (sum_by debt_of (pairs i))
       where
         length-balances : length (balances_with setup entries (settled setup entries) m) ≡ length setup.currencies
-        length-balances = length-map (range_with_len 0 (length setup.currencies)) (λ c. balance_with entries (settled setup entries) m c) ∙ length-range_with_len 0 (length setup.currencies)
+        length-balances =
+            length-map (range_with_len 0 (length setup.currencies)) (λ c. balance_with entries (settled setup entries) m c)
+            ∙ length-range_with_len 0 (length setup.currencies)
 
     by : (m < length accounts) ⊎ (length accounts ≤ m) → (account_at accounts m).value ≡ value setup entries m
     by (inl known) =
@@ -348,7 +383,8 @@ value-kept setup entries accounts m valid are = by (cases_lt m (length accounts)
         zeros-read (suc n) (suc c) = zeros-read n c
 
 -- the tests once an amount is paid out
-pub passes-less : (setup : Setup) (entries : List Entry) (done : List Pair) (accounts : List Account) (m c amt : ℕ) → IsValid setup → m < length accounts → c < length setup.currencies
+pub passes-less : (setup : Setup) (entries : List Entry) (done : List Pair) (accounts : List Account) (m c amt : ℕ) → IsValid setup → m < length accounts
+    → c < length setup.currencies
     → AreAccounts setup.currencies (length setup.members) (balance_with entries done) accounts
     → passes_with setup m (posted setup.currencies c (neg_ℤ (pos amt)) (account_at accounts m)) ≡ passes setup m (balances_less setup entries done m c amt)
 passes-less setup entries done accounts m c amt valid known here are = by (slice_get setup.members (m - 1)) refl
@@ -368,10 +404,12 @@ passes-less setup entries done accounts m c amt valid known here are = by (slice
     all = let is = (are.each m known).places in let few = (valid-currencies setup valid).1 in omega arith
 
     reads : (d : ℕ) → d < length setup.currencies → (d ≡ c) ⊎ (d ≡ c → ⊥)
-        → slice_index_or (posted setup.currencies c (neg_ℤ (pos amt)) (account_at accounts m)).balances d (pos 0) ≡ slice_index_or (balances_less setup entries done m c amt) d (pos 0)
+        → slice_index_or (posted setup.currencies c (neg_ℤ (pos amt)) (account_at accounts m)).balances d (pos 0)
+        ≡ slice_index_or (balances_less setup entries done m c amt) d (pos 0)
     reads d within (inl same) =
         ap (λ k. slice_index_or (posted setup.currencies c (neg_ℤ (pos amt)) (account_at accounts m)).balances k (pos 0)) same
-        ∙ get_or-set_same (account_at accounts m).balances c _ (pos 0) all ∙ ap (λ b. b +ℤ neg_ℤ (pos amt)) (are.same m c) ∙ less (balance_with entries done m c)
+        ∙ get_or-set_same (account_at accounts m).balances c _ (pos 0) all ∙ ap (λ b. b +ℤ neg_ℤ (pos amt)) (are.same m c)
+        ∙ less (balance_with entries done m c)
         ∙ sym (ap (λ k. slice_index_or (balances_less setup entries done m c amt) k (pos 0)) same
         ∙ get_or-set_same (balances_with setup entries done m) c _ (pos 0) (subst (λ l. c < l) (sym its) here))
     reads d within (inr other) =
@@ -385,11 +423,13 @@ passes-less setup entries done accounts m c amt valid known here are = by (slice
     by None none = refl
     by (Some member) there =
         within-limits setup.currencies member (posted setup.currencies c (neg_ℤ (pos amt)) (account_at accounts m)) (balances_less setup entries done m c amt)
-        (IsAccount-posted setup.currencies (length setup.members) (account_at accounts m) c (neg_ℤ (pos amt)) (are.each m known)) (valid-currencies setup valid).1 (short-places setup valid (m - 1) member there) places
+        (IsAccount-posted setup.currencies (length setup.members) (account_at accounts m) c (neg_ℤ (pos amt)) (are.each m known))
+        (valid-currencies setup valid).1 (short-places setup valid (m - 1) member there) places
         (λ d within. reads d within (cases_eq d c))
 
 -- what the code reads at a place is the account there
-pub account-read : (accounts : List Account) (at m : ℕ) (read : Account) → read ≡ slice_index_or accounts at read → at ≡ m → m < length accounts → read ≡ account_at accounts m
+pub account-read : (accounts : List Account) (at m : ℕ) (read : Account) → read ≡ slice_index_or accounts at read → at ≡ m → m < length accounts
+    → read ≡ account_at accounts m
 account-read accounts at m read is here within = is ∙ ap (λ k. slice_index_or accounts k read) here ∙ any accounts m within
   where
     any : (xs : List Account) (k : ℕ) → k < length xs → slice_index_or xs k read ≡ account_at xs k

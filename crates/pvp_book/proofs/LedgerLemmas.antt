@@ -46,7 +46,8 @@ ordered_by m o = if o.member == m then o.amt else 0
 
 -- what an entry brings a member, by a pay-in, by the pair that it matches or, once it is returned, by the order that it makes, is no more than it names
 brought-le : (m c client : ℕ) (cmd : Cmd) (reply : Reply)
-    → (paid_in_to m c cmd + sum_by (ordered_by m) (cons_option (order_by c client cmd reply) [])) + sum_by (bought m c) (cons_option (matched_by client cmd reply) []) ≤ amount_of cmd
+    → (paid_in_to m c cmd + sum_by (ordered_by m) (cons_option (order_by c client cmd reply) [])) + sum_by (bought m c)
+    (cons_option (matched_by client cmd reply) []) ≤ amount_of cmd
 brought-le m c client (Instruct reference other sell sell_amt buy buy_amt) Matched =
     let first = at_most ((other == m) && (sell == c)) sell_amt in
     let second = at_most ((client == m) && (buy == c)) buy_amt in
@@ -58,7 +59,8 @@ brought-le m c client (Instruct reference other sell sell_amt buy buy_amt) (No r
 brought-le m c client (Fund ccy pay member amt) reply = let here = at_most ((member == m) && (ccy == c)) amt in omega arith
 brought-le m c client (PayOut ccy amt) (Order out) = by (ccy == c)
   where
-    by : (b : Bool) → (0 + sum_by (ordered_by m) (cons_option (if b then Some (record { ccy = ccy; out = out; member = client; amt = amt }) else None) [])) + 0 ≤ amt
+    by : (b : Bool)
+        → (0 + sum_by (ordered_by m) (cons_option (if b then Some (record { ccy = ccy; out = out; member = client; amt = amt }) else None) [])) + 0 ≤ amt
     by true = let here = at_most (client == m) amt in omega arith
     by false = omega arith
 brought-le m c client (PayOut ccy amt) Done = omega arith
@@ -81,7 +83,8 @@ taken-le m c client (PayOut ccy amt) reply = let here = at_most ((client == m) &
 taken-le m c client _ reply = omega arith
 
 -- all pay-ins, all orders and all matched pairs together bring a member no more than the entries name
-all-brought-le : (entries : List Entry) (m c : ℕ) → (pay_ins entries m c + sum_by (ordered_by m) (orders entries c)) + sum_by (bought m c) (matched entries) ≤ total entries
+all-brought-le : (entries : List Entry) (m c : ℕ)
+    → (pay_ins entries m c + sum_by (ordered_by m) (orders entries c)) + sum_by (bought m c) (matched entries) ≤ total entries
 all-brought-le [] m c = omega arith
 all-brought-le (e ∷ es) m c =
     let rest = all-brought-le es m c in
@@ -104,7 +107,8 @@ sum-le f g low (x ∷ xs) =
 
 returned-le : (entries : List Entry) (m c : ℕ) → returned entries m c ≤ sum_by (ordered_by m) (orders entries c)
 returned-le entries m c =
-    sum-le (λ (o : PayOrder). if (o.member == m) && has_return entries c o.out then o.amt else 0) (ordered_by m) (λ o. by (o.member == m) (has_return entries c o.out) o.amt) (orders entries c)
+    sum-le (λ (o : PayOrder). if (o.member == m) && has_return entries c o.out then o.amt else 0) (ordered_by m)
+    (λ o. by (o.member == m) (has_return entries c o.out) o.amt) (orders entries c)
   where
     by : (a b : Bool) (amt : ℕ) → (if a && b then amt else 0) ≤ (if a then amt else 0)
     by true true amt = omega arith
@@ -136,7 +140,8 @@ total-small held is =
     omega arith
 
 pub IsSmall-ledger : (held : Ledger) → IsLedger held → IsSmall held.entries (settled held.setup held.entries)
-IsSmall-ledger held is = IsSmall-within held.entries (settled held.setup held.entries) (candidates held.entries (settled held.setup held.entries)) is.within (total-small held is)
+IsSmall-ledger held is =
+    IsSmall-within held.entries (settled held.setup held.entries) (candidates held.entries (settled held.setup held.entries)) is.within (total-small held is)
 
 -- no order is of more than the entries name
 amount-by : (c client : ℕ) (cmd : Cmd) (reply : Reply) (o : PayOrder) → order_by c client cmd reply ≡ Some o → o.amt ≤ amount_of cmd
@@ -211,7 +216,8 @@ fund-small setup entries client c pay member amt e = amount-small amt (is-so _ (
 
 pay_out-small : (setup : Setup) (entries : List Entry) (client c amt : ℕ)
     → is_refusal (on_pay_out setup entries client c amt) ≡ false → amt ≤ most_amount
-pay_out-small setup entries client c amt e = amount-small amt (is-so _ (passed (pay_out_checks setup entries client c amt) (Order (length (orders entries c) + 1)) e).1.1.1.0)
+pay_out-small setup entries client c amt e =
+    amount-small amt (is-so _ (passed (pay_out_checks setup entries client c amt) (Order (length (orders entries c) + 1)) e).1.1.1.0)
 
 instruct-small : (setup : Setup) (entries : List Entry) (client reference other sell sell_amt buy buy_amt : ℕ)
     → is_refusal (on_instruct setup entries client reference other sell sell_amt buy buy_amt) ≡ false → (is_amount sell_amt && is_amount buy_amt) ≡ true
@@ -220,7 +226,8 @@ instruct-small setup entries client reference other sell sell_amt buy buy_amt e 
     (has_currency setup sell && (has_currency setup buy && not (sell == buy))) (is_amount sell_amt && is_amount buy_amt) _ e
   where
     cases : (yours member currency small : Bool) (rest : Reply)
-        → is_refusal (if not yours then No NotYours else if not member then No UnknownMember else if not currency then No UnknownCurrency else if not small then No BadAmount else rest) ≡ false
+        → is_refusal (if not yours then No NotYours else if not member then No UnknownMember else if not currency then No UnknownCurrency else if not small
+        then No BadAmount else rest) ≡ false
         → small ≡ true
     cases true true true true rest e = refl
     cases true true true false rest e = absurd (cc)
@@ -246,7 +253,9 @@ pub counted-known : (setup : Setup) (entries : List Entry) (client : ℕ) (cmd :
     → is_refusal (answer setup entries client cmd) ≡ false → IsCounted (step_of client cmd reply)
 unfolding answer
 counted-known setup entries client (PayOut ccy amt) (Order out) valid accepted =
-    let known = ltb-true ccy (length setup.currencies) (is-so _ (passed (pay_out_checks setup entries client ccy amt) (Order (length (orders entries ccy) + 1)) accepted).1.1.0) in
+    let known =
+    ltb-true ccy (length setup.currencies)
+    (is-so _ (passed (pay_out_checks setup entries client ccy amt) (Order (length (orders entries ccy) + 1)) accepted).1.1.0) in
     let few = (valid-currencies setup valid).1 in
     omega arith
 counted-known setup entries client (PayOut ccy amt) Done valid accepted = tt
@@ -325,7 +334,8 @@ module _ (orders : ℕ → List PayOrder) where
   with_node c = map (λ (o : PayOrder). (node_of c, o)) (orders c)
 
   -- an order of the first of the currencies
-  pub outstanding-here : (c n at : ℕ) (order : PayOrder) → 0 < n → slice_get (orders c) at ≡ Some order → slice_get (outstanding_at orders c n) at ≡ Some (node_of c, order)
+  pub outstanding-here : (c n at : ℕ) (order : PayOrder) → 0 < n → slice_get (orders c) at ≡ Some order
+      → slice_get (outstanding_at orders c n) at ≡ Some (node_of c, order)
   outstanding-here c zero at order some found = absurd (omega arith)
   outstanding-here c (suc n) at order some found =
       let mapped = slice_get-map (λ (o : PayOrder). (node_of c, o)) (orders c) at ∙ ap (option_map (λ (o : PayOrder). (node_of c, o))) found in

@@ -66,7 +66,8 @@ upto-sum f (x ∷ xs) n =
 
 -- the same, of any number
 pub pick-one : (k amt n : ℕ) → 1 ≤ k → k ≤ n → upto (λ m. if k == m then amt else 0) n ≡ amt
-pick-one k amt n low high = upto-same (λ m. if k == m then amt else 0) (λ m. if (k == m) && true then amt else 0) n (λ m. by (k == m)) ∙ pick k amt true n low high
+pick-one k amt n low high =
+    upto-same (λ m. if k == m then amt else 0) (λ m. if (k == m) && true then amt else 0) n (λ m. by (k == m)) ∙ pick k amt true n low high
   where
     by : (b : Bool) → (if b then amt else 0) ≡ (if b && true then amt else 0)
     by true = refl

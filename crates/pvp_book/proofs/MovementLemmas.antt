@@ -81,11 +81,13 @@ found-any (o ∷ os) n none = by (o.out == n) none (λ rest. found-any os n rest
     by false none more = more none
 
 -- what an item of a list is tested for
-split-any : {X : Type 0} (test : X → Bool) (xs : List X) → list_any test xs ≡ true → (earlier : List X) × (e : X) × (later : List X) × (xs ≡ earlier ++ e ∷ later) × (test e ≡ true)
+split-any : {X : Type 0} (test : X → Bool) (xs : List X) → list_any test xs ≡ true
+    → (earlier : List X) × (e : X) × (later : List X) × (xs ≡ earlier ++ e ∷ later) × (test e ≡ true)
 split-any test [] any = absurd (cc any)
 split-any test (x ∷ xs) any = by (test x) refl any (λ more. split-any test xs more)
   where
-    by : (b : Bool) → test x ≡ b → (b || list_any test xs) ≡ true → (list_any test xs ≡ true → (earlier : _) × (e : _) × (later : _) × (xs ≡ earlier ++ e ∷ later) × (test e ≡ true))
+    by : (b : Bool) → test x ≡ b → (b || list_any test xs) ≡ true
+        → (list_any test xs ≡ true → (earlier : _) × (e : _) × (later : _) × (xs ≡ earlier ++ e ∷ later) × (test e ≡ true))
         → (earlier : _) × (e : _) × (later : _) × (x ∷ xs ≡ earlier ++ e ∷ later) × (test e ≡ true)
     by true is any rest = ([], x, xs, refl, is)
     by false is any rest = let found = rest any in (x ∷ found.0, found.1, found.2, ap (λ ys. x ∷ ys) found.3, found.4)
@@ -112,7 +114,8 @@ return-end (e ∷ es) c n is = by (is_return c n e.cmd) (is_end c n e.cmd) (one 
     one (Settle most) h = absurd (cc h)
     one (PayOut ccy amt) h = absurd (cc h)
 
-    by : (a b : Bool) → (a ≡ true → b ≡ true) → (a || has_return es c n) ≡ true → (has_return es c n ≡ true → has_end es c n ≡ true) → (b || has_end es c n) ≡ true
+    by : (a b : Bool) → (a ≡ true → b ≡ true) → (a || has_return es c n) ≡ true → (has_return es c n ≡ true → has_end es c n ≡ true)
+        → (b || has_end es c n) ≡ true
     by true true h is more = refl
     by true false h is more = absurd (cc (h refl))
     by false true h is more = refl
@@ -127,7 +130,9 @@ pub next-open : (entries : List Entry) (c : ℕ) → AreOrdered entries c → ha
 next-open entries c are = by (has_end entries c (length (orders entries c) + 1)) refl
   where
     none : has_order entries c (length (orders entries c) + 1) ≡ false
-    none = found-any (orders entries c) (length (orders entries c) + 1) (none-above 1 (length (orders entries c) + 1) (orders entries c) are.numbered (omega arith))
+    none =
+        found-any (orders entries c) (length (orders entries c) + 1)
+        (none-above 1 (length (orders entries c) + 1) (orders entries c) are.numbered (omega arith))
 
     by : (b : Bool) → has_end entries c (length (orders entries c) + 1) ≡ b → b ≡ false
     by false e = refl
@@ -173,7 +178,8 @@ module _ (m n : ℕ) (back : ℕ → Bool) where
 
   pub one-returned : (k : ℕ) (os : List PayOrder) → AreFrom k os → back n ≡ false
       → sum_by (λ o. if (o.member == m) && (back o.out || (n == o.out)) then o.amt else 0) os
-      ≡ sum_by (λ o. if (o.member == m) && back o.out then o.amt else 0) os + option_map_or (λ o. if o.member == m then o.amt else 0) (find (λ o. o.out == n) os) 0
+      ≡ sum_by (λ o. if (o.member == m) && back o.out then o.amt else 0) os + option_map_or (λ o. if o.member == m then o.amt else 0)
+      (find (λ o. o.out == n) os) 0
   unfolding now credit
   one-returned k [] is kept = refl
   one-returned k (o ∷ os) is kept =
@@ -184,13 +190,18 @@ module _ (m n : ℕ) (back : ℕ → Bool) where
       by : (o.out ≡ n) ⊎ (o.out ≡ n → ⊥)
           → sum_by now os ≡ sum_by credit os + option_map_or (λ p. if p.member == m then p.amt else 0) (find (λ p. p.out == n) os) 0
           → sum_by now (o ∷ os) ≡ now o + sum_by now os → sum_by credit (o ∷ os) ≡ credit o + sum_by credit os
-          → sum_by now (o ∷ os) ≡ sum_by credit (o ∷ os) + option_map_or (λ p. if p.member == m then p.amt else 0) (cond (o.out == n) (Some o) (find (λ p. p.out == n) os)) 0
+          → sum_by now (o ∷ os) ≡ sum_by credit (o ∷ os) + option_map_or (λ p. if p.member == m then p.amt else 0)
+          (cond (o.out == n) (Some o) (find (λ p. p.out == n) os)) 0
       by (inl same) _ left right =
           let rest = later-same (k + 1) os (tails k o os is) (let first = heads k o os is in omega arith) in
-          let found = ap (λ b. option_map_or (λ (p : PayOrder). if p.member == m then p.amt else 0) (cond b (Some o) (find (λ p. p.out == n) os)) 0) (eq-eqb o.out n same) in
+          let found =
+          ap (λ b. option_map_or (λ (p : PayOrder). if p.member == m then p.amt else 0) (cond b (Some o) (find (λ p. p.out == n) os)) 0)
+          (eq-eqb o.out n same) in
           let here : now o ≡ (if o.member == m then o.amt else 0) =
           ap (λ b. if (o.member == m) && (back o.out || b) then o.amt else 0) (eq-eqb n o.out (sym same)) ∙ ones (back o.out) (o.member == m) in
-          let before : credit o ≡ 0 = ap (λ i. if (o.member == m) && back i then o.amt else 0) same ∙ ap (λ b. if (o.member == m) && b then o.amt else 0) kept ∙ nones (o.member == m) in
+          let before : credit o ≡ 0 =
+          ap (λ i. if (o.member == m) && back i then o.amt else 0) same ∙ ap (λ b. if (o.member == m) && b then o.amt else 0) kept
+          ∙ nones (o.member == m) in
           omega arith
         where
           ones : (a b : Bool) → (if b && (a || true) then o.amt else 0) ≡ (if b then o.amt else 0)
@@ -203,9 +214,12 @@ module _ (m n : ℕ) (back : ℕ → Bool) where
           nones true = refl
           nones false = refl
       by (inr other) rest left right =
-          let found = ap (λ b. option_map_or (λ (p : PayOrder). if p.member == m then p.amt else 0) (cond b (Some o) (find (λ p. p.out == n) os)) 0) (ne_eqb o.out n other) in
+          let found =
+          ap (λ b. option_map_or (λ (p : PayOrder). if p.member == m then p.amt else 0) (cond b (Some o) (find (λ p. p.out == n) os)) 0)
+          (ne_eqb o.out n other) in
           let here : now o ≡ credit o =
-          ap (λ b. if (o.member == m) && (back o.out || b) then o.amt else 0) (ne_eqb n o.out (λ e. other (sym e))) ∙ ap (λ b. if (o.member == m) && b then o.amt else 0) (or-false (back o.out)) in
+          ap (λ b. if (o.member == m) && (back o.out || b) then o.amt else 0) (ne_eqb n o.out (λ e. other (sym e)))
+          ∙ ap (λ b. if (o.member == m) && b then o.amt else 0) (or-false (back o.out)) in
           omega arith
 
 pub sum-push : (f : Entry → ℕ) (entries : List Entry) (e : Entry) → sum_by f (entries ++ e ∷ []) ≡ sum_by f entries + f e
@@ -219,7 +233,8 @@ abbrev back_to : List Entry → ℕ → ℕ → Cmd → ℕ
 back_to entries m c (Returned ccy out) = if ccy == c then option_map_or (λ o. if o.member == m then o.amt else 0) (order_of entries c out) 0 else 0
 back_to entries m c _ = 0
 
-module _ (setup : Setup) (entries : List Entry) (client : ℕ) (cmd : Cmd) (accepted : is_refusal (answer setup entries client cmd) ≡ false) (ordered : (c : ℕ) → AreOrdered entries c) where
+module _ (setup : Setup) (entries : List Entry) (client : ℕ) (cmd : Cmd) (accepted : is_refusal (answer setup entries client cmd) ≡ false)
+    (ordered : (c : ℕ) → AreOrdered entries c) where
   entry : Entry
   entry = entry_of setup entries client cmd
 
@@ -227,28 +242,38 @@ module _ (setup : Setup) (entries : List Entry) (client : ℕ) (cmd : Cmd) (acce
   plain : (m c : ℕ) → orders (entries ++ entry_of setup entries client cmd ∷ []) c ≡ orders entries c → ((n : ℕ) → is_return c n cmd ≡ false)
       → returned (entries ++ entry_of setup entries client cmd ∷ []) m c ≡ returned entries m c + 0
   plain m c same none =
-      let kept = sum-same (λ o. if (o.member == m) && has_return (entries ++ entry_of setup entries client cmd ∷ []) c o.out then o.amt else 0) (λ o. if (o.member == m) && has_return entries c o.out then o.amt else 0) (orders entries c)
+      let kept =
+      sum-same (λ o. if (o.member == m) && has_return (entries ++ entry_of setup entries client cmd ∷ []) c o.out then o.amt else 0)
+      (λ o. if (o.member == m) && has_return entries c o.out then o.amt else 0) (orders entries c)
       (λ o. ap (λ b. if (o.member == m) && b then o.amt else 0)
-      (has_return-more entries (entry_of setup entries client cmd) c o.out ∙ ap (λ b. has_return entries c o.out || b) (none o.out) ∙ or-false (has_return entries c o.out))) in
-      ap (sum_by (λ (o : PayOrder). if (o.member == m) && has_return (entries ++ entry_of setup entries client cmd ∷ []) c o.out then o.amt else 0)) same ∙ kept ∙ omega arith
+      (has_return-more entries (entry_of setup entries client cmd) c o.out ∙ ap (λ b. has_return entries c o.out || b) (none o.out)
+      ∙ or-false (has_return entries c o.out))) in
+      ap (sum_by (λ (o : PayOrder). if (o.member == m) && has_return (entries ++ entry_of setup entries client cmd ∷ []) c o.out then o.amt else 0)) same ∙ kept
+      ∙ omega arith
 
 pub orders-more : (setup : Setup) (entries : List Entry) (client : ℕ) (cmd : Cmd) (c : ℕ)
-    → orders (entries ++ entry_of setup entries client cmd ∷ []) c ≡ orders entries c ++ cons_option (order_by c client cmd (answer setup entries client cmd)) []
+    → orders (entries ++ entry_of setup entries client cmd ∷ []) c ≡ orders entries c ++ cons_option
+    (order_by c client cmd (answer setup entries client cmd)) []
 orders-more setup entries client cmd c = filter_map-append (λ (x : Entry). order_by c x.client x.cmd x.reply) entries (entry_of setup entries client cmd ∷ [])
 
-returned-more : (setup : Setup) (entries : List Entry) (client : ℕ) (cmd : Cmd) → is_refusal (answer setup entries client cmd) ≡ false → ((c : ℕ) → AreOrdered entries c)
+returned-more : (setup : Setup) (entries : List Entry) (client : ℕ) (cmd : Cmd) → is_refusal (answer setup entries client cmd) ≡ false
+    → ((c : ℕ) → AreOrdered entries c)
     → (m c : ℕ) → returned (entries ++ entry_of setup entries client cmd ∷ []) m c ≡ returned entries m c + back_to entries m c cmd
 unfolding answer
 returned-more setup entries client (Instruct reference other sell sell_amt buy buy_amt) accepted ordered m c =
-    plain setup entries client (Instruct reference other sell sell_amt buy buy_amt) accepted ordered m c (orders-more setup entries client (Instruct reference other sell sell_amt buy buy_amt) c ∙ append-nil (orders entries c)) (λ n. refl)
+    plain setup entries client (Instruct reference other sell sell_amt buy buy_amt) accepted ordered m c
+    (orders-more setup entries client (Instruct reference other sell sell_amt buy buy_amt) c ∙ append-nil (orders entries c)) (λ n. refl)
 returned-more setup entries client (Rescind reference) accepted ordered m c =
-    plain setup entries client (Rescind reference) accepted ordered m c (orders-more setup entries client (Rescind reference) c ∙ append-nil (orders entries c)) (λ n. refl)
+    plain setup entries client (Rescind reference) accepted ordered m c (orders-more setup entries client (Rescind reference) c ∙ append-nil (orders entries c))
+    (λ n. refl)
 returned-more setup entries client (Fund ccy pay member amt) accepted ordered m c =
-    plain setup entries client (Fund ccy pay member amt) accepted ordered m c (orders-more setup entries client (Fund ccy pay member amt) c ∙ append-nil (orders entries c)) (λ n. refl)
+    plain setup entries client (Fund ccy pay member amt) accepted ordered m c
+    (orders-more setup entries client (Fund ccy pay member amt) c ∙ append-nil (orders entries c)) (λ n. refl)
 returned-more setup entries client (Settle most) accepted ordered m c =
     plain setup entries client (Settle most) accepted ordered m c (orders-more setup entries client (Settle most) c ∙ append-nil (orders entries c)) (λ n. refl)
 returned-more setup entries client (Paid ccy out) accepted ordered m c =
-    plain setup entries client (Paid ccy out) accepted ordered m c (orders-more setup entries client (Paid ccy out) c ∙ append-nil (orders entries c)) (λ n. refl)
+    plain setup entries client (Paid ccy out) accepted ordered m c (orders-more setup entries client (Paid ccy out) c ∙ append-nil (orders entries c))
+    (λ n. refl)
 returned-more setup entries client (PayOut ccy amt) accepted ordered m c = by (cases_eq ccy c)
   where
     e : Entry
@@ -260,14 +285,17 @@ returned-more setup entries client (PayOut ccy amt) accepted ordered m c = by (c
     new : PayOrder
     new = record { ccy = ccy; out = length (orders entries ccy) + 1; member = client; amt = amt }
 
-    made : order_by c client (PayOut ccy amt) (on_pay_out setup entries client ccy amt) ≡ (if ccy == c then Some (record { ccy = ccy; out = length (orders entries ccy) + 1; member = client; amt = amt }) else None)
+    made : order_by c client (PayOut ccy amt) (on_pay_out setup entries client ccy amt)
+        ≡ (if ccy == c then Some (record { ccy = ccy; out = length (orders entries ccy) + 1; member = client; amt = amt }) else None)
     made = ap (order_by c client (PayOut ccy amt)) (pay_out-order setup entries client ccy amt accepted)
 
     whole : returned (entries ++ entry_of setup entries client (PayOut ccy amt) ∷ []) m c
         ≡ sum_by (λ (o : PayOrder). if (o.member == m) && has_return entries c o.out then o.amt else 0)
-        (orders entries c ++ cons_option (if ccy == c then Some (record { ccy = ccy; out = length (orders entries ccy) + 1; member = client; amt = amt }) else None) [])
+        (orders entries c ++ cons_option (if ccy == c then Some (record { ccy = ccy; out = length (orders entries ccy) + 1; member = client; amt = amt })
+        else None) [])
     whole =
-        sum-same (λ o. if (o.member == m) && has_return (entries ++ entry_of setup entries client (PayOut ccy amt) ∷ []) c o.out then o.amt else 0) (λ o. if (o.member == m) && has_return entries c o.out then o.amt else 0)
+        sum-same (λ o. if (o.member == m) && has_return (entries ++ entry_of setup entries client (PayOut ccy amt) ∷ []) c o.out then o.amt else 0)
+        (λ o. if (o.member == m) && has_return entries c o.out then o.amt else 0)
         (orders (entries ++ entry_of setup entries client (PayOut ccy amt) ∷ []) c) (λ o. ap (λ b. if (o.member == m) && b then o.amt else 0) (kept o.out))
         ∙ ap (sum_by (λ (o : PayOrder). if (o.member == m) && has_return entries c o.out then o.amt else 0))
         (orders-more setup entries client (PayOut ccy amt) c ∙ ap (λ o. orders entries c ++ cons_option o []) made)
@@ -275,15 +303,18 @@ returned-more setup entries client (PayOut ccy amt) accepted ordered m c = by (c
     by : (ccy ≡ c) ⊎ (ccy ≡ c → ⊥) → returned (entries ++ entry_of setup entries client (PayOut ccy amt) ∷ []) m c ≡ returned entries m c + 0
     by (inr other) =
         whole ∙ ap (λ b. sum_by (λ (o : PayOrder). if (o.member == m) && has_return entries c o.out then o.amt else 0)
-        (orders entries c ++ cons_option (if b then Some (record { ccy = ccy; out = length (orders entries ccy) + 1; member = client; amt = amt }) else None) [])) (ne_eqb ccy c other)
+        (orders entries c ++ cons_option (if b then Some (record { ccy = ccy; out = length (orders entries ccy) + 1; member = client; amt = amt }) else None)
+        [])) (ne_eqb ccy c other)
         ∙ ap (sum_by (λ (o : PayOrder). if (o.member == m) && has_return entries c o.out then o.amt else 0)) (append-nil (orders entries c)) ∙ omega arith
     by (inl same) =
         let f = λ (o : PayOrder). if (o.member == m) && has_return entries c o.out then o.amt else 0 in
         let n : PayOrder = record { ccy = ccy; out = length (orders entries ccy) + 1; member = client; amt = amt } in
         let both = sum_by-append f (orders entries c) (n ∷ []) in
         let one = sum_by-cons f n [] in
-        let unreturned : has_return entries c (length (orders entries ccy) + 1) ≡ false = ap (λ d. has_return entries c (length (orders entries d) + 1)) same ∙ next-kept entries c (ordered c) in
-        let none : (if (client == m) && has_return entries c (length (orders entries ccy) + 1) then amt else 0) ≡ 0 = ap (λ b. if (client == m) && b then amt else 0) unreturned ∙ no (client == m) in
+        let unreturned : has_return entries c (length (orders entries ccy) + 1) ≡ false =
+        ap (λ d. has_return entries c (length (orders entries d) + 1)) same ∙ next-kept entries c (ordered c) in
+        let none : (if (client == m) && has_return entries c (length (orders entries ccy) + 1) then amt else 0) ≡ 0 =
+        ap (λ b. if (client == m) && b then amt else 0) unreturned ∙ no (client == m) in
         whole ∙ ap (λ b. sum_by f (orders entries c ++ cons_option (if b then Some n else None) [])) (eq-eqb ccy c same) ∙ omega arith
       where
         no : (b : Bool) → (if b && false then amt else 0) ≡ 0
@@ -307,19 +338,23 @@ returned-more setup entries client (Returned ccy out) accepted ordered m c = by 
         → returned (entries ++ entry_of setup entries client (Returned ccy out) ∷ []) m c
         ≡ returned entries m c + (if ccy == c then option_map_or (λ o. if o.member == m then o.amt else 0) (order_of entries c out) 0 else 0)
     by (inr other) =
-        whole ∙ sum-same (λ o. if (o.member == m) && (has_return entries c o.out || ((ccy == c) && (out == o.out))) then o.amt else 0) (λ o. if (o.member == m) && has_return entries c o.out then o.amt else 0) (orders entries c)
+        whole ∙ sum-same (λ o. if (o.member == m) && (has_return entries c o.out || ((ccy == c) && (out == o.out))) then o.amt else 0)
+        (λ o. if (o.member == m) && has_return entries c o.out then o.amt else 0) (orders entries c)
         (λ o. ap (λ b. if (o.member == m) && (has_return entries c o.out || (b && (out == o.out))) then o.amt else 0) (ne_eqb ccy c other)
         ∙ ap (λ b. if (o.member == m) && b then o.amt else 0) (or-false (has_return entries c o.out)))
-        ∙ none ∙ ap (λ b. returned entries m c + (if b then option_map_or (λ o. if o.member == m then o.amt else 0) (order_of entries c out) 0 else 0)) (sym (ne_eqb ccy c other))
+        ∙ none ∙ ap (λ b. returned entries m c + (if b then option_map_or (λ o. if o.member == m then o.amt else 0) (order_of entries c out) 0 else 0))
+        (sym (ne_eqb ccy c other))
       where
         none : returned entries m c ≡ returned entries m c + 0
         none = omega arith
     by (inl same) =
         let fresh : has_return entries c out ≡ false = no-return (end-known setup entries client ccy out accepted).1 in
-        whole ∙ sum-same (λ o. if (o.member == m) && (has_return entries c o.out || ((ccy == c) && (out == o.out))) then o.amt else 0) (λ o. if (o.member == m) && (has_return entries c o.out || (out == o.out)) then o.amt else 0) (orders entries c)
+        whole ∙ sum-same (λ o. if (o.member == m) && (has_return entries c o.out || ((ccy == c) && (out == o.out))) then o.amt else 0)
+        (λ o. if (o.member == m) && (has_return entries c o.out || (out == o.out)) then o.amt else 0) (orders entries c)
         (λ o. ap (λ b. if (o.member == m) && (has_return entries c o.out || (b && (out == o.out))) then o.amt else 0) (eq-eqb ccy c same))
         ∙ one-returned m out (has_return entries c) 1 (orders entries c) (ordered c).numbered fresh
-        ∙ ap (λ b. returned entries m c + (if b then option_map_or (λ o. if o.member == m then o.amt else 0) (order_of entries c out) 0 else 0)) (sym (eq-eqb ccy c same))
+        ∙ ap (λ b. returned entries m c + (if b then option_map_or (λ o. if o.member == m then o.amt else 0) (order_of entries c out) 0 else 0))
+        (sym (eq-eqb ccy c same))
       where
         no-return : has_end entries ccy out ≡ false → has_return entries c out ≡ false
         no-return ended = cases (has_return entries c out) refl
@@ -329,8 +364,10 @@ returned-more setup entries client (Returned ccy out) accepted ordered m c = by 
             cases true e = absurd (cc (return-end entries c out e, ap (λ d. has_end entries d out) same, ended))
 
 -- what an entry moves, on a balance
-pub balance-moved : (setup : Setup) (entries : List Entry) (done : List Pair) (client : ℕ) (cmd : Cmd) → is_refusal (answer setup entries client cmd) ≡ false → ((c : ℕ) → AreOrdered entries c)
-    → (m c : ℕ) → balance_with (entries ++ entry_of setup entries client cmd ∷ []) done m c ≡ balance_with entries done m c +ℤ moved_to m c (movement_by entries client cmd)
+pub balance-moved : (setup : Setup) (entries : List Entry) (done : List Pair) (client : ℕ) (cmd : Cmd) → is_refusal (answer setup entries client cmd) ≡ false
+    → ((c : ℕ) → AreOrdered entries c)
+    → (m c : ℕ)
+    → balance_with (entries ++ entry_of setup entries client cmd ∷ []) done m c ≡ balance_with entries done m c +ℤ moved_to m c (movement_by entries client cmd)
 balance-moved setup entries done client cmd accepted ordered m c =
     let ins = sum-push (λ (x : Entry). paid_in_to m c x.cmd) entries (entry_of setup entries client cmd) in
     let outs = sum-push (λ (x : Entry). paid_out_of m c x.client x.cmd) entries (entry_of setup entries client cmd) in
@@ -347,12 +384,14 @@ balance-moved setup entries done client cmd accepted ordered m c =
     came i r o b s amt false = omega (arith, ints)
 
     went : (i r o b s amt : ℕ) (here : Bool)
-        → pos (((i + 0) + (r + 0)) + b) -ℤ pos ((o + (if here then amt else 0)) + s) ≡ (pos ((i + r) + b) -ℤ pos (o + s)) +ℤ (if here then neg_ℤ (pos amt) else pos 0)
+        → pos (((i + 0) + (r + 0)) + b) -ℤ pos ((o + (if here then amt else 0)) + s) ≡ (pos ((i + r) + b) -ℤ pos (o + s)) +ℤ
+        (if here then neg_ℤ (pos amt) else pos 0)
     went i r o b s amt true = omega (arith, ints)
     went i r o b s amt false = omega (arith, ints)
 
     credited : (i r o b s amt : ℕ) (its here : Bool)
-        → pos (((i + 0) + (r + (if here then (if its then amt else 0) else 0))) + b) -ℤ pos ((o + 0) + s) ≡ (pos ((i + r) + b) -ℤ pos (o + s)) +ℤ (if its && here then pos amt else pos 0)
+        → pos (((i + 0) + (r + (if here then (if its then amt else 0) else 0))) + b) -ℤ pos ((o + 0) + s)
+        ≡ (pos ((i + r) + b) -ℤ pos (o + s)) +ℤ (if its && here then pos amt else pos 0)
     credited i r o b s amt true true = omega (arith, ints)
     credited i r o b s amt true false = omega (arith, ints)
     credited i r o b s amt false true = omega (arith, ints)
@@ -363,7 +402,9 @@ balance-moved setup entries done client cmd accepted ordered m c =
         ≡ (pos ((i + r) + b) -ℤ pos (o + s)) +ℤ moved_to m c (option_map (λ x. record { member = x.member; ccy = ccy; amt = pos x.amt }) there)
     back i r o b s ccy out found there same = cases (cases_eq ccy c)
       where
-        none : (x : Option PayOrder) → moved_to m c (option_map (λ x. record { member = x.member; ccy = ccy; amt = pos x.amt }) x) ≡ option_map_or (λ x. if (x.member == m) && (ccy == c) then pos x.amt else pos 0) x (pos 0)
+        none : (x : Option PayOrder)
+            → moved_to m c (option_map (λ x. record { member = x.member; ccy = ccy; amt = pos x.amt }) x)
+            ≡ option_map_or (λ x. if (x.member == m) && (ccy == c) then pos x.amt else pos 0) x (pos 0)
         none None = refl
         none (Some x) = refl
 
@@ -373,7 +414,8 @@ balance-moved setup entries done client cmd accepted ordered m c =
         here None is = ap (λ t. pos (((i + 0) + (r + (if t then 0 else 0))) + b) -ℤ pos ((o + 0) + s)) is ∙ nothing i r o b s
         here (Some x) is = credited i r o b s x.amt (x.member == m) (ccy == c)
 
-        elsewhere : (x : Option PayOrder) → (ccy == c) ≡ false → moved_to m c (option_map (λ x. record { member = x.member; ccy = ccy; amt = pos x.amt }) x) ≡ pos 0
+        elsewhere : (x : Option PayOrder) → (ccy == c) ≡ false
+            → moved_to m c (option_map (λ x. record { member = x.member; ccy = ccy; amt = pos x.amt }) x) ≡ pos 0
         elsewhere None is = refl
         elsewhere (Some x) is = ap (λ t. if (x.member == m) && t then pos x.amt else pos 0) is ∙ no (x.member == m)
           where
@@ -384,20 +426,25 @@ balance-moved setup entries done client cmd accepted ordered m c =
         cases : (ccy ≡ c) ⊎ (ccy ≡ c → ⊥)
             → pos (((i + 0) + (r + (if ccy == c then option_map_or (λ x. if x.member == m then x.amt else 0) found 0 else 0))) + b) -ℤ pos ((o + 0) + s)
             ≡ (pos ((i + r) + b) -ℤ pos (o + s)) +ℤ moved_to m c (option_map (λ x. record { member = x.member; ccy = ccy; amt = pos x.amt }) there)
-        cases (inl is) = here found (eq-eqb ccy c is) ∙ ap (λ x. (pos ((i + r) + b) -ℤ pos (o + s)) +ℤ moved_to m c (option_map (λ x. record { member = x.member; ccy = ccy; amt = pos x.amt }) x)) (same is)
+        cases (inl is) =
+            here found (eq-eqb ccy c is) ∙ ap (λ x. (pos ((i + r) + b) -ℤ pos (o + s)) +ℤ moved_to m c
+            (option_map (λ x. record { member = x.member; ccy = ccy; amt = pos x.amt }) x)) (same is)
         cases (inr other) =
-            ap (λ t. pos (((i + 0) + (r + (if t then option_map_or (λ x. if x.member == m then x.amt else 0) found 0 else 0))) + b) -ℤ pos ((o + 0) + s)) (ne_eqb ccy c other)
+            ap (λ t. pos (((i + 0) + (r + (if t then option_map_or (λ x. if x.member == m then x.amt else 0) found 0 else 0))) + b) -ℤ pos ((o + 0) + s))
+            (ne_eqb ccy c other)
             ∙ nothing i r o b s ∙ ap (λ z. (pos ((i + r) + b) -ℤ pos (o + s)) +ℤ z) (sym (elsewhere there (ne_eqb ccy c other)))
 
     by : (cmd : Cmd) (i r o b s : ℕ)
-        → pos (((i + paid_in_to m c cmd) + (r + back_to entries m c cmd)) + b) -ℤ pos ((o + paid_out_of m c client cmd) + s) ≡ (pos ((i + r) + b) -ℤ pos (o + s)) +ℤ moved_to m c (movement_by entries client cmd)
+        → pos (((i + paid_in_to m c cmd) + (r + back_to entries m c cmd)) + b) -ℤ pos ((o + paid_out_of m c client cmd) + s)
+        ≡ (pos ((i + r) + b) -ℤ pos (o + s)) +ℤ moved_to m c (movement_by entries client cmd)
     by (Instruct reference other sell sell_amt buy buy_amt) i r o b s = nothing i r o b s
     by (Rescind reference) i r o b s = nothing i r o b s
     by (Fund ccy pay member amt) i r o b s = came i r o b s amt ((member == m) && (ccy == c))
     by (Settle most) i r o b s = nothing i r o b s
     by (PayOut ccy amt) i r o b s = went i r o b s amt ((client == m) && (ccy == c))
     by (Paid ccy out) i r o b s = nothing i r o b s
-    by (Returned ccy out) i r o b s = back i r o b s ccy out (order_of entries c out) (order_of entries ccy out) (λ is. ap (λ d. order_of entries d out) (sym is))
+    by (Returned ccy out) i r o b s =
+        back i r o b s ccy out (order_of entries c out) (order_of entries ccy out) (λ is. ap (λ d. order_of entries d out) (sym is))
 
 -- what a command moves is on a member's account, in a currency of the setup
 pub record IsKnown (setup : Setup) (x : Movement) : Type 0 where
@@ -405,7 +452,8 @@ pub record IsKnown (setup : Setup) (x : Movement) : Type 0 where
   pub currency : has_currency setup x.ccy ≡ true
 
 pub known-movement : (setup : Setup) (entries : List Entry) (client : ℕ) (cmd : Cmd) (x : Movement) → is_refusal (answer setup entries client cmd) ≡ false
-    → ((c : ℕ) → AllByRecursion (λ (o : PayOrder). has_member setup o.member ≡ true) (orders entries c)) → movement_by entries client cmd ≡ Some x → IsKnown setup x
+    → ((c : ℕ) → AllByRecursion (λ (o : PayOrder). has_member setup o.member ≡ true) (orders entries c)) → movement_by entries client cmd ≡ Some x
+    → IsKnown setup x
 unfolding answer
 known-movement setup entries client (Fund ccy pay member amt) x accepted members is =
     let moved : record { member = member; ccy = ccy; amt = pos amt } ≡ x = cc is in
@@ -421,15 +469,18 @@ known-movement setup entries client (PayOut ccy amt) x accepted members is =
     })
 known-movement setup entries client (Returned ccy out) x accepted members is = by (order_of entries ccy out) refl is
   where
-    among : (os : List PayOrder) (o : PayOrder) → find (λ (p : PayOrder). p.out == out) os ≡ Some o → AllByRecursion (λ (p : PayOrder). has_member setup p.member ≡ true) os → has_member setup o.member ≡ true
+    among : (os : List PayOrder) (o : PayOrder) → find (λ (p : PayOrder). p.out == out) os ≡ Some o
+        → AllByRecursion (λ (p : PayOrder). has_member setup p.member ≡ true) os → has_member setup o.member ≡ true
     among [] o found all = absurd (cc found)
     among (p ∷ os) o found all = cases (p.out == out) found (λ later. among os o later all.1)
       where
-        cases : (b : Bool) → cond b (Some p) (find (λ (q : PayOrder). q.out == out) os) ≡ Some o → (find (λ (q : PayOrder). q.out == out) os ≡ Some o → has_member setup o.member ≡ true) → has_member setup o.member ≡ true
+        cases : (b : Bool) → cond b (Some p) (find (λ (q : PayOrder). q.out == out) os) ≡ Some o
+            → (find (λ (q : PayOrder). q.out == out) os ≡ Some o → has_member setup o.member ≡ true) → has_member setup o.member ≡ true
         cases true found more = let same : p ≡ o = cc found in subst (λ (q : PayOrder). has_member setup q.member ≡ true) same all.0
         cases false found more = more found
 
-    by : (o : Option PayOrder) → order_of entries ccy out ≡ o → option_map (λ (p : PayOrder). record { member = p.member; ccy = ccy; amt = pos p.amt }) o ≡ Some x → IsKnown setup x
+    by : (o : Option PayOrder) → order_of entries ccy out ≡ o
+        → option_map (λ (p : PayOrder). record { member = p.member; ccy = ccy; amt = pos p.amt }) o ≡ Some x → IsKnown setup x
     by None found is = absurd (cc is)
     by (Some o) found is =
         let moved : record { member = o.member; ccy = ccy; amt = pos o.amt } ≡ x = cc is in
@@ -454,12 +505,15 @@ module _ (longer entries : List Entry) (later done : List Pair) (moved : Option 
       let left = ap (λ k. sum_of_balances k longer later c) (sym (add-one n)) ∙ sum_of_balances-more longer later n c in
       let right = ap (λ k. sum_of_balances k entries done c) (sym (add-one n)) ∙ sum_of_balances-more entries done n c in
       let here = each (n + 1) ∙ ap (λ o. balance_with entries done (n + 1) c +ℤ moved_to (n + 1) c o) is in
-      let missed : (x.member ≡ n + 1 → ⊥) → moved_to (n + 1) c (Some x) ≡ pos 0 = λ other. ap (λ b. if b && (x.ccy == c) then x.amt else pos 0) (ne_eqb x.member (n + 1) other) in
-      let met : x.member ≡ n + 1 → moved_to (n + 1) c (Some x) ≡ moved_in c (Some x) = λ same. ap (λ b. if b && (x.ccy == c) then x.amt else pos 0) (eq-eqb x.member (n + 1) same) in (
+      let missed : (x.member ≡ n + 1 → ⊥) → moved_to (n + 1) c (Some x) ≡ pos 0 =
+      λ other. ap (λ b. if b && (x.ccy == c) then x.amt else pos 0) (ne_eqb x.member (n + 1) other) in
+      let met : x.member ≡ n + 1 → moved_to (n + 1) c (Some x) ≡ moved_in c (Some x) =
+      λ same. ap (λ b. if b && (x.ccy == c) then x.amt else pos 0) (eq-eqb x.member (n + 1) same) in (
         λ low.
             let before = rest.0 (omega arith) in
             let none = missed (λ same. absurd (omega arith)) in
-            left ∙ (λ i. before i +ℤ (here ∙ ap (λ z. balance_with entries done (n + 1) c +ℤ z) none ∙ zero-added (balance_with entries done (n + 1) c)) i) ∙ sym right,
+            left ∙ (λ i. before i +ℤ (here ∙ ap (λ z. balance_with entries done (n + 1) c +ℤ z) none ∙ zero-added (balance_with entries done (n + 1) c)) i)
+            ∙ sym right,
         λ high. by (cases_eq x.member (n + 1)) high rest left right here missed met,
       )
     where
@@ -483,10 +537,12 @@ module _ (longer entries : List Entry) (later done : List Pair) (moved : Option 
       by (inl same) high rest left right here missed met =
           let before = rest.0 (omega arith) in
           left ∙ (λ i. before i +ℤ (here ∙ ap (λ z. balance_with entries done (n + 1) c +ℤ z) (met same)) i)
-          ∙ assoc (sum_of_balances n entries done c) (balance_with entries done (n + 1) c) (moved_in c (Some x)) ∙ ap (λ z. z +ℤ moved_in c (Some x)) (sym right)
+          ∙ assoc (sum_of_balances n entries done c) (balance_with entries done (n + 1) c) (moved_in c (Some x))
+          ∙ ap (λ z. z +ℤ moved_in c (Some x)) (sym right)
       by (inr other) high rest left right here missed met =
           let before = rest.1 (omega (arith, other)) in
-          left ∙ (λ i. before i +ℤ (here ∙ ap (λ z. balance_with entries done (n + 1) c +ℤ z) (missed other) ∙ zero-added (balance_with entries done (n + 1) c)) i)
+          left ∙ (λ i. before i +ℤ (here ∙ ap (λ z. balance_with entries done (n + 1) c +ℤ z) (missed other) ∙ zero-added (balance_with entries done (n + 1) c))
+          i)
           ∙ swap (sum_of_balances n entries done c) (balance_with entries done (n + 1) c) (moved_in c (Some x)) ∙ ap (λ z. z +ℤ moved_in c (Some x)) (sym right)
 
   pub sum-still : (n : ℕ) → moved ≡ None → sum_of_balances n longer later c ≡ sum_of_balances n entries done c
@@ -508,8 +564,11 @@ walk-moves-none setup entries most c =
     let e = entry_of setup entries 0 (Settle most) in
     let ins = sum-push (λ (x : Entry). funded c x.cmd) entries e in
     let outs = sum-push (λ (x : Entry). paid_out c x.cmd) entries e in
-    let kept = sum-same (λ o. if has_return (entries ++ entry_of setup entries 0 (Settle most) ∷ []) c o.out then o.amt else 0) (λ o. if has_return entries c o.out then o.amt else 0) (orders entries c)
-    (λ o. ap (λ b. if b then o.amt else 0) (has_return-more entries (entry_of setup entries 0 (Settle most)) c o.out ∙ or-false (has_return entries c o.out))) in
+    let kept =
+    sum-same (λ o. if has_return (entries ++ entry_of setup entries 0 (Settle most) ∷ []) c o.out then o.amt else 0)
+    (λ o. if has_return entries c o.out then o.amt else 0) (orders entries c)
+    (λ o. ap (λ b. if b then o.amt else 0) (has_return-more entries (entry_of setup entries 0 (Settle most)) c o.out
+    ∙ or-false (has_return entries c o.out))) in
     let same = orders-more setup entries 0 (Settle most) c ∙ append-nil (orders entries c) in (
       omega arith,
       omega arith,

@@ -36,18 +36,21 @@ nobody = record { ccy = 0; out = 0; member = 0; amt = 0 }
 module _ (os : List PayOrder) (n : ℕ) (ascending : AreAscending os) where
   rises : IsNonDecreasingBy (λ (o : PayOrder). ordering_index (nat_cmp o.out n)) os
   rises = IsNonDecreasingBy-from_default (λ (o : PayOrder). ordering_index (nat_cmp o.out n)) os nobody (λ i j le within.
-      let up : (get_or os i nobody).out ≤ (get_or os j nobody).out = grind (arith, ascending i j nobody, λ (same : i ≡ j). ap (λ k. (get_or os k nobody).out) same) in
+      let up : (get_or os i nobody).out ≤ (get_or os j nobody).out =
+      grind (arith, ascending i j nobody, λ (same : i ≡ j). ap (λ k. (get_or os k nobody).out) same) in
       grind (arith, nat_tests))
 
   other : (k : ℕ) (d : PayOrder) → ((get_or os k d).out ≡ n → ⊥) → not (n == (get_or os k d).out) ≡ true
   other k d differs = ap not (ne_eqb n (get_or os k d).out (λ e. differs (sym e)))
 
   -- the order that it finds is the only one of that number
-  pub found-one : (i : ℕ) → i < length os → IsBinarySearchResult (λ (o : PayOrder). nat_cmp o.out n) os (Ok i) → take i os ++ drop (suc i) os ≡ filter (λ (o : PayOrder). not (n == o.out)) os
+  pub found-one : (i : ℕ) → i < length os → IsBinarySearchResult (λ (o : PayOrder). nat_cmp o.out n) os (Ok i)
+      → take i os ++ drop (suc i) os ≡ filter (λ (o : PayOrder). not (n == o.out)) os
   found-one i within equal =
       filter-but (λ (o : PayOrder). not (n == o.out)) os i within
       (λ d. ap not (eq-eqb n (get_or os i d).out (sym (ranked (get_or os i d).out n _ (sym (equal d))))))
-      (λ k d inside differs. other k d (λ same. let here = ranked (get_or os i d).out n _ (sym (equal d)) in let before = ascending k i d in let later = ascending i k d in grind (arith, same, here, before, later)))
+      (λ k d inside differs. other k d (λ same. let here = ranked (get_or os i d).out n _ (sym (equal d)) in let before = ascending k i d in
+      let later = ascending i k d in grind (arith, same, here, before, later)))
 
   -- where it finds none there is none
   pub found-none : (i : ℕ) → IsBinarySearchResult (λ (o : PayOrder). nat_cmp o.out n) os (Err i) → os ≡ filter (λ (o : PayOrder). not (n == o.out)) os
@@ -80,7 +83,8 @@ module _ {Q Y : Type 0} (f : Q → Y) (none : Y) where
   at-set-other (x ∷ qs) (suc k) zero q differs = refl
   at-set-other (x ∷ qs) (suc k) (suc c) q differs = at-set-other qs k c q (λ e. differs (ap suc e))
 
-pub queue-here : {Q : Type 0} (items : Q → List PayOrder) (qs : List Q) (k : ℕ) (d : Q) → k < length qs → (c : ℕ) → k ≡ c → items (slice_index_or qs k d) ≡ option_map_or items (slice_get qs c) []
+pub queue-here : {Q : Type 0} (items : Q → List PayOrder) (qs : List Q) (k : ℕ) (d : Q) → k < length qs → (c : ℕ) → k ≡ c
+    → items (slice_index_or qs k d) ≡ option_map_or items (slice_get qs c) []
 queue-here items qs k d within c same = sym (at-place items [] qs k d within) ∙ ap (λ i. option_map_or items (slice_get qs i) []) same
 
 -- the queues of open orders by currency, once that of one is another
@@ -148,7 +152,8 @@ drop-past (x ∷ xs) zero past = absurd (omega arith)
 drop-past (x ∷ xs) (suc i) past = drop-past xs i (omega arith)
 
 -- no queue is longer than memory
-pub queue-small : {Q : Type 0} (items : Q → List PayOrder) → ((q : Q) → length (items q) < 2 ^ 63) → (qs : List Q) (c : ℕ) → length (option_map_or items (slice_get qs c) []) < 2 ^ 63
+pub queue-small : {Q : Type 0} (items : Q → List PayOrder) → ((q : Q) → length (items q) < 2 ^ 63) → (qs : List Q) (c : ℕ)
+    → length (option_map_or items (slice_get qs c) []) < 2 ^ 63
 queue-small items small [] c = omega arith
 queue-small items small (q ∷ qs) zero = small q
 queue-small items small (q ∷ qs) (suc c) = queue-small items small qs c

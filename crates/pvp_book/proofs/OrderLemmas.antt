@@ -61,7 +61,8 @@ pub pay_ins-once : (setup : Setup) (history : List Row) → PayInsOnce (book_of 
 pay_ins-once setup history =
     reached setup PayInsOnce (λ c k. omega arith)
     (λ entries client cmd held accepted c k.
-    count-push (λ (e : Entry). is_pay_in c k e.cmd) entries (entry_of setup entries client cmd) (held c k) (λ is. pay_in-new setup entries client cmd c k accepted is))
+    count-push (λ (e : Entry). is_pay_in c k e.cmd) entries (entry_of setup entries client cmd) (held c k)
+    (λ is. pay_in-new setup entries client cmd c k accepted is))
     history
 
 map-same : (xs : List ℕ) → map (λ x. x) xs ≡ xs
@@ -70,7 +71,8 @@ map-same (x ∷ xs) = ap (λ ys. x ∷ ys) (map-same xs)
 
 range-more : (n : ℕ) → range_with_len 1 (n + 1) ≡ range_with_len 1 n ++ (n + 1) ∷ []
 range-more n =
-    sym (map-same (range_with_len 1 (n + 1))) ∙ map-range_with_len_more (λ x. x) 1 n (n + 1) (omega arith) ∙ ap (λ xs. xs ++ (n + 1) ∷ []) (map-same (range_with_len 1 n))
+    sym (map-same (range_with_len 1 (n + 1))) ∙ map-range_with_len_more (λ x. x) 1 n (n + 1) (omega arith)
+    ∙ ap (λ xs. xs ++ (n + 1) ∷ []) (map-same (range_with_len 1 n))
 
 outs-append : (xs ys : List PayOrder) → map (λ (o : PayOrder). o.out) (xs ++ ys) ≡ map (λ (o : PayOrder). o.out) xs ++ map (λ (o : PayOrder). o.out) ys
 outs-append [] ys = refl
@@ -84,7 +86,8 @@ numbered-push : (os : List PayOrder) (o : PayOrder) → o.out ≡ length os + 1 
 unfolding IsNumbered
 numbered-push os o next is =
     let longer : length (os ++ o ∷ []) ≡ length os + 1 = simp length-append (omega arith) in
-    outs-append os (o ∷ []) ∙ ap (λ xs. xs ++ o.out ∷ []) is ∙ ap (λ n. range_with_len 1 (length os) ++ n ∷ []) next ∙ sym (range-more (length os)) ∙ ap (range_with_len 1) (sym longer)
+    outs-append os (o ∷ []) ∙ ap (λ xs. xs ++ o.out ∷ []) is ∙ ap (λ n. range_with_len 1 (length os) ++ n ∷ []) next ∙ sym (range-more (length os))
+    ∙ ap (range_with_len 1) (sym longer)
 
 numbered-nil : (os : List PayOrder) → IsNumbered os → IsNumbered (os ++ [])
 unfolding IsNumbered
@@ -101,12 +104,16 @@ numbered-more : (setup : Setup) (entries : List Entry) (client : ℕ) (cmd : Cmd
     → IsNumbered (orders entries c) → IsNumbered (orders entries c ++ cons_option (order_by c client cmd (answer setup entries client cmd)) [])
 unfolding answer
 numbered-more setup entries client (PayOut ccy amt) c accepted is =
-    subst (λ reply. IsNumbered (orders entries c ++ cons_option (order_by c client (PayOut ccy amt) reply) [])) (sym (pay_out-order setup entries client ccy amt accepted))
+    subst (λ reply. IsNumbered (orders entries c ++ cons_option (order_by c client (PayOut ccy amt) reply) []))
+    (sym (pay_out-order setup entries client ccy amt accepted))
     (by (ccy == c) refl)
   where
     by : (b : Bool) → (ccy == c) ≡ b
-        → IsNumbered (orders entries c ++ cons_option (if b then Some (record { ccy = ccy; out = length (orders entries ccy) + 1; member = client; amt = amt }) else None) [])
-    by true same = numbered-push (orders entries c) (record { ccy = ccy; out = length (orders entries ccy) + 1; member = client; amt = amt }) (ap (λ d. length (orders entries d) + 1) (eqb-true ccy c same)) is
+        → IsNumbered (orders entries c ++ cons_option (if b then Some (record { ccy = ccy; out = length (orders entries ccy) + 1; member = client; amt = amt })
+        else None) [])
+    by true same =
+        numbered-push (orders entries c) (record { ccy = ccy; out = length (orders entries ccy) + 1; member = client; amt = amt })
+        (ap (λ d. length (orders entries d) + 1) (eqb-true ccy c same)) is
     by false other = numbered-nil (orders entries c) is
 numbered-more setup entries client _ c accepted is = numbered-nil (orders entries c) is
 
@@ -129,9 +136,11 @@ Follows c entries = (earlier later : List Entry) (e : Entry) (n : ℕ) → entri
 follows-push : (setup : Setup) (entries : List Entry) (client : ℕ) (cmd : Cmd) (c : ℕ) → is_refusal (answer setup entries client cmd) ≡ false
     → Follows c entries → Follows c (entries ++ entry_of setup entries client cmd ∷ [])
 unfolding Follows
-follows-push setup entries client cmd c accepted held earlier later e n same is = by (split-push earlier later entries e (entry_of setup entries client cmd) same)
+follows-push setup entries client cmd c accepted held earlier later e n same is =
+    by (split-push earlier later entries e (entry_of setup entries client cmd) same)
   where
-    by : ((earlier ≡ entries) × (e ≡ entry_of setup entries client cmd)) ⊎ ((rest : List Entry) × (entries ≡ earlier ++ e ∷ rest)) → has_order earlier c n ≡ true
+    by : ((earlier ≡ entries) × (e ≡ entry_of setup entries client cmd)) ⊎ ((rest : List Entry) × (entries ≡ earlier ++ e ∷ rest))
+        → has_order earlier c n ≡ true
     by (inl last) =
         subst (λ es. has_order es c n ≡ true) (sym last.0)
         (end-new setup entries client cmd c n accepted (ap (λ (x : Entry). is_end c n x.cmd) (sym last.1) ∙ is)).0
@@ -152,6 +161,7 @@ are-ordered setup c history = record {
   numbered = numbered setup c history;
   once = λ n. reached setup (λ entries. count_by (λ (e : Entry). is_end c n e.cmd) entries ≤ 1) (omega arith)
       (λ entries client cmd held accepted.
-      count-push (λ (e : Entry). is_end c n e.cmd) entries (entry_of setup entries client cmd) held (λ is. (end-new setup entries client cmd c n accepted is).1)) history;
+      count-push (λ (e : Entry). is_end c n e.cmd) entries (entry_of setup entries client cmd) held
+      (λ is. (end-new setup entries client cmd c n accepted is).1)) history;
   after = follows setup c history;
 }

@@ -63,7 +63,8 @@ find-join : (test : PayOrder → Bool) (xs ys : List PayOrder) → find test (xs
 find-join test [] ys = refl
 find-join test (x ∷ xs) ys = by (test x) (find-join test xs ys)
   where
-    by : (b : Bool) → find test (xs ++ ys) ≡ option_or (find test xs) (find test ys) → cond b (Some x) (find test (xs ++ ys)) ≡ option_or (cond b (Some x) (find test xs)) (find test ys)
+    by : (b : Bool) → find test (xs ++ ys) ≡ option_or (find test xs) (find test ys)
+        → cond b (Some x) (find test (xs ++ ys)) ≡ option_or (cond b (Some x) (find test xs)) (find test ys)
     by true rest = refl
     by false rest = rest
 
@@ -100,18 +101,22 @@ module _ (entries : List Entry) (e : Entry) where
       list_any-append (λ (x : Entry). is_end c n x.cmd) entries (e ∷ [])
       ∙ ap (λ b. has_end entries c n || b) (or-false (is_end c n e.cmd) ∙ end-said c n e.client e.cmd e.reply)
 
-  order_of-more : (c n : ℕ) → order_of (entries ++ e ∷ []) c n ≡ option_or (order_of entries c n) (find (λ (o : PayOrder). o.out == n) (added c (step_of e.client e.cmd e.reply)))
+  order_of-more : (c n : ℕ)
+      → order_of (entries ++ e ∷ []) c n ≡ option_or (order_of entries c n) (find (λ (o : PayOrder). o.out == n) (added c (step_of e.client e.cmd e.reply)))
   order_of-more c n =
-      ap (find (λ (o : PayOrder). o.out == n)) (orders-more c) ∙ find-join (λ (o : PayOrder). o.out == n) (orders entries c) (added c (step_of e.client e.cmd e.reply))
+      ap (find (λ (o : PayOrder). o.out == n)) (orders-more c) ∙ find-join (λ (o : PayOrder). o.out == n) (orders entries c)
+      (added c (step_of e.client e.cmd e.reply))
 
   -- an order that is added has not ended
   abbrev AreFresh : Type 0
-  AreFresh = (c : ℕ) → filter (λ (o : PayOrder). not (has_end entries c o.out)) (added c (step_of e.client e.cmd e.reply)) ≡ added c (step_of e.client e.cmd e.reply)
+  AreFresh =
+      (c : ℕ) → filter (λ (o : PayOrder). not (has_end entries c o.out)) (added c (step_of e.client e.cmd e.reply)) ≡ added c (step_of e.client e.cmd e.reply)
 
   open-more : AreFresh → (c : ℕ) → open_orders (entries ++ e ∷ []) c ≡ opened c (step_of e.client e.cmd e.reply) (open_orders entries c)
   open-more fresh c =
       let s = step_of e.client e.cmd e.reply in
-      filter_agree (λ (o : PayOrder). not (has_end (entries ++ e ∷ []) c o.out)) (λ (o : PayOrder). not (has_end entries c o.out || says_end c o.out s)) (λ o. ap not (has_end-more c o.out)) (orders (entries ++ e ∷ []) c)
+      filter_agree (λ (o : PayOrder). not (has_end (entries ++ e ∷ []) c o.out)) (λ (o : PayOrder). not (has_end entries c o.out || says_end c o.out s))
+      (λ o. ap not (has_end-more c o.out)) (orders (entries ++ e ∷ []) c)
       ∙ ap (filter (λ (o : PayOrder). not (has_end entries c o.out || says_end c o.out s))) (orders-more c)
       ∙ filter-twice (λ (o : PayOrder). has_end entries c o.out) (λ (o : PayOrder). says_end c o.out s) (orders entries c ++ added c s)
       ∙ ap (filter (λ (o : PayOrder). not (says_end c o.out s)))
@@ -127,7 +132,9 @@ module _ (entries : List Entry) (e : Entry) where
       → ((c : ℕ) → open_at new c ≡ opened c (step_of e.client e.cmd e.reply) (open_at old c)) → AreFresh
       → AreMade entries old → AreMade (entries ++ e ∷ []) new
   AreMade-more old new made ended places counts queues outstanding fresh are = record {
-    made = λ c n. made c n ∙ ap (λ o. option_or o (find (λ (x : PayOrder). x.out == n) (added c (step_of e.client e.cmd e.reply)))) (are.made c n) ∙ sym (order_of-more c n);
+    made =
+        λ c n. made c n ∙ ap (λ o. option_or o (find (λ (x : PayOrder). x.out == n) (added c (step_of e.client e.cmd e.reply)))) (are.made c n)
+        ∙ sym (order_of-more c n);
     ended = λ c n. ended c n ∙ ap (λ b. b || says_end c n (step_of e.client e.cmd e.reply)) (are.ended c n) ∙ sym (has_end-more c n);
     places = places ∙ are.places;
     counts = λ c. counts c ∙ ap (λ k. k + length (added c (step_of e.client e.cmd e.reply))) (are.counts c)
@@ -140,10 +147,13 @@ or-none : (o : Option PayOrder) → o ≡ option_or o None
 or-none None = refl
 or-none (Some x) = refl
 
-found-added : (order : PayOrder) (c n : ℕ) → (if (order.ccy == c) && (order.out == n) then Some order else None) ≡ find (λ (o : PayOrder). o.out == n) (cons_option (if order.ccy == c then Some order else None) [])
+found-added : (order : PayOrder) (c n : ℕ)
+    → (if (order.ccy == c) && (order.out == n) then Some order else None) ≡ find (λ (o : PayOrder). o.out == n)
+    (cons_option (if order.ccy == c then Some order else None) [])
 found-added order c n = by (order.ccy == c) (order.out == n) refl
   where
-    by : (a b : Bool) → (order.out == n) ≡ b → (if a && b then Some order else None) ≡ find (λ (o : PayOrder). o.out == n) (cons_option (if a then Some order else None) [])
+    by : (a b : Bool) → (order.out == n) ≡ b
+        → (if a && b then Some order else None) ≡ find (λ (o : PayOrder). o.out == n) (cons_option (if a then Some order else None) [])
     by true true is = ap (λ t. cond t (Some order) None) (sym is)
     by true false is = ap (λ t. cond t (Some order) None) (sym is)
     by false b is = refl
@@ -176,7 +186,8 @@ fresh-made : (entries : List Entry) (order : PayOrder) → has_end entries order
     → (c : ℕ) → filter (λ (o : PayOrder). not (has_end entries c o.out)) (added c (step.Made order)) ≡ added c (step.Made order)
 fresh-made entries order new c = by (cases_eq order.ccy c)
   where
-    by : (order.ccy ≡ c) ⊎ (order.ccy ≡ c → ⊥) → filter (λ (o : PayOrder). not (has_end entries c o.out)) (added c (step.Made order)) ≡ added c (step.Made order)
+    by : (order.ccy ≡ c) ⊎ (order.ccy ≡ c → ⊥)
+        → filter (λ (o : PayOrder). not (has_end entries c o.out)) (added c (step.Made order)) ≡ added c (step.Made order)
     by (inl same) =
         let is = eq-eqb order.ccy c same in
         ap (λ b. filter (λ (o : PayOrder). not (has_end entries c o.out)) (cons_option (if b then Some order else None) [])) is
@@ -188,7 +199,8 @@ fresh-made entries order new c = by (cases_eq order.ccy c)
         ∙ ap (λ b. cons_option (if b then Some order else None) []) (sym is)
 
 -- one more at one place of a list of counts
-pub count-added : (ns : List ℕ) (k c : ℕ) → k < length ns → slice_index_or (slice_set ns k (slice_index_or ns k 0 + 1)) c 0 ≡ slice_index_or ns c 0 + (if k == c then 1 else 0)
+pub count-added : (ns : List ℕ) (k c : ℕ) → k < length ns
+    → slice_index_or (slice_set ns k (slice_index_or ns k 0 + 1)) c 0 ≡ slice_index_or ns c 0 + (if k == c then 1 else 0)
 count-added ns k c within = by (cases_eq k c)
   where
     none : (n : ℕ) → n ≡ n + 0
@@ -216,10 +228,12 @@ module _ (entries : List Entry) (e : Entry) (old new : OrderTable) (are : AreMad
       (λ c n. made c n ∙ ap (option_or (order_at old c n)) (found-added order c n ∙ ap (λ s. find (λ (o : PayOrder). o.out == n) (added c s)) (sym is)))
       (λ c n. ended c n ∙ sym (or-false (has_ended old c n)) ∙ ap (λ s. has_ended old c n || says_end c n s) (sym is))
       (ap length counts ∙ length-set old.counts order.ccy (slice_index_or old.counts order.ccy 0 + 1))
-      (λ c. ap (λ ns. slice_index_or ns c 0) counts ∙ count-added old.counts order.ccy c (omega arith) ∙ ap (λ k. count_at old c + k) (added-count order c ∙ ap (λ s. length (added c s)) (sym is)))
+      (λ c. ap (λ ns. slice_index_or ns c 0) counts ∙ count-added old.counts order.ccy c (omega arith)
+      ∙ ap (λ k. count_at old c + k) (added-count order c ∙ ap (λ s. length (added c s)) (sym is)))
       queues
       (λ c. outstanding c ∙ opened-made order c (open_at old c) ∙ ap (λ s. opened c s (open_at old c)) (sym is))
-      (λ c. ap (λ s. filter (λ (o : PayOrder). not (has_end entries c o.out)) (added c s)) is ∙ fresh-made entries order (sym (are.ended order.ccy order.out) ∙ fresh) c ∙ ap (added c) (sym is))
+      (λ c. ap (λ s. filter (λ (o : PayOrder). not (has_end entries c o.out)) (added c s)) is
+      ∙ fresh-made entries order (sym (are.ended order.ccy order.out) ∙ fresh) c ∙ ap (added c) (sym is))
       are
 
   pub AreMade-ended : (ccy out : ℕ) → step_of e.client e.cmd e.reply ≡ step.Ended ccy out
@@ -233,14 +247,16 @@ module _ (entries : List Entry) (e : Entry) (old new : OrderTable) (are : AreMad
       (ap length counts)
       (λ c. ap (λ ns. slice_index_or ns c 0) counts ∙ none (count_at old c) ∙ ap (λ s. count_at old c + length (added c s)) (sym is))
       queues
-      (λ c. outstanding c ∙ ap (filter (λ (o : PayOrder). not ((ccy == c) && (out == o.out)))) (none-added (open_at old c)) ∙ ap (λ s. opened c s (open_at old c)) (sym is))
+      (λ c. outstanding c ∙ ap (filter (λ (o : PayOrder). not ((ccy == c) && (out == o.out)))) (none-added (open_at old c))
+      ∙ ap (λ s. opened c s (open_at old c)) (sym is))
       (λ c. ap (λ s. filter (λ (o : PayOrder). not (has_end entries c o.out)) (added c s)) is ∙ ap (added c) (sym is))
       are
     where
       none : (n : ℕ) → n ≡ n + 0
       none n = omega arith
 
-pub AreMade-still : (entries : List Entry) (e : Entry) (old : OrderTable) → step_of e.client e.cmd e.reply ≡ step.Nothing → AreMade entries old → AreMade (entries ++ e ∷ []) old
+pub AreMade-still : (entries : List Entry) (e : Entry) (old : OrderTable) → step_of e.client e.cmd e.reply ≡ step.Nothing → AreMade entries old
+    → AreMade (entries ++ e ∷ []) old
 AreMade-still entries e old is are =
     AreMade-more entries e old old
     (λ c n. or-none (order_at old c n) ∙ ap (λ s. option_or (order_at old c n) (find (λ (o : PayOrder). o.out == n) (added c s))) (sym is))
@@ -273,7 +289,8 @@ succeeded (Ok x) is holds = holds
 succeeded (Err e) is holds = absurd (cc is)
 
 -- an order is put where there was none
-pub put-order : (t : Bool) (old : Option PayOrder) (order : PayOrder) → (t ≡ true → old ≡ None) → cond t (Some order) old ≡ option_or old (if t then Some order else None)
+pub put-order : (t : Bool) (old : Option PayOrder) (order : PayOrder) → (t ≡ true → old ≡ None)
+    → cond t (Some order) old ≡ option_or old (if t then Some order else None)
 put-order true old order new = ap (λ o. option_or o (Some order)) (sym (new refl))
 put-order false old order new = or-none old
 

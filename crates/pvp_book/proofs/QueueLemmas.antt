@@ -30,20 +30,25 @@ none-marked (p ∷ ps) = none-marked ps
 -- one more of them moves the pair of its reference alone
 module _ (test : Pair → Bool) (m : Pair) (ms : List Pair) where
   others-stay : (p : Pair) → (p.reference ≡ m.reference → ⊥) → marked test ms p ≡ marked test (m ∷ ms) p
-  others-stay p apart = ap (λ b. if (b || has_reference ms p.reference) && test p then state.Matched else state.Unmatched) (sym (ne_eqb m.reference p.reference (λ e. apart (sym e))))
+  others-stay p apart =
+      ap (λ b. if (b || has_reference ms p.reference) && test p then state.Matched else state.Unmatched)
+      (sym (ne_eqb m.reference p.reference (λ e. apart (sym e))))
 
   was-none : has_reference ms m.reference ≡ false → is_at (Some (marked test ms m)) state.Matched ≡ 0
   was-none none = ap (λ b. is_at (Some (if b && test m then state.Matched else state.Unmatched)) state.Matched) none
 
   is-one : is_at (Some (marked test (m ∷ ms) m)) state.Matched ≡ (if test m then 1 else 0)
-  is-one = ap (λ b. is_at (Some (if (b || has_reference ms m.reference) && test m then state.Matched else state.Unmatched)) state.Matched) (same-self m.reference) ∙ by (test m)
+  is-one =
+      ap (λ b. is_at (Some (if (b || has_reference ms m.reference) && test m then state.Matched else state.Unmatched)) state.Matched)
+      (same-self m.reference) ∙ by (test m)
     where
       by : (b : Bool) → is_at (Some (if b then state.Matched else state.Unmatched)) state.Matched ≡ (if b then 1 else 0)
       by true = refl
       by false = refl
 
 -- pairs that are each found by reference among others are as many as those of their references
-as-many : (test : Pair → Bool) (ps : List Pair) → AreDistinct ps → (ms : List Pair) → AreDistinct ms → AllByRecursion (λ m. find (λ (p : Pair). m.reference == p.reference) ps ≡ Some m) ms
+as-many : (test : Pair → Bool) (ps : List Pair) → AreDistinct ps → (ms : List Pair) → AreDistinct ms
+    → AllByRecursion (λ m. find (λ (p : Pair). m.reference == p.reference) ps ≡ Some m) ms
     → length (filter test ms) ≡ counted (marked test ms) state.Matched ps
 unfolding AreDistinct
 as-many test ps are [] distinct known = sym (none-marked ps)
@@ -61,19 +66,23 @@ as-many test ps are (m ∷ ms) distinct known =
     sum all x rest ct cu a b split more moves none one = omega arith
 
 -- the pairs that a walk would look at
-pub queue-counted : (held : Ledger) (kept : Kept) → IsKept held kept → length (queue held.setup held.entries) ≡ length (pairs_in held.setup held.entries state.Matched)
+pub queue-counted : (held : Ledger) (kept : Kept) → IsKept held kept
+    → length (queue held.setup held.entries) ≡ length (pairs_in held.setup held.entries state.Matched)
 queue-counted held kept is =
     let entries = held.entries in
     let done = settled held.setup held.entries in
     let sound_here = subst (IsSound held.setup) (sym is.reached) (sound held.setup is.history) in
-    as-many (λ p. not (has_reference done p.reference) && not (both_have_asked entries p)) (pairs entries) (pairs-distinct held is) (matched entries) (distinct-once (matched entries) sound_here.once) sound_here.known
-    ∙ ap length (filter_agree (λ p. is_state (marked (λ q. not (has_reference done q.reference) && not (both_have_asked entries q)) (matched entries) p) state.Matched)
+    as-many (λ p. not (has_reference done p.reference) && not (both_have_asked entries p)) (pairs entries) (pairs-distinct held is) (matched entries)
+    (distinct-once (matched entries) sound_here.once) sound_here.known
+    ∙ ap length
+    (filter_agree (λ p. is_state (marked (λ q. not (has_reference done q.reference) && not (both_have_asked entries q)) (matched entries) p) state.Matched)
     (λ p. is_state (state_of held.setup entries p) state.Matched)
     (λ p. by (has_reference done p.reference) (is_matched entries p) (both_have_asked entries p) (has_asked entries p.first p.reference)) (pairs entries))
   where
     by : (done matched both first : Bool)
         → is_state (if matched && (not done && not both) then state.Matched else state.Unmatched) state.Matched
-        ≡ is_state (if done then state.Settled else if (if matched then both else first) then state.Rescinded else if matched then state.Matched else state.Unmatched) state.Matched
+        ≡ is_state (if done then state.Settled else if (if matched then both else first) then state.Rescinded else if matched then state.Matched
+        else state.Unmatched) state.Matched
     by true true both first = refl
     by true false both first = refl
     by false true true first = refl

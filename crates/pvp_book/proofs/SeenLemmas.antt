@@ -49,7 +49,8 @@ pay-in-said c k client (PayOut ccy amt) reply = refl
 pay-in-said c k client (Paid ccy out) reply = refl
 pay-in-said c k client (Returned ccy out) reply = refl
 
-matched-said : (r client : ℕ) (cmd : Cmd) (reply : Reply) → has_reference (cons_option (matched_by client cmd reply) []) r ≡ says_matched r (mark_of client cmd reply)
+matched-said : (r client : ℕ) (cmd : Cmd) (reply : Reply)
+    → has_reference (cons_option (matched_by client cmd reply) []) r ≡ says_matched r (mark_of client cmd reply)
 matched-said r client (Instruct reference other sell sell_amt buy buy_amt) Done = refl
 matched-said r client (Instruct reference other sell sell_amt buy buy_amt) Matched = or-false (reference == r)
 matched-said r client (Instruct reference other sell sell_amt buy buy_amt) (Settled n) = refl
@@ -80,13 +81,15 @@ asked-said m r client (Paid ccy out) reply = and-false (client == m)
 asked-said m r client (Returned ccy out) reply = and-false (client == m)
 
 -- what the entries have with one more
-pub matched-more : (entries : List Entry) (e : Entry) (r : ℕ) → has_reference (matched (entries ++ e ∷ [])) r ≡ (has_reference (matched entries) r || says_matched r (mark_of e.client e.cmd e.reply))
+pub matched-more : (entries : List Entry) (e : Entry) (r : ℕ)
+    → has_reference (matched (entries ++ e ∷ [])) r ≡ (has_reference (matched entries) r || says_matched r (mark_of e.client e.cmd e.reply))
 matched-more entries e r =
     ap (λ ps. has_reference ps r) (filter_map-append (λ (x : Entry). matched_by x.client x.cmd x.reply) entries (e ∷ []))
     ∙ list_any-append (λ (p : Pair). p.reference == r) (matched entries) (cons_option (matched_by e.client e.cmd e.reply) [])
     ∙ ap (λ b. has_reference (matched entries) r || b) (matched-said r e.client e.cmd e.reply)
 
-pub asked-more : (entries : List Entry) (e : Entry) (m r : ℕ) → has_asked (entries ++ e ∷ []) m r ≡ (has_asked entries m r || says_asked m r (mark_of e.client e.cmd e.reply))
+pub asked-more : (entries : List Entry) (e : Entry) (m r : ℕ)
+    → has_asked (entries ++ e ∷ []) m r ≡ (has_asked entries m r || says_asked m r (mark_of e.client e.cmd e.reply))
 asked-more entries e m r =
     list_any-append (λ (x : Entry). (x.client == m) && is_rescission r x.cmd) entries (e ∷ [])
     ∙ ap (λ b. has_asked entries m r || b) (or-false ((e.client == m) && is_rescission r e.cmd) ∙ asked-said m r e.client e.cmd e.reply)
@@ -97,7 +100,8 @@ pub record IsMarked (old new : Seen) (made : Mark) : Type 0 where
   pub matched : (r : ℕ) → seen_matched new r ≡ (seen_matched old r || says_matched r made)
   pub asked : (m r : ℕ) → seen_asked new m r ≡ (seen_asked old m r || says_asked m r made)
 
-pub HasSeen-more : (entries : List Entry) (e : Entry) (old new : Seen) → IsMarked old new (mark_of e.client e.cmd e.reply) → HasSeen entries old → HasSeen (entries ++ e ∷ []) new
+pub HasSeen-more : (entries : List Entry) (e : Entry) (old new : Seen) → IsMarked old new (mark_of e.client e.cmd e.reply) → HasSeen entries old
+    → HasSeen (entries ++ e ∷ []) new
 HasSeen-more entries e old new is has = record {
   pay_ins = λ c k.
       is.pay_ins c k ∙ (λ i. has.pay_ins c k i || sym (pay-in-said c k e.client e.cmd e.reply) i)
@@ -128,7 +132,8 @@ module _ (entries : List Entry) (seen : Seen) (has : HasSeen entries seen) where
   module _ (done : List Pair) (references : List ℕ) (are : AreSettled done references) where
     pub state-same : (p : Pair) → state_seen seen references p ≡ state_with entries done p
     state-same p =
-        λ i. if are p.reference i then state.Settled else if back-same p i then state.Rescinded else if has.matched p.reference i then state.Matched else state.Unmatched
+        λ i. if are p.reference i then state.Settled else if back-same p i then state.Rescinded else if has.matched p.reference i then state.Matched
+        else state.Unmatched
 
     pub waiting-same : (ps : List Pair) → filter (λ p. is_waiting seen references p) ps ≡ waiting entries done ps
     waiting-same ps = λ i. filter (λ p. not (are p.reference i) && not (both-same p i)) ps

@@ -109,15 +109,20 @@ pass-within setup entries done most (p ∷ rest) f =
     (pass-within setup entries (done ++ p ∷ []) (most - 1) rest f) (pass-within setup entries done most rest f)
   where
     by : (b : Bool)
-        → sum_by f (pass setup entries (done ++ p ∷ []) (most - 1) rest) + sum_by f (without (pass setup entries (done ++ p ∷ []) (most - 1) rest) rest) ≤ sum_by f rest
+        → sum_by f (pass setup entries (done ++ p ∷ []) (most - 1) rest) + sum_by f (without (pass setup entries (done ++ p ∷ []) (most - 1) rest) rest)
+        ≤ sum_by f rest
         → sum_by f (pass setup entries done most rest) + sum_by f (without (pass setup entries done most rest) rest) ≤ sum_by f rest
         → sum_by f (if b then p ∷ pass setup entries (done ++ p ∷ []) (most - 1) rest else pass setup entries done most rest)
-        + sum_by f (without (if b then p ∷ pass setup entries (done ++ p ∷ []) (most - 1) rest else pass setup entries done most rest) (p ∷ rest)) ≤ sum_by f (p ∷ rest)
+        + sum_by f (without (if b then p ∷ pass setup entries (done ++ p ∷ []) (most - 1) rest else pass setup entries done most rest) (p ∷ rest))
+        ≤ sum_by f (p ∷ rest)
     by true more _ =
         let fewer = without-cons-le f p (pass setup entries (done ++ p ∷ []) (most - 1) rest) rest in
         let here = sum_by-cons f p (pass setup entries (done ++ p ∷ []) (most - 1) rest) in
         let all = sum_by-cons f p rest in
-        let same = ap (λ (b : Bool). sum_by f (cond (not (b || has_reference (pass setup entries (done ++ p ∷ []) (most - 1) rest) p.reference)) (p ∷ without (p ∷ (pass setup entries (done ++ p ∷ []) (most - 1) rest)) rest) (without (p ∷ (pass setup entries (done ++ p ∷ []) (most - 1) rest)) rest))) (same-self p.reference) in
+        let same =
+        ap (λ (b : Bool). sum_by f (cond (not (b || has_reference (pass setup entries (done ++ p ∷ []) (most - 1) rest) p.reference))
+        (p ∷ without (p ∷ (pass setup entries (done ++ p ∷ []) (most - 1) rest)) rest)
+        (without (p ∷ (pass setup entries (done ++ p ∷ []) (most - 1) rest)) rest))) (same-self p.reference) in
         omega arith
     by false _ more =
         let kept = sum-filter-cons f (λ q. not (has_reference (pass setup entries done most rest) q.reference)) p rest in
@@ -182,7 +187,8 @@ still-offered entries e done taken p h =
 -- one more entry keeps what is settled and offered within what is matched
 pub IsWithinMatched-push : (setup : Setup) (entries : List Entry) (done : List Pair) (e : Entry)
     → IsWithinMatched done (candidates entries done) (matched entries)
-    → IsWithinMatched (done ++ taken_by setup entries done e.cmd) (candidates (entries ++ e ∷ []) (done ++ taken_by setup entries done e.cmd)) (matched (entries ++ e ∷ []))
+    → IsWithinMatched (done ++ taken_by setup entries done e.cmd) (candidates (entries ++ e ∷ []) (done ++ taken_by setup entries done e.cmd))
+    (matched (entries ++ e ∷ []))
 unfolding without
 IsWithinMatched-push setup entries done e is = record {
   sums = λ f.
@@ -192,8 +198,10 @@ IsWithinMatched-push setup entries done e is = record {
       let kept = λ (p : Pair). not (has_reference done p.reference) && not (both_have_asked entries p) in
       let more : matched (entries ++ e ∷ []) ≡ matched entries ++ new = filter_map-append (λ (x : Entry). matched_by x.client x.cmd x.reply) entries (e ∷ []) in
       let split : sum_by f (filter keeps (matched (entries ++ e ∷ []))) ≡ sum_by f (filter keeps (matched entries)) + sum_by f (filter keeps new) =
-      ap (λ ps. sum_by f (filter keeps ps)) more ∙ ap (sum_by f) (filter-append keeps (matched entries) new) ∙ sum_by-append f (filter keeps (matched entries)) (filter keeps new) in
-      let all : sum_by f (matched (entries ++ e ∷ [])) ≡ sum_by f (matched entries) + sum_by f new = ap (sum_by f) more ∙ sum_by-append f (matched entries) new in
+      ap (λ ps. sum_by f (filter keeps ps)) more ∙ ap (sum_by f) (filter-append keeps (matched entries) new)
+      ∙ sum_by-append f (filter keeps (matched entries)) (filter keeps new) in
+      let all : sum_by f (matched (entries ++ e ∷ [])) ≡ sum_by f (matched entries) + sum_by f new =
+      ap (sum_by f) more ∙ sum_by-append f (matched entries) new in
       let here = sum-filter-part f keeps new in
       let old = sum-filter-filter f keeps kept (λ p. not (has_reference taken p.reference)) (matched entries) (λ p h. still-offered entries e done taken p h) in
       let part = taken-within setup entries done e.cmd f in

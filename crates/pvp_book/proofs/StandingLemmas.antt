@@ -54,8 +54,11 @@ each-settled-after P setup entries done [] so_far all = so_far
 each-settled-after P setup entries done (e ∷ rest) so_far all =
     let split = filter_map-append (λ (x : Entry). matched_by x.client x.cmd x.reply) entries (e ∷ rest) in
     let first = each-left P (matched entries) (matched (e ∷ rest)) (subst (AllByRecursion P) split all) in
-    let taken = each-taken P setup entries done e.cmd (each-filter P (λ p. not (has_reference done p.reference) && not (both_have_asked entries p)) (matched entries) first) in
-    each-settled-after P setup (entries ++ e ∷ []) (done ++ taken_by setup entries done e.cmd) rest (each-append P done (taken_by setup entries done e.cmd) so_far taken)
+    let taken =
+    each-taken P setup entries done e.cmd (each-filter P (λ p. not (has_reference done p.reference) && not (both_have_asked entries p))
+    (matched entries) first) in
+    each-settled-after P setup (entries ++ e ∷ []) (done ++ taken_by setup entries done e.cmd) rest
+    (each-append P done (taken_by setup entries done e.cmd) so_far taken)
     (subst (λ es. AllByRecursion P (matched es)) (sym (append_assoc entries (e ∷ []) rest)) all)
 
 pub each-settled : (P : Pair → Type 0) (setup : Setup) (entries : List Entry) → AllByRecursion P (matched entries) → AllByRecursion P (settled setup entries)
@@ -67,7 +70,8 @@ pub each-among : (ps : List Pair) → AllByRecursion (λ p. has_reference ps p.r
 each-among [] = tt
 each-among (p ∷ ps) = (
   ap (λ b. b || has_reference ps p.reference) (same-self p.reference),
-  each-weaker (λ q. has_reference ps q.reference ≡ true) (λ q. has_reference (p ∷ ps) q.reference ≡ true) ps (λ q there. by (p.reference == q.reference) (has_reference ps q.reference) there) (each-among ps),
+  each-weaker (λ q. has_reference ps q.reference ≡ true) (λ q. has_reference (p ∷ ps) q.reference ≡ true) ps
+      (λ q there. by (p.reference == q.reference) (has_reference ps q.reference) there) (each-among ps),
 )
   where
     by : (a b : Bool) → b ≡ true → (a || b) ≡ true
@@ -93,7 +97,8 @@ mirrors setup entries client other sell sell_amt buy buy_amt (Some p) e =
     let both = by (client == p.first) (is_state (state_of setup entries p) state.Unmatched) (is_mirror p client other sell sell_amt buy buy_amt) e in
     (p, refl, both.0, both.1)
   where
-    by : (own waits mirror : Bool) → (if own || not waits then No Repeated else if not mirror then No Mismatch else Matched) ≡ Matched → (waits ≡ true) × (mirror ≡ true)
+    by : (own waits mirror : Bool) → (if own || not waits then No Repeated else if not mirror then No Mismatch else Matched) ≡ Matched
+        → (waits ≡ true) × (mirror ≡ true)
     by true waits mirror e = absurd (cc e)
     by false false mirror e = absurd (cc e)
     by false true false e = absurd (cc e)
@@ -103,7 +108,9 @@ matches : (setup : Setup) (entries : List Entry) (client reference other sell se
     → on_instruct setup entries client reference other sell sell_amt buy buy_amt ≡ Matched
     → Matches setup entries client reference other sell sell_amt buy buy_amt
 matches setup entries client reference other sell sell_amt buy buy_amt e =
-    let tests = by (is_member_number client) (has_member setup client) (has_member setup other) (other == client) (has_currency setup sell) (has_currency setup buy) (sell == buy)
+    let tests =
+    by (is_member_number client) (has_member setup client) (has_member setup other) (other == client) (has_currency setup sell)
+    (has_currency setup buy) (sell == buy)
     (is_amount sell_amt && is_amount buy_amt) (reference == 0) (on_mirror setup entries client (pair_of entries reference) other sell sell_amt buy buy_amt) e in
     let found = mirrors setup entries client other sell sell_amt buy buy_amt (pair_of entries reference) tests.4 in
     record { sender = tests.0; known = tests.1; members = tests.2; currencies = tests.3; pair = found.0; there = found.1; waits = found.2; mirror = found.3 }
@@ -127,14 +134,16 @@ matches setup entries client reference other sell sell_amt buy buy_amt e =
 unmatched : (entries : List Entry) (done : List Pair) (p : Pair) → is_state (state_with entries done p) state.Unmatched ≡ true → is_matched entries p ≡ false
 unmatched entries done p waits = by (has_reference done p.reference) (is_rescinded entries p) (is_matched entries p) waits
   where
-    by : (a b c : Bool) → is_state (if a then state.Settled else if b then state.Rescinded else if c then state.Matched else state.Unmatched) state.Unmatched ≡ true → c ≡ false
+    by : (a b c : Bool)
+        → is_state (if a then state.Settled else if b then state.Rescinded else if c then state.Matched else state.Unmatched) state.Unmatched ≡ true → c ≡ false
     by true b c e = absurd (cc e)
     by false true c e = absurd (cc e)
     by false false true e = absurd (cc e)
     by false false false e = refl
 
 -- the pair that a matching instruction names is the one that waited
-same-pair : (p : Pair) (client reference other sell sell_amt buy buy_amt : ℕ) → (reference == p.reference) ≡ true → is_mirror p client other sell sell_amt buy buy_amt ≡ true
+same-pair : (p : Pair) (client reference other sell sell_amt buy buy_amt : ℕ) → (reference == p.reference) ≡ true
+    → is_mirror p client other sell sell_amt buy buy_amt ≡ true
     → p ≡ record { reference = reference; first = other; second = client; sell = buy; sell_amt = buy_amt; buy = sell; buy_amt = sell_amt }
 same-pair p client reference other sell sell_amt buy buy_amt same mirror =
     let a = and_parts (p.first == other) _ mirror in
@@ -161,7 +170,8 @@ record NewPair (setup : Setup) (entries : List Entry) (made : Option Pair) : Typ
 
 new-pair : (setup : Setup) (entries : List Entry) (client reference other sell sell_amt buy buy_amt : ℕ)
     → Matches setup entries client reference other sell sell_amt buy buy_amt
-    → NewPair setup entries (Some (record { reference = reference; first = other; second = client; sell = buy; sell_amt = buy_amt; buy = sell; buy_amt = sell_amt }))
+    → NewPair setup entries
+    (Some (record { reference = reference; first = other; second = client; sell = buy; sell_amt = buy_amt; buy = sell; buy_amt = sell_amt }))
 new-pair setup entries client reference other sell sell_amt buy buy_amt is =
     let named = find-passes (λ (p : Pair). reference == p.reference) (pairs entries) is.pair is.there in
     let same = same-pair is.pair client reference other sell sell_amt buy buy_amt named is.mirror in
@@ -175,18 +185,22 @@ new-pair setup entries client reference other sell sell_amt buy buy_amt is =
         currencies = λ e. eqb-false sell buy is.currencies (sym e);
       };
       known = is.there ∙ ap Some same;
-      fresh = ap (λ r. has_reference (matched entries) r) (eqb-true reference is.pair.reference named) ∙ unmatched entries (settled setup entries) is.pair is.waits;
+      fresh =
+          ap (λ r. has_reference (matched entries) r) (eqb-true reference is.pair.reference named) ∙ unmatched entries (settled setup entries) is.pair is.waits;
     }
 
 newly-matched : (setup : Setup) (entries : List Entry) (client : ℕ) (cmd : Cmd)
     → (matched_by client cmd (answer setup entries client cmd) ≡ None) ⊎ NewPair setup entries (matched_by client cmd (answer setup entries client cmd))
 unfolding answer
-newly-matched setup entries client (Instruct reference other sell sell_amt buy buy_amt) = by (on_instruct setup entries client reference other sell sell_amt buy buy_amt) refl
+newly-matched setup entries client (Instruct reference other sell sell_amt buy buy_amt) =
+    by (on_instruct setup entries client reference other sell sell_amt buy buy_amt) refl
   where
     by : (r : Reply) → on_instruct setup entries client reference other sell sell_amt buy buy_amt ≡ r
-        → (matched_by client (Instruct reference other sell sell_amt buy buy_amt) r ≡ None) ⊎ NewPair setup entries (matched_by client (Instruct reference other sell sell_amt buy buy_amt) r)
+        → (matched_by client (Instruct reference other sell sell_amt buy buy_amt) r ≡ None)
+        ⊎ NewPair setup entries (matched_by client (Instruct reference other sell sell_amt buy buy_amt) r)
     by Done e = inl refl
-    by Matched e = inr (new-pair setup entries client reference other sell sell_amt buy buy_amt (matches setup entries client reference other sell sell_amt buy buy_amt e))
+    by Matched e =
+        inr (new-pair setup entries client reference other sell sell_amt buy buy_amt (matches setup entries client reference other sell sell_amt buy buy_amt e))
     by (Settled n) e = inl refl
     by (Order n) e = inl refl
     by (No reason) e = inl refl
@@ -202,10 +216,12 @@ late-free : (setup : Setup) (entries : List Entry) (client reference : ℕ) → 
 late-free setup entries client reference accepted =
     by (is_member_number client) (has_member setup client) (pair_of entries reference) refl accepted
   where
-    found : (p : Pair) → pair_of entries reference ≡ Some p → is_refusal (on_pair setup entries client (Some p)) ≡ false → has_reference (settled setup entries) reference ≡ false
+    found : (p : Pair) → pair_of entries reference ≡ Some p → is_refusal (on_pair setup entries client (Some p)) ≡ false
+        → has_reference (settled setup entries) reference ≡ false
     found p there accepted =
         let named = eqb-true reference p.reference (find-passes (λ (q : Pair). reference == q.reference) (pairs entries) p there) in
-        ap (λ r. has_reference (settled setup entries) r) named ∙ tests (is_side entries p client) (has_reference (settled setup entries) p.reference) (is_rescinded entries p) accepted
+        ap (λ r. has_reference (settled setup entries) r) named ∙ tests (is_side entries p client) (has_reference (settled setup entries) p.reference)
+        (is_rescinded entries p) accepted
       where
         tests : (side there back : Bool) → is_refusal (if not side then No NotYours else if there || back then No Late else Done) ≡ false → there ≡ false
         tests false there back e = absurd (cc e)
@@ -225,7 +241,8 @@ none-taken-back : (setup : Setup) (entries : List Entry) (client : ℕ) (cmd : C
     → AllByRecursion (λ p. is_rescission p.reference cmd ≡ false) (settled setup entries)
 unfolding answer
 none-taken-back setup entries client (Rescind reference) accepted =
-    each-weaker (λ p. (p.reference == reference) ≡ false) (λ p. (reference == p.reference) ≡ false) (settled setup entries) (λ p e. turned reference p.reference ∙ e)
+    each-weaker (λ p. (p.reference == reference) ≡ false) (λ p. (reference == p.reference) ≡ false) (settled setup entries)
+    (λ p e. turned reference p.reference ∙ e)
     (each-false (λ (p : Pair). p.reference == reference) (settled setup entries) (late-free setup entries client reference accepted))
 none-taken-back setup entries client _ accepted = each-always (λ p. false ≡ false) (settled setup entries) (λ p. refl)
 
@@ -274,17 +291,22 @@ record MatchedPart (setup : Setup) (entries longer : List Entry) (ps : List Pair
   once : (r : ℕ) → count_by (λ p. p.reference == r) ps ≤ 1
 
 matched-part : (setup : Setup) (entries : List Entry) (client : ℕ) (cmd : Cmd) → IsSound setup entries
-    → MatchedPart setup entries (entries ++ entry_of setup entries client cmd ∷ []) (matched entries ++ cons_option (matched_by client cmd (answer setup entries client cmd)) [])
+    → MatchedPart setup entries (entries ++ entry_of setup entries client cmd ∷ [])
+    (matched entries ++ cons_option (matched_by client cmd (answer setup entries client cmd)) [])
 matched-part setup entries client cmd is = by (newly-matched setup entries client cmd)
   where
     longer : AllByRecursion (λ p. pair_of (entries ++ entry_of setup entries client cmd ∷ []) p.reference ≡ Some p) (matched entries)
-    longer = each-weaker (λ p. pair_of entries p.reference ≡ Some p) (λ p. pair_of (entries ++ entry_of setup entries client cmd ∷ []) p.reference ≡ Some p) (matched entries)
+    longer =
+        each-weaker (λ p. pair_of entries p.reference ≡ Some p) (λ p. pair_of (entries ++ entry_of setup entries client cmd ∷ []) p.reference ≡ Some p)
+        (matched entries)
         (λ p known. known-longer entries (entry_of setup entries client cmd) p known) is.known
 
     by : (matched_by client cmd (answer setup entries client cmd) ≡ None) ⊎ NewPair setup entries (matched_by client cmd (answer setup entries client cmd))
-        → MatchedPart setup entries (entries ++ entry_of setup entries client cmd ∷ []) (matched entries ++ cons_option (matched_by client cmd (answer setup entries client cmd)) [])
+        → MatchedPart setup entries (entries ++ entry_of setup entries client cmd ∷ [])
+        (matched entries ++ cons_option (matched_by client cmd (answer setup entries client cmd)) [])
     by (inl none) =
-        subst (MatchedPart setup entries (entries ++ entry_of setup entries client cmd ∷ [])) (sym (ap (λ o. matched entries ++ cons_option o []) none ∙ append-nil (matched entries)))
+        subst (MatchedPart setup entries (entries ++ entry_of setup entries client cmd ∷ []))
+        (sym (ap (λ o. matched entries ++ cons_option o []) none ∙ append-nil (matched entries)))
         (record { exchange = is.exchange; known = longer; once = is.once })
     by (inr new) =
         subst (MatchedPart setup entries (entries ++ entry_of setup entries client cmd ∷ [])) (sym (ap (λ o. matched entries ++ cons_option o []) new.is))
@@ -300,7 +322,8 @@ IsSound-nil : (setup : Setup) → IsSound setup []
 unfolding settled settled_after
 IsSound-nil setup = record { exchange = tt; known = tt; once = λ r. omega arith; within = IsWithinMatched-nil; kept = tt }
 
-pub IsSound-push : (setup : Setup) (entries : List Entry) (client : ℕ) (cmd : Cmd) → IsSound setup entries → is_refusal (answer setup entries client cmd) ≡ false
+pub IsSound-push : (setup : Setup) (entries : List Entry) (client : ℕ) (cmd : Cmd) → IsSound setup entries
+    → is_refusal (answer setup entries client cmd) ≡ false
     → IsSound setup (entries ++ entry_of setup entries client cmd ∷ [])
 IsSound-push setup entries client cmd is accepted =
     let e = entry_of setup entries client cmd in
@@ -308,11 +331,17 @@ IsSound-push setup entries client cmd is accepted =
     let taken = taken_by setup entries done cmd in
     let pairs_now = sym (filter_map-append (λ (x : Entry). matched_by x.client x.cmd x.reply) entries (e ∷ [])) in
     let part = subst (MatchedPart setup entries (entries ++ e ∷ [])) pairs_now (matched-part setup entries client cmd is) in
-    let offered = each-both (λ p. p ≡ p) (λ p. (not (has_reference done p.reference) && not (both_have_asked entries p)) ≡ true) (λ p. both_have_asked entries p ≡ false) (candidates entries done)
+    let offered =
+    each-both (λ p. p ≡ p) (λ p. (not (has_reference done p.reference) && not (both_have_asked entries p)) ≡ true) (λ p. both_have_asked entries p ≡ false)
+    (candidates entries done)
     (λ p _ keeps. not-true (both_have_asked entries p) (and_parts _ _ keeps).1) (each-always (λ p. p ≡ p) (candidates entries done) (λ p. refl))
     (each-passes (λ p. not (has_reference done p.reference) && not (both_have_asked entries p)) (matched entries)) in
-    let kept = each-append (λ p. both_have_asked entries p ≡ false) done taken is.kept (each-taken (λ p. both_have_asked entries p ≡ false) setup entries done cmd offered) in
-    let others = each-append (λ p. is_rescission p.reference cmd ≡ false) done taken (none-taken-back setup entries client cmd accepted) (none-back-taken setup entries done cmd) in
+    let kept =
+    each-append (λ p. both_have_asked entries p ≡ false) done taken is.kept
+    (each-taken (λ p. both_have_asked entries p ≡ false) setup entries done cmd offered) in
+    let others =
+    each-append (λ p. is_rescission p.reference cmd ≡ false) done taken (none-taken-back setup entries client cmd accepted)
+    (none-back-taken setup entries done cmd) in
     record {
       exchange = part.exchange;
       known = part.known;
@@ -320,9 +349,11 @@ IsSound-push setup entries client cmd is accepted =
       within = subst (λ now. IsWithinMatched now (candidates (entries ++ e ∷ []) now) (matched (entries ++ e ∷ []))) (sym (settled-push setup entries e))
           (IsWithinMatched-push setup entries done e is.within);
       kept = subst (AllByRecursion (λ p. both_have_asked (entries ++ e ∷ []) p ≡ false)) (sym (settled-push setup entries e))
-          (each-both (λ p. is_rescission p.reference cmd ≡ false) (λ p. both_have_asked entries p ≡ false) (λ p. both_have_asked (entries ++ e ∷ []) p ≡ false) (done ++ taken)
+          (each-both (λ p. is_rescission p.reference cmd ≡ false) (λ p. both_have_asked entries p ≡ false)
+          (λ p. both_have_asked (entries ++ e ∷ []) p ≡ false) (done ++ taken)
           (λ p other asked. asked-stays entries e p other asked) others kept);
     }
 
 pub sound : (setup : Setup) (history : List Row) → IsSound setup (book_of setup history)
-sound setup history = reached setup (IsSound setup) (IsSound-nil setup) (λ entries client cmd is accepted. IsSound-push setup entries client cmd is accepted) history
+sound setup history =
+    reached setup (IsSound setup) (IsSound-nil setup) (λ entries client cmd is accepted. IsSound-push setup entries client cmd is accepted) history

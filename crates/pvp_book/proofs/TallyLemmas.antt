@@ -32,11 +32,13 @@ length-kept true p ps = omega arith
 length-kept false p ps = omega arith
 
 -- where no pair has the reference, none moves
-same-counted : (t u : Pair → PairState) (s : PairState) (r : ℕ) (ps : List Pair) → has_reference ps r ≡ false → ((p : Pair) → (p.reference ≡ r → ⊥) → t p ≡ u p) → counted u s ps ≡ counted t s ps
+same-counted : (t u : Pair → PairState) (s : PairState) (r : ℕ) (ps : List Pair) → has_reference ps r ≡ false → ((p : Pair) → (p.reference ≡ r → ⊥) → t p ≡ u p)
+    → counted u s ps ≡ counted t s ps
 same-counted t u s r [] none same = refl
 same-counted t u s r (p ∷ ps) none same = by (p.reference == r) refl none (λ rest. same-counted t u s r ps rest same)
   where
-    by : (b : Bool) → (p.reference == r) ≡ b → (b || has_reference ps r) ≡ false → (has_reference ps r ≡ false → counted u s ps ≡ counted t s ps) → counted u s (p ∷ ps) ≡ counted t s (p ∷ ps)
+    by : (b : Bool) → (p.reference == r) ≡ b → (b || has_reference ps r) ≡ false → (has_reference ps r ≡ false → counted u s ps ≡ counted t s ps)
+        → counted u s (p ∷ ps) ≡ counted t s (p ∷ ps)
     by true is none rest = absurd (cc none)
     by false is none rest =
         length-kept (is_state (u p) s) p (filter (λ q. is_state (u q) s) ps)
@@ -50,7 +52,8 @@ pub one-moved : (t u : Pair → PairState) (s : PairState) (r : ℕ) (ps : List 
 unfolding AreDistinct
 one-moved t u s r [] are same = refl
 one-moved t u s r (p ∷ ps) are same =
-    by (r == p.reference) refl (length-kept (is_state (t p) s) p (filter (λ q. is_state (t q) s) ps)) (length-kept (is_state (u p) s) p (filter (λ q. is_state (u q) s) ps))
+    by (r == p.reference) refl (length-kept (is_state (t p) s) p (filter (λ q. is_state (t q) s) ps))
+    (length-kept (is_state (u p) s) p (filter (λ q. is_state (u q) s) ps))
     (one-moved t u s r ps are.1 same)
   where
     rest : (r == p.reference) ≡ true → counted u s ps ≡ counted t s ps
@@ -62,14 +65,18 @@ one-moved t u s r (p ∷ ps) are same =
     apart : (x y m n a b cu ct : ℕ) → cu ≡ x + m → ct ≡ y + n → x ≡ y → m + a ≡ n + b → cu + a ≡ ct + b
     apart x y m n a b cu ct is_u is_t heads tails = omega arith
 
-    by : (b : Bool) → (r == p.reference) ≡ b → counted t s (p ∷ ps) ≡ (if is_state (t p) s then 1 else 0) + counted t s ps → counted u s (p ∷ ps) ≡ (if is_state (u p) s then 1 else 0) + counted u s ps
+    by : (b : Bool) → (r == p.reference) ≡ b → counted t s (p ∷ ps) ≡ (if is_state (t p) s then 1 else 0) + counted t s ps
+        → counted u s (p ∷ ps) ≡ (if is_state (u p) s then 1 else 0) + counted u s ps
         → counted u s ps + is_at (option_map t (find (λ q. r == q.reference) ps)) s ≡ counted t s ps + is_at (option_map u (find (λ q. r == q.reference) ps)) s
-        → counted u s (p ∷ ps) + is_at (option_map t (cond b (Some p) (find (λ q. r == q.reference) ps))) s ≡ counted t s (p ∷ ps) + is_at (option_map u (cond b (Some p) (find (λ q. r == q.reference) ps))) s
+        → counted u s (p ∷ ps) + is_at (option_map t (cond b (Some p) (find (λ q. r == q.reference) ps))) s
+        ≡ counted t s (p ∷ ps) + is_at (option_map u (cond b (Some p) (find (λ q. r == q.reference) ps))) s
     by true is is_t is_u more =
-        joined (if is_state (u p) s then 1 else 0) (if is_state (t p) s then 1 else 0) (counted u s ps) (counted t s ps) (counted u s (p ∷ ps)) (counted t s (p ∷ ps)) is_u is_t (rest is)
+        joined (if is_state (u p) s then 1 else 0) (if is_state (t p) s then 1 else 0) (counted u s ps) (counted t s ps) (counted u s (p ∷ ps))
+        (counted t s (p ∷ ps)) is_u is_t (rest is)
     by false is is_t is_u more =
         apart (if is_state (u p) s then 1 else 0) (if is_state (t p) s then 1 else 0) (counted u s ps) (counted t s ps)
-        (is_at (option_map t (find (λ q. r == q.reference) ps)) s) (is_at (option_map u (find (λ q. r == q.reference) ps)) s) (counted u s (p ∷ ps)) (counted t s (p ∷ ps)) is_u is_t
+        (is_at (option_map t (find (λ q. r == q.reference) ps)) s) (is_at (option_map u (find (λ q. r == q.reference) ps)) s) (counted u s (p ∷ ps))
+        (counted t s (p ∷ ps)) is_u is_t
         (ap (λ x. if is_state x s then 1 else 0) (sym (same p (λ e. eqb-false r p.reference is (sym e))))) more
 
 -- a pair that is found is counted
@@ -77,19 +84,22 @@ pub found-counted : (t : Pair → PairState) (s : PairState) (r : ℕ) (ps : Lis
 found-counted t s r [] = omega arith
 found-counted t s r (p ∷ ps) = by (r == p.reference) (length-kept (is_state (t p) s) p (filter (λ q. is_state (t q) s) ps)) (found-counted t s r ps)
   where
-    by : (b : Bool) → counted t s (p ∷ ps) ≡ (if is_state (t p) s then 1 else 0) + counted t s ps → is_at (option_map t (find (λ q. r == q.reference) ps)) s ≤ counted t s ps
+    by : (b : Bool) → counted t s (p ∷ ps) ≡ (if is_state (t p) s then 1 else 0) + counted t s ps
+        → is_at (option_map t (find (λ q. r == q.reference) ps)) s ≤ counted t s ps
         → is_at (option_map t (cond b (Some p) (find (λ q. r == q.reference) ps))) s ≤ counted t s (p ∷ ps)
     by true all rest = low (if is_state (t p) s then 1 else 0) (counted t s ps) (counted t s (p ∷ ps)) all
       where
         low : (x m n : ℕ) → n ≡ x + m → x ≤ n
         low x m n e = omega arith
-    by false all rest = high (if is_state (t p) s then 1 else 0) (counted t s ps) (counted t s (p ∷ ps)) (is_at (option_map t (find (λ q. r == q.reference) ps)) s) all rest
+    by false all rest =
+        high (if is_state (t p) s then 1 else 0) (counted t s ps) (counted t s (p ∷ ps)) (is_at (option_map t (find (λ q. r == q.reference) ps)) s) all rest
       where
         high : (x m n a : ℕ) → n ≡ x + m → a ≤ m → a ≤ n
         high x m n a e le = omega arith
 
 -- what an entry says of other references than the one that it names
-says-other : (cmd : Cmd) (reply : Reply) (client r k m : ℕ) → named_by cmd ≡ Some r → (k ≡ r → ⊥) → (says_matched k (mark_of client cmd reply) ≡ false) × (says_asked m k (mark_of client cmd reply) ≡ false)
+says-other : (cmd : Cmd) (reply : Reply) (client r k m : ℕ) → named_by cmd ≡ Some r → (k ≡ r → ⊥)
+    → (says_matched k (mark_of client cmd reply) ≡ false) × (says_asked m k (mark_of client cmd reply) ≡ false)
 says-other (Instruct reference other sell sell_amt buy buy_amt) Done client r k m named apart = (refl, refl)
 says-other (Instruct reference other sell sell_amt buy buy_amt) Matched client r k m named apart =
     let same : reference ≡ r = cc in (ne_eqb reference k (λ e. apart (sym e ∙ same)), refl)
@@ -108,7 +118,8 @@ says-other (PayOut ccy amt) reply client r k m named apart = absurd (cc named)
 says-other (Paid ccy out) reply client r k m named apart = absurd (cc named)
 says-other (Returned ccy out) reply client r k m named apart = absurd (cc named)
 
-pub says-none : (cmd : Cmd) (reply : Reply) (client k m : ℕ) → named_by cmd ≡ None → (says_matched k (mark_of client cmd reply) ≡ false) × (says_asked m k (mark_of client cmd reply) ≡ false)
+pub says-none : (cmd : Cmd) (reply : Reply) (client k m : ℕ) → named_by cmd ≡ None
+    → (says_matched k (mark_of client cmd reply) ≡ false) × (says_asked m k (mark_of client cmd reply) ≡ false)
 says-none (Instruct reference other sell sell_amt buy buy_amt) reply client k m named = absurd (cc named)
 says-none (Rescind reference) reply client k m named = absurd (cc named)
 says-none (Fund ccy pay member amt) reply client k m named = (refl, refl)
@@ -124,7 +135,9 @@ pub state-kept : (entries : List Entry) (e : Entry) (done : List Pair) (p : Pair
 state-kept entries e done p says =
     let m : is_matched entries p ≡ is_matched (entries ++ e ∷ []) p =
     sym (matched-more entries e p.reference ∙ ap (λ b. is_matched entries p || b) (says 0).0 ∙ or-false (is_matched entries p)) in
-    let a = λ (k : ℕ). sym (asked-more entries e k p.reference ∙ ap (λ b. has_asked entries k p.reference || b) (says k).1 ∙ or-false (has_asked entries k p.reference)) in
+    let a =
+    λ (k : ℕ). sym (asked-more entries e k p.reference ∙ ap (λ b. has_asked entries k p.reference || b) (says k).1
+    ∙ or-false (has_asked entries k p.reference)) in
     λ i. if has_reference done p.reference then state.Settled
     else if (if m i then a p.first i && a p.second i else a p.first i) then state.Rescinded else if m i then state.Matched else state.Unmatched
 
@@ -150,7 +163,8 @@ find-new : (r : ℕ) (ps : List Pair) (p : Pair) → r ≡ p.reference → find 
 find-new r [] p is none = ap (λ b. cond b (Some p) None) (eq-eqb r p.reference is)
 find-new r (q ∷ ps) p is none = by (r == q.reference) none (λ rest. find-new r ps p is rest)
   where
-    by : (b : Bool) → cond b (Some q) (find (λ x. r == x.reference) ps) ≡ None → (find (λ x. r == x.reference) ps ≡ None → find (λ x. r == x.reference) (ps ++ p ∷ []) ≡ Some p)
+    by : (b : Bool) → cond b (Some q) (find (λ x. r == x.reference) ps) ≡ None
+        → (find (λ x. r == x.reference) ps ≡ None → find (λ x. r == x.reference) (ps ++ p ∷ []) ≡ Some p)
         → cond b (Some q) (find (λ x. r == x.reference) (ps ++ p ∷ [])) ≡ Some p
     by true none rest = absurd (cc none)
     by false none rest = rest none
@@ -177,14 +191,16 @@ entry-moved entries e done s are new = by (opened_by e.client e.cmd e.reply) ref
     by None opened None named =
         let same = more ∙ ap (λ o. pairs entries ++ cons_option o []) opened ∙ append-nil (pairs entries) in
         let stay : counted (state_with (entries ++ e ∷ []) done) s (pairs entries) ≡ counted (state_with entries done) s (pairs entries) =
-        λ i. length (filter (λ p. is_state (sym (state-kept entries e done p (λ m. says-none e.cmd e.reply e.client p.reference m named)) i) s) (pairs entries)) in
+        λ i. length (filter (λ p. is_state (sym (state-kept entries e done p (λ m. says-none e.cmd e.reply e.client p.reference m named)) i) s)
+        (pairs entries)) in
         ap (λ ps. counted (state_with (entries ++ e ∷ []) done) s ps + 0) same ∙ ap (λ n. n + 0) stay
     by None opened (Some r) named =
         let same = more ∙ ap (λ o. pairs entries ++ cons_option o []) opened ∙ append-nil (pairs entries) in
         ap (λ ps. counted (state_with (entries ++ e ∷ []) done) s ps + is_at (option_map (state_with entries done) (pair_of entries r)) s) same
         ∙ one-moved (state_with entries done) (state_with (entries ++ e ∷ []) done) s r (pairs entries) are
         (λ p apart. state-kept entries e done p (λ m. says-other e.cmd e.reply e.client r p.reference m named apart))
-        ∙ ap (λ ps. counted (state_with entries done) s (pairs entries) + is_at (option_map (state_with (entries ++ e ∷ []) done) (find (λ p. r == p.reference) ps)) s) (sym same)
+        ∙ ap (λ ps. counted (state_with entries done) s (pairs entries) + is_at
+        (option_map (state_with (entries ++ e ∷ []) done) (find (λ p. r == p.reference) ps)) s) (sym same)
     by (Some p) opened None named = absurd (cc (sym named ∙ opened-named e.client e.cmd e.reply p opened))
     by (Some p) opened (Some r) named =
         let same : pairs (entries ++ e ∷ []) ≡ pairs entries ++ p ∷ [] = more ∙ ap (λ o. pairs entries ++ cons_option o []) opened in
@@ -195,17 +211,23 @@ entry-moved entries e done s are new = by (opened_by e.client e.cmd e.reply) ref
         let old : counted (state_with (entries ++ e ∷ []) done) s (pairs entries) + 0 ≡ counted (state_with entries done) s (pairs entries) + 0 =
         (λ i. counted (state_with (entries ++ e ∷ []) done) s (pairs entries) + is_at (option_map (state_with entries done) (sym none i)) s) ∙ stay
         ∙ (λ i. counted (state_with entries done) s (pairs entries) + is_at (option_map (state_with (entries ++ e ∷ []) done) (none i)) s) in
-        let split : counted (state_with (entries ++ e ∷ []) done) s (pairs (entries ++ e ∷ [])) ≡ counted (state_with (entries ++ e ∷ []) done) s (pairs entries) + counted (state_with (entries ++ e ∷ []) done) s (p ∷ []) =
+        let split : counted (state_with (entries ++ e ∷ []) done) s (pairs (entries ++ e ∷ []))
+        ≡ counted (state_with (entries ++ e ∷ []) done) s (pairs entries) + counted (state_with (entries ++ e ∷ []) done) s (p ∷ []) =
         ap (counted (state_with (entries ++ e ∷ []) done) s) same
         ∙ ap length (filter-append (λ q. is_state (state_with (entries ++ e ∷ []) done q) s) (pairs entries) (p ∷ []))
-        ∙ length-append (filter (λ q. is_state (state_with (entries ++ e ∷ []) done q) s) (pairs entries)) (filter (λ q. is_state (state_with (entries ++ e ∷ []) done q) s) (p ∷ [])) in
+        ∙ length-append (filter (λ q. is_state (state_with (entries ++ e ∷ []) done q) s) (pairs entries))
+        (filter (λ q. is_state (state_with (entries ++ e ∷ []) done q) s) (p ∷ [])) in
         let one = length-kept (is_state (state_with (entries ++ e ∷ []) done p) s) p [] in
-        let after : is_at (option_map (state_with (entries ++ e ∷ []) done) (pair_of (entries ++ e ∷ []) r)) s ≡ (if is_state (state_with (entries ++ e ∷ []) done p) s then 1 else 0) =
-        ap (λ o. is_at (option_map (state_with (entries ++ e ∷ []) done) o) s) (ap (find (λ q. r == q.reference)) same ∙ find-new r (pairs entries) p is none) in
+        let after : is_at (option_map (state_with (entries ++ e ∷ []) done) (pair_of (entries ++ e ∷ []) r)) s
+        ≡ (if is_state (state_with (entries ++ e ∷ []) done p) s then 1 else 0) =
+        ap (λ o. is_at (option_map (state_with (entries ++ e ∷ []) done) o) s)
+        (ap (find (λ q. r == q.reference)) same ∙ find-new r (pairs entries) p is none) in
         let before : is_at (option_map (state_with entries done) (pair_of entries r)) s ≡ 0 = ap (λ o. is_at (option_map (state_with entries done) o) s) none in
-        sum (counted (state_with (entries ++ e ∷ []) done) s (pairs (entries ++ e ∷ []))) (counted (state_with (entries ++ e ∷ []) done) s (pairs entries)) (counted (state_with (entries ++ e ∷ []) done) s (p ∷ []))
+        sum (counted (state_with (entries ++ e ∷ []) done) s (pairs (entries ++ e ∷ []))) (counted (state_with (entries ++ e ∷ []) done) s (pairs entries))
+        (counted (state_with (entries ++ e ∷ []) done) s (p ∷ []))
         (counted (state_with entries done) s (pairs entries)) (if is_state (state_with (entries ++ e ∷ []) done p) s then 1 else 0)
-        (is_at (option_map (state_with (entries ++ e ∷ []) done) (pair_of (entries ++ e ∷ []) r)) s) (is_at (option_map (state_with entries done) (pair_of entries r)) s) split old one after before
+        (is_at (option_map (state_with (entries ++ e ∷ []) done) (pair_of (entries ++ e ∷ []) r)) s)
+        (is_at (option_map (state_with entries done) (pair_of entries r)) s) split old one after before
       where
         sum : (all cu one ct x a b : ℕ) → all ≡ cu + one → cu + 0 ≡ ct + 0 → one ≡ x + 0 → a ≡ x → b ≡ 0 → all + b ≡ ct + a
         sum all cu one ct x a b split old is_one after before = omega arith
@@ -224,12 +246,14 @@ pub not-found : (ps : List Pair) (r : ℕ) → find (λ p. r == p.reference) ps 
 not-found [] r none = refl
 not-found (p ∷ ps) r none = by (r == p.reference) refl none (λ rest. not-found ps r rest)
   where
-    by : (b : Bool) → (r == p.reference) ≡ b → cond b (Some p) (find (λ q. r == q.reference) ps) ≡ None → (find (λ q. r == q.reference) ps ≡ None → has_reference ps r ≡ false) → ((p.reference == r) || has_reference ps r) ≡ false
+    by : (b : Bool) → (r == p.reference) ≡ b → cond b (Some p) (find (λ q. r == q.reference) ps) ≡ None
+        → (find (λ q. r == q.reference) ps ≡ None → has_reference ps r ≡ false) → ((p.reference == r) || has_reference ps r) ≡ false
     by true is none rest = absurd (cc none)
     by false is none rest = ap (λ b. b || has_reference ps r) (turned p.reference r ∙ is) ∙ rest none
 
 -- what is kept says how far the named pair has come
-module _ (entries : List Entry) (seen : Seen) (has : HasSeen entries seen) (done : List Pair) (references : List ℕ) (are : AreSettled done references) (kept : List (ℕ × Pair))
+module _ (entries : List Entry) (seen : Seen) (has : HasSeen entries seen) (done : List Pair) (references : List ℕ)
+    (are : AreSettled done references) (kept : List (ℕ × Pair))
     (same : kept ≡ map kept_as (pairs entries)) where
   pub named-same : (named : Option ℕ) → state_named seen references kept named ≡ state_at entries done named
   named-same None = refl
@@ -237,12 +261,14 @@ module _ (entries : List Entry) (seen : Seen) (has : HasSeen entries seen) (done
       ap (λ o. option_map (state_seen seen references) o) (ap (lookup (nat_eq r)) same ∙ lookup-kept (pairs entries) r)
       ∙ (λ i. option_map (λ p. state-same entries seen has done references are p i) (pair_of entries r))
 
-  pub found-at : (tally : Tally) → ((s : PairState) → tallied tally s ≡ counted (state_with entries done) s (pairs entries)) → (named : Option ℕ) (s : PairState)
+  pub found-at : (tally : Tally) → ((s : PairState) → tallied tally s ≡ counted (state_with entries done) s (pairs entries))
+      → (named : Option ℕ) (s : PairState)
       → is_at (state_named seen references kept named) s ≤ tallied tally s
   found-at tally is None s = omega arith
   found-at tally is (Some r) s =
       subst (λ o. is_at o s ≤ tallied tally s) (sym (named-same (Some r)))
-      (subst (λ n. is_at (option_map (state_with entries done) (pair_of entries r)) s ≤ n) (sym (is s)) (found-counted (state_with entries done) s r (pairs entries)))
+      (subst (λ n. is_at (option_map (state_with entries done) (pair_of entries r)) s ≤ n) (sym (is s))
+      (found-counted (state_with entries done) s r (pairs entries)))
 
 -- a tally that changes as the count does is still the count
 pub tally-is : {old new a b a' b' count later : ℕ} → old ≡ count → b ≡ b' → new + b ≡ old + a → a ≡ a' → later + b' ≡ count + a' → new ≡ later
@@ -264,7 +290,10 @@ settled-moved entries now p s are =
     same : (q : Pair) → (q.reference ≡ p.reference → ⊥) → state_with entries now q ≡ state_with entries (now ++ p ∷ []) q
     same q apart =
         let still : has_reference now q.reference ≡ has_reference (now ++ p ∷ []) q.reference =
-        sym (list_any-append (λ (x : Pair). x.reference == q.reference) now (p ∷ []) ∙ ap (λ b. has_reference now q.reference || (b || false)) (ne_eqb p.reference q.reference (λ e. apart (sym e)))
+        sym (list_any-append (λ (x : Pair). x.reference == q.reference) now (p ∷ []) ∙ ap (λ b. has_reference now q.reference || (b || false))
+        (ne_eqb p.reference q.reference (λ e. apart (sym e)))
         ∙ or-false (has_reference now q.reference)) in
-        ap (λ b. if b then state.Settled else (if (if is_matched entries q then has_asked entries q.first q.reference && has_asked entries q.second q.reference else has_asked entries q.first q.reference) then state.Rescinded
+        ap (λ b. if b then state.Settled
+        else (if (if is_matched entries q then has_asked entries q.first q.reference && has_asked entries q.second q.reference
+        else has_asked entries q.first q.reference) then state.Rescinded
         else if is_matched entries q then state.Matched else state.Unmatched)) still

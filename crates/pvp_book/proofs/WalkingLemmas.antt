@@ -49,13 +49,15 @@ HasCurrencies : Setup → Pair → Type 0
 HasCurrencies setup p = (p.sell < length setup.currencies) × (p.buy < length setup.currencies)
 
 instruct-currencies : (setup : Setup) (entries : List Entry) (client reference other sell sell_amt buy buy_amt : ℕ)
-    → on_instruct setup entries client reference other sell sell_amt buy buy_amt ≡ Matched → (has_currency setup sell && (has_currency setup buy && not (sell == buy))) ≡ true
+    → on_instruct setup entries client reference other sell sell_amt buy buy_amt ≡ Matched
+    → (has_currency setup sell && (has_currency setup buy && not (sell == buy))) ≡ true
 instruct-currencies setup entries client reference other sell sell_amt buy buy_amt e =
     cases (is_member_number client) (has_member setup client && (has_member setup other && not (other == client)))
     (has_currency setup sell && (has_currency setup buy && not (sell == buy))) _ e
   where
     cases : (yours member currency : Bool) (rest : Reply)
-        → (if not yours then No NotYours else if not member then No UnknownMember else if not currency then No UnknownCurrency else rest) ≡ Matched → currency ≡ true
+        → (if not yours then No NotYours else if not member then No UnknownMember else if not currency then No UnknownCurrency else rest) ≡ Matched
+        → currency ≡ true
     cases true true true rest e = refl
     cases true true false rest e = absurd (cc e)
     cases true false currency rest e = absurd (cc e)
@@ -64,10 +66,12 @@ instruct-currencies setup entries client reference other sell sell_amt buy buy_a
 new-currencies : (setup : Setup) (entries : List Entry) (client : ℕ) (cmd : Cmd)
     → AllByRecursion (HasCurrencies setup) (cons_option (matched_by client cmd (answer setup entries client cmd)) [])
 unfolding answer HasCurrencies
-new-currencies setup entries client (Instruct reference other sell sell_amt buy buy_amt) = by (on_instruct setup entries client reference other sell sell_amt buy buy_amt) refl
+new-currencies setup entries client (Instruct reference other sell sell_amt buy buy_amt) =
+    by (on_instruct setup entries client reference other sell sell_amt buy buy_amt) refl
   where
     by : (r : Reply) → on_instruct setup entries client reference other sell sell_amt buy buy_amt ≡ r
-        → AllByRecursion (λ (p : Pair). (p.sell < length setup.currencies) × (p.buy < length setup.currencies)) (cons_option (matched_by client (Instruct reference other sell sell_amt buy buy_amt) r) [])
+        → AllByRecursion (λ (p : Pair). (p.sell < length setup.currencies) × (p.buy < length setup.currencies))
+        (cons_option (matched_by client (Instruct reference other sell sell_amt buy buy_amt) r) [])
     by Matched e =
         let both = and_parts _ _ (instruct-currencies setup entries client reference other sell sell_amt buy buy_amt e) in
         ((ltb-true _ _ (and_parts _ _ both.1).0, ltb-true _ _ both.0), tt)
@@ -81,8 +85,10 @@ known-currencies : (setup : Setup) (history : List Row) → AllByRecursion (HasC
 known-currencies setup history =
     reached setup (λ entries. AllByRecursion (HasCurrencies setup) (matched entries)) tt
     (λ entries client cmd held accepted.
-    subst (AllByRecursion (HasCurrencies setup)) (sym (filter_map-append (λ (x : Entry). matched_by x.client x.cmd x.reply) entries (entry_of setup entries client cmd ∷ [])))
-    (each-append (HasCurrencies setup) (matched entries) (cons_option (matched_by client cmd (answer setup entries client cmd)) []) held (new-currencies setup entries client cmd)))
+    subst (AllByRecursion (HasCurrencies setup))
+    (sym (filter_map-append (λ (x : Entry). matched_by x.client x.cmd x.reply) entries (entry_of setup entries client cmd ∷ [])))
+    (each-append (HasCurrencies setup) (matched entries) (cons_option (matched_by client cmd (answer setup entries client cmd)) []) held
+    (new-currencies setup entries client cmd)))
     history
 
 -- so is each that a walk is offered
@@ -92,7 +98,8 @@ unfolding HasCurrencies
 offered-tradable setup entries done history same =
     each-filter (IsTradable setup) (λ p. not (has_reference done p.reference) && not (both_have_asked entries p)) (matched entries)
     (subst (λ es. AllByRecursion (IsTradable setup) (matched es)) (sym same)
-    (each-both (IsExchange setup) (λ p. (p.sell < length setup.currencies) × (p.buy < length setup.currencies)) (IsTradable setup) (matched (book_of setup history))
+    (each-both (IsExchange setup) (λ p. (p.sell < length setup.currencies) × (p.buy < length setup.currencies)) (IsTradable setup)
+    (matched (book_of setup history))
     (λ p exchange known. record { exchange = exchange; sell = known.0; buy = known.1 }) (sound setup history).exchange (known-currencies setup history)))
 
 -- what a walk is offered
@@ -102,13 +109,15 @@ pub record IsOffered (setup : Setup) (entries : List Entry) (offered : List Pair
   pub tradable : AllByRecursion (IsTradable setup) offered
 
 -- The first i of the offered pairs were walked over, and the accounts are those with what it settled.
-pub record IsWalking (setup : Setup) (entries : List Entry) (start offered : List Pair) (most i count : ℕ) (now : List Pair) (members : List Account) : Type 0 where
+pub record IsWalking (setup : Setup) (entries : List Entry) (start offered : List Pair) (most i count : ℕ) (now : List Pair) (members : List Account)
+    : Type 0 where
   pub walked : IsWalked setup entries start offered (matched entries) most i count now
   pub accounts : AreAccounts setup.currencies (length setup.members) (balance_with entries now) members
   pub counted : count ≤ i
 
 -- The same, with what is settled now known by its references.
-pub record IsUnderWay (setup : Setup) (entries : List Entry) (start offered : List Pair) (most i count : ℕ) (references : List ℕ) (members : List Account) (tally : Tally) : Type 0 where
+pub record IsUnderWay (setup : Setup) (entries : List Entry) (start offered : List Pair) (most i count : ℕ) (references : List ℕ) (members : List Account)
+    (tally : Tally) : Type 0 where
   pub now : List Pair
   pub walking : IsWalking setup entries start offered most i count now members
   pub done : AreSettled now references
@@ -143,7 +152,9 @@ module _ (setup : Setup) (entries : List Entry) (start offered : List Pair) (mos
         sell_amt = amounts.0;
         buy_amt = amounts.1;
         each = is.accounts.each;
-        small = small-account entries now setup.currencies (length setup.members) members (IsSmall-within entries now (drop i offered) is.walked.within are.small) is.accounts;
+        small =
+            small-account entries now setup.currencies (length setup.members) members
+            (IsSmall-within entries now (drop i offered) is.walked.within are.small) is.accounts;
       }
 
   here : drop i offered ≡ get_or offered i nothing ∷ drop (i + 1) offered
@@ -153,11 +164,13 @@ module _ (setup : Setup) (entries : List Entry) (start offered : List Pair) (mos
   same = both-pass-kept setup entries now members (get_or offered i nothing) are.valid tradable.exchange tradable.sell tradable.buy is.accounts
 
   pub walking-taken : count < most → both_pass_with setup (get_or offered i nothing) members ≡ true
-      → IsWalking setup entries start offered most (i + 1) (count + 1) (now ++ get_or offered i nothing ∷ []) (accounts_with setup.currencies (get_or offered i nothing) members)
+      → IsWalking setup entries start offered most (i + 1) (count + 1) (now ++ get_or offered i nothing ∷ [])
+      (accounts_with setup.currencies (get_or offered i nothing) members)
   walking-taken room passed =
       let counted : count ≤ i = is.counted in
       record {
-        walked = IsWalked-taken setup entries start offered (matched entries) most i count now (get_or offered i nothing) here room (sym same ∙ passed) is.walked;
+        walked =
+            IsWalked-taken setup entries start offered (matched entries) most i count now (get_or offered i nothing) here room (sym same ∙ passed) is.walked;
         accounts = AreAccounts-settled setup entries now members (get_or offered i nothing) are.valid tradable.exchange tradable.sell tradable.buy is.accounts;
         counted = omega arith;
       }
@@ -166,7 +179,9 @@ module _ (setup : Setup) (entries : List Entry) (start offered : List Pair) (mos
   walking-failed failed =
       let counted : count ≤ i = is.counted in
       record {
-        walked = IsWalked-passed setup entries start offered (matched entries) most i count now (get_or offered i nothing) here (and_right (nat_lt 0 (most - count)) _ (sym same ∙ failed)) is.walked;
+        walked =
+            IsWalked-passed setup entries start offered (matched entries) most i count now (get_or offered i nothing) here
+            (and_right (nat_lt 0 (most - count)) _ (sym same ∙ failed)) is.walked;
         accounts = is.accounts;
         counted = omega arith;
       }
@@ -182,13 +197,16 @@ module _ (setup : Setup) (entries : List Entry) (start offered : List Pair) (mos
       }
 
 -- the same steps, with the references
-module _ (setup : Setup) (entries : List Entry) (start offered : List Pair) (most i count : ℕ) (references : List ℕ) (members : List Account) (tally : Tally) (nothing : Pair)
-    (are : IsOffered setup entries offered) (within : i < length offered) (is : IsUnderWay setup entries start offered most i count references members tally) where
+module _ (setup : Setup) (entries : List Entry) (start offered : List Pair) (most i count : ℕ) (references : List ℕ) (members : List Account)
+    (tally : Tally) (nothing : Pair)
+    (are : IsOffered setup entries offered) (within : i < length offered)
+    (is : IsUnderWay setup entries start offered most i count references members tally) where
   pub can-settle-here : CanSettle setup members (get_or offered i nothing)
   can-settle-here = can-settle setup entries start offered most i count is.now members nothing are within is.walking
 
   -- the pair is in the tally, and no count is great
-  pub tally-there-here : (seen : Seen) (kept : List (ℕ × Pair)) → IsLookedUp entries seen kept → (named : Option ℕ) (s : PairState) → is_at (state_named seen references kept named) s ≤ tallied tally s
+  pub tally-there-here : (seen : Seen) (kept : List (ℕ × Pair)) → IsLookedUp entries seen kept → (named : Option ℕ) (s : PairState)
+      → is_at (state_named seen references kept named) s ≤ tallied tally s
   tally-there-here seen kept up named s = found-at entries seen up.has is.now references is.done kept up.same tally is.tallied named s
 
   pub tally-few-here : length entries ≤ 65535 → (s : PairState) → tallied tally s ≤ 65535
@@ -212,11 +230,14 @@ module _ (setup : Setup) (entries : List Entry) (start offered : List Pair) (mos
     tallied = λ s.
         let pair = get_or offered i nothing in
         let before = named-same entries seen up.has is.now references is.done kept up.same (Some pair.reference) in
-        let after = named-same entries seen up.has (is.now ++ pair ∷ []) later (settled-more is.now pair references later is.done put_in) kept up.same (Some pair.reference) in
+        let after =
+        named-same entries seen up.has (is.now ++ pair ∷ []) later (settled-more is.now pair references later is.done put_in) kept
+        up.same (Some pair.reference) in
         tally-is (is.tallied s) (ap (λ o. is_at o s) before) (moves s) (ap (λ o. is_at o s) after) (settled-moved entries is.now pair s up.distinct);
   }
 
-  pub under-way-failed : both_pass_with setup (get_or offered i nothing) members ≡ false → IsUnderWay setup entries start offered most (i + 1) count references members tally
+  pub under-way-failed : both_pass_with setup (get_or offered i nothing) members ≡ false
+      → IsUnderWay setup entries start offered most (i + 1) count references members tally
   under-way-failed failed = record {
     now = is.now;
     walking = walking-failed setup entries start offered most i count is.now members nothing are within is.walking failed;

@@ -43,7 +43,9 @@ has_order entries c out = list_any (λ order. order.out == out) (orders entries 
 -- an instruction whose words are the exact mirror of a pair's, from the pair's second side
 abbrev pub is_mirror : Pair → ℕ → ℕ → ℕ → ℕ → ℕ → ℕ → Bool
 is_mirror p client other sell sell_amt buy buy_amt =
-    (p.first == other) && ((p.second == client) && ((p.sell == buy) && ((p.sell_amt == buy_amt) && ((p.buy == sell) && (p.buy_amt == sell_amt)))))
+    (p.first == other)
+    && ((p.second == client)
+    && ((p.sell == buy) && ((p.sell_amt == buy_amt) && ((p.buy == sell) && (p.buy_amt == sell_amt)))))
 
 -- a side of a pair: the first, or where it is matched the second
 abbrev pub is_side : List Entry → Pair → ℕ → Bool
@@ -106,7 +108,8 @@ module _ (setup : Setup) (entries : List Entry) (client : ℕ) where
   abbrev pub on_settle : ℕ → Reply
   on_settle most =
       if not (client == 0) then No NotYours
-      else Settled (length (pass setup entries (settled setup entries) most (candidates entries (settled setup entries))))
+      else Settled
+      (length (pass setup entries (settled setup entries) most (candidates entries (settled setup entries))))
 
   abbrev pub pay_out_checks : ℕ → ℕ → List (Bool × Reason)
   pay_out_checks c amt =

@@ -41,16 +41,19 @@ pub record IsAccount (currencies : List Currency) (account : Account) : Type 0 w
 
 -- the account once an amount of a currency is posted on it
 abbrev pub posted : List Currency → ℕ → ℤ → Account → Account
-posted currencies c amt account = account_of currencies (slice_set account.balances c (slice_index_or account.balances c (pos 0) +ℤ amt))
+posted currencies c amt account =
+    account_of currencies (slice_set account.balances c (slice_index_or account.balances c (pos 0) +ℤ amt))
 
 -- the account once an amount of one currency is sold for one of another
 abbrev pub traded : List Currency → ℕ → ℕ → ℕ → ℕ → Account → Account
-traded currencies sell sell_amt buy buy_amt account = posted currencies buy (pos buy_amt) (posted currencies sell (neg_ℤ (pos sell_amt)) account)
+traded currencies sell sell_amt buy buy_amt account =
+    posted currencies buy (pos buy_amt) (posted currencies sell (neg_ℤ (pos sell_amt)) account)
 
 -- the three tests, on what is kept
 abbrev pub is_within_limits : Member → Account → Bool
 is_within_limits member account =
-    not (int_lt account.value (pos 0)) && (is_within_short member.short account.balances && nat_le account.shortage member.aggregate)
+    not (int_lt account.value (pos 0)) && (is_within_short member.short account.balances
+    && nat_le account.shortage member.aggregate)
 
 -- an account with nothing in it
 abbrev pub empty_account : Account
@@ -68,7 +71,8 @@ abbrev pub balance_at : List Account → ℕ → ℕ → ℤ
 balance_at accounts m c = slice_index_or (account_at accounts m).balances c (pos 0)
 
 -- There is an account for each of n members, by its number, and one for the operator; they have these balances.
-pub record AreAccounts (currencies : List Currency) (n : ℕ) (balance : ℕ → ℕ → ℤ) (accounts : List Account) : Type 0 where
+pub record AreAccounts (currencies : List Currency) (n : ℕ) (balance : ℕ → ℕ → ℤ) (accounts : List Account)
+    : Type 0 where
   pub places : length accounts ≡ n + 1
   pub each : (m : ℕ) → m < length accounts → IsAccount currencies (account_at accounts m)
   pub same : (m c : ℕ) → balance_at accounts m c ≡ balance m c
@@ -78,11 +82,13 @@ pub record AreFigures (figure : ℕ → ℤ) (figures : List ℤ) : Type 0 where
   pub places : length figures ≡ 8
   pub same : (c : ℕ) → slice_index_or figures c (pos 0) ≡ figure c
 
--- what an accepted command posts on one account: a pay-in, a pay-out, or an order that is returned, where orders are found so
+-- what an accepted command posts on one account: a pay-in, a pay-out, or an order that is returned, where orders are
+-- found so
 abbrev pub movement_with : (ℕ → ℕ → Option PayOrder) → ℕ → Cmd → Option Movement
 movement_with order_of client (Fund ccy pay member amt) = Some (record { member = member; ccy = ccy; amt = pos amt })
 movement_with order_of client (PayOut ccy amt) = Some (record { member = client; ccy = ccy; amt = neg_ℤ (pos amt) })
-movement_with order_of client (Returned ccy out) = option_map (λ order. record { member = order.member; ccy = ccy; amt = pos order.amt }) (order_of ccy out)
+movement_with order_of client (Returned ccy out) =
+    option_map (λ order. record { member = order.member; ccy = ccy; amt = pos order.amt }) (order_of ccy out)
 movement_with order_of client _ = None
 
 abbrev pub movement_by : List Entry → ℕ → Cmd → Option Movement
@@ -100,7 +106,8 @@ moved_in c (Some x) = if x.ccy == c then x.amt else pos 0
 -- accounts and figures once it is posted
 abbrev pub accounts_after : List Currency → Option Movement → List Account → List Account
 accounts_after currencies None accounts = accounts
-accounts_after currencies (Some x) accounts = slice_set accounts x.member (posted currencies x.ccy x.amt (account_at accounts x.member))
+accounts_after currencies (Some x) accounts =
+    slice_set accounts x.member (posted currencies x.ccy x.amt (account_at accounts x.member))
 
 abbrev pub figures_after : Option Movement → List ℤ → List ℤ
 figures_after None figures = figures
@@ -124,15 +131,19 @@ abbrev pub second_with : List Currency → Pair → List Account → Account
 second_with currencies p accounts = traded currencies p.buy p.buy_amt p.sell p.sell_amt (account_at accounts p.second)
 
 abbrev pub accounts_with : List Currency → Pair → List Account → List Account
-accounts_with currencies p accounts = slice_set (slice_set accounts p.first (first_with currencies p accounts)) p.second (second_with currencies p accounts)
+accounts_with currencies p accounts =
+    slice_set (slice_set accounts p.first (first_with currencies p accounts)) p.second
+    (second_with currencies p accounts)
 
 -- the tests of the member of a number, on an account
 abbrev pub passes_with : Setup → ℕ → Account → Bool
-passes_with setup m account = option_map_or (λ member. is_within_limits member account) (slice_get setup.members (m - 1)) false
+passes_with setup m account =
+    option_map_or (λ member. is_within_limits member account) (slice_get setup.members (m - 1)) false
 
 abbrev pub both_pass_with : Setup → Pair → List Account → Bool
 both_pass_with setup p accounts =
-    passes_with setup p.first (first_with setup.currencies p accounts) && passes_with setup p.second (second_with setup.currencies p accounts)
+    passes_with setup p.first (first_with setup.currencies p accounts)
+    && passes_with setup p.second (second_with setup.currencies p accounts)
 
 -- A pair can be settled: its members' accounts are there, and small.
 pub record CanSettle (setup : Setup) (kept : List Account) (p : Pair) : Type 0 where
@@ -151,14 +162,15 @@ AreSettled done references = (r : ℕ) → has_settled references r ≡ has_refe
 
 -- those of some matched pairs that wait: they are neither settled nor taken back by both sides
 abbrev pub waiting : List Entry → List Pair → List Pair → List Pair
-waiting entries settled some = filter (λ p. not (has_reference settled p.reference) && not (both_have_asked entries p)) some
+waiting entries settled some =
+    filter (λ p. not (has_reference settled p.reference) && not (both_have_asked entries p)) some
 
 -- A line of matched pairs has those that wait, in their order. It may have others too, which the next walk drops.
 abbrev pub IsLine : List Entry → List Pair → List Pair → Type 0
 IsLine entries settled line = waiting entries settled line ≡ candidates entries settled
 
--- what a book keeps beside its entries: the pairs by reference, the references of the settled ones, the line of those that wait, the
--- accounts, the figures, which numbers came, the orders, and how many
+-- what a book keeps beside its entries: the pairs by reference, the references of the settled ones, the line of those
+-- that wait, the accounts, the figures, which numbers came, the orders, and how many
 -- pairs are in each state
 pub record Kept : Type 0 where
   pub pairs : List (ℕ × Pair)
@@ -176,7 +188,8 @@ pub record IsKept (held : Ledger) (kept : Kept) : Type 0 where
   -- the commands that it accepted
   pub history : List Row
   pub reached : held.entries ≡ book_of held.setup history
-  pub accounts : AreAccounts held.setup.currencies (length held.setup.members) (balance held.setup held.entries) kept.members
+  pub accounts : AreAccounts held.setup.currencies (length held.setup.members)
+      (balance held.setup held.entries) kept.members
   pub figures : AreFigures (figure held.setup held.entries) kept.totals
   pub seen : HasSeen held.entries kept.shown
   pub orders : AreMade held.entries kept.table

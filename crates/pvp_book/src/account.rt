@@ -163,7 +163,8 @@ impl Accounts {
 
     /// The accounts of so many members, with nothing in them. `Err` where memory is refused.
     pub fn new(alloc: Global, members: u16) -> Result<Self, AllocError>
-        ensures members { IfOk result (λ accounts. accounts.members.items ≡ replicate (members + 1) empty_account) }
+        ensures members { IfOk result (λ accounts. accounts.members.items
+            ≡ replicate (members + 1) empty_account) }
         ensures figures { IfOk result (λ accounts. accounts.figures ≡ replicate 8 (pos 0)) }
     {
         let members = usize::from(members) + 1;
@@ -204,7 +205,8 @@ impl Accounts {
     pub fn post(&mut self, setup: &Setup, moved: Option<Movement>)
         requires valid { IsValid setup.now }
         requires can { ForSome moved (CanPost setup.now self.old.members.items self.old.figures) }
-        ensures members { self.new.members.items ≡ accounts_after setup.now.currencies moved self.old.members.items }
+        ensures members { self.new.members.items ≡ accounts_after setup.now.currencies
+            moved self.old.members.items }
         ensures figures { self.new.figures ≡ figures_after moved self.old.figures }
     {
         let Some(moved) = moved else {
@@ -220,7 +222,9 @@ impl Accounts {
         requires valid { IsValid setup.now }
         requires can { CanSettle setup.now self.old.members.items pair.now }
         ensures passed { result ≡ both_pass_with setup.now pair.now self.old.members.items }
-        ensures members { self.new.members.items ≡ (if result then accounts_with setup.now.currencies pair.now self.old.members.items else self.old.members.items) }
+        ensures members { self.new.members.items
+            ≡ (if result then accounts_with setup.now.currencies pair.now self.old.members.items
+            else self.old.members.items) }
         ensures figures { self.new.figures ≡ self.old.figures }
     {
         let (sell, sell_amt) = (pair.sell, pair.sell_amt);
@@ -244,7 +248,9 @@ impl Accounts {
         requires amount { amt ≤ most_total }
         requires account { IsAccount setup.now.currencies (account_at self.now.members.items m) }
         requires small { All (IsWithin most_total) (account_at self.now.members.items m).balances }
-        ensures { result ≡ passes_with setup.now m (posted setup.now.currencies c (neg_ℤ (pos amt)) (account_at self.now.members.items m)) }
+        ensures { result ≡ passes_with setup.now m
+            (posted setup.now.currencies c (neg_ℤ (pos amt))
+            (account_at self.now.members.items m)) }
     {
         let account = self.members[usize::from(m)].posted(setup, c, -(amt as i64));
         passes(setup, m, &account)

@@ -48,9 +48,24 @@ impl Model for Book {
 
     ghost Value = { Ledger };
 
-    ghost view = { λ b. record { setup = b.setup; entries = b.entries.items; applied = b.applied } };
+    ghost view = { λ b. record {
+      setup = b.setup;
+      entries = b.entries.items;
+      applied = b.applied;
+    } };
 
-    ghost invariant = { λ b. IsKept (record { setup = b.setup; entries = b.entries.items; applied = b.applied }) (record { pairs = b.pairs.entries; references = b.settled.keys; line = b.line.items; members = b.accounts.members.items; totals = b.accounts.figures; shown = b.seen; table = b.table; tally = b.tally }) };
+    ghost invariant = { λ b.
+        IsKept (record { setup = b.setup; entries = b.entries.items; applied = b.applied })
+        (record {
+          pairs = b.pairs.entries;
+          references = b.settled.keys;
+          line = b.line.items;
+          members = b.accounts.members.items;
+          totals = b.accounts.figures;
+          shown = b.seen;
+          table = b.table;
+          tally = b.tally;
+        }) };
 }
 
 impl Book {
@@ -136,7 +151,8 @@ impl Book {
     /// The reference of the waiting pair at a place, in the order in which they were matched, which
     /// is the order of a walk.
     pub fn queue_at(&self, at: usize) -> Option<u32>
-        ensures { result ≡ option_map (λ p. p.reference) (slice_get (queue self.now.setup self.now.entries) at) }
+        ensures { result ≡ option_map (λ p. p.reference)
+            (slice_get (queue self.now.setup self.now.entries) at) }
     {
         let pair = pair::waiting_at(self.line.as_slice(), &self.seen, &self.settled, at)?;
         Some(pair.reference)
@@ -278,7 +294,11 @@ impl Book {
         requires other { is_walk entry.client entry.cmd ≡ false }
         requires answered { entry.reply ≡ answer_to self.old entry.client entry.cmd }
         requires accepted { is_refusal entry.reply ≡ false }
-        ensures { OnOk result (self.new ≡ record self.old { entries = self.old.entries ++ entry ∷ []; applied = self.old.applied + 1 }) }
+        ensures { OnOk result
+            (self.new ≡ record self.old {
+              entries = self.old.entries ++ entry ∷ [];
+              applied = self.old.applied + 1;
+            }) }
     {
         self.entries.reserve(1)?;
         self.pairs.reserve(1)?;
@@ -339,7 +359,9 @@ impl Book {
 
     /// Answers an instruction, given as the pair that it would open.
     fn on_instruct(&self, asked: &Pair) -> Reply
-        ensures { result ≡ on_instruct self.now.setup self.now.entries asked.now.first asked.now.reference asked.now.second asked.now.sell asked.now.sell_amt asked.now.buy asked.now.buy_amt }
+        ensures { result ≡ on_instruct self.now.setup self.now.entries asked.now.first
+            asked.now.reference asked.now.second asked.now.sell asked.now.sell_amt
+            asked.now.buy asked.now.buy_amt }
     {
         let other = asked.second;
         if !(1..=MOST_MEMBERS).contains(&asked.first) {
@@ -365,7 +387,8 @@ impl Book {
 
     /// Answers an instruction under a reference that has a pair, or has none.
     fn on_mirror(&self, pair: Option<Pair>, asked: &Pair) -> Reply
-        ensures { result ≡ on_mirror self.now.setup self.now.entries asked.now.first pair asked.now.second asked.now.sell asked.now.sell_amt asked.now.buy asked.now.buy_amt }
+        ensures { result ≡ on_mirror self.now.setup self.now.entries asked.now.first pair
+            asked.now.second asked.now.sell asked.now.sell_amt asked.now.buy asked.now.buy_amt }
     {
         match pair {
             None => Reply::Done,
@@ -420,7 +443,8 @@ impl Book {
 
     /// Whether a pair is settled or rescinded.
     fn is_late(&self, pair: &Pair) -> bool
-        ensures { result ≡ (has_reference (settled self.now.setup self.now.entries) pair.now.reference || is_rescinded self.now.entries pair.now) }
+        ensures { result ≡ (has_reference (settled self.now.setup self.now.entries)
+            pair.now.reference || is_rescinded self.now.entries pair.now) }
     {
         self.settled.contains(&pair.reference) || pair::is_rescinded(&self.seen, pair)
     }
@@ -470,7 +494,9 @@ impl Book {
         requires member { has_member self.now.setup m ≡ true }
         requires known { has_currency self.now.setup c ≡ true }
         requires amount { is_amount amt ≡ true }
-        ensures { result ≡ passes self.now.setup m (balances_less self.now.setup self.now.entries (settled self.now.setup self.now.entries) m c amt) }
+        ensures { result ≡ passes self.now.setup m
+            (balances_less self.now.setup self.now.entries
+            (settled self.now.setup self.now.entries) m c amt) }
     {
         self.accounts.passes_less(&self.setup, m, c, amt)
     }
@@ -526,7 +552,8 @@ fn is_refusal(reply: Reply) -> bool
 
 /// Whether an instruction, given as the pair that it would open, is the exact mirror of a pair's.
 fn is_mirror(pair: &Pair, asked: &Pair) -> bool
-    ensures { result ≡ is_mirror pair.now asked.now.first asked.now.second asked.now.sell asked.now.sell_amt asked.now.buy asked.now.buy_amt }
+    ensures { result ≡ is_mirror pair.now asked.now.first asked.now.second asked.now.sell
+        asked.now.sell_amt asked.now.buy asked.now.buy_amt }
 {
     pair.first == asked.second
         && pair.second == asked.first

@@ -15,7 +15,8 @@ pub fn both_legs()
 /// The bank's figure in a currency is what nodes paid in less what members had paid out, with what
 /// was returned, and never below 0: the bank pays out no more than it holds.
 pub fn figure_is_funds_minus_pay_outs()
-    ensures { (setup : Setup) (history : List Row) (c : ℕ) → IsCovered setup (book_of setup history) c }
+    ensures { (setup : Setup) (history : List Row) (c : ℕ) →
+        IsCovered setup (book_of setup history) c }
 {}
 
 /// No two pay-ins of one currency have the same number.
@@ -31,11 +32,13 @@ pub fn orders_are_numbered()
 
 /// A book of a longer history begins with the book of the shorter.
 pub fn books_grow()
-    ensures { (setup : Setup) (first more : List Row) → Begins (book_of setup first) (book_of setup (first ++ more)) }
+    ensures { (setup : Setup) (first more : List Row) →
+        Begins (book_of setup first) (book_of setup (first ++ more)) }
 {}
 
 /// A walk takes the candidates of which each is taken exactly where fewer than `most` earlier ones were
 /// and both its members pass with those and it; there is one such list.
 pub fn one_pass()
-    ensures { (setup : Setup) (history : List Row) (most : ℕ) → IsOnePass setup (book_of setup history) most }
+    ensures { (setup : Setup) (history : List Row) (most : ℕ) →
+        IsOnePass setup (book_of setup history) most }
 {}

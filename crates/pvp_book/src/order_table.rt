@@ -85,8 +85,10 @@ impl OrderTable {
     pub fn reserve(&mut self, entry: &Entry) -> Result<(), AllocError>
         requires known { IsCounted (step_of entry.now.client entry.now.cmd entry.now.reply) }
         requires places { length self.old.outstanding ≡ 8 }
-        ensures room { OnOk result (HasRoom (step_of entry.now.client entry.now.cmd entry.now.reply) self.new) }
-        ensures same { (entries : List Noted) → AreMade entries self.old → AreMade entries self.new }
+        ensures room { OnOk result
+            (HasRoom (step_of entry.now.client entry.now.cmd entry.now.reply) self.new) }
+        ensures same { (entries : List Noted) → AreMade entries self.old →
+            AreMade entries self.new }
     {
         match step_of(entry) {
             Step::Made(order) => {
@@ -106,7 +108,8 @@ impl OrderTable {
         requires fresh { IsFresh (step_of entry.now.client entry.now.cmd entry.now.reply) self.old }
         requires ascending { (c : ℕ) → AreAscending (open_at self.old c) }
         requires few { All (λ n. n < 65535) self.old.counts }
-        ensures { (entries : List Noted) → AreMade entries self.old → AreMade (entries ++ entry.now ∷ []) self.new }
+        ensures { (entries : List Noted) → AreMade entries self.old →
+            AreMade (entries ++ entry.now ∷ []) self.new }
     {
         match step_of(entry) {
             Step::Made(order) => self.make(order),
@@ -122,11 +125,15 @@ impl OrderTable {
         requires places { length self.old.outstanding ≡ 8 }
         requires fresh { order_at self.old order.ccy order.out ≡ None }
         requires few { All (λ n. n < 65535) self.old.counts }
-        ensures made { (c n : ℕ) → order_at self.new c n ≡ option_or (order_at self.old c n) (if (order.ccy == c) && (order.out == n) then Some order else None) }
+        ensures made { (c n : ℕ) →
+            order_at self.new c n ≡ option_or (order_at self.old c n)
+            (if (order.ccy == c) && (order.out == n) then Some order else None) }
         ensures ended { self.new.ended ≡ self.old.ended }
-        ensures counts { self.new.counts ≡ slice_set self.old.counts order.ccy (slice_index_or self.old.counts order.ccy 0 + 1) }
+        ensures counts { self.new.counts ≡ slice_set self.old.counts order.ccy
+            (slice_index_or self.old.counts order.ccy 0 + 1) }
         ensures places { length self.new.outstanding ≡ length self.old.outstanding }
-        ensures outstanding { (c : ℕ) → open_at self.new c ≡ open_at self.old c ++ (if order.ccy == c then order ∷ [] else []) }
+        ensures outstanding { (c : ℕ) →
+            open_at self.new c ≡ open_at self.old c ++ (if order.ccy == c then order ∷ [] else []) }
     {
         let _ = self.made.insert((order.ccy, order.out), order);
         self.counts[usize::from(order.ccy)] += 1;
@@ -140,10 +147,13 @@ impl OrderTable {
         requires places { length self.old.outstanding ≡ 8 }
         requires ascending { AreAscending (open_at self.old ccy) }
         ensures made { self.new.made ≡ self.old.made }
-        ensures ended { (c n : ℕ) → has_ended self.new c n ≡ (has_ended self.old c n || ((ccy == c) && (out == n))) }
+        ensures ended { (c n : ℕ) →
+            has_ended self.new c n ≡ (has_ended self.old c n || ((ccy == c) && (out == n))) }
         ensures counts { self.new.counts ≡ self.old.counts }
         ensures places { length self.new.outstanding ≡ length self.old.outstanding }
-        ensures outstanding { (c : ℕ) → open_at self.new c ≡ filter (λ order. not ((ccy == c) && (out == order.out))) (open_at self.old c) }
+        ensures outstanding { (c : ℕ) →
+            open_at self.new c ≡ filter (λ order. not ((ccy == c) && (out == order.out)))
+            (open_at self.old c) }
     {
         let _ = self.ended.insert((ccy, out));
         take_out(&mut self.outstanding[usize::from(ccy)], out);

@@ -56,8 +56,10 @@ impl Seen {
 
     /// Notes one more entry. An `Err`, which only want of memory gives, leaves what was seen.
     pub fn note(&mut self, entry: &Entry) -> Result<(), AllocError>
-        ensures noted { OnOk result ((entries : List Noted) → HasSeen entries self.old → HasSeen (entries ++ entry.now ∷ []) self.new) }
-        ensures err { OnErr result ((entries : List Noted) → HasSeen entries self.old → HasSeen entries self.new) }
+        ensures noted { OnOk result ((entries : List Noted) → HasSeen entries self.old →
+            HasSeen (entries ++ entry.now ∷ []) self.new) }
+        ensures err { OnErr result ((entries : List Noted) → HasSeen entries self.old →
+            HasSeen entries self.new) }
     {
         match mark_of(entry) {
             Mark::PayIn(ccy, pay) => {

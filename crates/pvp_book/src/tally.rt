@@ -43,7 +43,8 @@ impl Tally {
     pub fn moved(&self, before: Option<PairState>, after: Option<PairState>) -> Tally
         requires there { (state : State) → is_at before state ≤ tallied self.now state }
         requires few { (state : State) → tallied self.now state ≤ 65535 }
-        ensures { (state : State) → tallied result state + is_at before state ≡ tallied self.now state + is_at after state }
+        ensures { (state : State) →
+            tallied result state + is_at before state ≡ tallied self.now state + is_at after state }
     {
         Tally {
             unmatched: self.step(PairState::Unmatched, before, after),

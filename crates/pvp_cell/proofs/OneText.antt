@@ -36,7 +36,9 @@ pub one_text : (bytes : List ℕ) (boot : Boot) → All (λ byte. byte < 256) by
 one_text (a ∷ b ∷ c ∷ d ∷ e ∷ f ∷ g ∷ h ∷ []) boot small told =
     let fits = told_fits (from_be_bytes w32 (a ∷ b ∷ c ∷ d ∷ [])) (from_be_bytes w32 (e ∷ f ∷ g ∷ h ∷ [])) boot told in
     let front = ap (to_be_bytes w32) fits.0 ∙ four a b c d (small 0 0 (lit< tt)) (small 1 0 (lit< tt)) (small 2 0 (lit< tt)) (small 3 0 (lit< tt)) in
-    let back = ap (to_be_bytes w32) (ap (λ n. max_number - n) fits.0 ∙ sym fits.1) ∙ four e f g h (small 4 0 (lit< tt)) (small 5 0 (lit< tt)) (small 6 0 (lit< tt)) (small 7 0 (lit< tt)) in
+    let back =
+    ap (to_be_bytes w32) (ap (λ n. max_number - n) fits.0 ∙ sym fits.1) ∙ four e f g h (small 4 0 (lit< tt)) (small 5 0 (lit< tt))
+    (small 6 0 (lit< tt)) (small 7 0 (lit< tt)) in
     sym (ap (λ front. front ++ to_be_bytes w32 (max_number - boot.boots)) front ∙ ap (λ back. (a ∷ b ∷ c ∷ d ∷ []) ++ back) back)
 one_text [] boot small told = cc
 one_text (a ∷ []) boot small told = cc

@@ -1,4 +1,5 @@
--- A disk as a boot cell sees it: one name, and a new file beside it. What is in the page cache alone is lost in a crash.
+-- A disk as a boot cell sees it: one name, and a new file beside it. What is in the page cache alone is lost in a
+-- crash.
 use Rattle.std.specs.Prelude.{◌≡◌, ◌⊎◌, ℕ, Bool, true, false, List, Option, Some, None, IsSomeAnd, Result, Ok, Err, Vec}
 use Rattle.std.specs.Option.{option_map}
 use Rattle.std.specs.declared.alloc.Global.{Global}
@@ -14,8 +15,8 @@ pub record File : Type 0 where
 
 -- A DISK
 pub record Disk : Type 0 where
-  -- the file that a crash leaves under the name; of one that was not synced it may leave any bytes. Nobody sees it before a
-  -- crash, so where a call leaves open which of two files that is, the store is free to have it settled then
+  -- the file that a crash leaves under the name; of one that was not synced it may leave any bytes. Nobody sees it
+  -- before a crash, so where a call leaves open which of two files that is, the store is free to have it settled then
   pub kept : Option File
   -- the file that is read there
   pub shown : Option File
@@ -60,7 +61,8 @@ Has bytes disk = (disk.kept ≡ whole bytes) × (disk.shown ≡ whole bytes)
 
 -- THE DISK HAS WHAT IT HAD, OR THESE BYTES: so it is of what a crash leaves, and of what is read
 abbrev pub HasOldOr : List ℕ → Disk → Disk → Type 0
-HasOldOr bytes old new = ((new.kept ≡ old.kept) ⊎ (new.kept ≡ whole bytes)) × ((new.shown ≡ old.shown) ⊎ (new.shown ≡ whole bytes))
+HasOldOr bytes old new =
+    ((new.kept ≡ old.kept) ⊎ (new.kept ≡ whole bytes)) × ((new.shown ≡ old.shown) ⊎ (new.shown ≡ whole bytes))
 
 -- the new file has these bytes, and so has the disk; all else is as it was
 abbrev pub Stages : List ℕ → Disk → Disk → Type 0
@@ -76,7 +78,8 @@ Publishes old new = (new.kept ≡ old.staged) × (new.shown ≡ old.staged)
 
 -- the new file may be in its place
 abbrev pub MayPublish : Disk → Disk → Type 0
-MayPublish old new = ((new.kept ≡ old.kept) ⊎ (new.kept ≡ old.staged)) × ((new.shown ≡ old.shown) ⊎ (new.shown ≡ old.staged))
+MayPublish old new =
+    ((new.kept ≡ old.kept) ⊎ (new.kept ≡ old.staged)) × ((new.shown ≡ old.shown) ⊎ (new.shown ≡ old.staged))
 
 -- where the disk was known it is, and this holds of before and after
 abbrev pub Goes : (Disk → Disk → Type 0) → Option Disk → Option Disk → Type 0
@@ -94,7 +97,8 @@ boot_in None = Err Lost
 
 -- the disk is as it was, or has in that place the text of the boot that is read there
 abbrev pub StaysOrSettles : Disk → Disk → Type 0
-StaysOrSettles old new = (new ≡ old) ⊎ ((boot : Boot) × (boot_in old.shown ≡ Ok boot) × HasOldOr (cell_text boot) old new)
+StaysOrSettles old new =
+    (new ≡ old) ⊎ ((boot : Boot) × (boot_in old.shown ≡ Ok boot) × HasOldOr (cell_text boot) old new)
 
 -- it was read as one of two boots
 abbrev pub IsOneOf : Boot → Boot → Result Boot OpenFault → Type 0

@@ -23,9 +23,11 @@ abbrev pub IsStoreFault : OpenFault → Type 0
 IsStoreFault fault = (fault ≡ Store) ⊎ (fault ≡ NoMemory)
 
 -- WHAT ONE SAVE of a boot leaves, failed or not, over a disk that is seen so
-pub record Saves {S : Type 0} (disk : S → Option Disk) (old : FileCell S) (boot : Boot) (new : FileCell S) : Type 0 where
+pub record Saves {S : Type 0} (disk : S → Option Disk) (old : FileCell S) (boot : Boot) (new : FileCell S)
+    : Type 0 where
   pub holds : new.boot ≡ boot
   -- the text of the boot, or what was there
   pub leaves : Goes (HasOldOr (cell_text boot)) (disk old.store) (disk new.store)
   -- and that text alone after a save that was not counted as failed
-  pub durable : new.failures ≡ old.failures → new.failures < max_failures → Gets (cell_text boot) (disk old.store) (disk new.store)
+  pub durable : new.failures ≡ old.failures → new.failures < max_failures
+      → Gets (cell_text boot) (disk old.store) (disk new.store)

@@ -10,7 +10,12 @@ file_of file = record { bytes = take file.size file.bytes; is_synced = file.is_s
 
 -- the disk of a store in memory
 abbrev pub disk_of : MemStore → Disk
-disk_of store = record { kept = option_map file_of store.kept; shown = option_map file_of store.shown; staged = option_map file_of store.staged }
+disk_of store =
+    record {
+      kept = option_map file_of store.kept;
+      shown = option_map file_of store.shown;
+      staged = option_map file_of store.staged;
+    }
 
 abbrev pub store_faults : MemStore → ℕ
 store_faults store = store.failures

@@ -16,5 +16,6 @@ fitted boots complement = if complement == max_number - boots then Ok (record { 
 
 -- WHAT A TEXT SAYS, or why it is none of a cell
 abbrev pub boot_told : List ℕ → Result Boot OpenFault
-boot_told (a ∷ b ∷ c ∷ d ∷ e ∷ f ∷ g ∷ h ∷ []) = fitted (from_be_bytes w32 (a ∷ b ∷ c ∷ d ∷ [])) (from_be_bytes w32 (e ∷ f ∷ g ∷ h ∷ []))
+boot_told (a ∷ b ∷ c ∷ d ∷ e ∷ f ∷ g ∷ h ∷ []) =
+    fitted (from_be_bytes w32 (a ∷ b ∷ c ∷ d ∷ [])) (from_be_bytes w32 (e ∷ f ∷ g ∷ h ∷ []))
 boot_told bytes = Err Length

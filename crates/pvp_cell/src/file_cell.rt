@@ -132,7 +132,8 @@ impl<S: Store> FileCell<S> {
         ensures err { IfErr result (λ fault. IfSome (S.disk store)
             (λ disk. (boot_in disk.shown ≡ Err fault) ⊎ IsStoreFault fault)) }
         ensures reliable { S.is_reliable store →
-            ¬ (IsErrOf result OpenFault.Store) × IfOk result (λ cell. S.is_reliable (store_of cell)) }
+            ¬ (IsErrOf result OpenFault.Store) × IfOk result
+            (λ cell. S.is_reliable (store_of cell)) }
     {
         let boot = settle_cell(alloc, &mut store)?;
         Ok(FileCell {
@@ -153,7 +154,8 @@ impl<S: Store> FileCell<S> {
             IfSome (S.disk store) (λ disk. IsSome disk.shown) }
         ensures err { IfErr result (λ fault. (fault ≡ OpenFault.Present) ⊎ IsStoreFault fault) }
         ensures reliable { S.is_reliable store →
-            ¬ (IsErrOf result OpenFault.Store) × IfOk result (λ cell. S.is_reliable (store_of cell)) }
+            ¬ (IsErrOf result OpenFault.Store) × IfOk result
+            (λ cell. S.is_reliable (store_of cell)) }
     {
         create_cell(alloc, &mut store)?;
         Ok(FileCell {

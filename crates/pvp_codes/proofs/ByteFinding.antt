@@ -64,6 +64,7 @@ by_tests false false false read is never fails = absurd cc
 pub finds_a_byte : FindsAByte
 unfolding line_at
 finds_a_byte kind setup line fails none =
-    by_tests (is_skipped line) (nat_lt 256 (length line)) (list_all is_printable line) (statement_at kind setup (words line) >>= λ statement. Ok (Some statement))
+    by_tests (is_skipped line) (nat_lt 256 (length line)) (list_all is_printable line)
+    (statement_at kind setup (words line) >>= λ statement. Ok (Some statement))
     (all_printed line (past (position_or_len (λ byte. not (is_printable byte)) line) (length line) none))
     (not_kept (statement_at kind setup (words line)) (never kind setup (words line))) fails

@@ -52,10 +52,12 @@ parted : (breaks : Field → List ℕ → Option Why) (field : Field) (fields : 
     → first_broken breaks (field ∷ fields) (word ∷ said) ≡ None → (breaks field word ≡ None) × (first_broken breaks fields said ≡ None)
 parted breaks field fields word said none = this_none word (breaks field word) (first_broken breaks fields said) none
 
-as_number : (code : LineCode) (kind : Kind) (setup : Setup) (field : Field) (word : List ℕ) → breaks code kind setup field word ≡ None → code ≡ line.Number → malformed field word ≡ None
+as_number : (code : LineCode) (kind : Kind) (setup : Setup) (field : Field) (word : List ℕ) → breaks code kind setup field word ≡ None → code ≡ line.Number
+    → malformed field word ≡ None
 as_number code kind setup field word fine same = rw same at fine
 
-as_name : (code : LineCode) (kind : Kind) (setup : Setup) (field : Field) (word : List ℕ) → breaks code kind setup field word ≡ None → code ≡ line.UnknownName → unknown_name kind setup field word ≡ None
+as_name : (code : LineCode) (kind : Kind) (setup : Setup) (field : Field) (word : List ℕ) → breaks code kind setup field word ≡ None → code ≡ line.UnknownName
+    → unknown_name kind setup field word ≡ None
 as_name code kind setup field word fine same = rw same at fine
 
 -- ---- numbers
@@ -73,21 +75,26 @@ number_or : (code : LineCode) (good : Bool) (n : ℕ) → (code ≡ line.Number 
 number_or code true n good = tt
 number_or code false n good = λ same. let bad : false ≡ true = good (sym same) in absurd cc
 
-digits_read : (code : LineCode) (most limit : ℕ) (word : List ℕ) → limit ≡ most + 1 → (code ≡ line.Number → number_fault most word ≡ None) → Fine code (number_at limit word)
+digits_read : (code : LineCode) (most limit : ℕ) (word : List ℕ) → limit ≡ most + 1 → (code ≡ line.Number → number_fault most word ≡ None)
+    → Fine code (number_at limit word)
 digits_read code most limit word next fine =
     let value = digits_value 10 word in
     number_or code (is_number word && nat_lt value limit) value (λ same.
-    tested (length word == 0) (has_leading_zero word) (list_all is_ascii_digit word) (nat_le value most) (nat_lt value limit) NoDigits LeadingZero NotDigits (Above most)
+    tested (length word == 0) (has_leading_zero word) (list_all is_ascii_digit word) (nat_le value most)
+    (nat_lt value limit) NoDigits LeadingZero NotDigits (Above most)
     (λ within. lt-ltb value limit (omega (arith, leb-true value most within, next))) (fine same))
 
 -- ---- names
 
 -- a number that `@` or `s` tells
-told_read : {A : Type 0} (code : LineCode) (most limit : ℕ) (word : List ℕ) (told : ℕ → A) → limit ≡ most + 1 → (code ≡ line.Number → number_fault most word ≡ None)
+told_read : {A : Type 0} (code : LineCode) (most limit : ℕ) (word : List ℕ) (told : ℕ → A) → limit ≡ most + 1
+    → (code ≡ line.Number → number_fault most word ≡ None)
     → Fine code (number_at limit word >>= λ n. Ok (told n))
-told_read code most limit word told next fine = and_then code (number_at limit word) (λ n. Ok (told n)) (digits_read code most limit word next fine) (λ n is. tt)
+told_read code most limit word told next fine =
+    and_then code (number_at limit word) (λ n. Ok (told n)) (digits_read code most limit word next fine) (λ n is. tt)
 
-reference_read : (code : LineCode) (most limit : ℕ) (word : List ℕ) → limit ≡ most + 1 → (code ≡ line.Number → after_at most word ≡ None) → Fine code (reference_at limit word)
+reference_read : (code : LineCode) (most limit : ℕ) (word : List ℕ) → limit ≡ most + 1 → (code ≡ line.Number → after_at most word ≡ None)
+    → Fine code (reference_at limit word)
 reference_read code most limit [] next fine = tt
 reference_read code most limit (b ∷ bs) next fine =
     elim (cases_Bool (eqb b 64)) [
@@ -95,7 +102,8 @@ reference_read code most limit (b ∷ bs) next fine =
       | inr is_not ↦ rw is_not tt
     ]
 
-no_name : (read : Result ℕ LineCode) (told : ℕ → Spelled) (name : List ℕ) → ((n : ℕ) → told n ≡ named name → ⊥) → (read >>= λ n. Ok (told n)) ≡ Ok (named name) → ⊥
+no_name : (read : Result ℕ LineCode) (told : ℕ → Spelled) (name : List ℕ) → ((n : ℕ) → told n ≡ named name → ⊥) → (read >>= λ n. Ok (told n)) ≡ Ok (named name)
+    → ⊥
 no_name (Ok n) told name never is = never n cc
 no_name (Err code) told name never is = absurd cc
 
@@ -108,7 +116,8 @@ is_named limit (b ∷ bs) name is =
       | inr not_at ↦ (let same : Ok (named (b ∷ bs)) ≡ Ok (named name) = rw not_at at is in cc, not_at)
     ]
 
-found_or : (code : LineCode) (why : Why) (number : Option ℕ) → (code ≡ line.UnknownName → (if is_some number || false then None else Some why) ≡ None) → Fine code (ok_or number line.UnknownName)
+found_or : (code : LineCode) (why : Why) (number : Option ℕ) → (code ≡ line.UnknownName → (if is_some number || false then None else Some why) ≡ None)
+    → Fine code (ok_or number line.UnknownName)
 found_or code why (Some n) fine = tt
 found_or code why None fine = λ same. let bad : Some why ≡ None = fine (sym same) in absurd cc
 
@@ -131,23 +140,33 @@ number_read code kind setup word fine = digits_read code (2 ^ 32 - 1) (2 ^ 32) w
 turns_read : (code : LineCode) (kind : Kind) (setup : Setup) (word : List ℕ) → breaks code kind setup Turns word ≡ None → Fine code (number_at 1000001 word)
 turns_read code kind setup word fine = digits_read code 1000000 1000001 word refl (as_number code kind setup Turns word fine)
 
-sender_read : (code : LineCode) (kind : Kind) (setup : Setup) (word : List ℕ) → breaks code kind setup Sender word ≡ None → Fine code (reference_at (2 ^ 16) word)
+sender_read : (code : LineCode) (kind : Kind) (setup : Setup) (word : List ℕ) → breaks code kind setup Sender word ≡ None
+    → Fine code (reference_at (2 ^ 16) word)
 sender_read code kind setup word fine = reference_read code 65535 (2 ^ 16) word refl (as_number code kind setup Sender word fine)
 
-client_read : (code : LineCode) (kind : Kind) (setup : Setup) (word : List ℕ) → breaks code kind setup Client word ≡ None → Fine code (reference_at (2 ^ 16) word)
+client_read : (code : LineCode) (kind : Kind) (setup : Setup) (word : List ℕ) → breaks code kind setup Client word ≡ None
+    → Fine code (reference_at (2 ^ 16) word)
 client_read code kind setup word fine = reference_read code 65535 (2 ^ 16) word refl (as_number code kind setup Client word fine)
 
-currency_read : (code : LineCode) (kind : Kind) (setup : Setup) (word : List ℕ) → breaks code kind setup Currency word ≡ None → Fine code (reference_at (2 ^ 8) word)
+currency_read : (code : LineCode) (kind : Kind) (setup : Setup) (word : List ℕ) → breaks code kind setup Currency word ≡ None
+    → Fine code (reference_at (2 ^ 8) word)
 currency_read code kind setup word fine = reference_read code 255 (2 ^ 8) word refl (as_number code kind setup Currency word fine)
 
-sender_found : (code : LineCode) (kind : Kind) (setup : Setup) (word : List ℕ) (who : Spelled) → breaks code kind setup Sender word ≡ None → reference_at (2 ^ 16) word ≡ Ok who → Fine code (sender_of kind setup who)
-sender_found code kind setup word who fine is = name_found code (no_sender kind setup word) (sender_number kind setup) word who (λ name same. is_named (2 ^ 16) word name (rw same at is)) (as_name code kind setup Sender word fine)
+sender_found : (code : LineCode) (kind : Kind) (setup : Setup) (word : List ℕ) (who : Spelled) → breaks code kind setup Sender word ≡ None
+    → reference_at (2 ^ 16) word ≡ Ok who → Fine code (sender_of kind setup who)
+sender_found code kind setup word who fine is =
+    name_found code (no_sender kind setup word) (sender_number kind setup) word who (λ name same. is_named (2 ^ 16) word name (rw same at is))
+    (as_name code kind setup Sender word fine)
 
-client_found : (code : LineCode) (kind : Kind) (setup : Setup) (word : List ℕ) (who : Spelled) → breaks code kind setup Client word ≡ None → reference_at (2 ^ 16) word ≡ Ok who → Fine code (client_of setup who)
-client_found code kind setup word who fine is = name_found code _ (client_number setup) word who (λ name same. is_named (2 ^ 16) word name (rw same at is)) (as_name code kind setup Client word fine)
+client_found : (code : LineCode) (kind : Kind) (setup : Setup) (word : List ℕ) (who : Spelled) → breaks code kind setup Client word ≡ None
+    → reference_at (2 ^ 16) word ≡ Ok who → Fine code (client_of setup who)
+client_found code kind setup word who fine is =
+    name_found code _ (client_number setup) word who (λ name same. is_named (2 ^ 16) word name (rw same at is)) (as_name code kind setup Client word fine)
 
-currency_found : (code : LineCode) (kind : Kind) (setup : Setup) (word : List ℕ) (who : Spelled) → breaks code kind setup Currency word ≡ None → reference_at (2 ^ 8) word ≡ Ok who → Fine code (currency_of setup who)
-currency_found code kind setup word who fine is = name_found code _ (currency_number setup) word who (λ name same. is_named (2 ^ 8) word name (rw same at is)) (as_name code kind setup Currency word fine)
+currency_found : (code : LineCode) (kind : Kind) (setup : Setup) (word : List ℕ) (who : Spelled) → breaks code kind setup Currency word ≡ None
+    → reference_at (2 ^ 8) word ≡ Ok who → Fine code (currency_of setup who)
+currency_found code kind setup word who fine is =
+    name_found code _ (currency_number setup) word who (λ name same. is_named (2 ^ 8) word name (rw same at is)) (as_name code kind setup Currency word fine)
 
 actor_read : (code : LineCode) (kind : Kind) (setup : Setup) (word : List ℕ) → breaks code kind setup Actor word ≡ None → Fine code (actor_at word)
 actor_read code kind setup [] fine = tt
@@ -158,8 +177,10 @@ actor_read code kind setup (b ∷ bs) fine =
       | inr is_not ↦ rw is_not (reference_read code 65535 (2 ^ 16) (b ∷ bs) refl (λ same. rw is_not at of_number same))
     ]
 
-actor_found : (code : LineCode) (kind : Kind) (setup : Setup) (word : List ℕ) (who : Spelled) → breaks code kind setup Actor word ≡ None → actor_at word ≡ Ok who → Fine code (client_of setup who)
-actor_found code kind setup [] who fine is = name_found code _ (client_number setup) [] who (λ name same. is_named (2 ^ 16) [] name (rw same at is)) (as_name code kind setup Actor [] fine)
+actor_found : (code : LineCode) (kind : Kind) (setup : Setup) (word : List ℕ) (who : Spelled) → breaks code kind setup Actor word ≡ None
+    → actor_at word ≡ Ok who → Fine code (client_of setup who)
+actor_found code kind setup [] who fine is =
+    name_found code _ (client_number setup) [] who (λ name same. is_named (2 ^ 16) [] name (rw same at is)) (as_name code kind setup Actor [] fine)
 actor_found code kind setup (b ∷ bs) (numbered n) fine is = tt
 actor_found code kind setup (b ∷ bs) (named name) fine is =
     elim (cases_Bool (eqb b 115)) [
@@ -167,7 +188,8 @@ actor_found code kind setup (b ∷ bs) (named name) fine is =
       | inr no_site ↦
           let of_name = as_name code kind setup Actor (b ∷ bs) fine in
           let spelled : reference_at (2 ^ 16) (b ∷ bs) ≡ Ok (named name) = rw no_site at is in
-          name_found code _ (client_number setup) (b ∷ bs) (named name) (λ other same. is_named (2 ^ 16) (b ∷ bs) other (rw same at spelled)) (λ same. rw no_site at of_name same)
+          name_found code _ (client_number setup) (b ∷ bs) (named name) (λ other same. is_named (2 ^ 16) (b ∷ bs) other (rw same at spelled))
+          (λ same. rw no_site at of_name same)
     ]
 
 site_read : (code : LineCode) (kind : Kind) (setup : Setup) (word : List ℕ) → breaks code kind setup Site word ≡ None → Fine code (site_at word)
@@ -185,10 +207,15 @@ site_read code kind setup (b ∷ bs) fine =
 
 -- ---- each form
 
-instruct_fine : (code : LineCode) (kind : Kind) (setup : Setup) (who : List ℕ) (fields : List (List ℕ)) → (code ≡ line.WordCount → length fields ≡ 6) → breaks code kind setup Sender who ≡ None → first_broken (breaks code kind setup) (Number ∷ Client ∷ Currency ∷ Amount ∷ Currency ∷ Amount ∷ []) fields ≡ None → Fine code (instruct_at kind setup who fields)
+instruct_fine : (code : LineCode) (kind : Kind) (setup : Setup) (who : List ℕ) (fields : List (List ℕ)) → (code ≡ line.WordCount → length fields ≡ 6)
+    → breaks code kind setup Sender who ≡ None
+    → first_broken (breaks code kind setup) (Number ∷ Client ∷ Currency ∷ Amount ∷ Currency ∷ Amount ∷ []) fields ≡ None
+    → Fine code (instruct_at kind setup who fields)
 unfolding instruct_at
 instruct_fine code kind setup who (reference ∷ counter ∷ sell ∷ sell_amt ∷ buy ∷ buy_amt ∷ []) other sends none =
-    let p0 = parted (breaks code kind setup) Number (Client ∷ Currency ∷ Amount ∷ Currency ∷ Amount ∷ []) reference (counter ∷ sell ∷ sell_amt ∷ buy ∷ buy_amt ∷ []) none in
+    let p0 =
+    parted (breaks code kind setup) Number (Client ∷ Currency ∷ Amount ∷ Currency ∷ Amount ∷ []) reference
+    (counter ∷ sell ∷ sell_amt ∷ buy ∷ buy_amt ∷ []) none in
     let p1 = parted (breaks code kind setup) Client (Currency ∷ Amount ∷ Currency ∷ Amount ∷ []) counter (sell ∷ sell_amt ∷ buy ∷ buy_amt ∷ []) p0.1 in
     let p2 = parted (breaks code kind setup) Currency (Amount ∷ Currency ∷ Amount ∷ []) sell (sell_amt ∷ buy ∷ buy_amt ∷ []) p1.1 in
     let p3 = parted (breaks code kind setup) Amount (Currency ∷ Amount ∷ []) sell_amt (buy ∷ buy_amt ∷ []) p2.1 in
@@ -207,7 +234,9 @@ instruct_fine code kind setup who (reference ∷ counter ∷ sell ∷ sell_amt �
     and_then code (currency_of setup buy-read) _ (currency_found code kind setup buy buy-read p4.0 buy-is) (λ _ _. tt)))))))))))
 instruct_fine code kind setup who fields other sends none = λ same. let bad = other (sym same) in absurd (omega (arith, bad))
 
-rescind_fine : (code : LineCode) (kind : Kind) (setup : Setup) (who : List ℕ) (fields : List (List ℕ)) → (code ≡ line.WordCount → length fields ≡ 1) → breaks code kind setup Sender who ≡ None → first_broken (breaks code kind setup) (Number ∷ []) fields ≡ None → Fine code (rescind_at kind setup who fields)
+rescind_fine : (code : LineCode) (kind : Kind) (setup : Setup) (who : List ℕ) (fields : List (List ℕ)) → (code ≡ line.WordCount → length fields ≡ 1)
+    → breaks code kind setup Sender who ≡ None → first_broken (breaks code kind setup) (Number ∷ []) fields ≡ None
+    → Fine code (rescind_at kind setup who fields)
 unfolding rescind_at
 rescind_fine code kind setup who (reference ∷ []) other sends none =
     let p0 = parted (breaks code kind setup) Number ([]) reference ([]) none in
@@ -216,7 +245,8 @@ rescind_fine code kind setup who (reference ∷ []) other sends none =
     and_then code (sender_of kind setup who-read) _ (sender_found code kind setup who who-read sends who-is) (λ _ _. tt)))
 rescind_fine code kind setup who fields other sends none = λ same. let bad = other (sym same) in absurd (omega (arith, bad))
 
-settle_fine : (code : LineCode) (kind : Kind) (setup : Setup) (who : List ℕ) (fields : List (List ℕ)) → (code ≡ line.WordCount → length fields ≡ 1) → breaks code kind setup Sender who ≡ None → first_broken (breaks code kind setup) (Number ∷ []) fields ≡ None → Fine code (settle_at kind setup who fields)
+settle_fine : (code : LineCode) (kind : Kind) (setup : Setup) (who : List ℕ) (fields : List (List ℕ)) → (code ≡ line.WordCount → length fields ≡ 1)
+    → breaks code kind setup Sender who ≡ None → first_broken (breaks code kind setup) (Number ∷ []) fields ≡ None → Fine code (settle_at kind setup who fields)
 unfolding settle_at
 settle_fine code kind setup who (most ∷ []) other sends none =
     let p0 = parted (breaks code kind setup) Number ([]) most ([]) none in
@@ -225,7 +255,9 @@ settle_fine code kind setup who (most ∷ []) other sends none =
     and_then code (sender_of kind setup who-read) _ (sender_found code kind setup who who-read sends who-is) (λ _ _. tt)))
 settle_fine code kind setup who fields other sends none = λ same. let bad = other (sym same) in absurd (omega (arith, bad))
 
-fund_fine : (code : LineCode) (kind : Kind) (setup : Setup) (who : List ℕ) (fields : List (List ℕ)) → (code ≡ line.WordCount → length fields ≡ 4) → breaks code kind setup Sender who ≡ None → first_broken (breaks code kind setup) (Currency ∷ Number ∷ Client ∷ Amount ∷ []) fields ≡ None → Fine code (fund_at kind setup who fields)
+fund_fine : (code : LineCode) (kind : Kind) (setup : Setup) (who : List ℕ) (fields : List (List ℕ)) → (code ≡ line.WordCount → length fields ≡ 4)
+    → breaks code kind setup Sender who ≡ None → first_broken (breaks code kind setup) (Currency ∷ Number ∷ Client ∷ Amount ∷ []) fields ≡ None
+    → Fine code (fund_at kind setup who fields)
 unfolding fund_at
 fund_fine code kind setup who (ccy ∷ pay ∷ member ∷ amt ∷ []) other sends none =
     let p0 = parted (breaks code kind setup) Currency (Number ∷ Client ∷ Amount ∷ []) ccy (pay ∷ member ∷ amt ∷ []) none in
@@ -242,7 +274,9 @@ fund_fine code kind setup who (ccy ∷ pay ∷ member ∷ amt ∷ []) other send
     and_then code (client_of setup member-read) _ (client_found code kind setup member member-read p2.0 member-is) (λ _ _. tt))))))))
 fund_fine code kind setup who fields other sends none = λ same. let bad = other (sym same) in absurd (omega (arith, bad))
 
-payout_fine : (code : LineCode) (kind : Kind) (setup : Setup) (who : List ℕ) (fields : List (List ℕ)) → (code ≡ line.WordCount → length fields ≡ 2) → breaks code kind setup Sender who ≡ None → first_broken (breaks code kind setup) (Currency ∷ Amount ∷ []) fields ≡ None → Fine code (payout_at kind setup who fields)
+payout_fine : (code : LineCode) (kind : Kind) (setup : Setup) (who : List ℕ) (fields : List (List ℕ)) → (code ≡ line.WordCount → length fields ≡ 2)
+    → breaks code kind setup Sender who ≡ None → first_broken (breaks code kind setup) (Currency ∷ Amount ∷ []) fields ≡ None
+    → Fine code (payout_at kind setup who fields)
 unfolding payout_at
 payout_fine code kind setup who (ccy ∷ amt ∷ []) other sends none =
     let p0 = parted (breaks code kind setup) Currency (Amount ∷ []) ccy (amt ∷ []) none in
@@ -254,7 +288,9 @@ payout_fine code kind setup who (ccy ∷ amt ∷ []) other sends none =
     and_then code (currency_of setup ccy-read) _ (currency_found code kind setup ccy ccy-read p0.0 ccy-is) (λ _ _. tt)))))
 payout_fine code kind setup who fields other sends none = λ same. let bad = other (sym same) in absurd (omega (arith, bad))
 
-order_fine : (code : LineCode) (kind : Kind) (setup : Setup) (who : List ℕ) (fields : List (List ℕ)) → (code ≡ line.WordCount → length fields ≡ 2) → breaks code kind setup Sender who ≡ None → first_broken (breaks code kind setup) (Currency ∷ Number ∷ []) fields ≡ None → Fine code (order_at kind setup who fields)
+order_fine : (code : LineCode) (kind : Kind) (setup : Setup) (who : List ℕ) (fields : List (List ℕ)) → (code ≡ line.WordCount → length fields ≡ 2)
+    → breaks code kind setup Sender who ≡ None → first_broken (breaks code kind setup) (Currency ∷ Number ∷ []) fields ≡ None
+    → Fine code (order_at kind setup who fields)
 unfolding order_at
 order_fine code kind setup who (ccy ∷ out ∷ []) other sends none =
     let p0 = parted (breaks code kind setup) Currency (Number ∷ []) ccy (out ∷ []) none in
@@ -266,7 +302,8 @@ order_fine code kind setup who (ccy ∷ out ∷ []) other sends none =
     and_then code (currency_of setup ccy-read) _ (currency_found code kind setup ccy ccy-read p0.0 ccy-is) (λ _ _. tt)))))
 order_fine code kind setup who fields other sends none = λ same. let bad = other (sym same) in absurd (omega (arith, bad))
 
-payin_fine : (code : LineCode) (kind : Kind) (setup : Setup) (fields : List (List ℕ)) → (code ≡ line.WordCount → length fields ≡ 3) → first_broken (breaks code kind setup) (Client ∷ Currency ∷ Amount ∷ []) fields ≡ None → Fine code (payin_at setup fields)
+payin_fine : (code : LineCode) (kind : Kind) (setup : Setup) (fields : List (List ℕ)) → (code ≡ line.WordCount → length fields ≡ 3)
+    → first_broken (breaks code kind setup) (Client ∷ Currency ∷ Amount ∷ []) fields ≡ None → Fine code (payin_at setup fields)
 unfolding payin_at
 payin_fine code kind setup (member ∷ ccy ∷ amt ∷ []) other none =
     let p0 = parted (breaks code kind setup) Client (Currency ∷ Amount ∷ []) member (ccy ∷ amt ∷ []) none in
@@ -279,7 +316,8 @@ payin_fine code kind setup (member ∷ ccy ∷ amt ∷ []) other none =
     and_then code (currency_of setup ccy-read) _ (currency_found code kind setup ccy ccy-read p1.0 ccy-is) (λ _ _. tt)))))
 payin_fine code kind setup fields other none = λ same. let bad = other (sym same) in absurd (omega (arith, bad))
 
-close_fine : (code : LineCode) (kind : Kind) (setup : Setup) (fields : List (List ℕ)) → (code ≡ line.WordCount → length fields ≡ 2) → first_broken (breaks code kind setup) (Client ∷ Currency ∷ []) fields ≡ None → Fine code (close_at setup fields)
+close_fine : (code : LineCode) (kind : Kind) (setup : Setup) (fields : List (List ℕ)) → (code ≡ line.WordCount → length fields ≡ 2)
+    → first_broken (breaks code kind setup) (Client ∷ Currency ∷ []) fields ≡ None → Fine code (close_at setup fields)
 unfolding close_at
 close_fine code kind setup (member ∷ ccy ∷ []) other none =
     let p0 = parted (breaks code kind setup) Client (Currency ∷ []) member (ccy ∷ []) none in
@@ -290,7 +328,8 @@ close_fine code kind setup (member ∷ ccy ∷ []) other none =
     and_then code (currency_of setup ccy-read) _ (currency_found code kind setup ccy ccy-read p1.0 ccy-is) (λ _ _. tt))))
 close_fine code kind setup fields other none = λ same. let bad = other (sym same) in absurd (omega (arith, bad))
 
-chaos_fine : (code : LineCode) (kind : Kind) (setup : Setup) (fields : List (List ℕ)) → (code ≡ line.WordCount → length fields ≡ 2) → first_broken (breaks code kind setup) (Amount ∷ Turns ∷ []) fields ≡ None → Fine code (chaos_at fields)
+chaos_fine : (code : LineCode) (kind : Kind) (setup : Setup) (fields : List (List ℕ)) → (code ≡ line.WordCount → length fields ≡ 2)
+    → first_broken (breaks code kind setup) (Amount ∷ Turns ∷ []) fields ≡ None → Fine code (chaos_at fields)
 unfolding chaos_at
 chaos_fine code kind setup (seed ∷ count ∷ []) other none =
     let p0 = parted (breaks code kind setup) Amount (Turns ∷ []) seed (count ∷ []) none in
@@ -299,34 +338,43 @@ chaos_fine code kind setup (seed ∷ count ∷ []) other none =
     and_then code (number_at 1000001 count) _ (turns_read code kind setup count p1.0) (λ count-read count-is. tt))
 chaos_fine code kind setup fields other none = λ same. let bad = other (sym same) in absurd (omega (arith, bad))
 
-lone_actor_fine : (code : LineCode) (kind : Kind) (setup : Setup) (fields : List (List ℕ)) → (code ≡ line.WordCount → length fields ≡ 1) → first_broken (breaks code kind setup) (Actor ∷ []) fields ≡ None → Fine code (lone_actor_at setup fields)
+lone_actor_fine : (code : LineCode) (kind : Kind) (setup : Setup) (fields : List (List ℕ)) → (code ≡ line.WordCount → length fields ≡ 1)
+    → first_broken (breaks code kind setup) (Actor ∷ []) fields ≡ None → Fine code (lone_actor_at setup fields)
 unfolding lone_actor_at
 lone_actor_fine code kind setup (word ∷ []) other none =
     let p = parted (breaks code kind setup) Actor [] word [] none in
     and_then code (actor_at word) _ (actor_read code kind setup word p.0) (λ who is. actor_found code kind setup word who p.0 is)
 lone_actor_fine code kind setup fields other none = λ same. let bad = other (sym same) in absurd (omega (arith, bad))
 
-lone_site_fine : (code : LineCode) (kind : Kind) (setup : Setup) (fields : List (List ℕ)) → (code ≡ line.WordCount → length fields ≡ 1) → first_broken (breaks code kind setup) (Site ∷ []) fields ≡ None → Fine code (lone_site_at fields)
+lone_site_fine : (code : LineCode) (kind : Kind) (setup : Setup) (fields : List (List ℕ)) → (code ≡ line.WordCount → length fields ≡ 1)
+    → first_broken (breaks code kind setup) (Site ∷ []) fields ≡ None → Fine code (lone_site_at fields)
 unfolding lone_site_at
 lone_site_fine code kind setup (word ∷ []) other none =
     let p = parted (breaks code kind setup) Site [] word [] none in
     site_read code kind setup word p.0
 lone_site_fine code kind setup fields other none = λ same. let bad = other (sym same) in absurd (omega (arith, bad))
 
-lone_number_fine : (code : LineCode) (kind : Kind) (setup : Setup) (fields : List (List ℕ)) → (code ≡ line.WordCount → length fields ≡ 1) → first_broken (breaks code kind setup) (Number ∷ []) fields ≡ None → Fine code (lone_number_at fields)
+lone_number_fine : (code : LineCode) (kind : Kind) (setup : Setup) (fields : List (List ℕ)) → (code ≡ line.WordCount → length fields ≡ 1)
+    → first_broken (breaks code kind setup) (Number ∷ []) fields ≡ None → Fine code (lone_number_at fields)
 unfolding lone_number_at
 lone_number_fine code kind setup (word ∷ []) other none =
     let p = parted (breaks code kind setup) Number [] word [] none in
     number_read code kind setup word p.0
 lone_number_fine code kind setup fields other none = λ same. let bad = other (sym same) in absurd (omega (arith, bad))
 
-paid_fine : (code : LineCode) (kind : Kind) (setup : Setup) (who : List ℕ) (fields : List (List ℕ)) → (code ≡ line.WordCount → length fields ≡ 2) → breaks code kind setup Sender who ≡ None → first_broken (breaks code kind setup) (Currency ∷ Number ∷ []) fields ≡ None → Fine code (paid_at kind setup who fields)
+paid_fine : (code : LineCode) (kind : Kind) (setup : Setup) (who : List ℕ) (fields : List (List ℕ)) → (code ≡ line.WordCount → length fields ≡ 2)
+    → breaks code kind setup Sender who ≡ None → first_broken (breaks code kind setup) (Currency ∷ Number ∷ []) fields ≡ None
+    → Fine code (paid_at kind setup who fields)
 unfolding paid_at
-paid_fine code kind setup who fields other sends none = and_then code (order_at kind setup who fields) _ (order_fine code kind setup who fields other sends none) (λ _ _. tt)
+paid_fine code kind setup who fields other sends none =
+    and_then code (order_at kind setup who fields) _ (order_fine code kind setup who fields other sends none) (λ _ _. tt)
 
-returned_fine : (code : LineCode) (kind : Kind) (setup : Setup) (who : List ℕ) (fields : List (List ℕ)) → (code ≡ line.WordCount → length fields ≡ 2) → breaks code kind setup Sender who ≡ None → first_broken (breaks code kind setup) (Currency ∷ Number ∷ []) fields ≡ None → Fine code (returned_at kind setup who fields)
+returned_fine : (code : LineCode) (kind : Kind) (setup : Setup) (who : List ℕ) (fields : List (List ℕ)) → (code ≡ line.WordCount → length fields ≡ 2)
+    → breaks code kind setup Sender who ≡ None → first_broken (breaks code kind setup) (Currency ∷ Number ∷ []) fields ≡ None
+    → Fine code (returned_at kind setup who fields)
 unfolding returned_at
-returned_fine code kind setup who fields other sends none = and_then code (order_at kind setup who fields) _ (order_fine code kind setup who fields other sends none) (λ _ _. tt)
+returned_fine code kind setup who fields other sends none =
+    and_then code (order_at kind setup who fields) _ (order_fine code kind setup who fields other sends none) (λ _ _. tt)
 
 -- ---- all lines
 
@@ -338,8 +386,10 @@ same_or word text =
     ]
 
 -- a command's line
-command_fine : (code : LineCode) (kind : Kind) (setup : Setup) (who command : List ℕ) (fields : List (List ℕ)) → (code ≡ line.WordCount → length fields ≡ length (command_fields command)) → breaks code kind setup Sender who ≡ None
-    → first_broken (breaks code kind setup) (command_fields command) fields ≡ None → breaks code kind setup Command command ≡ None → Fine code (do_at kind setup (who ∷ command ∷ fields))
+command_fine : (code : LineCode) (kind : Kind) (setup : Setup) (who command : List ℕ) (fields : List (List ℕ))
+    → (code ≡ line.WordCount → length fields ≡ length (command_fields command)) → breaks code kind setup Sender who ≡ None
+    → first_broken (breaks code kind setup) (command_fields command) fields ≡ None → breaks code kind setup Command command ≡ None
+    → Fine code (do_at kind setup (who ∷ command ∷ fields))
 unfolding do_at
 command_fine code kind setup who command fields other sends none known =
     elim (same_or command (codes "instruct")) [
@@ -363,7 +413,8 @@ command_fine code kind setup who command fields other sends none known =
                                         elim (same_or command (codes "returned")) [
                                           | inl is ↦ rw is (returned_fine code kind setup who fields (rw is at other) sends (rw is at none))
                                           | inr no_returned ↦
-                                              rw (no_instruct, no_rescind, no_settle, no_fund, no_payout, no_paid, no_returned) (λ same. let bad = (rw (sym same) at known) in absurd cc)
+                                              rw (no_instruct, no_rescind, no_settle, no_fund, no_payout, no_paid, no_returned) (λ same.
+                                              let bad = (rw (sym same) at known) in absurd cc)
                                         ]
                                   ]
                             ]
@@ -372,7 +423,8 @@ command_fine code kind setup who command fields other sends none known =
           ]
     ]
 
-do_fine : (code : LineCode) (kind : Kind) (setup : Setup) (first : List ℕ) (rest : List (List ℕ)) → (code ≡ line.WordCount → length (first ∷ rest) ≡ length (do_form rest))
+do_fine : (code : LineCode) (kind : Kind) (setup : Setup) (first : List ℕ) (rest : List (List ℕ))
+    → (code ≡ line.WordCount → length (first ∷ rest) ≡ length (do_form rest))
     → first_broken (breaks code kind setup) (do_form rest) (first ∷ rest) ≡ None → Fine code (do_at kind setup rest)
 unfolding do_at
 do_fine code kind setup first (who ∷ command ∷ fields) other none =
@@ -382,7 +434,8 @@ do_fine code kind setup first (who ∷ command ∷ fields) other none =
     command_fine code kind setup who command fields (λ same. let count = other same in omega (arith, count)) q.0 r.1 r.0
 do_fine code kind setup first rest other none = λ same. let bad = other (sym same) in absurd (omega (arith, bad))
 
-move_fine : (code : LineCode) (kind : Kind) (setup : Setup) (first : List ℕ) (rest : List (List ℕ)) → (code ≡ line.WordCount → length rest ≡ length (first_fields first)) → line.UnknownWord ≢ code
+move_fine : (code : LineCode) (kind : Kind) (setup : Setup) (first : List ℕ) (rest : List (List ℕ))
+    → (code ≡ line.WordCount → length rest ≡ length (first_fields first)) → line.UnknownWord ≢ code
     → first_broken (breaks code kind setup) (first_fields first) rest ≡ None → Fine code (move_at setup first rest)
 unfolding move_at
 move_fine code kind setup first rest other known none =
@@ -393,16 +446,20 @@ move_fine code kind setup first rest other known none =
             | inl is ↦ rw is (close_fine code kind setup rest (rw is at other) (rw is at none))
             | inr no_close ↦
                 elim (same_or first (codes "beat")) [
-                  | inl is ↦ rw is (and_then code (lone_actor_at setup rest) _ (lone_actor_fine code kind setup rest (rw is at other) (rw is at none)) (λ _ _. tt))
+                  | inl is ↦ rw is (and_then code (lone_actor_at setup rest) _ (lone_actor_fine code kind setup rest (rw is at other) (rw is at none))
+                      (λ _ _. tt))
                   | inr no_beat ↦
                       elim (same_or first (codes "timer")) [
-                        | inl is ↦ rw is (and_then code (lone_site_at rest) _ (lone_site_fine code kind setup rest (rw is at other) (rw is at none)) (λ _ _. tt))
+                        | inl is ↦ rw is (and_then code (lone_site_at rest) _ (lone_site_fine code kind setup rest (rw is at other) (rw is at none))
+                            (λ _ _. tt))
                         | inr no_timer ↦
                             elim (same_or first (codes "crash")) [
-                              | inl is ↦ rw is (and_then code (lone_site_at rest) _ (lone_site_fine code kind setup rest (rw is at other) (rw is at none)) (λ _ _. tt))
+                              | inl is ↦ rw is (and_then code (lone_site_at rest) _ (lone_site_fine code kind setup rest (rw is at other) (rw is at none))
+                                  (λ _ _. tt))
                               | inr no_crash ↦
                                   elim (same_or first (codes "restart")) [
-                                    | inl is ↦ rw is (and_then code (lone_site_at rest) _ (lone_site_fine code kind setup rest (rw is at other) (rw is at none)) (λ _ _. tt))
+                                    | inl is ↦ rw is (and_then code (lone_site_at rest) _ (lone_site_fine code kind setup rest (rw is at other) (rw is at none))
+                                        (λ _ _. tt))
                                     | inr no_restart ↦
                                         rw (no_payin, no_close, no_beat, no_timer, no_crash, no_restart) (known)
                                   ]
@@ -412,7 +469,8 @@ move_fine code kind setup first rest other known none =
           ]
     ]
 
-play_fine : (code : LineCode) (kind : Kind) (setup : Setup) (first : List ℕ) (rest : List (List ℕ)) → (code ≡ line.WordCount → length rest ≡ length (first_fields first)) → line.UnknownWord ≢ code
+play_fine : (code : LineCode) (kind : Kind) (setup : Setup) (first : List ℕ) (rest : List (List ℕ))
+    → (code ≡ line.WordCount → length rest ≡ length (first_fields first)) → line.UnknownWord ≢ code
     → first_broken (breaks code kind setup) (first_fields first) rest ≡ None → Fine code (play_at setup first rest)
 unfolding play_at
 play_fine code kind setup first rest other known none =
@@ -426,15 +484,18 @@ play_fine code kind setup first rest other known none =
                   | inl is ↦ rw is (and_then code (lone_number_at rest) _ (lone_number_fine code kind setup rest (rw is at other) (rw is at none)) (λ _ _. tt))
                   | inr no_skip ↦
                       elim (same_or first (codes "cut")) [
-                        | inl is ↦ rw is (and_then code (lone_actor_at setup rest) _ (lone_actor_fine code kind setup rest (rw is at other) (rw is at none)) (λ _ _. tt))
+                        | inl is ↦ rw is (and_then code (lone_actor_at setup rest) _ (lone_actor_fine code kind setup rest (rw is at other) (rw is at none))
+                            (λ _ _. tt))
                         | inr no_cut ↦
                             elim (same_or first (codes "heal")) [
-                              | inl is ↦ rw is (and_then code (lone_actor_at setup rest) _ (lone_actor_fine code kind setup rest (rw is at other) (rw is at none)) (λ _ _. tt))
+                              | inl is ↦ rw is (and_then code (lone_actor_at setup rest) _
+                                  (lone_actor_fine code kind setup rest (rw is at other) (rw is at none)) (λ _ _. tt))
                               | inr no_heal ↦
                                   elim (same_or first (codes "chaos")) [
                                     | inl is ↦ rw is (chaos_fine code kind setup rest (rw is at other) (rw is at none))
                                     | inr no_chaos ↦
-                                        rw (no_deliver, no_drain, no_skip, no_cut, no_heal, no_chaos) (and_then code (move_at setup first rest) _ (move_fine code kind setup first rest other known none) (λ _ _. tt))
+                                        rw (no_deliver, no_drain, no_skip, no_cut, no_heal, no_chaos)
+                                        (and_then code (move_at setup first rest) _ (move_fine code kind setup first rest other known none) (λ _ _. tt))
                                   ]
                             ]
                       ]
@@ -442,7 +503,8 @@ play_fine code kind setup first rest other known none =
           ]
     ]
 
-live_fine : (code : LineCode) (kind : Kind) (setup : Setup) (first : List ℕ) (rest : List (List ℕ)) → (code ≡ line.WordCount → length rest ≡ length (first_fields first)) → line.UnknownWord ≢ code
+live_fine : (code : LineCode) (kind : Kind) (setup : Setup) (first : List ℕ) (rest : List (List ℕ))
+    → (code ≡ line.WordCount → length rest ≡ length (first_fields first)) → line.UnknownWord ≢ code
     → first_broken (breaks code kind setup) (first_fields first) rest ≡ None → Fine code (live_at setup first rest)
 unfolding live_at
 live_fine code kind setup first rest other known none =
@@ -452,7 +514,8 @@ live_fine code kind setup first rest other known none =
           rw (no_rest) (and_then code (move_at setup first rest) _ (move_fine code kind setup first rest other known none) (λ _ _. tt))
     ]
 
-told_fine : (code : LineCode) (kind : Kind) (setup : Setup) (first : List ℕ) (rest : List (List ℕ)) → (code ≡ line.WordCount → length rest ≡ length (first_fields first)) → line.UnknownWord ≢ code
+told_fine : (code : LineCode) (kind : Kind) (setup : Setup) (first : List ℕ) (rest : List (List ℕ))
+    → (code ≡ line.WordCount → length rest ≡ length (first_fields first)) → line.UnknownWord ≢ code
     → first_broken (breaks code kind setup) (first_fields first) rest ≡ None → Fine code (told_at kind setup first rest)
 unfolding told_at
 told_fine code Book setup first rest other known none = known
@@ -468,7 +531,8 @@ second true other is = is
 second false other is = absurd cc
 
 -- a first word that is known
-known_first : (code : LineCode) (kind : Kind) (setup : Setup) (first : List ℕ) → bytes_eq first (codes "do") ≡ false → breaks code kind setup First first ≡ None → line.UnknownWord ≢ code
+known_first : (code : LineCode) (kind : Kind) (setup : Setup) (first : List ℕ)
+    → bytes_eq first (codes "do") ≡ false → breaks code kind setup First first ≡ None → line.UnknownWord ≢ code
 known_first code kind setup first not_do fine same = let bad = (rw (sym same, not_do) at fine) in absurd cc
 
 pub statement_fine : (code : LineCode) (kind : Kind) (setup : Setup) (first : List ℕ) (rest : List (List ℕ))
@@ -481,7 +545,8 @@ statement_fine code kind setup first rest other none =
       | inr not_do ↦
           let p = parted (breaks code kind setup) First (first_fields first) first rest (rw not_do at none) in
           let known = known_first code kind setup first not_do p.0 in
-          let count : code ≡ line.WordCount → length rest ≡ length (first_fields first) = λ same. let whole = (rw not_do at other) same in omega (arith, whole) in
+          let count : code ≡ line.WordCount → length rest ≡ length (first_fields first) =
+          λ same. let whole = (rw not_do at other) same in omega (arith, whole) in
           elim (cases_Bool (prints kind && bytes_eq first (codes "print"))) [
             | inl is_print ↦
                 let same : first ≡ codes "print" = (bytes_eq-Decides first (codes "print")).0 (second _ _ is_print) in
@@ -496,8 +561,10 @@ none_counts : (kind : Kind) (setup : Setup) (form : List Field) (said : List (Li
 none_counts kind setup (field ∷ form) (word ∷ said) = none_counts kind setup form said
 none_counts kind setup _ _ = refl
 
-pub counts_fine : (kind : Kind) (setup : Setup) (first : List ℕ) (rest : List (List ℕ)) → length (first ∷ rest) ≡ length (line_form (first ∷ rest)) → Fine line.WordCount (statement_at kind setup (first ∷ rest))
-counts_fine kind setup first rest count = statement_fine line.WordCount kind setup first rest (λ same. count) (none_counts kind setup (line_form (first ∷ rest)) (first ∷ rest))
+pub counts_fine : (kind : Kind) (setup : Setup) (first : List ℕ) (rest : List (List ℕ)) → length (first ∷ rest) ≡ length (line_form (first ∷ rest))
+    → Fine line.WordCount (statement_at kind setup (first ∷ rest))
+counts_fine kind setup first rest count =
+    statement_fine line.WordCount kind setup first rest (λ same. count) (none_counts kind setup (line_form (first ∷ rest)) (first ∷ rest))
 
 -- ---- a word that is found
 
@@ -511,6 +578,8 @@ here_or_later word other said why (Some is) later among found =
     rw ((bytes_eq-Decides word other).1 same) refl
 here_or_later word other said why None later among found = rw (among found) (or-true (bytes_eq word other))
 
-pub is_word : (breaks : Field → List ℕ → Option Why) (form : List Field) (said : List (List ℕ)) (word : List ℕ) (why : Why) → first_broken breaks form said ≡ Some (word, why) → is_among word said ≡ true
-is_word breaks (field ∷ form) (other ∷ said) word why found = here_or_later word other said why (breaks field other) (first_broken breaks form said) (is_word breaks form said word why) found
+pub is_word : (breaks : Field → List ℕ → Option Why) (form : List Field) (said : List (List ℕ)) (word : List ℕ) (why : Why)
+    → first_broken breaks form said ≡ Some (word, why) → is_among word said ≡ true
+is_word breaks (field ∷ form) (other ∷ said) word why found =
+    here_or_later word other said why (breaks field other) (first_broken breaks form said) (is_word breaks form said word why) found
 is_word breaks _ _ word why found = absurd cc

@@ -58,21 +58,24 @@ text_held None = refl
 text_read : Agrees text part.text
 text_read d = text_held (as_str d)
 
-each_read : {A : Type 0} (kind : Kind A) (check : Check) → Agrees kind check → (place : ℕ) (ds : Items) → is_ok (each_of kind None ds) ≡ is_none (part.each_of check place ds)
+each_read : {A : Type 0} (kind : Kind A) (check : Check) → Agrees kind check → (place : ℕ) (ds : Items)
+    → is_ok (each_of kind None ds) ≡ is_none (part.each_of check place ds)
 each_read kind check agrees place no_items = refl
 each_read kind check agrees place (item d ds) =
     step (kind None d) (λ x. each_of kind None ds >>= λ others. Ok (x ∷ others)) (item_at check place d) (part.each_of check (place + 1) ds)
     (agrees d ∙ sym (none-behind (codes "[" ++ decimal place ++ codes "]") (check d)))
     (λ x. formed (each_of kind None ds) (λ others. x ∷ others) ∙ each_read kind check agrees (place + 1) ds)
 
-list_held : {A : Type 0} (kind : Kind A) (check : Check) → Agrees kind check → (held : Option Items) → is_ok (needed held >>= each_of kind None) ≡ is_none (items_of check held)
+list_held : {A : Type 0} (kind : Kind A) (check : Check) → Agrees kind check → (held : Option Items)
+    → is_ok (needed held >>= each_of kind None) ≡ is_none (items_of check held)
 list_held kind check agrees (Some ds) = each_read kind check agrees 0 ds
 list_held kind check agrees None = refl
 
 list_read : {A : Type 0} (kind : Kind A) (check : Check) → Agrees kind check → Agrees (list kind) (part.list check)
 list_read kind check agrees d = list_held kind check agrees (as_array d)
 
-member_held : {A : Type 0} (kind : Kind A) (check : Check) → Agrees kind check → (held : Option Data) → is_ok (needed held >>= kind None) ≡ is_none (member_of check held)
+member_held : {A : Type 0} (kind : Kind A) (check : Check) → Agrees kind check → (held : Option Data)
+    → is_ok (needed held >>= kind None) ≡ is_none (member_of check held)
 member_held kind check agrees (Some d) = agrees d
 member_held kind check agrees None = refl
 
@@ -83,7 +86,8 @@ member_read kind check agrees name d =
 -- a member, and what is read after it
 then_member : {A B : Type 0} (kind : Kind A) (check : Check) → Agrees kind check → (name : List ℕ) (d : Data) (next : A → Result B TextFault) (later : Found)
     → ((x : A) → is_ok (next x) ≡ is_none later) → is_ok (member kind name None d >>= next) ≡ is_none (or_later (part.member check name d) later)
-then_member kind check agrees name d next later rest = step (member kind name None d) next (part.member check name d) later (member_read kind check agrees name d) rest
+then_member kind check agrees name d next later rest =
+    step (member kind name None d) next (part.member check name d) later (member_read kind check agrees name d) rest
 
 -- ---- the parts of a setup
 
@@ -96,12 +100,14 @@ currency_read (string s) = refl
 currency_read (array ds) = refl
 currency_read (object ms) =
     let d = object ms in
-    let last : List ℕ → ℕ → Result Currency TextFault = λ code rate. member number (codes "haircut") None d >>= λ haircut. Ok (record { code = code; rate = rate; haircut = haircut }) in
+    let last : List ℕ → ℕ → Result Currency TextFault =
+    λ code rate. member number (codes "haircut") None d >>= λ haircut. Ok (record { code = code; rate = rate; haircut = haircut }) in
     let more : List ℕ → Result Currency TextFault = λ code. member number (codes "rate") None d >>= last code in
     let haircut : Found = part.member part.number (codes "haircut") d in
     then_member text part.text text_read (codes "code") d more (first_of (part.member part.number (codes "rate") d ∷ haircut ∷ [])) (λ code.
     then_member number part.number number_read (codes "rate") d (last code) (first_of (haircut ∷ [])) (λ rate.
-    then_member number part.number number_read (codes "haircut") d (λ haircut. Ok (record { code = code; rate = rate; haircut = haircut })) None (λ haircut. refl)))
+    then_member number part.number number_read
+    (codes "haircut") d (λ haircut. Ok (record { code = code; rate = rate; haircut = haircut })) None (λ haircut. refl)))
 
 bank_member_read : Agrees bank_member part.bank_member
 unfolding bank_member
@@ -121,7 +127,8 @@ bank_member_read (object ms) =
     let aggregates : Found = part.member part.number (codes "aggregate") d in
     then_member text part.text text_read (codes "name") d second (first_of (aggregates ∷ shorts ∷ deposits ∷ [])) (λ name.
     then_member number part.number number_read (codes "aggregate") d (third name) (first_of (shorts ∷ deposits ∷ [])) (λ aggregate.
-    then_member (list number) (part.list part.number) (list_read number part.number number_read) (codes "short") d (last name aggregate) (first_of (deposits ∷ [])) (λ short.
+    then_member (list number) (part.list part.number) (list_read number part.number number_read)
+    (codes "short") d (last name aggregate) (first_of (deposits ∷ [])) (λ short.
     then_member (list number) (part.list part.number) (list_read number part.number number_read) (codes "deposit") d
     (λ deposit. Ok (record { name = name; aggregate = aggregate; short = short; deposit = deposit })) None (λ deposit. refl))))
 
@@ -140,7 +147,8 @@ setup_read (object ms) =
     let members : Found = part.member (part.list part.bank_member) (codes "members") d in
     let currencies : Found = part.member (part.list part.currency) (codes "currencies") d in
     then_member number part.number number_read (codes "sites") d more (first_of (currencies ∷ members ∷ [])) (λ sites.
-    then_member (list currency) (part.list part.currency) (list_read currency part.currency currency_read) (codes "currencies") d (last sites) (first_of (members ∷ [])) (λ currencies.
+    then_member (list currency) (part.list part.currency) (list_read currency part.currency currency_read)
+    (codes "currencies") d (last sites) (first_of (members ∷ [])) (λ currencies.
     then_member (list bank_member) (part.list part.bank_member) (list_read bank_member part.bank_member bank_member_read) (codes "members") d
     (λ members. Ok (record { sites = sites; currencies = currencies; members = members })) None (λ members. refl)))
 
@@ -158,7 +166,8 @@ is_nothing : (found : Found) → is_none found ≡ true → found ≡ None
 is_nothing None none = refl
 is_nothing (Some found) none = absurd cc
 
-found_in_tree : (held : Option Data) → (ok_or held NotJson >>= λ d. setup None d >>= λ s. unless_broken (fault_of s) s) ≡ Err BadMember → wrong_of (ok_or held NotJson) ≢ None
+found_in_tree : (held : Option Data) → (ok_or held NotJson >>= λ d. setup None d >>= λ s. unless_broken (fault_of s) s) ≡ Err BadMember
+    → wrong_of (ok_or held NotJson) ≢ None
 found_in_tree (Some d) fails none =
     let bad : true ≡ false = sym (setup_read d ∙ ap is_none none) ∙ not_read (setup None d) fails in
     absurd cc

@@ -31,7 +31,8 @@ unknown_first kind (Some kinds) near = OtherKind kinds kind
 unknown_first kind None near = BeginsNoLine near
 
 abbrev pub unknown_word : Kind → Field → List ℕ → Option Why
-unknown_word kind First word = if bytes_eq word (codes "do") then None else Some (unknown_first kind (kinds_of word) (nearest word first))
+unknown_word kind First word =
+    if bytes_eq word (codes "do") then None else Some (unknown_first kind (kinds_of word) (nearest word first))
 unknown_word kind Command word = Some (NoCommand (nearest word commands))
 unknown_word kind _ word = None
 
@@ -75,10 +76,12 @@ abbrev pub no_sender : Kind → Setup → List ℕ → Why
 no_sender kind setup word = if is_some (currency_number setup word) then OfNode kind else NoSender
 
 abbrev pub unknown_name : Kind → Setup → Field → List ℕ → Option Why
-unknown_name kind setup Sender word = unless_named (no_sender kind setup word) (is_some (sender_number kind setup word)) word
+unknown_name kind setup Sender word =
+    unless_named (no_sender kind setup word) (is_some (sender_number kind setup word)) word
 unknown_name kind setup Client word = unless_named NoClient (is_some (client_number setup word)) word
 unknown_name kind setup Currency word = unless_named NoCurrency (is_some (currency_number setup word)) word
-unknown_name kind setup Actor word = if begins_with 115 word then None else unless_named NoActor (is_some (client_number setup word)) word
+unknown_name kind setup Actor word =
+    if begins_with 115 word then None else unless_named NoActor (is_some (client_number setup word)) word
 unknown_name kind setup Site word = if begins_with 115 word || begins_with 64 word then None else Some NoSite
 unknown_name kind setup _ word = None
 
@@ -98,7 +101,8 @@ this_or word None later = later
 
 -- THE FIRST WORD from the left that breaks a rule, and why
 abbrev pub first_broken : (Field → List ℕ → Option Why) → List Field → List (List ℕ) → Option (List ℕ × Why)
-first_broken breaks (field ∷ fields) (word ∷ words) = this_or word (breaks field word) (first_broken breaks fields words)
+first_broken breaks (field ∷ fields) (word ∷ words) =
+    this_or word (breaks field word) (first_broken breaks fields words)
 first_broken breaks _ _ = None
 
 -- ---- in words

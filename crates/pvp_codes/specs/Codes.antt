@@ -100,21 +100,26 @@ meaning (Folder why) = folder_meaning why
 -- ---- all of them
 
 abbrev pub line_codes : List LineCode
-line_codes = line.Byte ∷ line.UnknownWord ∷ line.WordCount ∷ line.Number ∷ line.UnknownName ∷ line.LineLength ∷ line.LineCount ∷ line.NoMemory ∷ []
+line_codes =
+    line.Byte ∷ line.UnknownWord ∷ line.WordCount ∷ line.Number ∷ line.UnknownName ∷ line.LineLength
+    ∷ line.LineCount ∷ line.NoMemory ∷ []
 
 abbrev pub reasons : List Reason
 reasons =
-    reason.NotYours ∷ reason.UnknownMember ∷ reason.UnknownCurrency ∷ reason.BadAmount ∷ reason.Repeated ∷ reason.Mismatch
+    reason.NotYours ∷ reason.UnknownMember ∷ reason.UnknownCurrency ∷ reason.BadAmount
+    ∷ reason.Repeated ∷ reason.Mismatch
     ∷ reason.UnknownReference ∷ reason.Late ∷ reason.Short ∷ reason.TestFails ∷ reason.BankShort ∷ []
 
 abbrev pub world_faults : List WorldFault
 world_faults = world.NoSuchEnvelope ∷ world.NoSuchActor ∷ world.Outstanding ∷ world.NoMemory ∷ []
 
 abbrev pub site_faults : List SiteFault
-site_faults = site.NoMemory ∷ site.CellFault ∷ site.NotUp ∷ site.AlreadyUp ∷ site.ViewsSpent ∷ site.BootsSpent ∷ site.NotMine ∷ []
+site_faults =
+    site.NoMemory ∷ site.CellFault ∷ site.NotUp ∷ site.AlreadyUp ∷ site.ViewsSpent ∷ site.BootsSpent ∷ site.NotMine ∷ []
 
 abbrev pub node_faults : List NodeFault
-node_faults = node.Short ∷ node.UnknownMember ∷ node.BadAmount ∷ node.NoMemory ∷ node.Spent ∷ node.NotMine ∷ node.Closed ∷ []
+node_faults =
+    node.Short ∷ node.UnknownMember ∷ node.BadAmount ∷ node.NoMemory ∷ node.Spent ∷ node.NotMine ∷ node.Closed ∷ []
 
 abbrev pub audit_tests : List Why
 audit_tests = audit.Stamped ∷ audit.Clock ∷ audit.Answered ∷ audit.End ∷ audit.Receipts ∷ audit.NoMemory ∷ []
@@ -144,7 +149,8 @@ abbrev pub place_whys : List PlaceWhy
 place_whys = place.Form ∷ place.Name ∷ place.Address ∷ place.Key ∷ place.Twice ∷ place.Missing ∷ []
 
 abbrev pub folder_whys : List FolderWhy
-folder_whys = folder.Actor ∷ folder.Failed ∷ folder.Locked ∷ folder.Unsynced ∷ folder.Cell ∷ folder.History ∷ folder.Open ∷ []
+folder_whys =
+    folder.Actor ∷ folder.Failed ∷ folder.Locked ∷ folder.Unsynced ∷ folder.Cell ∷ folder.History ∷ folder.Open ∷ []
 
 -- setups, scripts, commands, steps of the world, of sites, nodes and clients, audits, frames, live runs, journals,
 -- records, boot cells, the journals of one bank, and where they are put

@@ -93,7 +93,8 @@ byte_name byte is_last =
 
 -- a byte in a column, and what it is
 abbrev pub byte_told : ℕ → ℕ → Bool → List ℕ
-byte_told byte column is_last = codes "byte " ++ decimal byte ++ codes " at column " ++ decimal column ++ codes ": " ++ byte_name byte is_last
+byte_told byte column is_last =
+    codes "byte " ++ decimal byte ++ codes " at column " ++ decimal column ++ codes ": " ++ byte_name byte is_last
 
 -- where the first byte of a line stands that is no printed character
 abbrev pub first_unprinted : List ℕ → Option ℕ
@@ -124,7 +125,8 @@ line_told code kind setup line =
 -- THE FAULT OF A SCRIPT in words: its line's number, and what is told of the line
 abbrev pub line_explained : LineFault → Kind → Setup → List ℕ → List ℕ
 line_explained fault kind setup script =
-    codes "line " ++ decimal fault.line ++ codes ": " ++ line_told fault.code kind setup (line_of fault.line script) ++ codes "\n"
+    codes "line " ++ decimal fault.line ++ codes ": " ++ line_told fault.code kind setup
+    (line_of fault.line script) ++ codes "\n"
 
 -- ---- a setup
 
@@ -142,12 +144,14 @@ amount_told rule amount = alone_told (BadSetup rule) ++ codes ": " ++ decimal am
 
 -- a currency by its number, as a script tells it, and why it breaks the rule
 abbrev pub currency_told : SetupFault → Option (ℕ × Currency × PartWhy) → List ℕ
-currency_told rule (Some found) = codes "currency " ++ decimal found.0 ++ name_told found.1.code ++ codes ": " ++ part_text found.2
+currency_told rule (Some found) =
+    codes "currency " ++ decimal found.0 ++ name_told found.1.code ++ codes ": " ++ part_text found.2
 currency_told rule None = alone_told (BadSetup rule)
 
 -- a member likewise: members are numbered from 1
 abbrev pub member_told : SetupFault → Option (ℕ × Member × PartWhy) → List ℕ
-member_told rule (Some found) = codes "member " ++ decimal (found.0 + 1) ++ name_told found.1.name ++ codes ": " ++ part_text found.2
+member_told rule (Some found) =
+    codes "member " ++ decimal (found.0 + 1) ++ name_told found.1.name ++ codes ": " ++ part_text found.2
 member_told rule None = alone_told (BadSetup rule)
 
 -- the part of a setup that broke a rule

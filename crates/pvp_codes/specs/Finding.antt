@@ -23,11 +23,12 @@ abbrev pub IsAWord : Type 0
 IsAWord = (code : LineCode) (kind : Kind) (setup : Setup) (said : List (List ℕ)) (word : List ℕ) (why : Why)
     → found_in code kind setup said ≡ Some (word, why) → is_among word said ≡ true
 
--- WHERE THE READER OF LINES FAILS at a word, one is found: of a line with words it answers no code, but that of their count,
--- whose rule no word breaks
+-- WHERE THE READER OF LINES FAILS at a word, one is found: of a line with words it answers no code, but that of their
+-- count, whose rule no word breaks
 abbrev pub FindsWhereItFails : Type 0
 FindsWhereItFails = (code : LineCode) (kind : Kind) (setup : Setup) (first : List ℕ) (rest : List (List ℕ))
-    → code ≢ WordCount → statement_at kind setup (first ∷ rest) ≡ Err code → found_in code kind setup (first ∷ rest) ≢ None
+    → code ≢ WordCount → statement_at kind setup (first ∷ rest) ≡ Err code
+    → found_in code kind setup (first ∷ rest) ≢ None
 
 -- WHERE IT FAILS by the count of words, there are more than the form has, or fewer
 abbrev pub CountsWhereItFails : Type 0
@@ -36,7 +37,8 @@ CountsWhereItFails = (kind : Kind) (setup : Setup) (first : List ℕ) (rest : Li
 
 -- WHERE IT FAILS by a byte that is no printed character, one is found
 abbrev pub FindsAByte : Type 0
-FindsAByte = (kind : Kind) (setup : Setup) (line : List ℕ) → line_at kind setup line ≡ Err Byte → first_unprinted line ≢ None
+FindsAByte = (kind : Kind) (setup : Setup) (line : List ℕ) → line_at kind setup line ≡ Err Byte
+    → first_unprinted line ≢ None
 
 -- WHERE THE READER OF SETUPS FAILS at a part that is missing or of the wrong type, one is found
 abbrev pub FindsAPart : Type 0

@@ -37,19 +37,23 @@ rule_meaning CurrencyCode = codes "a currency's code is not three letters A to Z
 rule_meaning Rate = codes "a rate is not 1 to 1000000"
 rule_meaning Haircut = codes "a haircut is not 0 to 9999"
 rule_meaning MemberCount = codes "the members are not 1 to 64"
-rule_meaning MemberName = codes "a member's name is not 1 to 8 of A to Z and digits, a letter first, or it stands twice, is OP or is a currency's code"
+rule_meaning MemberName =
+    codes
+    "a member's name is not 1 to 8 of A to Z and digits, a letter first, or it stands twice, is OP or is a currency's code"
 rule_meaning ListLength = codes "a member's short limits or deposits are not one for each currency"
 rule_meaning Limit = codes "a limit is not 0 to 1000000000000000000, or a deposit is not 0 to 1000000000000000"
 
 abbrev pub text_meaning : TextFault → List ℕ
 text_meaning text.NotJson = codes "the text is no JSON"
-text_meaning text.BadMember = codes "a member of an object is missing or of another type; a number is digits alone, below 2^64"
+text_meaning text.BadMember =
+    codes "a member of an object is missing or of another type; a number is digits alone, below 2^64"
 text_meaning text.NoMemory = codes "memory was refused"
 text_meaning (text.BadSetup rule) = rule_meaning rule
 
 abbrev pub line_meaning : LineCode → List ℕ
 line_meaning line.Byte = codes "a byte outside 32 to 126"
-line_meaning line.UnknownWord = codes "the first word, or a command's, is unknown, or the first word is not of the script's kind"
+line_meaning line.UnknownWord =
+    codes "the first word, or a command's, is unknown, or the first word is not of the script's kind"
 line_meaning line.WordCount = codes "too many or too few words"
 line_meaning line.Number = codes "a number that is malformed or too large for its field"
 line_meaning line.UnknownName = codes "a name that nothing has, or that may not stand there"
@@ -59,7 +63,8 @@ line_meaning line.NoMemory = codes "memory was refused"
 
 abbrev pub reason_meaning : Reason → List ℕ
 reason_meaning reason.NotYours = codes "the sender is of the wrong kind, or no side of the pair that it takes back"
-reason_meaning reason.UnknownMember = codes "the sender or a member that is named is not in the setup, or the other side is the sender itself"
+reason_meaning reason.UnknownMember =
+    codes "the sender or a member that is named is not in the setup, or the other side is the sender itself"
 reason_meaning reason.UnknownCurrency = codes "a currency is not in the setup, or is sold for itself"
 reason_meaning reason.BadAmount = codes "an amount is not 1 to 1000000000000"
 reason_meaning reason.Repeated = codes "this was done already"
@@ -138,7 +143,8 @@ abbrev pub folder_meaning : FolderWhy → List ℕ
 folder_meaning folder.Actor = codes "the bank has no such actor"
 folder_meaning folder.Failed = codes "the folder could not be made, or a file there not be read or written"
 folder_meaning folder.Locked = codes "another process serves the folder"
-folder_meaning folder.Unsynced = codes "the end of the journal may be lost, and a node or a client cannot recover it from others"
+folder_meaning folder.Unsynced =
+    codes "the end of the journal may be lost, and a node or a client cannot recover it from others"
 folder_meaning folder.Cell = codes "the boot cell and the journal are not of one site"
 folder_meaning folder.History = codes "no actor can have taken what the journal tells"
 folder_meaning folder.Open = codes "without keys a site listens on this machine alone, unless the network is trusted"

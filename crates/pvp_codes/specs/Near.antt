@@ -30,7 +30,9 @@ known_text Returned = codes "returned"
 
 -- the words that begin lines, and the commands
 abbrev pub first : List Known
-first = Do ∷ Print ∷ PayIn ∷ Close ∷ Beat ∷ Timer ∷ Crash ∷ Restart ∷ Deliver ∷ Drain ∷ Skip ∷ Cut ∷ Heal ∷ Chaos ∷ Rest ∷ []
+first =
+    Do ∷ Print ∷ PayIn ∷ Close ∷ Beat ∷ Timer ∷ Crash ∷ Restart ∷ Deliver ∷ Drain ∷ Skip ∷ Cut
+    ∷ Heal ∷ Chaos ∷ Rest ∷ []
 
 abbrev pub commands : List Known
 commands = Instruct ∷ Rescind ∷ Settle ∷ Fund ∷ PayOut ∷ Paid ∷ Returned ∷ []
@@ -50,7 +52,8 @@ is_swapped _ _ = false
 abbrev pub has_slip : List ℕ → List ℕ → Bool
 has_slip word known =
     not (is_empty word && is_empty known)
-    && (bytes_eq (drop 1 word) (drop 1 known) || (bytes_eq (drop 1 word) known || (bytes_eq word (drop 1 known) || is_swapped word known)))
+    && (bytes_eq (drop 1 word) (drop 1 known)
+    || (bytes_eq (drop 1 word) known || (bytes_eq word (drop 1 known) || is_swapped word known)))
 
 -- ONE SLIP AWAY: so behind what two words have in common
 abbrev pub is_slip : List ℕ → List ℕ → Bool

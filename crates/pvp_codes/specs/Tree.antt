@@ -79,7 +79,9 @@ abbrev pub member : Check → List ℕ → Check
 member check name d = behind (codes "." ++ name) (member_of check (get name d))
 
 abbrev pub currency : Check
-currency d = first_of (object d ∷ member text (codes "code") d ∷ member number (codes "rate") d ∷ member number (codes "haircut") d ∷ [])
+currency d =
+    first_of (object d ∷ member text (codes "code") d ∷ member number
+    (codes "rate") d ∷ member number (codes "haircut") d ∷ [])
 
 abbrev pub bank_member : Check
 bank_member d = first_of (

@@ -89,8 +89,10 @@ pub fn first_broken<'a>(
     form: &[Field],
     line: &'a [u8],
 ) -> Option<(&'a [u8], Why)>
-    ensures none { IfNone result (spec.first_broken (spec.breaks code kind setup.now) form.now (words line.now) ≡ None) }
-    ensures some { IfSome result (λ x. spec.first_broken (spec.breaks code kind setup.now) form.now (words line.now) ≡ Some (x.0.now, x.1)) }
+    ensures none { IfNone result (spec.first_broken (spec.breaks code kind setup.now) form.now
+        (words line.now) ≡ None) }
+    ensures some { IfSome result (λ x. spec.first_broken (spec.breaks code kind setup.now) form.now
+        (words line.now) ≡ Some (x.0.now, x.1)) }
 {
     let mut rest = line;
     for field in form {

@@ -46,7 +46,8 @@ fn push_alone(text: &mut Vec<u8>, fault: TextFault) -> Result<(), AllocError>
 
 /// Appends which part of a text is missing or of the wrong type, and how.
 fn push_wrong_part(alloc: Global, text: &mut Vec<u8>, bytes: &[u8]) -> Result<(), AllocError>
-    ensures { OnOk result (text.new.items ≡ text.old.items ++ spec.wrong_told (wrong_in bytes.now)) }
+    ensures { OnOk result (text.new.items ≡ text.old.items
+        ++ spec.wrong_told (wrong_in bytes.now)) }
 {
     match check_text(alloc, bytes) {
         Ok(()) => push_alone(text, TextFault::BadMember),
@@ -57,7 +58,8 @@ fn push_wrong_part(alloc: Global, text: &mut Vec<u8>, bytes: &[u8]) -> Result<()
 
 /// Appends the path to a part, which begins with a dot where it is not that of the whole text, and what is wrong with it.
 fn push_wrong(alloc: Global, text: &mut Vec<u8>, path: &[u8], flaw: Flaw) -> Result<(), AllocError>
-    ensures { OnOk result (text.new.items ≡ text.old.items ++ spec.wrong_told (Some (path.now, flaw))) }
+    ensures { OnOk result (text.new.items ≡ text.old.items
+        ++ spec.wrong_told (Some (path.now, flaw))) }
 {
     let reason = format!(in alloc; "{flaw}")?;
     push(text, "setup: ")?;
@@ -189,7 +191,8 @@ pub fn explain_line(
     setup: &Setup,
     script: &[u8],
 ) -> Result<Vec<u8>, AllocError>
-    ensures { IfOk result (λ text. text.items ≡ spec.line_explained fault kind setup.now script.now) }
+    ensures { IfOk result (λ text. text.items ≡ spec.line_explained fault
+        kind setup.now script.now) }
 {
     let number = fault.line;
     let text = format!(in alloc; "line {number}: ")?;
@@ -209,7 +212,8 @@ fn push_line(
     setup: &Setup,
     line: &[u8],
 ) -> Result<(), AllocError>
-    ensures { OnOk result (text.new.items ≡ text.old.items ++ spec.line_told code kind setup.now line.now) }
+    ensures { OnOk result (text.new.items ≡ text.old.items
+        ++ spec.line_told code kind setup.now line.now) }
 {
     if is_of_words(code) && is_shown(line) {
         match first_broken(code, kind, setup, line_form(line), line) {
@@ -317,7 +321,8 @@ fn push_rule(
     code: LineCode,
     line: &[u8],
 ) -> Result<(), AllocError>
-    ensures { OnOk result (text.new.items ≡ text.old.items ++ spec.rule_told code (words line.now) ++ codes ": " ++ line.now) }
+    ensures { OnOk result (text.new.items ≡ text.old.items ++ spec.rule_told code (words line.now)
+        ++ codes ": " ++ line.now) }
 {
     match code {
         LineCode::WordCount => push_count(alloc, text, line_form(line), line)?,
@@ -335,7 +340,8 @@ fn push_count(
     form: &[Field],
     line: &[u8],
 ) -> Result<(), AllocError>
-    ensures { OnOk result (text.new.items ≡ text.old.items ++ spec.count_told form.now (words line.now)) }
+    ensures { OnOk result (text.new.items ≡ text.old.items
+        ++ spec.count_told form.now (words line.now)) }
 {
     match form {
         [] => push(text, "too few words"),
@@ -350,7 +356,8 @@ fn push_counted(
     count: usize,
     line: &[u8],
 ) -> Result<(), AllocError>
-    ensures { OnOk result (text.new.items ≡ text.old.items ++ spec.counted_told count (words line.now)) }
+    ensures { OnOk result (text.new.items ≡ text.old.items
+        ++ spec.counted_told count (words line.now)) }
 {
     let which = which(count, line);
     let told = format!(in alloc; "{which}, the form has {count}")?;

@@ -88,8 +88,10 @@ pub fn first_currency(
     rule: SetupFault,
     currencies: &[Currency],
 ) -> Option<(usize, &Currency, PartWhy)>
-    ensures none { IfNone result (spec.first_part (spec.currency_fault rule) [] currencies.now ≡ None) }
-    ensures some { IfSome result (λ x. spec.first_part (spec.currency_fault rule) [] currencies.now ≡ Some (x.0, x.1.now, x.2)) }
+    ensures none { IfNone result (spec.first_part (spec.currency_fault rule) [] currencies.now
+        ≡ None) }
+    ensures some { IfSome result (λ x. spec.first_part (spec.currency_fault rule) [] currencies.now
+        ≡ Some (x.0, x.1.now, x.2)) }
 {
     for (place, currency) in currencies.iter().enumerate() {
         if let Some(why) = currency_fault(rule, &currencies[..place], currency) {
@@ -101,8 +103,11 @@ pub fn first_currency(
 
 /// The first member of a setup that breaks a rule, with its place from 0, and why.
 pub fn first_member(rule: SetupFault, setup: &Setup) -> Option<(usize, &Member, PartWhy)>
-    ensures none { IfNone result (spec.first_part (spec.member_fault rule setup.now) [] setup.now.members ≡ None) }
-    ensures some { IfSome result (λ x. spec.first_part (spec.member_fault rule setup.now) [] setup.now.members ≡ Some (x.0, x.1.now, x.2)) }
+    ensures none { IfNone result
+        (spec.first_part (spec.member_fault rule setup.now) [] setup.now.members ≡ None) }
+    ensures some { IfSome result
+        (λ x. spec.first_part (spec.member_fault rule setup.now) [] setup.now.members
+        ≡ Some (x.0, x.1.now, x.2)) }
     ensures fits { IfSome result (λ x. x.0 + 1 < 2 ^ 64) }
 {
     let members = setup.members.as_slice();

@@ -128,7 +128,8 @@ const CODES: [Code; 99] = [
 /// Writes a line for each code that the program or one of its parts prints: the code, and what it means. Where memory is
 /// refused nothing is written; how much was where the writer fails is not said.
 pub fn print_codes<W: Write>(alloc: Global, writer: &mut W) -> Result<(), RunFault>
-    ensures written { OnOk result (Appends (W.contents writer.old) (W.contents writer.new) codes_text) }
+    ensures written { OnOk result (Appends (W.contents writer.old)
+        (W.contents writer.new) codes_text) }
     ensures fault { IfErr result (λ fault. (fault ≡ NoMemory) ⊎ (fault ≡ Output)) }
     ensures no_memory { result ≡ Err NoMemory → writer.new ≡ writer.old }
 {
@@ -139,7 +140,8 @@ pub fn print_codes<W: Write>(alloc: Global, writer: &mut W) -> Result<(), RunFau
 
 /// Appends a line for each of the codes.
 fn push_codes(text: &mut String, codes: &[Code]) -> Result<(), AllocError>
-    ensures { OnOk result (string_bytes text.new ≡ string_bytes text.old ++ flat_map code_line codes.now) }
+    ensures { OnOk result (string_bytes text.new ≡ string_bytes text.old
+        ++ flat_map code_line codes.now) }
 {
     for code in codes {
         let meaning = code.meaning();

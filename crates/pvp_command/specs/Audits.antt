@@ -39,10 +39,12 @@ AreReadFrom known _ _ = ⊥
 abbrev pub IsBadFile : (List ℕ → Option (List ℕ)) → (List ℕ → FileFault → Type 0) → ℕ → List ℕ → Fault → Type 0
 IsBadFile known fails place name told =
     TellsFile (OfJournal place) (fails name) told
-    ⊎ ((fault : JournalFault) × (told ≡ journal_told place fault) × IfSome (known name) (λ bytes. ReadsJournal bytes (Err fault)))
+    ⊎ ((fault : JournalFault) × (told ≡ journal_told place fault)
+    × IfSome (known name) (λ bytes. ReadsJournal bytes (Err fault)))
 
 -- the first that is bad, at a place counted from 1
-pub record IsBadAt (known : List ℕ → Option (List ℕ)) (fails : List ℕ → FileFault → Type 0) (names : List (List ℕ)) (told : Fault) : Type 0 where
+pub record IsBadAt (known : List ℕ → Option (List ℕ)) (fails : List ℕ → FileFault → Type 0) (names : List (List ℕ))
+    (told : Fault) : Type 0 where
   pub before : ℕ
   pub name : List ℕ
   pub journals : List Journal
@@ -62,34 +64,43 @@ IsTaken false histories judged = judged ≡ histories
 
 abbrev pub IsJudgedSo : Auditing → Setup → List History → Option (List ℕ) → Option (List ℕ) → ℕ → Type 0
 IsJudgedSo how s histories old new status =
-    (judged : List History) × (judgement : Judgement) × IsTaken how.cuts histories judged × JudgesHistories s judged judgement
+    (judged : List History) × (judgement : Judgement) × IsTaken how.cuts histories judged
+    × JudgesHistories s judged judgement
     × Appends old new (ending_text how.ending judgement) × (status ≡ status_judged judgement)
 
--- WHAT AN AUDIT WRITES: its files read as journals, these are all of one bank, and how their histories were judged is written
-abbrev pub AuditsBank : Auditing → (List ℕ → Option (List ℕ)) → Setup → List ℕ → List (List ℕ) → Option (List ℕ) → Option (List ℕ) → ℕ → Type 0
+-- WHAT AN AUDIT WRITES: its files read as journals, these are all of one bank, and how their histories were judged is
+-- written
+abbrev pub AuditsBank : Auditing → (List ℕ → Option (List ℕ)) → Setup → List ℕ → List (List ℕ) → Option (List ℕ)
+    → Option (List ℕ) → ℕ → Type 0
 AuditsBank how known s mark names old new status =
-    (journals : List Journal) × (histories : List History) × AreReadFrom known names journals × AreOneBank s mark journals histories
+    (journals : List Journal) × (histories : List History) × AreReadFrom known names journals
+    × AreOneBank s mark journals histories
     × IsJudgedSo how s histories old new status
 
-abbrev pub AuditWrites : Auditing → (List ℕ → Option (List ℕ)) → List ℕ → List (List ℕ) → Option (List ℕ) → Option (List ℕ) → ℕ → Type 0
+abbrev pub AuditWrites : Auditing → (List ℕ → Option (List ℕ)) → List ℕ → List (List ℕ) → Option (List ℕ)
+    → Option (List ℕ) → ℕ → Type 0
 AuditWrites how known setup names old new status =
     (s : Setup) × (setup_text setup ≡ Ok s) × AuditsBank how known s (mark_of setup) names old new status
 
 -- ---- its faults
 
--- the first bad journal, or why these are not all of one bank, and then nothing is written; or memory was refused to the
--- judgement, or the writer failed
-abbrev pub BankStops : {W : Type 0} → (List ℕ → Option (List ℕ)) → (List ℕ → FileFault → Type 0) → Setup → List ℕ → List (List ℕ) → W → W → Fault → Type 0
+-- the first bad journal, or why these are not all of one bank, and then nothing is written; or memory was refused to
+-- the judgement, or the writer failed
+abbrev pub BankStops : {W : Type 0} → (List ℕ → Option (List ℕ)) → (List ℕ → FileFault → Type 0) → Setup → List ℕ
+    → List (List ℕ) → W → W → Fault → Type 0
 BankStops known fails s mark names old new told =
     (IsBadAmong known fails names told × (new ≡ old))
     ⊎ ((journals : List Journal) × AreReadFrom known names journals
-    × (((fault : EvidenceFault) × (told ≡ evidence_told fault) × GatherFails s mark journals fault × (new ≡ old)) ⊎ IsTextFault told))
+    × (((fault : EvidenceFault) × (told ≡ evidence_told fault) × GatherFails s mark journals fault × (new ≡ old))
+    ⊎ IsTextFault told))
 
-abbrev pub AuditTells : {W : Type 0} → (List ℕ → Option (List ℕ)) → (List ℕ → FileFault → Type 0) → List ℕ → List ℕ → List (List ℕ) → W → W → Fault → Type 0
+abbrev pub AuditTells : {W : Type 0} → (List ℕ → Option (List ℕ)) → (List ℕ → FileFault → Type 0) → List ℕ → List ℕ
+    → List (List ℕ) → W → W → Fault → Type 0
 AuditTells known fails setup text names old new told =
     ((TellsFile OfSetup (fails setup) told ⊎ TellsSetup text told) × (new ≡ old))
     ⊎ ((s : Setup) × (setup_text text ≡ Ok s) × BankStops known fails s (mark_of text) names old new told)
 
 -- how many of an actor's events are cut off, in words
 abbrev pub cut_text : Setup → ℕ → ℕ → ℕ → List ℕ
-cut_text s actor count lost = actor_text s actor ++ codes ": " ++ decimal lost ++ codes " of " ++ decimal count ++ codes " events are cut off\n"
+cut_text s actor count lost =
+    actor_text s actor ++ codes ": " ++ decimal lost ++ codes " of " ++ decimal count ++ codes " events are cut off\n"

@@ -47,7 +47,8 @@ folder_line why = codes "journals: " ++ why ++ codes "\n"
 
 -- that of the journal at a place, of which this is told
 abbrev pub line_of_journal : Names → ℕ → Code → Option (List ℕ)
-line_of_journal sources place told = option_map (λ name. journal_line name (meaning told)) (name_of sources (OfJournal place))
+line_of_journal sources place told =
+    option_map (λ name. journal_line name (meaning told)) (name_of sources (OfJournal place))
 
 -- a fault on a script is explained where there is a script: by what is known of its bytes and of the setup's
 abbrev pub ExplainsLine : (List ℕ → Option (List ℕ)) → Names → LineFault → Option (List ℕ) → Option (List ℕ) → Type 0
@@ -58,17 +59,21 @@ ExplainsLine known sources fault (Some script) line =
 
 -- what a bank that runs by itself takes of the machine
 abbrev pub net_line : List ℕ
-net_line = codes "net: a listener could not be opened, or a connection not be made, over the loopback of this machine; each actor has a listener, each site two connections with each other actor, and each connection two of the files that `ulimit -n` allows\n"
+net_line =
+    codes
+    "net: a listener could not be opened, or a connection not be made, over the loopback of this machine; each actor has a listener, each site two connections with each other actor, and each connection two of the files that `ulimit -n` allows\n"
 
--- THE LINE THAT EXPLAINS A FAULT of a run over these sources, of whose bytes so much is known: a fault on the setup has one, and
--- so have one on the script that there is, a file that was not read, and the connections of a live run; no other has one
+-- THE LINE THAT EXPLAINS A FAULT of a run over these sources, of whose bytes so much is known: a fault on the setup has
+-- one, and so have one on the script that there is, a file that was not read, and the connections of a live run; no
+-- other has one
 abbrev pub Explains : (List ℕ → Option (List ℕ)) → Names → Fault → Option (List ℕ) → Type 0
 Explains known sources (told.Setup fault) line =
     IsSome line × IfSome (known sources.setup) (λ bytes. line ≡ Some (setup_explained fault bytes))
 Explains known sources (told.Line number code) line =
     ExplainsLine known sources (record { line = number; code = code }) sources.script line
 Explains known sources (told.NoSuchSite site) line = line ≡ None
-Explains known sources (told.File source why) line = line ≡ option_map (λ name. file_line source name why) (name_of sources source)
+Explains known sources (told.File source why) line =
+    line ≡ option_map (λ name. file_line source name why) (name_of sources source)
 Explains known sources told.Output line = line ≡ None
 Explains known sources told.Net line = line ≡ Some net_line
 Explains known sources told.Seats line = line ≡ None
@@ -88,12 +93,15 @@ HindersFile source fails why = TellsFile source fails why ⊎ (why ≡ told.NoMe
 -- of a line of a script also that its setup does not read any more; the script is read after it
 abbrev pub HindersLine : (FileFault → Type 0) → List ℕ → (FileFault → Type 0) → Fault → Type 0
 HindersLine fails setup script_fails why =
-    TellsFile OfSetup fails why ⊎ (TellsSetup setup why ⊎ (IsOk (setup_text setup) × HindersFile OfScript script_fails why))
+    TellsFile OfSetup fails why
+    ⊎ (TellsSetup setup why ⊎ (IsOk (setup_text setup) × HindersFile OfScript script_fails why))
 
 -- nothing does where there is no script, as there is no line
-abbrev pub HindersScript : (List ℕ → Option (List ℕ)) → (List ℕ → FileFault → Type 0) → List ℕ → Option (List ℕ) → Fault → Type 0
+abbrev pub HindersScript : (List ℕ → Option (List ℕ)) → (List ℕ → FileFault → Type 0) → List ℕ → Option (List ℕ) → Fault
+    → Type 0
 HindersScript known fails setup None why = ⊥
-HindersScript known fails setup (Some script) why = IfSome (known setup) (λ bytes. HindersLine (fails setup) bytes (fails script) why)
+HindersScript known fails setup (Some script) why =
+    IfSome (known setup) (λ bytes. HindersLine (fails setup) bytes (fails script) why)
 
 -- WHAT HINDERS THE EXPLANATION of a fault: nothing where it has none
 abbrev pub Hinders : (List ℕ → Option (List ℕ)) → (List ℕ → FileFault → Type 0) → Names → Fault → Fault → Type 0

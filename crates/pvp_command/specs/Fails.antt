@@ -29,12 +29,14 @@ abbrev pub fail_told : Option ℕ → Option ℕ → Option Bool → Option Fail
 fail_told None at keep = None
 fail_told (Some site) None keep = None
 fail_told (Some site) (Some at) None = None
-fail_told (Some site) (Some at) (Some keep) = if at == 0 then None else Some (record { site = site; at = at; keep = keep })
+fail_told (Some site) (Some at) (Some keep) =
+    if at == 0 then None else Some (record { site = site; at = at; keep = keep })
 
 -- SITE:AT:KEEP
 abbrev pub fail_at : List ℕ → Option Fail
 fail_at word =
-    fail_told (number_at (before_colon word)) (number_at (before_colon (after_colon word))) (keep_at (after_colon (after_colon word)))
+    fail_told (number_at (before_colon word)) (number_at (before_colon (after_colon word)))
+    (keep_at (after_colon (after_colon word)))
 
 -- what each word names
 abbrev pub each_fail : List (List ℕ) → Option (List Fail)

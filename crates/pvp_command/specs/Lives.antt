@@ -48,8 +48,10 @@ KeptIn None text s closed before after = after ≡ before
 KeptIn (Some folder) text s closed before after =
     (life : List ℕ) × (length life ≡ 16) × Gets (map (file_of folder s (bank_of text life)) closed) before after
 
--- what all actors of the bank left was judged, their journals were kept where that is asked for, and the judgement is written
-pub record IsTold (told : Told) (text : List ℕ) (s : Setup) (before after : Option (List File)) (old new : Option (List ℕ)) (status : ℕ) : Type 0 where
+-- what all actors of the bank left was judged, their journals were kept where that is asked for, and the judgement is
+-- written
+pub record IsTold (told : Told) (text : List ℕ) (s : Setup) (before after : Option (List File))
+    (old new : Option (List ℕ)) (status : ℕ) : Type 0 where
   pub closed : List Left
   pub judgement : Judgement
   pub judged : WasJudged s closed judgement
@@ -57,11 +59,13 @@ pub record IsTold (told : Told) (text : List ℕ) (s : Setup) (before after : Op
   pub written : Appends old new (ending_text told.ending judgement)
   pub ended : status ≡ status_judged judgement
 
-abbrev pub LivesScript : Told → List ℕ → Setup → List ℕ → Option (List File) → Option (List File) → Option (List ℕ) → Option (List ℕ) → ℕ → Type 0
+abbrev pub LivesScript : Told → List ℕ → Setup → List ℕ → Option (List File) → Option (List File) → Option (List ℕ)
+    → Option (List ℕ) → ℕ → Type 0
 LivesScript told text s script before after old new status =
     (lines : List Line) × (script_at Live s script ≡ Ok lines) × IsTold told text s before after old new status
 
-abbrev pub LiveWrites : Told → List ℕ → List ℕ → Option (List File) → Option (List File) → Option (List ℕ) → Option (List ℕ) → ℕ → Type 0
+abbrev pub LiveWrites : Told → List ℕ → List ℕ → Option (List File) → Option (List File) → Option (List ℕ)
+    → Option (List ℕ) → ℕ → Type 0
 LiveWrites told setup script before after old new status =
     (s : Setup) × (setup_text setup ≡ Ok s) × LivesScript told setup s script before after old new status
 
@@ -73,19 +77,21 @@ IsTextFault told = (told ≡ NoMemory) ⊎ (told ≡ Output)
 abbrev pub IsPutFault : Fault → Type 0
 IsPutFault told = (fault : PutFault) × (told ≡ put_told fault)
 
--- what may end a live run once its script is read: that it could not be run, or its journals not be kept, and then nothing is
--- written; want of memory, or that the writer failed
+-- what may end a live run once its script is read: that it could not be run, or its journals not be kept, and then
+-- nothing is written; want of memory, or that the writer failed
 abbrev pub LifeStops : {W : Type 0} → W → W → Fault → Type 0
 LifeStops old new told = (((told ≡ Net) ⊎ (told ≡ Seats) ⊎ IsPutFault told) × (new ≡ old)) ⊎ IsTextFault told
 
--- the fault of a live script, where its bytes are known: its file's or its first faulty line, and then nothing is written;
--- or, of one that reads right, what ended the run
+-- the fault of a live script, where its bytes are known: its file's or its first faulty line, and then nothing is
+-- written; or, of one that reads right, what ended the run
 abbrev pub TellsLive : {W : Type 0} → (FileFault → Type 0) → Setup → Option (List ℕ) → W → W → Fault → Type 0
 TellsLive fails s script old new told =
-    TellsScript fails Live s script old new told ⊎ IfSome script (λ bytes. IsOk (script_at Live s bytes) × LifeStops old new told)
+    TellsScript fails Live s script old new told ⊎ IfSome script
+    (λ bytes. IsOk (script_at Live s bytes) × LifeStops old new told)
 
 -- the fault of a live run: a file's or the setup's, and then nothing is written; or the script's
-abbrev pub LiveTells : {W : Type 0} → (FileFault → Type 0) → List ℕ → (FileFault → Type 0) → Option (List ℕ) → W → W → Fault → Type 0
+abbrev pub LiveTells : {W : Type 0} → (FileFault → Type 0) → List ℕ → (FileFault → Type 0) → Option (List ℕ) → W → W
+    → Fault → Type 0
 LiveTells fails setup script_fails script old new told =
     ((TellsFile OfSetup fails told ⊎ TellsSetup setup told) × (new ≡ old))
     ⊎ ((s : Setup) × (setup_text setup ≡ Ok s) × TellsLive script_fails s script old new told)

@@ -35,21 +35,24 @@ CheckWrites setup old new = IsOk (setup_text setup) × Appends old new (codes "s
 
 -- the text of one book over the script's lines
 abbrev pub BooksScript : Setup → List ℕ → Option (List ℕ) → Option (List ℕ) → Type 0
-BooksScript s script old new = (lines : List Line) × (script_at Book s script ≡ Ok lines) × Appends old new (book_text s lines)
+BooksScript s script old new =
+    (lines : List Line) × (script_at Book s script ≡ Ok lines) × Appends old new (book_text s lines)
 
 abbrev pub BookWrites : List ℕ → List ℕ → Option (List ℕ) → Option (List ℕ) → Type 0
 BookWrites setup script old new = (s : Setup) × (setup_text setup ≡ Ok s) × BooksScript s script old new
 
--- what the lines of a play tell, from a new world of the setup on, over new cells of which these saves are to fail: what
--- they print, or the steps that they try
+-- what the lines of a play tell, from a new world of the setup on, over new cells of which these saves are to fail:
+-- what they print, or the steps that they try
 abbrev pub PlaysScript : Telling → Setup → List Fail → List ℕ → Option (List ℕ) → Option (List ℕ) → Type 0
 PlaysScript telling s fails script old new =
     (lines : List Line) × (script_at Play s script ≡ Ok lines)
-    × (first last : Position MemCell) × IsOpening s fails telling first × ArePlayed memory telling first lines last old new
+    × (first last : Position MemCell) × IsOpening s fails telling first
+    × ArePlayed memory telling first lines last old new
 
 -- some text over a script that reads right: what a picture shows is not said
 abbrev pub DrawsScript : Setup → List ℕ → Option (List ℕ) → Option (List ℕ) → Type 0
-DrawsScript s script old new = (lines : List Line) × (script_at Play s script ≡ Ok lines) × (text : List ℕ) × Appends old new text
+DrawsScript s script old new =
+    (lines : List Line) × (script_at Play s script ≡ Ok lines) × (text : List ℕ) × Appends old new text
 
 -- the one or the other, as it is to be shown
 abbrev pub ShowsScript : Show → Setup → List Fail → List ℕ → Option (List ℕ) → Option (List ℕ) → Type 0
@@ -68,15 +71,16 @@ TellsFile source fails told = (fault : FileFault) × fails fault × (told ≡ fi
 -- the fault of a setup's text
 abbrev pub TellsSetup : List ℕ → Fault → Type 0
 TellsSetup setup told =
-    (fault : TextFault) × Faults text_fault_is_memory fault (λ refused. setup_where refused setup) × (told ≡ text_told fault)
+    (fault : TextFault) × Faults text_fault_is_memory fault (λ refused. setup_where refused setup)
+    × (told ≡ text_told fault)
 
 -- the fault of a check: its file's or its setup's, and then nothing is written; or that the writer failed
 abbrev pub CheckTells : {W : Type 0} → (FileFault → Type 0) → List ℕ → W → W → Fault → Type 0
 CheckTells fails setup old new told =
     ((TellsFile OfSetup fails told ⊎ TellsSetup setup told) × (new ≡ old)) ⊎ (IsOk (setup_text setup) × (told ≡ Output))
 
--- The fault of a run of what a script was read as: its first faulty line, and then nothing is written; of one that reads
--- right, that the writer failed; or want of memory, which may come anywhere.
+-- The fault of a run of what a script was read as: its first faulty line, and then nothing is written; of one that
+-- reads right, that the writer failed; or want of memory, which may come anywhere.
 abbrev pub RunStops : {W : Type 0} → Result (List Line) LineFault → RunFault → W → W → Type 0
 RunStops read (run.Line fault) old new = (read ≡ Err fault) × (new ≡ old)
 RunStops read run.Output old new = IsOk read
@@ -88,10 +92,12 @@ TellsRun read old new told = (fault : RunFault) × (told ≡ run_told fault) × 
 -- the fault of a script, where its bytes are known: its file's, and then nothing is written; or the run's
 abbrev pub TellsScript : {W : Type 0} → (FileFault → Type 0) → Kind → Setup → Option (List ℕ) → W → W → Fault → Type 0
 TellsScript fails kind s script old new told =
-    (TellsFile OfScript fails told × (new ≡ old)) ⊎ IfSome script (λ bytes. TellsRun (script_at kind s bytes) old new told)
+    (TellsFile OfScript fails told × (new ≡ old)) ⊎ IfSome script
+    (λ bytes. TellsRun (script_at kind s bytes) old new told)
 
 -- the fault of a script's run on one book: a file's or the setup's, and then nothing is written; or the script's
-abbrev pub BookTells : {W : Type 0} → (FileFault → Type 0) → List ℕ → (FileFault → Type 0) → Option (List ℕ) → W → W → Fault → Type 0
+abbrev pub BookTells : {W : Type 0} → (FileFault → Type 0) → List ℕ → (FileFault → Type 0) → Option (List ℕ) → W → W
+    → Fault → Type 0
 BookTells fails setup script_fails script old new told =
     ((TellsFile OfSetup fails told ⊎ TellsSetup setup told) × (new ≡ old))
     ⊎ ((s : Setup) × (setup_text setup ≡ Ok s) × TellsScript script_fails Book s script old new told)
@@ -101,8 +107,10 @@ abbrev pub TellsPlay : {W : Type 0} → Option ℕ → (FileFault → Type 0) �
 TellsPlay (Some site) script_fails s script old new told = (told ≡ NoSuchSite site) × (new ≡ old)
 TellsPlay None script_fails s script old new told = TellsScript script_fails Play s script old new told
 
--- the fault of a play: a file's or the setup's, and then nothing is written; that of a site that the setup lacks; or the script's
-abbrev pub PlayTells : {W : Type 0} → (FileFault → Type 0) → List ℕ → List Fail → (FileFault → Type 0) → Option (List ℕ) → W → W → Fault → Type 0
+-- the fault of a play: a file's or the setup's, and then nothing is written; that of a site that the setup lacks; or
+-- the script's
+abbrev pub PlayTells : {W : Type 0} → (FileFault → Type 0) → List ℕ → List Fail → (FileFault → Type 0) → Option (List ℕ)
+    → W → W → Fault → Type 0
 PlayTells fails setup saves script_fails script old new told =
     ((TellsFile OfSetup fails told ⊎ TellsSetup setup told) × (new ≡ old))
     ⊎ ((s : Setup) × (setup_text setup ≡ Ok s) × TellsPlay (unknown_site s saves) script_fails s script old new told)

@@ -16,20 +16,25 @@ use Rattle.pvp_evidence.specs.Shelves.{File}
 abbrev pub Writes : (List ℕ → Option (List ℕ)) → Request → Option (List ℕ) → Option (List ℕ) → ℕ → Type 0
 Writes known (Check setup) old new status = (status ≡ 0) × IfSome (known setup.now) (λ bytes. CheckWrites bytes old new)
 Writes known (Book setup script) old new status =
-    (status ≡ 0) × IfSome (known setup.now) (λ rules. IfSome (known script.now) (λ bytes. BookWrites rules bytes old new))
+    (status ≡ 0) × IfSome (known setup.now)
+    (λ rules. IfSome (known script.now) (λ bytes. BookWrites rules bytes old new))
 Writes known (Play show setup script fails) old new status =
-    (status ≡ 0) × IfSome (known setup.now) (λ rules. IfSome (known script.now) (λ bytes. PlayWrites show rules fails.items bytes old new))
+    (status ≡ 0) × IfSome (known setup.now)
+    (λ rules. IfSome (known script.now) (λ bytes. PlayWrites show rules fails.items bytes old new))
 Writes known (Live told setup script) old new status = ⊥
 Writes known (Audit how setup journals) old new status =
-    IfSome (known setup.now) (λ rules. AuditWrites how known rules (map (λ name. name.now) journals.items) old new status)
+    IfSome (known setup.now) (λ rules. AuditWrites how known rules
+    (map (λ name. name.now) journals.items) old new status)
 Writes known (Keys setup secret folder) old new status = ⊥
 Writes known (Serve order) old new status = ⊥
 Writes known Codes old new status = (status ≡ 0) × Appends old new codes_text
 
 -- on any machine, where journals may be put on a shelf too
-abbrev pub Ends : (List ℕ → Option (List ℕ)) → Request → Option (List File) → Option (List File) → Option (List ℕ) → Option (List ℕ) → ℕ → Type 0
+abbrev pub Ends : (List ℕ → Option (List ℕ)) → Request → Option (List File) → Option (List File) → Option (List ℕ)
+    → Option (List ℕ) → ℕ → Type 0
 Ends known (Live told setup script) before after old new status =
-    IfSome (known setup.now) (λ rules. IfSome (known script.now) (λ bytes. LiveWrites told rules bytes before after old new status))
+    IfSome (known setup.now) (λ rules. IfSome (known script.now)
+    (λ bytes. LiveWrites told rules bytes before after old new status))
 -- keys are put on a shelf
 Ends known (Keys setup secret folder) before after old new status = (new ≡ old) × (status ≡ 0)
 Ends known request before after old new status = (after ≡ before) × Writes known request old new status
@@ -39,27 +44,36 @@ abbrev pub IsWritten : (List ℕ → Option (List ℕ)) → Option (List ℕ) �
 IsWritten known old new status = (request : Request) × Writes known request old new status
 
 -- on any machine
-abbrev pub HasEnded : (List ℕ → Option (List ℕ)) → Option (List File) → Option (List File) → Option (List ℕ) → Option (List ℕ) → ℕ → Type 0
+abbrev pub HasEnded : (List ℕ → Option (List ℕ)) → Option (List File) → Option (List File) → Option (List ℕ)
+    → Option (List ℕ) → ℕ → Type 0
 HasEnded known before after old new status = (request : Request) × Ends known request before after old new status
 
 -- which fault it tells on a machine without threads and net, and where nothing is written then
-abbrev pub Tells : {W : Type 0} → (List ℕ → Option (List ℕ)) → (List ℕ → FileFault → Type 0) → Request → W → W → Fault → Type 0
-Tells known fails (Check setup) old new told = IfSome (known setup.now) (λ bytes. CheckTells (fails setup.now) bytes old new told)
+abbrev pub Tells : {W : Type 0} → (List ℕ → Option (List ℕ)) → (List ℕ → FileFault → Type 0) → Request → W → W → Fault
+    → Type 0
+Tells known fails (Check setup) old new told =
+    IfSome (known setup.now) (λ bytes. CheckTells (fails setup.now) bytes old new told)
 Tells known fails (Book setup script) old new told =
-    IfSome (known setup.now) (λ rules. BookTells (fails setup.now) rules (fails script.now) (known script.now) old new told)
+    IfSome (known setup.now) (λ rules. BookTells (fails setup.now) rules (fails script.now)
+    (known script.now) old new told)
 Tells known fails (Play show setup script saves) old new told =
-    IfSome (known setup.now) (λ rules. PlayTells (fails setup.now) rules saves.items (fails script.now) (known script.now) old new told)
+    IfSome (known setup.now) (λ rules. PlayTells (fails setup.now) rules saves.items (fails script.now)
+    (known script.now) old new told)
 Tells known fails (Live told_how setup script) old new told =
-    IfSome (known setup.now) (λ rules. LiveTells (fails setup.now) rules (fails script.now) (known script.now) old new told) × (new ≡ old)
+    IfSome (known setup.now) (λ rules. LiveTells (fails setup.now) rules (fails script.now)
+    (known script.now) old new told) × (new ≡ old)
 Tells known fails (Audit how setup journals) old new told =
-    IfSome (known setup.now) (λ rules. AuditTells known fails setup.now rules (map (λ name. name.now) journals.items) old new told)
+    IfSome (known setup.now) (λ rules. AuditTells known fails setup.now rules
+    (map (λ name. name.now) journals.items) old new told)
 Tells known fails (Keys setup secret folder) old new told = (told ≡ Output) × (new ≡ old)
 Tells known fails (Serve order) old new told = (told ≡ Net) × (new ≡ old)
 Tells known fails Codes old new told = (told ≡ NoMemory) ⊎ (told ≡ Output)
 
 -- which fault it tells on any machine
-abbrev pub Stops : {W : Type 0} → (List ℕ → Option (List ℕ)) → (List ℕ → FileFault → Type 0) → Request → W → W → Fault → Type 0
+abbrev pub Stops : {W : Type 0} → (List ℕ → Option (List ℕ)) → (List ℕ → FileFault → Type 0) → Request → W → W → Fault
+    → Type 0
 Stops known fails (Live told_how setup script) old new told =
-    IfSome (known setup.now) (λ rules. LiveTells (fails setup.now) rules (fails script.now) (known script.now) old new told)
+    IfSome (known setup.now) (λ rules. LiveTells (fails setup.now) rules (fails script.now)
+    (known script.now) old new told)
 Stops known fails (Keys setup secret folder) old new told = new ≡ old
 Stops known fails request old new told = Tells known fails request old new told

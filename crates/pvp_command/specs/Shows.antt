@@ -34,7 +34,8 @@ are_in_order steps = nat_le 1 steps.from && is_after steps.from steps.to
 abbrev pub steps_of : Option ℕ → Option (Option ℕ) → Option Steps
 steps_of None to = None
 steps_of (Some from) None = None
-steps_of (Some from) (Some to) = let steps : Steps = record { from = from; to = to } in if are_in_order steps then Some steps else None
+steps_of (Some from) (Some to) = let steps : Steps = record { from = from; to = to } in
+    if are_in_order steps then Some steps else None
 
 -- steps are told where none is named
 abbrev pub told_at : Option (List ℕ) → Option (List ℕ) → Option Show

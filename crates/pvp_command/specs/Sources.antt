@@ -32,14 +32,25 @@ abbrev pub journals_of : Request → List (List ℕ)
 journals_of (asked.Audit how setup journals) = map (λ name. name.now) journals.items
 journals_of _ = []
 
--- THE SOURCES OF A REQUEST: its setup, its script where it has one, and of what kind that is, and journals; the codes are in no file
+-- THE SOURCES OF A REQUEST: its setup, its script where it has one, and of what kind that is, and journals; the codes
+-- are in no file
 abbrev pub sources_of : Request → Option Names
 sources_of (asked.Check setup) = Some (record { kind = kinds.Book; setup = setup.now; script = None; journals = [] })
-sources_of (asked.Book setup script) = Some (record { kind = kinds.Book; setup = setup.now; script = Some script.now; journals = [] })
-sources_of (asked.Play show setup script fails) = Some (record { kind = kinds.Play; setup = setup.now; script = Some script.now; journals = [] })
-sources_of (asked.Live told setup script) = Some (record { kind = kinds.Live; setup = setup.now; script = Some script.now; journals = [] })
+sources_of (asked.Book setup script) =
+    Some (record { kind = kinds.Book; setup = setup.now; script = Some script.now; journals = [] })
+sources_of (asked.Play show setup script fails) =
+    Some (record { kind = kinds.Play; setup = setup.now; script = Some script.now; journals = [] })
+sources_of (asked.Live told setup script) =
+    Some (record { kind = kinds.Live; setup = setup.now; script = Some script.now; journals = [] })
 sources_of (asked.Audit how setup journals) =
-    Some (record { kind = kinds.Book; setup = setup.now; script = None; journals = map (λ name. name.now) journals.items })
-sources_of (asked.Keys setup secret folder) = Some (record { kind = kinds.Book; setup = setup.now; script = None; journals = [] })
-sources_of (asked.Serve order) = Some (record { kind = kinds.Live; setup = order.setup.now; script = None; journals = [] })
+    Some (record {
+      kind = kinds.Book;
+      setup = setup.now;
+      script = None;
+      journals = map (λ name. name.now) journals.items;
+    })
+sources_of (asked.Keys setup secret folder) =
+    Some (record { kind = kinds.Book; setup = setup.now; script = None; journals = [] })
+sources_of (asked.Serve order) =
+    Some (record { kind = kinds.Live; setup = order.setup.now; script = None; journals = [] })
 sources_of asked.Codes = None

@@ -78,7 +78,8 @@ fn audit_bank<F: Files, O: Write, E: Write>(
     ensures ok { IfOk result (AuditsBank how (F.known files.now) setup.now (mark_of text.now)
         (map (λ name. name.now) journals.now) (O.contents out.old) (O.contents out.new)) }
     ensures faultless { IfOk result IsFaultless }
-    ensures err { IfErr result (BankStops (F.known files.now) (F.fails files.now) setup.now (mark_of text.now)
+    ensures err { IfErr result (BankStops (F.known files.now)
+        (F.fails files.now) setup.now (mark_of text.now)
         (map (λ name. name.now) journals.now) out.old out.new) }
 {
     let journals = read_journals(alloc, files, journals)?;
@@ -91,7 +92,8 @@ fn audit_bank<F: Files, O: Write, E: Write>(
 fn read_journals<F: Files>(alloc: Global, files: &F, names: &[&str]) -> Result<Vec<Journal>, Fault>
     ensures ok { IfOk result (λ journals.
         AreReadFrom (F.known files.now) (map (λ name. name.now) names.now) journals.items) }
-    ensures err { IfErr result (IsBadAmong (F.known files.now) (F.fails files.now) (map (λ name. name.now) names.now)) }
+    ensures err { IfErr result (IsBadAmong (F.known files.now) (F.fails files.now)
+        (map (λ name. name.now) names.now)) }
 {
     let mut journals = Vec::with_capacity(alloc, names.len())?;
     let mut place = 0;
@@ -125,7 +127,8 @@ fn judge_bank<O: Write, E: Write>(
 ) -> Result<u8, Fault>
     requires valid { IsValid setup.now }
     requires bank { AreOfTheBank setup.now histories.items }
-    ensures ok { IfOk result (IsJudgedSo how setup.now histories.items (O.contents out.old) (O.contents out.new)) }
+    ensures ok { IfOk result (IsJudgedSo how setup.now histories.items
+        (O.contents out.old) (O.contents out.new)) }
     ensures faultless { IfOk result IsFaultless }
     ensures err { IfErr result IsTextFault }
 {
@@ -158,7 +161,8 @@ fn cut_told<E: Write>(
 
 /// How many events each of these histories has.
 fn counts_of(alloc: Global, histories: &[History]) -> Result<Vec<usize>, AllocError>
-    ensures { IfOk result (λ counts. counts.items ≡ map (λ history. length history.entries.items) histories.now) }
+    ensures { IfOk result (λ counts. counts.items ≡ map
+        (λ history. length history.entries.items) histories.now) }
 {
     let mut counts = Vec::with_capacity(alloc, histories.len())?;
     for history in histories {

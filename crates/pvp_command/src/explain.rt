@@ -44,8 +44,10 @@ pub fn explained<F: Files>(
     fault: Fault,
 ) -> Result<Option<Vec<u8>>, Fault>
     ensures ok { IfOk result (λ line.
-        Explains (F.known files.now) (names_of sources.entry) fault (option_map (λ text. text.items) line)) }
-    ensures err { IfErr result (Hinders (F.known files.now) (F.fails files.now) (names_of sources.entry) fault) }
+        Explains (F.known files.now) (names_of sources.entry) fault
+        (option_map (λ text. text.items) line)) }
+    ensures err { IfErr result (Hinders (F.known files.now) (F.fails files.now)
+        (names_of sources.entry) fault) }
 {
     match fault {
         Fault::Setup(fault) => explained_setup(alloc, files, sources.setup, fault).map(Some),
@@ -79,7 +81,8 @@ fn file_line(
     why: Unread,
 ) -> Result<Option<Vec<u8>>, Fault>
     ensures ok { IfOk result (λ line. option_map (λ text. text.items) line
-        ≡ option_map (λ name. file_line source name why) (name_of (names_of sources.entry) source)) }
+        ≡ option_map (λ name. file_line source name why)
+        (name_of (names_of sources.entry) source)) }
     ensures err { IfErr result (λ fault. fault ≡ NoMemory) }
 {
     let told = match (source, sources.script) {
@@ -99,7 +102,8 @@ fn file_line(
 
 /// The name of the journal at a place, counted from 1.
 fn journal_at<'a>(sources: Sources<'a>, place: usize) -> Option<&'a str>
-    ensures { option_map (λ name. name.now) result ≡ name_of (names_of sources.entry) (OfJournal place) }
+    ensures { option_map (λ name. name.now) result ≡ name_of
+        (names_of sources.entry) (OfJournal place) }
 {
     let name = sources.journals?.get(place.checked_sub(1)?)?;
     Some(*name)
@@ -113,7 +117,8 @@ fn journal_line(
     meaning: &str,
 ) -> Result<Option<Vec<u8>>, Fault>
     ensures ok { IfOk result (λ line. option_map (λ text. text.items) line
-        ≡ option_map (λ name. journal_line name meaning.now) (name_of (names_of sources.entry) (OfJournal place))) }
+        ≡ option_map (λ name. journal_line name meaning.now)
+        (name_of (names_of sources.entry) (OfJournal place))) }
     ensures err { IfErr result (λ fault. fault ≡ NoMemory) }
 {
     let Some(name) = journal_at(sources, place) else {

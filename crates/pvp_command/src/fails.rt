@@ -10,7 +10,8 @@ use std::alloc::{AllocError, Global};
 /// The saves that words name, in their order. `None` where a word is no SITE:AT:KEEP, or where two words name one site.
 /// `Err` where memory is refused.
 pub fn read_fails(alloc: Global, words: &[&str]) -> Result<Option<Vec<Fail>>, AllocError>
-    ensures { IfOk result (λ told. option_map (λ fails. fails.items) told ≡ fails_at (map (λ word. word.now) words.now)) }
+    ensures { IfOk result (λ told. option_map (λ fails. fails.items) told
+        ≡ fails_at (map (λ word. word.now) words.now)) }
 {
     let read = each_fail(alloc, words)?;
     Ok(read.filter(|fails| !names_twice(fails.as_slice())))
@@ -18,7 +19,8 @@ pub fn read_fails(alloc: Global, words: &[&str]) -> Result<Option<Vec<Fail>>, Al
 
 /// The save that each word names. `None` where a word is no SITE:AT:KEEP.
 fn each_fail(alloc: Global, words: &[&str]) -> Result<Option<Vec<Fail>>, AllocError>
-    ensures { IfOk result (λ told. option_map (λ fails. fails.items) told ≡ each_fail (map (λ word. word.now) words.now)) }
+    ensures { IfOk result (λ told. option_map (λ fails. fails.items) told
+        ≡ each_fail (map (λ word. word.now) words.now)) }
 {
     let mut fails = Vec::new(alloc);
     for word in words {

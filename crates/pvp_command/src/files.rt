@@ -112,7 +112,8 @@ pub trait Files {
 
     /// All bytes of a file.
     fn read(&self, alloc: Global, name: &str) -> Result<Vec<u8>, FileFault>
-        ensures ok { IfSome (known self.now name.now) (λ bytes. IfOk result (λ found. found.items ≡ bytes)) }
+        ensures ok { IfSome (known self.now name.now)
+            (λ bytes. IfOk result (λ found. found.items ≡ bytes)) }
         ensures err { IfErr result (fails self.now name.now) };
 }
 
@@ -154,7 +155,8 @@ pub(crate) fn read_source<F: Files>(
     source: Source,
     name: &str,
 ) -> Result<Vec<u8>, Fault>
-    ensures ok { IfSome (F.known files.now name.now) (λ bytes. IfOk result (λ found. found.items ≡ bytes)) }
+    ensures ok { IfSome (F.known files.now name.now)
+        (λ bytes. IfOk result (λ found. found.items ≡ bytes)) }
     ensures err { IfErr result (TellsFile source (F.fails files.now name.now)) }
 {
     match files.read(alloc, name) {

@@ -75,7 +75,8 @@ where
         (O.contents out.old) (O.contents out.new) status))) }
     ensures faultless { IfOk result IsFaultless }
     ensures err { IfErr result (λ fault. IfSome (F.known files.now setup.now) (λ setup_bytes.
-        LiveTells (F.fails files.now setup.now) setup_bytes (F.fails files.now script.now) (F.known files.now script.now)
+        LiveTells (F.fails files.now setup.now) setup_bytes (F.fails files.now script.now)
+        (F.known files.now script.now)
         out.old out.new fault)) }
 {
     let text = read_source(alloc, files, Source::Setup, setup)?;
@@ -97,7 +98,8 @@ pub fn without_net<F: Files, O>(
 ) -> Result<u8, Fault>
     ensures never { IfOk result (λ _. ⊥) }
     ensures err { IfErr result (λ fault. IfSome (F.known files.now setup.now) (λ setup_bytes.
-        LiveTells (F.fails files.now setup.now) setup_bytes (F.fails files.now script.now) (F.known files.now script.now)
+        LiveTells (F.fails files.now setup.now) setup_bytes (F.fails files.now script.now)
+        (F.known files.now script.now)
         _out.old _out.new fault)) }
     ensures unwritten { _out.new ≡ _out.old }
 {
@@ -116,7 +118,8 @@ fn script_without_net<F: Files, O>(
 ) -> Result<u8, Fault>
     requires { IsValid setup.now }
     ensures never { IfOk result (λ _. ⊥) }
-    ensures err { IfErr result (TellsLive (F.fails files.now script.now) setup.now (F.known files.now script.now)
+    ensures err { IfErr result (TellsLive (F.fails files.now script.now) setup.now
+        (F.known files.now script.now)
         _out.old _out.new) }
     ensures unwritten { _out.new ≡ _out.old }
 {
@@ -217,7 +220,8 @@ fn keep<R: RandomSource, K: Shelf>(
     rules: Rules<'_>,
     closed: &[Closed<Party>],
 ) -> Result<(), Fault>
-    ensures ok { OnOk result (KeptIn (option_map (λ name. name.now) folder.entry) rules.entry.text.now rules.entry.setup.now
+    ensures ok { OnOk result (KeptIn (option_map (λ name. name.now) folder.entry)
+        rules.entry.text.now rules.entry.setup.now
         closed.now (K.files shelf.old) (K.files shelf.new)) }
     ensures err { IfErr result IsPutFault }
 {
@@ -246,7 +250,8 @@ pub(crate) fn tell<O: Write>(
     judgement: &Judgement,
     out: &mut O,
 ) -> Result<u8, Fault>
-    ensures text { OnOk result (Appends (O.contents out.old) (O.contents out.new) (ending_text ending judgement.now)) }
+    ensures text { OnOk result (Appends (O.contents out.old) (O.contents out.new)
+        (ending_text ending judgement.now)) }
     ensures status { IfOk result (λ status. status ≡ status_judged judgement.now) }
     ensures faultless { IfOk result IsFaultless }
     ensures err { IfErr result IsTextFault }

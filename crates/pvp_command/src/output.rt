@@ -46,7 +46,8 @@ impl<O: Write> Write for Piped<O> {
 
     fn write(&mut self, buf: &[u8]) -> io::Result<usize>
         ensures bound { WritesAtMost result buf.now }
-        ensures bytes { WriteAppends (O.contents self.old.out) (O.contents self.new.out) result buf.now }
+        ensures bytes { WriteAppends (O.contents self.old.out)
+            (O.contents self.new.out) result buf.now }
         ensures gone { IfErr result (λ failed. self.new.is_left ≡ is_gone (error_kind failed)) }
         ensures there { OnOk result (self.new.is_left ≡ self.old.is_left) }
     {

@@ -68,7 +68,8 @@ pub fn command_on<R, S: AsStr, F: Files, K: Shelf, O: Write + Audience, E: Write
 where
     R: Threads + Wait + Clock + Net + RandomSource + Sync,
     R::Stream: Read + Write + Send + Drop,
-    ensures done { IsFaultless result → HasEnded (F.known files.now) (K.files shelf.old) (K.files shelf.new)
+    ensures done { IsFaultless result →
+        HasEnded (F.known files.now) (K.files shelf.old) (K.files shelf.new)
         (O.contents out.old) (O.contents out.new) result }
     ensures status { result ≤ 3 }
 {
@@ -94,7 +95,8 @@ pub fn command<S: AsStr, F: Files, O: Write + Audience, E: Write>(
     out: &mut O,
     err: &mut E,
 ) -> u8
-    ensures done { IsFaultless result → IsWritten (F.known files.now) (O.contents out.old) (O.contents out.new) result }
+    ensures done { IsFaultless result →
+        IsWritten (F.known files.now) (O.contents out.old) (O.contents out.new) result }
     ensures status { result ≤ 3 }
 {
     match parse(alloc, words) {
@@ -115,8 +117,10 @@ pub fn command<S: AsStr, F: Files, O: Write + Audience, E: Write>(
 fn refuse<O: Write, E: Write>(refusal: &Error, out: &mut O, err: &mut E) -> u8
     ensures memory { kind_of refusal.now ≡ refused.OutOfMemory → result ≡ 1 }
     ensures help { kind_of refusal.now ≢ refused.OutOfMemory → result ≡ 2 }
-    ensures out { kind_of refusal.now ≢ refused.DisplayHelp → kind_of refusal.now ≢ refused.DisplayVersion → out.new ≡ out.old }
-    ensures err { (kind_of refusal.now ≡ refused.DisplayHelp) ⊎ (kind_of refusal.now ≡ refused.DisplayVersion)
+    ensures out { kind_of refusal.now ≢ refused.DisplayHelp →
+        kind_of refusal.now ≢ refused.DisplayVersion → out.new ≡ out.old }
+    ensures err { (kind_of refusal.now ≡ refused.DisplayHelp)
+        ⊎ (kind_of refusal.now ≡ refused.DisplayVersion)
         → err.new ≡ err.old }
 {
     match refusal.kind() {
@@ -208,7 +212,8 @@ where
     R::Stream: Read + Write + Send + Drop,
     ensures ok { IfOk result (λ status. IsFaultless status × Ends (F.known files.now) request.now
         (K.files shelf.old) (K.files shelf.new) (O.contents out.old) (O.contents out.new) status) }
-    ensures err { IfErr result (Stops (F.known files.now) (F.fails files.now) request.now out.old out.new) }
+    ensures err { IfErr result (Stops (F.known files.now)
+        (F.fails files.now) request.now out.old out.new) }
 {
     match request {
         Request::Live {
@@ -238,7 +243,8 @@ fn run<F: Files, O: Write, E: Write>(
 ) -> Result<u8, Fault>
     ensures ok { IfOk result (λ status. IsFaultless status
         × Writes (F.known files.now) request.now (O.contents out.old) (O.contents out.new) status) }
-    ensures err { IfErr result (Tells (F.known files.now) (F.fails files.now) request.now out.old out.new) }
+    ensures err { IfErr result (Tells (F.known files.now)
+        (F.fails files.now) request.now out.old out.new) }
 {
     match request {
         Request::Check { setup } => check(alloc, files, *setup, out)?,
@@ -305,7 +311,8 @@ fn book<F: Files, O: Write>(
         IfSome (F.known files.now script.now) (λ script_bytes.
         BookWrites setup_bytes script_bytes (O.contents out.old) (O.contents out.new)))) }
     ensures err { IfErr result (λ fault. IfSome (F.known files.now setup.now) (λ setup_bytes.
-        BookTells (F.fails files.now setup.now) setup_bytes (F.fails files.now script.now) (F.known files.now script.now)
+        BookTells (F.fails files.now setup.now) setup_bytes (F.fails files.now script.now)
+        (F.known files.now script.now)
         out.old out.new fault)) }
 {
     let setup = read_source(alloc, files, Source::Setup, setup)?;
@@ -324,7 +331,8 @@ fn book_script<F: Files, O: Write>(
     requires { IsValid setup.now }
     ensures ok { OnOk result (IfSome (F.known files.now script.now) (λ bytes.
         BooksScript setup.now bytes (O.contents out.old) (O.contents out.new))) }
-    ensures err { IfErr result (TellsScript (F.fails files.now script.now) kinds.Book setup.now (F.known files.now script.now)
+    ensures err { IfErr result (TellsScript (F.fails files.now script.now) kinds.Book setup.now
+        (F.known files.now script.now)
         out.old out.new) }
 {
     let script = read_source(alloc, files, Source::Script, script)?;
@@ -339,8 +347,10 @@ fn run_lines<O: Write>(
     out: &mut O,
 ) -> Result<(), Fault>
     requires { IsValid setup.now }
-    ensures ok { OnOk result (BooksScript setup.now script.now (O.contents out.old) (O.contents out.new)) }
-    ensures err { IfErr result (TellsRun (script_at kinds.Book setup.now script.now) out.old out.new) }
+    ensures ok { OnOk result (BooksScript setup.now script.now
+        (O.contents out.old) (O.contents out.new)) }
+    ensures err { IfErr result
+        (TellsRun (script_at kinds.Book setup.now script.now) out.old out.new) }
 {
     run_book(alloc, setup, script, out)?;
     Ok(())
@@ -358,9 +368,11 @@ fn play<F: Files, O: Write>(
 ) -> Result<(), Fault>
     ensures ok { OnOk result (IfSome (F.known files.now setup.now) (λ setup_bytes.
         IfSome (F.known files.now script.now) (λ script_bytes.
-        PlayWrites show setup_bytes fails.now script_bytes (O.contents out.old) (O.contents out.new)))) }
+        PlayWrites show setup_bytes fails.now script_bytes (O.contents out.old)
+        (O.contents out.new)))) }
     ensures err { IfErr result (λ fault. IfSome (F.known files.now setup.now) (λ setup_bytes.
-        PlayTells (F.fails files.now setup.now) setup_bytes fails.now (F.fails files.now script.now) (F.known files.now script.now)
+        PlayTells (F.fails files.now setup.now) setup_bytes fails.now (F.fails files.now script.now)
+        (F.known files.now script.now)
         out.old out.new fault)) }
 {
     let bytes = read_source(alloc, files, Source::Setup, setup)?;
@@ -384,7 +396,8 @@ fn play_script<F: Files, O: Write>(
     requires { IsValid setup.now }
     ensures ok { OnOk result (IfSome (F.known files.now script.now) (λ bytes.
         ShowsScript show setup.now fails.now bytes (O.contents out.old) (O.contents out.new))) }
-    ensures err { IfErr result (TellsScript (F.fails files.now script.now) kinds.Play setup.now (F.known files.now script.now)
+    ensures err { IfErr result (TellsScript (F.fails files.now script.now) kinds.Play setup.now
+        (F.known files.now script.now)
         out.old out.new) }
 {
     let script = read_source(alloc, files, Source::Script, script)?;
@@ -401,8 +414,10 @@ fn show_play<O: Write>(
     out: &mut O,
 ) -> Result<(), Fault>
     requires { IsValid setup.now }
-    ensures ok { OnOk result (ShowsScript show setup.now fails.now script.now (O.contents out.old) (O.contents out.new)) }
-    ensures err { IfErr result (TellsRun (script_at kinds.Play setup.now script.now) out.old out.new) }
+    ensures ok { OnOk result (ShowsScript show setup.now fails.now script.now
+        (O.contents out.old) (O.contents out.new)) }
+    ensures err { IfErr result
+        (TellsRun (script_at kinds.Play setup.now script.now) out.old out.new) }
 {
     match show {
         Show::Told(Telling::Books) => play_failing(alloc, setup, fails, script, out)?,

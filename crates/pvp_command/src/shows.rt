@@ -19,7 +19,8 @@ pub enum Show {
 /// `None` where a step is named and no picture is asked for, where a word is no number of 32 bits without a leading zero,
 /// where the first is 0, and where the last comes before the first.
 pub fn show_at(picture: bool, from: Option<&str>, to: Option<&str>) -> Option<Show>
-    ensures { result ≡ show_at picture (option_map (λ word. word.now) from.entry) (option_map (λ word. word.now) to.entry) }
+    ensures { result ≡ show_at picture (option_map (λ word. word.now) from.entry)
+        (option_map (λ word. word.now) to.entry) }
 {
     if !picture {
         return match (from, to) {

@@ -43,7 +43,8 @@ module _ (setup : Setup) (members : length setup.members ≤ 64) (nodes : length
   actors_rise : RisesFrom 0 (actors_of setup)
   actors_rise =
       let low : RisesFrom 0 (clients_of ++ nodes_of) = rises_append 0 101 clients_of nodes_of (range_rises 0 (length setup.members + 1))
-      (λ n found. let less = range_below 0 (length setup.members + 1) n found in omega (arith, less, members)) (omega arith) (range_rises 101 (length setup.currencies)) in
+      (λ n found. let less = range_below 0 (length setup.members + 1) n found in
+      omega (arith, less, members)) (omega arith) (range_rises 101 (length setup.currencies)) in
       rises_append 0 200 (clients_of ++ nodes_of) sites_of low
       (λ n found. elim (has_cases n clients_of nodes_of found) [
         | inl e ↦ let less = range_below 0 (length setup.members + 1) n e in omega (arith, less, members)
@@ -69,10 +70,12 @@ module _ (setup : Setup) (members : length setup.members ≤ 64) (nodes : length
       second = let b = length-range_with_len 101 (length setup.currencies) in omega (arith, length-append clients_of nodes_of, first, b)
 
       go : (a b : Bool) → nat_le k (length setup.members) ≡ a → nat_le k (length setup.members + length setup.currencies) ≡ b
-          → get_or (actors_of setup) k 0 ≡ (if a then k else if b then 101 + (k - length setup.members - 1) else 200 + (k - length setup.members - length setup.currencies - 1))
+          → get_or (actors_of setup) k 0 ≡ (if a then k else if b then 101 + (k - length setup.members - 1)
+          else 200 + (k - length setup.members - length setup.currencies - 1))
       go true b is at =
           let here : k ≤ length setup.members = grind (arith, nat_tests) in
-          get_or_append_left (clients_of ++ nodes_of) sites_of 0 k (omega (arith, here, second)) ∙ get_or_append_left clients_of nodes_of 0 k (omega (arith, here, first))
+          get_or_append_left (clients_of ++ nodes_of) sites_of 0 k (omega (arith, here, second))
+          ∙ get_or_append_left clients_of nodes_of 0 k (omega (arith, here, first))
           ∙ get_or-range_with_len 0 (length setup.members + 1) k 0 (omega (arith, here)) ∙ omega arith
       go false true is at =
           let over : length setup.members < k = grind (arith, nat_tests) in
@@ -83,7 +86,8 @@ module _ (setup : Setup) (members : length setup.members ≤ 64) (nodes : length
       go false false is at =
           let over : length setup.members + length setup.currencies < k = grind (arith, nat_tests) in
           get_or-append_right (clients_of ++ nodes_of) sites_of (length setup.members + 1 + length setup.currencies) k 0 second (omega (arith, over))
-          ∙ get_or-range_with_len 200 (2 * faults setup + 1) (k - (length setup.members + 1 + length setup.currencies)) 0 (omega (arith, low, over)) ∙ omega (arith, over)
+          ∙ get_or-range_with_len 200 (2 * faults setup + 1) (k - (length setup.members + 1 + length setup.currencies)) 0
+          (omega (arith, low, over)) ∙ omega (arith, over)
 
   -- what may open as an actor of the bank is one of them
   known_has : (n : ℕ) (opening : Option Boot) → is_actor setup (id_of n) opening ≡ true → has n (actors_of setup) ≡ true
@@ -130,7 +134,8 @@ numbers_kept : (journals : List Kept) → map (λ (h : History). h.actor) (map h
 numbers_kept [] = refl
 numbers_kept (j ∷ journals) = ap (λ (l : List ℕ). j.head.actor ∷ l) (numbers_kept journals)
 
-module _ (setup : Setup) (valid : IsValid setup) (mark : List ℕ) (journals : List Kept) (histories : List History) (one : AreOneBank setup mark journals histories) where
+module _ (setup : Setup) (valid : IsValid setup) (mark : List ℕ) (journals : List Kept) (histories : List History)
+    (one : AreOneBank setup mark journals histories) where
   abbrev number : Kept → ℕ
   number journal = journal.head.actor
 

@@ -24,7 +24,8 @@ use Rattle.pvp_evidence.specs.Judged.{IsLeftBy, AreLeftBy}
 pub site_known : (setup : Setup) (n : ℕ) (boot : Boot) → is_actor setup (id_of n) (Some boot) ≡ true → (200 ≤ n) × (n - 200 ≤ 2 * faults setup)
 site_known setup n boot known = go (nat_le 200 n) (nat_le 101 n) refl known
   where
-    go : (a b : Bool) → nat_le 200 n ≡ a → is_actor setup (if a then Site (n - 200) else if b then Node (n - 101) else Client n) (Some boot) ≡ true → (200 ≤ n) × (n - 200 ≤ 2 * faults setup)
+    go : (a b : Bool) → nat_le 200 n ≡ a → is_actor setup (if a then Site (n - 200) else if b then Node (n - 101) else Client n) (Some boot) ≡ true
+        → (200 ≤ n) × (n - 200 ≤ 2 * faults setup)
     go true b is h = (grind (arith, nat_tests), grind (arith, nat_tests))
     go false true is h = absurd (true≢false (sym h))
     go false false is h = absurd (true≢false (sym h))
@@ -33,7 +34,8 @@ site_known setup n boot known = go (nat_le 200 n) (nat_le 101 n) refl known
 pub node_known : (setup : Setup) (n : ℕ) → is_actor setup (id_of n) None ≡ true → 101 ≤ n → (n < 200) × (n - 101 < length setup.currencies)
 node_known setup n known high = go (nat_le 200 n) (nat_le 101 n) refl refl known
   where
-    go : (a b : Bool) → nat_le 200 n ≡ a → nat_le 101 n ≡ b → is_actor setup (if a then Site (n - 200) else if b then Node (n - 101) else Client n) None ≡ true → (n < 200) × (n - 101 < length setup.currencies)
+    go : (a b : Bool) → nat_le 200 n ≡ a → nat_le 101 n ≡ b → is_actor setup (if a then Site (n - 200) else if b then Node (n - 101) else Client n) None ≡ true
+        → (n < 200) × (n - 101 < length setup.currencies)
     go true b is at h = absurd (true≢false (sym h))
     go false true is at h = (grind (arith, nat_tests), grind (arith, nat_tests))
     go false false is at h = absurd (grind (arith, nat_tests))
@@ -41,7 +43,8 @@ node_known setup n known high = go (nat_le 200 n) (nat_le 101 n) refl refl known
 pub client_known : (setup : Setup) (n : ℕ) → is_actor setup (id_of n) None ≡ true → n < 101 → n ≤ length setup.members
 client_known setup n known low = go (nat_le 200 n) (nat_le 101 n) refl refl known
   where
-    go : (a b : Bool) → nat_le 200 n ≡ a → nat_le 101 n ≡ b → is_actor setup (if a then Site (n - 200) else if b then Node (n - 101) else Client n) None ≡ true → n ≤ length setup.members
+    go : (a b : Bool) → nat_le 200 n ≡ a → nat_le 101 n ≡ b → is_actor setup (if a then Site (n - 200) else if b then Node (n - 101) else Client n) None ≡ true
+        → n ≤ length setup.members
     go true b is at h = absurd (true≢false (sym h))
     go false true is at h = absurd (grind (arith, nat_tests))
     go false false is at h = grind (arith, nat_tests)
@@ -65,7 +68,9 @@ module _ (setup : Setup) (members : length setup.members ≤ 64) (nodes : length
     where
       go : (a b : Bool) → nat_le k (length setup.members) ≡ a → nat_le k (length setup.members + length setup.currencies) ≡ b
           → 200 ≤ (if a then k else if b then 101 + (k - length setup.members - 1) else 200 + (k - length setup.members - length setup.currencies - 1))
-          → (first_site ≤ k) × ((if a then k else if b then 101 + (k - length setup.members - 1) else 200 + (k - length setup.members - length setup.currencies - 1)) ≡ 200 + (k - first_site))
+          → (first_site ≤ k)
+          × ((if a then k else if b then 101 + (k - length setup.members - 1) else 200 + (k - length setup.members - length setup.currencies - 1))
+          ≡ 200 + (k - first_site))
       go true b is at h = absurd (grind (arith, members, nat_tests))
       go false true is at h = absurd (grind (arith, nodes, nat_tests))
       go false false is at h = (grind (arith, nat_tests), grind (arith, nat_tests))
@@ -74,16 +79,20 @@ module _ (setup : Setup) (members : length setup.members ≤ 64) (nodes : length
   other_place k low = go (nat_le k (length setup.members)) (nat_le k (length setup.members + length setup.currencies)) refl refl low
     where
       go : (a b : Bool) → nat_le k (length setup.members) ≡ a → nat_le k (length setup.members + length setup.currencies) ≡ b
-          → (if a then k else if b then 101 + (k - length setup.members - 1) else 200 + (k - length setup.members - length setup.currencies - 1)) < 200 → k < first_site
+          → (if a then k else if b then 101 + (k - length setup.members - 1) else 200 + (k - length setup.members - length setup.currencies - 1)) < 200
+          → k < first_site
       go true b is at h = grind (arith, nat_tests)
       go false true is at h = grind (arith, nat_tests)
       go false false is at h = absurd (grind (arith, nat_tests))
 
   -- numbers rise
   rises : (i j : ℕ) → i < j → actor_at setup i < actor_at setup j
-  rises i j less = go (nat_le i (length setup.members)) (nat_le i (length setup.members + length setup.currencies)) (nat_le j (length setup.members)) (nat_le j (length setup.members + length setup.currencies)) refl refl refl refl
+  rises i j less =
+      go (nat_le i (length setup.members)) (nat_le i (length setup.members + length setup.currencies)) (nat_le j (length setup.members))
+      (nat_le j (length setup.members + length setup.currencies)) refl refl refl refl
     where
-      go : (a b p q : Bool) → nat_le i (length setup.members) ≡ a → nat_le i (length setup.members + length setup.currencies) ≡ b → nat_le j (length setup.members) ≡ p → nat_le j (length setup.members + length setup.currencies) ≡ q
+      go : (a b p q : Bool) → nat_le i (length setup.members) ≡ a → nat_le i (length setup.members + length setup.currencies) ≡ b
+          → nat_le j (length setup.members) ≡ p → nat_le j (length setup.members + length setup.currencies) ≡ q
           → (if a then i else if b then 101 + (i - length setup.members - 1) else 200 + (i - length setup.members - length setup.currencies - 1))
           < (if p then j else if q then 101 + (j - length setup.members - 1) else 200 + (j - length setup.members - length setup.currencies - 1))
       go true b true q e f g h = less
@@ -97,7 +106,8 @@ module _ (setup : Setup) (members : length setup.members ≤ 64) (nodes : length
 
   -- WHAT THESE ACTORS LEFT
 
-  left_at : (closed : List Left) (histories : List History) → AreLeftBy closed histories → (k : ℕ) (c : Left) → slice_get closed k ≡ Some c → (h : History) × (slice_get histories k ≡ Some h) × IsLeftBy c h
+  left_at : (closed : List Left) (histories : List History) → AreLeftBy closed histories → (k : ℕ) (c : Left) → slice_get closed k ≡ Some c
+      → (h : History) × (slice_get histories k ≡ Some h) × IsLeftBy c h
   left_at [] [] left k c is = cc
   left_at [] (h ∷ others) left k c is = absurd left
   left_at (d ∷ more) [] left k c is = absurd left
@@ -125,7 +135,8 @@ module _ (setup : Setup) (members : length setup.members ≤ 64) (nodes : length
     known : (k : ℕ) (c : Left) → slice_get closed k ≡ Some c → is_actor setup (id_of c.number) c.opening ≡ true
     known k c is =
         let l = left_at closed histories left k c is in
-        ap (λ (n : ℕ). is_actor setup (id_of n) c.opening) l.2.number ∙ ap (λ (o : Option Boot). is_actor setup (id_of l.0.actor) o) l.2.opening ∙ (of.each k l.0 l.1).opening
+        ap (λ (n : ℕ). is_actor setup (id_of n) c.opening) l.2.number ∙ ap (λ (o : Option Boot). is_actor setup (id_of l.0.actor) o) l.2.opening
+        ∙ (of.each k l.0 l.1).opening
 
     in_order : AreInOrder closed
     in_order i j less within =
@@ -163,14 +174,16 @@ module _ (setup : Setup) (members : length setup.members ≤ 64) (nodes : length
         one : n + 1 ≡ suc n
         one = omega arith
 
-        go : length (openings (take n closed)) ≡ n - first_site → (o : Option Boot) → c.0.opening ≡ o → length (openings (take (suc n) closed)) ≡ suc n - first_site
+        go : length (openings (take n closed)) ≡ n - first_site → (o : Option Boot) → c.0.opening ≡ o
+            → length (openings (take (suc n) closed)) ≡ suc n - first_site
         go before None e =
             let off = other_at n c.0 c.1 e in
             ap (λ (m : ℕ). length (openings (take m closed))) (sym one) ∙ counted_same closed n c.0 c.1 e ∙ before ∙ omega (arith, off)
         go before (Some boot) e =
             let at = site_at n c.0 boot c.1 e in
             let high = at.0 in
-            ap (λ (m : ℕ). length (openings (take m closed))) (sym one) ∙ counted_next closed n c.0 boot c.1 e ∙ ap (λ (m : ℕ). m + 1) before ∙ omega (arith, high)
+            ap (λ (m : ℕ). length (openings (take m closed))) (sym one) ∙ counted_next closed n c.0 boot c.1 e
+            ∙ ap (λ (m : ℕ). m + 1) before ∙ omega (arith, high)
 
     has_sites : HasItsSites setup closed
     has_sites = record {
@@ -188,5 +201,6 @@ module _ (setup : Setup) (members : length setup.members ≤ 64) (nodes : length
     is_the_bank bank = record { all = as_many closed histories left ∙ of.all; order = in_order; bank = bank; sites = has_sites }
 
 -- WHAT THE BANK'S ACTORS LEFT THAT HAVE ITS HISTORIES IS THE BANK'S
-pub seated : (setup : Setup) → IsValid setup → (histories : List History) → AreOfTheBank setup histories → (closed : List Left) → AreLeftBy closed histories → AreOfBank setup closed → IsTheBank setup closed
+pub seated : (setup : Setup) → IsValid setup → (histories : List History) → AreOfTheBank setup histories → (closed : List Left) → AreLeftBy closed histories
+    → AreOfBank setup closed → IsTheBank setup closed
 seated setup valid = is_the_bank setup (valid-members setup valid).1 (valid-currencies setup valid).1

@@ -11,7 +11,8 @@ use Rattle.pvp_evidence.specs.Gathered.{is_actor}
 abbrev pub actor_at : Setup → ℕ → ℕ
 actor_at setup place =
     if nat_le place (length setup.members) then place
-    else if nat_le place (length setup.members + length setup.currencies) then FIRST_NODE + (place - length setup.members - 1)
+    else if nat_le place (length setup.members + length setup.currencies)
+    then FIRST_NODE + (place - length setup.members - 1)
     else FIRST_SITE + (place - length setup.members - length setup.currencies - 1)
 
 -- a history of the bank's actor at a place, which opened as such an actor may

@@ -58,7 +58,8 @@ AreRight setup mark journals =
     → wrong_with setup mark (take at journals) journal.head ≡ None
 
 -- this is wrong with the first that is wrong, whose place is counted from 1
-pub record IsWrongAt (setup : Setup) (mark : List ℕ) (journals : List Kept) (place : ℕ) (it : EvidenceWhy) : Type 0 where
+pub record IsWrongAt (setup : Setup) (mark : List ℕ) (journals : List Kept) (place : ℕ) (it : EvidenceWhy)
+    : Type 0 where
   pub before : ℕ
   pub journal : Kept
   pub counted : place ≡ before + 1
@@ -96,7 +97,8 @@ pub record AreOneBank (setup : Setup) (mark : List ℕ) (journals : List Kept) (
 -- what is told of journals that are not: of several things the first, and memory is asked for last
 abbrev pub GatherFails : Setup → List ℕ → List Kept → EvidenceFault → Type 0
 GatherFails setup mark journals (Journal place it) = IsWrongAt setup mark journals place it
-GatherFails setup mark journals (Missing actor) = AreRight setup mark journals × (missing_in setup journals ≡ Some actor)
+GatherFails setup mark journals (Missing actor) =
+    AreRight setup mark journals × (missing_in setup journals ≡ Some actor)
 GatherFails setup mark journals NoMemory = AreRight setup mark journals × (missing_in setup journals ≡ None)
 
 -- the first that is wrong was found, or none is

@@ -30,8 +30,8 @@ shelf_told StorageFull = Full
 shelf_told AlreadyExists = Present
 shelf_told _ = Failed
 
--- WHY THE JOURNAL OF AN ACTOR IS NOT PUT AWAY, where the shelf said this last: it is what the shelf said; or an event that
--- the actor took has no text; or memory was refused
+-- WHY THE JOURNAL OF AN ACTOR IS NOT PUT AWAY, where the shelf said this last: it is what the shelf said; or an event
+-- that the actor took has no text; or memory was refused
 abbrev pub PutFails : Option ShelfFault → Left → PutFault → Type 0
 PutFails said left (Shelf fault) = said ≡ Some fault
 PutFails said left Unfit = ¬ (All (IsJournalable left.number) left.history.items)

@@ -75,7 +75,8 @@ fn shorten_all(histories: &mut [History], reaches: &[Reach]) -> bool
 /// Cuts a history before its first event that is not covered, and answers whether there is one.
 fn shorten(history: &mut History, reaches: &[Reach]) -> bool
     ensures front { IsShortened reaches.now history.old history.new }
-    ensures fewer { result ≡ true → length history.new.entries.items < length history.old.entries.items }
+    ensures fewer { result ≡ true →
+        length history.new.entries.items < length history.old.entries.items }
     ensures same { result ≡ false → history.new ≡ history.old }
 {
     let covered = covered_front(history.entries.as_slice(), reaches);

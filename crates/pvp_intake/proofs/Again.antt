@@ -51,11 +51,13 @@ size-there link text rest h =
     let found : sealed_at link (4 + big_number 4 bytes) bytes ≡ Ok true = ap (λ (n : ℕ). sealed_at link n bytes) size ∙ there link text rest in
     rw (long, listed, found, size) refl
 
-front-there : (link : Link) (text rest : List ℕ) (said : Said) → IsText text → said_in false link text ≡ Ok said → front link (sealed link text ++ rest) ≡ Ok (Some (said, length (sealed link text)))
+front-there : (link : Link) (text rest : List ℕ) (said : Said) → IsText text → said_in false link text ≡ Ok said
+    → front link (sealed link text ++ rest) ≡ Ok (Some (said, length (sealed link text)))
 unfolding front_where
 front-there link text rest said h e =
     let bytes = sealed link text ++ rest in
-    let front : take (length text) bytes ≡ text = ap (take (length text)) (append_assoc text (tag link text) rest) ∙ take_at text (tag link text ++ rest) (length text) refl in
+    let front : take (length text) bytes ≡ text =
+    ap (take (length text)) (append_assoc text (tag link text) rest) ∙ take_at text (tag link text ++ rest) (length text) refl in
     rw (size-there link text rest h, front, e, sealed-length link text) refl
 
 either : (a b : Bool) → b ≡ true → (a || b) ≡ true
@@ -96,7 +98,8 @@ lives : (link : Link) → said_in false link ping_text ≡ Ok Lives
 unfolding said_in
 lives link = rw (eq-eqb (length ping_text) 4 (length-number 4 0)) refl
 
-pub ping-again-there : (near far : Link) (rest : List ℕ) → AreEnds near far → front far (sealed near ping_text ++ rest) ≡ Ok (Some (Lives, length (sealed near ping_text)))
+pub ping-again-there : (near far : Link) (rest : List ℕ) → AreEnds near far
+    → front far (sealed near ping_text ++ rest) ≡ Ok (Some (Lives, length (sealed near ping_text)))
 ping-again-there near far rest ends =
     let found = front-there far ping_text rest Lives ping-text (lives far) in
     rw (same_sealed near far ping_text ends) found
@@ -121,26 +124,32 @@ caller-there actor bank rest lt e =
     let shape : bytes ≡ (a ++ b) ++ (bank ++ rest) = append_assoc (a ++ b) bank rest in
     let parts : bytes ≡ a ++ (b ++ (bank ++ rest)) = shape ∙ append_assoc a b (bank ++ rest) in
     let t1 : nat_lt (length bytes) 4 ≡ false = le-ltb _ _ (omega (arith, total)) in
-    let t2 : (big_number 4 bytes == hello_length) ≡ true = eq-eqb _ _ (ap (big_number 4) parts ∙ number-first 4 hello_length (b ++ (bank ++ rest)) (omega arith)) in
+    let t2 : (big_number 4 bytes == hello_length) ≡ true =
+    eq-eqb _ _ (ap (big_number 4) parts ∙ number-first 4 hello_length (b ++ (bank ++ rest)) (omega arith)) in
     let t3 : nat_lt (length bytes) (4 + hello_length) ≡ false = le-ltb _ _ (omega (arith, total)) in
     let id : take 32 (drop 6 bytes) ≡ bank =
-    ap (λ (x : List ℕ). take 32 (drop 6 x)) shape ∙ ap (take 32) (drop_at (a ++ b) (bank ++ rest) 6 (omega (arith, length-append a b, la, lb))) ∙ take_at bank rest 32 e in
+    ap (λ (x : List ℕ). take 32 (drop 6 x)) shape ∙ ap (take 32) (drop_at (a ++ b) (bank ++ rest) 6 (omega (arith, length-append a b, la, lb)))
+    ∙ take_at bank rest 32 e in
     let t4 : bytes_eq (take 32 (drop 6 bytes)) bank ≡ true = (bytes_eq-Decides _ _).1 id in
     let who : big_number 2 (drop 4 bytes) ≡ actor =
-    ap (λ (x : List ℕ). big_number 2 (drop 4 x)) parts ∙ ap (big_number 2) (drop_at a (b ++ (bank ++ rest)) 4 la) ∙ number-first 2 actor (bank ++ rest) (omega arith) in
+    ap (λ (x : List ℕ). big_number 2 (drop 4 x)) parts ∙ ap (big_number 2) (drop_at a (b ++ (bank ++ rest)) 4 la)
+    ∙ number-first 2 actor (bank ++ rest) (omega arith) in
     rw (t1, t2, t3, t4, who) refl
 
-pub caller-again-there : (near far : Link) (rest : List ℕ) → AreEnds near far → IsSized near → caller_at far.bank (sealed near (hello_text near.me near.bank) ++ rest) ≡ Ok (Some near.me)
+pub caller-again-there : (near far : Link) (rest : List ℕ) → AreEnds near far → IsSized near
+    → caller_at far.bank (sealed near (hello_text near.me near.bank) ++ rest) ≡ Ok (Some near.me)
 caller-again-there near far rest ends sized =
     let text = hello_text near.me near.bank in
     ap (λ (b : List ℕ). caller_at b (sealed near text ++ rest)) (sym ends.bank)
     ∙ ap (caller_at near.bank) (append_assoc text (tag near text) rest) ∙ caller-there near.me near.bank (tag near text ++ rest) sized.me sized.bank
 
-pub hello-again-there : (near far : Link) (rest : List ℕ) → AreEnds near far → IsSized near → hello_at far (sealed near (hello_text near.me near.bank) ++ rest) ≡ Ok true
+pub hello-again-there : (near far : Link) (rest : List ℕ) → AreEnds near far → IsSized near
+    → hello_at far (sealed near (hello_text near.me near.bank) ++ rest) ≡ Ok true
 hello-again-there near far rest ends sized =
     let text = hello_text near.me near.bank in
     let bytes = sealed near text ++ rest in
     let size = length-hello near.me near.bank sized.bank in
     let found : sealed_at far (4 + hello_length) bytes ≡ Ok true =
-    ap (λ (n : ℕ). sealed_at far n bytes) (sym size) ∙ ap (λ (b : List ℕ). sealed_at far (length text) (b ++ rest)) (same_sealed near far text ends) ∙ there far text rest in
+    ap (λ (n : ℕ). sealed_at far n bytes) (sym size) ∙ ap (λ (b : List ℕ). sealed_at far (length text) (b ++ rest))
+    (same_sealed near far text ends) ∙ there far text rest in
     rw (caller-again-there near far rest ends sized, eq-eqb near.me far.peer ends.there) found

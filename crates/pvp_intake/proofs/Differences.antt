@@ -21,7 +21,9 @@ even : (x y : ℕ) → x < 2 → y < 2 → (x + y) % 2 ≡ 0 → x ≡ y
 even x y p q e = omega arith
 
 xor_none : (a b : ℕ) → bit_xor a b ≡ 0 → a ≡ b
-xor_none a b e = same_from_bits a b (λ i. even (bit_at a i) (bit_at b i) (bit_at-lt a i) (bit_at-lt b i) (sym (bit_at_xor a b i) ∙ ap (λ (n : ℕ). bit_at n i) e ∙ bit_at-zero i))
+xor_none a b e =
+    same_from_bits a b (λ i. even (bit_at a i) (bit_at b i) (bit_at-lt a i) (bit_at-lt b i)
+    (sym (bit_at_xor a b i) ∙ ap (λ (n : ℕ). bit_at n i) e ∙ bit_at-zero i))
 
 -- what the differences of the first n bytes tell
 pub record Tells (xs ys : List ℕ) (d n : ℕ) : Type 0 where

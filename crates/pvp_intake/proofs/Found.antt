@@ -117,7 +117,8 @@ said_of-is link (Ok x) s e =
 said_of-is link (Err why) s e = absurd cc
 
 -- a frame is read to its end
-read_whole : (text : List ℕ) (s : Stamped) (m : ℕ) → IsBytes text → length text ≡ 4 + big_number 4 text → frame_where false text ≡ Ok (s, m) → (text ≡ spelling s) × IsSpelled s
+read_whole : (text : List ℕ) (s : Stamped) (m : ℕ) → IsBytes text → length text ≡ 4 + big_number 4 text → frame_where false text ≡ Ok (s, m)
+    → (text ≡ spelling s) × IsSpelled s
 read_whole text s m fits counts e =
     let f = frame-takes text s m fits e in
     let size = length-spelling s in
@@ -127,7 +128,8 @@ read_whole text s m fits counts e =
     let all : take m text ≡ text = ap (take m) (sym (append-nil text)) ∙ take_at text [] m whole in
     (sym all ∙ f.text, f.spelled)
 
-pub frame-found : (link : Link) (bytes : List ℕ) (s : Stamped) (size : ℕ) → IsBytes bytes → front link bytes ≡ Ok (Some (Says s, size)) → IsHeard link s size bytes
+pub frame-found : (link : Link) (bytes : List ℕ) (s : Stamped) (size : ℕ) → IsBytes bytes → front link bytes ≡ Ok (Some (Says s, size))
+    → IsHeard link s size bytes
 unfolding said_in
 frame-found link bytes s size fits e =
     let p = front-is link bytes (Says s) size e in
@@ -139,7 +141,9 @@ frame-found link bytes s size fits e =
     let first : big_number 4 text ≡ big_number 4 bytes = big_from-take 0 4 n bytes (omega (arith, at.counts)) in
     let counts : length text ≡ 4 + big_number 4 text = omega (arith, length-take n bytes, first, at.counts, begins.within) in
     let r = read_whole text s o.0 (IsBytes-take n bytes fits) counts o.1 in
-    let moved : BeginsWith link (spelling s) size bytes = subst (λ (m : ℕ). BeginsWith link (spelling s) m bytes) (sym p.1.whole) (subst (λ (t : List ℕ). BeginsWith link t (n + tag_size link) bytes) r.0 begins) in
+    let moved : BeginsWith link (spelling s) size bytes =
+    subst (λ (m : ℕ). BeginsWith link (spelling s) m bytes) (sym p.1.whole)
+    (subst (λ (t : List ℕ). BeginsWith link t (n + tag_size link) bytes) r.0 begins) in
     record { begins = moved; spelled = r.1; sender = o.2; receiver = o.3 }
 
 addressed-says : (link : Link) (x : Stamped) → addressed link x ≡ Ok Lives → ⊥
@@ -169,10 +173,12 @@ ping-found link bytes size fits e =
     let text = take n bytes in
     let at = size-is link bytes n p.1.is_size in
     let begins = is_there link n bytes at.there in
-    let short : length text ≡ 4 = eqb-true (length text) 4 (lives-is (length text == 4) (said_of link (frame_where false text)) p.1.says (said_of-says link (frame_where false text))) in
+    let short : length text ≡ 4 =
+    eqb-true (length text) 4 (lives-is (length text == 4) (said_of link (frame_where false text)) p.1.says (said_of-says link (frame_where false text))) in
     let four : n ≡ 4 = omega (arith, length-take n bytes, short, begins.within) in
     let none : big_number 4 bytes ≡ 0 = omega (arith, at.counts, four) in
-    let front : text ≡ ping_text = ap (λ (m : ℕ). take m bytes) four ∙ ap (take 4) (number-back bytes 0 fits at.long none) ∙ take_at (number 4 0) (drop 4 bytes) 4 (length-number 4 0) in
+    let front : text ≡ ping_text =
+    ap (λ (m : ℕ). take m bytes) four ∙ ap (take 4) (number-back bytes 0 fits at.long none) ∙ take_at (number 4 0) (drop 4 bytes) 4 (length-number 4 0) in
     subst (λ (m : ℕ). BeginsWith link ping_text m bytes) (sym p.1.whole) (subst (λ (t : List ℕ). BeginsWith link t (n + tag_size link) bytes) front begins)
 
 -- ---- hellos
@@ -203,7 +209,8 @@ caller-is bank bytes actor e =
       who = told_is _ _ d.1;
     }
 
-hello_of-is : (link : Link) (bytes : List ℕ) (r : Result (Option ℕ) LinkFault) → hello_of link bytes r ≡ Ok true → (r ≡ Ok (Some link.peer)) × (sealed_at link (4 + hello_length) bytes ≡ Ok true)
+hello_of-is : (link : Link) (bytes : List ℕ) (r : Result (Option ℕ) LinkFault) → hello_of link bytes r ≡ Ok true
+    → (r ≡ Ok (Some link.peer)) × (sealed_at link (4 + hello_length) bytes ≡ Ok true)
 hello_of-is link bytes (Ok (Some actor)) e =
     let a = passed (not (actor == link.peer)) _ (sealed_at link (4 + hello_length) bytes) true e in
     (ap (λ (n : ℕ). Ok (Some n)) (eqb-true actor link.peer (not-false _ a.0)), a.1)
@@ -229,11 +236,14 @@ hello-text bank bytes actor fits c =
     ∙ sym (append_assoc a b (bank ++ drop 32 rest)) ∙ sym (append_assoc (a ++ b) bank (drop 32 rest)) in
     let rl : length rest + 6 ≡ length bytes = omega (arith, length-drop 6 bytes, c.long) in
     let size : length bank ≡ 32 = omega (arith, ap length c.id, length-take 32 rest, rl, c.long) in
-    let count : length (hello_text actor bank) ≡ 38 = omega (arith, length-append (a ++ b) bank, length-append a b, length-number 4 hello_length, length-number 2 actor, size) in
+    let count : length (hello_text actor bank) ≡ 38 =
+    omega (arith, length-append (a ++ b) bank, length-append a b, length-number 4 hello_length, length-number 2 actor, size) in
     ap (take 38) whole ∙ take_at (hello_text actor bank) (drop 32 rest) 38 count
 
-pub hello-found : (link : Link) (bytes : List ℕ) → IsBytes bytes → hello_at link bytes ≡ Ok true → BeginsWith link (hello_text link.peer link.bank) (4 + hello_length + tag_size link) bytes
+pub hello-found : (link : Link) (bytes : List ℕ) → IsBytes bytes → hello_at link bytes ≡ Ok true
+    → BeginsWith link (hello_text link.peer link.bank) (4 + hello_length + tag_size link) bytes
 hello-found link bytes fits e =
     let h = hello_of-is link bytes (caller_at link.bank bytes) e in
     let begins = is_there link (4 + hello_length) bytes h.1 in
-    subst (λ (t : List ℕ). BeginsWith link t (4 + hello_length + tag_size link) bytes) (hello-text link.bank bytes link.peer fits (caller-is link.bank bytes link.peer h.0)) begins
+    subst (λ (t : List ℕ). BeginsWith link t (4 + hello_length + tag_size link) bytes)
+    (hello-text link.bank bytes link.peer fits (caller-is link.bank bytes link.peer h.0)) begins

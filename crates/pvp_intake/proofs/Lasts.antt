@@ -26,14 +26,16 @@ gate false wait wrong x y k h = k h
 longer : (bytes more : List ℕ) (n : ℕ) → n ≤ length bytes → nat_lt (length (bytes ++ more)) n ≡ false
 longer bytes more n long = le-ltb _ _ (omega (arith, length-append bytes more))
 
-sealed-lasts : (link : Link) (size : ℕ) (bytes more : List ℕ) → sealed_at link size bytes ≢ Ok false → sealed_at link size (bytes ++ more) ≡ sealed_at link size bytes
+sealed-lasts : (link : Link) (size : ℕ) (bytes more : List ℕ) → sealed_at link size bytes ≢ Ok false
+    → sealed_at link size (bytes ++ more) ≡ sealed_at link size bytes
 unfolding sealed_at
 sealed-lasts link size bytes more h =
     let b = enough (nat_lt (length bytes) (size + tag_size link)) _ _ h in
     let long : size + tag_size link ≤ length bytes = ltb-false _ _ b in
     let text : take size (bytes ++ more) ≡ take size bytes = take-append-le size bytes more (omega arith) in
     let tail : take (tag_size link) (drop size (bytes ++ more)) ≡ take (tag_size link) (drop size bytes) =
-    ap (take (tag_size link)) (drop-append-le size bytes more (omega arith)) ∙ take-append-le (tag_size link) (drop size bytes) more (omega (arith, length-drop size bytes)) in
+    ap (take (tag_size link)) (drop-append-le size bytes more (omega arith)) ∙ take-append-le (tag_size link) (drop size bytes) more
+    (omega (arith, length-drop size bytes)) in
     rw (longer bytes more (size + tag_size link) long, b, text, tail) refl
 
 size-lasts : (link : Link) (bytes more : List ℕ) → size_at link bytes ≢ Ok None → size_at link (bytes ++ more) ≡ size_at link bytes
@@ -49,7 +51,8 @@ size-lasts link bytes more h =
     let behind : cond (not (is_length n)) (Err fault.Length) there ≢ Ok None = λ e. h (rw b e) in
     rw (longer bytes more 4 long, b, number-is) (gate (not (is_length n)) (Ok None) (Err fault.Length) there again inner behind)
 
-front_of-lasts : (link : Link) (bytes more : List ℕ) (r : Result (Option ℕ) LinkFault) → size_at link bytes ≡ r → front_of false link (bytes ++ more) r ≡ front_of false link bytes r
+front_of-lasts : (link : Link) (bytes more : List ℕ) (r : Result (Option ℕ) LinkFault) → size_at link bytes ≡ r
+    → front_of false link (bytes ++ more) r ≡ front_of false link bytes r
 front_of-lasts link bytes more (Err why) e = refl
 front_of-lasts link bytes more (Ok None) e = refl
 front_of-lasts link bytes more (Ok (Some n)) e =
@@ -69,7 +72,9 @@ caller-lasts bank bytes more h =
     let b = enough (nat_lt (length bytes) 4) _ _ h in
     let long : 4 ≤ length bytes = ltb-false _ _ b in
     let number-is : big_number 4 (bytes ++ more) ≡ big_number 4 bytes = big_from-append 4 bytes more long in
-    let named = λ (xs : List ℕ). let found : Result (Option ℕ) LinkFault = cond (not (bytes_eq (take 32 (drop 6 xs)) bank)) (Err fault.Hello) (Ok (Some (big_number 2 (drop 4 xs)))) in found in
+    let named =
+    λ (xs : List ℕ). let found : Result (Option ℕ) LinkFault =
+    cond (not (bytes_eq (take 32 (drop 6 xs)) bank)) (Err fault.Hello) (Ok (Some (big_number 2 (drop 4 xs)))) in found in
     let there = λ (xs : List ℕ). let found : Result (Option ℕ) LinkFault = cond (nat_lt (length xs) (4 + hello_length)) (Ok None) (named xs) in found in
     let inner : there bytes ≢ Ok None → there (bytes ++ more) ≡ there bytes = λ k.
     let c = enough (nat_lt (length bytes) (4 + hello_length)) _ _ k in
@@ -80,9 +85,11 @@ caller-lasts bank bytes more h =
     ap (big_number 2) (drop-append-le 4 bytes more long) ∙ big_from-append 2 (drop 4 bytes) more (omega (arith, length-drop 4 bytes)) in
     rw (longer bytes more 38 whole, c, id, who) refl in
     let behind : cond (not (big_number 4 bytes == hello_length)) (Err fault.Hello) (there bytes) ≢ Ok None = λ e. h (rw b e) in
-    rw (longer bytes more 4 long, b, number-is) (gate (not (big_number 4 bytes == hello_length)) (Ok None) (Err fault.Hello) (there bytes) (there (bytes ++ more)) inner behind)
+    rw (longer bytes more 4 long, b, number-is) (gate (not (big_number 4 bytes == hello_length)) (Ok None) (Err fault.Hello) (there bytes)
+    (there (bytes ++ more)) inner behind)
 
-hello_of-lasts : (link : Link) (bytes more : List ℕ) (r : Result (Option ℕ) LinkFault) → hello_of link bytes r ≢ Ok false → hello_of link (bytes ++ more) r ≡ hello_of link bytes r
+hello_of-lasts : (link : Link) (bytes more : List ℕ) (r : Result (Option ℕ) LinkFault) → hello_of link bytes r ≢ Ok false
+    → hello_of link (bytes ++ more) r ≡ hello_of link bytes r
 hello_of-lasts link bytes more (Err why) h = refl
 hello_of-lasts link bytes more (Ok None) h = refl
 hello_of-lasts link bytes more (Ok (Some actor)) h =

@@ -27,7 +27,8 @@ other f g e = cc
 sealed-never : (link : Link) (size : ℕ) (bytes : List ℕ) → sealed_at link size bytes ≡ Err fault.NoMemory → ⊥
 unfolding sealed_at
 sealed-never link size bytes =
-    past (nat_lt (length bytes) (size + tag_size link)) _ _ fault.NoMemory (λ e. cc) (past (not (bytes_eq (tag link (take size bytes)) (take (tag_size link) (drop size bytes)))) _ _ fault.NoMemory (λ e. cc) (λ e. cc))
+    past (nat_lt (length bytes) (size + tag_size link)) _ _ fault.NoMemory (λ e. cc)
+    (past (not (bytes_eq (tag link (take size bytes)) (take (tag_size link) (drop size bytes)))) _ _ fault.NoMemory (λ e. cc) (λ e. cc))
 
 sized-never : (size : ℕ) (r : Result Bool LinkFault) → (r ≡ Err fault.NoMemory → ⊥) → sized size r ≡ Err fault.NoMemory → ⊥
 sized-never size (Ok true) h e = cc
@@ -38,7 +39,8 @@ size-never : (link : Link) (bytes : List ℕ) → size_at link bytes ≡ Err fau
 unfolding size_at
 size-never link bytes =
     let size = 4 + big_number 4 bytes in
-    past (nat_lt (length bytes) 4) _ _ fault.NoMemory (λ e. cc) (past (not (is_length (big_number 4 bytes))) _ _ fault.NoMemory (λ e. cc) (sized-never size (sealed_at link size bytes) (sealed-never link size bytes)))
+    past (nat_lt (length bytes) 4) _ _ fault.NoMemory (λ e. cc)
+    (past (not (is_length (big_number 4 bytes))) _ _ fault.NoMemory (λ e. cc) (sized-never size (sealed_at link size bytes) (sealed-never link size bytes)))
 
 of_wire-never : (f : WireFault) → of_wire f ≡ fault.NoMemory → f ≡ wire.NoMemory
 of_wire-never wire.NoMemory e = refl
@@ -50,7 +52,8 @@ of_wire-never wire.Field e = absurd cc
 of_wire-never wire.Length e = absurd cc
 
 addressed-never : (link : Link) (s : Stamped) → addressed link s ≡ Err fault.NoMemory → ⊥
-addressed-never link s = past (not (s.envelope.from == link.peer)) _ _ fault.NoMemory (λ e. cc) (past (not (s.envelope.to == link.me)) _ _ fault.NoMemory (λ e. cc) (λ e. cc))
+addressed-never link s =
+    past (not (s.envelope.from == link.peer)) _ _ fault.NoMemory (λ e. cc) (past (not (s.envelope.to == link.me)) _ _ fault.NoMemory (λ e. cc) (λ e. cc))
 
 said_of-never : (link : Link) (r : Result (Stamped × ℕ) WireFault) → (r ≡ Err wire.NoMemory → ⊥) → said_of link r ≡ Err fault.NoMemory → ⊥
 said_of-never link (Ok x) h e = addressed-never link x.0 e
@@ -64,9 +67,11 @@ with_size-never : (size : ℕ) (r : Result Said LinkFault) → (r ≡ Err fault.
 with_size-never size (Ok said) h e = cc
 with_size-never size (Err why) h e = h (ap told (other {A = Option (Said × ℕ)} why fault.NoMemory e))
 
-front_of-never : (link : Link) (bytes : List ℕ) (r : Result (Option ℕ) LinkFault) → (r ≡ Err fault.NoMemory → ⊥) → front_of false link bytes r ≡ Err fault.NoMemory → ⊥
+front_of-never : (link : Link) (bytes : List ℕ) (r : Result (Option ℕ) LinkFault) → (r ≡ Err fault.NoMemory → ⊥)
+    → front_of false link bytes r ≡ Err fault.NoMemory → ⊥
 front_of-never link bytes (Ok None) h e = cc
-front_of-never link bytes (Ok (Some size)) h e = with_size-never (size + tag_size link) (said_in false link (take size bytes)) (said-never link (take size bytes)) e
+front_of-never link bytes (Ok (Some size)) h e =
+    with_size-never (size + tag_size link) (said_in false link (take size bytes)) (said-never link (take size bytes)) e
 front_of-never link bytes (Err why) h e = h (ap told (other {A = Option (Said × ℕ)} why fault.NoMemory e))
 
 pub front-never : (link : Link) (bytes : List ℕ) → front link bytes ≡ Err fault.NoMemory → ⊥

@@ -20,7 +20,8 @@ use Rattle.pvp_intake.specs.Fronts.{sealed_at, BeginsWith}
 digest-length : (h : List ℕ) (n : ℕ) → length (digest_bytes h n) ≡ 4 * n
 unfolding digest_bytes
 digest-length h zero = refl
-digest-length h (suc n) = length-append (digest_bytes h n) (to_be_bytes w32 (slice_index h n)) ∙ (omega (arith, digest-length h n, length-bytes_high_first 4 (slice_index h n)))
+digest-length h (suc n) =
+    length-append (digest_bytes h n) (to_be_bytes w32 (slice_index h n)) ∙ (omega (arith, digest-length h n, length-bytes_high_first 4 (slice_index h n)))
 
 sha-length : (m : List ℕ) → length (sha256 m) ≡ 32
 unfolding sha256
@@ -84,7 +85,8 @@ split size more bytes long =
     let a = take size bytes in
     let d = drop size bytes in
     let b = take more d in
-    let parts : bytes ≡ (a ++ b) ++ drop more d = sym (take-append-drop size bytes) ∙ ap (λ (x : List ℕ). a ++ x) (sym (take-append-drop more d)) ∙ sym (append_assoc a b (drop more d)) in
+    let parts : bytes ≡ (a ++ b) ++ drop more d =
+    sym (take-append-drop size bytes) ∙ ap (λ (x : List ℕ). a ++ x) (sym (take-append-drop more d)) ∙ sym (append_assoc a b (drop more d)) in
     let len : length (a ++ b) ≡ size + more = length-append a b ∙ (omega (arith, length-take size bytes, length-take more d, length-drop size bytes)) in
     ap (take (size + more)) parts ∙ take_at (a ++ b) (drop more d) (size + more) len
 

@@ -16,7 +16,8 @@ unfolding number
 hello bank = refl
 
 -- the lengths: none, 18 and 4,194,304 are some, and those beside them are none
-lengths : (is_length 0 ≡ true) × (is_length 1 ≡ false) × (is_length 17 ≡ false) × (is_length 18 ≡ true) × (is_length 4194304 ≡ true) × (is_length 4194305 ≡ false)
+lengths : (is_length 0 ≡ true) × (is_length 1 ≡ false) × (is_length 17 ≡ false) × (is_length 18 ≡ true) × (is_length 4194304 ≡ true)
+    × (is_length 4194305 ≡ false)
 lengths = (refl, refl, refl, refl, refl, refl)
 
 -- whatever the link: three bytes are too few, and a length of 17 is wrong as soon as it is there

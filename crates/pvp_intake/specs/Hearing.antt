@@ -41,7 +41,8 @@ StopsSo link (Some (Cut n)) rest = ⊥
 StopsSo link (Some Read) rest = ⊥
 
 -- bytes were taken so far: they are the pieces that were heard, each once and in order, and what is left
-pub record IsTaking {H : Type 0} (got : H → List Said → Type 0) (link : Link) (bytes left : List ℕ) (old new : H) : Type 0 where
+pub record IsTaking {H : Type 0} (got : H → List Said → Type 0) (link : Link) (bytes left : List ℕ) (old new : H)
+    : Type 0 where
   pub said : List Said
   pub pieces : ArePieces link bytes said left
   pub heard : Hears got old new said
@@ -51,7 +52,8 @@ abbrev pub HasTaken : {H : Type 0} → (H → List Said → Type 0) → Link →
 HasTaken got link bytes left old new end = IsTaking got link bytes left old new × StopsSo link end left
 
 -- a link was heard so far: what was held and what was read of its stream was taken, but for what is left
-pub record IsHearing {H : Type 0} (got : H → List Said → Type 0) (link : Link) (held : List ℕ) (before after : Option (List ℕ)) (old new : H) (left : List ℕ) : Type 0 where
+pub record IsHearing {H : Type 0} (got : H → List Said → Type 0) (link : Link) (held : List ℕ)
+    (before after : Option (List ℕ)) (old new : H) (left : List ℕ) : Type 0 where
   pub read : List ℕ
   pub consumed : Consumes before after read
   pub taking : IsTaking got link (held ++ read) left old new
@@ -67,5 +69,7 @@ EndsSo link Unwanted after left = Unit {0}
 
 -- A LINK IS HEARD OUT: what was held and what was read of its stream are the pieces that were heard, each once and in
 -- order, and what is left; and why it is read no longer
-abbrev pub IsHeardOut : {H : Type 0} → (H → List Said → Type 0) → Link → List ℕ → Option (List ℕ) → Option (List ℕ) → H → H → LinkEnd → Type 0
-IsHeardOut got link held before after old new end = (left : List ℕ) × IsHearing got link held before after old new left × EndsSo link end after left
+abbrev pub IsHeardOut : {H : Type 0} → (H → List Said → Type 0) → Link → List ℕ → Option (List ℕ) → Option (List ℕ) → H
+    → H → LinkEnd → Type 0
+IsHeardOut got link held before after old new end =
+    (left : List ℕ) × IsHearing got link held before after old new left × EndsSo link end after left

@@ -76,7 +76,8 @@ delivered-again event (Some stamp) envelope rest h =
     let found = stamped-again (record { stamp = stamp; envelope = envelope }) rest h in
     rw found refl
 
-pub submitted-again : (me clock : ℕ) (cmd : Cmd) (rest : List ℕ) → IsSpelled (asked me clock cmd) → submitted_at me clock (spelling (asked me clock cmd) ++ rest) ≡ Ok (cmd, rest)
+pub submitted-again : (me clock : ℕ) (cmd : Cmd) (rest : List ℕ) → IsSpelled (asked me clock cmd)
+    → submitted_at me clock (spelling (asked me clock cmd) ++ rest) ≡ Ok (cmd, rest)
 unfolding submitted_at
 submitted-again me clock cmd rest h =
     let found = sent-again me clock 0 (asked me clock cmd).envelope rest h in

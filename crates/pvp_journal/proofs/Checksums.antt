@@ -33,4 +33,5 @@ of_message m = digest _ 8
 
 pub checksum-fits : (before : ℕ) (bytes : List ℕ) → Fits 8 (checksum before bytes)
 unfolding checksum
-checksum-fits before bytes = big_from-lt 0 8 (sha256 (number 8 before ++ bytes)) (each_byte (sha256 (number 8 before ++ bytes)) (of_message (number 8 before ++ bytes)))
+checksum-fits before bytes =
+    big_from-lt 0 8 (sha256 (number 8 before ++ bytes)) (each_byte (sha256 (number 8 before ++ bytes)) (of_message (number 8 before ++ bytes)))

@@ -16,11 +16,14 @@ pub none_begun : (me clock : ℕ) (sent : List Envelope) (before : List ℕ) →
 none_begun me clock sent before = record { text = refl; all = λ h. h; rest = λ h. h }
 
 -- the one at a place, and those behind it
-here : (sent : List Envelope) (place : ℕ) (envelope : Envelope) → place < length sent → envelope ≡ get_or sent place envelope → drop place sent ≡ envelope ∷ drop (place + 1) sent
+here : (sent : List Envelope) (place : ℕ) (envelope : Envelope) → place < length sent → envelope ≡ get_or sent place envelope
+    → drop place sent ≡ envelope ∷ drop (place + 1) sent
 here sent place envelope lt e = rw add-one (drop-cons sent place envelope lt ∙ ap (λ (x : Envelope). x ∷ drop (suc place) sent) (sym e))
 
-pub one_put : (me clock : ℕ) (sent : List Envelope) (before : List ℕ) (place : ℕ) (out : List ℕ) (envelope : Envelope) (new : List ℕ) → IsBegun me clock sent before place out
-    → place < length sent → envelope ≡ get_or sent place envelope → new ≡ out ++ spelling (stamped me clock place envelope) → IsSpelled (stamped me clock place envelope)
+pub one_put : (me clock : ℕ) (sent : List Envelope) (before : List ℕ) (place : ℕ) (out : List ℕ) (envelope : Envelope) (new : List ℕ)
+    → IsBegun me clock sent before place out
+    → place < length sent → envelope ≡ get_or sent place envelope → new ≡ out ++ spelling (stamped me clock place envelope)
+    → IsSpelled (stamped me clock place envelope)
     → IsBegun me clock sent before (place + 1) new
 one_put me clock sent before place out envelope new begun lt e put spelled =
     let split = here sent place envelope lt e in
@@ -30,13 +33,16 @@ one_put me clock sent before place out envelope new begun lt e put spelled =
     let all = subst (λ (l : List Envelope). FramesFit me clock place l → FramesFit me clock 0 sent) split begun.all in
     let rest = subst (λ (l : List Envelope). FramesFit me clock 0 sent → FramesFit me clock place l) split begun.rest in
     record {
-      text = ap (λ (x : List ℕ). x ++ texts) put ∙ append_assoc out frame texts ∙ sym (ap (λ (l : List Envelope). out ++ frames_text me clock place l) split) ∙ begun.text;
+      text =
+          ap (λ (x : List ℕ). x ++ texts) put ∙ append_assoc out frame texts ∙ sym (ap (λ (l : List Envelope). out ++ frames_text me clock place l) split)
+          ∙ begun.text;
       all = λ h. all (spelled, h);
       rest = λ h. (rest h).1;
     }
 
 -- one that does not fit
-pub one_unfit : (me clock : ℕ) (sent : List Envelope) (before : List ℕ) (place : ℕ) (out : List ℕ) (envelope : Envelope) → IsBegun me clock sent before place out
+pub one_unfit : (me clock : ℕ) (sent : List Envelope) (before : List ℕ) (place : ℕ) (out : List ℕ) (envelope : Envelope)
+    → IsBegun me clock sent before place out
     → place < length sent → envelope ≡ get_or sent place envelope → (IsSpelled (stamped me clock place envelope) → ⊥) → FramesFit me clock 0 sent → ⊥
 one_unfit me clock sent before place out envelope begun lt e unfit fits =
     let split = here sent place envelope lt e in

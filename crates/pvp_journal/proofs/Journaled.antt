@@ -36,7 +36,8 @@ bank-again bank rest len =
     let long : nat_lt (length (bank ++ rest)) 32 ≡ false = le-ltb (length (bank ++ rest)) 32 (omega (arith, length-append bank rest)) in
     rw (long, take_at bank rest 32 len, drop_at bank rest 32 len) refl
 
-fields-again : (head : Head) (rest : List ℕ) → IsHead head → fields_at ((number 2 head.actor ++ opening_text head.opening ++ head.bank) ++ rest) ≡ Ok (head, rest)
+fields-again : (head : Head) (rest : List ℕ) → IsHead head
+    → fields_at ((number 2 head.actor ++ opening_text head.opening ++ head.bank) ++ rest) ≡ Ok (head, rest)
 unfolding fields_at
 fields-again head rest h =
     let actor = number 2 head.actor in
@@ -50,7 +51,8 @@ fields-again head rest h =
 begins : (n x : ℕ) (rest : List ℕ) → Fits n x → begins_with n x (number n x ++ rest) ≡ true
 unfolding number
 begins n x rest fits =
-    let long : nat_le n (length (number n x ++ rest)) ≡ true = le-leb n (length (number n x ++ rest)) (omega (arith, length-append (number n x) rest, length-number n x)) in
+    let long : nat_le n (length (number n x ++ rest)) ≡ true =
+    le-leb n (length (number n x ++ rest)) (omega (arith, length-append (number n x) rest, length-number n x)) in
     let is : big_number n (number n x ++ rest) ≡ x = big_number-reads_back n x rest fits in
     let known : (big_number n (number n x ++ rest) == x) ≡ true = eq-eqb (big_number n (number n x ++ rest)) x is in
     rw (long, known) refl
@@ -62,12 +64,14 @@ head-again head rest h =
     let v = number 1 version in
     let fields = number 2 head.actor ++ opening_text head.opening ++ head.bank in
     let text : head_text head ≡ m ++ (v ++ fields) = simp append_assoc in
-    let shape : head_text head ++ rest ≡ m ++ (v ++ (fields ++ rest)) = ap (λ (x : List ℕ). x ++ rest) text ∙ append_assoc m (v ++ fields) rest ∙ ap (λ (x : List ℕ). m ++ x) (append_assoc v fields rest) in
+    let shape : head_text head ++ rest ≡ m ++ (v ++ (fields ++ rest)) =
+    ap (λ (x : List ℕ). x ++ rest) text ∙ append_assoc m (v ++ fields) rest ∙ ap (λ (x : List ℕ). m ++ x) (append_assoc v fields rest) in
     let one = begins 4 magic (v ++ (fields ++ rest)) (omega arith) in
     let behind : drop 4 (m ++ (v ++ (fields ++ rest))) ≡ v ++ (fields ++ rest) = drop_at m (v ++ (fields ++ rest)) 4 (length-number 4 magic) in
     let two = begins 1 version (fields ++ rest) (omega arith) in
     let mv-len : length (m ++ v) ≡ 5 = omega (arith, length-append m v, length-number 4 magic, length-number 1 version) in
-    let left : drop 5 (m ++ (v ++ (fields ++ rest))) ≡ fields ++ rest = ap (drop 5) (sym (append_assoc m v (fields ++ rest))) ∙ drop_at (m ++ v) (fields ++ rest) 5 mv-len in
+    let left : drop 5 (m ++ (v ++ (fields ++ rest))) ≡ fields ++ rest =
+    ap (drop 5) (sym (append_assoc m v (fields ++ rest))) ∙ drop_at (m ++ v) (fields ++ rest) 5 mv-len in
     let read = fields-again head rest h in
     ap head_at shape ∙ rw (one, behind, two, left, read) refl
 
@@ -84,7 +88,8 @@ record-stands me before r rest h =
     record { front = sealed-sound before body rest h.short; body = ap (body_at me) p.says ∙ body-again me r h.fits }
 
 -- and the place behind it
-record-next : (me before : ℕ) (r : Entry) (rest : List ℕ) → IsJournalable me r → next (place before (record_text me before r ++ rest)) ≡ place (record_sum me before r) rest
+record-next : (me before : ℕ) (r : Entry) (rest : List ℕ) → IsJournalable me r
+    → next (place before (record_text me before r ++ rest)) ≡ place (record_sum me before r) rest
 record-next me before r rest h =
     let body = body_text me r in
     let p = sealed-parts before body rest h.short in
@@ -131,8 +136,11 @@ journal-again head history rest h =
       records = records-again head.actor (head_sum head) history rest h.each;
     }
 
-pub journal_whole : (head : Head) (history : List Entry) → AreJournalable head history → ReadsAs (journal_text head history) head history (place (journal_sum head history) [])
-journal_whole head history h = subst (λ (x : List ℕ). ReadsAs x head history (place (journal_sum head history) [])) (append-nil (journal_text head history)) (journal-again head history [] h)
+pub journal_whole : (head : Head) (history : List Entry) → AreJournalable head history
+    → ReadsAs (journal_text head history) head history (place (journal_sum head history) [])
+journal_whole head history h =
+    subst (λ (x : List ℕ). ReadsAs x head history (place (journal_sum head history) [])) (append-nil (journal_text head history))
+    (journal-again head history [] h)
 
 -- ---- bytes are read in one way alone
 
@@ -154,7 +162,8 @@ found x = Ok x
 heads : (x y : Head × List ℕ) → found x ≡ found y → x ≡ y
 heads x y e = cc
 
-one_start : (me : ℕ) (start : Place) (a b : List Entry) (x y : Place) → AreRecords me start a x → NoRecord me x → AreRecords me start b y → NoRecord me y → (a ≡ b) × (x ≡ y)
+one_start : (me : ℕ) (start : Place) (a b : List Entry) (x y : Place) → AreRecords me start a x → NoRecord me x → AreRecords me start b y → NoRecord me y
+    → (a ≡ b) × (x ≡ y)
 one_start me start [] [] x y ha nx hb ny = (refl, ha ∙ sym hb)
 one_start me start [] (s ∷ others) x y ha nx hb ny = absurd (nx s (subst (λ (p : Place). Stands me p s) (sym ha) hb.0))
 one_start me start (r ∷ mine) [] x y ha nx hb ny = absurd (ny r (subst (λ (p : Place). Stands me p r) (sym hb) ha.0))
@@ -171,11 +180,13 @@ one_place bytes head other x y hx hy =
     let sums : x.sum ≡ y.sum = hx.sum ∙ ap (λ (l : List ℕ). checksum 0 (take (length bytes - length l) bytes)) bytes-are ∙ sym hy.sum in
     (ap (λ (p : Head × List ℕ). p.0) same, ap (λ (s : ℕ). place s x.bytes) sums ∙ ap (λ (l : List ℕ). place y.sum l) bytes-are)
 
-pub one_reading : (bytes : List ℕ) (head other : Head) (a b : List Entry) (x y : Place) → ReadsAs bytes head a x → NoRecord head.actor x → ReadsAs bytes other b y → NoRecord other.actor y
+pub one_reading : (bytes : List ℕ) (head other : Head) (a b : List Entry) (x y : Place) → ReadsAs bytes head a x → NoRecord head.actor x
+    → ReadsAs bytes other b y → NoRecord other.actor y
     → (head ≡ other) × (a ≡ b) × (x ≡ y)
 one_reading bytes head other a b x y hx nx hy ny =
     let same = one_place bytes head other hx.start hy.start hx.headed hy.headed in
-    let there : AreRecords head.actor hx.start b y = subst (λ (p : Place). AreRecords head.actor p b y) (sym same.1) (subst (λ (h : Head). AreRecords h.actor hy.start b y) (sym same.0) hy.records) in
+    let there : AreRecords head.actor hx.start b y =
+    subst (λ (p : Place). AreRecords head.actor p b y) (sym same.1) (subst (λ (h : Head). AreRecords h.actor hy.start b y) (sym same.0) hy.records) in
     let none : NoRecord head.actor y = subst (λ (h : Head). NoRecord h.actor y) (sym same.0) ny in
     let rest = one_start head.actor hx.start a b x y hx.records nx there none in
     (same.0, rest.0, rest.1)
@@ -209,11 +220,14 @@ none_wrong me p whys.Checksum other h = no_front me p (Damaged whys.Checksum) h 
 none_wrong me p (whys.Record fault) other h = λ r stands. never_both r fault (sym stands.body ∙ h.1)
 none_wrong me p whys.NoMemory other h = absurd (other refl)
 
-pub one_text : (head other : Head) (a b : List Entry) → AreJournalable head a → AreJournalable other b → journal_text head a ≡ journal_text other b → (head ≡ other) × (a ≡ b)
+pub one_text : (head other : Head) (a b : List Entry) → AreJournalable head a → AreJournalable other b → journal_text head a ≡ journal_text other b
+    → (head ≡ other) × (a ≡ b)
 one_text head other a b ha hb e =
     let ra = journal_whole head a ha in
     let rb = subst (λ (x : List ℕ). ReadsAs x other b (place (journal_sum other b) [])) (sym e) (journal_whole other b hb) in
-    let same = one_reading (journal_text head a) head other a b (place (journal_sum head a) []) (place (journal_sum other b) []) ra (none_at_end head.actor (place (journal_sum head a) []) refl) rb (none_at_end other.actor (place (journal_sum other b) []) refl) in
+    let same =
+    one_reading (journal_text head a) head other a b (place (journal_sum head a) []) (place (journal_sum other b) []) ra
+    (none_at_end head.actor (place (journal_sum head a) []) refl) rb (none_at_end other.actor (place (journal_sum other b) []) refl) in
     (same.0, same.1)
 
 -- ---- a journal that was cut off
@@ -230,9 +244,16 @@ cut_within : (me before : ℕ) (r : Entry) (more : List Entry) (k : ℕ) → k <
 cut_within me before r more zero lt h = record { count = 0; end = place before []; records = refl; text = refl; cut = inl refl }
 cut_within me before r more (suc k) lt h =
     let others = records_text me (record_sum me before r) more in
-    record { count = 0; end = place before (take (suc k) (record_text me before r ++ others)); records = refl; text = refl; cut = inr (front-cut before (suc k) (body_text me r) others h.short (omega arith) lt) }
+    record {
+      count = 0;
+      end = place before (take (suc k) (record_text me before r ++ others));
+      records = refl;
+      text = refl;
+      cut = inr (front-cut before (suc k) (body_text me r) others h.short (omega arith) lt);
+    }
 
-cut_behind : (me before : ℕ) (r : Entry) (more : List Entry) (k j : ℕ) → k ≡ (16 + length (body_text me r)) + j → IsJournalable me r → IsCutAt me (record_sum me before r) more j → IsCutAt me before (r ∷ more) k
+cut_behind : (me before : ℕ) (r : Entry) (more : List Entry) (k j : ℕ) → k ≡ (16 + length (body_text me r)) + j → IsJournalable me r
+    → IsCutAt me (record_sum me before r) more j → IsCutAt me before (r ∷ more) k
 cut_behind me before r more k j e h c =
     let text = record_text me before r in
     let others = records_text me (record_sum me before r) more in
@@ -258,12 +279,21 @@ cut_step false me before r more k e h rest =
     cut_behind me before r more k (k - size) (omega arith) h (rest (k - size))
 
 cut_records : (me before : ℕ) (history : List Entry) (k : ℕ) → AllJournalable me history → IsCutAt me before history k
-cut_records me before [] k h = record { count = 0; end = place before []; records = ap (λ (x : List ℕ). place before x) (sym (take-nil {A = ℕ} k)); text = take-nil {A = ℕ} k; cut = inl refl }
+cut_records me before [] k h =
+    record {
+      count = 0;
+      end = place before [];
+      records = ap (λ (x : List ℕ). place before x) (sym (take-nil {A = ℕ} k));
+      text = take-nil {A = ℕ} k;
+      cut = inl refl;
+    }
 cut_records me before (r ∷ more) k h =
     let rest = All-tail (IsJournalable me) r more h in
-    cut_step (nat_lt k (16 + length (body_text me r))) me before r more k refl (All-head (IsJournalable me) r more h) (λ j. cut_records me (record_sum me before r) more j rest)
+    cut_step (nat_lt k (16 + length (body_text me r))) me before r more k refl (All-head (IsJournalable me) r more h)
+    (λ j. cut_records me (record_sum me before r) more j rest)
 
-pub cut_journal : (head : Head) (history : List Entry) (k : ℕ) → AreJournalable head history → length (head_text head) ≤ k → IsCutBehind (take k (journal_text head history)) head history
+pub cut_journal : (head : Head) (history : List Entry) (k : ℕ) → AreJournalable head history → length (head_text head) ≤ k
+    → IsCutBehind (take k (journal_text head history)) head history
 cut_journal head history k h le =
     let text = head_text head in
     let records = records_text head.actor (head_sum head) history in
@@ -272,18 +302,21 @@ cut_journal head history k h le =
     let bytes : take k (text ++ records) ≡ text ++ take j records = ap (λ (i : ℕ). take i (text ++ records)) k-is ∙ take-append-add text records j in
     let c = cut_records head.actor (head_sum head) history j h.each in
     let start = place (head_sum head) (take j records) in
-    let headed : IsHeaded (take k (journal_text head history)) head start = subst (λ (x : List ℕ). IsHeaded x head start) (sym bytes) (head-place head (take j records) h.is_head) in
+    let headed : IsHeaded (take k (journal_text head history)) head start =
+    subst (λ (x : List ℕ). IsHeaded x head start) (sym bytes) (head-place head (take j records) h.is_head) in
     record {
       count = c.count;
       end = c.end;
       reads = record { start = start; headed = headed; records = c.records };
-      text = bytes ∙ ap (λ (x : List ℕ). text ++ x) c.text ∙ sym (append_assoc text (records_text head.actor (head_sum head) (take c.count history)) c.end.bytes);
+      text =
+          bytes ∙ ap (λ (x : List ℕ). text ++ x) c.text ∙ sym (append_assoc text (records_text head.actor (head_sum head) (take c.count history)) c.end.bytes);
       cut = c.cut;
     }
 
 -- ---- one more record
 
-records-more : (me before : ℕ) (history : List Entry) (r : Entry) → records_text me before (history ++ r ∷ []) ≡ records_text me before history ++ record_text me (records_sum me before history) r
+records-more : (me before : ℕ) (history : List Entry) (r : Entry)
+    → records_text me before (history ++ r ∷ []) ≡ records_text me before history ++ record_text me (records_sum me before history) r
 records-more me before [] r = append-nil (record_text me before r)
 records-more me before (x ∷ more) r =
     let first = record_text me before x in
@@ -294,10 +327,13 @@ sum-more : (me before : ℕ) (history : List Entry) (r : Entry) → records_sum 
 sum-more me before [] r = refl
 sum-more me before (x ∷ more) r = sum-more me (record_sum me before x) more r
 
-pub journal-more : (head : Head) (history : List Entry) (r : Entry) → journal_text head (history ++ r ∷ []) ≡ journal_text head history ++ record_text head.actor (journal_sum head history) r
+pub journal-more : (head : Head) (history : List Entry) (r : Entry)
+    → journal_text head (history ++ r ∷ []) ≡ journal_text head history ++ record_text head.actor (journal_sum head history) r
 journal-more head history r =
     let records = records_text head.actor (head_sum head) history in
-    ap (λ (t : List ℕ). head_text head ++ t) (records-more head.actor (head_sum head) history r) ∙ sym (append_assoc (head_text head) records (record_text head.actor (journal_sum head history) r))
+    ap (λ (t : List ℕ). head_text head ++ t) (records-more head.actor (head_sum head) history r)
+    ∙ sym (append_assoc (head_text head) records (record_text head.actor (journal_sum head history) r))
 
-pub journal_sum-more : (head : Head) (history : List Entry) (r : Entry) → journal_sum head (history ++ r ∷ []) ≡ record_sum head.actor (journal_sum head history) r
+pub journal_sum-more : (head : Head) (history : List Entry) (r : Entry)
+    → journal_sum head (history ++ r ∷ []) ≡ record_sum head.actor (journal_sum head history) r
 journal_sum-more head history r = sum-more head.actor (head_sum head) history r

@@ -107,7 +107,8 @@ begun-length before bytes fits some few =
     }
 
 -- within the length's complement
-begun-complement : (before n : ℕ) (front : List ℕ) → Fits 4 n → length front ≤ 4 → agree (number 4 (most - n)) front ≡ true → IsPartial before (number 4 n ++ front)
+begun-complement : (before n : ℕ) (front : List ℕ) → Fits 4 n → length front ≤ 4 → agree (number 4 (most - n)) front ≡ true
+    → IsPartial before (number 4 n ++ front)
 begun-complement before n front short few twice =
     let c = number 4 (most - n) in
     let part = agree-part c front (omega (arith, length-number 4 (most - n))) twice in
@@ -122,7 +123,9 @@ begun-complement before n front short few twice =
       short = subst (Fits 4) (sym body-len) short;
       some = not_empty (number 4 n ++ front) (omega (arith, length-append (number 4 n) front, length-number 4 n));
       lacks = not_empty (left ++ tail) (omega (arith, length-append left tail, some-behind before body));
-      whole = append_assoc (number 4 n) front (left ++ tail) ∙ ap (λ (x : List ℕ). number 4 n ++ x) (sym (append_assoc front left tail) ∙ ap (λ (x : List ℕ). x ++ tail) (sym part)) ∙ sym shape;
+      whole =
+          append_assoc (number 4 n) front (left ++ tail) ∙ ap (λ (x : List ℕ). number 4 n ++ x)
+          (sym (append_assoc front left tail) ∙ ap (λ (x : List ℕ). x ++ tail) (sym part)) ∙ sym shape;
     }
 
 -- within what it says
@@ -133,7 +136,8 @@ begun-body before n front short few =
     let body = front ++ fill in
     let body-len : length body ≡ n = omega (arith, length-append front fill, length-zeros (n - length front)) in
     let s = number 8 (checksum before (measured body)) in
-    let shape : sealed before body ≡ number 4 n ++ (c ++ (body ++ s)) = sealed-shape before body ∙ ap (λ (k : ℕ). number 4 k ++ behind before k body) body-len in
+    let shape : sealed before body ≡ number 4 n ++ (c ++ (body ++ s)) =
+    sealed-shape before body ∙ ap (λ (k : ℕ). number 4 k ++ behind before k body) body-len in
     record {
       body = body;
       more = fill ++ s;
@@ -145,7 +149,8 @@ begun-body before n front short few =
     }
 
 -- within its checksum
-begun-sum : (before : ℕ) (body front : List ℕ) → Fits 4 (length body) → length front < 8 → agree (number 8 (checksum before (measured body))) front ≡ true → IsPartial before (measured body ++ front)
+begun-sum : (before : ℕ) (body front : List ℕ) → Fits 4 (length body) → length front < 8 → agree (number 8 (checksum before (measured body))) front ≡ true
+    → IsPartial before (measured body ++ front)
 begun-sum before body front short few summed =
     let s = number 8 (checksum before (measured body)) in
     let s-len = length-number 8 (checksum before (measured body)) in
@@ -161,7 +166,8 @@ begun-sum before body front short few summed =
     }
 
 -- behind its length
-begun-twice : (b : Bool) (before : ℕ) (bytes : List ℕ) → IsBytes bytes → nat_lt 8 (length bytes) ≡ b → 4 ≤ length bytes → agree (number 4 (most - length_in bytes)) (drop 4 bytes) ≡ true → length bytes < 8 + length_in bytes → IsPartial before bytes
+begun-twice : (b : Bool) (before : ℕ) (bytes : List ℕ) → IsBytes bytes → nat_lt 8 (length bytes) ≡ b → 4 ≤ length bytes
+    → agree (number 4 (most - length_in bytes)) (drop 4 bytes) ≡ true → length bytes < 8 + length_in bytes → IsPartial before bytes
 begun-twice false before bytes fits e four twice few =
     let t = number-takes 4 bytes four fits in
     let le : length bytes ≤ 8 = ltb-false 8 (length bytes) e in
@@ -173,16 +179,19 @@ begun-twice true before bytes fits e four twice few =
     let c = number 4 (most - n) in
     let two = agree-whole c (drop 4 bytes) (omega (arith, length-number 4 (most - n), length-drop 4 bytes)) twice in
     let at8 : drop (length c) (drop 4 bytes) ≡ drop 8 bytes = ap (λ (k : ℕ). drop k (drop 4 bytes)) (length-number 4 (most - n)) ∙ drop-drop 4 4 bytes in
-    let shape : bytes ≡ (number 4 n ++ c) ++ drop 8 bytes = t.0 ∙ ap (λ (x : List ℕ). number 4 n ++ x) (two ∙ ap (λ (x : List ℕ). c ++ x) at8) ∙ sym (append_assoc (number 4 n) c (drop 8 bytes)) in
+    let shape : bytes ≡ (number 4 n ++ c) ++ drop 8 bytes =
+    t.0 ∙ ap (λ (x : List ℕ). number 4 n ++ x) (two ∙ ap (λ (x : List ℕ). c ++ x) at8) ∙ sym (append_assoc (number 4 n) c (drop 8 bytes)) in
     subst (IsPartial before) (sym shape) (begun-body before n (drop 8 bytes) t.1 (omega (arith, length-drop 8 bytes)))
 
 -- behind what it says
-begun-said : (before : ℕ) (bytes : List ℕ) → IsBytes bytes → agree (number 4 (most - length_in bytes)) (drop 4 bytes) ≡ true → 8 + length_in bytes ≤ length bytes
+begun-said : (before : ℕ) (bytes : List ℕ) → IsBytes bytes → agree (number 4 (most - length_in bytes)) (drop 4 bytes) ≡ true
+    → 8 + length_in bytes ≤ length bytes
     → agree (number 8 (checksum before (measured_in bytes))) (drop (8 + length_in bytes) bytes) ≡ true → length bytes < size_in bytes → IsPartial before bytes
 begun-said before bytes fits twice said summed few =
     let m = measured-splits bytes fits twice said in
     let tail = drop (8 + length_in bytes) bytes in
-    let summed' : agree (number 8 (checksum before (measured (body_in bytes)))) tail ≡ true = ap (λ (x : List ℕ). agree (number 8 (checksum before x)) tail) (sym m.measure) ∙ summed in
+    let summed' : agree (number 8 (checksum before (measured (body_in bytes)))) tail ≡ true =
+    ap (λ (x : List ℕ). agree (number 8 (checksum before x)) tail) (sym m.measure) ∙ summed in
     subst (IsPartial before) (sym m.text) (begun-sum before (body_in bytes) tail m.short (omega (arith, length-drop (8 + length_in bytes) bytes)) summed')
 
 -- ---- what is cut off is such a front

@@ -94,14 +94,17 @@ parts body rest short =
       size = size;
       twice = ap (drop 4) front ∙ behind-number 4 n (b ++ (body ++ rest));
       measure = ap (λ (k : ℕ). take (8 + k) bytes) size ∙ take_at (measured body) rest (8 + n) m-len;
-      says = ap (λ (k : ℕ). take k (drop 8 bytes)) size ∙ ap (λ (x : List ℕ). take n (drop 8 x)) shape ∙ ap (take n) (drop_at (a ++ b) (body ++ rest) 8 ab-len) ∙ take_at body rest n refl;
+      says =
+          ap (λ (k : ℕ). take k (drop 8 bytes)) size ∙ ap (λ (x : List ℕ). take n (drop 8 x)) shape ∙ ap (take n) (drop_at (a ++ b) (body ++ rest) 8 ab-len)
+          ∙ take_at body rest n refl;
       tail = ap (λ (k : ℕ). drop (8 + k) bytes) size ∙ drop_at (measured body) rest (8 + n) m-len;
       long = omega (arith, length-append (measured body) rest, m-len);
     }
 
 -- the tests in front of the checksum are passed
 front-measured : (before : ℕ) (body rest : List ℕ) → Fits 4 (length body)
-    → front_at before (measured body ++ rest) ≡ (if not (agree (number 8 (checksum before (measured body))) rest) then Damaged Checksum else if nat_lt (length (measured body ++ rest)) (16 + length body) then CutOff else Sound)
+    → front_at before (measured body ++ rest) ≡ (if not (agree (number 8 (checksum before (measured body))) rest) then Damaged Checksum
+    else if nat_lt (length (measured body ++ rest)) (16 + length body) then CutOff else Sound)
 unfolding front_at
 front-measured before body rest short =
     let bytes = measured body ++ rest in
@@ -110,7 +113,8 @@ front-measured before body rest short =
     let t1 : (length bytes == 0) ≡ false = ne_eqb (length bytes) 0 (λ e. absurd (omega arith)) in
     let t2 : nat_lt (length bytes) 4 ≡ false = le-ltb (length bytes) 4 (omega arith) in
     let t3 : agree (number 4 (most - length_in bytes)) (drop 4 bytes) ≡ true =
-    ap (λ (k : ℕ). agree (number 4 (most - k)) (drop 4 bytes)) p.size ∙ ap (agree (number 4 (most - length body))) p.twice ∙ agree-self (number 4 (most - length body)) (body ++ rest) in
+    ap (λ (k : ℕ). agree (number 4 (most - k)) (drop 4 bytes)) p.size ∙ ap (agree (number 4 (most - length body))) p.twice
+    ∙ agree-self (number 4 (most - length body)) (body ++ rest) in
     let t4 : nat_lt (length bytes) (8 + length_in bytes) ≡ false = le-ltb (length bytes) (8 + length_in bytes) (omega (arith, p.size)) in
     let t6 : nat_lt (length bytes) (size_in bytes) ≡ nat_lt (length bytes) (16 + length body) = ap (λ (k : ℕ). nat_lt (length bytes) (16 + k)) p.size in
     rw (t1, t2, t3, t4, p.measure, p.tail, t6) refl
@@ -124,7 +128,8 @@ sealed-sound before body rest short =
     let known = agree-self s rest in
     let long = (parts body (s ++ rest) short).long in
     let whole : nat_lt (length (measured body ++ (s ++ rest))) (16 + length body) ≡ false =
-    le-ltb (length (measured body ++ (s ++ rest))) (16 + length body) (omega (arith, length-append s rest, length-number 8 (checksum before (measured body)))) in
+    le-ltb (length (measured body ++ (s ++ rest))) (16 + length body)
+    (omega (arith, length-append s rest, length-number 8 (checksum before (measured body)))) in
     ap (front_at before) regrouped ∙ front-measured before body (s ++ rest) short ∙ rw (known, whole) refl
 
 -- what is read of it
@@ -155,14 +160,16 @@ other-damaged before body s rest short fits other =
     ap (front_at before) (append_assoc (measured body) (number 8 s) rest) ∙ front-measured before body (number 8 s ++ rest) short ∙ rw unknown refl
 
 -- a length without its complement is damage
-pub length-damaged : (before n m : ℕ) (rest : List ℕ) → Fits 4 n → Fits 4 m → (n + m ≡ most → ⊥) → front_at before ((number 4 n ++ number 4 m) ++ rest) ≡ Damaged Length
+pub length-damaged : (before n m : ℕ) (rest : List ℕ) → Fits 4 n → Fits 4 m → (n + m ≡ most → ⊥)
+    → front_at before ((number 4 n ++ number 4 m) ++ rest) ≡ Damaged Length
 unfolding front_at
 length-damaged before n m rest hn hm other =
     let bytes = (number 4 n ++ number 4 m) ++ rest in
     let front : bytes ≡ number 4 n ++ (number 4 m ++ rest) = append_assoc (number 4 n) (number 4 m) rest in
     let size : length_in bytes ≡ n = ap length_in front ∙ front-number 4 n (number 4 m ++ rest) hn in
     let twice : drop 4 bytes ≡ number 4 m ++ rest = ap (drop 4) front ∙ behind-number 4 n (number 4 m ++ rest) in
-    let long : 8 ≤ length bytes = omega (arith, length-append (number 4 n ++ number 4 m) rest, length-append (number 4 n) (number 4 m), length-number 4 n, length-number 4 m) in
+    let long : 8 ≤ length bytes =
+    omega (arith, length-append (number 4 n ++ number 4 m) rest, length-append (number 4 n) (number 4 m), length-number 4 n, length-number 4 m) in
     let t1 : (length bytes == 0) ≡ false = ne_eqb (length bytes) 0 (λ e. absurd (omega arith)) in
     let t2 : nat_lt (length bytes) 4 ≡ false = le-ltb (length bytes) 4 (omega arith) in
     let unknown = agree-other 4 (most - n) m rest (omega arith) hm (λ e. other (omega arith)) in
@@ -192,12 +199,14 @@ said-cut before n j rest short few =
     let t1 : (length bytes == 0) ≡ false = ne_eqb (length bytes) 0 (λ e. absurd (omega arith)) in
     let t2 : nat_lt (length bytes) 4 ≡ false = le-ltb (length bytes) 4 (omega arith) in
     let t3 : agree (number 4 (most - length_in bytes)) (drop 4 bytes) ≡ true =
-    ap (λ (k : ℕ). agree (number 4 (most - k)) (drop 4 bytes)) size ∙ ap (agree (number 4 (most - n))) (behind-number 4 n front) ∙ agree-front j (number 4 (most - n)) rest in
+    ap (λ (k : ℕ). agree (number 4 (most - k)) (drop 4 bytes)) size ∙ ap (agree (number 4 (most - n))) (behind-number 4 n front)
+    ∙ agree-front j (number 4 (most - n)) rest in
     let t4 : nat_lt (length bytes) (8 + length_in bytes) ≡ true = lt-ltb (length bytes) (8 + length_in bytes) (omega (arith, size, most-len)) in
     rw (t1, t2, t3, t4) refl
 
 -- within its checksum
-summed-cut : (before j : ℕ) (body rest : List ℕ) → Fits 4 (length body) → j < 8 → front_at before (measured body ++ take j (number 8 (checksum before (measured body)) ++ rest)) ≡ CutOff
+summed-cut : (before j : ℕ) (body rest : List ℕ) → Fits 4 (length body) → j < 8
+    → front_at before (measured body ++ take j (number 8 (checksum before (measured body)) ++ rest)) ≡ CutOff
 summed-cut before j body rest short few =
     let s = number 8 (checksum before (measured body)) in
     let front = take j (s ++ rest) in
@@ -208,7 +217,8 @@ summed-cut before j body rest short few =
     front-measured before body front short ∙ rw (known, cut) refl
 
 -- a front of so many bytes
-cut_in : (b c : Bool) (before k : ℕ) (body rest : List ℕ) → nat_lt k 4 ≡ b → nat_lt k (8 + length body) ≡ c → Fits 4 (length body) → 0 < k → k < 16 + length body
+cut_in : (b c : Bool) (before k : ℕ) (body rest : List ℕ) → nat_lt k 4 ≡ b → nat_lt k (8 + length body) ≡ c → Fits 4 (length body) → 0 < k
+    → k < 16 + length body
     → front_at before (take k (sealed before body ++ rest)) ≡ CutOff
 cut_in true c before k body rest e f short some cut =
     let all = sealed before body ++ rest in
@@ -236,9 +246,11 @@ cut_in false false before k body rest e f short some cut =
     let j = k - (8 + n) in
     let k-is : k ≡ length (measured body) + j = omega (arith, length-measured body) in
     let bytes : take k (sealed before body ++ rest) ≡ measured body ++ take j (s ++ rest) =
-    ap (take k) (append_assoc (measured body) s rest) ∙ ap (λ (i : ℕ). take i (measured body ++ (s ++ rest))) k-is ∙ take-append-add (measured body) (s ++ rest) j in
+    ap (take k) (append_assoc (measured body) s rest) ∙ ap (λ (i : ℕ). take i (measured body ++ (s ++ rest))) k-is
+    ∙ take-append-add (measured body) (s ++ rest) j in
     ap (front_at before) bytes ∙ summed-cut before j body rest short (omega arith)
 
 -- a front of a record, neither empty nor whole, is cut off
-pub front-cut : (before k : ℕ) (body rest : List ℕ) → Fits 4 (length body) → 0 < k → k < 16 + length body → front_at before (take k (sealed before body ++ rest)) ≡ CutOff
+pub front-cut : (before k : ℕ) (body rest : List ℕ) → Fits 4 (length body) → 0 < k → k < 16 + length body
+    → front_at before (take k (sealed before body ++ rest)) ≡ CutOff
 front-cut before k body rest short some cut = cut_in (nat_lt k 4) (nat_lt k (8 + length body)) before k body rest refl refl short some cut

@@ -24,7 +24,8 @@ use Rattle.pvp_journal.proofs.Sealed.{agree-whole, length-measured}
 use Rattle.pvp_journal.proofs.Taken.{by_tag, body-takes}
 
 -- a number in front
-pub number-takes : (n : ℕ) (bytes : List ℕ) → n ≤ length bytes → IsBytes bytes → (bytes ≡ number n (big_number n bytes) ++ drop n bytes) × Fits n (big_number n bytes)
+pub number-takes : (n : ℕ) (bytes : List ℕ) → n ≤ length bytes → IsBytes bytes
+    → (bytes ≡ number n (big_number n bytes) ++ drop n bytes) × Fits n (big_number n bytes)
 number-takes n bytes long fits =
     let read : number_at n bytes ≡ Ok (big_number n bytes, drop n bytes) = rw (le-ltb (length bytes) n long) refl in
     let t = (number_format n).takes bytes (big_number n bytes) (drop n bytes) fits read in
@@ -38,7 +39,8 @@ pub record IsMeasured (bytes : List ℕ) : Type 0 where
   pub measure : measured_in bytes ≡ measured (body_in bytes)
   pub short : Fits 4 (length (body_in bytes))
 
-pub measured-splits : (bytes : List ℕ) → IsBytes bytes → agree (number 4 (most - length_in bytes)) (drop 4 bytes) ≡ true → 8 + length_in bytes ≤ length bytes → IsMeasured bytes
+pub measured-splits : (bytes : List ℕ) → IsBytes bytes → agree (number 4 (most - length_in bytes)) (drop 4 bytes) ≡ true → 8 + length_in bytes ≤ length bytes
+    → IsMeasured bytes
 measured-splits bytes fits twice long =
     let n = length_in bytes in
     let one = number-takes 4 bytes (omega arith) fits in
@@ -85,7 +87,8 @@ sound-sealed before bytes fits e =
     let s = number 8 (checksum before (measured_in bytes)) in
     let s-len = length-number 8 (checksum before (measured_in bytes)) in
     let three : tail ≡ s ++ drop (length s) tail = agree-whole s tail (omega (arith, length-drop (8 + n) bytes)) t.summed in
-    let at-rest : drop (length s) tail ≡ after bytes = ap (λ (k : ℕ). drop k tail) s-len ∙ drop-drop 8 (8 + n) bytes ∙ ap (λ (k : ℕ). drop k bytes) (omega arith) in
+    let at-rest : drop (length s) tail ≡ after bytes =
+    ap (λ (k : ℕ). drop k tail) s-len ∙ drop-drop 8 (8 + n) bytes ∙ ap (λ (k : ℕ). drop k bytes) (omega arith) in
     record {
       text = m.text ∙ ap (λ (x : List ℕ). measured body ++ x) (three ∙ ap (λ (x : List ℕ). s ++ x) at-rest)
           ∙ ap (λ (k : ℕ). measured body ++ (number 8 k ++ after bytes)) sum
@@ -120,8 +123,10 @@ record AreSpelled (me : ℕ) (start : Place) (history : List Entry) (end : Place
   sum : end.sum ≡ records_sum me start.sum history
   each : All (IsJournalable me) history
 
-records-spelled : (me : ℕ) (start : Place) (history : List Entry) (end : Place) → IsBytes start.bytes → AreRecords me start history end → AreSpelled me start history end
-records-spelled me start [] end fits h = record { text = sym (ap (λ (p : Place). p.bytes) h); sum = ap (λ (p : Place). p.sum) h; each = All-nil (IsJournalable me) }
+records-spelled : (me : ℕ) (start : Place) (history : List Entry) (end : Place) → IsBytes start.bytes → AreRecords me start history end
+    → AreSpelled me start history end
+records-spelled me start [] end fits h =
+    record { text = sym (ap (λ (p : Place). p.bytes) h); sum = ap (λ (p : Place). p.sum) h; each = All-nil (IsJournalable me) }
 records-spelled me start (r ∷ more) end fits h =
     let one = stands-record me start r fits h.0 in
     let rest = records-spelled me (next start) more end one.rest h.1 in
@@ -143,21 +148,26 @@ done_opening x = Ok x
 OpeningTakes : List ℕ → Option Boot → List ℕ → Type 0
 OpeningTakes bytes opening rest = Takes bytes (opening_text opening) rest × OpeningFits opening
 
-opening-none : (flag : ℕ) (bytes : List ℕ) (opening : Option Boot) (rest : List ℕ) → IsBytes bytes → flag ≡ 0 → done_opening (None, bytes) ≡ done_opening (opening, rest) → OpeningTakes (flag ∷ bytes) opening rest
+opening-none : (flag : ℕ) (bytes : List ℕ) (opening : Option Boot) (rest : List ℕ) → IsBytes bytes → flag ≡ 0
+    → done_opening (None, bytes) ≡ done_opening (opening, rest) → OpeningTakes (flag ∷ bytes) opening rest
 unfolding OpeningTakes
 opening-none flag bytes opening rest fits is e =
-    subst (λ (p : Option Boot × List ℕ). Takes (flag ∷ bytes) (opening_text p.0) p.1 × OpeningFits p.0) (ok_is (None, bytes) (opening, rest) e) (record { parts = ap (λ (k : ℕ). k ∷ bytes) is; rest_fits = fits }, tt)
+    subst (λ (p : Option Boot × List ℕ). Takes (flag ∷ bytes) (opening_text p.0) p.1 × OpeningFits p.0) (ok_is (None, bytes) (opening, rest) e)
+    (record { parts = ap (λ (k : ℕ). k ∷ bytes) is; rest_fits = fits }, tt)
 
-opening-some : (flag : ℕ) (bytes : List ℕ) (opening : Option Boot) (rest : List ℕ) → IsBytes bytes → flag ≡ 1 → (number_at 4 bytes >>= λ n. done_opening (Some (record { boots = n.0 }), n.1)) ≡ done_opening (opening, rest) → OpeningTakes (flag ∷ bytes) opening rest
+opening-some : (flag : ℕ) (bytes : List ℕ) (opening : Option Boot) (rest : List ℕ) → IsBytes bytes → flag ≡ 1
+    → (number_at 4 bytes >>= λ n. done_opening (Some (record { boots = n.0 }), n.1)) ≡ done_opening (opening, rest) → OpeningTakes (flag ∷ bytes) opening rest
 unfolding OpeningTakes
 opening-some flag bytes opening rest fits is e =
     let m = bind_ok (number_at 4 bytes) (λ n. done_opening (Some (record { boots = n.0 }), n.1)) (opening, rest) e in
     let a = n4.takes bytes m.0.0 m.0.1 fits m.1 in
     let boot : Boot = record { boots = m.0.0 } in
-    let t : Takes (flag ∷ bytes) (opening_text (Some boot)) m.0.1 = record { parts = ap (λ (k : ℕ). k ∷ bytes) is ∙ ap (λ (x : List ℕ). 1 ∷ x) a.0.parts; rest_fits = a.0.rest_fits } in
+    let t : Takes (flag ∷ bytes) (opening_text (Some boot)) m.0.1 =
+    record { parts = ap (λ (k : ℕ). k ∷ bytes) is ∙ ap (λ (x : List ℕ). 1 ∷ x) a.0.parts; rest_fits = a.0.rest_fits } in
     subst (λ (p : Option Boot × List ℕ). Takes (flag ∷ bytes) (opening_text p.0) p.1 × OpeningFits p.0) (ok_is (Some boot, m.0.1) (opening, rest) m.2) (t, a.1)
 
-opening-takes : (bytes : List ℕ) (opening : Option Boot) (rest : List ℕ) → IsBytes bytes → opening_at bytes ≡ Ok (opening, rest) → OpeningTakes bytes opening rest
+opening-takes : (bytes : List ℕ) (opening : Option Boot) (rest : List ℕ) → IsBytes bytes → opening_at bytes ≡ Ok (opening, rest)
+    → OpeningTakes bytes opening rest
 unfolding opening_at
 opening-takes [] opening rest fits e = absurd cc
 opening-takes (flag ∷ bytes) opening rest fits e =
@@ -173,23 +183,32 @@ bank-takes bytes bank rest fits e =
     let g = guard_ok (nat_lt (length bytes) 32) CutField (take 32 bytes, drop 32 bytes) (bank, rest) e in
     let long : 32 ≤ length bytes = ltb-false (length bytes) 32 g.0 in
     let len : length (take 32 bytes) ≡ 32 = omega (arith, length-take 32 bytes) in
-    subst (λ (p : List ℕ × List ℕ). Takes bytes p.0 p.1 × (length p.0 ≡ 32)) g.1 (record { parts = sym (take-append-drop 32 bytes); rest_fits = IsBytes-drop 32 bytes fits }, len)
+    subst (λ (p : List ℕ × List ℕ). Takes bytes p.0 p.1 × (length p.0 ≡ 32)) g.1
+    (record { parts = sym (take-append-drop 32 bytes); rest_fits = IsBytes-drop 32 bytes fits }, len)
 
 abbrev fields_text : Head → List ℕ
 fields_text head = number 2 head.actor ++ opening_text head.opening ++ head.bank
 
-fields-takes : (bytes : List ℕ) (head : Head) (rest : List ℕ) → IsBytes bytes → fields_at bytes ≡ Ok (head, rest) → Takes bytes (fields_text head) rest × IsHead head
+fields-takes : (bytes : List ℕ) (head : Head) (rest : List ℕ) → IsBytes bytes → fields_at bytes ≡ Ok (head, rest)
+    → Takes bytes (fields_text head) rest × IsHead head
 unfolding fields_at OpeningTakes
 fields-takes bytes head rest fits e =
-    let m = bind_ok (number_at 2 bytes) (λ actor. opening_at actor.1 >>= λ opening. bank_at opening.1 >>= λ bank. Ok (record { actor = actor.0; opening = opening.0; bank = bank.0 }, bank.1)) (head, rest) e in
-    let k = bind_ok (opening_at m.0.1) (λ opening. bank_at opening.1 >>= λ bank. Ok (record { actor = m.0.0; opening = opening.0; bank = bank.0 }, bank.1)) (head, rest) m.2 in
+    let m =
+    bind_ok (number_at 2 bytes) (λ actor. opening_at actor.1 >>= λ opening. bank_at opening.1 >>= λ bank.
+    Ok (record { actor = actor.0; opening = opening.0; bank = bank.0 }, bank.1)) (head, rest) e in
+    let k =
+    bind_ok (opening_at m.0.1) (λ opening. bank_at opening.1 >>= λ bank. Ok (record { actor = m.0.0; opening = opening.0; bank = bank.0 }, bank.1))
+    (head, rest) m.2 in
     let l = bind_ok (bank_at k.0.1) (λ bank. Ok (record { actor = m.0.0; opening = k.0.0; bank = bank.0 }, bank.1)) (head, rest) k.2 in
     let a = n2.takes bytes m.0.0 m.0.1 fits m.1 in
     let b = opening-takes m.0.1 k.0.0 k.0.1 a.0.rest_fits k.1 in
     let c = bank-takes k.0.1 l.0.0 l.0.1 b.0.rest_fits l.1 in
     let read : Head = record { actor = m.0.0; opening = k.0.0; bank = l.0.0 } in
-    let t : Takes bytes (fields_text read) l.0.1 = Takes-then bytes (number 2 m.0.0 ++ opening_text k.0.0) k.0.1 l.0.0 l.0.1 (Takes-then bytes (number 2 m.0.0) m.0.1 (opening_text k.0.0) k.0.1 a.0 b.0) c.0 in
-    subst (λ (p : Head × List ℕ). Takes bytes (fields_text p.0) p.1 × IsHead p.0) (ok_is (read, l.0.1) (head, rest) l.2) (t, record { actor = a.1; opening = b.1; bank = c.1 })
+    let t : Takes bytes (fields_text read) l.0.1 =
+    Takes-then bytes (number 2 m.0.0 ++ opening_text k.0.0) k.0.1 l.0.0 l.0.1
+    (Takes-then bytes (number 2 m.0.0) m.0.1 (opening_text k.0.0) k.0.1 a.0 b.0) c.0 in
+    subst (λ (p : Head × List ℕ). Takes bytes (fields_text p.0) p.1 × IsHead p.0) (ok_is (read, l.0.1) (head, rest) l.2)
+    (t, record { actor = a.1; opening = b.1; bank = c.1 })
 
 begins-takes : (n x : ℕ) (bytes : List ℕ) → IsBytes bytes → begins_with n x bytes ≡ true → bytes ≡ number n x ++ drop n bytes
 begins-takes n x bytes fits h =
@@ -203,7 +222,8 @@ found x = Ok x
 heads : (x y : Head × List ℕ) → found x ≡ found y → x ≡ y
 heads x y e = cc
 
-wanted : (b : Bool) (why : JournalWhy) (y : Result (Head × List ℕ) JournalWhy) (z : Head × List ℕ) → (if not b then Err why else y) ≡ Ok z → (b ≡ true) × (y ≡ Ok z)
+wanted : (b : Bool) (why : JournalWhy) (y : Result (Head × List ℕ) JournalWhy) (z : Head × List ℕ) → (if not b then Err why else y) ≡ Ok z
+    → (b ≡ true) × (y ≡ Ok z)
 wanted true why y z e = (refl, e)
 wanted false why y z e = absurd cc
 
@@ -227,7 +247,8 @@ head-takes bytes head rest fits e =
     let text : m ++ (v ++ fields_text head) ≡ head_text head = simp append_assoc in
     let parts : bytes ≡ head_text head ++ rest =
     one ∙ ap (λ (x : List ℕ). m ++ x) (two ∙ ap (λ (x : List ℕ). v ++ x) (at5 ∙ f.0.parts))
-    ∙ ap (λ (x : List ℕ). m ++ x) (sym (append_assoc v (fields_text head) rest)) ∙ sym (append_assoc m (v ++ fields_text head) rest) ∙ ap (λ (x : List ℕ). x ++ rest) text in
+    ∙ ap (λ (x : List ℕ). m ++ x) (sym (append_assoc v (fields_text head) rest)) ∙ sym (append_assoc m (v ++ fields_text head) rest)
+    ∙ ap (λ (x : List ℕ). x ++ rest) text in
     (record { parts = parts; rest_fits = f.0.rest_fits }, f.1)
 
 -- ---- the whole
@@ -239,11 +260,13 @@ read_spelled bytes head history end fits h =
     let t = head-takes bytes head start.bytes fits h.headed.found in
     let text = head_text head in
     let len : length bytes - length start.bytes ≡ length text = omega (arith, ap length t.0.parts, length-append text start.bytes) in
-    let front : take (length bytes - length start.bytes) bytes ≡ text = ap (λ (k : ℕ). take k bytes) len ∙ ap (take (length text)) t.0.parts ∙ take_at text start.bytes (length text) refl in
+    let front : take (length bytes - length start.bytes) bytes ≡ text =
+    ap (λ (k : ℕ). take k bytes) len ∙ ap (take (length text)) t.0.parts ∙ take_at text start.bytes (length text) refl in
     let sum : start.sum ≡ head_sum head = h.headed.sum ∙ ap (checksum 0) front in
     let s = records-spelled head.actor start history end t.0.rest_fits h.records in
     let records = records_text head.actor (head_sum head) history in (
-      t.0.parts ∙ ap (λ (x : List ℕ). text ++ x) (s.text ∙ ap (λ (k : ℕ). records_text head.actor k history ++ end.bytes) sum) ∙ sym (append_assoc text records end.bytes),
+      t.0.parts ∙ ap (λ (x : List ℕ). text ++ x) (s.text ∙ ap (λ (k : ℕ). records_text head.actor k history ++ end.bytes) sum)
+          ∙ sym (append_assoc text records end.bytes),
       record { is_head = t.1; each = s.each },
       s.sum ∙ ap (λ (k : ℕ). records_sum head.actor k history) sum,
     )

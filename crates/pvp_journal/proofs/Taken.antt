@@ -61,7 +61,8 @@ stamp-is me clock place s h =
     ∙ ap (λ (x : ℕ). record { stamp = record { actor = me; clock = x; index = s.stamp.index }; envelope = s.envelope }) clock-is
     ∙ ap (λ (x : ℕ). record { stamp = record { actor = me; clock = clock; index = x }; envelope = s.envelope }) place-is
 
-sent-takes : (me clock place : ℕ) → TakesBy (λ envelope. spelling (stamped me clock place envelope)) (λ envelope. IsSpelled (stamped me clock place envelope)) (sent_at me clock place)
+sent-takes : (me clock place : ℕ)
+    → TakesBy (λ envelope. spelling (stamped me clock place envelope)) (λ envelope. IsSpelled (stamped me clock place envelope)) (sent_at me clock place)
 unfolding sent_at
 sent-takes me clock place bytes envelope rest fits e =
     let m = bind_ok (stamped_at bytes) (λ found. if is_of me clock place found.0.stamp then Ok (found.0.envelope, found.1) else Err Field) (envelope, rest) e in
@@ -70,14 +71,18 @@ sent-takes me clock place bytes envelope rest fits e =
     let mine = subst (λ (s : Stamped). Takes bytes (spelling s) m.0.1 × IsSpelled s) (stamp-is me clock place m.0.0 w.0) t in
     subst (λ (p : Envelope × List ℕ). Takes bytes (spelling (stamped me clock place p.0)) p.1 × IsSpelled (stamped me clock place p.0)) w.1 mine
 
-frames-takes : (me clock count place : ℕ) (bytes : List ℕ) (sent : List Envelope) (rest : List ℕ) → IsBytes bytes → frames_from me clock count place bytes ≡ Ok (sent, rest)
+frames-takes : (me clock count place : ℕ) (bytes : List ℕ) (sent : List Envelope) (rest : List ℕ) → IsBytes bytes
+    → frames_from me clock count place bytes ≡ Ok (sent, rest)
     → Takes bytes (frames_text me clock place sent) rest × FramesFit me clock place sent × (length sent ≡ count)
 unfolding frames_from
 frames-takes me clock zero place bytes sent rest fits e =
     let same = ok_is ([], bytes) (sent, rest) e in
-    subst (λ (p : List Envelope × List ℕ). Takes bytes (frames_text me clock place p.0) p.1 × FramesFit me clock place p.0 × (length p.0 ≡ 0)) same (record { parts = refl; rest_fits = fits }, tt, refl)
+    subst (λ (p : List Envelope × List ℕ). Takes bytes (frames_text me clock place p.0) p.1 × FramesFit me clock place p.0 × (length p.0 ≡ 0)) same
+    (record { parts = refl; rest_fits = fits }, tt, refl)
 frames-takes me clock (suc count) place bytes sent rest fits e =
-    let m = bind_ok (sent_at me clock place bytes) (λ first. frames_from me clock count (place + 1) first.1 >>= λ others. Ok (first.0 ∷ others.0, others.1)) (sent, rest) e in
+    let m =
+    bind_ok (sent_at me clock place bytes) (λ first. frames_from me clock count (place + 1) first.1 >>= λ others. Ok (first.0 ∷ others.0, others.1))
+    (sent, rest) e in
     let k = bind_ok (frames_from me clock count (place + 1) m.0.1) (λ others. Ok (m.0.0 ∷ others.0, others.1)) (sent, rest) m.2 in
     let a = sent-takes me clock place bytes m.0.0 m.0.1 fits m.1 in
     let b = frames-takes me clock count (place + 1) m.0.1 k.0.0 k.0.1 a.0.rest_fits k.1 in
@@ -104,12 +109,14 @@ all_sent_format me clock = record { takes = all_sent-takes me clock; again = all
 
 -- ---- tags
 
-choose_tag : {A : Type 0} (b : Bool) (tag n : ℕ) (x y : Reads A) (z : A × List ℕ) (Goal : Type 0) → (tag == n) ≡ b → (if b then x else y) ≡ Ok z → (tag ≡ n → x ≡ Ok z → Goal) → (y ≡ Ok z → Goal) → Goal
+choose_tag : {A : Type 0} (b : Bool) (tag n : ℕ) (x y : Reads A) (z : A × List ℕ) (Goal : Type 0) → (tag == n) ≡ b → (if b then x else y) ≡ Ok z
+    → (tag ≡ n → x ≡ Ok z → Goal) → (y ≡ Ok z → Goal) → Goal
 choose_tag true tag n x y z Goal is e this other = this (eqb-true tag n is) e
 choose_tag false tag n x y z Goal is e this other = other e
 
 -- the tag is this one, or one of the others
-pub by_tag : {A : Type 0} (tag n : ℕ) (x y : Reads A) (z : A × List ℕ) (Goal : Type 0) → (if tag == n then x else y) ≡ Ok z → (tag ≡ n → x ≡ Ok z → Goal) → (y ≡ Ok z → Goal) → Goal
+pub by_tag : {A : Type 0} (tag n : ℕ) (x y : Reads A) (z : A × List ℕ) (Goal : Type 0) → (if tag == n then x else y) ≡ Ok z → (tag ≡ n → x ≡ Ok z → Goal)
+    → (y ≡ Ok z → Goal) → Goal
 by_tag tag n x y z Goal e this other = choose_tag (tag == n) tag n x y z Goal refl e this other
 
 -- ---- events
@@ -132,33 +139,50 @@ record IsTagged (me clock tag : ℕ) (h : Happened) : Type 0 where
 EventTakes : ℕ → ℕ → List ℕ → Happened → List ℕ → Type 0
 EventTakes me clock bytes h rest = Takes bytes (event_of me clock h) rest × EventFit me clock h
 
-finish : (me clock tag n : ℕ) (bytes : List ℕ) (h : Happened) (rest : List ℕ) → tag ≡ n → Takes bytes (fields me clock h) rest × IsTagged me clock n h → EventTakes me clock (tag ∷ bytes) h rest
+finish : (me clock tag n : ℕ) (bytes : List ℕ) (h : Happened) (rest : List ℕ) → tag ≡ n → Takes bytes (fields me clock h) rest × IsTagged me clock n h
+    → EventTakes me clock (tag ∷ bytes) h rest
 unfolding EventTakes
-finish me clock tag n bytes h rest is t =
-    (subst (λ (x : List ℕ). Takes (tag ∷ bytes) x rest) (ap (λ (k : ℕ). k ∷ fields me clock h) is ∙ sym t.1.text) (tagged tag bytes (fields me clock h) rest t.0), t.1.fits)
+finish me clock tag n bytes h rest is t = (
+  subst (λ (x : List ℕ). Takes (tag ∷ bytes) x rest) (ap (λ (k : ℕ). k ∷ fields me clock h) is ∙ sym t.1.text)
+      (tagged tag bytes (fields me clock h) rest t.0),
+  t.1.fits,
+)
 
 to_site-takes : (me clock : ℕ) → TakesBy (fields me clock) (IsTagged me clock 1) (delivered_at (λ x. OfSite (Deliver x)))
-to_site-takes me clock = takes1 stamped_format (λ s. (OfSite (Deliver s.envelope), Some s.stamp)) (fields me clock) (IsTagged me clock 1) (λ s. refl) (λ s h. record { fits = h; text = refl })
+to_site-takes me clock =
+    takes1 stamped_format (λ s. (OfSite (Deliver s.envelope), Some s.stamp)) (fields me clock) (IsTagged me clock 1) (λ s. refl)
+    (λ s h. record { fits = h; text = refl })
 
 to_node-takes : (me clock : ℕ) → TakesBy (fields me clock) (IsTagged me clock 6) (delivered_at (λ x. OfNode (node_event.Takes x)))
-to_node-takes me clock = takes1 stamped_format (λ s. (OfNode (node_event.Takes s.envelope), Some s.stamp)) (fields me clock) (IsTagged me clock 6) (λ s. refl) (λ s h. record { fits = h; text = refl })
+to_node-takes me clock =
+    takes1 stamped_format (λ s. (OfNode (node_event.Takes s.envelope), Some s.stamp)) (fields me clock) (IsTagged me clock 6) (λ s. refl)
+    (λ s h. record { fits = h; text = refl })
 
 to_client-takes : (me clock : ℕ) → TakesBy (fields me clock) (IsTagged me clock 10) (delivered_at (λ x. OfClient (client_event.Takes x)))
-to_client-takes me clock = takes1 stamped_format (λ s. (OfClient (client_event.Takes s.envelope), Some s.stamp)) (fields me clock) (IsTagged me clock 10) (λ s. refl) (λ s h. record { fits = h; text = refl })
+to_client-takes me clock =
+    takes1 stamped_format (λ s. (OfClient (client_event.Takes s.envelope), Some s.stamp)) (fields me clock) (IsTagged me clock 10) (λ s. refl)
+    (λ s h. record { fits = h; text = refl })
 
 pays_in-takes : (me clock : ℕ) → TakesBy (fields me clock) (IsTagged me clock 8) pays_in_at
-pays_in-takes me clock = takes2 n2 n8 (λ m a. (OfNode (node_event.PaysIn m a), None)) (fields me clock) (IsTagged me clock 8) (λ m a. refl) (λ m a hm ha. record { fits = (refl, hm, ha); text = refl })
+pays_in-takes me clock =
+    takes2 n2 n8 (λ m a. (OfNode (node_event.PaysIn m a), None)) (fields me clock) (IsTagged me clock 8) (λ m a. refl)
+    (λ m a hm ha. record { fits = (refl, hm, ha); text = refl })
 
 closes-takes : (me clock : ℕ) → TakesBy (fields me clock) (IsTagged me clock 9) closes_at
-closes-takes me clock = takes1 n2 (λ m. (OfNode (node_event.Closes m), None)) (fields me clock) (IsTagged me clock 9) (λ m. refl) (λ m hm. record { fits = (refl, hm); text = refl })
+closes-takes me clock =
+    takes1 n2 (λ m. (OfNode (node_event.Closes m), None)) (fields me clock) (IsTagged me clock 9) (λ m. refl)
+    (λ m hm. record { fits = (refl, hm); text = refl })
 
 -- the one message that a command stands in
 message-is : (to : ℕ) (msg : BankMsg) (cmd : Cmd) → command_in to msg ≡ Ok cmd → (to ≡ FIRST_SITE) × (msg ≡ Request (record { number = 0; cmd = cmd }))
 message-is to (Request msg) cmd e =
     let w = wanted_ok ((msg.number == 0) && (to == FIRST_SITE)) Field msg.cmd cmd e in
     let p = parted (msg.number == 0) (to == FIRST_SITE) w.0 in
-    let number-is = eqb-true msg.number 0 p.0 in
-    (eqb-true to FIRST_SITE p.1, ap (λ (n : ℕ). Request (record { number = n; cmd = msg.cmd })) number-is ∙ ap (λ (x : Cmd). Request (record { number = 0; cmd = x })) w.1)
+    let number-is = eqb-true msg.number 0 p.0 in (
+      eqb-true to FIRST_SITE p.1,
+      ap (λ (n : ℕ). Request (record { number = n; cmd = msg.cmd })) number-is
+          ∙ ap (λ (x : Cmd). Request (record { number = 0; cmd = x })) w.1,
+    )
 message-is to (Prepare msg) cmd e = absurd cc
 message-is to (PrepareOk msg) cmd e = absurd cc
 message-is to (Commit msg) cmd e = absurd cc
@@ -176,7 +200,8 @@ message-is to (PayOrder msg) cmd e = absurd cc
 from-is : (s : Stamped) → IsSpelled s → s.envelope.from ≡ s.stamp.actor
 from-is s h = eqb-true s.envelope.from s.stamp.actor (parted (s.envelope.from == s.stamp.actor) _ h.wireable).0
 
-asked-is : (me clock : ℕ) (envelope : Envelope) (cmd : Cmd) → IsSpelled (stamped me clock 0 envelope) → command_in envelope.to envelope.msg ≡ Ok cmd → stamped me clock 0 envelope ≡ asked me clock cmd
+asked-is : (me clock : ℕ) (envelope : Envelope) (cmd : Cmd) → IsSpelled (stamped me clock 0 envelope) → command_in envelope.to envelope.msg ≡ Ok cmd
+    → stamped me clock 0 envelope ≡ asked me clock cmd
 asked-is me clock envelope cmd h e =
     let m = message-is envelope.to envelope.msg cmd e in
     ap (λ (x : ℕ). stamped me clock 0 (record { from = x; to = envelope.to; msg = envelope.msg })) (from-is (stamped me clock 0 envelope) h)
@@ -196,16 +221,21 @@ submitted_format : (me clock : ℕ) → IsFormat (λ cmd. spelling (asked me clo
 submitted_format me clock = record { takes = submitted-takes me clock; again = submitted-again me clock }
 
 submits-takes : (me clock : ℕ) → TakesBy (fields me clock) (IsTagged me clock 12) (submits_at me clock)
-submits-takes me clock = takes1 (submitted_format me clock) (λ cmd. (OfClient (client_event.Submits cmd), None)) (fields me clock) (IsTagged me clock 12) (λ cmd. refl) (λ cmd h. record { fits = (refl, h); text = refl })
+submits-takes me clock =
+    takes1 (submitted_format me clock) (λ cmd. (OfClient (client_event.Submits cmd), None)) (fields me clock) (IsTagged me clock 12) (λ cmd. refl)
+    (λ cmd h. record { fits = (refl, h); text = refl })
 
 -- an event that is its tag alone
-plain-takes : (me clock n : ℕ) (event : PartyEvent) (bytes : List ℕ) (h : Happened) (rest : List ℕ) → IsBytes bytes → fields me clock (event, None) ≡ [] → IsTagged me clock n (event, None)
-    → done {A = Happened × List ℕ} ((event, None), bytes) ≡ done {A = Happened × List ℕ} (h, rest) → Takes bytes (fields me clock h) rest × IsTagged me clock n h
+plain-takes : (me clock n : ℕ) (event : PartyEvent) (bytes : List ℕ) (h : Happened) (rest : List ℕ) → IsBytes bytes → fields me clock (event, None) ≡ []
+    → IsTagged me clock n (event, None)
+    → done {A = Happened × List ℕ} ((event, None), bytes) ≡ done {A = Happened × List ℕ} (h, rest)
+    → Takes bytes (fields me clock h) rest × IsTagged me clock n h
 plain-takes me clock n event bytes h rest fits none is e =
     subst (λ (p : Happened × List ℕ). Takes bytes (fields me clock p.0) p.1 × IsTagged me clock n p.0) (ok_is ((event, None), bytes) (h, rest) e)
     (record { parts = ap (λ (x : List ℕ). x ++ bytes) (sym none); rest_fits = fits }, is)
 
-event-takes : (me clock : ℕ) (bytes : List ℕ) (h : Happened) (rest : List ℕ) → IsBytes bytes → event_at me clock bytes ≡ Ok (h, rest) → EventTakes me clock bytes h rest
+event-takes : (me clock : ℕ) (bytes : List ℕ) (h : Happened) (rest : List ℕ) → IsBytes bytes → event_at me clock bytes ≡ Ok (h, rest)
+    → EventTakes me clock bytes h rest
 unfolding event_at
 event-takes me clock [] h rest fits e = absurd cc
 event-takes me clock (tag ∷ bytes) h rest fits e =
@@ -213,16 +243,22 @@ event-takes me clock (tag ∷ bytes) h rest fits e =
     let z : Happened × List ℕ = (h, rest) in
     let bs : IsBytes bytes = IsBytes-rest tag bytes fits in
     by_tag tag 1 _ _ z Goal e (λ is r. finish me clock tag 1 bytes h rest is (to_site-takes me clock bytes h rest bs r)) (λ e2.
-    by_tag tag 2 _ _ z Goal e2 (λ is r. finish me clock tag 2 bytes h rest is (plain-takes me clock 2 (OfSite Timer) bytes h rest bs refl (record { fits = refl; text = refl }) r)) (λ e3.
-    by_tag tag 3 _ _ z Goal e3 (λ is r. finish me clock tag 3 bytes h rest is (plain-takes me clock 3 (OfSite Beat) bytes h rest bs refl (record { fits = refl; text = refl }) r)) (λ e4.
-    by_tag tag 4 _ _ z Goal e4 (λ is r. finish me clock tag 4 bytes h rest is (plain-takes me clock 4 (OfSite Crash) bytes h rest bs refl (record { fits = refl; text = refl }) r)) (λ e5.
-    by_tag tag 5 _ _ z Goal e5 (λ is r. finish me clock tag 5 bytes h rest is (plain-takes me clock 5 (OfSite Restart) bytes h rest bs refl (record { fits = refl; text = refl }) r)) (λ e6.
+    by_tag tag 2 _ _ z Goal e2 (λ is r. finish me clock tag 2 bytes h rest is
+    (plain-takes me clock 2 (OfSite Timer) bytes h rest bs refl (record { fits = refl; text = refl }) r)) (λ e3.
+    by_tag tag 3 _ _ z Goal e3 (λ is r. finish me clock tag 3 bytes h rest is
+    (plain-takes me clock 3 (OfSite Beat) bytes h rest bs refl (record { fits = refl; text = refl }) r)) (λ e4.
+    by_tag tag 4 _ _ z Goal e4 (λ is r. finish me clock tag 4 bytes h rest is
+    (plain-takes me clock 4 (OfSite Crash) bytes h rest bs refl (record { fits = refl; text = refl }) r)) (λ e5.
+    by_tag tag 5 _ _ z Goal e5 (λ is r. finish me clock tag 5 bytes h rest is
+    (plain-takes me clock 5 (OfSite Restart) bytes h rest bs refl (record { fits = refl; text = refl }) r)) (λ e6.
     by_tag tag 6 _ _ z Goal e6 (λ is r. finish me clock tag 6 bytes h rest is (to_node-takes me clock bytes h rest bs r)) (λ e7.
-    by_tag tag 7 _ _ z Goal e7 (λ is r. finish me clock tag 7 bytes h rest is (plain-takes me clock 7 (OfNode node_event.Beats) bytes h rest bs refl (record { fits = refl; text = refl }) r)) (λ e8.
+    by_tag tag 7 _ _ z Goal e7 (λ is r. finish me clock tag 7 bytes h rest is
+    (plain-takes me clock 7 (OfNode node_event.Beats) bytes h rest bs refl (record { fits = refl; text = refl }) r)) (λ e8.
     by_tag tag 8 _ _ z Goal e8 (λ is r. finish me clock tag 8 bytes h rest is (pays_in-takes me clock bytes h rest bs r)) (λ e9.
     by_tag tag 9 _ _ z Goal e9 (λ is r. finish me clock tag 9 bytes h rest is (closes-takes me clock bytes h rest bs r)) (λ e10.
     by_tag tag 10 _ _ z Goal e10 (λ is r. finish me clock tag 10 bytes h rest is (to_client-takes me clock bytes h rest bs r)) (λ e11.
-    by_tag tag 11 _ _ z Goal e11 (λ is r. finish me clock tag 11 bytes h rest is (plain-takes me clock 11 (OfClient client_event.Beats) bytes h rest bs refl (record { fits = refl; text = refl }) r)) (λ e12.
+    by_tag tag 11 _ _ z Goal e11 (λ is r. finish me clock tag 11 bytes h rest is
+    (plain-takes me clock 11 (OfClient client_event.Beats) bytes h rest bs refl (record { fits = refl; text = refl }) r)) (λ e12.
     by_tag tag 12 _ _ z Goal e12 (λ is r. finish me clock tag 12 bytes h rest is (submits-takes me clock bytes h rest bs r)) (λ e13.
     absurd (never z e13)))))))))))))
 
@@ -232,10 +268,12 @@ event-takes me clock (tag ∷ bytes) h rest fits e =
 Numbered : {A : Type 0} → (A → ℕ) → List ℕ → A → List ℕ → Type 0
 Numbered number_of bytes x rest = Takes bytes (number_of x ∷ []) rest × Unit {0}
 
-one_of : {A : Type 0} (number_of : A → ℕ) (n : ℕ) (bytes : List ℕ) (known x : A) (rest : List ℕ) → IsBytes bytes → n ≡ number_of known → done {A = A × List ℕ} (known, bytes) ≡ done {A = A × List ℕ} (x, rest) → Numbered number_of (n ∷ bytes) x rest
+one_of : {A : Type 0} (number_of : A → ℕ) (n : ℕ) (bytes : List ℕ) (known x : A) (rest : List ℕ) → IsBytes bytes → n ≡ number_of known
+    → done {A = A × List ℕ} (known, bytes) ≡ done {A = A × List ℕ} (x, rest) → Numbered number_of (n ∷ bytes) x rest
 unfolding Numbered
 one_of {A} number_of n bytes known x rest fits is e =
-    subst (λ (p : A × List ℕ). Takes (n ∷ bytes) (number_of p.0 ∷ []) p.1 × Unit {0}) (ok_is (known, bytes) (x, rest) e) (record { parts = ap (λ (k : ℕ). k ∷ bytes) is; rest_fits = fits }, tt)
+    subst (λ (p : A × List ℕ). Takes (n ∷ bytes) (number_of p.0 ∷ []) p.1 × Unit {0}) (ok_is (known, bytes) (x, rest) e)
+    (record { parts = ap (λ (k : ℕ). k ∷ bytes) is; rest_fits = fits }, tt)
 
 site_numbered : (bytes : List ℕ) (x : SiteFault) (rest : List ℕ) → IsBytes bytes → site_fault_at bytes ≡ Ok (x, rest) → Numbered site_number bytes x rest
 unfolding site_fault_at
@@ -269,7 +307,8 @@ node_numbered (n ∷ bytes) x rest fits e =
     by_tag n 7 _ _ z Goal e7 (λ is r. one_of node_number n bytes node.Closed x rest bs is r) (λ e8.
     absurd (never z e8))))))))
 
-client_numbered : (bytes : List ℕ) (x : ClientFault) (rest : List ℕ) → IsBytes bytes → client_fault_at bytes ≡ Ok (x, rest) → Numbered client_number bytes x rest
+client_numbered : (bytes : List ℕ) (x : ClientFault) (rest : List ℕ) → IsBytes bytes → client_fault_at bytes ≡ Ok (x, rest)
+    → Numbered client_number bytes x rest
 unfolding client_fault_at
 client_numbered [] x rest fits e = absurd cc
 client_numbered (n ∷ bytes) x rest fits e =
@@ -325,37 +364,54 @@ record IsTold (me clock tag : ℕ) (outcome : PartyOutcome) : Type 0 where
 OutcomeTakes : ℕ → ℕ → List ℕ → PartyOutcome → List ℕ → Type 0
 OutcomeTakes me clock bytes outcome rest = Takes bytes (outcome_text me clock outcome) rest × OutcomeFits me clock outcome
 
-complete : (me clock tag n : ℕ) (bytes : List ℕ) (outcome : PartyOutcome) (rest : List ℕ) → tag ≡ n → Takes bytes (told me clock outcome) rest × IsTold me clock n outcome → OutcomeTakes me clock (tag ∷ bytes) outcome rest
+complete : (me clock tag n : ℕ) (bytes : List ℕ) (outcome : PartyOutcome) (rest : List ℕ) → tag ≡ n
+    → Takes bytes (told me clock outcome) rest × IsTold me clock n outcome → OutcomeTakes me clock (tag ∷ bytes) outcome rest
 unfolding OutcomeTakes
-complete me clock tag n bytes outcome rest is t =
-    (subst (λ (x : List ℕ). Takes (tag ∷ bytes) x rest) (ap (λ (k : ℕ). k ∷ told me clock outcome) is ∙ sym t.1.text) (tagged tag bytes (told me clock outcome) rest t.0), t.1.fits)
+complete me clock tag n bytes outcome rest is t = (
+  subst (λ (x : List ℕ). Takes (tag ∷ bytes) x rest) (ap (λ (k : ℕ). k ∷ told me clock outcome) is ∙ sym t.1.text)
+      (tagged tag bytes (told me clock outcome) rest t.0),
+  t.1.fits,
+)
 
 did-takes : (me clock : ℕ) → TakesBy (told me clock) (IsTold me clock 1) (did_at me clock)
-did-takes me clock = takes2 (all_sent_format me clock) why_format (λ sent dropped. SiteTold (Did sent dropped)) (told me clock) (IsTold me clock 1) (λ a b. refl) (λ a b ha hb. record { fits = ha; text = refl })
+did-takes me clock =
+    takes2 (all_sent_format me clock) why_format (λ sent dropped. SiteTold (Did sent dropped)) (told me clock) (IsTold me clock 1) (λ a b. refl)
+    (λ a b ha hb. record { fits = ha; text = refl })
 
 refused-takes : (me clock : ℕ) → TakesBy (told me clock) (IsTold me clock 2) refused_at
-refused-takes me clock = takes1 site_format (λ x. SiteTold (Refused x)) (told me clock) (IsTold me clock 2) (λ x. refl) (λ x h. record { fits = tt; text = refl })
+refused-takes me clock =
+    takes1 site_format (λ x. SiteTold (Refused x)) (told me clock) (IsTold me clock 2) (λ x. refl) (λ x h. record { fits = tt; text = refl })
 
 fell-takes : (me clock : ℕ) → TakesBy (told me clock) (IsTold me clock 3) fell_at
-fell-takes me clock = takes2 site_format n4 (λ x boots. SiteTold (Fell x (record { boots = boots }))) (told me clock) (IsTold me clock 3) (λ a b. refl) (λ a b ha hb. record { fits = hb; text = refl })
+fell-takes me clock =
+    takes2 site_format n4 (λ x boots. SiteTold (Fell x (record { boots = boots }))) (told me clock) (IsTold me clock 3) (λ a b. refl)
+    (λ a b ha hb. record { fits = hb; text = refl })
 
 node_told-takes : (me clock : ℕ) → TakesBy (told me clock) (IsTold me clock 4) (node_told_at me clock)
-node_told-takes me clock = takes1 (all_sent_format me clock) (λ sent. NodeTold (Ok sent)) (told me clock) (IsTold me clock 4) (λ x. refl) (λ x h. record { fits = h; text = refl })
+node_told-takes me clock =
+    takes1 (all_sent_format me clock) (λ sent. NodeTold (Ok sent)) (told me clock) (IsTold me clock 4) (λ x. refl) (λ x h. record { fits = h; text = refl })
 
 node_refused-takes : (me clock : ℕ) → TakesBy (told me clock) (IsTold me clock 5) node_refused_at
-node_refused-takes me clock = takes1 node_format (λ x. NodeTold (Err x)) (told me clock) (IsTold me clock 5) (λ x. refl) (λ x h. record { fits = tt; text = refl })
+node_refused-takes me clock =
+    takes1 node_format (λ x. NodeTold (Err x)) (told me clock) (IsTold me clock 5) (λ x. refl) (λ x h. record { fits = tt; text = refl })
 
 client_told-takes : (me clock : ℕ) → TakesBy (told me clock) (IsTold me clock 6) (client_told_at me clock)
-client_told-takes me clock = takes1 (all_sent_format me clock) (λ sent. ClientTold (Ok sent)) (told me clock) (IsTold me clock 6) (λ x. refl) (λ x h. record { fits = h; text = refl })
+client_told-takes me clock =
+    takes1 (all_sent_format me clock) (λ sent. ClientTold (Ok sent)) (told me clock) (IsTold me clock 6) (λ x. refl) (λ x h. record { fits = h; text = refl })
 
 client_refused-takes : (me clock : ℕ) → TakesBy (told me clock) (IsTold me clock 7) client_refused_at
-client_refused-takes me clock = takes1 client_format (λ x. ClientTold (Err x)) (told me clock) (IsTold me clock 7) (λ x. refl) (λ x h. record { fits = tt; text = refl })
+client_refused-takes me clock =
+    takes1 client_format (λ x. ClientTold (Err x)) (told me clock) (IsTold me clock 7) (λ x. refl) (λ x h. record { fits = tt; text = refl })
 
-stray-takes : (me clock : ℕ) (bytes : List ℕ) (outcome : PartyOutcome) (rest : List ℕ) → IsBytes bytes → done {A = PartyOutcome × List ℕ} (Stray, bytes) ≡ done {A = PartyOutcome × List ℕ} (outcome, rest) → Takes bytes (told me clock outcome) rest × IsTold me clock 8 outcome
+stray-takes : (me clock : ℕ) (bytes : List ℕ) (outcome : PartyOutcome) (rest : List ℕ) → IsBytes bytes
+    → done {A = PartyOutcome × List ℕ} (Stray, bytes) ≡ done {A = PartyOutcome × List ℕ} (outcome, rest)
+    → Takes bytes (told me clock outcome) rest × IsTold me clock 8 outcome
 stray-takes me clock bytes outcome rest fits e =
-    subst (λ (p : PartyOutcome × List ℕ). Takes bytes (told me clock p.0) p.1 × IsTold me clock 8 p.0) (ok_is (Stray, bytes) (outcome, rest) e) (record { parts = refl; rest_fits = fits }, record { fits = tt; text = refl })
+    subst (λ (p : PartyOutcome × List ℕ). Takes bytes (told me clock p.0) p.1 × IsTold me clock 8 p.0) (ok_is (Stray, bytes) (outcome, rest) e)
+    (record { parts = refl; rest_fits = fits }, record { fits = tt; text = refl })
 
-outcome-takes : (me clock : ℕ) (bytes : List ℕ) (outcome : PartyOutcome) (rest : List ℕ) → IsBytes bytes → outcome_at me clock bytes ≡ Ok (outcome, rest) → OutcomeTakes me clock bytes outcome rest
+outcome-takes : (me clock : ℕ) (bytes : List ℕ) (outcome : PartyOutcome) (rest : List ℕ) → IsBytes bytes → outcome_at me clock bytes ≡ Ok (outcome, rest)
+    → OutcomeTakes me clock bytes outcome rest
 unfolding outcome_at
 outcome-takes me clock [] outcome rest fits e = absurd cc
 outcome-takes me clock (tag ∷ bytes) outcome rest fits e =
@@ -374,20 +430,28 @@ outcome-takes me clock (tag ∷ bytes) outcome rest fits e =
 
 -- ---- what a record says
 
-entry-takes : (me : ℕ) (bytes : List ℕ) (r : Entry) (rest : List ℕ) → IsBytes bytes → entry_at me bytes ≡ Ok (r, rest) → Takes bytes (body_text me r) rest × BodyFits me r
+entry-takes : (me : ℕ) (bytes : List ℕ) (r : Entry) (rest : List ℕ) → IsBytes bytes → entry_at me bytes ≡ Ok (r, rest)
+    → Takes bytes (body_text me r) rest × BodyFits me r
 unfolding entry_at EventTakes OutcomeTakes
 entry-takes me bytes r rest fits e =
-    let m = bind_ok (number_at 8 bytes) (λ clock. event_at me clock.0 clock.1 >>= λ event. outcome_at me clock.0 event.1 >>= λ outcome. Ok (record { event = event.0.0; stamp = event.0.1; clock = clock.0; outcome = outcome.0 }, outcome.1)) (r, rest) e in
+    let m =
+    bind_ok (number_at 8 bytes) (λ clock. event_at me clock.0 clock.1 >>= λ event. outcome_at me clock.0 event.1 >>= λ outcome.
+    Ok (record { event = event.0.0; stamp = event.0.1; clock = clock.0; outcome = outcome.0 }, outcome.1)) (r, rest) e in
     let clock = m.0.0 in
-    let k = bind_ok (event_at me clock m.0.1) (λ event. outcome_at me clock event.1 >>= λ outcome. Ok (record { event = event.0.0; stamp = event.0.1; clock = clock; outcome = outcome.0 }, outcome.1)) (r, rest) m.2 in
-    let l = bind_ok (outcome_at me clock k.0.1) (λ outcome. Ok (record { event = k.0.0.0; stamp = k.0.0.1; clock = clock; outcome = outcome.0 }, outcome.1)) (r, rest) k.2 in
+    let k =
+    bind_ok (event_at me clock m.0.1) (λ event. outcome_at me clock event.1 >>= λ outcome.
+    Ok (record { event = event.0.0; stamp = event.0.1; clock = clock; outcome = outcome.0 }, outcome.1)) (r, rest) m.2 in
+    let l =
+    bind_ok (outcome_at me clock k.0.1) (λ outcome. Ok (record { event = k.0.0.0; stamp = k.0.0.1; clock = clock; outcome = outcome.0 }, outcome.1))
+    (r, rest) k.2 in
     let a = n8.takes bytes clock m.0.1 fits m.1 in
     let b = event-takes me clock m.0.1 k.0.0 k.0.1 a.0.rest_fits k.1 in
     let c = outcome-takes me clock k.0.1 l.0.0 l.0.1 b.0.rest_fits l.1 in
     let read : Entry = record { event = k.0.0.0; stamp = k.0.0.1; clock = clock; outcome = l.0.0 } in
     let event = event_text me clock k.0.0.1 k.0.0.0 in
     let outcome = outcome_text me clock l.0.0 in
-    let t : Takes bytes (body_text me read) l.0.1 = Takes-then bytes (number 8 clock ++ event) k.0.1 outcome l.0.1 (Takes-then bytes (number 8 clock) m.0.1 event k.0.1 a.0 b.0) c.0 in
+    let t : Takes bytes (body_text me read) l.0.1 =
+    Takes-then bytes (number 8 clock ++ event) k.0.1 outcome l.0.1 (Takes-then bytes (number 8 clock) m.0.1 event k.0.1 a.0 b.0) c.0 in
     subst (λ (p : Entry × List ℕ). Takes bytes (body_text me p.0) p.1 × BodyFits me p.0) (ok_is (read, l.0.1) (r, rest) l.2) (t, (a.1, b.1, c.1))
 
 pub body-takes : (me : ℕ) (bytes : List ℕ) (r : Entry) → IsBytes bytes → body_at me bytes ≡ Ok r → (bytes ≡ body_text me r) × BodyFits me r

@@ -47,7 +47,8 @@ EventFits me clock stamp (OfClient (client_event.Submits cmd)) = (stamp ≡ None
 -- each frame of what was sent has its spelling
 abbrev pub FramesFit : ℕ → ℕ → ℕ → List Envelope → Type 0
 FramesFit me clock place [] = Unit {0}
-FramesFit me clock place (envelope ∷ more) = IsSpelled (stamped me clock place envelope) × FramesFit me clock (place + 1) more
+FramesFit me clock place (envelope ∷ more) =
+    IsSpelled (stamped me clock place envelope) × FramesFit me clock (place + 1) more
 
 abbrev pub SentFits : ℕ → ℕ → List Envelope → Type 0
 SentFits me clock sent = Fits 4 (length sent) × FramesFit me clock 0 sent

@@ -50,15 +50,17 @@ pub data Front : Type 0 where
   Sound : Front
   Damaged : JournalWhy → Front
 
--- WHAT STANDS THERE, behind a record with this checksum. As far as there are bytes, behind the length stands its complement,
--- and behind what the record says its checksum; anything else is damage. A record of which bytes lack is cut off.
+-- WHAT STANDS THERE, behind a record with this checksum. As far as there are bytes, behind the length stands its
+-- complement, and behind what the record says its checksum; anything else is damage. A record of which bytes lack is
+-- cut off.
 unfoldable pub front_at : ℕ → List ℕ → Front
 front_at before bytes =
     if length bytes == 0 then AtEnd
     else if nat_lt (length bytes) 4 then CutOff
     else if not (agree (number 4 (most - length_in bytes)) (drop 4 bytes)) then Damaged Length
     else if nat_lt (length bytes) (8 + length_in bytes) then CutOff
-    else if not (agree (number 8 (checksum before (measured_in bytes))) (drop (8 + length_in bytes) bytes)) then Damaged Checksum
+    else if not (agree (number 8 (checksum before (measured_in bytes))) (drop (8 + length_in bytes) bytes))
+    then Damaged Checksum
     else if nat_lt (length bytes) (size_in bytes) then CutOff
     else Sound
 
@@ -96,7 +98,8 @@ AreRecords me place (r ∷ more) end = Stands me place r × AreRecords me (next 
 
 -- This is wrong there. Memory is asked for only where a whole record stands.
 abbrev pub IsWrong : ℕ → Place → JournalWhy → Type 0
-IsWrong me place (Record fault) = (front_at place.sum place.bytes ≡ Sound) × (body_at me (body_in place.bytes) ≡ Err fault)
+IsWrong me place (Record fault) =
+    (front_at place.sum place.bytes ≡ Sound) × (body_at me (body_in place.bytes) ≡ Err fault)
 IsWrong me place NoMemory = front_at place.sum place.bytes ≡ Sound
 IsWrong me place Length = front_at place.sum place.bytes ≡ Damaged Length
 IsWrong me place Checksum = front_at place.sum place.bytes ≡ Damaged Checksum
@@ -134,8 +137,8 @@ pub record ReadsAs (bytes : List ℕ) (head : Head) (history : List Entry) (end 
   pub headed : IsHeaded bytes head start
   pub records : AreRecords head.actor start history end
 
--- The bytes read as this head and the first so many events of a history, whose journal they begin with; behind it nothing is
--- left, or a torn record.
+-- The bytes read as this head and the first so many events of a history, whose journal they begin with; behind it
+-- nothing is left, or a torn record.
 pub record IsCutBehind (bytes : List ℕ) (head : Head) (history : List Entry) : Type 0 where
   pub count : ℕ
   pub end : Place
@@ -175,7 +178,8 @@ abbrev pub IsFront : ℕ → List ℕ → Result Stood JournalWhy → Type 0
 IsFront before bytes (Ok Empty) = front_at before bytes ≡ AtEnd
 IsFront before bytes (Ok TornOff) = front_at before bytes ≡ CutOff
 IsFront before bytes (Ok (Whole piece)) = (front_at before bytes ≡ Sound)
-    × (piece.body.now ≡ body_in bytes) × (piece.sum ≡ checksum before (measured_in bytes)) × (piece.after.now ≡ after bytes)
+    × (piece.body.now ≡ body_in bytes) × (piece.sum ≡ checksum before (measured_in bytes))
+    × (piece.after.now ≡ after bytes)
 IsFront before bytes (Err why) = front_at before bytes ≡ Damaged why
 
 -- what a record says is kept behind a history, or it says nothing
@@ -194,6 +198,7 @@ IsEnd place torn = front_at place.sum place.bytes ≡ (if torn then CutOff else 
 
 -- the records from a place on, or what is wrong behind some of them
 abbrev pub ReadsRecords : ℕ → Place → Result Records Stop → Type 0
-ReadsRecords me start (Ok records) = AreRecords me start records.history.items (end_of records) × IsEnd (end_of records) records.torn
+ReadsRecords me start (Ok records) =
+    AreRecords me start records.history.items (end_of records) × IsEnd (end_of records) records.torn
 ReadsRecords me start (Err stop) = (history : List Entry) × (end : Place)
     × AreRecords me start history end × IsWrong me end stop.why × (stop.left ≡ length end.bytes)

@@ -1,4 +1,5 @@
--- How the head of a journal and what a record says are read: which fault comes first, and what is read where none comes.
+-- How the head of a journal and what a record says are read: which fault comes first, and what is read where none
+-- comes.
 use Rattle.std.specs.Prelude.{◌≡◌, ◌⊎◌, ℕ, zero, suc, ◌+◌, ◌==◌, ◌&&◌, Bool, not, nat_lt, nat_le, List, [], ◌∷◌, length, take, drop, Option, Some, None, Result, Ok, Err, if◌then◌else◌}
 use Rattle.byteorder.specs.Endian.{big_number}
 use Rattle.pvp_types.specs.declared.command.Cmd.{Cmd}
@@ -82,7 +83,9 @@ is_of me clock place stamp = (stamp.actor == me) && ((stamp.clock == clock) && (
 
 -- the frame of what this actor sent then, at this place
 unfoldable pub sent_at : ℕ → ℕ → ℕ → List ℕ → Reads Envelope
-sent_at me clock place bytes = stamped_at bytes >>= λ found. if is_of me clock place found.0.stamp then Ok (found.0.envelope, found.1) else Err Field
+sent_at me clock place bytes =
+    stamped_at bytes >>= λ found. if is_of me clock place found.0.stamp then Ok (found.0.envelope, found.1)
+    else Err Field
 
 -- so many of them, from a place on
 unfoldable pub frames_from : ℕ → ℕ → ℕ → ℕ → List ℕ → Reads (List Envelope)
@@ -126,7 +129,8 @@ abbrev pub closes_at : List ℕ → Reads Happened
 closes_at bytes = number_at 2 bytes >>= λ member. Ok ((OfNode (node_event.Closes member.0), None), member.1)
 
 abbrev pub submits_at : ℕ → ℕ → List ℕ → Reads Happened
-submits_at me clock bytes = submitted_at me clock bytes >>= λ cmd. Ok ((OfClient (client_event.Submits cmd.0), None), cmd.1)
+submits_at me clock bytes =
+    submitted_at me clock bytes >>= λ cmd. Ok ((OfClient (client_event.Submits cmd.0), None), cmd.1)
 
 unfoldable pub event_at : ℕ → ℕ → List ℕ → Reads Happened
 event_at me clock [] = Err Length

@@ -65,11 +65,13 @@ head_text head = number 4 magic ++ number 1 version ++ number 2 head.actor ++ op
 
 -- an envelope with the stamp of this actor at this clock, at a place among those that it sent then
 abbrev pub stamped : ℕ → ℕ → ℕ → Envelope → Stamped
-stamped me clock place envelope = record { stamp = record { actor = me; clock = clock; index = place }; envelope = envelope }
+stamped me clock place envelope =
+    record { stamp = record { actor = me; clock = clock; index = place }; envelope = envelope }
 
 -- a client's command as a request of number 0, which no client sends
 abbrev pub asked : ℕ → ℕ → Cmd → Stamped
-asked me clock cmd = stamped me clock 0 (record { from = me; to = FIRST_SITE; msg = Request (record { number = 0; cmd = cmd }) })
+asked me clock cmd =
+    stamped me clock 0 (record { from = me; to = FIRST_SITE; msg = Request (record { number = 0; cmd = cmd }) })
 
 -- the frame of what was delivered, which has a stamp
 abbrev pub delivery_text : Option Stamp → Envelope → List ℕ
@@ -129,7 +131,8 @@ why_number (Some why.Full) = 6
 -- the frames of what was sent, from a place on
 abbrev pub frames_text : ℕ → ℕ → ℕ → List Envelope → List ℕ
 frames_text me clock place [] = []
-frames_text me clock place (envelope ∷ more) = spelling (stamped me clock place envelope) ++ frames_text me clock (place + 1) more
+frames_text me clock place (envelope ∷ more) =
+    spelling (stamped me clock place envelope) ++ frames_text me clock (place + 1) more
 
 -- how many, and their frames
 abbrev pub sent_text : ℕ → ℕ → List Envelope → List ℕ

@@ -81,7 +81,8 @@ number_is c low = ap (λ (k : ℕ). min k 255) (omega arith) ∙ least c low
     least c low = grind (arith, nat_tests)
 
 -- the envelope of a number comes in this turn
-delivered : (post : List Envelope) (number : ℕ) (e : Envelope) (event : PartyEvent) (t : Turn) → delivers event ≡ Some e → Names post number event → delivery e ≡ t → turn post (Deliver number) ≡ Some t
+delivered : (post : List Envelope) (number : ℕ) (e : Envelope) (event : PartyEvent) (t : Turn) → delivers event ≡ Some e → Names post number event
+    → delivery e ≡ t → turn post (Deliver number) ≡ Some t
 delivered post number e event t is (inl none) at = absurd (none-some e (sym none ∙ is))
 delivered post number e event t is (inr there) at =
     let low = there.0 in
@@ -159,7 +160,8 @@ module _ (setup : Setup) (choose : Choice Cmd) where
 
   -- TURNS
 
-  pub allowed_free : (i : ℕ) (y : Site Cmd) (e : EventOf Cmd Answer PaymentOrder) → is_refused (site_step {R = Answer} {O = PaymentOrder} choose f i y e).ending ≡ false → refusal {R = Answer} {O = PaymentOrder} f i y e ≡ None
+  pub allowed_free : (i : ℕ) (y : Site Cmd) (e : EventOf Cmd Answer PaymentOrder)
+      → is_refused (site_step {R = Answer} {O = PaymentOrder} choose f i y e).ending ≡ false → refusal {R = Answer} {O = PaymentOrder} f i y e ≡ None
   allowed_free i y e allowed = go (refusal {R = Answer} {O = PaymentOrder} f i y e) allowed
     where
       go : (why : Option SiteFault) → is_refused (refused_or y why (on_event {R = Answer} {O = PaymentOrder} choose f i y e)).ending ≡ false → why ≡ None
@@ -171,17 +173,20 @@ module _ (setup : Setup) (choose : Choice Cmd) where
   to_site i y e free = go (is_down y.status) (e.to == actor_of i) refl free
     where
       go : (down mine : Bool) → (e.to == actor_of i) ≡ mine
-          → (if down then Some site_fault.NotUp else if not (mine && may_send f i e.from e.msg) then Some site_fault.NotMine else None) ≡ None → e.to ≡ actor_of i
+          → (if down then Some site_fault.NotUp else if not (mine && may_send f i e.from e.msg) then Some site_fault.NotMine else None) ≡ None
+          → e.to ≡ actor_of i
       go true mine is h = cc
       go false true is h = eqb-true e.to (actor_of i) is
       go false false is h = cc
 
   -- the turn that a site's event is
-  pub site_turn : (post : List Envelope) (number i : ℕ) (y : Site Cmd) (e : EventOf Cmd Answer PaymentOrder) → refusal {R = Answer} {O = PaymentOrder} f i y e ≡ None → Names post number (party_event.OfSite e)
+  pub site_turn : (post : List Envelope) (number i : ℕ) (y : Site Cmd) (e : EventOf Cmd Answer PaymentOrder)
+      → refusal {R = Answer} {O = PaymentOrder} f i y e ≡ None → Names post number (party_event.OfSite e)
       → turn post (moves.site_step (200 + i) e number) ≡ Some (OfSite i e)
   site_turn post number i y (site.Deliver e) free at =
       delivered post number e (party_event.OfSite (site.Deliver e)) (OfSite i (site.Deliver e)) refl at
-      (ap (λ (to : ℕ). turn_of to (site.Deliver e) (node_event.Takes e) (client_event.Takes e)) (to_site i y e free) ∙ turn_of_site (site.Deliver e) (node_event.Takes e) (client_event.Takes e) i)
+      (ap (λ (to : ℕ). turn_of to (site.Deliver e) (node_event.Takes e) (client_event.Takes e)) (to_site i y e free)
+      ∙ turn_of_site (site.Deliver e) (node_event.Takes e) (client_event.Takes e) i)
   site_turn post number i y site.Timer free at = ap (λ (k : ℕ). Some (OfSite k site.Timer)) (omega arith)
   site_turn post number i y site.Beat free at = ap (λ (t : Turn). Some t) (turn_of_site site.Beat node_event.Beats client_event.Beats i)
   site_turn post number i y site.Crash free at = ap (λ (k : ℕ). Some (OfSite k site.Crash)) (omega arith)
@@ -196,26 +201,31 @@ module _ (setup : Setup) (choose : Choice Cmd) where
       go true is h = eqb-true e.to (node_of c) is
       go false is h = cc
 
-  pub node_turn : (post : List Envelope) (number c : ℕ) (e : NodeEvent) → c < 99 → ((letter : Envelope) → e ≡ node_event.Takes letter → letter.to ≡ node_of c) → Names post number (party_event.OfNode e)
+  pub node_turn : (post : List Envelope) (number c : ℕ) (e : NodeEvent) → c < 99 → ((letter : Envelope) → e ≡ node_event.Takes letter → letter.to ≡ node_of c)
+      → Names post number (party_event.OfNode e)
       → turn post (moves.node_step (101 + c) e number) ≡ Some (OfNode c e)
   node_turn post number c (node_event.PaysIn member amt) low mine at = ap (λ (k : ℕ). Some (OfNode k (node_event.PaysIn member amt))) (number_is c low)
   node_turn post number c (node_event.Closes member) low mine at = ap (λ (k : ℕ). Some (OfNode k (node_event.Closes member))) (number_is c low)
   node_turn post number c (node_event.Takes e) low mine at =
       delivered post number e (party_event.OfNode (node_event.Takes e)) (OfNode c (node_event.Takes e)) refl at
-      (ap (λ (to : ℕ). turn_of to (site.Deliver e) (node_event.Takes e) (client_event.Takes e)) (mine e refl) ∙ turn_of_node (site.Deliver e) (node_event.Takes e) (client_event.Takes e) c low)
+      (ap (λ (to : ℕ). turn_of to (site.Deliver e) (node_event.Takes e) (client_event.Takes e)) (mine e refl)
+      ∙ turn_of_node (site.Deliver e) (node_event.Takes e) (client_event.Takes e) c low)
   node_turn post number c node_event.Beats low mine at = ap (λ (t : Turn). Some t) (turn_of_node site.Beat node_event.Beats client_event.Beats c low)
 
-  pub client_turn : (post : List Envelope) (number k : ℕ) (e : ClientEvent) → k < 101 → ((letter : Envelope) → e ≡ client_event.Takes letter → letter.to ≡ k) → Names post number (party_event.OfClient e)
+  pub client_turn : (post : List Envelope) (number k : ℕ) (e : ClientEvent) → k < 101 → ((letter : Envelope) → e ≡ client_event.Takes letter → letter.to ≡ k)
+      → Names post number (party_event.OfClient e)
       → turn post (moves.client_step k e number) ≡ Some (OfClient k e)
   client_turn post number k (client_event.Submits cmd) low mine at = refl
   client_turn post number k (client_event.Takes e) low mine at =
       delivered post number e (party_event.OfClient (client_event.Takes e)) (OfClient k (client_event.Takes e)) refl at
-      (ap (λ (to : ℕ). turn_of to (site.Deliver e) (node_event.Takes e) (client_event.Takes e)) (mine e refl) ∙ turn_of_client (site.Deliver e) (node_event.Takes e) (client_event.Takes e) k low)
+      (ap (λ (to : ℕ). turn_of to (site.Deliver e) (node_event.Takes e) (client_event.Takes e)) (mine e refl)
+      ∙ turn_of_client (site.Deliver e) (node_event.Takes e) (client_event.Takes e) k low)
   client_turn post number k client_event.Beats low mine at = ap (λ (t : Turn). Some t) (turn_of_client site.Beat node_event.Beats client_event.Beats k low)
 
   -- THE BANK AFTER ONE EVENT MORE
 
-  module _ (closed : List Left) (order : AreInOrder closed) (all : AreOfBank setup closed) (cells : List Boot) (run : List (Tagged PartyEvent PartyOutcome)) (trail : List Move) (bank : Bank) (a : Agrees closed cells run trail bank)
+  module _ (closed : List Left) (order : AreInOrder closed) (all : AreOfBank setup closed) (cells : List Boot) (run : List (Tagged PartyEvent PartyOutcome))
+      (trail : List Move) (bank : Bank) (a : Agrees closed cells run trail bank)
       (k : ℕ) (c : Left) (is : slice_get closed k ≡ Some c) (r : Recorded PartyEvent PartyOutcome) where
     abbrev pub next_run : List (Tagged PartyEvent PartyOutcome)
     next_run = record { by = k; what = r } ∷ run
@@ -241,7 +251,8 @@ module _ (setup : Setup) (choose : Choice Cmd) where
 
     -- where all are after the event
     all_there : (later : Bank) → IsThere setup choose later c.end (after (state_of closed run k) r.event r.outcome)
-        → ((j : ℕ) (d : Left) → slice_get closed j ≡ Some d → ¬ (number_of d.end ≡ number_of c.end) → IsThere setup choose bank d.end (state_of closed run j) → IsThere setup choose later d.end (state_of closed run j))
+        → ((j : ℕ) (d : Left) → slice_get closed j ≡ Some d → ¬ (number_of d.end ≡ number_of c.end) → IsThere setup choose bank d.end (state_of closed run j)
+        → IsThere setup choose later d.end (state_of closed run j))
         → (j : ℕ) (d : Left) → slice_get closed j ≡ Some d → IsThere setup choose later d.end (state_of closed next_run j)
     all_there later mine others j d there = go (k == j) refl
       where
@@ -251,9 +262,11 @@ module _ (setup : Setup) (choose : Choice Cmd) where
             let at_k : (d : Left) → slice_get closed k ≡ Some d → IsThere setup choose later d.end (replay after (own run k ++ r ∷ []) (start_of closed k)) =
             λ d there. subst (λ (x : PartyState). IsThere setup choose later d.end x) (sym (replay-push after (own run k) r (start_of closed k)))
             (subst (λ (q : Left). IsThere setup choose later q.end (after (state_of closed run k) r.event r.outcome)) (some-same c d (sym is ∙ there)) mine) in
-            subst (λ (i : ℕ). (d : Left) → slice_get closed i ≡ Some d → IsThere setup choose later d.end (replay after (own run i ++ r ∷ []) (start_of closed i))) e at_k d there
+            subst (λ (i : ℕ). (d : Left) → slice_get closed i ≡ Some d
+            → IsThere setup choose later d.end (replay after (own run i ++ r ∷ []) (start_of closed i))) e at_k d there
         go false same =
-            subst (λ (l : List (Recorded PartyEvent PartyOutcome)). IsThere setup choose later d.end (replay after l (start_of closed j))) (sym (append-nil (own run j)))
+            subst (λ (l : List (Recorded PartyEvent PartyOutcome)). IsThere setup choose later d.end (replay after l (start_of closed j)))
+            (sym (append-nil (own run j)))
             (others j d there (other j d there (eqb-false k j same)) (a.there j d there))
 
     -- nothing was done
@@ -267,7 +280,8 @@ module _ (setup : Setup) (choose : Choice Cmd) where
     -- a move was taken
     goes : (move : Move) (later : Bank) → Leads setup choose f bank move later → later.post ≡ bank.post ++ sent r.outcome
         → IsThere setup choose later c.end (after (state_of closed run k) r.event r.outcome)
-        → ((j : ℕ) (d : Left) → slice_get closed j ≡ Some d → ¬ (number_of d.end ≡ number_of c.end) → IsThere setup choose bank d.end (state_of closed run j) → IsThere setup choose later d.end (state_of closed run j))
+        → ((j : ℕ) (d : Left) → slice_get closed j ≡ Some d → ¬ (number_of d.end ≡ number_of c.end) → IsThere setup choose bank d.end (state_of closed run j)
+        → IsThere setup choose later d.end (state_of closed run j))
         → Goes (Some move)
     goes move later leads posts mine others = (
       later,
@@ -280,19 +294,23 @@ module _ (setup : Setup) (choose : Choice Cmd) where
     )
 
     -- an actor of this kind and state, an event and an outcome, in place of those that are named
-    put : (e : Party) → c.end ≡ e → (x : PartyState) → state_of closed run k ≡ x → (v : PartyEvent) → r.event ≡ v → (o : PartyOutcome) → r.outcome ≡ o → (later : Bank)
+    put : (e : Party) → c.end ≡ e → (x : PartyState) → state_of closed run k ≡ x → (v : PartyEvent) → r.event ≡ v → (o : PartyOutcome) → r.outcome ≡ o
+        → (later : Bank)
         → IsThere setup choose later e (after x v o) → IsThere setup choose later c.end (after (state_of closed run k) r.event r.outcome)
     put e ends x at v event o came later there =
         subst (λ (q : Party). IsThere setup choose later q (after (state_of closed run k) r.event r.outcome)) (sym ends)
         (subst (λ (s : PartyState). IsThere setup choose later e s) (λ i. after (sym at i) (sym event i) (sym came i)) there)
 
-    still : (x : PartyState) → state_of closed run k ≡ x → (v : PartyEvent) → r.event ≡ v → (o : PartyOutcome) → r.outcome ≡ o → after x v o ≡ x → sent o ≡ [] → Goes None
+    still : (x : PartyState) → state_of closed run k ≡ x → (v : PartyEvent) → r.event ≡ v → (o : PartyOutcome) → r.outcome ≡ o → after x v o ≡ x → sent o ≡ []
+        → Goes None
     still x at v event o came same none = stays ((λ i. after (at i) (event i) (came i)) ∙ same ∙ sym at) (ap sent came ∙ none)
 
     module _ (number : ℕ) where
       -- a site
-      site_goes : (p : Made Shown) → c.end ≡ party_of.Site p → (y : Site Cmd) → state_of closed run k ≡ AtSite (site_at setup choose p.place y) → slice_get bank.sites p.place ≡ Some y
-          → (v : PartyEvent) → r.event ≡ v → (o : PartyOutcome) → r.outcome ≡ o → Comes (AtSite (site_at setup choose p.place y)) v o → Names bank.post number v → Goes (move_by (200 + p.place) v o number)
+      site_goes : (p : Made Shown) → c.end ≡ party_of.Site p → (y : Site Cmd) → state_of closed run k ≡ AtSite (site_at setup choose p.place y)
+          → slice_get bank.sites p.place ≡ Some y
+          → (v : PartyEvent) → r.event ≡ v → (o : PartyOutcome) → r.outcome ≡ o → Comes (AtSite (site_at setup choose p.place y)) v o → Names bank.post number v
+          → Goes (move_by (200 + p.place) v o number)
       site_goes p ends y at there (party_event.OfSite e) event (outcome.OfSite (Did letters dropped)) came come named =
           let i = p.place in
           let step : SiteStep Cmd Answer PaymentOrder = site_step choose f i y e in
@@ -305,9 +323,11 @@ module _ (setup : Setup) (choose : Choice Cmd) where
             acts = record { before = y; is_there = there; allowed = allowed; leads = refl };
           })
           (ap (λ (l : List Envelope). bank.post ++ l) (sym come.sends ∙ sym (ap sent came)))
-          (put (party_of.Site p) ends (AtSite (site_at setup choose i y)) at (party_event.OfSite e) event (outcome.OfSite (Did letters dropped)) came later (step.site, refl, set-here bank.sites i y step.site there))
+          (put (party_of.Site p) ends (AtSite (site_at setup choose i y)) at (party_event.OfSite e) event (outcome.OfSite (Did letters dropped)) came later
+          (step.site, refl, set-here bank.sites i y step.site there))
           (λ j d is_d off so. site_kept bank later.post i step.site d.end (state_of closed run j) (λ h. off (h ∙ sym (ap number_of ends))) so)
-      site_goes p ends y at there (party_event.OfSite e) event (outcome.OfSite (Refused why)) came come named = still (AtSite (site_at setup choose p.place y)) at (party_event.OfSite e) event (outcome.OfSite (Refused why)) came refl refl
+      site_goes p ends y at there (party_event.OfSite e) event (outcome.OfSite (Refused why)) came come named =
+          still (AtSite (site_at setup choose p.place y)) at (party_event.OfSite e) event (outcome.OfSite (Refused why)) came refl refl
       site_goes p ends y at there (party_event.OfSite e) event (outcome.OfSite (Fell why cell)) came come named =
           let i = p.place in
           let later : Bank = record bank { sites = slice_set bank.sites i (over cell Down) } in
@@ -318,15 +338,20 @@ module _ (setup : Setup) (choose : Choice Cmd) where
             falls = record { before = y; is_there = there; falls = come.0; leads = refl };
           })
           (sym (append-nil bank.post) ∙ ap (λ (l : List Envelope). bank.post ++ l) (sym (ap sent came)))
-          (put (party_of.Site p) ends (AtSite (site_at setup choose i y)) at (party_event.OfSite e) event (outcome.OfSite (Fell why cell)) came later (over cell Down, refl, set-here bank.sites i y (over cell Down) there))
+          (put (party_of.Site p) ends (AtSite (site_at setup choose i y)) at (party_event.OfSite e) event (outcome.OfSite (Fell why cell)) came later
+          (over cell Down, refl, set-here bank.sites i y (over cell Down) there))
           (λ j d is_d off so. site_kept bank bank.post i (over cell Down) d.end (state_of closed run j) (λ h. off (h ∙ sym (ap number_of ends))) so)
-      site_goes p ends y at there (party_event.OfNode e) event outcome.Stray came come named = still (AtSite (site_at setup choose p.place y)) at (party_event.OfNode e) event outcome.Stray came refl refl
-      site_goes p ends y at there (party_event.OfClient e) event outcome.Stray came come named = still (AtSite (site_at setup choose p.place y)) at (party_event.OfClient e) event outcome.Stray came refl refl
+      site_goes p ends y at there (party_event.OfNode e) event outcome.Stray came come named =
+          still (AtSite (site_at setup choose p.place y)) at (party_event.OfNode e) event outcome.Stray came refl refl
+      site_goes p ends y at there (party_event.OfClient e) event outcome.Stray came come named =
+          still (AtSite (site_at setup choose p.place y)) at (party_event.OfClient e) event outcome.Stray came refl refl
       site_goes p ends y at there v event o came come named = absurd come
 
       -- a node
-      node_goes : (p : Made node.Shown) → c.end ≡ party_of.Node p → (y : Node) → state_of closed run k ≡ AtNode (node_at setup choose p.place y) → slice_get bank.nodes p.place ≡ Some y → p.place < 99
-          → (v : PartyEvent) → r.event ≡ v → (o : PartyOutcome) → r.outcome ≡ o → Comes (AtNode (node_at setup choose p.place y)) v o → Names bank.post number v → Goes (move_by (101 + p.place) v o number)
+      node_goes : (p : Made node.Shown) → c.end ≡ party_of.Node p → (y : Node) → state_of closed run k ≡ AtNode (node_at setup choose p.place y)
+          → slice_get bank.nodes p.place ≡ Some y → p.place < 99
+          → (v : PartyEvent) → r.event ≡ v → (o : PartyOutcome) → r.outcome ≡ o → Comes (AtNode (node_at setup choose p.place y)) v o → Names bank.post number v
+          → Goes (move_by (101 + p.place) v o number)
       unfolding node.step_of
       node_goes p ends y at there low (party_event.OfNode e) event (outcome.OfNode (Ok letters)) came come named =
           let i = p.place in
@@ -335,20 +360,28 @@ module _ (setup : Setup) (choose : Choice Cmd) where
           goes (Takes (moves.node_step (101 + i) e number)) later
           (record {
             turn_is = OfNode i e;
-            has_turn = node_turn bank.post number i e low (λ letter is. to_node i y letter (subst (λ (q : NodeEvent). (node_step setup f i y q).fault ≡ None) is come.allowed)) named;
+            has_turn =
+                node_turn bank.post number i e low (λ letter is.
+                to_node i y letter (subst (λ (q : NodeEvent). (node_step setup f i y q).fault ≡ None) is come.allowed)) named;
             acts = record { before = y; is_there = there; allowed = come.allowed; leads = refl };
           })
           (ap (λ (l : List Envelope). bank.post ++ l) (sym come.sends ∙ sym (ap sent came)))
-          (put (party_of.Node p) ends (AtNode (node_at setup choose i y)) at (party_event.OfNode e) event (outcome.OfNode (Ok letters)) came later (step.node, refl, set-here bank.nodes i y step.node there))
+          (put (party_of.Node p) ends (AtNode (node_at setup choose i y)) at (party_event.OfNode e) event (outcome.OfNode (Ok letters)) came later
+          (step.node, refl, set-here bank.nodes i y step.node there))
           (λ j d is_d off so. node_kept bank later.post i step.node d.end (state_of closed run j) (λ h. off (h ∙ sym (ap number_of ends))) so)
-      node_goes p ends y at there low (party_event.OfNode e) event (outcome.OfNode (Err fault)) came come named = still (AtNode (node_at setup choose p.place y)) at (party_event.OfNode e) event (outcome.OfNode (Err fault)) came refl refl
-      node_goes p ends y at there low (party_event.OfSite e) event outcome.Stray came come named = still (AtNode (node_at setup choose p.place y)) at (party_event.OfSite e) event outcome.Stray came refl refl
-      node_goes p ends y at there low (party_event.OfClient e) event outcome.Stray came come named = still (AtNode (node_at setup choose p.place y)) at (party_event.OfClient e) event outcome.Stray came refl refl
+      node_goes p ends y at there low (party_event.OfNode e) event (outcome.OfNode (Err fault)) came come named =
+          still (AtNode (node_at setup choose p.place y)) at (party_event.OfNode e) event (outcome.OfNode (Err fault)) came refl refl
+      node_goes p ends y at there low (party_event.OfSite e) event outcome.Stray came come named =
+          still (AtNode (node_at setup choose p.place y)) at (party_event.OfSite e) event outcome.Stray came refl refl
+      node_goes p ends y at there low (party_event.OfClient e) event outcome.Stray came come named =
+          still (AtNode (node_at setup choose p.place y)) at (party_event.OfClient e) event outcome.Stray came refl refl
       node_goes p ends y at there low v event o came come named = absurd come
 
       -- a client, which takes only what is addressed to it
-      client_goes : (p : Made client.Shown) → c.end ≡ party_of.Client p → (y : Client) → state_of closed run k ≡ AtClient (client_at setup choose p.place y) → slice_get bank.clients p.place ≡ Some y → p.place < 101
-          → (v : PartyEvent) → r.event ≡ v → (o : PartyOutcome) → r.outcome ≡ o → Comes (AtClient (client_at setup choose p.place y)) v o → Names bank.post number v
+      client_goes : (p : Made client.Shown) → c.end ≡ party_of.Client p → (y : Client) → state_of closed run k ≡ AtClient (client_at setup choose p.place y)
+          → slice_get bank.clients p.place ≡ Some y → p.place < 101
+          → (v : PartyEvent) → r.event ≡ v → (o : PartyOutcome) → r.outcome ≡ o → Comes (AtClient (client_at setup choose p.place y)) v o
+          → Names bank.post number v
           → ((letter : Envelope) → v ≡ party_event.OfClient (client_event.Takes letter) → letter.to ≡ p.place) → Goes (move_by p.place v o number)
       client_goes p ends y at there low (party_event.OfClient e) event (outcome.OfClient (Ok letters)) came come named mine =
           let i = p.place in
@@ -361,20 +394,26 @@ module _ (setup : Setup) (choose : Choice Cmd) where
             acts = record { before = y; is_there = there; allowed = come.allowed; leads = refl };
           })
           (ap (λ (l : List Envelope). bank.post ++ l) (sym come.sends ∙ sym (ap sent came)))
-          (put (party_of.Client p) ends (AtClient (client_at setup choose i y)) at (party_event.OfClient e) event (outcome.OfClient (Ok letters)) came later (step.client, refl, set-here bank.clients i y step.client there))
+          (put (party_of.Client p) ends (AtClient (client_at setup choose i y)) at (party_event.OfClient e) event (outcome.OfClient (Ok letters)) came later
+          (step.client, refl, set-here bank.clients i y step.client there))
           (λ j d is_d off so. client_kept bank later.post i step.client d.end (state_of closed run j) (λ h. off (h ∙ sym (ap number_of ends))) so)
-      client_goes p ends y at there low (party_event.OfClient e) event (outcome.OfClient (Err fault)) came come named mine = still (AtClient (client_at setup choose p.place y)) at (party_event.OfClient e) event (outcome.OfClient (Err fault)) came refl refl
-      client_goes p ends y at there low (party_event.OfSite e) event outcome.Stray came come named mine = still (AtClient (client_at setup choose p.place y)) at (party_event.OfSite e) event outcome.Stray came refl refl
-      client_goes p ends y at there low (party_event.OfNode e) event outcome.Stray came come named mine = still (AtClient (client_at setup choose p.place y)) at (party_event.OfNode e) event outcome.Stray came refl refl
+      client_goes p ends y at there low (party_event.OfClient e) event (outcome.OfClient (Err fault)) came come named mine =
+          still (AtClient (client_at setup choose p.place y)) at (party_event.OfClient e) event (outcome.OfClient (Err fault)) came refl refl
+      client_goes p ends y at there low (party_event.OfSite e) event outcome.Stray came come named mine =
+          still (AtClient (client_at setup choose p.place y)) at (party_event.OfSite e) event outcome.Stray came refl refl
+      client_goes p ends y at there low (party_event.OfNode e) event outcome.Stray came come named mine =
+          still (AtClient (client_at setup choose p.place y)) at (party_event.OfNode e) event outcome.Stray came refl refl
       client_goes p ends y at there low v event o came come named mine = absurd come
 
       -- what comes to a client is addressed to it
-      for_client : (p : Made client.Shown) → c.end ≡ party_of.Client p → (delivers r.event ≡ None) ⊎ (is_for c.end r.event ≡ true) → (letter : Envelope) → r.event ≡ party_event.OfClient (client_event.Takes letter) → letter.to ≡ p.place
+      for_client : (p : Made client.Shown) → c.end ≡ party_of.Client p → (delivers r.event ≡ None) ⊎ (is_for c.end r.event ≡ true) → (letter : Envelope)
+          → r.event ≡ party_event.OfClient (client_event.Takes letter) → letter.to ≡ p.place
       for_client p ends (inl none) letter taken = absurd (none-some letter (sym none ∙ ap delivers taken))
       for_client p ends (inr mine) letter taken = eqb-true letter.to p.place (sym (λ i. is_for (ends i) (taken i)) ∙ mine)
 
       -- an event that can come out so is the bank's move
-      pub takes_next : Comes (state_of closed run k) r.event r.outcome → (delivers r.event ≡ None) ⊎ (is_for c.end r.event ≡ true) → Names bank.post number r.event → Goes (move_of c.number r number)
+      pub takes_next : Comes (state_of closed run k) r.event r.outcome → (delivers r.event ≡ None) ⊎ (is_for c.end r.event ≡ true)
+          → Names bank.post number r.event → Goes (move_of c.number r number)
       takes_next come comes_here named = by_kind c.end refl (a.there k c is)
         where
           by_kind : (e : Party) → c.end ≡ e → IsThere setup choose bank e (state_of closed run k) → Goes (move_of c.number r number)
@@ -388,4 +427,5 @@ module _ (setup : Setup) (choose : Choice Cmd) where
           by_kind (party_of.Client p) ends th =
               let place : HasPlace setup (party_of.Client p) = subst (λ (e : Party). HasPlace setup e) ends (all k c is).place in
               subst (λ (n : ℕ). Goes (move_by n r.event r.outcome number)) (sym ((all k c is).number ∙ ap number_of ends))
-              (client_goes p ends th.0 th.1 th.2 place.1 r.event refl r.outcome refl (subst (λ (x : PartyState). Comes x r.event r.outcome) th.1 come) named (for_client p ends comes_here))
+              (client_goes p ends th.0 th.1 th.2 place.1 r.event refl r.outcome refl (subst (λ (x : PartyState). Comes x r.event r.outcome) th.1 come) named
+              (for_client p ends comes_here))

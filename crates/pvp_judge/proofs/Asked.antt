@@ -50,7 +50,8 @@ module _ (setup : Setup) (a b : LegalList setup (faults setup)) where
   f = faults setup
 
   -- at a site of a legal list every right choice leads to the same step
-  same_step : (i : ℕ) (event : EventOf Cmd Answer PaymentOrder) (x : Site Cmd) → slice_get a.bank.sites i ≡ Some x → site_step {R = Answer} {O = PaymentOrder} a.choose f i x event ≡ site_step b.choose f i x event
+  same_step : (i : ℕ) (event : EventOf Cmd Answer PaymentOrder) (x : Site Cmd) → slice_get a.bank.sites i ≡ Some x
+      → site_step {R = Answer} {O = PaymentOrder} a.choose f i x event ≡ site_step b.choose f i x event
   same_step i event x is =
       let h = legal-holds setup (valid-members setup a.valid).1 a.choose f a.right a.cells a.moves a.bank a.legal.all a.legal.run in
       one_step f (record { choose = a.choose; right = a.right; cells = a.cells; events = h.events; world = h.world; legal = h.alone }) b.choose b.right i x
@@ -85,28 +86,40 @@ module _ (setup : Setup) (a b : LegalList setup (faults setup)) where
   falls_too (OfClient k event) cell after p = absurd p
 
 -- a turn leads to one bank, and is dropped for one reason
-acts_once : (setup : Setup) (choose : Choice Cmd) (f : ℕ) (bank : Bank) (t : Turn) (after later : Bank) (p : Acts setup choose f bank t after) (q : Acts setup choose f bank t later)
+acts_once : (setup : Setup) (choose : Choice Cmd) (f : ℕ) (bank : Bank) (t : Turn) (after later : Bank) (p : Acts setup choose f bank t after)
+    (q : Acts setup choose f bank t later)
     → (after ≡ later) × (dropped_in setup choose f bank t after p ≡ dropped_in setup choose f bank t later q)
 acts_once setup choose f bank (OfSite i event) after later p q =
     let same = some-same p.before q.before (sym p.is_there ∙ q.is_there) in (
-      p.leads ∙ ap (λ (x : Site Cmd). let step = site_step choose f i x event in with_site bank i step.site (envelopes book (opening setup) i step)) same ∙ sym q.leads,
+      p.leads ∙ ap (λ (x : Site Cmd). let step = site_step choose f i x event in
+          with_site bank i step.site (envelopes book (opening setup) i step)) same ∙ sym q.leads,
       ap (λ (x : Site Cmd). dropped_as (site_step {R = Answer} {O = PaymentOrder} choose f i x event).ending) same,
     )
-acts_once setup choose f bank (OfNode c event) after later p q =
-    (p.leads ∙ ap (λ (x : Node). let step = node_step setup f c x event in with_node bank c step.node step.sent) (some-same p.before q.before (sym p.is_there ∙ q.is_there)) ∙ sym q.leads, refl)
-acts_once setup choose f bank (OfClient k event) after later p q =
-    (p.leads ∙ ap (λ (x : Client). let step = client_step f k x event in with_client bank k step.client step.sent) (some-same p.before q.before (sym p.is_there ∙ q.is_there)) ∙ sym q.leads, refl)
+acts_once setup choose f bank (OfNode c event) after later p q = (
+  p.leads ∙ ap (λ (x : Node). let step = node_step setup f c x event in
+      with_node bank c step.node step.sent) (some-same p.before q.before (sym p.is_there ∙ q.is_there)) ∙ sym q.leads,
+  refl,
+)
+acts_once setup choose f bank (OfClient k event) after later p q = (
+  p.leads ∙ ap (λ (x : Client). let step = client_step f k x event in
+      with_client bank k step.client step.sent) (some-same p.before q.before (sym p.is_there ∙ q.is_there)) ∙ sym q.leads,
+  refl,
+)
 
 -- what a turn sends is put behind what was sent
-acts_more : (setup : Setup) (choose : Choice Cmd) (f : ℕ) (bank : Bank) (t : Turn) (after : Bank) → Acts setup choose f bank t after → (more : List Envelope) × (after.post ≡ bank.post ++ more)
-acts_more setup choose f bank (OfSite i event) after p = (envelopes book (opening setup) i (site_step choose f i p.before event), ap (λ (b : Bank). b.post) p.leads)
+acts_more : (setup : Setup) (choose : Choice Cmd) (f : ℕ) (bank : Bank) (t : Turn) (after : Bank) → Acts setup choose f bank t after
+    → (more : List Envelope) × (after.post ≡ bank.post ++ more)
+acts_more setup choose f bank (OfSite i event) after p =
+    (envelopes book (opening setup) i (site_step choose f i p.before event), ap (λ (b : Bank). b.post) p.leads)
 acts_more setup choose f bank (OfNode c event) after p = ((node_step setup f c p.before event).sent, ap (λ (b : Bank). b.post) p.leads)
 acts_more setup choose f bank (OfClient k event) after p = ((client_step f k p.before event).sent, ap (λ (b : Bank). b.post) p.leads)
 
 -- WHAT A WORLD DOES
 
-module _ (one_bank : (setup : Setup) (f : ℕ) (a b : LegalList setup f) → a.cells ≡ b.cells → a.moves ≡ b.moves → a.bank ≡ b.bank) (world : Shown MemCell) (at : IsAt held_by world)
-    (list : LegalList world.setup (faults world.setup)) (cells : list.cells ≡ world.opening) (moves : list.moves ≡ world.trail) (step : Step) (new : Shown MemCell) where
+module _ (one_bank : (setup : Setup) (f : ℕ) (a b : LegalList setup f) → a.cells ≡ b.cells → a.moves ≡ b.moves → a.bank ≡ b.bank) (world : Shown MemCell)
+    (at : IsAt held_by world)
+    (list : LegalList world.setup (faults world.setup)) (cells : list.cells ≡ world.opening) (moves : list.moves ≡ world.trail) (step : Step)
+    (new : Shown MemCell) where
   abbrev g : ℕ
   g = faults world.setup
 
@@ -144,7 +157,9 @@ module _ (one_bank : (setup : Setup) (f : ℕ) (a b : LegalList setup f) → a.c
       taken_so why same = record {
         after = taken.moves.after;
         leads = record { turn_is = by.turn_is; has_turn = turn_is; acts = too.0 };
-        sends = sym taken.moves.shows_after.post ∙ posted.1 ∙ ap (λ (l : List Envelope). l ++ posted.0) world_post ∙ ap (λ (l : List Envelope). list.bank.post ++ l) same;
+        sends =
+            sym taken.moves.shows_after.post ∙ posted.1 ∙ ap (λ (l : List Envelope). l ++ posted.0) world_post
+            ∙ ap (λ (l : List Envelope). list.bank.post ++ l) same;
         drops = too.1 ∙ why;
       }
 
@@ -169,7 +184,8 @@ module _ (one_bank : (setup : Setup) (f : ℕ) (a b : LegalList setup f) → a.c
   module _ (why : WorldFault) (had : hinders why ≡ false) (refused : IsRefused held_by world new step why) where
     pub refused_never : (sent : List Envelope) (dropped : Option Why) → StepsSo list step sent dropped → ⊥
     refused_never sent dropped s =
-        no-why held_by one_bank world at step (record { list = list; cells = cells; moves = moves; after = s.after; leads = s.leads }) why had (refused.kept (no-fall why had)).1
+        no-why held_by one_bank world at step (record { list = list; cells = cells; moves = moves; after = s.after; leads = s.leads }) why had
+        (refused.kept (no-fall why had)).1
 
     pub refused_for : bank_refuses world.setup g list.bank step ≡ Some why
     refused_for = why-told held_by world list.bank (shows-other held_by one_bank world at list cells moves) step why had (refused.kept (no-fall why had)).1
@@ -184,10 +200,15 @@ module _ (one_bank : (setup : Setup) (f : ℕ) (a b : LegalList setup f) → a.c
         record {
           turn_is = l.turn_is;
           has_turn = ap (λ (b : Bank). turn b.post step) (sym same) ∙ l.has_turn;
-          falls = subst (λ (b : Bank). FallsBy world.setup list.choose g b l.turn_is cell m.after) same (falls_too world.setup m.list list l.turn_is cell m.after l.falls);
+          falls =
+              subst (λ (b : Bank). FallsBy world.setup list.choose g b l.turn_is cell m.after) same
+              (falls_too world.setup m.list list l.turn_is cell m.after l.falls);
         },
       )
 
-  pub fallen_never : (cell : Boot) → AreReliable memory world → (why : FallFault) → wants_fall why ≡ false → FallsTo held_by world new step cell (Err why) → KeepsReliable memory world new (Err why) → FallsSo list step cell → ⊥
+  pub fallen_never : (cell : Boot) → AreReliable memory world → (why : FallFault) → wants_fall why ≡ false → FallsTo held_by world new step cell (Err why)
+      → KeepsReliable memory world new (Err why) → FallsSo list step cell → ⊥
   fallen_never cell reliable why free falls keeps s =
-      let e : true ≡ false = sym (fall-memory-alone held_by one_bank world at step cell (record { list = list; cells = cells; moves = moves; after = s.0; leads = s.1 }) memory reliable new why falls keeps) ∙ free in cc
+      let e : true ≡ false =
+      sym (fall-memory-alone held_by one_bank world at step cell (record { list = list; cells = cells; moves = moves; after = s.0; leads = s.1 }) memory
+      reliable new why falls keeps) ∙ free in cc

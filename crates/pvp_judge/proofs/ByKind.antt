@@ -43,14 +43,16 @@ ok_map P Q (Ok x) so is = so x is
 ok_map P Q (Err e) so is = tt
 
 module _ (world : Shown MemCell) (shows : OfTrail world (λ list. ShowsBank held_by world list.bank)) where
-  named_there : (list : LegalList world.setup (faults world.setup)) → list.cells ≡ world.opening → list.moves ≡ world.trail → (number : ℕ) (e : _) → Names world.post number e → Names list.bank.post number e
+  named_there : (list : LegalList world.setup (faults world.setup)) → list.cells ≡ world.opening → list.moves ≡ world.trail → (number : ℕ) (e : _)
+      → Names world.post number e → Names list.bank.post number e
   named_there list cells moves number e named = subst (λ (post : List Envelope). Names post number e) (shows list cells moves).post named
 
   -- A SITE
 
   module _ (actor : ℕ) (high : 200 ≤ actor) (e : EventOf Cmd Answer PaymentOrder) (told : Option SiteFault)
       (says : (v : Replica) → slice_get world.sites (actor - 200) ≡ Some v → told ≡ refusal v.f v.me (site_shown held_by v []) e) where
-    refusal_is : (list : LegalList world.setup (faults world.setup)) → list.cells ≡ world.opening → list.moves ≡ world.trail → (y : Site Cmd) → slice_get list.bank.sites (actor - 200) ≡ Some y
+    refusal_is : (list : LegalList world.setup (faults world.setup)) → list.cells ≡ world.opening → list.moves ≡ world.trail → (y : Site Cmd)
+        → slice_get list.bank.sites (actor - 200) ≡ Some y
         → refusal {R = Answer} {O = PaymentOrder} (faults world.setup) (actor - 200) y e ≡ told
     refusal_is list cells moves y is = sym (refusal_shown world.setup list (actor - 200) y is e world (shows list cells moves) refl told says)
 
@@ -58,19 +60,28 @@ module _ (world : Shown MemCell) (shows : OfTrail world (λ list. ShowsBank held
     site_refused why can so list cells moves y is =
         (λ t. refusal_is list cells moves y is ∙ so.0 t, λ come. so.1 (sym (refusal_is list cells moves y is) ∙ come))
 
-    pub site_not_did : (why : SiteFault) → told ≡ Some why → (sent : List Envelope) (dropped : Option Why) → SiteComes world (actor - 200) e (Did sent dropped) false
-    site_not_did why refused sent dropped list cells moves y is =
-        (λ t. absurd (true≢false (sym t)), λ come. absurd (refused_not_did world.setup list (actor - 200) y is e why (refusal_is list cells moves y is ∙ refused) sent dropped come))
+    pub site_not_did : (why : SiteFault) → told ≡ Some why → (sent : List Envelope) (dropped : Option Why)
+        → SiteComes world (actor - 200) e (Did sent dropped) false
+    site_not_did why refused sent dropped list cells moves y is = (
+      λ t. absurd (true≢false (sym t)),
+      λ come.
+          absurd (refused_not_did world.setup list (actor - 200) y is e why (refusal_is list cells moves y is ∙ refused) sent dropped come),
+    )
 
     pub site_not_fell : (why : SiteFault) → told ≡ Some why → (for : SiteFault) (cell : Boot) → SiteComes world (actor - 200) e (Fell for cell) false
-    site_not_fell why refused for cell list cells moves y is =
-        (λ t. absurd (true≢false (sym t)), λ come. absurd (refused_not_fell world.setup list (actor - 200) y is e why (refusal_is list cells moves y is ∙ refused) for cell come))
+    site_not_fell why refused for cell list cells moves y is = (
+      λ t. absurd (true≢false (sym t)),
+      λ come.
+          absurd (refused_not_fell world.setup list (actor - 200) y is e why (refusal_is list cells moves y is ∙ refused) for cell come),
+    )
 
-    module _ (free : told ≡ None) (number : ℕ) (named : Names world.post number (party_event.OfSite e)) (step : Step) (step_is : step ≡ moves.site_step actor e number) (can : Bool) where
+    module _ (free : told ≡ None) (number : ℕ) (named : Names world.post number (party_event.OfSite e)) (step : Step)
+        (step_is : step ≡ moves.site_step actor e number) (can : Bool) where
       step_at : step ≡ moves.site_step (200 + (actor - 200)) e number
       step_at = step_is ∙ ap (λ (n : ℕ). moves.site_step n e number) (let h = high in omega (arith, h))
 
-      pub site_did_so : (sent : List Envelope) (dropped : Option Why) → OfTrail world (λ list. IsTrue can ↔ StepsSo list step sent dropped) → SiteComes world (actor - 200) e (Did sent dropped) can
+      pub site_did_so : (sent : List Envelope) (dropped : Option Why) → OfTrail world (λ list. IsTrue can ↔ StepsSo list step sent dropped)
+          → SiteComes world (actor - 200) e (Did sent dropped) can
       site_did_so sent dropped so list cells moves y is =
           let there = named_there list cells moves number (party_event.OfSite e) named in
           let unrefused = refusal_is list cells moves y is ∙ free in
@@ -79,7 +90,8 @@ module _ (world : Shown MemCell) (shows : OfTrail world (λ list. ShowsBank held
             λ come. both.1 (site_does world.setup list (actor - 200) y is e number there unrefused sent dropped come),
           )
 
-      pub site_fell_so : (for : SiteFault) → (for ≡ site_fault.NoMemory) ⊎ (for ≡ site_fault.CellFault) → (cell : Boot) → OfTrail world (λ list. IsTrue can ↔ FallsSo list step cell) → SiteComes world (actor - 200) e (Fell for cell) can
+      pub site_fell_so : (for : SiteFault) → (for ≡ site_fault.NoMemory) ⊎ (for ≡ site_fault.CellFault) → (cell : Boot)
+          → OfTrail world (λ list. IsTrue can ↔ FallsSo list step cell) → SiteComes world (actor - 200) e (Fell for cell) can
       site_fell_so for of cell so list cells moves y is =
           let there = named_there list cells moves number (party_event.OfSite e) named in
           let unrefused = refusal_is list cells moves y is ∙ free in
@@ -102,7 +114,8 @@ module _ (world : Shown MemCell) (shows : OfTrail world (λ list. ShowsBank held
           λ come. so.1 (comes_elsewhere world.setup list (actor - 101) y is e refused told come),
         )
 
-    module _ (mine : (letter : Envelope) → e ≡ node_event.Takes letter → letter.to ≡ actor) (number : ℕ) (named : Names world.post number (party_event.OfNode e)) (step : Step) (step_is : step ≡ moves.node_step actor e number) (can : Bool) where
+    module _ (mine : (letter : Envelope) → e ≡ node_event.Takes letter → letter.to ≡ actor) (number : ℕ)
+        (named : Names world.post number (party_event.OfNode e)) (step : Step) (step_is : step ≡ moves.node_step actor e number) (can : Bool) where
       node_step_at : step ≡ moves.node_step (101 + (actor - 101)) e number
       node_step_at = step_is ∙ ap (λ (n : ℕ). moves.node_step n e number) (sym actor_is)
 
@@ -112,7 +125,8 @@ module _ (world : Shown MemCell) (shows : OfTrail world (λ list. ShowsBank held
       few : actor - 101 < 99
       few = let h = high in let l = low in omega (arith, h, l)
 
-      pub node_did_so : (sent : List Envelope) → OfTrail world (λ list. IsTrue can ↔ StepsSo list step sent None) → NodeComes world (actor - 101) e (Ok sent) can
+      pub node_did_so : (sent : List Envelope) → OfTrail world (λ list. IsTrue can ↔ StepsSo list step sent None)
+          → NodeComes world (actor - 101) e (Ok sent) can
       node_did_so sent so list cells moves y is =
           let there = named_there list cells moves number (party_event.OfNode e) named in
           let both = subst (λ (s : Step). IsTrue can ↔ StepsSo list s sent None) node_step_at (so list cells moves) in (
@@ -120,10 +134,14 @@ module _ (world : Shown MemCell) (shows : OfTrail world (λ list. ShowsBank held
             λ come. both.1 (node_does world.setup list (actor - 101) y is e number there few mine_at sent come),
           )
 
-      pub node_refused_so : (why : NodeFault) → why ≢ node_fault.NoMemory → OfTrail world (λ list. IsTrue can ↔ (bank_refuses world.setup (faults world.setup) list.bank step ≡ Some (fault.Node why))) → NodeComes world (actor - 101) e (Err why) can
+      pub node_refused_so : (why : NodeFault) → why ≢ node_fault.NoMemory
+          → OfTrail world (λ list. IsTrue can ↔ (bank_refuses world.setup (faults world.setup) list.bank step ≡ Some (fault.Node why)))
+          → NodeComes world (actor - 101) e (Err why) can
       node_refused_so why off so list cells moves y is =
           let there = named_there list cells moves number (party_event.OfNode e) named in
-          let both = subst (λ (s : Step). IsTrue can ↔ (bank_refuses world.setup (faults world.setup) list.bank s ≡ Some (fault.Node why))) node_step_at (so list cells moves) in (
+          let both =
+          subst (λ (s : Step). IsTrue can ↔ (bank_refuses world.setup (faults world.setup) list.bank s ≡ Some (fault.Node why))) node_step_at
+          (so list cells moves) in (
             λ t. node_refused world.setup list (actor - 101) y is e number there few mine_at why (both.0 t),
             λ come. both.1 (node_refuses_so world.setup list (actor - 101) y is e number there few mine_at why off come),
           )
@@ -131,7 +149,8 @@ module _ (world : Shown MemCell) (shows : OfTrail world (λ list. ShowsBank held
   -- A CLIENT
 
   module _ (actor : ℕ) (low : actor < 101) (e : ClientEvent) where
-    module _ (mine : (letter : Envelope) → e ≡ client_event.Takes letter → letter.to ≡ actor) (number : ℕ) (named : Names world.post number (party_event.OfClient e)) (step : Step) (step_is : step ≡ moves.client_step actor e number) (can : Bool) where
+    module _ (mine : (letter : Envelope) → e ≡ client_event.Takes letter → letter.to ≡ actor) (number : ℕ)
+        (named : Names world.post number (party_event.OfClient e)) (step : Step) (step_is : step ≡ moves.client_step actor e number) (can : Bool) where
       pub client_did_so : (sent : List Envelope) → OfTrail world (λ list. IsTrue can ↔ StepsSo list step sent None) → ClientComes world actor e (Ok sent) can
       client_did_so sent so list cells moves y is =
           let there = named_there list cells moves number (party_event.OfClient e) named in
@@ -140,10 +159,14 @@ module _ (world : Shown MemCell) (shows : OfTrail world (λ list. ShowsBank held
             λ come. both.1 (client_does world.setup list actor y is e number there low mine sent come),
           )
 
-      pub client_refused_so : (why : ClientFault) → why ≢ client_fault.NoMemory → OfTrail world (λ list. IsTrue can ↔ (bank_refuses world.setup (faults world.setup) list.bank step ≡ Some (told_as why))) → ClientComes world actor e (Err why) can
+      pub client_refused_so : (why : ClientFault) → why ≢ client_fault.NoMemory
+          → OfTrail world (λ list. IsTrue can ↔ (bank_refuses world.setup (faults world.setup) list.bank step ≡ Some (told_as why)))
+          → ClientComes world actor e (Err why) can
       client_refused_so why off so list cells moves y is =
           let there = named_there list cells moves number (party_event.OfClient e) named in
-          let both = subst (λ (s : Step). IsTrue can ↔ (bank_refuses world.setup (faults world.setup) list.bank s ≡ Some (told_as why))) step_is (so list cells moves) in (
+          let both =
+          subst (λ (s : Step). IsTrue can ↔ (bank_refuses world.setup (faults world.setup) list.bank s ≡ Some (told_as why))) step_is
+          (so list cells moves) in (
             λ t. client_refused world.setup list actor y is e number there low mine why (both.0 t),
             λ come. both.1 (client_refuses_so world.setup list actor y is e number there low mine why off come),
           )

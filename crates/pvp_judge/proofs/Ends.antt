@@ -54,7 +54,8 @@ there_kind setup choose bank (party_of.Node p) x at = subst (λ (s : PartyState)
 there_kind setup choose bank (party_of.Client p) x at = subst (λ (s : PartyState). IsOfKind (party_of.Client p) s) (sym at.1) tt
 
 -- and ends that read like the world's actor read like where the histories lead
-pub reads_replay : (world : Shown MemCell) (number : ℕ) (e : Party) (x : PartyState) → ShowsState world number x → IsOfKind e x → ReadsWorld world number e → Reads memory e x
+pub reads_replay : (world : Shown MemCell) (number : ℕ) (e : Party) (x : PartyState) → ShowsState world number x → IsOfKind e x → ReadsWorld world number e
+    → Reads memory e x
 reads_replay world number (party_of.Site p) (AtSite x) shown kind reads =
     let same : reads.0 ≡ shown.0 = some-same reads.0 shown.0 (sym reads.1 ∙ shown.1) in
     let alike : AreAlikeSites p.now shown.0 = subst (λ (v : Replica). AreAlikeSites p.now v) same reads.2 in
@@ -66,8 +67,10 @@ reads_replay world number (party_of.Site p) (AtSite x) shown kind reads =
       known = λ i low. alike.known i low ∙ sym (ap (λ (s : Site Cmd). boot_of s.known i) shown.2.site);
       cell = alike.cell ∙ sym (ap (λ (s : Site Cmd). s.cell) shown.2.site);
     }
-reads_replay world number (party_of.Node p) (AtNode x) shown kind reads = subst (λ (v : node.Shown). nodes.Reads p.now v) (some-same reads.0 x (sym reads.1 ∙ shown)) reads.2
-reads_replay world number (party_of.Client p) (AtClient x) shown kind reads = subst (λ (v : client.Shown). clients.Reads p.now v) (some-same reads.0 x (sym reads.1 ∙ shown)) reads.2
+reads_replay world number (party_of.Node p) (AtNode x) shown kind reads =
+    subst (λ (v : node.Shown). nodes.Reads p.now v) (some-same reads.0 x (sym reads.1 ∙ shown)) reads.2
+reads_replay world number (party_of.Client p) (AtClient x) shown kind reads =
+    subst (λ (v : client.Shown). clients.Reads p.now v) (some-same reads.0 x (sym reads.1 ∙ shown)) reads.2
 reads_replay world number (party_of.Site p) (AtNode x) shown kind reads = absurd kind
 reads_replay world number (party_of.Site p) (AtClient x) shown kind reads = absurd kind
 reads_replay world number (party_of.Node p) (AtSite x) shown kind reads = absurd kind

@@ -50,7 +50,8 @@ module _ (setup : Setup) (closed : List Left) (choose : Choice Cmd) (right : IsR
 
   -- THE BEGINNING
 
-  module _ (all : AreOfBank setup closed) (numbered : OpensInOrder closed) (world : Shown MemCell) (made : world.setup ≡ setup) (cells : world.opening ≡ openings closed) (nothing : world.trail ≡ []) (proved : IsProved held_by world) (reliable : AreReliable memory world) where
+  module _ (all : AreOfBank setup closed) (numbered : OpensInOrder closed) (world : Shown MemCell) (made : world.setup ≡ setup)
+      (cells : world.opening ≡ openings closed) (nothing : world.trail ≡ []) (proved : IsProved held_by world) (reliable : AreReliable memory world) where
     abbrev list : LegalList world.setup (faults world.setup)
     list = proved.is_at.list
 
@@ -71,7 +72,8 @@ module _ (setup : Setup) (closed : List Left) (choose : Choice Cmd) (right : IsR
     client_there zero low = refl
     client_there (suc i) low = same_all opening_client setup.members i (omega arith)
 
-    opens_there : (k : ℕ) (c : Left) → slice_get closed k ≡ Some c → (e : Party) → c.end ≡ e → (over : Option Boot) → c.opening ≡ over → OpenedOver e over → HasPlace setup e → IsThere setup choose first e (opened setup choose e over)
+    opens_there : (k : ℕ) (c : Left) → slice_get closed k ≡ Some c → (e : Party) → c.end ≡ e → (over : Option Boot) → c.opening ≡ over → OpenedOver e over
+        → HasPlace setup e → IsThere setup choose first e (opened setup choose e over)
     opens_there k c is (party_of.Site p) ends (Some boot) over by place = (
       opening_site (faults setup) boot,
       refl,
@@ -92,7 +94,9 @@ module _ (setup : Setup) (closed : List Left) (choose : Choice Cmd) (right : IsR
           all = ap length (sym proved.is_at.cells) ∙ list.legal.all ∙ ap (λ (s : Setup). 2 * faults s + 1) made;
           run = subst (λ (ms : List Move). IsRun setup choose (faults setup) first ms first) (sym nothing) refl;
         };
-        there = λ k c is. subst (λ (o : Option Left). IsThere setup choose first c.end (start_in setup choose o)) (sym is) (opens_there k c is c.end refl c.opening refl (all k c is).opened (all k c is).place);
+        there =
+            λ k c is. subst (λ (o : Option Left). IsThere setup choose first c.end (start_in setup choose o)) (sym is)
+            (opens_there k c is c.end refl c.opening refl (all k c is).opened (all k c is).place);
         post = refl;
       };
       made = made;
@@ -102,7 +106,8 @@ module _ (setup : Setup) (closed : List Left) (choose : Choice Cmd) (right : IsR
 
   -- ONE EVENT MORE
 
-  module _ (order : AreInOrder closed) (all : AreOfBank setup closed) (run : List (Tagged PartyEvent PartyOutcome)) (world : Shown MemCell) (p : Follows run world)
+  module _ (order : AreInOrder closed) (all : AreOfBank setup closed) (run : List (Tagged PartyEvent PartyOutcome))
+      (world : Shown MemCell) (p : Follows run world)
       (one_bank : (setup : Setup) (f : ℕ) (a b : LegalList setup f) → a.cells ≡ b.cells → a.moves ≡ b.moves → a.bank ≡ b.bank) where
     -- the legal list of the world's trail, by the actors' choices
     abbrev mine : LegalList setup (faults setup)
@@ -122,25 +127,32 @@ module _ (setup : Setup) (closed : List Left) (choose : Choice Cmd) (right : IsR
         (λ l cells moves. shows-other held_by one_bank world p.proved.is_at l cells moves) mine refl refl
 
     -- whether an event comes out so is told of the state to which this choice leads
-    pub told_here : (k : ℕ) (c : Left) → slice_get closed k ≡ Some c → (r : Recorded PartyEvent PartyOutcome) (can : Bool) → ComesSo world c.end r can → IsTrue can ↔ Comes (replay after (own run k) (start_of setup choose closed k)) r.event r.outcome
+    pub told_here : (k : ℕ) (c : Left) → slice_get closed k ≡ Some c → (r : Recorded PartyEvent PartyOutcome) (can : Bool) → ComesSo world c.end r can
+        → IsTrue can ↔ Comes (replay after (own run k) (start_of setup choose closed k)) r.event r.outcome
     told_here k c is r can so =
-        subst (λ (s : Setup). (l : LegalList s (faults s)) → l.cells ≡ world.opening → l.moves ≡ world.trail → (x : PartyState) → IsThere s l.choose l.bank c.end x → IsTrue can ↔ Comes x r.event r.outcome) p.made
+        subst (λ (s : Setup). (l : LegalList s (faults s)) → l.cells ≡ world.opening → l.moves ≡ world.trail → (x : PartyState)
+        → IsThere s l.choose l.bank c.end x → IsTrue can ↔ Comes x r.event r.outcome) p.made
         so mine refl refl (replay after (own run k) (start_of setup choose closed k)) (p.agrees.there k c is)
 
     module _ (k : ℕ) (c : Left) (is : slice_get closed k ≡ Some c) (r : Recorded PartyEvent PartyOutcome) (number : ℕ)
-        (come : Comes (replay after (own run k) (start_of setup choose closed k)) r.event r.outcome) (here : (delivers r.event ≡ None) ⊎ (is_for c.end r.event ≡ true)) (named : Names world.post number r.event) where
+        (come : Comes (replay after (own run k) (start_of setup choose closed k)) r.event r.outcome)
+        (here : (delivers r.event ≡ None) ⊎ (is_for c.end r.event ≡ true)) (named : Names world.post number r.event) where
       abbrev pub next : List (Tagged PartyEvent PartyOutcome)
       next = record { by = k; what = r } ∷ run
 
       goes : Goes setup choose closed order all world.opening run world.trail p.bank p.agrees k c is r (move_of c.number r number)
-      goes = takes_next setup choose closed order all world.opening run world.trail p.bank p.agrees k c is r number come here (subst (λ (post : List Envelope). Names post number r.event) shows_bank.post named)
+      goes =
+          takes_next setup choose closed order all world.opening run world.trail p.bank p.agrees k c is r number come here
+          (subst (λ (post : List Envelope). Names post number r.event) shows_bank.post named)
 
       goes_by : (move : Move) → move_of c.number r number ≡ Some move
-          → (later : Bank) × Leads setup choose (faults setup) p.bank move later × Agrees setup choose closed world.opening next (world.trail ++ move ∷ []) later
+          → (later : Bank) × Leads setup choose (faults setup) p.bank move later
+          × Agrees setup choose closed world.opening next (world.trail ++ move ∷ []) later
       goes_by move e = subst (λ (o : Option Move). Goes setup choose closed order all world.opening run world.trail p.bank p.agrees k c is r o) e goes
 
       -- and when it took it, it is where the actors are
-      took : (move : Move) → move_of c.number r number ≡ Some move → (new : Shown MemCell) → Moves held_by world new move → IsProved held_by new → AreReliable memory new → Follows next new
+      took : (move : Move) → move_of c.number r number ≡ Some move → (new : Shown MemCell) → Moves held_by world new move → IsProved held_by new
+          → AreReliable memory new → Follows next new
       took move e new moves proved reliable =
           let g = goes_by move e in
           record {
@@ -154,7 +166,8 @@ module _ (setup : Setup) (closed : List Left) (choose : Choice Cmd) (right : IsR
 
       took_none : move_of c.number r number ≡ None → (new : Shown MemCell) → new ≡ world → IsProved held_by new → AreReliable memory new → Follows next new
       took_none e new same proved reliable =
-          let g : Agrees setup choose closed world.opening next world.trail p.bank = subst (λ (o : Option Move). Goes setup choose closed order all world.opening run world.trail p.bank p.agrees k c is r o) e goes in
+          let g : Agrees setup choose closed world.opening next world.trail p.bank =
+          subst (λ (o : Option Move). Goes setup choose closed order all world.opening run world.trail p.bank p.agrees k c is r o) e goes in
           record {
             bank = p.bank;
             agrees = subst (λ (w : Shown MemCell). Agrees setup choose closed w.opening next w.trail p.bank) (sym same) g;
@@ -163,7 +176,8 @@ module _ (setup : Setup) (closed : List Left) (choose : Choice Cmd) (right : IsR
             reliable = reliable;
           }
 
-      pub follows_next : (new : Shown MemCell) → GoesBy held_by world new (move_of c.number r number) → IsProved held_by new → AreReliable memory new → Follows next new
+      pub follows_next : (new : Shown MemCell) → GoesBy held_by world new (move_of c.number r number) → IsProved held_by new → AreReliable memory new
+          → Follows next new
       follows_next new went proved reliable = by (move_of c.number r number) refl went
         where
           by : (o : Option Move) → move_of c.number r number ≡ o → GoesBy held_by world new o → Follows next new
@@ -200,7 +214,8 @@ module _ (setup : Setup) (closed : List Left) (choose : Choice Cmd) (right : IsR
           let v = within p.bank.clients world.clients q.place there.0 (sym shown.clients.count) there.2 in
           let is = shown.clients.each q.place v.0 there.0 v.1 there.2 in
           let same : v.0 ≡ client_at setup choose q.place there.0 = is ∙ ap (λ (s : Setup). record { f = faults s; me = q.place; client = there.0 }) p.made in
-          subst (λ (y : PartyState). ShowsState world (number_of {B = MemCell} (party_of.Client q)) y) (sym there.1) (v.1 ∙ ap (λ (u : client.Shown). Some u) same)
+          subst (λ (y : PartyState). ShowsState world (number_of {B = MemCell} (party_of.Client q)) y) (sym there.1)
+          (v.1 ∙ ap (λ (u : client.Shown). Some u) same)
 
       pub replayed : AreReplayed closed world
       replayed = record {
@@ -208,15 +223,19 @@ module _ (setup : Setup) (closed : List Left) (choose : Choice Cmd) (right : IsR
         opens = openings_are setup choose right closed all;
         shown = λ k c is.
             subst (λ (n : ℕ). ShowsState world n (replay after c.history.items (start_of setup choose closed k))) (sym (all k c is).number)
-            (subst (λ (l : List (Recorded PartyEvent PartyOutcome)). ShowsState world (number_of c.end) (replay after l (start_of setup choose closed k))) (each k ∙ ap history_in is)
+            (subst (λ (l : List (Recorded PartyEvent PartyOutcome)). ShowsState world (number_of c.end) (replay after l (start_of setup choose closed k)))
+            (each k ∙ ap history_in is)
             (shows_by c.end (replay after (own run k) (start_of setup choose closed k)) (all k c is).place (p.agrees.there k c is)));
       }
 
       -- an end reads like the replay of its history exactly where it reads like the world's actor
-      pub reads_same : (k : ℕ) (c : Left) → slice_get closed k ≡ Some c → Reads memory c.end (replay after c.history.items (start_of setup choose closed k)) ↔ ReadsWorld world c.number c.end
+      pub reads_same : (k : ℕ) (c : Left) → slice_get closed k ≡ Some c
+          → Reads memory c.end (replay after c.history.items (start_of setup choose closed k)) ↔ ReadsWorld world c.number c.end
       unfolding replayed
       reads_same k c is =
           let x = replay after c.history.items (start_of setup choose closed k) in
-          let kind : IsOfKind c.end x = subst (λ (l : List (Recorded PartyEvent PartyOutcome)). IsOfKind c.end (replay after l (start_of setup choose closed k))) (each k ∙ ap history_in is)
+          let kind : IsOfKind c.end x =
+          subst (λ (l : List (Recorded PartyEvent PartyOutcome)). IsOfKind c.end (replay after l (start_of setup choose closed k)))
+          (each k ∙ ap history_in is)
           (there_kind setup choose p.bank c.end (replay after (own run k) (start_of setup choose closed k)) (p.agrees.there k c is)) in
           (reads_world world c.number c.end x (replayed.shown k c is), reads_replay world c.number c.end x (replayed.shown k c is) kind)

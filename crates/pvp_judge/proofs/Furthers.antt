@@ -11,9 +11,11 @@ use Rattle.pvp_judge.specs.Banked.{OpensInOrder, HasItsSites, AllAre}
 use Rattle.pvp_judge.proofs.Lists.{push_cases, push_last, push_length}
 
 -- what one actor more opened over
-pub openings_next : (closed : List Left) (k : ℕ) (c : Left) → slice_get closed k ≡ Some c → openings (take (suc k) closed) ≡ openings (take k closed) ++ option_to_list c.opening
+pub openings_next : (closed : List Left) (k : ℕ) (c : Left) → slice_get closed k ≡ Some c
+    → openings (take (suc k) closed) ≡ openings (take k closed) ++ option_to_list c.opening
 openings_next [] k c is = cc
-openings_next (d ∷ more) zero c is = subst (λ (e : Left). option_to_list d.opening ++ [] ≡ option_to_list e.opening) (same d c is) (nil (option_to_list d.opening))
+openings_next (d ∷ more) zero c is =
+    subst (λ (e : Left). option_to_list d.opening ++ [] ≡ option_to_list e.opening) (same d c is) (nil (option_to_list d.opening))
   where
     same : (a b : Left) → Some a ≡ Some b → a ≡ b
     same a b e = cc
@@ -21,14 +23,17 @@ openings_next (d ∷ more) zero c is = subst (λ (e : Left). option_to_list d.op
     nil : {X : Type 0} (xs : List X) → xs ++ [] ≡ xs
     nil [] = refl
     nil (x ∷ xs) = ap (λ ys. x ∷ ys) (nil xs)
-openings_next (d ∷ more) (suc k) c is = ap (λ xs. option_to_list d.opening ++ xs) (openings_next more k c is) ∙ sym (joined (option_to_list d.opening) (openings (take k more)) (option_to_list c.opening))
+openings_next (d ∷ more) (suc k) c is =
+    ap (λ xs. option_to_list d.opening ++ xs) (openings_next more k c is) ∙ sym
+    (joined (option_to_list d.opening) (openings (take k more)) (option_to_list c.opening))
   where
     joined : {X : Type 0} (xs ys zs : List X) → (xs ++ ys) ++ zs ≡ xs ++ (ys ++ zs)
     joined [] ys zs = refl
     joined (x ∷ xs) ys zs = ap (λ l. x ∷ l) (joined xs ys zs)
 
 -- and over a cell more
-pub cells_next : (closed : List Left) (cells : List MemCell) (k : ℕ) (c : Left) (boot : Boot) (cell : MemCell) → slice_get closed k ≡ Some c → c.opening ≡ Some boot → held_by cell ≡ boot
+pub cells_next : (closed : List Left) (cells : List MemCell) (k : ℕ) (c : Left) (boot : Boot) (cell : MemCell) → slice_get closed k ≡ Some c
+    → c.opening ≡ Some boot → held_by cell ≡ boot
     → map held_by cells ≡ openings (take k closed) → map held_by (cells ++ cell ∷ []) ≡ openings (take (k + 1) closed)
 cells_next closed cells k c boot cell is opened held so_far =
     let e : k + 1 ≡ suc k = omega arith in
@@ -42,7 +47,8 @@ cells_next closed cells k c boot cell is opened held so_far =
     pushed (x ∷ xs) = ap (λ (bs : List Boot). held_by x ∷ bs) (pushed xs)
 
 -- an actor that opened over nothing
-pub cells_same : (closed : List Left) (bs : List Boot) (k : ℕ) (c : Left) → slice_get closed k ≡ Some c → c.opening ≡ None → bs ≡ openings (take k closed) → bs ≡ openings (take (k + 1) closed)
+pub cells_same : (closed : List Left) (bs : List Boot) (k : ℕ) (c : Left) → slice_get closed k ≡ Some c → c.opening ≡ None → bs ≡ openings (take k closed)
+    → bs ≡ openings (take (k + 1) closed)
 cells_same closed bs k c is opened so_far =
     let e : k + 1 ≡ suc k = omega arith in
     so_far ∙ sym (nil (openings (take k closed))) ∙ ap (λ (o : Option Boot). openings (take k closed) ++ option_to_list o) (sym opened)
@@ -54,7 +60,8 @@ cells_same closed bs k c is opened so_far =
 
 -- WHAT SITES OPENED OVER STANDS IN ORDER
 
-join_front : {X : Type 0} (xs ys zs : List X) (i : ℕ) (b : X) → ((j : ℕ) → slice_get ys j ≡ Some b → slice_get zs j ≡ Some b) → slice_get (xs ++ ys) i ≡ Some b → slice_get (xs ++ zs) i ≡ Some b
+join_front : {X : Type 0} (xs ys zs : List X) (i : ℕ) (b : X) → ((j : ℕ) → slice_get ys j ≡ Some b → slice_get zs j ≡ Some b) → slice_get (xs ++ ys) i ≡ Some b
+    → slice_get (xs ++ zs) i ≡ Some b
 join_front [] ys zs i b rest is = rest i is
 join_front (x ∷ xs) ys zs zero b rest is = is
 join_front (x ∷ xs) ys zs (suc i) b rest is = join_front xs ys zs i b rest is
@@ -64,34 +71,42 @@ openings_front : (closed : List Left) (n i : ℕ) (b : Boot) → slice_get (open
 openings_front [] zero i b is = is
 openings_front [] (suc n) i b is = is
 openings_front (d ∷ more) zero i b is = absurd (none-some b is)
-openings_front (d ∷ more) (suc n) i b is = join_front (option_to_list d.opening) (openings (take n more)) (openings more) i b (λ j h. openings_front more n j b h) is
+openings_front (d ∷ more) (suc n) i b is =
+    join_front (option_to_list d.opening) (openings (take n more)) (openings more) i b (λ j h. openings_front more n j b h) is
 
 -- each of the first sites is numbered by how many before it opened
 abbrev pub AreCounted : List Left → ℕ → Type 0
-AreCounted closed n = (j : ℕ) (c : Left) (boot : Boot) → j < n → slice_get closed j ≡ Some c → c.opening ≡ Some boot → c.number ≡ 200 + length (openings (take j closed))
+AreCounted closed n = (j : ℕ) (c : Left) (boot : Boot) → j < n → slice_get closed j ≡ Some c → c.opening ≡ Some boot
+    → c.number ≡ 200 + length (openings (take j closed))
 
 pub in_order : (setup : Setup) (closed : List Left) → HasItsSites setup closed → OpensInOrder closed
 in_order setup closed sites k c is site boot number opening =
     let counted = sites.numbered k c boot is opening in
     let place : site ≡ length (openings (take k closed)) = omega (arith, number, counted) in
-    let next : openings (take (suc k) closed) ≡ openings (take k closed) ++ boot ∷ [] = openings_next closed k c is ∙ ap (λ (o : Option Boot). openings (take k closed) ++ option_to_list o) opening in
+    let next : openings (take (suc k) closed) ≡ openings (take k closed) ++ boot ∷ [] =
+    openings_next closed k c is ∙ ap (λ (o : Option Boot). openings (take k closed) ++ option_to_list o) opening in
     ap (λ (n : ℕ). slice_get (openings closed) n) place
-    ∙ openings_front closed (suc k) (length (openings (take k closed))) boot (ap (λ (l : List Boot). slice_get l (length (openings (take k closed)))) next ∙ push_last (openings (take k closed)) boot)
+    ∙ openings_front closed (suc k) (length (openings (take k closed))) boot
+    (ap (λ (l : List Boot). slice_get l (length (openings (take k closed)))) next ∙ push_last (openings (take k closed)) boot)
 
 -- one actor further: a site more, or none
 
-pub counted_next : (closed : List Left) (k : ℕ) (c : Left) (boot : Boot) → slice_get closed k ≡ Some c → c.opening ≡ Some boot → length (openings (take (k + 1) closed)) ≡ length (openings (take k closed)) + 1
+pub counted_next : (closed : List Left) (k : ℕ) (c : Left) (boot : Boot) → slice_get closed k ≡ Some c → c.opening ≡ Some boot
+    → length (openings (take (k + 1) closed)) ≡ length (openings (take k closed)) + 1
 counted_next closed k c boot is opening =
     let e : k + 1 ≡ suc k = omega arith in
     let n = push_length (openings (take k closed)) boot in
     let all : length (openings (take (k + 1) closed)) ≡ length (openings (take k closed) ++ boot ∷ []) =
-    ap (λ (n : ℕ). length (openings (take n closed))) e ∙ ap length (openings_next closed k c is ∙ ap (λ (o : Option Boot). openings (take k closed) ++ option_to_list o) opening) in
+    ap (λ (n : ℕ). length (openings (take n closed))) e ∙ ap length
+    (openings_next closed k c is ∙ ap (λ (o : Option Boot). openings (take k closed) ++ option_to_list o) opening) in
     omega (arith, all, n)
 
-pub counted_same : (closed : List Left) (k : ℕ) (c : Left) → slice_get closed k ≡ Some c → c.opening ≡ None → length (openings (take (k + 1) closed)) ≡ length (openings (take k closed))
+pub counted_same : (closed : List Left) (k : ℕ) (c : Left) → slice_get closed k ≡ Some c → c.opening ≡ None
+    → length (openings (take (k + 1) closed)) ≡ length (openings (take k closed))
 counted_same closed k c is opening = ap length (sym (cells_same closed (openings (take k closed)) k c is opening refl))
 
-pub far_next : (closed : List Left) (k : ℕ) (c : Left) → slice_get closed k ≡ Some c → AreCounted closed k → ((boot : Boot) → c.opening ≡ Some boot → c.number ≡ 200 + length (openings (take k closed))) → AreCounted closed (k + 1)
+pub far_next : (closed : List Left) (k : ℕ) (c : Left) → slice_get closed k ≡ Some c → AreCounted closed k
+    → ((boot : Boot) → c.opening ≡ Some boot → c.number ≡ 200 + length (openings (take k closed))) → AreCounted closed (k + 1)
 far_next closed k c is before here j d boot low there opening = by (nat_lt j k) refl
   where
     by : (b : Bool) → nat_lt j k ≡ b → d.number ≡ 200 + length (openings (take j closed))

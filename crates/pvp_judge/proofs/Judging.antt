@@ -38,7 +38,8 @@ module _ (closed : List Left) where
       pub ended_means : (judgement : Judgement) → EndsSo closed world judgement → Judges setup closed judgement
       ended_means (Yes by) so = subst (λ (w : Shown MemCell). IsYes setup closed w) (sym so.0) (passed_all so.2 so.1)
       ended_means (No actor event why) so =
-          subst (λ (w : Why). (start : ℕ → PartyState) → AreOpenings party closed start → MeansNo party delivers sent is_for closed start actor event w) (sym so.3)
+          subst (λ (w : Why). (start : ℕ → PartyState) → AreOpenings party closed start
+          → MeansNo party delivers sent is_for closed start actor event w) (sym so.3)
           (λ start opens. (
           let d = so.4 in (
             so.2,

@@ -18,7 +18,8 @@ use Rattle.pvp_judge.proofs.Numbering.{number_found}
 pub number_names : {A N : Type 0} (is_for : A → PartyEvent → Bool) (closed : List (Closed A N PartyEvent PartyOutcome)) → AreInOrder closed → ClocksRise closed
     → (at : List ℕ) (run : List (Tagged PartyEvent PartyOutcome)) → IsMerged closed run at → (numbers : List (List ℕ)) → AreNumbered sent run numbers
     → (post : List Envelope) → post ≡ post_of sent run → length post < 2 ^ 64
-    → (actor : A) (r : Recorded PartyEvent PartyOutcome) → Arrives delivers sent is_for closed run actor r → (number : ℕ) → IsFound closed numbers r.stamp number → Names post number r.event
+    → (actor : A) (r : Recorded PartyEvent PartyOutcome) → Arrives delivers sent is_for closed run actor r → (number : ℕ)
+    → IsFound closed numbers r.stamp number → Names post number r.event
 number_names is_for closed order clocks at run merged numbers numbered post is fits actor r arrives number found = elim arrives [
   | inl none ↦ inl none
   | inr w ↦ (

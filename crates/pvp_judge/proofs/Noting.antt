@@ -29,7 +29,8 @@ module _ {X : Type 0} (f : X → List ℕ) where
   map_put (y ∷ ys) (suc k) z = ap (λ l. f y ∷ l) (map_put ys k z)
 
   -- one number more is noted
-  pub put_more : (xs : List X) (k : ℕ) (x z : X) (first : ℕ) → slice_get xs k ≡ Some x → f z ≡ f x ++ first ∷ [] → map f (slice_set xs k z) ≡ slice_set (map f xs) k (noted_of (map f xs) k ++ first ∷ [])
+  pub put_more : (xs : List X) (k : ℕ) (x z : X) (first : ℕ) → slice_get xs k ≡ Some x → f z ≡ f x ++ first ∷ []
+      → map f (slice_set xs k z) ≡ slice_set (map f xs) k (noted_of (map f xs) k ++ first ∷ [])
   put_more xs k x z first is more = map_put xs k z ∙ ap (slice_set (map f xs) k) (more ∙ ap (λ l. l ++ first ∷ []) (sym (noted_at xs k x is)))
 
   -- where there is no such actor
@@ -45,7 +46,8 @@ module _ {X : Type 0} (f : X → List ℕ) where
   put_same (y ∷ ys) (suc k) x z is same = ap (λ l. f y ∷ l) (put_same ys k x z is same)
 
 -- where keys rise, a key stands at one place
-one_place : {X : Type 0} (key : X → ℕ) (xs : List X) → Rises key xs → (i j : ℕ) (x y : X) → slice_get xs i ≡ Some x → slice_get xs j ≡ Some y → key x ≡ key y → i ≡ j
+one_place : {X : Type 0} (key : X → ℕ) (xs : List X) → Rises key xs → (i j : ℕ) (x y : X) → slice_get xs i ≡ Some x → slice_get xs j ≡ Some y → key x ≡ key y
+    → i ≡ j
 one_place key xs rises i j x y is there same = elim (cases_order i j) [
   | inl e ↦ e
   | inr w ↦ elim w [
@@ -62,7 +64,8 @@ module _ {A N E O : Type 0} (closed : List (Closed A N E O)) (order : AreInOrder
       let one : d.who ≡ e.who = same_some d.who e.who (sym d.is ∙ ap (slice_get closed) (sym here) ∙ e.is) in
       let there : slice_get e.who.history.items i ≡ Some d.what = ap (λ (c : Closed A N E O). slice_get c.history.items i) (sym one) ∙ d.there in (
         here,
-        one_place (λ (r : Recorded E O). r.clock) e.who.history.items (clocks_rise e.who.history.items (clocks by e.who e.is)) place i e.what d.what e.there there (e.clock ∙ sym d.clock),
+        one_place (λ (r : Recorded E O). r.clock) e.who.history.items (clocks_rise e.who.history.items (clocks by e.who e.is)) place i e.what d.what e.there
+            there (e.clock ∙ sym d.clock),
       )
 
   module _ (numbers : List (List ℕ)) (by place : ℕ) (event : IsEventOf closed stamp by place) where
@@ -80,14 +83,17 @@ module _ {A N E O : Type 0} (closed : List (Closed A N E O)) (order : AreInOrder
     pub names_one : (first : ℕ) → slice_get (noted_of numbers by) place ≡ Some first → IsNumber closed numbers stamp (first + stamp.index)
     names_one first is = record { by = by; place = place; event = event; first = first; noted = is; counts = refl }
 
-    pub names_no_other : (first number : ℕ) → slice_get (noted_of numbers by) place ≡ Some first → IsNumber closed numbers stamp number → number ≡ first + stamp.index
+    pub names_no_other : (first number : ℕ) → slice_get (noted_of numbers by) place ≡ Some first → IsNumber closed numbers stamp number
+        → number ≡ first + stamp.index
     names_no_other first number is n = n.counts ∙ ap (λ m. m + stamp.index) (same_some n.first first (sym (noted_here number n) ∙ is))
 
     -- what comes of adding the index, where the sum fits
-    pub sum_named : (first : ℕ) → slice_get (noted_of numbers by) place ≡ Some first → (sum : Option ℕ) → SomeIff sum (first + stamp.index < 2 ^ 64) (first + stamp.index) → IfSome sum (IsNumber closed numbers stamp)
+    pub sum_named : (first : ℕ) → slice_get (noted_of numbers by) place ≡ Some first → (sum : Option ℕ)
+        → SomeIff sum (first + stamp.index < 2 ^ 64) (first + stamp.index) → IfSome sum (IsNumber closed numbers stamp)
     sum_named first is None made = tt
     sum_named first is (Some number) made = subst (IsNumber closed numbers stamp) (sym made.1) (names_one first is)
 
-    pub no_sum_named : (first : ℕ) → slice_get (noted_of numbers by) place ≡ Some first → (sum : Option ℕ) → SomeIff sum (first + stamp.index < 2 ^ 64) (first + stamp.index) → IfNone sum (NamesNone closed numbers stamp)
+    pub no_sum_named : (first : ℕ) → slice_get (noted_of numbers by) place ≡ Some first → (sum : Option ℕ)
+        → SomeIff sum (first + stamp.index < 2 ^ 64) (first + stamp.index) → IfNone sum (NamesNone closed numbers stamp)
     no_sum_named first is None made = λ number low n. made (subst (λ m. m < 2 ^ 64) (names_no_other first number is n) low)
     no_sum_named first is (Some number) made = tt

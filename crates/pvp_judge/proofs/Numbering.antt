@@ -49,7 +49,8 @@ module _ {E O L : Type 0} (sent : O → List L) where
   many_firsts [] k = refl
   many_firsts (t ∷ past) k = go (t.by == k) (many_firsts past k)
     where
-      go : (b : Bool) → length (firsts_of sent past k) ≡ length (own past k) → length (firsts_of sent past k ++ (if b then (length (post_of sent past) + 1) ∷ [] else [])) ≡ length (own past k ++ (if b then t.what ∷ [] else []))
+      go : (b : Bool) → length (firsts_of sent past k) ≡ length (own past k)
+          → length (firsts_of sent past k ++ (if b then (length (post_of sent past) + 1) ∷ [] else [])) ≡ length (own past k ++ (if b then t.what ∷ [] else []))
       go true h =
           let m = length-append (firsts_of sent past k) ((length (post_of sent past) + 1) ∷ []) in
           let n = length-append (own past k) (t.what ∷ []) in
@@ -66,11 +67,14 @@ module _ {E O L : Type 0} (sent : O → List L) where
   is_first : (t : Tagged E O) (past : List (Tagged E O)) (r : Recorded E O) → r ≡ t.what → IsFirst (t ∷ past) r (length (post_of sent past) + 1)
   is_first t past r same = record {
     counted = omega arith;
-    stands = λ j letter at. get_right (post_of sent past) (sent t.what.outcome) j (length (post_of sent past) + 1 + j - 1) (omega arith) ∙ ap (λ (q : Recorded E O). slice_get (sent q.outcome) j) (sym same) ∙ at;
+    stands =
+        λ j letter at. get_right (post_of sent past) (sent t.what.outcome) j (length (post_of sent past) + 1 + j - 1) (omega arith)
+        ∙ ap (λ (q : Recorded E O). slice_get (sent q.outcome) j) (sym same) ∙ at;
   }
 
   -- the number of each event of each actor
-  pub first_number : (run : List (Tagged E O)) (k i : ℕ) (r : Recorded E O) → slice_get (own run k) i ≡ Some r → (first : ℕ) × (slice_get (firsts_of sent run k) i ≡ Some first) × IsFirst run r first
+  pub first_number : (run : List (Tagged E O)) (k i : ℕ) (r : Recorded E O) → slice_get (own run k) i ≡ Some r
+      → (first : ℕ) × (slice_get (firsts_of sent run k) i ≡ Some first) × IsFirst run r first
   first_number [] k i r is = cc
   first_number (t ∷ past) k i r is = go (t.by == k) (first_number past k i r) is
     where
@@ -80,7 +84,8 @@ module _ {E O L : Type 0} (sent : O → List L) where
       old : (more : List ℕ) → IsAt (firsts_of sent past k) past → IsAt (firsts_of sent past k ++ more) (t ∷ past)
       old more f = (f.0, get_left (firsts_of sent past k) more i f.0 f.1, stays_first t past r f.0 f.2)
 
-      go : (b : Bool) → (slice_get (own past k) i ≡ Some r → IsAt (firsts_of sent past k) past) → slice_get (own past k ++ (if b then t.what ∷ [] else [])) i ≡ Some r
+      go : (b : Bool) → (slice_get (own past k) i ≡ Some r → IsAt (firsts_of sent past k) past)
+          → slice_get (own past k ++ (if b then t.what ∷ [] else [])) i ≡ Some r
           → IsAt (firsts_of sent past k ++ (if b then (length (post_of sent past) + 1) ∷ [] else [])) (t ∷ past)
       go true so there = elim (get_pushed (own past k) t.what r i there) [
         | inl e ↦ old ((length (post_of sent past) + 1) ∷ []) (so e)
@@ -93,7 +98,8 @@ module _ {E O L : Type 0} (sent : O → List L) where
       go false so there = old [] (so (ap (λ l. slice_get l i) (sym (append-nil (own past k))) ∙ there))
 
   -- an event more: its number is one more than what the post has before it
-  pub numbered_next : (run : List (Tagged E O)) (numbers : List (List ℕ)) (t : Tagged E O) → t.by < length numbers → AreNumbered sent run numbers → AreNumbered sent (t ∷ run) (slice_set numbers t.by (noted_of numbers t.by ++ (length (post_of sent run) + 1) ∷ []))
+  pub numbered_next : (run : List (Tagged E O)) (numbers : List (List ℕ)) (t : Tagged E O) → t.by < length numbers → AreNumbered sent run numbers
+      → AreNumbered sent (t ∷ run) (slice_set numbers t.by (noted_of numbers t.by ++ (length (post_of sent run) + 1) ∷ []))
   numbered_next run numbers t low so k = go (t.by == k) refl
     where
       now : List (List ℕ)
@@ -102,11 +108,15 @@ module _ {E O L : Type 0} (sent : O → List L) where
       go : (b : Bool) → (t.by == k) ≡ b → noted_of now k ≡ firsts_of sent run k ++ (if b then (length (post_of sent run) + 1) ∷ [] else [])
       go true e =
           subst (λ n. noted_of now n ≡ firsts_of sent run n ++ (length (post_of sent run) + 1) ∷ []) (eqb-true t.by k e)
-          (noted_same numbers t.by (noted_of numbers t.by ++ (length (post_of sent run) + 1) ∷ []) low ∙ ap (λ l. l ++ (length (post_of sent run) + 1) ∷ []) (so t.by))
-      go false e = ap (λ o. unwrap_or o []) (get_set_other numbers t.by k (noted_of numbers t.by ++ (length (post_of sent run) + 1) ∷ []) (eqb-false t.by k e)) ∙ so k ∙ sym (append-nil (firsts_of sent run k))
+          (noted_same numbers t.by (noted_of numbers t.by ++ (length (post_of sent run) + 1) ∷ []) low
+          ∙ ap (λ l. l ++ (length (post_of sent run) + 1) ∷ []) (so t.by))
+      go false e =
+          ap (λ o. unwrap_or o []) (get_set_other numbers t.by k (noted_of numbers t.by ++ (length (post_of sent run) + 1) ∷ []) (eqb-false t.by k e)) ∙ so k
+          ∙ sym (append-nil (firsts_of sent run k))
 
 -- what was sent in a run is what was found
-module _ {A N E O L : Type 0} (sent : O → List L) (closed : List (Closed A N E O)) (order : AreInOrder closed) (clocks : ClocksRise closed) (at : List ℕ) (run : List (Tagged E O)) (merged : IsMerged closed run at) (numbers : List (List ℕ)) (numbered : AreNumbered sent run numbers) where
+module _ {A N E O L : Type 0} (sent : O → List L) (closed : List (Closed A N E O)) (order : AreInOrder closed) (clocks : ClocksRise closed) (at : List ℕ)
+    (run : List (Tagged E O)) (merged : IsMerged closed run at) (numbers : List (List ℕ)) (numbered : AreNumbered sent run numbers) where
   -- an event of the run is an event of its actor
   of_history : (k i : ℕ) (r : Recorded E O) → slice_get (own run k) i ≡ Some r → slice_get (history_of closed k) i ≡ Some r
   of_history k i r there = taken (history_of closed k) (slice_index at k) i (ap (λ l. slice_get l i) (sym (merged.each k)) ∙ there)
@@ -118,14 +128,16 @@ module _ {A N E O L : Type 0} (sent : O → List L) (closed : List (Closed A N E
       taken (x ∷ xs) (suc n) zero e = e
       taken (x ∷ xs) (suc n) (suc i) e = taken xs n i e
 
-  module _ (stamp : Stamp) (by place : ℕ) (what : Recorded E O) (there : slice_get (own run by) place ≡ Some what) (number_is : number_in (slice_get closed by) ≡ stamp.actor) (clock : what.clock ≡ stamp.clock) where
+  module _ (stamp : Stamp) (by place : ℕ) (what : Recorded E O) (there : slice_get (own run by) place ≡ Some what)
+      (number_is : number_in (slice_get closed by) ≡ stamp.actor) (clock : what.clock ≡ stamp.clock) where
     event_named : IsEventOf closed stamp by place
     event_named =
         let who = who_took closed by place what (of_history by place what there) in
         record { who = who.0; is = who.1; actor = sym (ap number_in who.1) ∙ number_is; what = what; there = who.2; clock = clock }
 
     -- the number that is found for a stamp is that of the envelope that the event sent at its index
-    pub number_found : (letter : L) → slice_get (sent what.outcome) stamp.index ≡ Some letter → length (post_of sent run) < 2 ^ 64 → (number : ℕ) → IsFound closed numbers (Some stamp) number
+    pub number_found : (letter : L) → slice_get (sent what.outcome) stamp.index ≡ Some letter → length (post_of sent run) < 2 ^ 64 → (number : ℕ)
+        → IsFound closed numbers (Some stamp) number
         → (0 < number) × (slice_get (post_of sent run) (number - 1) ≡ Some letter)
     number_found letter sends fits number found =
         let f = first_number sent run by place what there in
@@ -137,5 +149,6 @@ module _ {A N E O L : Type 0} (sent : O → List L) (closed : List (Closed A N E
           | inl n ↦ (
               let is = names_no_other closed order clocks stamp numbers by place event_named f.0 number noted n in
               (omega (arith, is, counted), ap (λ m. slice_get (post_of sent run) (m - 1)) is ∙ stands))
-          | inr w ↦ absurd (w.1 (f.0 + stamp.index) (omega (arith, within, fits, counted)) (names_one closed order clocks stamp numbers by place event_named f.0 noted))
+          | inr w ↦ absurd (w.1 (f.0 + stamp.index) (omega (arith, within, fits, counted))
+              (names_one closed order clocks stamp numbers by place event_named f.0 noted))
         ]

@@ -55,7 +55,8 @@ pub record IsBy (setup : Setup) (e : Party) (boot : Option Boot) (x : PartyState
   pub right : IsRight (faults setup) choose
   pub is : x ≡ opened setup choose e boot
 
-opened_by : (setup : Setup) (some : Choice Cmd) → IsRight (faults setup) some → (e : Party) (boot : Option Boot) (x : PartyState) → setup_of e ≡ setup → OpenedOver e boot → Opens e boot x → IsBy setup e boot x
+opened_by : (setup : Setup) (some : Choice Cmd) → IsRight (faults setup) some → (e : Party) (boot : Option Boot) (x : PartyState) → setup_of e ≡ setup
+    → OpenedOver e boot → Opens e boot x → IsBy setup e boot x
 opened_by setup some right (party_of.Site p) (Some boot) (AtSite x) same by o = record {
   choose = x.choose;
   right = subst (λ (f : ℕ). IsRight f x.choose) (o.is.f ∙ ap faults same) o.is.right;
@@ -103,7 +104,8 @@ pub record IsPassing (setup : Setup) (closed : List Left) (at : List ℕ) (numbe
   pub some : SomeRight (faults setup)
 
 -- the sites of a world over such cells
-pub reliable_sites : (sites : List Site) (cells : List MemCell) → map (λ v. v.cell) sites ≡ cells → AllAre IsReliable cells → (i : ℕ) (v : Site) → slice_get sites i ≡ Some v → IsReliable v.cell
+pub reliable_sites : (sites : List Site) (cells : List MemCell) → map (λ v. v.cell) sites ≡ cells → AllAre IsReliable cells → (i : ℕ) (v : Site)
+    → slice_get sites i ≡ Some v → IsReliable v.cell
 reliable_sites sites cells over all i v is = all i v.cell (ap (λ l. slice_get l i) (sym over) ∙ mapped sites i is)
   where
     mapped : (xs : List Site) (i : ℕ) → slice_get xs i ≡ Some v → slice_get (map (λ v. v.cell) xs) i ≡ Some v.cell
@@ -113,15 +115,18 @@ reliable_sites sites cells over all i v is = all i v.cell (ap (λ l. slice_get l
 
 module _ (setup : Setup) (closed : List Left) (order : AreInOrder closed) (all : AreOfBank setup closed) (clocks : ClocksRise closed)
     (one_bank : (setup : Setup) (f : ℕ) (a b : LegalList setup f) → a.cells ≡ b.cells → a.moves ≡ b.moves → a.bank ≡ b.bank) where
-  pub passing_none : OpensInOrder closed → (at : List ℕ) (numbers : List (List ℕ)) (world : Shown MemCell) → ((k : ℕ) → slice_index at k ≡ 0) → numbers ≡ replicate (length closed) []
-      → world.setup ≡ setup → world.opening ≡ openings closed → world.trail ≡ [] → IsProved held_by world → AreReliable memory world → IsPassing setup closed at numbers world
+  pub passing_none : OpensInOrder closed → (at : List ℕ) (numbers : List (List ℕ)) (world : Shown MemCell) → ((k : ℕ) → slice_index at k ≡ 0)
+      → numbers ≡ replicate (length closed) []
+      → world.setup ≡ setup → world.opening ≡ openings closed → world.trail ≡ [] → IsProved held_by world → AreReliable memory world
+      → IsPassing setup closed at numbers world
   passing_none opened at numbers world none is made cells nothing proved reliable = record {
     tells = telling_none setup (openings closed) closed at world none made cells nothing;
     follows = λ choose right. follows_none setup closed choose right all opened world made cells nothing proved reliable;
     legal = λ start opens. tt;
     numbered = subst (λ (l : List (List ℕ)). AreNumbered {E = PartyEvent} sent [] l) (sym is) (numbered_none PartyEvent sent (length closed));
     counted = ap length is ∙ many (length closed);
-    some = record { choose = proved.is_at.list.choose; right = subst (λ (s : Setup). IsRight (faults s) proved.is_at.list.choose) made proved.is_at.list.right };
+    some =
+        record { choose = proved.is_at.list.choose; right = subst (λ (s : Setup). IsRight (faults s) proved.is_at.list.choose) made proved.is_at.list.right };
   }
     where
       many : (n : ℕ) → length (replicate {A = List ℕ} n []) ≡ n
@@ -132,7 +137,8 @@ module _ (setup : Setup) (closed : List Left) (order : AreInOrder closed) (all :
     by : (start : ℕ → PartyState) → AreOpenings party closed start → (k : ℕ) (c : Left) → slice_get closed k ≡ Some c → IsBy setup c.end c.opening (start k)
     by start opens k c is = opened_by setup p.some.choose p.some.right c.end c.opening (start k) (all k c is).made_from (all k c is).opened (opens k c is)
 
-    by_start : (start : ℕ → PartyState) (opens : AreOpenings party closed start) (k : ℕ) (c : Left) (is : slice_get closed k ≡ Some c) → start k ≡ start_of setup (by start opens k c is).choose closed k
+    by_start : (start : ℕ → PartyState) (opens : AreOpenings party closed start) (k : ℕ) (c : Left) (is : slice_get closed k ≡ Some c)
+        → start k ≡ start_of setup (by start opens k c is).choose closed k
     by_start start opens k c is =
         let b = by start opens k c is in
         b.is ∙ ap (λ (o : Option Left). start_in setup b.choose o) (sym is)
@@ -158,7 +164,8 @@ module _ (setup : Setup) (closed : List Left) (order : AreInOrder closed) (all :
 
     module _ (k : ℕ) (next : IsNextActor closed at k) (one : Left) (is : slice_get closed k ≡ Some one) (event : ℕ) (count : event ≡ slice_index at k + 1) where
       -- what the next event delivers is not what its stamp names
-      pub passing_stamped : ¬ IsNamed delivers sent is_for closed at one.end next.what → OfOpenings closed (λ start. HasFailed party delivers sent is_for closed start k event Stamped)
+      pub passing_stamped : ¬ IsNamed delivers sent is_for closed at one.end next.what
+          → OfOpenings closed (λ start. HasFailed party delivers sent is_for closed start k event Stamped)
       passing_stamped never start opens = cannot_arrive party delivers sent is_for closed clocks start at (progress start opens) k next one is event count never
 
       own_is : own p.tells.run k ≡ take (slice_index at k) one.history.items
@@ -172,35 +179,45 @@ module _ (setup : Setup) (closed : List Left) (order : AreInOrder closed) (all :
         passing_mine = elim arrives [ inl none ↦ inl none | inr w ↦ inr w.2 ]
 
         pub passing_named : length world.post < 2 ^ 64 → (number : ℕ) → IsFound closed numbers next.what.stamp number → Names world.post number next.what.event
-        passing_named fits number found = number_names is_for closed order clocks at p.tells.run p.tells.merged numbers p.numbered world.post post_is fits one.end next.what arrives number found
+        passing_named fits number found =
+            number_names is_for closed order clocks at p.tells.run p.tells.merged numbers p.numbered world.post post_is fits one.end
+            next.what arrives number found
 
         -- whether it comes out so is told of each state to which a right choice leads
         module _ (can : Bool) (so : ComesSo world one.end next.what can) where
-          told_by : (choose : Choice Cmd) (right : IsRight (faults setup) choose) → IsTrue can ↔ Comes (replay after (own p.tells.run k) (start_of setup choose closed k)) next.what.event next.what.outcome
+          told_by : (choose : Choice Cmd) (right : IsRight (faults setup) choose)
+              → IsTrue can ↔ Comes (replay after (own p.tells.run k) (start_of setup choose closed k)) next.what.event next.what.outcome
           told_by choose right = told_here setup closed choose right order all p.tells.run world (p.follows choose right) one_bank k one is next.what can so
 
-          told_of : (start : ℕ → PartyState) → AreOpenings party closed start → IsTrue can ↔ Comes (replay after (own p.tells.run k) (start k)) next.what.event next.what.outcome
+          told_of : (start : ℕ → PartyState) → AreOpenings party closed start
+              → IsTrue can ↔ Comes (replay after (own p.tells.run k) (start k)) next.what.event next.what.outcome
           told_of start opens =
               let b = by start opens k one is in
-              subst (λ (x : PartyState). IsTrue can ↔ Comes (replay after (own p.tells.run k) x) next.what.event next.what.outcome) (sym (by_start start opens k one is)) (told_by b.choose b.right)
+              subst (λ (x : PartyState). IsTrue can ↔ Comes (replay after (own p.tells.run k) x) next.what.event next.what.outcome)
+              (sym (by_start start opens k one is)) (told_by b.choose b.right)
 
           pub passing_answered : can ≡ false → OfOpenings closed (λ start. HasFailed party delivers sent is_for closed start k event Answered)
           passing_answered off start opens =
               cannot_come party delivers sent is_for closed clocks start at (progress start opens) k next one is event count named
               (λ come. true≢false (sym ((told_of start opens).1
-              (subst (λ (l : List (Recorded PartyEvent PartyOutcome)). Comes (replay after l (start k)) next.what.event next.what.outcome) (sym own_is) come)) ∙ off))
+              (subst (λ (l : List (Recorded PartyEvent PartyOutcome)). Comes (replay after l (start k)) next.what.event next.what.outcome) (sym own_is) come))
+              ∙ off))
 
           -- it goes on with the next event
-          pub passing_next : can ≡ true → length world.post < 2 ^ 64 → (now : List ℕ) → IsStepped at now k → (number : ℕ) → IsFound closed numbers next.what.stamp number
+          pub passing_next : can ≡ true → length world.post < 2 ^ 64 → (now : List ℕ) → IsStepped at now k → (number : ℕ)
+              → IsFound closed numbers next.what.stamp number
               → (new : Shown MemCell) → GoesBy held_by world new (move_of one.number next.what number) → IsProved held_by new → AreReliable memory new
               → (more : List (List ℕ)) → more ≡ slice_set numbers k (noted_of numbers k ++ (length world.post + 1) ∷ []) → IsPassing setup closed now more new
           passing_next on fits now stepped number found new goes proved reliable more is_more =
               let low = next.within in
               let counted = p.counted in
               record {
-                tells = telling_next setup (openings closed) closed order clocks at world p.tells k next now stepped one is next.what refl number new (passing_named fits number found) goes;
+                tells =
+                    telling_next setup (openings closed) closed order clocks at world p.tells k next now stepped one is next.what refl number new
+                    (passing_named fits number found) goes;
                 follows = λ choose right.
-                    follows_next setup closed choose right order all p.tells.run world (p.follows choose right) one_bank k one is next.what number ((told_by choose right).0 on) passing_mine
+                    follows_next setup closed choose right order all p.tells.run world (p.follows choose right) one_bank k one is next.what number
+                    ((told_by choose right).0 on) passing_mine
                     (passing_named fits number found) new goes proved reliable;
                 legal = λ start opens. (p.legal start opens, record { who = one; is = is; arrives = arrives; comes = (told_of start opens).0 on });
                 numbered = subst (λ (l : List (List ℕ)). AreNumbered sent (record { by = k; what = next.what } ∷ p.tells.run) l)
@@ -222,6 +239,7 @@ module _ (setup : Setup) (closed : List Left) (order : AreInOrder closed) (all :
         legal = λ start opens. record { run = p.tells.run; sorted = p.tells.merged.sorted; each = each; legal = p.legal start opens };
         reads = λ start opens k c is. (
             let b = by start opens k c is in
-            subst (λ (x : PartyState). Reads memory c.end (replay after c.history.items x) ↔ ReadsWorld world c.number c.end) (sym (by_start start opens k c is))
+            subst (λ (x : PartyState). Reads memory c.end (replay after c.history.items x) ↔ ReadsWorld world c.number c.end)
+            (sym (by_start start opens k c is))
             (reads_same setup closed b.choose b.right order all p.tells.run world (p.follows b.choose b.right) one_bank each k c is));
       }

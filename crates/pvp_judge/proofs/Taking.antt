@@ -98,11 +98,13 @@ module _ (setup : Setup) (list : LegalList setup (faults setup)) where
     site_step = sites.step_in (site_at setup list.choose i y) e
 
     -- it refuses, so it neither takes its step nor falls
-    pub refused_not_did : (why : SiteFault) → refusal {R = Answer} {O = PaymentOrder} f i y e ≡ Some why → (sent : List Envelope) (dropped : Option Why) → ¬ sites.Comes book (site_at setup list.choose i y) e (Did sent dropped)
+    pub refused_not_did : (why : SiteFault) → refusal {R = Answer} {O = PaymentOrder} f i y e ≡ Some why → (sent : List Envelope) (dropped : Option Why)
+        → ¬ sites.Comes book (site_at setup list.choose i y) e (Did sent dropped)
     refused_not_did why refused sent dropped come =
         none-some why (sym (allowed_free setup list.choose i y e (ap is_refused come.ending ∙ ended_allowed dropped)) ∙ refused)
 
-    pub refused_not_fell : (why : SiteFault) → refusal {R = Answer} {O = PaymentOrder} f i y e ≡ Some why → (for : SiteFault) (cell : Boot) → ¬ sites.Comes book (site_at setup list.choose i y) e (Fell for cell)
+    pub refused_not_fell : (why : SiteFault) → refusal {R = Answer} {O = PaymentOrder} f i y e ≡ Some why → (for : SiteFault) (cell : Boot)
+        → ¬ sites.Comes book (site_at setup list.choose i y) e (Fell for cell)
     refused_not_fell why refused for cell come = none-some why (sym (allowed_free setup list.choose i y e come.0.allowed) ∙ refused)
 
     module _ (number : ℕ) (named : Names bank.post number (party_event.OfSite e)) (free : refusal {R = Answer} {O = PaymentOrder} f i y e ≡ None) where
@@ -112,24 +114,30 @@ module _ (setup : Setup) (list : LegalList setup (faults setup)) where
       has_turn : turn bank.post step ≡ Some (OfSite i e)
       has_turn = site_turn setup list.choose bank.post number i y e free named
 
-      pub site_did : (sent : List Envelope) (dropped : Option Why) → StepsSo list step sent dropped → sites.Comes book (site_at setup list.choose i y) e (Did sent dropped)
+      pub site_did : (sent : List Envelope) (dropped : Option Why) → StepsSo list step sent dropped
+          → sites.Comes book (site_at setup list.choose i y) e (Did sent dropped)
       site_did sent dropped s =
-          subst (λ (t : Turn). (a : Acts setup list.choose f bank t s.after) → dropped_in setup list.choose f bank t s.after a ≡ dropped → sites.Comes book (site_at setup list.choose i y) e (Did sent dropped))
+          subst (λ (t : Turn). (a : Acts setup list.choose f bank t s.after) → dropped_in setup list.choose f bank t s.after a ≡ dropped
+          → sites.Comes book (site_at setup list.choose i y) e (Did sent dropped))
           (some-same (OfSite i e) s.leads.turn_is (sym has_turn ∙ s.leads.has_turn))
           (λ a why. (
           let before : a.before ≡ y = some-same a.before y (sym a.is_there ∙ is) in
           let put : bank.post ++ sent ≡ bank.post ++ envelopes book (opening setup) i site_step =
           sym s.sends ∙ ap (λ (b : Bank). b.post) a.leads
           ∙ ap (λ (x : Site Cmd). bank.post ++ envelopes book (opening setup) i (sites.step_in (site_at setup list.choose i x) e)) before in
-          let allowed : is_refused site_step.ending ≡ false = ap (λ (x : Site Cmd). is_refused (sites.step_in {R = Answer} {O = PaymentOrder} (site_at setup list.choose i x) e).ending) (sym before) ∙ a.allowed in
-          let told : dropped_as site_step.ending ≡ dropped = ap (λ (x : Site Cmd). dropped_as (sites.step_in {R = Answer} {O = PaymentOrder} (site_at setup list.choose i x) e).ending) (sym before) ∙ why in
+          let allowed : is_refused site_step.ending ≡ false =
+          ap (λ (x : Site Cmd). is_refused (sites.step_in {R = Answer} {O = PaymentOrder} (site_at setup list.choose i x) e).ending)
+          (sym before) ∙ a.allowed in
+          let told : dropped_as site_step.ending ≡ dropped =
+          ap (λ (x : Site Cmd). dropped_as (sites.step_in {R = Answer} {O = PaymentOrder} (site_at setup list.choose i x) e).ending) (sym before) ∙ why in
           record {
             sends = append_cancel_left bank.post sent (envelopes book (opening setup) i site_step) put;
             ending = ended_as site_step.ending allowed dropped told;
           }))
           s.leads.acts s.drops
 
-      pub site_does : (sent : List Envelope) (dropped : Option Why) → sites.Comes book (site_at setup list.choose i y) e (Did sent dropped) → StepsSo list step sent dropped
+      pub site_does : (sent : List Envelope) (dropped : Option Why) → sites.Comes book (site_at setup list.choose i y) e (Did sent dropped)
+          → StepsSo list step sent dropped
       site_does sent dropped come = record {
         after = with_site bank i site_step.site (envelopes book (opening setup) i site_step);
         leads = record {
@@ -145,7 +153,8 @@ module _ (setup : Setup) (list : LegalList setup (faults setup)) where
       site_fell cell s =
           subst (λ (t : Turn). FallsBy setup list.choose f bank t cell s.0 → IsFall y site_step (over cell Down))
           (some-same (OfSite i e) s.1.turn_is (sym has_turn ∙ s.1.has_turn))
-          (λ a. subst (λ (x : Site Cmd). IsFall x (sites.step_in (site_at setup list.choose i x) e) (over cell Down)) (some-same a.before y (sym a.is_there ∙ is)) a.falls)
+          (λ a. subst (λ (x : Site Cmd). IsFall x (sites.step_in (site_at setup list.choose i x) e) (over cell Down))
+          (some-same a.before y (sym a.is_there ∙ is)) a.falls)
           s.1.falls
 
       pub site_falls : (cell : Boot) → IsFall y site_step (over cell Down) → FallsSo list step cell
@@ -172,10 +181,12 @@ module _ (setup : Setup) (list : LegalList setup (faults setup)) where
     at_node = node_at setup list.choose c y
 
     -- what is not addressed to it, it refuses
-    pub node_elsewhere : ¬ ((letter : Envelope) → e ≡ node_event.Takes letter → letter.to ≡ node_of c) → (node_step setup f c y e).fault ≡ Some node_fault.NotMine
+    pub node_elsewhere : ¬ ((letter : Envelope) → e ≡ node_event.Takes letter → letter.to ≡ node_of c)
+        → (node_step setup f c y e).fault ≡ Some node_fault.NotMine
     node_elsewhere off = by e off
       where
-        by : (q : NodeEvent) → ¬ ((letter : Envelope) → q ≡ node_event.Takes letter → letter.to ≡ node_of c) → (node_step setup f c y q).fault ≡ Some node_fault.NotMine
+        by : (q : NodeEvent) → ¬ ((letter : Envelope) → q ≡ node_event.Takes letter → letter.to ≡ node_of c)
+            → (node_step setup f c y q).fault ≡ Some node_fault.NotMine
         by (node_event.PaysIn member amt) off = absurd (off (λ letter same. absurd (cc)))
         by (node_event.Closes member) off = absurd (off (λ letter same. absurd (cc)))
         by node_event.Beats off = absurd (off (λ letter same. absurd (cc)))
@@ -184,22 +195,26 @@ module _ (setup : Setup) (list : LegalList setup (faults setup)) where
             same_letter : (letter : Envelope) → node_event.Takes found ≡ node_event.Takes letter → found ≡ letter
             same_letter letter same = cc
 
-            go : (mine : Bool) → (found.to == node_of c) ≡ mine → (if not mine then refuses y node_fault.NotMine else on_message setup f c y found.msg).fault ≡ Some node_fault.NotMine
+            go : (mine : Bool) → (found.to == node_of c) ≡ mine
+                → (if not mine then refuses y node_fault.NotMine else on_message setup f c y found.msg).fault ≡ Some node_fault.NotMine
             go true at = absurd (off (λ letter same. ap (λ (l : Envelope). l.to) (sym (same_letter letter same)) ∙ eqb-true found.to (node_of c) at))
             go false at = refl
 
-    pub elsewhere_comes : (node_step setup f c y e).fault ≡ Some node_fault.NotMine → (told : Result (List Envelope) NodeFault) → (told ≡ Err node_fault.NoMemory) ⊎ (told ≡ Err node_fault.NotMine) → nodes.Comes at_node e told
+    pub elsewhere_comes : (node_step setup f c y e).fault ≡ Some node_fault.NotMine → (told : Result (List Envelope) NodeFault)
+        → (told ≡ Err node_fault.NoMemory) ⊎ (told ≡ Err node_fault.NotMine) → nodes.Comes at_node e told
     unfolding node.step_of
     elsewhere_comes refused told (inl same) = subst (λ (t : Result (List Envelope) NodeFault). nodes.Comes at_node e t) (sym same) (inl refl)
     elsewhere_comes refused told (inr same) = subst (λ (t : Result (List Envelope) NodeFault). nodes.Comes at_node e t) (sym same) (inr refused)
 
-    pub comes_elsewhere : (node_step setup f c y e).fault ≡ Some node_fault.NotMine → (told : Result (List Envelope) NodeFault) → nodes.Comes at_node e told → (told ≡ Err node_fault.NoMemory) ⊎ (told ≡ Err node_fault.NotMine)
+    pub comes_elsewhere : (node_step setup f c y e).fault ≡ Some node_fault.NotMine → (told : Result (List Envelope) NodeFault) → nodes.Comes at_node e told
+        → (told ≡ Err node_fault.NoMemory) ⊎ (told ≡ Err node_fault.NotMine)
     unfolding node.step_of
     comes_elsewhere refused (Ok sent) come = absurd (none-some node_fault.NotMine (sym come.allowed ∙ refused))
     comes_elsewhere refused (Err why) (inl same) = inl (ap (λ (w : NodeFault). Err w) same)
     comes_elsewhere refused (Err why) (inr same) = inr (ap (λ (w : NodeFault). Err w) (some-same why node_fault.NotMine (sym same ∙ refused)))
 
-    module _ (number : ℕ) (named : Names bank.post number (party_event.OfNode e)) (low : c < 99) (mine : (letter : Envelope) → e ≡ node_event.Takes letter → letter.to ≡ node_of c) where
+    module _ (number : ℕ) (named : Names bank.post number (party_event.OfNode e)) (low : c < 99)
+        (mine : (letter : Envelope) → e ≡ node_event.Takes letter → letter.to ≡ node_of c) where
       abbrev to_node_step : Step
       to_node_step = moves.node_step (101 + c) e number
 
@@ -238,14 +253,16 @@ module _ (setup : Setup) (list : LegalList setup (faults setup)) where
       unfolding node.step_of
       node_refused why told = inr (node_told (node_step setup f c y e).fault why (sym refuses_as ∙ told))
 
-      pub node_refuses_so : (why : NodeFault) → why ≢ node_fault.NoMemory → nodes.Comes at_node e (Err why) → bank_refuses setup f bank to_node_step ≡ Some (fault.Node why)
+      pub node_refuses_so : (why : NodeFault) → why ≢ node_fault.NoMemory → nodes.Comes at_node e (Err why)
+          → bank_refuses setup f bank to_node_step ≡ Some (fault.Node why)
       unfolding node.step_of
       node_refuses_so why off (inl same) = absurd (off same)
       node_refuses_so why off (inr same) = refuses_as ∙ ap (λ (o : Option NodeFault). option_map (λ (w : NodeFault). fault.Node w) o) same
 
   -- A CLIENT
 
-  module _ (k : ℕ) (y : Client) (is : slice_get bank.clients k ≡ Some y) (e : ClientEvent) (number : ℕ) (named : Names bank.post number (party_event.OfClient e)) (low : k < 101)
+  module _ (k : ℕ) (y : Client) (is : slice_get bank.clients k ≡ Some y) (e : ClientEvent) (number : ℕ)
+      (named : Names bank.post number (party_event.OfClient e)) (low : k < 101)
       (mine : (letter : Envelope) → e ≡ client_event.Takes letter → letter.to ≡ k) where
     abbrev at_client : client.Shown
     at_client = client_at setup list.choose k y
@@ -285,6 +302,7 @@ module _ (setup : Setup) (list : LegalList setup (faults setup)) where
     pub client_refused : (why : ClientFault) → bank_refuses setup f bank to_client ≡ Some (told_as why) → clients.Comes at_client e (Err why)
     client_refused why told = inr (client_told (client_step f k y e).fault why (sym client_refuses_as ∙ told))
 
-    pub client_refuses_so : (why : ClientFault) → why ≢ client_fault.NoMemory → clients.Comes at_client e (Err why) → bank_refuses setup f bank to_client ≡ Some (told_as why)
+    pub client_refuses_so : (why : ClientFault) → why ≢ client_fault.NoMemory → clients.Comes at_client e (Err why)
+        → bank_refuses setup f bank to_client ≡ Some (told_as why)
     client_refuses_so why off (inl same) = absurd (off same)
     client_refuses_so why off (inr same) = client_refuses_as ∙ ap (λ (o : Option ClientFault). option_map told_as o) same

@@ -19,7 +19,8 @@ use Rattle.pvp_judge.specs.Retold.{Names, GoesBy, IsTelling, WentThrough}
 
 module _ {A N : Type 0} (setup : Setup) (cells : List Boot) (closed : List (Closed A N PartyEvent PartyOutcome)) where
   -- a new world, before any event
-  abbrev pub telling_none : (at : List ℕ) (world : Shown MemCell) → ((k : ℕ) → slice_index at k ≡ 0) → world.setup ≡ setup → world.opening ≡ cells → world.trail ≡ []
+  abbrev pub telling_none : (at : List ℕ) (world : Shown MemCell) → ((k : ℕ) → slice_index at k ≡ 0) → world.setup ≡ setup → world.opening ≡ cells
+      → world.trail ≡ []
       → IsTelling setup cells closed at world
   telling_none at world none made opened trailed = record {
     first = world;
@@ -33,7 +34,8 @@ module _ {A N : Type 0} (setup : Setup) (cells : List Boot) (closed : List (Clos
 
   module _ (order : AreInOrder closed) (clocks : ClocksRise closed) (at : List ℕ) (world : Shown MemCell) (p : IsTelling setup cells closed at world) where
     -- the next event of all
-    abbrev pub telling_next : (k : ℕ) (next : IsNextActor closed at k) (now : List ℕ) → IsStepped at now k → (one : Closed A N PartyEvent PartyOutcome) → slice_get closed k ≡ Some one
+    abbrev pub telling_next : (k : ℕ) (next : IsNextActor closed at k) (now : List ℕ) → IsStepped at now k → (one : Closed A N PartyEvent PartyOutcome)
+        → slice_get closed k ≡ Some one
         → (r : Recorded PartyEvent PartyOutcome) → next.what ≡ r → (number : ℕ) (after : Shown MemCell)
         → Names world.post number r.event → GoesBy held_by world after (move_of one.number r number)
         → IsTelling setup cells closed now after

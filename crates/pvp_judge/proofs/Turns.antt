@@ -19,7 +19,8 @@ pub record IsTurn {A N E O : Type 0} (closed : List (Closed A N E O)) (at : List
 
 module _ {A N E O : Type 0} (closed : List (Closed A N E O)) (at : List ℕ) (k place : ℕ) (one : Closed A N E O) where
   -- at was read as a slice
-  pub turn : (slice : List ℕ) → slice ≡ at → length at ≡ length closed → IsNextActor closed slice k → one ≡ get_or closed k one → place ≡ get_or at k place → IsTurn closed at k place one
+  pub turn : (slice : List ℕ) → slice ≡ at → length at ≡ length closed → IsNextActor closed slice k → one ≡ get_or closed k one → place ≡ get_or at k place
+      → IsTurn closed at k place one
   turn slice same many next_slice read at_k =
       let next : IsNextActor closed at k = subst (λ l. IsNextActor closed l k) same next_slice in
       let p = next_place closed at k place one many next read at_k in

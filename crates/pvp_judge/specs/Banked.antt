@@ -45,7 +45,8 @@ actor_count setup = length setup.members + 1 + length setup.currencies + (2 * fa
 -- its sites are all there: where n of them stand before it, one has the number 200 + n
 pub record HasItsSites (setup : Setup) (closed : List Left) : Type 0 where
   pub all : length (openings closed) ≡ 2 * faults setup + 1
-  pub numbered : (k : ℕ) (c : Left) (boot : Boot) → slice_get closed k ≡ Some c → c.opening ≡ Some boot → c.number ≡ FIRST_SITE + length (openings (take k closed))
+  pub numbered : (k : ℕ) (c : Left) (boot : Boot) → slice_get closed k ≡ Some c → c.opening ≡ Some boot
+      → c.number ≡ FIRST_SITE + length (openings (take k closed))
 
 -- what all actors of one bank left: as many as it has, in order of their numbers, each of its setup
 pub record IsTheBank (setup : Setup) (closed : List Left) : Type 0 where
@@ -56,7 +57,8 @@ pub record IsTheBank (setup : Setup) (closed : List Left) : Type 0 where
 
 -- what the sites opened over stands in order of their numbers
 abbrev pub OpensInOrder : List Left → Type 0
-OpensInOrder closed = (k : ℕ) (c : Left) → slice_get closed k ≡ Some c → (site : ℕ) (boot : Boot) → c.number ≡ FIRST_SITE + site → c.opening ≡ Some boot → slice_get (openings closed) site ≡ Some boot
+OpensInOrder closed = (k : ℕ) (c : Left) → slice_get closed k ≡ Some c → (site : ℕ) (boot : Boot)
+    → c.number ≡ FIRST_SITE + site → c.opening ≡ Some boot → slice_get (openings closed) site ≡ Some boot
 
 -- each of these is so
 abbrev pub AllAre : {X : Type 0} → (X → Type 0) → List X → Type 0

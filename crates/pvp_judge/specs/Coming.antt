@@ -1,4 +1,5 @@
--- Whether the bank to which a list leads takes a step so, and whether an event comes out at a world's actor as it is recorded.
+-- Whether the bank to which a list leads takes a step so, and whether an event comes out at a world's actor as it is
+-- recorded.
 use Rattle.std.specs.Prelude.{◌≡◌, ◌↔◌, ℕ, IsTrue, Bool, List, ◌++◌, slice_get, Option, Some, Result}
 use Rattle.pvp_types.specs.declared.setup.Setup.{Setup}
 use Rattle.pvp_types.specs.declared.command.Cmd.{Cmd}
@@ -39,7 +40,8 @@ use Rattle.pvp_parties.specs.Parties.{Party, PartyState, AtSite, AtNode, AtClien
 -- WHAT A BANK DOES WITH A STEP
 
 -- it takes the step, sends this, and drops the event for this reason
-pub record StepsSo {setup : Setup} (list : LegalList setup (faults setup)) (step : Step) (sent : List Envelope) (dropped : Option Why) : Type 0 where
+pub record StepsSo {setup : Setup} (list : LegalList setup (faults setup)) (step : Step) (sent : List Envelope)
+    (dropped : Option Why) : Type 0 where
   pub after : Bank
   pub leads : Steps setup list.choose (faults setup) list.bank step after
   pub sends : after.post ≡ list.bank.post ++ sent
@@ -63,20 +65,32 @@ module _ (setup : Setup) (choose : Choice Cmd) where
 
   -- the bank's actor of this one's kind and place is in this state
   abbrev pub IsThere : Bank → Party → PartyState → Type 0
-  IsThere bank (party_of.Site p) x = (y : Site Cmd) × (x ≡ AtSite (site_at p.place y)) × (slice_get bank.sites p.place ≡ Some y)
-  IsThere bank (party_of.Node p) x = (y : Node) × (x ≡ AtNode (node_at p.place y)) × (slice_get bank.nodes p.place ≡ Some y)
-  IsThere bank (party_of.Client p) x = (y : Client) × (x ≡ AtClient (client_at p.place y)) × (slice_get bank.clients p.place ≡ Some y)
+  IsThere bank (party_of.Site p) x =
+      (y : Site Cmd) × (x ≡ AtSite (site_at p.place y)) × (slice_get bank.sites p.place ≡ Some y)
+  IsThere bank (party_of.Node p) x =
+      (y : Node) × (x ≡ AtNode (node_at p.place y)) × (slice_get bank.nodes p.place ≡ Some y)
+  IsThere bank (party_of.Client p) x =
+      (y : Client) × (x ≡ AtClient (client_at p.place y)) × (slice_get bank.clients p.place ≡ Some y)
 
 -- WHETHER AN EVENT COMES OUT SO at an actor of a world, whatever right choices its sites take
 
-abbrev pub SiteComes : Shown MemCell → ℕ → EventOf Cmd Answer PaymentOrder → CameOf Cmd Answer PaymentOrder → Bool → Type 0
-SiteComes world place event came can = OfTrail world (λ list. (y : Site Cmd) → slice_get list.bank.sites place ≡ Some y → IsTrue can ↔ sites.Comes book (site_at world.setup list.choose place y) event came)
+abbrev pub SiteComes : Shown MemCell → ℕ → EventOf Cmd Answer PaymentOrder → CameOf Cmd Answer PaymentOrder → Bool
+    → Type 0
+SiteComes world place event came can =
+    OfTrail world (λ list. (y : Site Cmd) → slice_get list.bank.sites place ≡ Some y
+    → IsTrue can ↔ sites.Comes book (site_at world.setup list.choose place y) event came)
 
 abbrev pub NodeComes : Shown MemCell → ℕ → NodeEvent → Result (List Envelope) NodeFault → Bool → Type 0
-NodeComes world place event told can = OfTrail world (λ list. (y : Node) → slice_get list.bank.nodes place ≡ Some y → IsTrue can ↔ nodes.Comes (node_at world.setup list.choose place y) event told)
+NodeComes world place event told can =
+    OfTrail world (λ list. (y : Node) → slice_get list.bank.nodes place ≡ Some y
+    → IsTrue can ↔ nodes.Comes (node_at world.setup list.choose place y) event told)
 
 abbrev pub ClientComes : Shown MemCell → ℕ → ClientEvent → Result (List Envelope) ClientFault → Bool → Type 0
-ClientComes world place event told can = OfTrail world (λ list. (y : Client) → slice_get list.bank.clients place ≡ Some y → IsTrue can ↔ clients.Comes (client_at world.setup list.choose place y) event told)
+ClientComes world place event told can =
+    OfTrail world (λ list. (y : Client) → slice_get list.bank.clients place ≡ Some y
+    → IsTrue can ↔ clients.Comes (client_at world.setup list.choose place y) event told)
 
 abbrev pub ComesSo : Shown MemCell → Party → Recorded PartyEvent PartyOutcome → Bool → Type 0
-ComesSo world end r can = OfTrail world (λ list. (x : PartyState) → IsThere world.setup list.choose list.bank end x → IsTrue can ↔ Comes x r.event r.outcome)
+ComesSo world end r can =
+    OfTrail world (λ list. (x : PartyState) → IsThere world.setup list.choose list.bank end x
+    → IsTrue can ↔ Comes x r.event r.outcome)

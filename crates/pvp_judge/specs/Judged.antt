@@ -38,7 +38,17 @@ Left = Closed Party (Option Boot) PartyEvent PartyOutcome
 
 -- the ghost members of an actor of the bank
 abbrev pub party : Ghosts Party (Option Boot) PartyEvent PartyOutcome
-party = record { State = PartyState; opens = Opens; shows = Shows memory; comes = Comes; after = after; reads = Reads memory; tells = λ old new event told. Tells memory told old new event; brings = Brings }
+party =
+    record {
+      State = PartyState;
+      opens = Opens;
+      shows = Shows memory;
+      comes = Comes;
+      after = after;
+      reads = Reads memory;
+      tells = λ old new event told. Tells memory told old new event;
+      brings = Brings;
+    }
 
 -- what the sites opened over, in order
 abbrev pub openings : List Left → List Boot
@@ -47,7 +57,8 @@ openings (c ∷ more) = option_to_list c.opening ++ openings more
 
 -- the verdict is right, whatever right choices the sites take
 abbrev pub IsRightVerdict : List Left → Verdict → Type 0
-IsRightVerdict closed verdict = (start : ℕ → PartyState) → AreOpenings party closed start → Means party delivers sent is_for closed start verdict
+IsRightVerdict closed verdict =
+    (start : ℕ → PartyState) → AreOpenings party closed start → Means party delivers sent is_for closed start verdict
 
 -- all tests pass
 abbrev pub AreSound : List Left → Type 0
@@ -55,7 +66,8 @@ AreSound closed = IsRightVerdict closed Passes
 
 -- the verdict of histories alone is right, whatever right choices the sites take
 abbrev pub IsRightOfRun : List Left → Verdict → Type 0
-IsRightOfRun closed verdict = (start : ℕ → PartyState) → AreOpenings party closed start → MeansRun party delivers sent is_for closed start verdict
+IsRightOfRun closed verdict =
+    (start : ℕ → PartyState) → AreOpenings party closed start → MeansRun party delivers sent is_for closed start verdict
 
 -- the histories are one run
 abbrev pub AreOneRun : List Left → Type 0
@@ -63,7 +75,8 @@ AreOneRun closed = IsRightOfRun closed Passes
 
 -- the world's actor of this number is in this state; of a site's it shows what its reading calls show
 abbrev pub ShowsState : Shown MemCell → ℕ → PartyState → Type 0
-ShowsState world number (AtSite x) = (v : alike.Site) × (slice_get world.sites (number - FIRST_SITE) ≡ Some v) × sites.Shows book memory v x
+ShowsState world number (AtSite x) =
+    (v : alike.Site) × (slice_get world.sites (number - FIRST_SITE) ≡ Some v) × sites.Shows book memory v x
 ShowsState world number (AtNode x) = slice_get world.nodes (min (number - FIRST_NODE) 255) ≡ Some x
 ShowsState world number (AtClient x) = slice_get world.clients number ≡ Some x
 
@@ -71,7 +84,8 @@ ShowsState world number (AtClient x) = slice_get world.clients number ≡ Some x
 pub record AreReplayed (closed : List Left) (world : Shown MemCell) : Type 0 where
   pub start : ℕ → PartyState
   pub opens : AreOpenings party closed start
-  pub shown : (k : ℕ) (c : Left) → slice_get closed k ≡ Some c → ShowsState world c.number (replay after c.history.items (start k))
+  pub shown : (k : ℕ) (c : Left) → slice_get closed k ≡ Some c
+      → ShowsState world c.number (replay after c.history.items (start k))
 
 -- THE RUN WAS TAKEN AGAIN: the world went through the merged list from a new one, over what the sites opened over; its
 -- actors are where the histories lead; and the headline holds of it
@@ -82,9 +96,12 @@ pub record IsTakenAgain (setup : Setup) (closed : List Left) (world : Shown MemC
 
 -- what an actor's reading calls show is what those of the world's actor of this number show
 abbrev pub ReadsWorld : Shown MemCell → ℕ → Party → Type 0
-ReadsWorld world number (Site p) = (v : alike.Site) × (slice_get world.sites (number - FIRST_SITE) ≡ Some v) × AreAlikeSites p.now v
-ReadsWorld world number (Node p) = (v : node.Shown) × (slice_get world.nodes (min (number - FIRST_NODE) 255) ≡ Some v) × nodes.Reads p.now v
-ReadsWorld world number (Client p) = (v : client.Shown) × (slice_get world.clients number ≡ Some v) × clients.Reads p.now v
+ReadsWorld world number (Site p) =
+    (v : alike.Site) × (slice_get world.sites (number - FIRST_SITE) ≡ Some v) × AreAlikeSites p.now v
+ReadsWorld world number (Node p) =
+    (v : node.Shown) × (slice_get world.nodes (min (number - FIRST_NODE) 255) ≡ Some v) × nodes.Reads p.now v
+ReadsWorld world number (Client p) =
+    (v : client.Shown) × (slice_get world.clients number ≡ Some v) × clients.Reads p.now v
 
 -- so of each actor
 abbrev pub EndsAgree : List Left → Shown MemCell → Type 0

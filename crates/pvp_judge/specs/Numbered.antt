@@ -33,7 +33,8 @@ pub record IsEventOf {A N E O : Type 0} (closed : List (Closed A N E O)) (stamp 
   pub clock : what.clock ≡ stamp.clock
 
 -- THE NUMBER THAT A STAMP NAMES: its index on from the number that was noted of the event that it names
-pub record IsNumber {A N E O : Type 0} (closed : List (Closed A N E O)) (numbers : List (List ℕ)) (stamp : Stamp) (number : ℕ) : Type 0 where
+pub record IsNumber {A N E O : Type 0} (closed : List (Closed A N E O)) (numbers : List (List ℕ)) (stamp : Stamp)
+    (number : ℕ) : Type 0 where
   pub by : ℕ
   pub place : ℕ
   pub event : IsEventOf closed stamp by place
@@ -48,4 +49,5 @@ NamesNone closed numbers stamp = (number : ℕ) → number < 2 ^ 64 → ¬ IsNum
 -- what is found is the number that the stamp names, and 0 exactly where there is none
 abbrev pub IsFound : {A N E O : Type 0} → List (Closed A N E O) → List (List ℕ) → Option Stamp → ℕ → Type 0
 IsFound closed numbers None number = number ≡ 0
-IsFound closed numbers (Some stamp) number = IsNumber closed numbers stamp number ⊎ ((number ≡ 0) × NamesNone closed numbers stamp)
+IsFound closed numbers (Some stamp) number =
+    IsNumber closed numbers stamp number ⊎ ((number ≡ 0) × NamesNone closed numbers stamp)

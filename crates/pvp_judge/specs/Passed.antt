@@ -25,7 +25,9 @@ OfOpenings closed Holds = (start : ℕ → PartyState) → AreOpenings party clo
 
 -- an end reads like the replay of its history exactly where it reads like the world's actor
 abbrev pub ReadAsReplays : List Left → Shown MemCell → (ℕ → PartyState) → Type 0
-ReadAsReplays closed world start = (k : ℕ) (c : Left) → slice_get closed k ≡ Some c → Reads memory c.end (replay after c.history.items (start k)) ↔ ReadsWorld world c.number c.end
+ReadAsReplays closed world start =
+    (k : ℕ) (c : Left) → slice_get closed k ≡ Some c
+    → Reads memory c.end (replay after c.history.items (start k)) ↔ ReadsWorld world c.number c.end
 
 -- ALL EVENTS PASSED: they are one run, through which this world went
 pub record HavePassed (setup : Setup) (closed : List Left) (world : Shown MemCell) : Type 0 where
@@ -52,7 +54,9 @@ pub record DiffersFirst (closed : List Left) (world : Shown MemCell) (place : �
   pub before : HoldBelow closed place (λ c. ReadsWorld world c.number c.end)
   pub unlike : ¬ ReadsWorld world who.number who.end
 
--- WHAT IS SAID OF THE ENDS, where all events passed through a world: that each reads like that world's actor, or which is the first that does not
+-- WHAT IS SAID OF THE ENDS, where all events passed through a world: that each reads like that world's actor, or which
+-- is the first that does not
 abbrev pub EndsSo : List Left → Shown MemCell → Judgement → Type 0
 EndsSo closed world (Yes by) = (by ≡ world) × EndsAgree closed world × IsProved held_by world
-EndsSo closed world (No actor event why) = (place : ℕ) × (number_at closed place ≡ actor) × (event ≡ 0) × (why ≡ End) × DiffersFirst closed world place
+EndsSo closed world (No actor event why) =
+    (place : ℕ) × (number_at closed place ≡ actor) × (event ≡ 0) × (why ≡ End) × DiffersFirst closed world place

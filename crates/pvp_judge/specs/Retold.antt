@@ -26,18 +26,22 @@ abbrev pub Names : List Envelope → ℕ → PartyEvent → Type 0
 Names post number event = (delivers event ≡ None) ⊎ ((0 < number) × (slice_get post (number - 1) ≡ delivers event))
 
 -- the world takes the event as its next
-pub record Retells {A N B : Type 0} (held : B → Boot) (closed : List (Closed A N PartyEvent PartyOutcome)) (t : Tagged PartyEvent PartyOutcome) (before after : Shown B) : Type 0 where
+pub record Retells {A N B : Type 0} (held : B → Boot) (closed : List (Closed A N PartyEvent PartyOutcome))
+    (t : Tagged PartyEvent PartyOutcome) (before after : Shown B) : Type 0 where
   pub number : ℕ
   pub named : Names before.post number t.what.event
   pub goes : GoesBy held before after (move_of (number_at closed t.by) t.what number)
 
 -- THE WORLD WENT THROUGH THESE EVENTS, the newest first, from the one where it began
-abbrev pub IsRetold : {A N B : Type 0} → (B → Boot) → List (Closed A N PartyEvent PartyOutcome) → Shown B → List (Tagged PartyEvent PartyOutcome) → Shown B → Type 0
+abbrev pub IsRetold : {A N B : Type 0} → (B → Boot) → List (Closed A N PartyEvent PartyOutcome) → Shown B
+    → List (Tagged PartyEvent PartyOutcome) → Shown B → Type 0
 IsRetold held closed first [] world = world ≡ first
-IsRetold {A} {N} {B} held closed first (t ∷ past) world = (before : Shown B) × IsRetold held closed first past before × Retells held closed t before world
+IsRetold {A} {N} {B} held closed first (t ∷ past) world =
+    (before : Shown B) × IsRetold held closed first past before × Retells held closed t before world
 
 -- A NEW WORLD WENT THROUGH THE MERGED LIST: all events of all histories, by clock and then by actor number
-pub record WentThrough {A N : Type 0} (setup : Setup) (cells : List Boot) (closed : List (Closed A N PartyEvent PartyOutcome)) (world : Shown MemCell) : Type 0 where
+pub record WentThrough {A N : Type 0} (setup : Setup) (cells : List Boot)
+    (closed : List (Closed A N PartyEvent PartyOutcome)) (world : Shown MemCell) : Type 0 where
   pub first : Shown MemCell
   pub setup_is : first.setup ≡ setup
   pub opening : first.opening ≡ cells
@@ -48,7 +52,8 @@ pub record WentThrough {A N : Type 0} (setup : Setup) (cells : List Boot) (close
   pub told : IsRetold held_by closed first run world
 
 -- so far: of each history as many events as at says
-pub record IsTelling {A N : Type 0} (setup : Setup) (cells : List Boot) (closed : List (Closed A N PartyEvent PartyOutcome)) (at : List ℕ) (world : Shown MemCell) : Type 0 where
+pub record IsTelling {A N : Type 0} (setup : Setup) (cells : List Boot)
+    (closed : List (Closed A N PartyEvent PartyOutcome)) (at : List ℕ) (world : Shown MemCell) : Type 0 where
   pub first : Shown MemCell
   pub setup_is : first.setup ≡ setup
   pub opening : first.opening ≡ cells

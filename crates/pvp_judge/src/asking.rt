@@ -81,7 +81,8 @@ pub fn refuses_so(
 ) -> Result<bool, AllocError>
     requires reliable { AreReliable memory world.old }
     ensures so { IfOk result (λ can. OfTrail world.old (λ list.
-        IsTrue can ↔ (bank_refuses world.old.setup (faults world.old.setup) list.bank step ≡ Some fault))) }
+        IsTrue can ↔ (bank_refuses world.old.setup (faults world.old.setup) list.bank step
+        ≡ Some fault))) }
     ensures stays { IfOk result (λ can. IsTrue can → world.new ≡ world.old) }
     ensures proved { OnOk result (IsProved held_by world.new) }
     ensures reliable { OnOk result (AreReliable memory world.new) }

@@ -41,7 +41,8 @@ pub fn comes_so(
 ) -> Result<bool, AllocError>
     requires bank { IsOfBank world.old.setup one.now }
     requires named { Names world.old.post number taken.now.event }
-    requires mine { (delivers taken.now.event ≡ None) ⊎ (is_for one.now.end taken.now.event ≡ true) }
+    requires mine { (delivers taken.now.event ≡ None)
+        ⊎ (is_for one.now.end taken.now.event ≡ true) }
     requires reliable { AreReliable memory world.old }
     ensures so { IfOk result (ComesSo world.old one.now.end taken.now) }
     ensures goes { IfOk result (λ can. IsTrue can →

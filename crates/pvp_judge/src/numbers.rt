@@ -40,7 +40,8 @@ impl Numbers {
     /// What the next event of the actor at a place sends is numbered from here. `Err` where memory is refused; the
     /// numbers are then as they were.
     pub fn note(&mut self, place: usize, first: usize) -> Result<(), AllocError>
-        ensures ok { OnOk result (self.new ≡ slice_set self.old place (noted_of self.old place ++ first ∷ [])) }
+        ensures ok { OnOk result (self.new ≡ slice_set self.old place
+            (noted_of self.old place ++ first ∷ [])) }
         ensures err { OnErr result (self.new ≡ self.old) }
     {
         if let Some(events) = self.firsts.get_mut(place) {

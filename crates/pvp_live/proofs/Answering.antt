@@ -22,7 +22,8 @@ set_back seats at seat there =
 
 -- an actor was asked at its seat, and the seat has the receipts after its answer
 pub answered : (cells : List Place) (post : Post) (old new : List BankSeat) (at : ℕ) (seat after : BankSeat) (answer : Answer PartyOutcome)
-    → place_of cells post.actor ≡ Some at → slice_get old at ≡ Some seat → after ≡ record seat { receipts = receipts_after (input_of post) seat.receipts answer }
+    → place_of cells post.actor ≡ Some at → slice_get old at ≡ Some seat
+    → after ≡ record seat { receipts = receipts_after (input_of post) seat.receipts answer }
     → new ≡ slice_set old at after → Answers cells post old new (Some answer)
 answered cells post old new at seat after (Done clock outcome) place there is changed =
     record { at = at; place = place; seat = seat; there = there; seats = changed ∙ ap (slice_set old at) is }
@@ -30,7 +31,8 @@ answered cells post old new at seat after NoMemory place there is changed = chan
 answered cells post old new at seat after ClockSpent place there is changed = changed ∙ ap (slice_set old at) is ∙ set_back old at seat there
 
 -- what was answered was told and counted, and what that sends is handed on
-pub posts : (cells : List Place) (line : ℕ) (post : Post) (old new : Kept) (mid : List BankSeat) (before : Option Refused) (answer : Option (Answer PartyOutcome)) (puts : List Put)
+pub posts : (cells : List Place) (line : ℕ) (post : Post) (old new : Kept) (mid : List BankSeat) (before : Option Refused)
+    (answer : Option (Answer PartyOutcome)) (puts : List Put)
     → Answers cells post old.seats mid answer → new.seats ≡ mid → before ≡ old.refused → new.refused ≡ refused_after before line (fault_of (line_effect answer))
     → puts ≡ handed_on post.actor answer → Posts cells line post old new puts
 posts cells line post old new mid before answer puts answers seats was tally handed =

@@ -28,11 +28,17 @@ module _ {B : Type 0} (got : B → List Put → Type 0) (cells : List Place) whe
   playing_none kept out = record { puts = []; plays = record { kept = refl; none = refl }; handed = hears_none got out }
 
   pub playing_more : (lines : List Line) (i : ℕ) (d : Line) (other : List Place) (old mid new : Kept) (x y z : B) → i < length lines → other ≡ cells
-      → IsPlaying cells (take i lines) old mid got x y → HandsOver other (slice_index_or lines i d).number (posted (slice_index_or lines i d).statement) mid new got y z → IsPlaying cells (take (i + 1) lines) old new got x z
+      → IsPlaying cells (take i lines) old mid got x y
+      → HandsOver other (slice_index_or lines i d).number (posted (slice_index_or lines i d).statement) mid new got y z
+      → IsPlaying cells (take (i + 1) lines) old new got x z
   playing_more lines i d other old mid new x y z within same played hands =
-      let here = subst (λ (c : List Place). PostsWhere c (slice_index_or lines i d).number (posted (slice_index_or lines i d).statement) mid new hands.puts) same hands.posts in
+      let here =
+      subst (λ (c : List Place). PostsWhere c (slice_index_or lines i d).number (posted (slice_index_or lines i d).statement) mid new hands.puts) same
+      hands.posts in
       record {
         puts = played.puts ++ hands.puts;
-        plays = subst (λ (l : List Line). Plays cells l old new (played.puts ++ hands.puts)) (sym (take_more lines i d within)) (plays_more cells (take i lines) (slice_index_or lines i d) old mid new played.puts hands.puts played.plays here);
+        plays =
+            subst (λ (l : List Line). Plays cells l old new (played.puts ++ hands.puts)) (sym (take_more lines i d within))
+            (plays_more cells (take i lines) (slice_index_or lines i d) old mid new played.puts hands.puts played.plays here);
         handed = hears_more got x y z played.puts hands.puts played.handed hands.handed;
       }

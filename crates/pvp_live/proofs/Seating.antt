@@ -17,9 +17,11 @@ use Rattle.pvp_live.specs.Seating.{BankSeat, AreNew, IsAmong, TakesBack, TakesOn
 
 fresh_each : (seats actor : ℕ) (seat : BankSeat) → Contains (fresh_seats seats actor) seat → (seat.actor ≡ actor) × (seat.receipts ≡ [])
 fresh_each zero actor seat in' = absurd (Contains-none seat in')
-fresh_each (suc n) actor seat in' = fresh_case (Contains-push_cases (fresh_seats n actor) (record { actor = actor; number = n; receipts = [] }) seat in') (fresh_each n actor seat)
+fresh_each (suc n) actor seat in' =
+    fresh_case (Contains-push_cases (fresh_seats n actor) (record { actor = actor; number = n; receipts = [] }) seat in') (fresh_each n actor seat)
   where
-    fresh_case : Contains (fresh_seats n actor) seat ⊎ (record { actor = actor; number = n; receipts = [] } ≡ seat) → (Contains (fresh_seats n actor) seat → (seat.actor ≡ actor) × (seat.receipts ≡ []))
+    fresh_case : Contains (fresh_seats n actor) seat ⊎ (record { actor = actor; number = n; receipts = [] } ≡ seat)
+        → (Contains (fresh_seats n actor) seat → (seat.actor ≡ actor) × (seat.receipts ≡ []))
         → (seat.actor ≡ actor) × (seat.receipts ≡ [])
     fresh_case (inl before) rest = rest before
     fresh_case (inr e) rest = (ap (λ (s : BankSeat). s.actor) (sym e), ap (λ (s : BankSeat). s.receipts) (sym e))
@@ -34,11 +36,14 @@ fresh_long (suc n) actor =
     omega (arith, rest, long)
 
 -- the last of new seats
-pub fresh_last : (seats actor : ℕ) (all front : List BankSeat) (last : BankSeat) → all ≡ fresh_seats seats actor → all ≡ front ++ last ∷ [] → (last.actor ≡ actor) × (last.receipts ≡ [])
-fresh_last seats actor all front last is ends = fresh_each seats actor last (subst (λ (l : List BankSeat). Contains l last) (sym ends ∙ is) (Contains-push front last))
+pub fresh_last : (seats actor : ℕ) (all front : List BankSeat) (last : BankSeat) → all ≡ fresh_seats seats actor → all ≡ front ++ last ∷ []
+    → (last.actor ≡ actor) × (last.receipts ≡ [])
+fresh_last seats actor all front last is ends =
+    fresh_each seats actor last (subst (λ (l : List BankSeat). Contains l last) (sym ends ∙ is) (Contains-push front last))
 
 -- one more actor, with a new seat
-pub new_more : (cells : List Place) (seats : List BankSeat) (cell : Place) (seat : BankSeat) → AreNew cells seats → seat.actor ≡ cell.number → seat.receipts ≡ [] → AreNew (cells ++ cell ∷ []) (seats ++ seat ∷ [])
+pub new_more : (cells : List Place) (seats : List BankSeat) (cell : Place) (seat : BankSeat) → AreNew cells seats → seat.actor ≡ cell.number
+    → seat.receipts ≡ [] → AreNew (cells ++ cell ∷ []) (seats ++ seat ∷ [])
 new_more [] [] cell seat new actor receipts = (actor, receipts, tt)
 new_more [] (other ∷ seats) cell seat new actor receipts = absurd new
 new_more (first ∷ cells) [] cell seat new actor receipts = absurd new
@@ -52,7 +57,8 @@ module _ {X : Type 0} where
       let within = slice_get_within xs i x there in
       (i, subst (λ (n : ℕ). i < n) (sym (length-set xs i y)) within, get_or-set_same xs i y y within)
 
-  stays_at : (xs : List X) (i : ℕ) (x y z : X) (k : ℕ) → slice_get xs i ≡ Some x → k < length xs → get_or xs k z ≡ z → (same : Bool) → (k == i) ≡ same → (z ≡ x) ⊎ Contains (slice_set xs i y) z
+  stays_at : (xs : List X) (i : ℕ) (x y z : X) (k : ℕ) → slice_get xs i ≡ Some x → k < length xs → get_or xs k z ≡ z → (same : Bool) → (k == i) ≡ same
+      → (z ≡ x) ⊎ Contains (slice_set xs i y) z
   stays_at xs i x y z k there within read true is = inl (sym read ∙ ap (λ (n : ℕ). get_or xs n z) (eqb-true k i is) ∙ get_or_from_slice_get xs i x z there)
   stays_at xs i x y z k there within read false is =
       inr (k, subst (λ (n : ℕ). k < n) (sym (length-set xs i y)) within, get_or-set_other xs i k y z (λ e. eqb-false k i is e) ∙ read)
@@ -68,10 +74,16 @@ taken_none seats = λ seat given. among given
     among (inl there) = there
     among {seat} (inr none) = absurd (Contains-none seat none)
 
-module _ (now : List (Vec BankSeat)) (at : ℕ) (own longer : Vec BankSeat) (seat : BankSeat) (there : slice_get now at ≡ Some own) (grown : longer.items ≡ own.items ++ seat ∷ []) where
-  among_one : (other : BankSeat) (those : Vec BankSeat) → Contains those.items other → (those ≡ own) ⊎ Contains (slice_set now at longer) those → IsAmong (slice_set now at longer) other
-  among_one other those has (inl e) =
-      (longer, set_in now at own longer there, subst (λ (l : List BankSeat). Contains l other) (sym grown) (Contains-append_left own.items (seat ∷ []) other (subst (λ (v : Vec BankSeat). Contains v.items other) e has)))
+module _ (now : List (Vec BankSeat)) (at : ℕ) (own longer : Vec BankSeat) (seat : BankSeat) (there : slice_get now at ≡ Some own)
+    (grown : longer.items ≡ own.items ++ seat ∷ []) where
+  among_one : (other : BankSeat) (those : Vec BankSeat) → Contains those.items other → (those ≡ own) ⊎ Contains (slice_set now at longer) those
+      → IsAmong (slice_set now at longer) other
+  among_one other those has (inl e) = (
+    longer,
+    set_in now at own longer there,
+    subst (λ (l : List BankSeat). Contains l other) (sym grown)
+        (Contains-append_left own.items (seat ∷ []) other (subst (λ (v : Vec BankSeat). Contains v.items other) e has)),
+  )
   among_one other those has (inr still) = (those, still, has)
 
   among_more : (other : BankSeat) → IsAmong now other → IsAmong (slice_set now at longer) other
@@ -108,11 +120,16 @@ pub keeps_none : (closed : List Left) → Keeps [] closed
 keeps_none closed = λ seat there. absurd (Contains-none there.0 there.1)
 
 module _ (done : List (Vec BankSeat)) (closed : List Left) (own : Vec BankSeat) (one : Left) (same : IsPermutation own.items one.seats.items) where
-  keeps_case : Keeps done closed → (seat : BankSeat) (those : Vec BankSeat) → Contains those.items seat → Contains done those ⊎ (own ≡ those) → IsKept (closed ++ one ∷ []) seat
+  keeps_case : Keeps done closed → (seat : BankSeat) (those : Vec BankSeat) → Contains those.items seat → Contains done those ⊎ (own ≡ those)
+      → IsKept (closed ++ one ∷ []) seat
   keeps_case keeps seat those has (inl before) =
       let kept = keeps seat (those, before, has) in (kept.0, Contains-append_left closed (one ∷ []) kept.0 kept.1, kept.2)
-  keeps_case keeps seat those has (inr e) =
-      (one, Contains-push closed one, Contains-permutation own.items one.seats.items seat same (subst (λ (v : Vec BankSeat). Contains v.items seat) (sym e) has))
+  keeps_case keeps seat those has (inr e) = (
+    one,
+    Contains-push closed one,
+    Contains-permutation own.items one.seats.items seat same
+        (subst (λ (v : Vec BankSeat). Contains v.items seat) (sym e) has),
+  )
 
   -- one cell more
   pub keeps_more : Keeps done closed → Keeps (done ++ own ∷ []) (closed ++ one ∷ [])

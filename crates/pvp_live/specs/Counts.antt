@@ -31,7 +31,8 @@ abbrev pub came_in_all : List Left → ℕ
 came_in_all closed = counted (sum_by came_to closed)
 
 abbrev pub lost_text : ℕ → ℕ → List ℕ
-lost_text all lost = decimal all ++ codes " envelopes were sent, and " ++ decimal lost ++ codes " of them did not come\n"
+lost_text all lost =
+    decimal all ++ codes " envelopes were sent, and " ++ decimal lost ++ codes " of them did not come\n"
 
 -- where the sites among these actors stand
 abbrev pub standings : List Left → List Standing
@@ -45,12 +46,14 @@ separator false = codes ", "
 -- one after another, from the first on or behind others
 abbrev pub stands_text : Setup → Bool → List Standing → List ℕ
 stands_text setup is_first [] = codes "\n"
-stands_text setup is_first (standing ∷ more) = separator is_first ++ standing_text setup standing ++ stands_text setup false more
+stands_text setup is_first (standing ∷ more) =
+    separator is_first ++ standing_text setup standing ++ stands_text setup false more
 
 -- what is lost is what was sent and did not come
 abbrev pub left_text : Setup → List Left → List ℕ
 left_text setup closed =
-    lost_text (sent_in_all closed) (sent_in_all closed - came_in_all closed) ++ codes "at the end " ++ stands_text setup true (standings closed)
+    lost_text (sent_in_all closed) (sent_in_all closed - came_in_all closed) ++ codes "at the end "
+    ++ stands_text setup true (standings closed)
 
 -- OVER STREAMS: how many frames were taken of one that ended so, and whether that was before its end
 abbrev pub frames_at : Option PeerEnd → ℕ
@@ -72,4 +75,5 @@ abbrev pub broken : {A R G N E O : Type 0} → List (Peer A R G N E O) → ℕ
 broken peers = count_by (λ peer. is_broken peer.end) peers
 
 abbrev pub ended_text : ℕ → ℕ → List ℕ
-ended_text frames streams = decimal frames ++ codes " frames came, and " ++ decimal streams ++ codes " connections broke\n"
+ended_text frames streams =
+    decimal frames ++ codes " frames came, and " ++ decimal streams ++ codes " connections broke\n"

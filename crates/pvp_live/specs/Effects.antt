@@ -37,8 +37,8 @@ line_effect (Some answer.NoMemory) = Refused world.NoMemory
 line_effect (Some answer.ClockSpent) = ClockSpent
 line_effect None = Refused world.NoSuchActor
 
--- THE FAULT for which a line was refused. A stray and a spent clock have none: no line of a script that was read is a stray, and
--- the world has no clocks.
+-- THE FAULT for which a line was refused. A stray and a spent clock have none: no line of a script that was read is a
+-- stray, and the world has no clocks.
 abbrev pub fault_of : Effect → Option WorldFault
 fault_of (Refused fault) = Some fault
 fault_of (Sent count) = None

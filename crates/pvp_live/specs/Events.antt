@@ -29,7 +29,8 @@ beat_at actor = record {
 -- a line that no live script has, and one by which time passes, post nothing
 abbrev pub posted : Statement → Option Post
 posted (Do (Submit who cmd)) = Some (record { actor = who; event = OfClient (client.Submits cmd) })
-posted (Do (PayIn ccy member amt)) = Some (record { actor = number_of (Node ccy); event = OfNode (node.PaysIn member amt) })
+posted (Do (PayIn ccy member amt)) =
+    Some (record { actor = number_of (Node ccy); event = OfNode (node.PaysIn member amt) })
 posted (Do (Close ccy member)) = Some (record { actor = number_of (Node ccy); event = OfNode (node.Closes member) })
 posted (Do (Beat actor)) = Some (beat_at actor)
 posted (Do (Timer i)) = Some (record { actor = number_of (Site i); event = OfSite site.Timer })

@@ -32,8 +32,8 @@ pub record AreConnected (S : Type 0) (actors : List ℕ) : Type 0 where
   pub streams : List (Incoming S)
   pub all : ends_of streams ≡ links actors actors
 
--- WHY A RUN HAS NO JUDGEMENT. The net: then nothing was told yet, and no line was played. A seat or a cell: then the actors
--- had been connected. Memory may be refused at any time.
+-- WHY A RUN HAS NO JUDGEMENT. The net: then nothing was told yet, and no line was played. A seat or a cell: then the
+-- actors had been connected. Memory may be refused at any time.
 abbrev pub Ends : {N : Type 0} → (S : Type 0) → List ℕ → N → N → LiveFault → Type 0
 Ends S actors old new Net = new ≡ old
 Ends S actors old new Seats = AreConnected S actors

@@ -35,7 +35,8 @@ frames_text frames = decimal frames.sent ++ codes " frames sent, " ++ decimal fr
 
 -- what is told behind a line
 abbrev pub sites_text : Setup → ℕ → List (Option Standing) → Frames → List ℕ
-sites_text setup line looks frames = codes "line " ++ decimal line ++ codes ": " ++ flat_map (look_text setup) looks ++ frames_text frames
+sites_text setup line looks frames =
+    codes "line " ++ decimal line ++ codes ": " ++ flat_map (look_text setup) looks ++ frames_text frames
 
 -- WHAT CAME OF A LINE
 

@@ -41,14 +41,17 @@ abbrev pub input_of : Post → Input PartyEvent
 input_of post = record { event = post.event; stamp = None }
 
 -- THE EVENT WAS TAKEN at this clock, and came out so: the seat of its actor has one receipt more, of that event
-pub record IsTaken (cells : List Place) (post : Post) (old new : List BankSeat) (clock : ℕ) (outcome : PartyOutcome) : Type 0 where
+pub record IsTaken (cells : List Place) (post : Post) (old new : List BankSeat) (clock : ℕ) (outcome : PartyOutcome)
+    : Type 0 where
   pub at : ℕ
   pub place : place_of cells post.actor ≡ Some at
   pub seat : BankSeat
   pub there : slice_get old at ≡ Some seat
-  pub seats : new ≡ slice_set old at (record seat { receipts = seat.receipts ++ receipt (input_of post) clock outcome ∷ [] })
+  pub seats : new ≡ slice_set old at
+      (record seat { receipts = seat.receipts ++ receipt (input_of post) clock outcome ∷ [] })
 
--- WHAT AN ANSWER TELLS of the seats: where the event was not taken, no seat changed. No answer means that its actor has no seat.
+-- WHAT AN ANSWER TELLS of the seats: where the event was not taken, no seat changed. No answer means that its actor has
+-- no seat.
 abbrev pub Answers : List Place → Post → List BankSeat → List BankSeat → Option (Answer PartyOutcome) → Type 0
 Answers cells post old new (Some (Done clock outcome)) = IsTaken cells post old new clock outcome
 Answers cells post old new (Some NoMemory) = new ≡ old
@@ -80,7 +83,8 @@ PostsWhere cells line None old new puts = IsIdle old new puts
 PostsWhere cells line (Some post) old new puts = Posts cells line post old new puts
 
 -- so, and an outbox got what is handed on
-pub record HandsOver {B : Type 0} (cells : List Place) (line : ℕ) (post : Option Post) (old new : Kept) (got : B → List Put → Type 0) (before after : B) : Type 0 where
+pub record HandsOver {B : Type 0} (cells : List Place) (line : ℕ) (post : Option Post) (old new : Kept)
+    (got : B → List Put → Type 0) (before after : B) : Type 0 where
   pub puts : List Put
   pub posts : PostsWhere cells line post old new puts
   pub handed : Hears got before after puts
@@ -90,16 +94,19 @@ abbrev pub Plays : List Place → List Line → Kept → Kept → List Put → T
 Plays cells [] old new puts = IsIdle old new puts
 Plays cells (line ∷ more) old new puts =
     (mid : Kept) × (first : List Put) × (rest : List Put)
-    × PostsWhere cells line.number (posted line.statement) old mid first × Plays cells more mid new rest × (puts ≡ first ++ rest)
+    × PostsWhere cells line.number (posted line.statement) old mid first × Plays cells more mid new rest
+    × (puts ≡ first ++ rest)
 
-pub record IsPlaying {B : Type 0} (cells : List Place) (lines : List Line) (old new : Kept) (got : B → List Put → Type 0) (before after : B) : Type 0 where
+pub record IsPlaying {B : Type 0} (cells : List Place) (lines : List Line) (old new : Kept)
+    (got : B → List Put → Type 0) (before after : B) : Type 0 where
   pub puts : List Put
   pub plays : Plays cells lines old new puts
   pub handed : Hears got before after puts
 
--- THE TALLY of a script: it was played so from new seats at these actors, where no line was refused before, and the player's
--- seats are among those that were left
-pub record IsTally (cells : List Place) (lines : List Line) (refused : Option Refused) (left : List (Vec BankSeat)) : Type 0 where
+-- THE TALLY of a script: it was played so from new seats at these actors, where no line was refused before, and the
+-- player's seats are among those that were left
+pub record IsTally (cells : List Place) (lines : List Line) (refused : Option Refused) (left : List (Vec BankSeat))
+    : Type 0 where
   pub before : List BankSeat
   pub after : List BankSeat
   pub puts : List Put

@@ -15,4 +15,5 @@ abbrev pub refused_text : Refused → List ℕ
 refused_text refused =
     if refused.count == 1
     then codes "1 line was refused: line " ++ decimal refused.line ++ codes ", " ++ fault_text refused.fault
-    else decimal refused.count ++ codes " lines were refused: the first, line " ++ decimal refused.line ++ codes ", " ++ fault_text refused.fault
+    else decimal refused.count ++ codes " lines were refused: the first, line " ++ decimal refused.line ++ codes ", "
+    ++ fault_text refused.fault

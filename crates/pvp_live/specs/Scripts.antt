@@ -25,8 +25,8 @@ abbrev pub is_fall : Move → Bool
 is_fall (Takes step) = false
 is_fall (Falls step cell) = true
 
--- the lines of all steps, and one that prints the books; or why there is no script: a site fell, or there are more steps
--- than a script has lines
+-- the lines of all steps, and one that prints the books; or why there is no script: a site fell, or there are more
+-- steps than a script has lines
 abbrev pub lines_text : Setup → List Move → List ℕ
 lines_text setup trail =
     if list_any is_fall trail then codes "# a site fell, and no line of a script asks for that\n"

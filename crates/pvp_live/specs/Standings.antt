@@ -12,7 +12,8 @@ use Rattle.pvp_live.specs.declared.standing.Standing.{Standing}
 
 -- WHERE AN ACTOR STANDS: a site as its reading calls show it, a node or a client nowhere
 abbrev pub standing_of : Party → Option Standing
-standing_of (Site p) = Some (record { actor = actor_of p.place; status = p.now.volatile.status; view = p.now.volatile.view })
+standing_of (Site p) =
+    Some (record { actor = actor_of p.place; status = p.now.volatile.status; view = p.now.volatile.view })
 standing_of (Node p) = None
 standing_of (Client p) = None
 

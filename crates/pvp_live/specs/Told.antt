@@ -14,7 +14,8 @@ use Rattle.pvp_live.specs.Bank.{BeganNew}
 -- the books of a Yes and a line, or the line of a No
 abbrev pub judgement_text : Judgement → List ℕ
 judgement_text (Yes world) = books_text held_by world ++ codes "audit yes\n"
-judgement_text (No actor event why) = codes "audit no " ++ decimal actor ++ codes " " ++ decimal event ++ codes " " ++ code_text (Audit why) ++ codes "\n"
+judgement_text (No actor event why) =
+    codes "audit no " ++ decimal actor ++ codes " " ++ decimal event ++ codes " " ++ code_text (Audit why) ++ codes "\n"
 
 -- what all actors of the bank left, whose sites began with new cells, was judged so
 pub record WasJudged (setup : Setup) (closed : List Left) (judgement : Judgement) : Type 0 where

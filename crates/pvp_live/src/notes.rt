@@ -79,7 +79,8 @@ pub fn tell_ends<N: Write, S, G>(alloc: Global, notes: &mut N, peers: &[Peer<'_,
 
 /// Appends how many frames were taken, and how many streams ended before their end.
 fn push_ended(text: &mut String, frames: usize, broken: usize) -> Result<(), AllocError>
-    ensures { OnOk result (string_bytes text.new ≡ string_bytes text.old ++ ended_text frames broken) }
+    ensures { OnOk result (string_bytes text.new ≡ string_bytes text.old
+        ++ ended_text frames broken) }
 {
     write!(
         text,
@@ -120,7 +121,8 @@ fn push_looks(
 
 /// Appends what one of several looks showed.
 fn push_look(text: &mut String, setup: &Setup, look: Option<Standing>) -> Result<(), AllocError>
-    ensures { OnOk result (string_bytes text.new ≡ string_bytes text.old ++ look_text setup.now look) }
+    ensures { OnOk result (string_bytes text.new ≡ string_bytes text.old
+        ++ look_text setup.now look) }
 {
     let Some(standing) = look else {
         return Ok(());
@@ -149,7 +151,8 @@ fn push_frames(text: &mut String, frames: Frames) -> Result<(), AllocError>
 
 /// Appends how many envelopes were sent and how many of them did not come, and where each site stands at the end.
 fn push_left(text: &mut String, setup: &Setup, closed: &[Closed<Party>]) -> Result<(), AllocError>
-    ensures { OnOk result (string_bytes text.new ≡ string_bytes text.old ++ left_text setup.now closed.now) }
+    ensures { OnOk result (string_bytes text.new ≡ string_bytes text.old
+        ++ left_text setup.now closed.now) }
 {
     let sent = sent_in_all(closed);
     let lost = sent.saturating_sub(came_in_all(closed));
@@ -219,7 +222,8 @@ fn push_posted(
     actor: u16,
     answer: Option<&Answer<PartyOutcome>>,
 ) -> Result<(), AllocError>
-    ensures { OnOk result (string_bytes text.new ≡ string_bytes text.old ++ posted_text setup.now line actor (option_copied answer.entry)) }
+    ensures { OnOk result (string_bytes text.new ≡ string_bytes text.old
+        ++ posted_text setup.now line actor (option_copied answer.entry)) }
 {
     write!(text, "line {line}: ")?;
     push_actor(text, setup, actor)?;
@@ -229,7 +233,8 @@ fn push_posted(
 
 /// Appends at which clock an event was taken, if it was, and what it did.
 fn push_answer(text: &mut String, answer: Option<&Answer<PartyOutcome>>) -> Result<(), AllocError>
-    ensures { OnOk result (string_bytes text.new ≡ string_bytes text.old ++ answer_text (option_copied answer.entry)) }
+    ensures { OnOk result (string_bytes text.new ≡ string_bytes text.old
+        ++ answer_text (option_copied answer.entry)) }
 {
     push_clock(text, answer)?;
     text.push_str(": ")?;
@@ -238,7 +243,8 @@ fn push_answer(text: &mut String, answer: Option<&Answer<PartyOutcome>>) -> Resu
 
 /// Appends at which clock an event was taken, if it was.
 fn push_clock(text: &mut String, answer: Option<&Answer<PartyOutcome>>) -> Result<(), AllocError>
-    ensures { OnOk result (string_bytes text.new ≡ string_bytes text.old ++ clock_text (option_copied answer.entry)) }
+    ensures { OnOk result (string_bytes text.new ≡ string_bytes text.old
+        ++ clock_text (option_copied answer.entry)) }
 {
     match answer {
         Some(Answer::Done { clock, .. }) => write!(text, " at clock {clock}"),

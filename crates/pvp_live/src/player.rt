@@ -116,7 +116,8 @@ impl<R: Wait + Clock, N: Write> LinePlayer<'_, R, N> {
     /// refused is counted.
     fn note(&mut self, line: u32, actor: u16, answer: Option<&Answer<PartyOutcome>>)
         ensures refused { self.new.refused
-            ≡ refused_after self.old.refused line (fault_of (line_effect (option_copied answer.entry))) }
+            ≡ refused_after self.old.refused line
+            (fault_of (line_effect (option_copied answer.entry))) }
         ensures seats { self.new.seats ≡ self.old.seats }
         ensures cells { self.new.cells ≡ self.old.cells }
         ensures lines { self.new.lines ≡ self.old.lines }
@@ -130,7 +131,8 @@ impl<R: Wait + Clock, N: Write> LinePlayer<'_, R, N> {
 
     /// Hands on what an actor sent by the event of a line.
     fn hand_on<O: Outbox>(&mut self, actor: u16, answer: Option<&Answer<PartyOutcome>>, out: &mut O)
-        ensures handed { Hears O.got out.old out.new (handed_on actor (option_copied answer.entry)) }
+        ensures handed { Hears O.got out.old out.new
+            (handed_on actor (option_copied answer.entry)) }
         ensures seats { self.new.seats ≡ self.old.seats }
         ensures refused { self.new.refused ≡ self.old.refused }
         ensures cells { self.new.cells ≡ self.old.cells }

@@ -39,7 +39,8 @@ pub fn print_script<W: Write>(
 
 /// Appends the script of a Yes, or the line of a No.
 fn push_script(text: &mut String, judgement: &Judgement) -> Result<(), AllocError>
-    ensures { OnOk result (string_bytes text.new ≡ string_bytes text.old ++ script_text judgement.now) }
+    ensures { OnOk result (string_bytes text.new ≡ string_bytes text.old
+        ++ script_text judgement.now) }
 {
     match judgement {
         Judgement::Yes(world) => {
@@ -52,7 +53,8 @@ fn push_script(text: &mut String, judgement: &Judgement) -> Result<(), AllocErro
 
 /// Appends the lines of a run's steps, or why there are none.
 fn push_lines(text: &mut String, world: &World<MemCell>) -> Result<(), AllocError>
-    ensures { OnOk result (string_bytes text.new ≡ string_bytes text.old ++ lines_text world.now.setup world.now.trail) }
+    ensures { OnOk result (string_bytes text.new ≡ string_bytes text.old
+        ++ lines_text world.now.setup world.now.trail) }
 {
     if has_fall(world.trail()) {
         return text.push_str("# a site fell, and no line of a script asks for that\n");
@@ -83,7 +85,8 @@ fn is_fall(step: Move) -> bool
 
 /// Appends the line of each step.
 fn push_moves(text: &mut String, world: &World<MemCell>) -> Result<(), AllocError>
-    ensures { OnOk result (string_bytes text.new ≡ string_bytes text.old ++ flat_map (line_text world.now.setup) world.now.trail) }
+    ensures { OnOk result (string_bytes text.new ≡ string_bytes text.old
+        ++ flat_map (line_text world.now.setup) world.now.trail) }
 {
     for step in world.trail() {
         push_line(text, world, *step)?;
@@ -93,7 +96,8 @@ fn push_moves(text: &mut String, world: &World<MemCell>) -> Result<(), AllocErro
 
 /// Appends the line of a step.
 fn push_line(text: &mut String, world: &World<MemCell>, step: Move) -> Result<(), AllocError>
-    ensures { OnOk result (string_bytes text.new ≡ string_bytes text.old ++ line_text world.now.setup step) }
+    ensures { OnOk result (string_bytes text.new ≡ string_bytes text.old
+        ++ line_text world.now.setup step) }
 {
     match step {
         Move::Takes(step) => {
@@ -106,7 +110,8 @@ fn push_line(text: &mut String, world: &World<MemCell>, step: Move) -> Result<()
 
 /// Appends what the line of a step asks for.
 fn push_asked(text: &mut String, world: &World<MemCell>, step: Step) -> Result<(), AllocError>
-    ensures { OnOk result (string_bytes text.new ≡ string_bytes text.old ++ asked_text world.now.setup step) }
+    ensures { OnOk result (string_bytes text.new ≡ string_bytes text.old
+        ++ asked_text world.now.setup step) }
 {
     match step {
         Step::Deliver(number) => write!(text, "deliver {number}"),

@@ -30,7 +30,8 @@ pub fn print_judgement<W: Write>(
 
 /// Appends a judgement.
 pub(crate) fn push_judgement(text: &mut String, judgement: &Judgement) -> Result<(), AllocError>
-    ensures { OnOk result (string_bytes text.new ≡ string_bytes text.old ++ judgement_text judgement.now) }
+    ensures { OnOk result (string_bytes text.new ≡ string_bytes text.old
+        ++ judgement_text judgement.now) }
 {
     match judgement {
         Judgement::Yes(world) => {

@@ -24,7 +24,8 @@ module _ {E O : Type 0} (t : Texts E O) where
   sum-append before (r ∷ xs) ys = sum-append (t.sum_of before r) xs ys
 
   -- a record more
-  pub records-push : (before : ℕ) (xs : List (Recorded E O)) (r : Recorded E O) → records t before xs ++ t.record_of (sum_after t before xs) r ≡ records t before (xs ++ r ∷ [])
+  pub records-push : (before : ℕ) (xs : List (Recorded E O)) (r : Recorded E O)
+      → records t before xs ++ t.record_of (sum_after t before xs) r ≡ records t before (xs ++ r ∷ [])
   records-push before xs r =
       ap (λ bytes. records t before xs ++ bytes) (sym (append-nil (t.record_of (sum_after t before xs) r)))
       ∙ sym (records-append before xs (r ∷ []))
@@ -45,7 +46,9 @@ module _ {N A E O L : Type 0} (m : Ghosts A N E O) (texts : ℕ → Texts E O) (
   pub flushed : (old : Held N A O L) (log : L) (past : Past E O) → Keeps m texts seen old past → seen log ≡ with_more (seen old.log) old.batch
       → Keeps m texts seen (record old { log = log; batch = []; waiting = [] }) (all_written past)
   flushed old log past kept appended = record {
-    sound = subst (λ history. IsRoom m (record { opening = old.opening; actor = old.actor; clock = old.clock; history = history })) (sym (append-nil (past.written ++ past.pending))) kept.sound;
+    sound =
+        subst (λ history. IsRoom m (record { opening = old.opening; actor = old.actor; clock = old.clock; history = history }))
+        (sym (append-nil (past.written ++ past.pending))) kept.sound;
     log = subst (λ found. IfSome found (λ bytes. bytes ≡ past.head ++ records (texts old.number) past.start (past.written ++ past.pending))) (sym appended)
         (log-written (texts old.number) past old.batch (seen old.log) kept.log kept.batch);
     batch = refl;
@@ -70,7 +73,8 @@ module _ {N A E O L : Type 0} (m : Ghosts A N E O) (texts : ℕ → Texts E O) (
       let t = texts old.number in
       let longer : (past.written ++ past.pending) ++ r ∷ [] ≡ past.written ++ (past.pending ++ r ∷ []) = append_assoc past.written past.pending (r ∷ []) in
       let room = room_next m (shown old past) actor input clock outcome kept.sound acted next in
-      let start : sum_after t past.start (past.written ++ past.pending) ≡ sum_after t (sum_after t past.start past.written) past.pending = sum-append t past.start past.written past.pending in (
+      let start : sum_after t past.start (past.written ++ past.pending) ≡ sum_after t (sum_after t past.start past.written) past.pending =
+      sum-append t past.start past.written past.pending in (
         record {
           opening = refl;
           next = next;

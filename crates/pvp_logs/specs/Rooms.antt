@@ -54,14 +54,17 @@ pub record Past (E O : Type 0) : Type 0 where
 
 -- the room of such a history
 abbrev pub shown : {N A E O L : Type 0} → Held N A O L → Past E O → Shown N A E O
-shown room past = record { opening = room.opening; actor = room.actor; clock = room.clock; history = past.written ++ past.pending }
+shown room past =
+    record { opening = room.opening; actor = room.actor; clock = room.clock; history = past.written ++ past.pending }
 
 -- WHAT A ROOM KEEPS of a history: its actor is the replay of it; the log, where it is known, has the records that are
 -- written, and the batch those that are not; and what those sent waits
-pub record Keeps {N A E O L : Type 0} (m : Ghosts A N E O) (texts : ℕ → Texts E O) (seen : L → Option (List ℕ)) (room : Held N A O L) (past : Past E O) : Type 0 where
+pub record Keeps {N A E O L : Type 0} (m : Ghosts A N E O) (texts : ℕ → Texts E O) (seen : L → Option (List ℕ))
+    (room : Held N A O L) (past : Past E O) : Type 0 where
   pub sound : IsRoom m (shown room past)
   pub log : IfSome (seen room.log) (λ bytes. bytes ≡ past.head ++ records (texts room.number) past.start past.written)
-  pub batch : room.batch ≡ records (texts room.number) (sum_after (texts room.number) past.start past.written) past.pending
+  pub batch : room.batch ≡ records (texts room.number)
+      (sum_after (texts room.number) past.start past.written) past.pending
   pub sum : room.sum ≡ sum_after (texts room.number) past.start (past.written ++ past.pending)
   pub waiting : room.waiting ≡ map letter past.pending
 
@@ -78,43 +81,52 @@ abbrev pub all_written : {E O : Type 0} → Past E O → Past E O
 all_written past = record past { written = past.written ++ past.pending; pending = [] }
 
 -- a room took an input: it goes on by one event
-abbrev pub TookOne : {N A E O L : Type 0} → Ghosts A N E O → (ℕ → Texts E O) → (L → Option (List ℕ)) → Input E → Held N A O L → Held N A O L → Past E O → ℕ → Type 0
+abbrev pub TookOne : {N A E O L : Type 0} → Ghosts A N E O → (ℕ → Texts E O) → (L → Option (List ℕ)) → Input E
+    → Held N A O L → Held N A O L → Past E O → ℕ → Type 0
 TookOne {O = O} m texts seen input old new past clock = (outcome : O)
     × Took m input (shown old past) (shown new (with_pending past (receipt input clock outcome))) clock outcome
     × Keeps m texts seen new (with_pending past (receipt input clock outcome))
 
 -- WHAT AN ANSWER TELLS of a room before and after, whatever history it has kept
-abbrev pub Steps : {N A E O L : Type 0} → Ghosts A N E O → (ℕ → Texts E O) → (L → Option (List ℕ)) → Input E → Held N A O L → Held N A O L → Posted → Type 0
+abbrev pub Steps : {N A E O L : Type 0} → Ghosts A N E O → (ℕ → Texts E O) → (L → Option (List ℕ)) → Input E
+    → Held N A O L → Held N A O L → Posted → Type 0
 Steps {E = E} {O = O} m texts seen input old new (Done clock) =
     (past : Past E O) → Keeps m texts seen old past → TookOne m texts seen input old new past clock
 Steps m texts seen input old new NoMemory = (new ≡ old) × IsSome (clock_after old.clock input.stamp)
 Steps m texts seen input old new ClockSpent = (new ≡ old) × (clock_after old.clock input.stamp ≡ None)
 
 -- a room took an input, and the record of how it came out has no text
-abbrev pub HasNoText : {N A E O L : Type 0} → Ghosts A N E O → (ℕ → Recorded E O → Type 0) → Input E → Held N A O L → Type 0
+abbrev pub HasNoText : {N A E O L : Type 0} → Ghosts A N E O → (ℕ → Recorded E O → Type 0) → Input E → Held N A O L
+    → Type 0
 HasNoText {O = O} m fits input old = (clock : ℕ) × (outcome : O) × (clock_after old.clock input.stamp ≡ Some clock)
-    × ((x : m.State) → m.shows old.actor x → m.comes x input.event outcome) × ¬ (fits old.number (receipt input clock outcome))
+    × ((x : m.State) → m.shows old.actor x → m.comes x input.event outcome)
+    × ¬ (fits old.number (receipt input clock outcome))
 
 -- WHAT A FLUSH HANDS OUT: what waited of the batch, whose records now stand in the log
-abbrev pub Flushes : {N A E O L : Type 0} → Ghosts A N E O → (ℕ → Texts E O) → (L → Option (List ℕ)) → Held N A O L → Held N A O L → List (Letter O) → Type 0
+abbrev pub Flushes : {N A E O L : Type 0} → Ghosts A N E O → (ℕ → Texts E O) → (L → Option (List ℕ)) → Held N A O L
+    → Held N A O L → List (Letter O) → Type 0
 Flushes {E = E} {O = O} m texts seen old new letters =
-    (past : Past E O) → Keeps m texts seen old past → (letters ≡ map letter past.pending) × Keeps m texts seen new (all_written past)
+    (past : Past E O) → Keeps m texts seen old past
+    → (letters ≡ map letter past.pending) × Keeps m texts seen new (all_written past)
 
 -- an event without a stamp that came out so
 abbrev pub noted : {E O : Type 0} → E → ℕ → O → Recorded E O
 noted event clock outcome = record { event = event; stamp = None; clock = clock; outcome = outcome }
 
 -- a room noted such an event: its actor goes on by it, and whatever history the room has kept, by its record
-pub record NotedOne {N A E O L : Type 0} (m : Ghosts A N E O) (texts : ℕ → Texts E O) (seen : L → Option (List ℕ)) (event : E) (outcome : O) (old new : Held N A O L) : Type 0 where
+pub record NotedOne {N A E O L : Type 0} (m : Ghosts A N E O) (texts : ℕ → Texts E O) (seen : L → Option (List ℕ))
+    (event : E) (outcome : O) (old new : Held N A O L) : Type 0 where
   pub number : new.number ≡ old.number
   pub opening : new.opening ≡ old.opening
   pub log : new.log ≡ old.log
   pub next : clock_after old.clock None ≡ Some new.clock
   pub step : (x : m.State) → m.shows old.actor x → Takes m.comes m.after x event outcome (m.shows new.actor)
-  pub keeps : (past : Past E O) → Keeps m texts seen old past → Keeps m texts seen new (with_pending past (noted event new.clock outcome))
+  pub keeps : (past : Past E O) → Keeps m texts seen old past
+      → Keeps m texts seen new (with_pending past (noted event new.clock outcome))
 
 -- WHAT NOTING AN EVENT TELLS: it is in the history; or it cannot have come out so, or there is no greater clock
-abbrev pub Notes : {N A E O L : Type 0} → Ghosts A N E O → (ℕ → Texts E O) → (L → Option (List ℕ)) → E → O → Held N A O L → Option (Held N A O L) → Type 0
+abbrev pub Notes : {N A E O L : Type 0} → Ghosts A N E O → (ℕ → Texts E O) → (L → Option (List ℕ)) → E → O
+    → Held N A O L → Option (Held N A O L) → Type 0
 Notes m texts seen event outcome old (Some new) = NotedOne m texts seen event outcome old new
 Notes m texts seen event outcome old None =
     (clock_after old.clock None ≡ None) ⊎ ((x : m.State) → m.shows old.actor x → ¬ m.comes x event outcome)
@@ -126,7 +138,8 @@ pub record Mark (E O : Type 0) : Type 0 where
 
 abbrev pub AreMarked : {E O : Type 0} → List (Recorded E O) → List (Mark E O) → Type 0
 AreMarked [] [] = Unit {0}
-AreMarked (r ∷ more) (mark ∷ marks) = (r.event ≡ mark.event) × (r.stamp ≡ None) × IfSome mark.came (λ came. r.outcome ≡ came) × AreMarked more marks
+AreMarked (r ∷ more) (mark ∷ marks) =
+    (r.event ≡ mark.event) × (r.stamp ≡ None) × IfSome mark.came (λ came. r.outcome ≡ came) × AreMarked more marks
 AreMarked [] (mark ∷ marks) = ⊥
 AreMarked (r ∷ more) [] = ⊥
 
@@ -135,13 +148,16 @@ abbrev pub with_all : {E O : Type 0} → Past E O → List (Recorded E O) → Pa
 with_all past more = record past { pending = past.pending ++ more }
 
 -- a room went on by these events, behind a history that it kept
-pub record WentOn {N A B E O L : Type 0} (n : Ghosts B N E O) (texts : ℕ → Texts E O) (seen : L → Option (List ℕ)) (old : Held N A O L) (new : Held N B O L) (past : Past E O) (marks : List (Mark E O)) : Type 0 where
+pub record WentOn {N A B E O L : Type 0} (n : Ghosts B N E O) (texts : ℕ → Texts E O) (seen : L → Option (List ℕ))
+    (old : Held N A O L) (new : Held N B O L) (past : Past E O) (marks : List (Mark E O)) : Type 0 where
   pub more : List (Recorded E O)
   pub are : AreMarked more marks
   pub opening : new.opening ≡ old.opening
   pub keeps : Keeps n texts seen new (with_all past more)
 
--- A ROOM GOES ON BY THESE EVENTS, over another actor: whatever history it has kept is the front of the one that it keeps
-abbrev pub GoesOn : {N A B E O L : Type 0} → Ghosts A N E O → Ghosts B N E O → (ℕ → Texts E O) → (L → Option (List ℕ)) → Held N A O L → Held N B O L → List (Mark E O) → Type 0
+-- A ROOM GOES ON BY THESE EVENTS, over another actor: whatever history it has kept is the front of the one that it
+-- keeps
+abbrev pub GoesOn : {N A B E O L : Type 0} → Ghosts A N E O → Ghosts B N E O → (ℕ → Texts E O) → (L → Option (List ℕ))
+    → Held N A O L → Held N B O L → List (Mark E O) → Type 0
 GoesOn {E = E} {O = O} m n texts seen old new marks =
     (past : Past E O) → Keeps m texts seen old past → WentOn n texts seen old new past marks

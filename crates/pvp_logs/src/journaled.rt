@@ -27,7 +27,8 @@ pub trait Journaled: Actor {
         entry: &Recorded<Self::Event, Self::Outcome>,
         out: &mut Vec<u8>,
     ) -> Result<u64, WriteFault>
-        ensures written { OnOk result (out.new.items ≡ out.old.items ++ (texts number).record_of before entry.now) }
+        ensures written { OnOk result (out.new.items ≡ out.old.items
+            ++ (texts number).record_of before entry.now) }
         ensures sum { IfOk result (λ after. after ≡ (texts number).sum_of before entry.now) }
         ensures unfit { result ≡ Err Unfit → ¬ (fits number entry.now) }
         ensures err { OnErr result (out.new.items ≡ out.old.items) };

@@ -14,14 +14,17 @@ ghost use Rattle.pvp_logs.specs.Rooms.{bank_texts, records};
 /// A log that begins with a head and holds the records of a history behind it is the journal of both.
 pub fn is_a_journal()
     ensures { (head : Head) (history : List Entry) →
-        head_text head ++ records (bank_texts head.actor) (head_sum head) history ≡ journal_text head history }
+        head_text head ++ records (bank_texts head.actor) (head_sum head) history
+        ≡ journal_text head history }
 {}
 
 /// What a power cut leaves of such a log, where its head was synced, reads as a front of the history, with what is left
 /// told as torn and never as damaged.
 pub fn after_a_cut()
-    ensures { (head : Head) (history : List Entry) (synced : ℕ) (left : List ℕ) → AreJournalable head history →
-        length (head_text head) ≤ synced → MayLeave (journal_text head history) synced left → IsCutBehind left head history }
+    ensures { (head : Head) (history : List Entry) (synced : ℕ) (left : List ℕ) →
+        AreJournalable head history →
+        length (head_text head) ≤ synced → MayLeave (journal_text head history) synced left →
+        IsCutBehind left head history }
 {}
 
 /// A journal that was read to the end of its bytes is written, all of it, in a log that holds these bytes, with the checksum

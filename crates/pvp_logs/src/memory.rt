@@ -18,7 +18,8 @@ impl MemLog {
     pub fn new(bytes: Vec<u8>, failing: u64) -> Self
         ensures bytes { result.bytes ≡ bytes }
         ensures synced { result.synced ≡ length bytes.items }
-        ensures before_fault { result.before_fault ≡ (if failing == 0 then None else Some (failing - 1)) }
+        ensures before_fault { result.before_fault
+            ≡ (if failing == 0 then None else Some (failing - 1)) }
     {
         let synced = bytes.len();
         MemLog {

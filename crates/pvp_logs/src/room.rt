@@ -173,7 +173,8 @@ impl<A: Journaled, L: Log> JournalRoom<A, L> {
     /// Takes an event as `Room::step` does, but that its record goes into the batch, and what it sent waits. `Err` where
     /// the record cannot be written: then the actor is ahead of its journal, and the room is gone, with all that waited.
     pub fn step(self, alloc: Global, input: Input<A::Event>) -> Result<(Self, Posted), WriteFault>
-        ensures ok { IfOk result (λ after. Steps A.Actor A.texts L.seen input self after.0 after.1) }
+        ensures ok { IfOk result (λ after.
+            Steps A.Actor A.texts L.seen input self after.0 after.1) }
         ensures unfit { result ≡ Err Unfit → HasNoText A.Actor A.fits input self }
     {
         let mut room = self;
@@ -212,9 +213,11 @@ impl<A: Journaled, L: Log> JournalRoom<A, L> {
         alloc: Global,
         syncs: bool,
     ) -> Result<(Self, Vec<Letter<A::Outcome>>), LogFault>
-        ensures flushes { IfOk result (λ after. Flushes A.Actor A.texts L.seen self after.0 after.1.items) }
+        ensures flushes { IfOk result (λ after.
+            Flushes A.Actor A.texts L.seen self after.0 after.1.items) }
         ensures letters { IfOk result (λ after. after.1.items ≡ self.waiting) }
-        ensures synced { IfOk result (λ after. IsTrue syncs → OutlivesAll (L.seen after.0.log) (L.synced after.0.log)) }
+        ensures synced { IfOk result (λ after. IsTrue syncs →
+            OutlivesAll (L.seen after.0.log) (L.synced after.0.log)) }
     {
         let JournalRoom {
             number,

@@ -171,7 +171,8 @@ fn fallen<L: Log>(
     held: Boot,
 ) -> Result<JournalRoom<Party, L>, RestartFault>
     ensures { IfOk result (λ fell.
-        GoesOn ⟦<Party as Actor>⟧ ⟦<Party as Actor>⟧ bank_texts L.seen room fell (a_fall held ∷ [])) }
+        GoesOn ⟦<Party as Actor>⟧ ⟦<Party as Actor>⟧ bank_texts L.seen room
+        fell (a_fall held ∷ [])) }
 {
     let outcome = PartyOutcome::OfSite(CameOf::Fell {
         why: SiteFault::CellFault,

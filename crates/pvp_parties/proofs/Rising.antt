@@ -5,10 +5,12 @@ use Rattle.std.proofs.lemmas.Bool.{eqb-true, eqb-false}
 use Rattle.pvp_rooms.specs.declared.cell.Closed.{Closed}
 use Rattle.pvp_audit.specs.Runs.{number_in, number_at}
 
-number_read : {A N E O : Type 0} (closed : List (Closed A N E O)) (k : ℕ) (c : Closed A N E O) → k < length closed → c ≡ get_or closed k c → number_at closed k ≡ c.number
+number_read : {A N E O : Type 0} (closed : List (Closed A N E O)) (k : ℕ) (c : Closed A N E O) → k < length closed → c ≡ get_or closed k c
+    → number_at closed k ≡ c.number
 number_read closed k c h e = ap number_in (slice_get_read closed (length closed) k c refl h e)
 
-pub number_got : {A N E O : Type 0} (closed : List (Closed A N E O)) (k : ℕ) (c : Closed A N E O) → k < length closed → c ≡ get_or closed k c → number_at closed k ≡ (get_or closed k c).number
+pub number_got : {A N E O : Type 0} (closed : List (Closed A N E O)) (k : ℕ) (c : Closed A N E O) → k < length closed → c ≡ get_or closed k c
+    → number_at closed k ≡ (get_or closed k c).number
 number_got closed k c h e = number_read closed k c h e ∙ ap (λ v. v.number) e
 
 -- one more place

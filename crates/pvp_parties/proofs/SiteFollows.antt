@@ -41,22 +41,27 @@ restarts : {C : Type 0} (R O : Type 0) (f me : ℕ) (y : Site C) → is_refused 
 unfolding on_restart
 restarts R O f me y = refl
 
-module _ {H C R O S B : Type 0} (m : Ghosts H C R O S) (c : Cell B) (old : Shown C S B) (x : SiteState H C) (event : EventOf C R O) (shows : Shows m c old x) where
+module _ {H C R O S B : Type 0} (m : Ghosts H C R O S) (c : Cell B) (old : Shown C S B) (x : SiteState H C) (event : EventOf C R O)
+    (shows : Shows m c old x) where
   -- the cell that is shown is the site's
   held_is : x.site.cell ≡ c.held old.cell
   held_is = ap (λ y. y.cell) shows.site
 
   -- an event that is refused is neither handled nor dropped
-  not_taken : (why : SiteFault) → refusal old.f old.me (site_shown c.held old []) event ≡ Some why → is_refused (step_in {R = R} {O = O} x event).ending ≡ false → ⊥
+  not_taken : (why : SiteFault) → refusal old.f old.me (site_shown c.held old []) event ≡ Some why → is_refused (step_in {R = R} {O = O} x event).ending ≡ false
+      → ⊥
   not_taken why h e =
       let r : refusal x.f x.me x.site event ≡ Some why = refusal_of m c old x event shows ∙ h in
-      let t : is_refused (step_in {R = R} {O = O} x event).ending ≡ true = ap (λ r. is_refused (refused_or x.site r (on_event {R = R} {O = O} x.choose x.f x.me x.site event)).ending) r in
+      let t : is_refused (step_in {R = R} {O = O} x event).ending ≡ true =
+      ap (λ r. is_refused (refused_or x.site r (on_event {R = R} {O = O} x.choose x.f x.me x.site event)).ending) r in
       let clash : true ≡ false = sym t ∙ e in cc
 
-  pub no_did : (why : SiteFault) → refusal old.f old.me (site_shown c.held old []) event ≡ Some why → (sent : List (EnvelopeOf C R O)) (dropped : Option Why) → ¬ Comes m x event (Did sent dropped)
+  pub no_did : (why : SiteFault) → refusal old.f old.me (site_shown c.held old []) event ≡ Some why → (sent : List (EnvelopeOf C R O)) (dropped : Option Why)
+      → ¬ Comes m x event (Did sent dropped)
   no_did why h sent dropped = λ comes. not_taken why h (ap is_refused comes.ending ∙ ended_allowed dropped)
 
-  pub no_fell : (why : SiteFault) → refusal old.f old.me (site_shown c.held old []) event ≡ Some why → (fault : SiteFault) (cell : Boot) → ¬ Comes m x event (Fell fault cell)
+  pub no_fell : (why : SiteFault) → refusal old.f old.me (site_shown c.held old []) event ≡ Some why → (fault : SiteFault) (cell : Boot)
+      → ¬ Comes m x event (Fell fault cell)
   no_fell why h fault cell = λ comes. not_taken why h comes.0.allowed
 
   -- a site refuses as it shows
@@ -72,13 +77,17 @@ module _ {H C R O S B : Type 0} (m : Ghosts H C R O S) (c : Cell B) (old : Shown
       → Comes m x event (Fell why cell) × Shows m c now (after x event (Fell why cell))
   fell_unsaved now why cell restart free held fallen of =
       let r : refusal x.f x.me x.site event ≡ None = refusal_of m c old x event shows ∙ free in
-      let t : is_refused (step_in {R = R} {O = O} x event).ending ≡ is_refused (on_event {R = R} {O = O} x.choose x.f x.me x.site event).ending = ap (λ r. is_refused (refused_or x.site r (on_event {R = R} {O = O} x.choose x.f x.me x.site event)).ending) r in
-      let s : is_refused (on_event {R = R} {O = O} x.choose x.f x.me x.site event).ending ≡ false = ap (λ e. is_refused (on_event {R = R} {O = O} x.choose x.f x.me x.site e).ending) restart ∙ restarts R O x.f x.me x.site in
+      let t : is_refused (step_in {R = R} {O = O} x event).ending ≡ is_refused (on_event {R = R} {O = O} x.choose x.f x.me x.site event).ending =
+      ap (λ r. is_refused (refused_or x.site r (on_event {R = R} {O = O} x.choose x.f x.me x.site event)).ending) r in
+      let s : is_refused (on_event {R = R} {O = O} x.choose x.f x.me x.site event).ending ≡ false =
+      ap (λ e. is_refused (on_event {R = R} {O = O} x.choose x.f x.me x.site e).ending) restart ∙ restarts R O x.f x.me x.site in
       let last : cell ≡ c.held now.cell = held ∙ sym (ap (λ v. c.held v.cell) fallen) in
       let left : KeepsPlace old now = record { f = ap (λ v. v.f) fallen; me = ap (λ v. v.me) fallen; setup = ap (λ v. v.setup) fallen } in (
         (record { allowed = t ∙ s; down = inl (ap (λ b. over b status.Down) (held ∙ sym held_is)) }, of),
         record {
-          is = still m c old now (record x { site = over cell status.Down }) left (record { f = shows.is.f; me = shows.is.me; start = shows.is.start; right = shows.is.right });
+          is =
+              still m c old now (record x { site = over cell status.Down }) left
+              (record { f = shows.is.f; me = shows.is.me; start = shows.is.start; right = shows.is.right });
           acks = subst (λ (v : Shown C S B). SumUp v.volatile.acked []) (sym fallen) none_summed;
           site = ap (λ b. over b status.Down) last ∙ sym (ap (λ v. site_shown c.held (record now { volatile = v }) []) (ap (λ v. v.volatile) fallen));
         },
@@ -90,21 +99,25 @@ module _ {H C R O S B : Type 0} (m : Ghosts H C R O S) (c : Cell B) (old : Shown
         → Comes m x event (Did sent dropped) × Shows m c new (after x event (Did sent dropped))
     did_so sent dropped d s =
         subst (λ why. Comes m x event (Did sent why) × Shows m c new (after x event (Did sent why))) d
-        (subst (λ list. Comes m x event (Did list out.dropped) × Shows m c new (after x event (Did list out.dropped))) s (did m c old new x event shows place out handles))
+        (subst (λ list. Comes m x event (Did list out.dropped) × Shows m c new (after x event (Did list out.dropped))) s
+        (did m c old new x event shows place out handles))
 
-    pub did_only : (sent : List (EnvelopeOf C R O)) (dropped : Option Why) → Comes m x event (Did sent dropped) → (out.dropped ≡ dropped) × (out.sent.items ≡ sent)
+    pub did_only : (sent : List (EnvelopeOf C R O)) (dropped : Option Why) → Comes m x event (Did sent dropped)
+        → (out.dropped ≡ dropped) × (out.sent.items ≡ sent)
     did_only sent dropped comes =
         let d = did m c old new x event shows place out handles in
         (ended_one out.dropped dropped (sym d.0.ending ∙ comes.ending), d.0.sends ∙ sym comes.sends)
 
     -- a site falls over what its cell holds after its step, and over that alone
-    pub fell_so : (now : Shown C S B) (why : SiteFault) (cell : Boot) → now ≡ record new { volatile = lost } → cell ≡ c.held now.cell → (why ≡ NoMemory) ⊎ (why ≡ CellFault)
+    pub fell_so : (now : Shown C S B) (why : SiteFault) (cell : Boot) → now ≡ record new { volatile = lost } → cell ≡ c.held now.cell
+        → (why ≡ NoMemory) ⊎ (why ≡ CellFault)
         → Comes m x event (Fell why cell) × Shows m c now (after x event (Fell why cell))
     fell_so now why cell fallen held of =
         let f = fell_after m c old new x event shows place out handles now cell fallen held in
         ((f.0.0, of), f.1)
 
-    pub fell_only : (now : Shown C S B) (why : SiteFault) (cell : Boot) → now ≡ record new { volatile = lost } → (cell ≡ c.held old.cell → c.held new.cell ≡ c.held old.cell)
+    pub fell_only : (now : Shown C S B) (why : SiteFault) (cell : Boot) → now ≡ record new { volatile = lost }
+        → (cell ≡ c.held old.cell → c.held new.cell ≡ c.held old.cell)
         → Comes m x event (Fell why cell) → cell ≡ c.held now.cell
     fell_only now why cell fallen same comes =
         let d = did m c old new x event shows place out handles in

@@ -10,7 +10,8 @@ use Rattle.pvp_parties.specs.declared.party.PartyOutcome.TheVariants.{Stray}
 use Rattle.pvp_parties.specs.Parties.{PartyState, AtSite, AtNode, AtClient, Shows, Comes, after}
 
 module _ {B : Type 0} (c : Cell B) where
-  at_site : (p : _) (event : PartyEvent) → ((e : _) → event ≡ OfSite e → ⊥) → (x : PartyState) → Shows c (Site p) x → Comes x event Stray × Shows c (Site p) (after x event Stray)
+  at_site : (p : _) (event : PartyEvent) → ((e : _) → event ≡ OfSite e → ⊥) → (x : PartyState) → Shows c (Site p) x
+      → Comes x event Stray × Shows c (Site p) (after x event Stray)
   at_site p (OfSite e) other x shows = absurd (other e refl)
   at_site p (OfNode e) other (AtSite y) shows = (tt, shows)
   at_site p (OfNode e) other (AtNode y) shows = absurd shows
@@ -24,7 +25,8 @@ module _ {B : Type 0} (c : Cell B) where
   stray_at_site v p event told is other stray x shows =
       subst (λ o. Comes x event o × Shows c (Site p) (after x event o)) (sym stray) (at_site p event other x (subst (λ w. Shows c w x) is shows))
 
-  at_node : (p : _) (event : PartyEvent) → ((e : _) → event ≡ OfNode e → ⊥) → (x : PartyState) → Shows c (Node p) x → Comes x event Stray × Shows c (Node p) (after x event Stray)
+  at_node : (p : _) (event : PartyEvent) → ((e : _) → event ≡ OfNode e → ⊥) → (x : PartyState) → Shows c (Node p) x
+      → Comes x event Stray × Shows c (Node p) (after x event Stray)
   at_node p (OfNode e) other x shows = absurd (other e refl)
   at_node p (OfSite e) other (AtSite y) shows = absurd shows
   at_node p (OfSite e) other (AtNode y) shows = (tt, shows)
@@ -38,7 +40,8 @@ module _ {B : Type 0} (c : Cell B) where
   stray_at_node v p event told is other stray x shows =
       subst (λ o. Comes x event o × Shows c (Node p) (after x event o)) (sym stray) (at_node p event other x (subst (λ w. Shows c w x) is shows))
 
-  at_client : (p : _) (event : PartyEvent) → ((e : _) → event ≡ OfClient e → ⊥) → (x : PartyState) → Shows c (Client p) x → Comes x event Stray × Shows c (Client p) (after x event Stray)
+  at_client : (p : _) (event : PartyEvent) → ((e : _) → event ≡ OfClient e → ⊥) → (x : PartyState) → Shows c (Client p) x
+      → Comes x event Stray × Shows c (Client p) (after x event Stray)
   at_client p (OfClient e) other x shows = absurd (other e refl)
   at_client p (OfSite e) other (AtSite y) shows = absurd shows
   at_client p (OfSite e) other (AtNode y) shows = absurd shows

@@ -33,4 +33,5 @@ pub record AreAlikeSites (v w : Site) : Type 0 where
 -- there are as many members, and each member's account holds the same
 pub record HoldTheSame (v w : node.Shown) : Type 0 where
   pub count : length v.setup.members ≡ length w.setup.members
-  pub members : (m : ℕ) → has_member v.setup m ≡ true → member_account v.setup v.ccy m v.node ≡ member_account w.setup w.ccy m w.node
+  pub members : (m : ℕ) → has_member v.setup m ≡ true
+      → member_account v.setup v.ccy m v.node ≡ member_account w.setup w.ccy m w.node

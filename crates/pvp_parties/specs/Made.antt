@@ -12,7 +12,13 @@ use Rattle.pvp_parties.specs.Alike.{SiteOf}
 
 -- the ghost members of the cell in memory
 abbrev pub memory : Cell MemCell
-memory = record { held = held_by; faults = faults_of; is_reliable = IsReliable; saves = λ old boot new. new ≡ after_save old boot }
+memory =
+    record {
+      held = held_by;
+      faults = faults_of;
+      is_reliable = IsReliable;
+      saves = λ old boot new. new ≡ after_save old boot;
+    }
 
 -- the setup of the bank, which of its kind the actor is, and what it shows now
 pub record Made (A : Type 0) : Type 0 where

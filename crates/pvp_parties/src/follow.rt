@@ -31,7 +31,8 @@ pub fn follow_node(
     event: &NodeEvent,
     told: &Told<NodeFault>,
 ) -> Result<bool, AllocError>
-    ensures { IfOk result (λ can. Follows nodes.Comes nodes.after node.old event.now told.now (λ y. y ≡ node.new) can) }
+    ensures { IfOk result (λ can. Follows nodes.Comes nodes.after node.old event.now told.now
+        (λ y. y ≡ node.new) can) }
 {
     match told {
         Ok(sent) => follow_node_step(node, alloc, event, sent),
@@ -46,7 +47,8 @@ fn follow_node_step(
     event: &NodeEvent,
     sent: &Sent<Book>,
 ) -> Result<bool, AllocError>
-    ensures { IfOk result (λ can. Follows nodes.Comes nodes.after node.old event.now (Ok sent.now) (λ y. y ≡ node.new) can) }
+    ensures { IfOk result (λ can. Follows nodes.Comes nodes.after node.old event.now (Ok sent.now)
+        (λ y. y ≡ node.new) can) }
 {
     let copy = Node::copy_event(alloc, event)?;
     match node.handle(copy) {
@@ -63,7 +65,8 @@ fn follow_node_refusal(
     event: &NodeEvent,
     fault: NodeFault,
 ) -> Result<bool, AllocError>
-    ensures { IfOk result (λ can. Follows nodes.Comes nodes.after node.old event.now (Err fault) (λ y. y ≡ node.new) can) }
+    ensures { IfOk result (λ can. Follows nodes.Comes nodes.after node.old event.now (Err fault)
+        (λ y. y ≡ node.new) can) }
 {
     if same_node_fault(fault, NodeFault::NoMemory) {
         return Ok(true);
@@ -84,7 +87,8 @@ pub fn follow_client(
     event: &ClientEvent,
     told: &Told<ClientFault>,
 ) -> Result<bool, AllocError>
-    ensures { IfOk result (λ can. Follows clients.Comes clients.after client.old event.now told.now (λ y. y ≡ client.new) can) }
+    ensures { IfOk result (λ can. Follows clients.Comes clients.after client.old event.now told.now
+        (λ y. y ≡ client.new) can) }
 {
     match told {
         Ok(sent) => follow_client_step(client, alloc, event, sent),
@@ -99,7 +103,8 @@ fn follow_client_step(
     event: &ClientEvent,
     sent: &Sent<Book>,
 ) -> Result<bool, AllocError>
-    ensures { IfOk result (λ can. Follows clients.Comes clients.after client.old event.now (Ok sent.now) (λ y. y ≡ client.new) can) }
+    ensures { IfOk result (λ can. Follows clients.Comes clients.after client.old event.now
+        (Ok sent.now) (λ y. y ≡ client.new) can) }
 {
     let copy = Client::copy_event(alloc, event)?;
     match client.handle(alloc, copy) {
@@ -116,7 +121,8 @@ fn follow_client_refusal(
     event: &ClientEvent,
     fault: ClientFault,
 ) -> Result<bool, AllocError>
-    ensures { IfOk result (λ can. Follows clients.Comes clients.after client.old event.now (Err fault) (λ y. y ≡ client.new) can) }
+    ensures { IfOk result (λ can. Follows clients.Comes clients.after client.old event.now
+        (Err fault) (λ y. y ≡ client.new) can) }
 {
     if same_client_fault(fault, ClientFault::NoMemory) {
         return Ok(true);
@@ -136,7 +142,8 @@ pub fn follow_site(
     event: &Event<Book>,
     came: &Came<Book>,
 ) -> Result<bool, AllocError>
-    ensures { IfOk result (λ can. (x : SiteState Ledger Cmd) → Shows book memory site.old x → Follows (Comes book) after x event.now came.now (Shows book memory site.new) can) }
+    ensures { IfOk result (λ can. (x : SiteState Ledger Cmd) → Shows book memory site.old x →
+        Follows (Comes book) after x event.now came.now (Shows book memory site.new) can) }
 {
     match came {
         CameOf::Did { sent, dropped } => follow_step(site, alloc, event, sent, *dropped),
@@ -147,7 +154,8 @@ pub fn follow_site(
 
 /// Whether a site refuses an event so.
 fn is_refusal(site: &Replica<Book, MemCell>, event: &Event<Book>, why: SiteFault) -> bool
-    ensures { (x : SiteState Ledger Cmd) → Shows book memory site.now x → IsTrue result ↔ Comes book x event.now (Refused why) }
+    ensures { (x : SiteState Ledger Cmd) → Shows book memory site.now x →
+        IsTrue result ↔ Comes book x event.now (Refused why) }
 {
     match site.refuses(event) {
         None => false,
@@ -163,7 +171,9 @@ fn follow_step(
     sent: &Sent<Book>,
     dropped: Option<Why>,
 ) -> Result<bool, AllocError>
-    ensures { IfOk result (λ can. (x : SiteState Ledger Cmd) → Shows book memory site.old x → Follows (Comes book) after x event.now (Did sent.now dropped) (Shows book memory site.new) can) }
+    ensures { IfOk result (λ can. (x : SiteState Ledger Cmd) → Shows book memory site.old x →
+        Follows (Comes book) after x event.now (Did sent.now dropped)
+        (Shows book memory site.new) can) }
 {
     if site.refuses(event).is_some() {
         return Ok(false);
@@ -187,7 +197,8 @@ fn follow_fall(
     why: SiteFault,
     cell: Boot,
 ) -> Result<bool, AllocError>
-    ensures { IfOk result (λ can. (x : SiteState Ledger Cmd) → Shows book memory site.old x → Follows (Comes book) after x event.now (Fell why cell) (Shows book memory site.new) can) }
+    ensures { IfOk result (λ can. (x : SiteState Ledger Cmd) → Shows book memory site.old x →
+        Follows (Comes book) after x event.now (Fell why cell) (Shows book memory site.new) can) }
 {
     if !is_of_fall(why) {
         return Ok(false);

@@ -53,7 +53,8 @@ impl<C: BootCell> SiteParty<C> {
         ensures setup { IfOk result (λ made. made.setup ≡ setup.now) }
         ensures place { IfOk result (λ made. made.place ≡ me) }
         ensures opens { IfOk result (λ made. (x : sites.SiteState Ledger AnyCmd) →
-            sites.Opens book (made_site made) (C.held cell) x → sites.Shows book C.BootCell made.now x) }
+            sites.Opens book (made_site made) (C.held cell) x →
+            sites.Shows book C.BootCell made.now x) }
     {
         let f = setup.faults();
         let config = Config { f, me };
@@ -79,13 +80,16 @@ impl<C: BootCell> SiteParty<C> {
         alloc: Global,
         event: Event<Book>,
     ) -> Result<Copies<Came<Book>>, AllocError>
-        ensures step { IfOk result (λ copies. (x : sites.SiteState Ledger AnyCmd) → sites.Shows book C.BootCell self.old.now x →
-            Takes (sites.Comes book) sites.after x event copies.answered (sites.Shows book C.BootCell self.new.now)) }
+        ensures step { IfOk result (λ copies. (x : sites.SiteState Ledger AnyCmd) →
+            sites.Shows book C.BootCell self.old.now x →
+            Takes (sites.Comes book) sites.after x event copies.answered
+            (sites.Shows book C.BootCell self.new.now)) }
         ensures kept { self.new ≡ record self.old { now = self.new.now } }
         ensures recorded { IfOk result (λ copies. copies.recorded ≡ copies.answered) }
         ensures receipted { IfOk result (λ copies. copies.receipted ≡ copies.answered) }
         ensures err { OnErr result (self.new ≡ self.old) }
-        ensures told { IfOk result (λ copies. sites.Tells book C.BootCell self.old.now self.new.now event copies.answered) }
+        ensures told { IfOk result (λ copies.
+            sites.Tells book C.BootCell self.old.now self.new.now event copies.answered) }
     {
         Actor::take(&mut self.site, alloc, event)
     }
@@ -132,8 +136,10 @@ impl SiteParty<MemCell> {
         event: &Event<Book>,
         came: &Came<Book>,
     ) -> Result<bool, AllocError>
-        ensures step { IfOk result (λ can. (x : sites.SiteState Ledger AnyCmd) → sites.Shows book memory self.old.now x →
-            Follows (sites.Comes book) sites.after x event.now came.now (sites.Shows book memory self.new.now) can) }
+        ensures step { IfOk result (λ can. (x : sites.SiteState Ledger AnyCmd) →
+            sites.Shows book memory self.old.now x →
+            Follows (sites.Comes book) sites.after x event.now came.now
+            (sites.Shows book memory self.new.now) can) }
         ensures kept { self.new ≡ record self.old { now = self.new.now } }
     {
         follow_site(&mut self.site, alloc, event, came)
@@ -191,12 +197,14 @@ impl NodeParty {
         event: NodeEvent,
     ) -> Result<Copies<Told<NodeFault>>, AllocError>
         ensures step { IfOk result (λ copies.
-            Takes nodes.Comes nodes.after self.old.now event copies.answered (λ y. y ≡ self.new.now)) }
+            Takes nodes.Comes nodes.after self.old.now event copies.answered
+            (λ y. y ≡ self.new.now)) }
         ensures kept { self.new ≡ record self.old { now = self.new.now } }
         ensures recorded { IfOk result (λ copies. copies.recorded ≡ copies.answered) }
         ensures receipted { IfOk result (λ copies. copies.receipted ≡ copies.answered) }
         ensures err { OnErr result (self.new ≡ self.old) }
-        ensures told { IfOk result (λ copies. nodes.Tells self.old.now self.new.now event copies.answered) }
+        ensures told { IfOk result (λ copies.
+            nodes.Tells self.old.now self.new.now event copies.answered) }
     {
         Actor::take(&mut self.node, alloc, event)
     }
@@ -209,7 +217,8 @@ impl NodeParty {
         told: &Told<NodeFault>,
     ) -> Result<bool, AllocError>
         ensures step { IfOk result (λ can.
-            Follows nodes.Comes nodes.after self.old.now event.now told.now (λ y. y ≡ self.new.now) can) }
+            Follows nodes.Comes nodes.after self.old.now event.now told.now
+            (λ y. y ≡ self.new.now) can) }
         ensures kept { self.new ≡ record self.old { now = self.new.now } }
     {
         follow_node(&mut self.node, alloc, event, told)
@@ -281,12 +290,14 @@ impl ClientParty {
         event: ClientEvent,
     ) -> Result<Copies<Told<ClientFault>>, AllocError>
         ensures step { IfOk result (λ copies.
-            Takes clients.Comes clients.after self.old.now event copies.answered (λ y. y ≡ self.new.now)) }
+            Takes clients.Comes clients.after self.old.now event copies.answered
+            (λ y. y ≡ self.new.now)) }
         ensures kept { self.new ≡ record self.old { now = self.new.now } }
         ensures recorded { IfOk result (λ copies. copies.recorded ≡ copies.answered) }
         ensures receipted { IfOk result (λ copies. copies.receipted ≡ copies.answered) }
         ensures err { OnErr result (self.new ≡ self.old) }
-        ensures told { IfOk result (λ copies. clients.Tells self.old.now self.new.now event copies.answered) }
+        ensures told { IfOk result (λ copies.
+            clients.Tells self.old.now self.new.now event copies.answered) }
     {
         Actor::take(&mut self.client, alloc, event)
     }
@@ -299,7 +310,8 @@ impl ClientParty {
         told: &Told<ClientFault>,
     ) -> Result<bool, AllocError>
         ensures step { IfOk result (λ can.
-            Follows clients.Comes clients.after self.old.now event.now told.now (λ y. y ≡ self.new.now) can) }
+            Follows clients.Comes clients.after self.old.now event.now told.now
+            (λ y. y ≡ self.new.now) can) }
         ensures kept { self.new ≡ record self.old { now = self.new.now } }
     {
         follow_client(&mut self.client, alloc, event, told)

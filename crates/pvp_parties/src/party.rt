@@ -182,7 +182,8 @@ impl<C: BootCell> PartyOf<C> {
         requires known { me ≤ 2 * faults setup.now }
         ensures number { IfOk result (λ party. number_of party ≡ actor_of me) }
         ensures setup { IfOk result (λ party. setup_of party ≡ setup.now) }
-        ensures opens { IfOk result (λ party. (x : PartyState) → Opens party (Some (C.held cell)) x → Shows C.BootCell party x) }
+        ensures opens { IfOk result (λ party. (x : PartyState) →
+            Opens party (Some (C.held cell)) x → Shows C.BootCell party x) }
     {
         Ok(PartyOf::Site(SiteParty::new(alloc, setup, me, cell)?))
     }
@@ -193,7 +194,8 @@ impl<C: BootCell> PartyOf<C> {
         requires known { ccy < length setup.now.currencies }
         ensures number { IfOk result (λ party. number_of party ≡ node_of ccy) }
         ensures setup { IfOk result (λ party. setup_of party ≡ setup.now) }
-        ensures opens { IfOk result (λ party. (x : PartyState) → Opens party None x → Shows C.BootCell party x) }
+        ensures opens { IfOk result (λ party. (x : PartyState) → Opens party None x →
+            Shows C.BootCell party x) }
     {
         Ok(PartyOf::Node(NodeParty::new(alloc, setup, ccy)?))
     }
@@ -204,7 +206,8 @@ impl<C: BootCell> PartyOf<C> {
         requires known { number ≤ length setup.now.members }
         ensures number { IfOk result (λ party. number_of party ≡ number) }
         ensures setup { IfOk result (λ party. setup_of party ≡ setup.now) }
-        ensures opens { IfOk result (λ party. (x : PartyState) → Opens party None x → Shows C.BootCell party x) }
+        ensures opens { IfOk result (λ party. (x : PartyState) → Opens party None x →
+            Shows C.BootCell party x) }
     {
         Ok(PartyOf::Client(ClientParty::new(setup, number)?))
     }
@@ -249,7 +252,8 @@ impl<C: BootCell> PartyOf<C> {
         ensures number { number_of result ≡ number_of self }
         ensures setup { setup_of result ≡ setup_of self }
         ensures shows { (x : PartyState) → Shows C.BootCell self x → Shows D.BootCell result x }
-        ensures opens { (opening : Option Boot) (x : PartyState) → Opens result opening x → Opens self opening x }
+        ensures opens { (opening : Option Boot) (x : PartyState) → Opens result opening x →
+            Opens self opening x }
     {
         match self {
             PartyOf::Site(site) => PartyOf::Site(site.over(cell)),

@@ -27,7 +27,8 @@ use Rattle.pvp_rooms.proofs.Hearing.{hears_none, hears_more}
 use Rattle.pvp_peers.specs.Puts.{Put, puts, passages, HandsOn, Passes, HasPosted, HasPassed, LastOf, LastRead}
 use Rattle.pvp_peers.specs.Peers.{IsReceiptOf, AreReceiptsOf, IsPosting, IsPosted, IsReading, HasRead, EndsSo, why_of}
 
-pub receipts_append : {E O : Type 0} (delivery : EnvelopeOf Cmd Reply PayOrder → E) (a c : List (Recorded E O)) (b d : List Stamped) → AreReceiptsOf delivery a b → AreReceiptsOf delivery c d → AreReceiptsOf delivery (a ++ c) (b ++ d)
+pub receipts_append : {E O : Type 0} (delivery : EnvelopeOf Cmd Reply PayOrder → E) (a c : List (Recorded E O)) (b d : List Stamped)
+    → AreReceiptsOf delivery a b → AreReceiptsOf delivery c d → AreReceiptsOf delivery (a ++ c) (b ++ d)
 receipts_append delivery [] c [] d h k = k
 receipts_append delivery [] c (frame ∷ b) d h k = absurd h
 receipts_append delivery (r ∷ a) c [] d h k = absurd h
@@ -54,9 +55,12 @@ flat_map-append [] ys = refl
 flat_map-append (x ∷ xs) ys = ap (λ l. spelling x ++ l) (flat_map-append xs ys) ∙ sym (append_assoc (spelling x) (flat_map spelling xs) (flat_map spelling ys))
 
 -- a piece more, of which frames were answered
-pub splits_more : (read piece held now : List ℕ) (posted whole : List Stamped) → Splits read posted held → Splits (held ++ piece) whole now → Splits (read ++ piece) (posted ++ whole) now
+pub splits_more : (read piece held now : List ℕ) (posted whole : List Stamped) → Splits read posted held → Splits (held ++ piece) whole now
+    → Splits (read ++ piece) (posted ++ whole) now
 splits_more read piece held now posted whole s t = record {
-  whole = ap (λ l. l ++ piece) s.whole ∙ append_assoc (flat_map spelling posted) held piece ∙ ap (λ l. flat_map spelling posted ++ l) t.whole ∙ sym (append_assoc (flat_map spelling posted) (flat_map spelling whole) now) ∙ ap (λ l. l ++ now) (sym (flat_map-append posted whole));
+  whole =
+      ap (λ l. l ++ piece) s.whole ∙ append_assoc (flat_map spelling posted) held piece ∙ ap (λ l. flat_map spelling posted ++ l) t.whole
+      ∙ sym (append_assoc (flat_map spelling posted) (flat_map spelling whole) now) ∙ ap (λ l. l ++ now) (sym (flat_map-append posted whole));
   each = All-append IsSpelled posted whole s.each t.each;
 }
 
@@ -64,14 +68,19 @@ splits_more read piece held now posted whole s t = record {
 pub splits_on : (read piece held : List ℕ) (posted : List Stamped) → Splits read posted held → Splits (read ++ piece) posted (held ++ piece)
 splits_on read piece held posted s = record { whole = ap (λ l. l ++ piece) s.whole ∙ append_assoc (flat_map spelling posted) held piece; each = s.each }
 
-pub feeds_ok : (o : Option WireFault) (old new : Fed) (piece : List ℕ) (frames : Vec Stamped) → FeedsAt o old piece (Ok frames) new → Splits (old.held ++ piece) frames.items new.held
+pub feeds_ok : (o : Option WireFault) (old new : Fed) (piece : List ℕ) (frames : Vec Stamped) → FeedsAt o old piece (Ok frames) new
+    → Splits (old.held ++ piece) frames.items new.held
 feeds_ok None old new piece frames h = h.0
 feeds_ok (Some fault) old new piece frames h = (let clash = h.0 in cc)
 
-pub posting_next : {E O : Type 0} (delivery : EnvelopeOf Cmd Reply PayOrder → E) (all : List Stamped) (old seat new : Held E O) (frame : Stamped) (rest : List Stamped) (r : Recorded E O) → IsPosting delivery all old seat (frame ∷ rest) → new ≡ record seat { receipts = seat.receipts ++ r ∷ [] } → IsReceiptOf delivery r frame → IsPosting delivery all old new rest
+pub posting_next : {E O : Type 0} (delivery : EnvelopeOf Cmd Reply PayOrder → E) (all : List Stamped) (old seat new : Held E O) (frame : Stamped)
+    (rest : List Stamped) (r : Recorded E O) → IsPosting delivery all old seat (frame ∷ rest) → new ≡ record seat { receipts = seat.receipts ++ r ∷ [] }
+    → IsReceiptOf delivery r frame → IsPosting delivery all old new rest
 posting_next {E = E} {O = O} delivery all old seat new frame rest r p more is = record {
   gained = p.gained ++ r ∷ [];
-  seat = more ∙ ap (λ (s : Held E O). let t : Held E O = record s { receipts = s.receipts ++ r ∷ [] } in t) p.seat ∙ ap (λ (l : List (Recorded E O)). let t : Held E O = record old { receipts = l } in t) (append_assoc old.receipts p.gained (r ∷ []));
+  seat =
+      more ∙ ap (λ (s : Held E O). let t : Held E O = record s { receipts = s.receipts ++ r ∷ [] } in t) p.seat ∙ ap (λ (l : List (Recorded E O)).
+      let t : Held E O = record old { receipts = l } in t) (append_assoc old.receipts p.gained (r ∷ []));
   posted = p.posted ++ frame ∷ [];
   frames_are = p.frames_are ∙ sym (append_assoc p.posted (frame ∷ []) rest);
   receipts = receipts_append delivery p.gained (r ∷ []) p.posted (frame ∷ []) p.receipts (is, tt);
@@ -79,9 +88,11 @@ posting_next {E = E} {O = O} delivery all old seat new frame rest r p more is = 
 
 -- WHAT OUTBOX AND GATE HEAR
 
-puts-append : {E O : Type 0} (sent : O → List (EnvelopeOf Cmd Reply PayOrder)) (actor : ℕ) (a b : List (Recorded E O)) → puts sent actor (a ++ b) ≡ puts sent actor a ++ puts sent actor b
+puts-append : {E O : Type 0} (sent : O → List (EnvelopeOf Cmd Reply PayOrder)) (actor : ℕ) (a b : List (Recorded E O))
+    → puts sent actor (a ++ b) ≡ puts sent actor a ++ puts sent actor b
 puts-append sent actor [] b = refl
-puts-append sent actor (r ∷ a) b = ap (λ (l : List Put). let p : Put = record { actor = actor; clock = r.clock; sent = sent r.outcome } in p ∷ l) (puts-append sent actor a b)
+puts-append sent actor (r ∷ a) b =
+    ap (λ (l : List Put). let p : Put = record { actor = actor; clock = r.clock; sent = sent r.outcome } in p ∷ l) (puts-append sent actor a b)
 
 passages-append : {E O : Type 0} (actor : ℕ) (a b : List (Recorded E O)) → passages actor (a ++ b) ≡ passages actor a ++ passages actor b
 passages-append actor [] b = refl
@@ -90,8 +101,11 @@ passages-append actor (r ∷ a) b = ap (λ (l : List Passing). Enters actor ∷ 
 no_more : {E O : Type 0} (seat : Held E O) → seat ≡ record seat { receipts = seat.receipts ++ [] }
 no_more {E = E} {O = O} seat = ap (λ (l : List (Recorded E O)). let t : Held E O = record seat { receipts = l } in t) (sym (append-nil seat.receipts))
 
-more_still : {E O : Type 0} (old seat new : Held E O) (x y : List (Recorded E O)) → seat ≡ record old { receipts = old.receipts ++ x } → new ≡ record seat { receipts = seat.receipts ++ y } → new ≡ record old { receipts = old.receipts ++ (x ++ y) }
-more_still {E = E} {O = O} old seat new x y h k = k ∙ ap (λ (s : Held E O). let t : Held E O = record s { receipts = s.receipts ++ y } in t) h ∙ ap (λ (l : List (Recorded E O)). let t : Held E O = record old { receipts = l } in t) (append_assoc old.receipts x y)
+more_still : {E O : Type 0} (old seat new : Held E O) (x y : List (Recorded E O)) → seat ≡ record old { receipts = old.receipts ++ x }
+    → new ≡ record seat { receipts = seat.receipts ++ y } → new ≡ record old { receipts = old.receipts ++ (x ++ y) }
+more_still {E = E} {O = O} old seat new x y h k =
+    k ∙ ap (λ (s : Held E O). let t : Held E O = record s { receipts = s.receipts ++ y } in t) h ∙ ap (λ (l : List (Recorded E O)).
+    let t : Held E O = record old { receipts = l } in t) (append_assoc old.receipts x y)
 
 module _ {E O B : Type 0} (got : B → List Put → Type 0) (sent : O → List (EnvelopeOf Cmd Reply PayOrder)) (actor : ℕ) where
   pub hands_none : (seat : Held E O) (out : B) → HandsOn got sent actor seat seat out out
@@ -101,13 +115,16 @@ module _ {E O B : Type 0} (got : B → List Put → Type 0) (sent : O → List (
   hands_more a b c x y z h k = record {
     gained = h.gained ++ k.gained;
     seat = more_still a b c h.gained k.gained h.seat k.seat;
-    puts = subst (λ (l : List Put). Hears got x z l) (sym (puts-append sent actor h.gained k.gained)) (hears_more got x y z (puts sent actor h.gained) (puts sent actor k.gained) h.puts k.puts);
+    puts =
+        subst (λ (l : List Put). Hears got x z l) (sym (puts-append sent actor h.gained k.gained))
+        (hears_more got x y z (puts sent actor h.gained) (puts sent actor k.gained) h.puts k.puts);
   }
 
   pub hands_same : (seat new : Held E O) (out : B) → new ≡ record seat { receipts = seat.receipts } → HandsOn got sent actor seat new out out
   hands_same seat new out same = record { gained = []; seat = same ∙ no_more seat; puts = hears_none got out }
 
-  pub hands_one : (seat new : Held E O) (r : Recorded E O) (out after : B) (put : Put) → new ≡ record seat { receipts = seat.receipts ++ r ∷ [] } → put ≡ record { actor = actor; clock = r.clock; sent = sent r.outcome }
+  pub hands_one : (seat new : Held E O) (r : Recorded E O) (out after : B) (put : Put) → new ≡ record seat { receipts = seat.receipts ++ r ∷ [] }
+      → put ≡ record { actor = actor; clock = r.clock; sent = sent r.outcome }
       → Hears got out after (put ∷ []) → HandsOn got sent actor seat new out after
   hands_one seat new r out after put more is heard = record { gained = r ∷ []; seat = more; puts = subst (λ (p : Put). Hears got out after (p ∷ [])) is heard }
 
@@ -115,11 +132,14 @@ module _ {E O G : Type 0} (heard : G → List Passing → Type 0) (actor : ℕ) 
   pub passes_none : (seat : Held E O) (gate : G) → Passes heard actor seat seat gate gate []
   passes_none seat gate = record { gained = []; seat = no_more seat; passed = hears_none heard gate }
 
-  pub passes_more : (a b c : Held E O) (x y z : G) (last : List Passing) → Passes heard actor a b x y [] → Passes heard actor b c y z last → Passes heard actor a c x z last
+  pub passes_more : (a b c : Held E O) (x y z : G) (last : List Passing) → Passes heard actor a b x y [] → Passes heard actor b c y z last
+      → Passes heard actor a c x z last
   passes_more a b c x y z last h k = record {
     gained = h.gained ++ k.gained;
     seat = more_still a b c h.gained k.gained h.seat k.seat;
-    passed = subst (λ (l : List Passing). Hears heard x z l) (together h.gained k.gained) (hears_more heard x y z (passages actor h.gained ++ []) (passages actor k.gained ++ last) h.passed k.passed);
+    passed =
+        subst (λ (l : List Passing). Hears heard x z l) (together h.gained k.gained)
+        (hears_more heard x y z (passages actor h.gained ++ []) (passages actor k.gained ++ last) h.passed k.passed);
   }
     where
       together : (p q : List (Recorded E O)) → (passages actor p ++ []) ++ (passages actor q ++ last) ≡ passages actor (p ++ q) ++ last
@@ -132,7 +152,8 @@ module _ {E O G : Type 0} (heard : G → List Passing → Type 0) (actor : ℕ) 
       → Hears heard x y (Enters actor ∷ Took actor ∷ []) → Passes heard actor seat new x y []
   passes_one seat new r x y more told = record { gained = r ∷ []; seat = more; passed = told }
 
-  pub passes_last : (seat new : Held E O) (x y : G) (last : List Passing) → new ≡ record seat { receipts = seat.receipts } → Hears heard x y last → Passes heard actor seat new x y last
+  pub passes_last : (seat new : Held E O) (x y : G) (last : List Passing) → new ≡ record seat { receipts = seat.receipts } → Hears heard x y last
+      → Passes heard actor seat new x y last
   passes_last seat new x y last same told = record { gained = []; seat = same ∙ no_more seat; passed = told }
 
   -- all were taken
@@ -140,7 +161,8 @@ module _ {E O G : Type 0} (heard : G → List Passing → Type 0) (actor : ℕ) 
   all_passed a b x y h = subst (λ (l : List Passing). Passes heard actor a b x y l) h.ends h.passes
 
   -- one was not taken
-  pub stopped_passes : (a b c : Held E O) (x y z : G) (why : Why) → Passes heard actor a b x y [] → HasPosted heard actor b c y z (Some why) → HasPassed heard actor a c x z why
+  pub stopped_passes : (a b c : Held E O) (x y z : G) (why : Why) → Passes heard actor a b x y [] → HasPosted heard actor b c y z (Some why)
+      → HasPassed heard actor a c x z why
   stopped_passes a b c x y z why h k = record { last = k.last; ends = as_read why k.last k.ends; passes = passes_more a b c x y z k.last h k.passes }
     where
       as_read : (why : Why) (last : List Passing) → LastOf actor why last → LastRead actor why last
@@ -163,7 +185,8 @@ unread_last actor Length = refl
 
 module _ {E O : Type 0} (delivery : EnvelopeOf Cmd Reply PayOrder → E) (before a now : Option (List ℕ)) (old seat : Held E O) where
   -- a piece more, of which nothing was posted
-  pub unread : (held piece : List ℕ) (why : Why) → IsReading delivery before a old seat held → Consumes a now piece → EndsSo why now [] (held ++ piece) → HasRead delivery before now old seat why
+  pub unread : (held piece : List ℕ) (why : Why) → IsReading delivery before a old seat held → Consumes a now piece → EndsSo why now [] (held ++ piece)
+      → HasRead delivery before now old seat why
   unread held piece why p read end = record {
     gained = p.gained;
     seat = p.seat;
@@ -177,11 +200,15 @@ module _ {E O : Type 0} (delivery : EnvelopeOf Cmd Reply PayOrder → E) (before
     end = end;
   }
 
-  seats_more : (new : Held E O) (x y : List (Recorded E O)) → seat ≡ record old { receipts = old.receipts ++ x } → new ≡ record seat { receipts = seat.receipts ++ y } → new ≡ record old { receipts = old.receipts ++ (x ++ y) }
-  seats_more new x y h k = k ∙ ap (λ (s : Held E O). let t : Held E O = record s { receipts = s.receipts ++ y } in t) h ∙ ap (λ (l : List (Recorded E O)). let t : Held E O = record old { receipts = l } in t) (append_assoc old.receipts x y)
+  seats_more : (new : Held E O) (x y : List (Recorded E O)) → seat ≡ record old { receipts = old.receipts ++ x }
+      → new ≡ record seat { receipts = seat.receipts ++ y } → new ≡ record old { receipts = old.receipts ++ (x ++ y) }
+  seats_more new x y h k =
+      k ∙ ap (λ (s : Held E O). let t : Held E O = record s { receipts = s.receipts ++ y } in t) h ∙ ap (λ (l : List (Recorded E O)).
+      let t : Held E O = record old { receipts = l } in t) (append_assoc old.receipts x y)
 
   -- a piece more, of which all frames were posted
-  pub reading_next : (new : Held E O) (held piece rest : List ℕ) (whole : List Stamped) → IsReading delivery before a old seat held → Consumes a now piece → Splits (held ++ piece) whole rest → IsPosted delivery whole seat new None → IsReading delivery before now old new rest
+  pub reading_next : (new : Held E O) (held piece rest : List ℕ) (whole : List Stamped) → IsReading delivery before a old seat held → Consumes a now piece
+      → Splits (held ++ piece) whole rest → IsPosted delivery whole seat new None → IsReading delivery before now old new rest
   reading_next new held piece rest whole p read splits q =
       let all : whole ≡ q.posted = q.frames_are ∙ ap (λ l. q.posted ++ l) q.all ∙ append-nil q.posted in
       record {
@@ -195,7 +222,8 @@ module _ {E O : Type 0} (delivery : EnvelopeOf Cmd Reply PayOrder → E) (before
       }
 
   -- a piece more, of which some frame was not taken
-  pub stopped : (new : Held E O) (held piece rest : List ℕ) (whole : List Stamped) (why : Why) → IsReading delivery before a old seat held → Consumes a now piece → Splits (held ++ piece) whole rest → IsPosted delivery whole seat new (Some why) → HasRead delivery before now old new why
+  pub stopped : (new : Held E O) (held piece rest : List ℕ) (whole : List Stamped) (why : Why) → IsReading delivery before a old seat held
+      → Consumes a now piece → Splits (held ++ piece) whole rest → IsPosted delivery whole seat new (Some why) → HasRead delivery before now old new why
   stopped new held piece rest whole why p read splits q = record {
     gained = p.gained ++ q.gained;
     seat = seats_more new p.gained q.gained p.seat q.seat;
@@ -204,16 +232,20 @@ module _ {E O : Type 0} (delivery : EnvelopeOf Cmd Reply PayOrder → E) (before
     posted = p.posted ++ q.posted;
     left = q.left;
     rest = rest;
-    splits = subst (λ l. Splits (p.read ++ piece) l rest) (ap (λ l. p.posted ++ l) q.frames_are ∙ sym (append_assoc p.posted q.posted q.left)) (splits_more p.read piece held rest p.posted whole p.splits splits);
+    splits =
+        subst (λ l. Splits (p.read ++ piece) l rest) (ap (λ l. p.posted ++ l) q.frames_are ∙ sym (append_assoc p.posted q.posted q.left))
+        (splits_more p.read piece held rest p.posted whole p.splits splits);
     receipts = receipts_append delivery p.gained q.gained p.posted q.posted p.receipts q.receipts;
     end = ends why q.left rest q.all;
   }
     where
       ends : (why : Why) (left : List Stamped) (rest : List ℕ) → ((why ≡ Memory) ⊎ (why ≡ Clock)) × (0 < length left) → EndsSo why now left rest
-      ends why left rest h = elim h.0 [ inl e ↦ subst (λ w. EndsSo w now left rest) (sym e) (inl h.1) | inr e ↦ subst (λ w. EndsSo w now left rest) (sym e) h.1 ]
+      ends why left rest h =
+          elim h.0 [ inl e ↦ subst (λ w. EndsSo w now left rest) (sym e) (inl h.1) | inr e ↦ subst (λ w. EndsSo w now left rest) (sym e) h.1 ]
 
 -- at the end of the input
-pub ended : {E O : Type 0} (delivery : EnvelopeOf Cmd Reply PayOrder → E) (before a : Option (List ℕ)) (old seat : Held E O) (held : List ℕ) (why : Why) → IsReading delivery before a old seat held → EndsSo why a [] held → HasRead delivery before a old seat why
+pub ended : {E O : Type 0} (delivery : EnvelopeOf Cmd Reply PayOrder → E) (before a : Option (List ℕ)) (old seat : Held E O) (held : List ℕ) (why : Why)
+    → IsReading delivery before a old seat held → EndsSo why a [] held → HasRead delivery before a old seat why
 ended delivery before a old seat held why p end = record {
   gained = p.gained;
   seat = p.seat;
@@ -233,7 +265,8 @@ is_empty (x ∷ xs) e = absurd (omega (arith, e))
 
 -- a fault that is told is what is wrong with the bytes that are held
 pub told_at : (o : Option WireFault) (old new : Fed) (piece : List ℕ) (fault : WireFault)
-    → FeedsAt o old piece (Err fault) new → IsAt old.held o → IsAt new.held new.fault → fault ≢ NoMemory → (frame_at (old.held ++ piece) ≡ Err fault) × (fault ≢ Short)
+    → FeedsAt o old piece (Err fault) new → IsAt old.held o → IsAt new.held new.fault → fault ≢ NoMemory
+    → (frame_at (old.held ++ piece) ≡ Err fault) × (fault ≢ Short)
 told_at None old new piece fault fed was is other = elim fed [
   | inl told ↦ (ap frame_at (sym told.held) ∙ (subst (IsAt new.held) told.fault is).0, told.waits_for_no_more)
   | inr refused ↦ absurd (other refused.memory)
@@ -259,7 +292,8 @@ memory_for (Some f) old new piece fault fed was is =
     let same : fault ≡ f = cc in
     absurd (was.2 (sym same ∙ is))
 
-pub ends_told : (fault : WireFault) (now : Option (List ℕ)) (rest : List ℕ) → (fault ≢ NoMemory → (frame_at rest ≡ Err fault) × (fault ≢ Short)) → (fault ≡ NoMemory → 0 < length rest) → EndsSo (why_of fault) now [] rest
+pub ends_told : (fault : WireFault) (now : Option (List ℕ)) (rest : List ℕ) → (fault ≢ NoMemory → (frame_at rest ≡ Err fault) × (fault ≢ Short))
+    → (fault ≡ NoMemory → 0 < length rest) → EndsSo (why_of fault) now [] rest
 ends_told NoMemory now rest told memory = inr (memory refl)
 ends_told Short now rest told memory = (refl, (told (λ e. cc)).0, (told (λ e. cc)).1)
 ends_told TooLong now rest told memory = (refl, (told (λ e. cc)).0, (told (λ e. cc)).1)
@@ -272,7 +306,8 @@ not_both : {X : Type 0} (fault : WireFault) (x : X) → Err fault ≡ Ok x → �
 not_both fault x e = cc
 
 -- where no piece came, what is held is no whole frame
-pub still_short : (o : Option WireFault) (old new : Fed) (piece : List ℕ) (frames : Vec Stamped) → FeedsAt o old piece (Ok frames) new → IsAt old.held o → IsAt new.held new.fault → piece ≡ [] → frame_at new.held ≡ Err Short
+pub still_short : (o : Option WireFault) (old new : Fed) (piece : List ℕ) (frames : Vec Stamped) → FeedsAt o old piece (Ok frames) new → IsAt old.held o
+    → IsAt new.held new.fault → piece ≡ [] → frame_at new.held ≡ Err Short
 still_short (Some fault) old new piece frames h was is none = (let clash = h.0 in cc)
 still_short None old new piece frames h was is none = elim h.1 [
   | inl some ↦ absurd (some (nothing frames.items h.0.whole h.0.each))
@@ -282,5 +317,7 @@ still_short None old new piece frames h was is none = elim h.1 [
     nothing : (all : List Stamped) → old.held ++ piece ≡ flat_map spelling all ++ new.held → All IsSpelled all → all ≡ []
     nothing [] e each = refl
     nothing (s ∷ rest) e each =
-        let first : old.held ≡ spelling s ++ (flat_map spelling rest ++ new.held) = sym (append-nil old.held) ∙ ap (λ l. old.held ++ l) (sym none) ∙ e ∙ append_assoc (spelling s) (flat_map spelling rest) new.held in
-        absurd (not_both Short (s, length (spelling s)) (sym was ∙ ap frame_at first ∙ frame-again s (flat_map spelling rest ++ new.held) (each 0 s (omega arith))))
+        let first : old.held ≡ spelling s ++ (flat_map spelling rest ++ new.held) =
+        sym (append-nil old.held) ∙ ap (λ l. old.held ++ l) (sym none) ∙ e ∙ append_assoc (spelling s) (flat_map spelling rest) new.held in
+        absurd (not_both Short (s, length (spelling s)) (sym was ∙ ap frame_at first ∙ frame-again s (flat_map spelling rest ++ new.held)
+        (each 0 s (omega arith))))

@@ -17,12 +17,14 @@ use Rattle.pvp_peers.specs.declared.peer.Why.TheVariants.{End, Cut, Read, Wire, 
 use Rattle.pvp_peers.specs.declared.peer.PeerEnd.{PeerEnd}
 
 -- the receipt is of this frame
-pub record IsReceiptOf {E O : Type 0} (delivery : EnvelopeOf Cmd Reply PayOrder → E) (r : Recorded E O) (frame : Stamped) : Type 0 where
+pub record IsReceiptOf {E O : Type 0} (delivery : EnvelopeOf Cmd Reply PayOrder → E) (r : Recorded E O)
+    (frame : Stamped) : Type 0 where
   pub event : r.event ≡ delivery frame.envelope
   pub stamp : r.stamp ≡ Some frame.stamp
 
 -- the receipts are of these frames, one by one
-abbrev pub AreReceiptsOf : {E O : Type 0} → (EnvelopeOf Cmd Reply PayOrder → E) → List (Recorded E O) → List Stamped → Type 0
+abbrev pub AreReceiptsOf : {E O : Type 0} → (EnvelopeOf Cmd Reply PayOrder → E) → List (Recorded E O) → List Stamped
+    → Type 0
 AreReceiptsOf delivery [] [] = Unit {0}
 AreReceiptsOf delivery [] (frame ∷ frames) = ⊥
 AreReceiptsOf delivery (r ∷ rs) [] = ⊥
@@ -34,7 +36,8 @@ AllPosted None left = left ≡ []
 AllPosted (Some why) left = ((why ≡ Memory) ⊎ (why ≡ Clock)) × (0 < length left)
 
 -- the first of the frames were taken: the seat has a receipt more of each
-pub record IsPosted {E O : Type 0} (delivery : EnvelopeOf Cmd Reply PayOrder → E) (frames : List Stamped) (old new : Held E O) (why : Option Why) : Type 0 where
+pub record IsPosted {E O : Type 0} (delivery : EnvelopeOf Cmd Reply PayOrder → E) (frames : List Stamped)
+    (old new : Held E O) (why : Option Why) : Type 0 where
   pub gained : List (Recorded E O)
   pub seat : new ≡ record old { receipts = old.receipts ++ gained }
   pub posted : List Stamped
@@ -54,7 +57,8 @@ EndsSo Clock after left rest = 0 < length left
 
 -- A STREAM WAS READ SO FAR: its bytes are frames and what is left, and the seat has a receipt more of each of the first
 -- of them, in order
-pub record HasRead {E O : Type 0} (delivery : EnvelopeOf Cmd Reply PayOrder → E) (before after : Option (List ℕ)) (old new : Held E O) (why : Why) : Type 0 where
+pub record HasRead {E O : Type 0} (delivery : EnvelopeOf Cmd Reply PayOrder → E) (before after : Option (List ℕ))
+    (old new : Held E O) (why : Why) : Type 0 where
   pub gained : List (Recorded E O)
   pub seat : new ≡ record old { receipts = old.receipts ++ gained }
   pub read : List ℕ
@@ -67,12 +71,14 @@ pub record HasRead {E O : Type 0} (delivery : EnvelopeOf Cmd Reply PayOrder → 
   pub end : EndsSo why after left rest
 
 -- and of so many frames as are told
-pub record IsServed {E O : Type 0} (delivery : EnvelopeOf Cmd Reply PayOrder → E) (before after : Option (List ℕ)) (old new : Held E O) (end : PeerEnd) : Type 0 where
+pub record IsServed {E O : Type 0} (delivery : EnvelopeOf Cmd Reply PayOrder → E) (before after : Option (List ℕ))
+    (old new : Held E O) (end : PeerEnd) : Type 0 where
   pub stream : HasRead delivery before after old new end.why
   pub count : length stream.gained ≡ end.frames
 
 -- some frames were taken, and these are left
-pub record IsPosting {E O : Type 0} (delivery : EnvelopeOf Cmd Reply PayOrder → E) (frames : List Stamped) (old new : Held E O) (left : List Stamped) : Type 0 where
+pub record IsPosting {E O : Type 0} (delivery : EnvelopeOf Cmd Reply PayOrder → E) (frames : List Stamped)
+    (old new : Held E O) (left : List Stamped) : Type 0 where
   pub gained : List (Recorded E O)
   pub seat : new ≡ record old { receipts = old.receipts ++ gained }
   pub posted : List Stamped
@@ -80,7 +86,8 @@ pub record IsPosting {E O : Type 0} (delivery : EnvelopeOf Cmd Reply PayOrder �
   pub receipts : AreReceiptsOf delivery gained posted
 
 -- a stream was read so far, and all of its frames were taken
-pub record IsReading {E O : Type 0} (delivery : EnvelopeOf Cmd Reply PayOrder → E) (before after : Option (List ℕ)) (old new : Held E O) (held : List ℕ) : Type 0 where
+pub record IsReading {E O : Type 0} (delivery : EnvelopeOf Cmd Reply PayOrder → E) (before after : Option (List ℕ))
+    (old new : Held E O) (held : List ℕ) : Type 0 where
   pub gained : List (Recorded E O)
   pub seat : new ≡ record old { receipts = old.receipts ++ gained }
   pub read : List ℕ

@@ -46,8 +46,8 @@ abbrev pub LastPosted : ℕ → Option Why → List Passing → Type 0
 LastPosted actor None last = last ≡ []
 LastPosted actor (Some why) last = LastOf actor why last
 
--- A clock is told as spent only where the actor's step said so, and memory where it did, or where none was asked: then it
--- was refused to read.
+-- A clock is told as spent only where the actor's step said so, and memory where it did, or where none was asked: then
+-- it was refused to read.
 abbrev pub LastRead : ℕ → Why → List Passing → Type 0
 LastRead actor Memory last = (last ≡ refused actor) ⊎ (last ≡ [])
 LastRead actor Clock last = last ≡ spent actor
@@ -56,27 +56,31 @@ LastRead actor (Cut n) last = last ≡ []
 LastRead actor Read last = last ≡ []
 LastRead actor (Wire fault) last = last ≡ []
 
--- WHAT A SEAT'S OUTBOX GOT: of each event for which it has gained a receipt, what that sent, once, with the actor and the
--- clock, in order
-pub record HandsOn {E O B : Type 0} (got : B → List Put → Type 0) (sent : O → List (EnvelopeOf Cmd Reply PayOrder)) (actor : ℕ) (seat_old seat_new : Held E O) (old new : B) : Type 0 where
+-- WHAT A SEAT'S OUTBOX GOT: of each event for which it has gained a receipt, what that sent, once, with the actor and
+-- the clock, in order
+pub record HandsOn {E O B : Type 0} (got : B → List Put → Type 0) (sent : O → List (EnvelopeOf Cmd Reply PayOrder))
+    (actor : ℕ) (seat_old seat_new : Held E O) (old new : B) : Type 0 where
   pub gained : List (Recorded E O)
   pub seat : seat_new ≡ record seat_old { receipts = seat_old.receipts ++ gained }
   pub puts : Hears got old new (puts sent actor gained)
 
 -- WHAT ITS GATE HEARD: a step of the actor for each of them, and then this
-pub record Passes {E O G : Type 0} (heard : G → List Passing → Type 0) (actor : ℕ) (seat_old seat_new : Held E O) (old new : G) (last : List Passing) : Type 0 where
+pub record Passes {E O G : Type 0} (heard : G → List Passing → Type 0) (actor : ℕ) (seat_old seat_new : Held E O)
+    (old new : G) (last : List Passing) : Type 0 where
   pub gained : List (Recorded E O)
   pub seat : seat_new ≡ record seat_old { receipts = seat_old.receipts ++ gained }
   pub passed : Hears heard old new (passages actor gained ++ last)
 
 -- and how the last step ended, by why no more is posted, or read
 
-pub record HasPosted {E O G : Type 0} (heard : G → List Passing → Type 0) (actor : ℕ) (seat_old seat_new : Held E O) (old new : G) (why : Option Why) : Type 0 where
+pub record HasPosted {E O G : Type 0} (heard : G → List Passing → Type 0) (actor : ℕ) (seat_old seat_new : Held E O)
+    (old new : G) (why : Option Why) : Type 0 where
   pub last : List Passing
   pub ends : LastPosted actor why last
   pub passes : Passes heard actor seat_old seat_new old new last
 
-pub record HasPassed {E O G : Type 0} (heard : G → List Passing → Type 0) (actor : ℕ) (seat_old seat_new : Held E O) (old new : G) (why : Why) : Type 0 where
+pub record HasPassed {E O G : Type 0} (heard : G → List Passing → Type 0) (actor : ℕ) (seat_old seat_new : Held E O)
+    (old new : G) (why : Why) : Type 0 where
   pub last : List Passing
   pub ends : LastRead actor why last
   pub passes : Passes heard actor seat_old seat_new old new last

@@ -14,6 +14,7 @@ sent_by_site (Refused why) = []
 sent_by_site (Fell why cell) = []
 
 -- nor does a node or a client that refuses
-abbrev pub sent_as_told : {F : Type 0} → Result (List (EnvelopeOf Cmd Reply PayOrder)) F → List (EnvelopeOf Cmd Reply PayOrder)
+abbrev pub sent_as_told : {F : Type 0} → Result (List (EnvelopeOf Cmd Reply PayOrder)) F
+    → List (EnvelopeOf Cmd Reply PayOrder)
 sent_as_told (Ok sent) = sent
 sent_as_told (Err why) = []

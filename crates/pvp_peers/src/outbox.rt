@@ -22,5 +22,6 @@ pub trait Outbox {
         clock: u64,
         sent: &[Envelope<Book>],
     )
-        ensures { Hears got self.old self.new (record { actor = actor; clock = clock; sent = sent.now } ∷ []) };
+        ensures { Hears got self.old self.new
+            (record { actor = actor; clock = clock; sent = sent.now } ∷ []) };
 }

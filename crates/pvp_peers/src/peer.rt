@@ -48,9 +48,12 @@ pub fn serve_peer<A: Served, R: Read, G: Gate, O: Outbox, T: Wait>(
     gate: &mut G,
     outbox: &mut O,
 ) -> PeerEnd
-    ensures served { IsServed A.Served.delivery (R.remaining reader.old) (R.remaining reader.new) seat.old seat.new result }
-    ensures handed { HandsOn O.got A.Served.sent cell.now.number seat.old seat.new outbox.old outbox.new }
-    ensures passed { HasPassed G.heard cell.now.number seat.old seat.new gate.old gate.new result.why }
+    ensures served { IsServed A.Served.delivery (R.remaining reader.old)
+        (R.remaining reader.new) seat.old seat.new result }
+    ensures handed { HandsOn O.got A.Served.sent cell.now.number seat.old
+        seat.new outbox.old outbox.new }
+    ensures passed { HasPassed G.heard cell.now.number seat.old seat.new
+        gate.old gate.new result.why }
 {
     let before = seat.receipts().len();
     let why = read_all::<A, R, G, O, T>(rt, alloc, cell, seat, reader, gate, outbox);
@@ -70,8 +73,10 @@ fn read_all<A: Served, R: Read, G: Gate, O: Outbox, T: Wait>(
     gate: &mut G,
     outbox: &mut O,
 ) -> Why
-    ensures read { HasRead A.Served.delivery (R.remaining reader.old) (R.remaining reader.new) seat.old seat.new result }
-    ensures handed { HandsOn O.got A.Served.sent cell.now.number seat.old seat.new outbox.old outbox.new }
+    ensures read { HasRead A.Served.delivery (R.remaining reader.old)
+        (R.remaining reader.new) seat.old seat.new result }
+    ensures handed { HandsOn O.got A.Served.sent cell.now.number seat.old
+        seat.new outbox.old outbox.new }
     ensures passed { HasPassed G.heard cell.now.number seat.old seat.new gate.old gate.new result }
 {
     let mut feeder = Feeder::new(alloc);
@@ -112,7 +117,8 @@ fn post_all<A: Served, G: Gate, O: Outbox, T: Wait>(
     outbox: &mut O,
 ) -> Option<Why>
     ensures posted { IsPosted A.Served.delivery frames.items seat.old seat.new result }
-    ensures handed { HandsOn O.got A.Served.sent cell.now.number seat.old seat.new outbox.old outbox.new }
+    ensures handed { HandsOn O.got A.Served.sent cell.now.number seat.old
+        seat.new outbox.old outbox.new }
     ensures passed { HasPosted G.heard cell.now.number seat.old seat.new gate.old gate.new result }
 {
     for frame in frames {

@@ -17,7 +17,9 @@ range-more a (suc n) j is = ap (λ ks. a ∷ ks) (range-more (a + 1) n j (omega 
 
 -- what is found of one more number
 pub found_more : {X : Type 0} (f : ℕ → Option X) (n : ℕ) → filter_map f (range_with_len 0 (n + 1)) ≡ filter_map f (range_with_len 0 n) ++ filter_map f (n ∷ [])
-found_more f n = ap (λ k. filter_map f (range_with_len 0 k)) (add-one n) ∙ ap (filter_map f) (range-more 0 n n (omega arith)) ∙ filter_map-append f (range_with_len 0 n) (n ∷ [])
+found_more f n =
+    ap (λ k. filter_map f (range_with_len 0 k)) (add-one n) ∙ ap (filter_map f) (range-more 0 n n (omega arith))
+    ∙ filter_map-append f (range_with_len 0 n) (n ∷ [])
 
 -- one more attempt came out as it did
 replays-more : (first mid last : World MemCell) (attempts : List Attempt) (attempt : Attempt) (after : List (List Standing))
@@ -29,7 +31,8 @@ replays-more first mid last (a ∷ attempts) attempt after (next, came, others, 
     (next, came, others ++ standings_of last ∷ [], ap (λ all. all ++ standings_of last ∷ []) is, replays-more next mid last attempts attempt others run tried)
 
 -- the standings after one more attempt are added
-pub stand_more : {V : Type 0} (items : V → List Standing) (first mid last : World MemCell) (noted : List Attempt) (i : ℕ) (d : Attempt) (all more : List V) (v : V)
+pub stand_more : {V : Type 0} (items : V → List Standing) (first mid last : World MemCell) (noted : List Attempt) (i : ℕ) (d : Attempt)
+    (all more : List V) (v : V)
     → i < length noted → more ≡ all ++ v ∷ [] → items v ≡ standings_of last → ComesAgain mid last (get_or noted i d)
     → StandUpTo first (take i noted) mid (map items all) → StandUpTo first (take (i + 1) noted) last (map items more)
 stand_more items first mid last noted i d all more v within pushed is came (after, whole, run) = (

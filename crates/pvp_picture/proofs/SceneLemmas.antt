@@ -52,4 +52,5 @@ only P flight is (suc k) d within = absurd (omega arith)
 pub flights_more : (setup : Setup) (post : List Envelope) (flights more : List Flight) (flight : Flight) → more ≡ flights ++ flight ∷ []
     → IsFlight setup post flight → All (IsFlight setup post) flights → All (IsFlight setup post) more
 flights_more setup post flights more flight pushed is before =
-    subst (λ all. All (IsFlight setup post) all) (sym pushed) (All-append (IsFlight setup post) flights (flight ∷ []) before (only (IsFlight setup post) flight is))
+    subst (λ all. All (IsFlight setup post) all) (sym pushed)
+    (All-append (IsFlight setup post) flights (flight ∷ []) before (only (IsFlight setup post) flight is))

@@ -7,8 +7,8 @@ use Rattle.pvp_text.specs.declared.script.Line.{Line}
 use Rattle.pvp_text.specs.declared.script.LineFault.{LineFault}
 use Rattle.pvp_text.specs.BookText.{ScriptReading, Tells}
 
--- how a picture of what a script was read as ends: a text is written whole, or nothing where memory is refused, also where
--- the script is faulty; how much is written where the writer fails is not said
+-- how a picture of what a script was read as ends: a text is written whole, or nothing where memory is refused, also
+-- where the script is faulty; how much is written where the writer fails is not said
 abbrev pub PictureOver : {W : Type 0} → (W → Option (List ℕ)) → ScriptReading → Result (List Line) LineFault
     → Result (Unit {0}) RunFault → W → W → Type 0
 PictureOver contents read (Ok lines) (Ok _) old new = (text : List ℕ) × Appends (contents old) (contents new) text
@@ -18,5 +18,6 @@ PictureOver contents read (Ok lines) (Err (run.Line fault)) old new = ⊥
 PictureOver contents read (Err fault) result old new = Tells read fault result × (new ≡ old)
 
 -- HOW A PICTURE of a script ends
-abbrev pub PictureEnds : {W : Type 0} → (W → Option (List ℕ)) → ScriptReading → Result (Unit {0}) RunFault → W → W → Type 0
+abbrev pub PictureEnds : {W : Type 0} → (W → Option (List ℕ)) → ScriptReading → Result (Unit {0}) RunFault → W → W
+    → Type 0
 PictureEnds contents read result old new = PictureOver contents read (read None) result old new

@@ -39,8 +39,8 @@ pub record ComesAgain (old new : World MemCell) (noted : Attempt) : Type 0 where
   pub attempts : Attempts held_by old new noted.step again
   pub same : equal.eq again noted ≡ true
 
--- the attempts one after another: each came out the same in the world that the one before it left; and where the sites stand
--- after each
+-- the attempts one after another: each came out the same in the world that the one before it left; and where the sites
+-- stand after each
 abbrev pub Replays : World MemCell → List Attempt → World MemCell → List (List Standing) → Type 0
 Replays first [] last after = (last ≡ first) × (after ≡ [])
 Replays first (attempt ∷ attempts) last after =

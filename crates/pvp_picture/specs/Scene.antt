@@ -29,9 +29,10 @@ ending_of (Err fault) = Refused fault
 abbrev pub standings_after : List (List Standing) → ℕ → List Standing
 standings_after along count = unwrap_or (slice_get along count) []
 
--- A STEP AS A SCENE HAS IT: its number, counted from 1, its words as a trace has them but for the kind of a message, what
--- came of it, and where the sites stood after it
-pub record IsTurn (setup : Setup) (post : List Envelope) (noted : List Attempt) (along : List (List Standing)) (place : ℕ) (turn : Turn) : Type 0 where
+-- A STEP AS A SCENE HAS IT: its number, counted from 1, its words as a trace has them but for the kind of a message,
+-- what came of it, and where the sites stood after it
+pub record IsTurn (setup : Setup) (post : List Envelope) (noted : List Attempt) (along : List (List Standing))
+    (place : ℕ) (turn : Turn) : Type 0 where
   pub attempt : Attempt
   pub is_noted : slice_get noted place ≡ Some attempt
   pub number : turn.number ≡ place + 1
@@ -40,11 +41,13 @@ pub record IsTurn (setup : Setup) (post : List Envelope) (noted : List Attempt) 
   pub standings : turn.standings.items ≡ standings_after along (place + 1)
 
 -- so many steps from a place on
-pub record AreTurns (setup : Setup) (post : List Envelope) (noted : List Attempt) (along : List (List Standing)) (first size : ℕ) (turns : List Turn) : Type 0 where
+pub record AreTurns (setup : Setup) (post : List Envelope) (noted : List Attempt) (along : List (List Standing))
+    (first size : ℕ) (turns : List Turn) : Type 0 where
   pub count : length turns ≡ size
   pub each : (i : ℕ) (turn : Turn) → slice_get turns i ≡ Some turn → IsTurn setup post noted along (first + i) turn
 
--- AN ENVELOPE AS A SCENE HAS IT: one of the post, by its number, between whom it goes, and its whole message as a trace has it
+-- AN ENVELOPE AS A SCENE HAS IT: one of the post, by its number, between whom it goes, and its whole message as a trace
+-- has it
 pub record IsFlight (setup : Setup) (post : List Envelope) (flight : Flight) : Type 0 where
   pub envelope : Envelope
   pub is_sent : envelope_of post flight.number ≡ Some envelope
@@ -52,9 +55,10 @@ pub record IsFlight (setup : Setup) (post : List Envelope) (flight : Flight) : T
   pub to : flight.to ≡ envelope.to
   pub words : string_bytes flight.words ≡ envelope_text setup envelope
 
--- A SCENE of the steps of a run that stand from `first` on and before `end`: all of them that there are, with how many stand
--- before and after, and where the sites stood before
-pub record ShowsPart (setup : Setup) (post : List Envelope) (noted : List Attempt) (along : List (List Standing)) (first end : ℕ) (scene : Scene) : Type 0 where
+-- A SCENE of the steps of a run that stand from `first` on and before `end`: all of them that there are, with how many
+-- stand before and after, and where the sites stood before
+pub record ShowsPart (setup : Setup) (post : List Envelope) (noted : List Attempt) (along : List (List Standing))
+    (first end : ℕ) (scene : Scene) : Type 0 where
   pub earlier : scene.earlier ≡ min first (min end (length noted))
   pub later : scene.later ≡ length noted - min end (length noted)
   pub turns : AreTurns setup post noted along scene.earlier (min end (length noted) - scene.earlier) scene.turns.items

@@ -7,7 +7,8 @@ use std::alloc::AllocError;
 
 /// Appends a text, with `&`, `<`, `>` and `"` spelled out and all else as it is. `Err` where memory is refused.
 pub fn push_escaped(text: &mut String, plain: &str) -> Result<(), AllocError>
-    ensures { OnOk result (string_bytes text.new ≡ string_bytes text.old ++ flat_map spelled (chars plain.now)) }
+    ensures { OnOk result (string_bytes text.new ≡ string_bytes text.old
+        ++ flat_map spelled (chars plain.now)) }
 {
     for sign in plain.chars() {
         push_sign(text, sign)?;

@@ -17,7 +17,8 @@ pub fn standings(
     mut world: World<MemCell>,
     noted: &[Attempt],
 ) -> Result<Vec<Vec<Standing>>, AllocError>
-    ensures { IfOk result (λ all. StandAlong world noted.now (map (λ standings. standings.items) all.items)) }
+    ensures { IfOk result (λ all. StandAlong world noted.now
+        (map (λ standings. standings.items) all.items)) }
 {
     let mut all = Vec::new(alloc);
     all.push(standings_of(alloc, &world)?)?;

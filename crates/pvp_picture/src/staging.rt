@@ -35,7 +35,8 @@ struct Routes {
 
 /// The scene of the steps of a run that stand from `first` on and before `end`, counted from 0.
 pub fn stage(alloc: Global, run: &Run, first: usize, end: usize) -> Result<Scene, AllocError>
-    ensures { IfOk result (ShowsPart run.now.world.now.setup run.now.world.now.post run.now.noted.now
+    ensures { IfOk result (ShowsPart run.now.world.now.setup
+        run.now.world.now.post run.now.noted.now
         (map (λ standings. standings.items) run.now.standings.now) first end) }
 {
     let total = run.noted.len();
@@ -69,8 +70,10 @@ fn standings_at(alloc: Global, run: &Run, count: usize) -> Result<Vec<Standing>,
 fn turns_of(alloc: Global, run: &Run, first: usize, end: usize) -> Result<Vec<Turn>, AllocError>
     requires order { first ≤ end }
     requires there { end ≤ length run.now.noted.now }
-    ensures { IfOk result (λ turns. AreTurns run.now.world.now.setup run.now.world.now.post run.now.noted.now
-        (map (λ standings. standings.items) run.now.standings.now) first (end - first) turns.items) }
+    ensures { IfOk result (λ turns. AreTurns run.now.world.now.setup
+        run.now.world.now.post run.now.noted.now
+        (map (λ standings. standings.items) run.now.standings.now) first
+        (end - first) turns.items) }
 {
     let mut turns = Vec::new(alloc);
     for place in first..end {
@@ -207,7 +210,8 @@ fn ending_of(came: Result<Report, WorldFault>) -> Ending
 /// The envelopes that the steps from `first` on and before `end` deliver, and those that they sent and that none of them
 /// delivers.
 fn flights_of(alloc: Global, run: &Run, first: usize, end: usize) -> Result<Vec<Flight>, AllocError>
-    ensures { IfOk result (λ flights. All (IsFlight run.now.world.now.setup run.now.world.now.post) flights.items) }
+    ensures { IfOk result (λ flights.
+        All (IsFlight run.now.world.now.setup run.now.world.now.post) flights.items) }
 {
     let routes = routes_of(alloc, run)?;
     let mut flights = Vec::new(alloc);
@@ -227,7 +231,8 @@ fn push_delivered(
     place: usize,
 ) -> Result<(), AllocError>
     requires { All (IsFlight run.now.world.now.setup run.now.world.now.post) flights.old.items }
-    ensures { OnOk result (All (IsFlight run.now.world.now.setup run.now.world.now.post) flights.new.items) }
+    ensures { OnOk result
+        (All (IsFlight run.now.world.now.setup run.now.world.now.post) flights.new.items) }
 {
     let Some(attempt) = run.noted.get(place) else {
         return Ok(());
@@ -256,7 +261,8 @@ fn push_sent(
     end: usize,
 ) -> Result<(), AllocError>
     requires { All (IsFlight run.now.world.now.setup run.now.world.now.post) flights.old.items }
-    ensures { OnOk result (All (IsFlight run.now.world.now.setup run.now.world.now.post) flights.new.items) }
+    ensures { OnOk result
+        (All (IsFlight run.now.world.now.setup run.now.world.now.post) flights.new.items) }
 {
     let Some(attempt) = run.noted.get(place) else {
         return Ok(());

@@ -5,7 +5,8 @@ use lib.Pointwise.{pointwise}
 use Rattle.std.proofs.lemmas.List.{take-append-drop}
 use Rattle.std.specs.Cmp.Lexicographic.{same_text}
 
-pub text_between : (text front end run inner : List ℕ) → pointwise nat_eq (take (length front) text) front ≡ true → run ≡ drop (length front) text → pointwise nat_eq (drop (length run - length end) run) end ≡ true → inner ≡ take (length run - length end) run → front ++ (inner ++ end) ≡ text
+pub text_between : (text front end run inner : List ℕ) → pointwise nat_eq (take (length front) text) front ≡ true → run ≡ drop (length front) text
+    → pointwise nat_eq (drop (length run - length end) run) end ≡ true → inner ≡ take (length run - length end) run → front ++ (inner ++ end) ≡ text
 text_between text front end run inner begins run-is ends inner-is =
     let n = length run - length end in
     let head = same_text (take (length front) text) front (sym begins) in

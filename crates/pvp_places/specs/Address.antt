@@ -30,7 +30,8 @@ parts_behind_bracket text = (before_first (λ b. b == 93) text, behind_bracket (
 -- a host and a port: a host in brackets, a colon and a port; or a host up to the first colon, and a port
 abbrev pub parts_of : List ℕ → List ℕ × List ℕ
 parts_of text =
-    if slice_index text 0 == 91 then parts_behind_bracket (drop 1 text) else (before_first (λ b. b == 58) text, after_first (λ b. b == 58) text)
+    if slice_index text 0 == 91 then parts_behind_bracket (drop 1 text)
+    else (before_first (λ b. b == 58) text, after_first (λ b. b == 58) text)
 
 -- a host and a port there
 pub record At : Type 0 where

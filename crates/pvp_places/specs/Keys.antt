@@ -19,7 +19,8 @@ hex_text bytes = flat_map byte_text bytes
 -- a line for an actor, where the two talk
 abbrev pub key_line : Setup → List ℕ → ℕ → ℕ → List ℕ
 key_line setup secret me actor =
-    if talks me actor then actor_text setup actor ++ codes " " ++ hex_text (key_of secret me actor) ++ codes "\n" else []
+    if talks me actor then actor_text setup actor ++ codes " " ++ hex_text (key_of secret me actor) ++ codes "\n"
+    else []
 
 -- THE KEYS FILE of an actor, by the bank's secret
 abbrev pub keys_text : Setup → List ℕ → ℕ → List ℕ → List ℕ

@@ -16,12 +16,14 @@ is_site_name name = (length name == 2) && ((slice_index name 0 == 115) && is_asc
 -- which the bank has
 abbrev pub site_named : Setup → List ℕ → Option ℕ
 site_named setup name =
-    if is_site_name name && (nat_lt (slice_index name 1 - 48) MOST_SITES && nat_lt (slice_index name 1 - 48) setup.sites)
+    if is_site_name name && (nat_lt (slice_index name 1 - 48) MOST_SITES
+    && nat_lt (slice_index name 1 - 48) setup.sites)
     then Some (slice_index name 1 - 48) else None
 
 -- a client or a node, or else a site
 abbrev pub actor_named : Setup → List ℕ → Option ℕ
-actor_named setup name = first_of (client_number setup name) (option_map (λ site. FIRST_SITE + site) (site_named setup name))
+actor_named setup name =
+    first_of (client_number setup name) (option_map (λ site. FIRST_SITE + site) (site_named setup name))
 
 -- the site of a place, with or without an `s` before it
 abbrev pub site_asked : Setup → List ℕ → Option ℕ

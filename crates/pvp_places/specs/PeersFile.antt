@@ -41,14 +41,16 @@ with_address read site (Some at) = Ok (record read { places = read.places ++ (re
 
 abbrev pub with_place : Read → Option ℕ → List ℕ → Result Read PlaceWhy
 with_place read None text = Err why.Name
-with_place read (Some site) text = if has_place read.places site then Err why.Twice else with_address read site (address_of text)
+with_place read (Some site) text =
+    if has_place read.places site then Err why.Twice else with_address read site (address_of text)
 
 abbrev pub with_site : Setup → Read → List ℕ → List ℕ → Result Read PlaceWhy
 with_site setup read name text = with_place read (site_named setup name) text
 
 -- what a line of two words adds
 abbrev pub with_peer : Setup → Read → List ℕ → List ℕ → Result Read PlaceWhy
-with_peer setup read name rest = if bytes_eq name (codes "bank") then with_life read rest else with_site setup read name rest
+with_peer setup read name rest =
+    if bytes_eq name (codes "bank") then with_life read rest else with_site setup read name rest
 
 -- what the lines of a file say
 abbrev pub lines_in : Setup → List ℕ → Result Read PlaceFault

@@ -24,10 +24,13 @@ abbrev pub at_line : {X : Type 0} → ℕ → Result X PlaceWhy → Result X Pla
 at_line number (Ok x) = Ok x
 at_line number (Err why) = Err (Line number why)
 
--- A FILE IS READ: each of its lines, from this number on, adds to what was read before it, up to the first that is wrong
-unfoldable pub read_from : {X : Type 0} → (X → List ℕ → List ℕ → Result X PlaceWhy) → X → ℕ → List (List ℕ) → Result X PlaceFault
+-- A FILE IS READ: each of its lines, from this number on, adds to what was read before it, up to the first that is
+-- wrong
+unfoldable pub read_from : {X : Type 0} → (X → List ℕ → List ℕ → Result X PlaceWhy) → X → ℕ → List (List ℕ)
+    → Result X PlaceFault
 read_from says x number [] = Ok x
-read_from says x number (line ∷ more) = at_line number (with_line says x line) >>= λ now. read_from says now (number + 1) more
+read_from says x number (line ∷ more) =
+    at_line number (with_line says x line) >>= λ now. read_from says now (number + 1) more
 
 -- why a file is not read, of whose line this is told
 abbrev pub fault_at : ℕ → LineFault → PlaceFault

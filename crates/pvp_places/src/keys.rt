@@ -81,7 +81,8 @@ fn read_line(setup: &Setup, line: &[u8], shared: &mut Vec<Shared>) -> Result<(),
 /// What a line that says something says, behind these.
 fn key_at(setup: &Setup, shared: &[Shared], line: &[u8]) -> Result<Shared, PlaceWhy>
     ensures { MatchResult result
-        (λ found. of_two (with_key setup.now shared.now) (words line.now) ≡ Ok (shared.now ++ found ∷ []))
+        (λ found. of_two (with_key setup.now shared.now) (words line.now)
+        ≡ Ok (shared.now ++ found ∷ []))
         (λ why. of_two (with_key setup.now shared.now) (words line.now) ≡ Err why) }
 {
     let Some((name, digits)) = two_words(line) else {

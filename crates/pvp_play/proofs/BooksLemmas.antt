@@ -81,12 +81,16 @@ record SameCounts (bank after : Bank) : Type 0 where
 
 module _ (setup : Setup) (choose : Choice Cmd) (f : ℕ) where
   acts-same : (bank : Bank) (turn : Turn) (after : Bank) → Acts setup choose f bank turn after → SameCounts bank after
-  acts-same bank (OfSite i event) after acts = subst (λ (b : Bank). SameCounts bank b) (sym acts.leads) (record { sites = set-length bank.sites i _; nodes = refl; clients = refl })
-  acts-same bank (OfNode c event) after acts = subst (λ (b : Bank). SameCounts bank b) (sym acts.leads) (record { sites = refl; nodes = set-length bank.nodes c _; clients = refl })
-  acts-same bank (OfClient k event) after acts = subst (λ (b : Bank). SameCounts bank b) (sym acts.leads) (record { sites = refl; nodes = refl; clients = set-length bank.clients k _ })
+  acts-same bank (OfSite i event) after acts =
+      subst (λ (b : Bank). SameCounts bank b) (sym acts.leads) (record { sites = set-length bank.sites i _; nodes = refl; clients = refl })
+  acts-same bank (OfNode c event) after acts =
+      subst (λ (b : Bank). SameCounts bank b) (sym acts.leads) (record { sites = refl; nodes = set-length bank.nodes c _; clients = refl })
+  acts-same bank (OfClient k event) after acts =
+      subst (λ (b : Bank). SameCounts bank b) (sym acts.leads) (record { sites = refl; nodes = refl; clients = set-length bank.clients k _ })
 
   falls-same : (bank : Bank) (turn : Turn) (cell : Boot) (after : Bank) → FallsBy setup choose f bank turn cell after → SameCounts bank after
-  falls-same bank (OfSite i event) cell after falls = subst (λ (b : Bank). SameCounts bank b) (sym falls.leads) (record { sites = set-length bank.sites i _; nodes = refl; clients = refl })
+  falls-same bank (OfSite i event) cell after falls =
+      subst (λ (b : Bank). SameCounts bank b) (sym falls.leads) (record { sites = set-length bank.sites i _; nodes = refl; clients = refl })
   falls-same bank (OfNode c event) cell after falls = absurd falls
   falls-same bank (OfClient k event) cell after falls = absurd falls
 
@@ -114,7 +118,8 @@ pub record HasAll {B : Type 0} (world : Shown B) : Type 0 where
 pub has_all : {B : Type 0} (held : B → Boot) (world : Shown B) → IsAt held world → HasAll world
 has_all held world at =
     let list = at.list in
-    let same = run-same world.setup list.choose (faults world.setup) (opening_bank world.setup (faults world.setup) list.cells) list.moves list.bank list.legal.run in
+    let same =
+    run-same world.setup list.choose (faults world.setup) (opening_bank world.setup (faults world.setup) list.cells) list.moves list.bank list.legal.run in
     record {
       sites = at.shows.sites.count ∙ same.sites ∙ length-map _ list.cells ∙ list.legal.all;
       nodes = at.shows.nodes.count ∙ same.nodes ∙ length-map _ world.setup.currencies;
@@ -153,7 +158,9 @@ matches held world proved i c v x there node_there runs =
     held-is (opening v.setup) rows ∙ ap (λ (s : Setup). after_rows (opening s) rows) is.made_from in
     let ledger = after_rows (opening world.setup) rows in
     let law = accounts-match held world proved site.0 c of_node.0 (has bank.sites i site.0 site.1) of_node.1 in
-    let of_rows = subst (λ (rs : List Row). let e = (after_rows (opening world.setup) rs).entries in account of_node.0 ≡ figure world.setup e c +ℤ way c of_node.0 e) same law in
+    let of_rows =
+    subst (λ (rs : List Row). let e = (after_rows (opening world.setup) rs).entries in
+    account of_node.0 ≡ figure world.setup e c +ℤ way c of_node.0 e) same law in
     let of_shown = subst (λ (n : Node). account n ≡ figure world.setup ledger.entries c +ℤ way c n ledger.entries) (sym node_is) of_rows in
     subst (λ (b : Ledger). Matches c x.node b) (sym book)
     (of_shown ∙ ap (λ (s : Setup). figure s ledger.entries c +ℤ way c x.node ledger.entries) (sym (held-setup (opening world.setup) rows)))

@@ -62,7 +62,8 @@ armed-so fails i fail cell is held failures before keeps = record {
   keeps = λ other e. keeps ∙ ap (λ (f : Fail). f.keep) (some-same fail other (sym is ∙ e));
 }
 
-pub armed-not : (fails : List Fail) (i : ℕ) (cell : MemCell) → fail_of fails i ≡ None → held_by cell ≡ new_cell → faults_of cell ≡ 0 → IsReliable cell → IsArmed fails i cell
+pub armed-not : (fails : List Fail) (i : ℕ) (cell : MemCell) → fail_of fails i ≡ None → held_by cell ≡ new_cell → faults_of cell ≡ 0 → IsReliable cell
+    → IsArmed fails i cell
 armed-not fails i cell is held failures reliable = record {
   held = held;
   failures = failures;
@@ -71,7 +72,8 @@ armed-not fails i cell is held failures reliable = record {
 }
 
 -- where none is to fail, the cells of a world are reliable
-pub all-reliable : (fails : List Fail) (world : World MemCell) → ((i : ℕ) (v : Replica Cmd Setup MemCell) → slice_get world.sites i ≡ Some v → IsArmed fails i v.cell)
+pub all-reliable : (fails : List Fail) (world : World MemCell)
+    → ((i : ℕ) (v : Replica Cmd Setup MemCell) → slice_get world.sites i ≡ Some v → IsArmed fails i v.cell)
     → fails ≡ [] → AreReliable memory world
 all-reliable fails world armed none i v at = (armed i v at).before ∙ ap (λ fs. option_and_then before_fault (fail_of fs i)) none
 
@@ -80,4 +82,5 @@ pub armed-sites : (fails : List Fail) (cells : List MemCell) (sites : List (Repl
     → ((i : ℕ) (cell : MemCell) → slice_get cells i ≡ Some cell → IsArmed fails i cell)
     → (i : ℕ) (v : Replica Cmd Setup MemCell) → slice_get sites i ≡ Some v → IsArmed fails i v.cell
 armed-sites fails cells sites are all i v at =
-    all i v.cell (sym (ap (λ cs. slice_get cs i) are) ∙ slice_get-map (λ (site : Replica Cmd Setup MemCell). site.cell) sites i ∙ ap (option_map (λ (site : Replica Cmd Setup MemCell). site.cell)) at)
+    all i v.cell (sym (ap (λ cs. slice_get cs i) are) ∙ slice_get-map (λ (site : Replica Cmd Setup MemCell). site.cell) sites i
+    ∙ ap (option_map (λ (site : Replica Cmd Setup MemCell). site.cell)) at)

@@ -61,8 +61,10 @@ module _ {B : Type 0} (world : World B) (a b : ℕ) where
   row-beats past low =
       let after : a % 32 - 16 - 4 ≡ suc (a % 32 - 21) = omega arith in
       row (a % 32) (Tries (Beat (any_actor world.setup b))) refl
-      (row-past 16 (a % 32) Drains (drop 16 (table world b)) (omega arith) ∙ row-past 4 (a % 32 - 16) (any_delivery world b) (drop 20 (table world b)) (omega arith)
-      ∙ ap (slice_get (drop 20 (table world b))) after ∙ row-same 3 (a % 32 - 21) (Tries (Beat (any_actor world.setup b))) (drop 24 (table world b)) (omega arith))
+      (row-past 16 (a % 32) Drains (drop 16 (table world b)) (omega arith) ∙ row-past 4 (a % 32 - 16) (any_delivery world b)
+      (drop 20 (table world b)) (omega arith)
+      ∙ ap (slice_get (drop 20 (table world b))) after ∙ row-same 3 (a % 32 - 21) (Tries (Beat (any_actor world.setup b)))
+      (drop 24 (table world b)) (omega arith))
 
   -- a row that stands by itself, of a number that is given
   pub row-one : (turn : ℕ) (act : Act) → a % 32 ≡ turn → slice_get (table world b) turn ≡ Some act → act ≡ act_of world a b

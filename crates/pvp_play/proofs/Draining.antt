@@ -65,7 +65,8 @@ module _ (cut : List ℕ) where
       shift = omega arith
 
       by : (b : Bool) → numbers (k + 1) (es ++ fs) ≡ numbers (k + 1) es ++ numbers (k + suc (length es)) fs
-          → cons_option (if b then Some k else None) (numbers (k + 1) (es ++ fs)) ≡ cons_option (if b then Some k else None) (numbers (k + 1) es) ++ numbers (k + suc (length es)) fs
+          → cons_option (if b then Some k else None) (numbers (k + 1) (es ++ fs)) ≡ cons_option (if b then Some k else None) (numbers (k + 1) es)
+          ++ numbers (k + suc (length es)) fs
       by true rest = ap (λ ns. k ∷ ns) rest
       by false rest = rest
 
@@ -87,13 +88,16 @@ module _ (cut : List ℕ) where
   first-open k [] n some = absurd (none-some n some)
   first-open k (e ∷ es) n some = by (is_open cut e) (first-open (k + 1) es n) some refl
     where
-      by : (b : Bool) → (position_from (is_open cut) (k + 1) es ≡ Some n → IsFirst (k + 1) n es) → cond b (Some k) (position_from (is_open cut) (k + 1) es) ≡ Some n
+      by : (b : Bool) → (position_from (is_open cut) (k + 1) es ≡ Some n → IsFirst (k + 1) n es)
+          → cond b (Some k) (position_from (is_open cut) (k + 1) es) ≡ Some n
           → (numbers k (e ∷ es) ≡ cons_option (if b then Some k else None) (numbers (k + 1) es)) → IsFirst k n (e ∷ es)
       by true later at parts =
           let same : k ≡ n = some-same k n at in
           let one : n + 1 - k ≡ 1 = omega arith in
           record {
-            all = parts ∙ ap (λ j. j ∷ numbers (k + 1) es) same ∙ ap (λ j. n ∷ numbers (j + 1) es) same ∙ ap (λ j. n ∷ numbers (n + 1) (drop j (e ∷ es))) (sym one);
+            all =
+                parts ∙ ap (λ j. j ∷ numbers (k + 1) es) same ∙ ap (λ j. n ∷ numbers (j + 1) es) same
+                ∙ ap (λ j. n ∷ numbers (n + 1) (drop j (e ∷ es))) (sym one);
             low = omega arith;
             high = omega arith;
           }
@@ -108,7 +112,8 @@ module _ (cut : List ℕ) where
             high = omega arith;
           }
 
-  pub open-more : (k : ℕ) (post more : List Envelope) → k ≤ length post → open_after cut k (post ++ more) ≡ open_after cut k post ++ numbers (length post + 1) more
+  pub open-more : (k : ℕ) (post more : List Envelope) → k ≤ length post
+      → open_after cut k (post ++ more) ≡ open_after cut k post ++ numbers (length post + 1) more
   open-more k post more low =
       let at : k + 1 + length (drop k post) ≡ length post + 1 = ap (λ n. k + 1 + n) (drop-length k post) ∙ omega arith in
       ap (λ es. numbers (k + 1) es) (drop-append k post more low) ∙ numbers-append (k + 1) (drop k post) more
@@ -156,11 +161,24 @@ pub record AreDrained {B : Type 0} (c : Cell B) (count : ℕ) (first now : Posit
   pub cut : now.cut ≡ first.cut
 
 pub drained-none : {B : Type 0} (c : Cell B) (p : Position B) → AreDrained c 0 p p
-drained-none c p = record { delivered = []; many = refl; parts = refl; attempts = []; are_delivered = refl; noted = sym (with_notes-none p.noted); cursor = refl; after = omega arith; cut = refl }
+drained-none c p =
+    record {
+      delivered = [];
+      many = refl;
+      parts = refl;
+      attempts = [];
+      are_delivered = refl;
+      noted = sym (with_notes-none p.noted);
+      cursor = refl;
+      after = omega arith;
+      cut = refl;
+    }
 
 module _ {B : Type 0} (c : Cell B) (count : ℕ) (first now : Position B) (drained : AreDrained c count first now) where
   next-here : (n : ℕ) → next_open now ≡ Some n → IsNext first.cut now.cursor n now.world.post
-  next-here n some = next-is first.cut now.cursor n now.world.post (ap (λ cut. position_from (is_open cut) (now.cursor + 1) (drop now.cursor now.world.post)) (sym drained.cut) ∙ some)
+  next-here n some =
+      next-is first.cut now.cursor n now.world.post (ap (λ cut. position_from (is_open cut) (now.cursor + 1) (drop now.cursor now.world.post))
+      (sym drained.cut) ∙ some)
 
   -- one more was
   pub drained-more : (n : ℕ) (next : Position B) → next_open now ≡ Some n → DrainsOne c now next n → AreDrained c (count + 1) first next
@@ -205,17 +223,21 @@ module _ {B : Type 0} (c : Cell B) (count : ℕ) (first now : Position B) (drain
         attempts = drained.attempts;
         are_delivered = drained.are_delivered;
         noted = drained.noted;
-        cursor = drained.cursor ∙ sym (ap (λ (b : Bool). if b then fold (λ before number. number) first.cursor drained.delivered else length now.world.post) (eq-eqb (length drained.delivered) turns many));
+        cursor =
+            drained.cursor ∙ sym (ap (λ (b : Bool). if b then fold (λ before number. number) first.cursor drained.delivered else length now.world.post)
+            (eq-eqb (length drained.delivered) turns many));
         cut = drained.cut;
       }
 
   -- no open one is left
-  pub drained-out : (turns : ℕ) (end : Position B) → count < turns → next_open now ≡ None → end ≡ with_cursor now (length now.world.post) → Drains c turns first end
+  pub drained-out : (turns : ℕ) (end : Position B) → count < turns → next_open now ≡ None → end ≡ with_cursor now (length now.world.post)
+      → Drains c turns first end
   drained-out turns end few none moved =
       let many = drained.many in
       let shut = none-open first.cut (now.cursor + 1) (drop now.cursor now.world.post)
       (ap (λ cut. position_from (is_open cut) (now.cursor + 1) (drop now.cursor now.world.post)) (sym drained.cut) ∙ none) in
-      let all : open_after first.cut first.cursor now.world.post ≡ drained.delivered = drained.parts ∙ ap (λ ns. drained.delivered ++ ns) shut ∙ append-nil drained.delivered in
+      let all : open_after first.cut first.cursor now.world.post ≡ drained.delivered =
+      drained.parts ∙ ap (λ ns. drained.delivered ++ ns) shut ∙ append-nil drained.delivered in
       let other : length drained.delivered ≡ turns → ⊥ = λ e. absurd (omega arith) in
       subst (λ (p : Position B). Drains c turns first p) (sym moved)
       (record {
@@ -224,7 +246,9 @@ module _ {B : Type 0} (c : Cell B) (count : ℕ) (first now : Position B) (drain
         attempts = drained.attempts;
         are_delivered = drained.are_delivered;
         noted = drained.noted;
-        cursor = sym (ap (λ (b : Bool). if b then fold (λ before number. number) first.cursor drained.delivered else length now.world.post) (ne_eqb (length drained.delivered) turns other));
+        cursor =
+            sym (ap (λ (b : Bool). if b then fold (λ before number. number) first.cursor drained.delivered else length now.world.post)
+            (ne_eqb (length drained.delivered) turns other));
         cut = drained.cut;
       })
 
@@ -239,7 +263,9 @@ module _ {B : Type 0} (c : Cell B) (count : ℕ) (first now : Position B) (drain
       (record {
         delivered = drained.delivered;
         number = n;
-        which = sym (ap (take (length drained.delivered + 1)) (drained.parts ∙ ap (λ ns. drained.delivered ++ ns) is.all ∙ sym (append_assoc drained.delivered (n ∷ []) rest))
+        which =
+            sym (ap (take (length drained.delivered + 1)) (drained.parts ∙ ap (λ ns. drained.delivered ++ ns) is.all
+            ∙ sym (append_assoc drained.delivered (n ∷ []) rest))
             ∙ ap (λ k. take k ((drained.delivered ++ n ∷ []) ++ rest)) (sym more) ∙ take-front (drained.delivered ++ n ∷ []) rest);
         few = omega arith;
         attempts = drained.attempts;
@@ -251,14 +277,17 @@ module _ {B : Type 0} (c : Cell B) (count : ℕ) (first now : Position B) (drain
       })
 
   -- so by the next open one, if there is one
-  pub drained-turn : (found : Option ℕ) (next : Position B) → next_open now ≡ found → DrainsTo c now next found → true ≡ is_some found → AreDrained c (count + 1) first next
+  pub drained-turn : (found : Option ℕ) (next : Position B) → next_open now ≡ found → DrainsTo c now next found → true ≡ is_some found
+      → AreDrained c (count + 1) first next
   drained-turn None next at to there = absurd (true≢false there)
   drained-turn (Some n) next at to there = drained-more n next at to
 
-  pub drained-end : (turns : ℕ) (found : Option ℕ) (end : Position B) → count < turns → next_open now ≡ found → DrainsTo c now end found → false ≡ is_some found → Drains c turns first end
+  pub drained-end : (turns : ℕ) (found : Option ℕ) (end : Position B) → count < turns → next_open now ≡ found → DrainsTo c now end found → false ≡ is_some found
+      → Drains c turns first end
   drained-end turns None end few at to there = drained-out turns end few at to
   drained-end turns (Some n) end few at to there = absurd (true≢false (sym there))
 
-  pub drained-stop : (turns : ℕ) (found : Option ℕ) (end : Position B) → count < turns → next_open now ≡ found → WantsTo now end found → DrainStops c turns first end
+  pub drained-stop : (turns : ℕ) (found : Option ℕ) (end : Position B) → count < turns → next_open now ≡ found → WantsTo now end found
+      → DrainStops c turns first end
   drained-stop turns None end few at wants = absurd wants
   drained-stop turns (Some n) end few at wants = drained-short turns n end few at wants

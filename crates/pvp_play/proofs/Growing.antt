@@ -25,7 +25,8 @@ Grows old new = (more : List Envelope) × (new ≡ old ++ more)
 same-grows : (old new : List Envelope) → new ≡ old → Grows old new
 same-grows old new e = ([], e ∙ sym (append-nil old))
 
-bank-grows : (setup : Setup) (choose : Choice Cmd) (f : ℕ) (bank : Bank) (move : Move) (after : Bank) → Leads setup choose f bank move after → Grows bank.post after.post
+bank-grows : (setup : Setup) (choose : Choice Cmd) (f : ℕ) (bank : Bank) (move : Move) (after : Bank) → Leads setup choose f bank move after
+    → Grows bank.post after.post
 bank-grows setup choose f bank (Takes step) after leads = by leads.turn_is leads.acts
   where
     by : (t : Turn) → Acts setup choose f bank t after → Grows bank.post after.post

@@ -41,24 +41,28 @@ module _ {B : Type 0} (c : Cell B) (telling : Telling) where
 
   -- the next line was played
   pub Plays-more : (lines : List Line) (i : ℕ) (d : Line) (old mid new : Position B) (before after : List ℕ) → i < length lines
-      → Plays c telling (take i lines) old mid before → PlaysLine c telling (get_or lines i d) mid new after → Plays c telling (take (i + 1) lines) old new (before ++ after)
+      → Plays c telling (take i lines) old mid before → PlaysLine c telling (get_or lines i d) mid new after
+      → Plays c telling (take (i + 1) lines) old new (before ++ after)
   Plays-more lines i d old mid new before after within plays last =
       subst (λ ls. Plays c telling ls old new (before ++ after)) (sym (take_more lines i d within))
       (Plays-append (take i lines) (get_or lines i d) old mid new before after plays last)
 
 -- what was written after what was written
-pub written-more : (old mid new : Option (List ℕ)) (before after text : List ℕ) → text ≡ after → Appends old mid before → Appends mid new text → Appends old new (before ++ after)
+pub written-more : (old mid new : Option (List ℕ)) (before after text : List ℕ) → text ≡ after → Appends old mid before → Appends mid new text
+    → Appends old new (before ++ after)
 written-more old mid new before after text is first later = Appends-trans old mid new before after first (subst (Appends mid new) is later)
 
 -- where memory is refused for a line, those before it were played
-pub end-stopped : {B : Type 0} (c : Cell B) (telling : Telling) (first : Position B) (lines : List Line) (last : Position B) (result : Result (Unit {0}) RunFault) (old new : Option (List ℕ))
+pub end-stopped : {B : Type 0} (c : Cell B) (telling : Telling) (first : Position B) (lines : List Line) (last : Position B)
+    (result : Result (Unit {0}) RunFault) (old new : Option (List ℕ))
     → IsErrAnd result (λ fault. fault ≡ NoMemory) → AreStopped c telling first lines last old new → LinesEnd c telling first lines last result old new
 end-stopped c telling first lines last (Ok done) old new why stopped = absurd why
 end-stopped c telling first lines last (Err fault) old new why stopped =
     subst (λ (e : RunFault). LinesEnd c telling first lines last (Err e) old new) (sym why) stopped
 
 -- a text that is the line's, where there is one, is what the line prints
-pub text-played : {B S E : Type 0} (c : Cell B) (telling : Telling) (line : Line) (old new : Position B) (told : Option WorldFault) (bytes : S → List ℕ) (result : Result S E) (text : List ℕ)
+pub text-played : {B S E : Type 0} (c : Cell B) (telling : Telling) (line : Line) (old new : Position B) (told : Option WorldFault) (bytes : S → List ℕ)
+    (result : Result S E) (text : List ℕ)
     → Does c line.statement old new told → text ≡ line_text c.held telling line told old new
     → IfOk result (λ s. bytes s ≡ text) → IfOk result (λ s. PlaysLine c telling line old new (bytes s))
 text-played c telling line old new told bytes (Ok s) text does is same =
@@ -66,7 +70,8 @@ text-played c telling line old new told bytes (Ok s) text does is same =
 text-played c telling line old new told bytes (Err fault) text does is same = tt
 
 -- memory was refused for what a line prints where steps are told
-pub steps-stopped : {B T E : Type 0} (c : Cell B) (telling : Telling) (line : Line) (old new : Position B) (told : Option WorldFault) (before from : ℕ) (result : Result T E)
+pub steps-stopped : {B T E : Type 0} (c : Cell B) (telling : Telling) (line : Line) (old new : Position B) (told : Option WorldFault)
+    (before from : ℕ) (result : Result T E)
     → telling ≡ Steps → Does c line.statement old new told → before ≡ length (notes old.noted) → from ≡ old.cursor
     → OnErr result ((told ≢ None) ⊎ (before < length (notes new.noted)) ⊎ (passing_text line.statement told from new ≢ []))
     → OnErr result (LineStops c telling line old new)

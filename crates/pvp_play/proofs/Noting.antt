@@ -64,7 +64,8 @@ module _ {B : Type 0} (c : Cell B) where
   line-notes (Chaos seed turns) old new told does = turns-note turns _ _ does.0.1
   line-notes (Rest milliseconds) old new told does = noted-by old new old does.0 refl
 
-  pub plays-note : (telling : Telling) (lines : List Line) (old new : Position B) (text : List ℕ) → Plays c telling lines old new text → is_some new.noted ≡ is_some old.noted
+  pub plays-note : (telling : Telling) (lines : List Line) (old new : Position B) (text : List ℕ) → Plays c telling lines old new text
+      → is_some new.noted ≡ is_some old.noted
   plays-note telling [] old new text none = noted-by old new old none.0 refl
   plays-note telling (line ∷ lines) old new text plays =
       plays-note telling lines plays.between new plays.after plays.others ∙ line-notes line.statement old plays.between plays.first.told plays.first.does

@@ -23,11 +23,13 @@ use Rattle.pvp_play.specs.Lines.{Does, Plays}
 use Rattle.pvp_play.specs.Turns.{Turns}
 
 -- a result that is no failed save is told as none
-told-other : (result : Result Report WorldFault) (told : Option WorldFault) → told ≡ refusal_in result → result ≢ Err (Site CellFault) → told ≢ Some (Site CellFault)
+told-other : (result : Result Report WorldFault) (told : Option WorldFault) → told ≡ refusal_in result → result ≢ Err (Site CellFault)
+    → told ≢ Some (Site CellFault)
 told-other (Ok report) told is other e = cc
 told-other (Err fault) told is other e = other (same fault told is e)
   where
-    same : (fault : WorldFault) (told : Option WorldFault) → told ≡ Some fault → told ≡ Some (Site CellFault) → ◌≡◌ {A = Result Report WorldFault} (Err fault) (Err (Site CellFault))
+    same : (fault : WorldFault) (told : Option WorldFault) → told ≡ Some fault → told ≡ Some (Site CellFault)
+        → ◌≡◌ {A = Result Report WorldFault} (Err fault) (Err (Site CellFault))
     same fault told d e = cc
 
 none-other : (told : Option WorldFault) → told ≡ None → told ≢ Some (Site CellFault)
@@ -62,7 +64,8 @@ module _ {B : Type 0} (c : Cell B) where
   turns-keep zero old new none all = same-keeps old.1.world new.1.world (ap (λ (p : Lcg × Position B). p.1.world) none) all
   turns-keep (suc n) old new (mid, turns, turn) all = act-keeps _ mid.1 new.1 turn.1 (turns-keep n old mid turns all)
 
-  quiet-keeps : (old new : World B) (told : Option WorldFault) → Keeps old new → told ≡ None → AreReliable c old → AreReliable c new × (told ≢ Some (Site CellFault))
+  quiet-keeps : (old new : World B) (told : Option WorldFault) → Keeps old new → told ≡ None → AreReliable c old
+      → AreReliable c new × (told ≢ Some (Site CellFault))
   quiet-keeps old new told keeps none all = (keeps all, none-other told none)
 
   with-cut : (p : Position B) (actor : ℕ) (cut : List ℕ) → (with_cut p actor cut).world ≡ p.world
@@ -88,13 +91,17 @@ module _ {B : Type 0} (c : Cell B) where
       → AreReliable c old.world → AreReliable c new.world × (told ≢ Some (Site CellFault))
   line-keeps (Do step) old new told does = tried-keeps old new step told does
   line-keeps Print old new told does = quiet-keeps old.world new.world told (same-keeps old.world new.world (ap (λ (p : Position B). p.world) does.0)) does.1
-  line-keeps (Drain turns) old new told does = quiet-keeps old.world new.world told (delivered-keep does.0.delivered does.0.attempts old.world new.world does.0.are_delivered) does.1
-  line-keeps (Skip envelopes) old new told does = quiet-keeps old.world new.world told (same-keeps old.world new.world (ap (λ (p : Position B). p.world) does.0)) does.1
+  line-keeps (Drain turns) old new told does =
+      quiet-keeps old.world new.world told (delivered-keep does.0.delivered does.0.attempts old.world new.world does.0.are_delivered) does.1
+  line-keeps (Skip envelopes) old new told does =
+      quiet-keeps old.world new.world told (same-keeps old.world new.world (ap (λ (p : Position B). p.world) does.0)) does.1
   line-keeps (Cut actor) old new told does = cut-keeps old new actor _ told does.0 does.1
   line-keeps (Heal actor) old new told does = cut-keeps old new actor _ told does.0 does.1
   line-keeps (Chaos seed turns) old new told does = quiet-keeps old.world new.world told (turns-keep turns _ _ does.0.1) does.1
-  line-keeps (Rest milliseconds) old new told does = quiet-keeps old.world new.world told (same-keeps old.world new.world (ap (λ (p : Position B). p.world) does.0)) does.1
+  line-keeps (Rest milliseconds) old new told does =
+      quiet-keeps old.world new.world told (same-keeps old.world new.world (ap (λ (p : Position B). p.world) does.0)) does.1
 
-  pub plays-keep : (telling : Telling) (lines : List Line) (old new : Position B) (text : List ℕ) → Plays c telling lines old new text → Keeps old.world new.world
+  pub plays-keep : (telling : Telling) (lines : List Line) (old new : Position B) (text : List ℕ) → Plays c telling lines old new text
+      → Keeps old.world new.world
   plays-keep telling [] old new text none all = same-keeps old.world new.world (ap (λ (p : Position B). p.world) none.0) all
   plays-keep telling (line ∷ lines) old new text plays all = plays-keep telling lines plays.between new plays.after plays.others (plays.first.reliable all).0

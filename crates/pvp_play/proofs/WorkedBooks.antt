@@ -65,7 +65,15 @@ abbrev eur : node.Shown
 eur = record {
   setup = setup;
   ccy = 0;
-  node = record { pay_ins = record { member = 1; amt = 500 } ∷ record { member = 2; amt = 70 } ∷ []; pay_outs = order 0 200 ∷ []; returned = []; closed = []; notices = []; answered = 0 };
+  node =
+      record {
+        pay_ins = record { member = 1; amt = 500 } ∷ record { member = 2; amt = 70 } ∷ [];
+        pay_outs = order 0 200 ∷ [];
+        returned = [];
+        closed = [];
+        notices = [];
+        answered = 0;
+      };
 }
 
 -- an order was returned

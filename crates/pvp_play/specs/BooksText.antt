@@ -32,7 +32,8 @@ book_of held v = machine_of book (opening v.setup) (site_shown held v [])
 
 -- where a running site stands
 abbrev pub standing_text : Volatile Cmd → List ℕ
-standing_text v = codes " view " ++ decimal v.view ++ codes " log " ++ decimal (length v.log) ++ codes " done " ++ decimal v.done
+standing_text v =
+    codes " view " ++ decimal v.view ++ codes " log " ++ decimal (length v.log) ++ codes " done " ++ decimal v.done
 
 abbrev pub status_text : Volatile Cmd → Status → List ℕ
 status_text v Normal = codes "normal" ++ standing_text v
@@ -69,7 +70,9 @@ node_line setup c x =
 
 -- the figure of a book in the node's currency, and what is on the way between the two
 abbrev pub figure_text : ℕ → Node → Ledger → List ℕ
-figure_text c x held = codes " figure " ++ signed_decimal (figure held.setup held.entries c) ++ codes " way " ++ signed_decimal (way c x held.entries)
+figure_text c x held =
+    codes " figure " ++ signed_decimal (figure held.setup held.entries c) ++ codes " way "
+    ++ signed_decimal (way c x held.entries)
 
 -- what the node's account holds is the figure and the way together
 abbrev pub Matches : ℕ → Node → Ledger → Type 0
@@ -94,7 +97,8 @@ node_text held world (c, v) =
 
 -- the operator is number 0, and members are numbered from 1
 abbrev pub name_of : Setup → ℕ → List ℕ
-name_of setup k = if k == 0 then codes "OP" else option_map_or (λ member. member.name) (slice_get setup.members (k - 1)) []
+name_of setup k =
+    if k == 0 then codes "OP" else option_map_or (λ member. member.name) (slice_get setup.members (k - 1)) []
 
 -- the answer to the last request, where it came
 abbrev pub answer_text : Option Reply → List ℕ
@@ -105,7 +109,8 @@ answer_text None = codes "waits"
 abbrev pub client_text : Setup → ℕ × client.Shown → List ℕ
 client_text setup (k, v) =
     if v.client.number == 0 then []
-    else codes "client " ++ name_of setup k ++ codes " " ++ decimal v.client.number ++ codes " " ++ answer_text v.client.answer ++ codes "\n"
+    else codes "client " ++ name_of setup k ++ codes " " ++ decimal v.client.number ++ codes " "
+    ++ answer_text v.client.answer ++ codes "\n"
 
 -- THE BOOKS of a world: of its sites, its nodes and its clients
 abbrev pub books_text : {B : Type 0} → (B → Boot) → Shown B → List ℕ

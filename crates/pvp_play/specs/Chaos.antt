@@ -63,8 +63,10 @@ second_amount reference = 1 + ((11 * reference) % 100)
 -- what side 0 or side 1 asks for: each sells what the other buys
 abbrev pub instruction : Setup → ℕ → ℕ → Cmd
 instruction setup r side =
-    if side == 0 then Instruct r (on_side setup r 1) (first_currency setup r) (first_amount r) (second_currency setup r) (second_amount r)
-    else Instruct r (on_side setup r 0) (second_currency setup r) (second_amount r) (first_currency setup r) (first_amount r)
+    if side == 0 then Instruct r (on_side setup r 1) (first_currency setup r) (first_amount r)
+    (second_currency setup r) (second_amount r)
+    else Instruct r (on_side setup r 0) (second_currency setup r) (second_amount r)
+    (first_currency setup r) (first_amount r)
 
 -- SITES
 

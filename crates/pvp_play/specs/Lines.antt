@@ -80,16 +80,19 @@ steps_text world number told before noted =
 abbrev pub line_text : {B : Type 0} → (B → Boot) → Telling → Line → Option WorldFault → Position B → Position B → List ℕ
 line_text held Books line told old new = refused_text line.number told ++ print_text held line.statement new.world
 line_text held Steps line told old new =
-    steps_text new.world line.number told (length (notes old.noted)) (notes new.noted) ++ passing_text line.statement told old.cursor new
+    steps_text new.world line.number told (length (notes old.noted)) (notes new.noted)
+    ++ passing_text line.statement told old.cursor new
 
 -- there is something to print
 abbrev pub Prints : {B : Type 0} → Telling → Line → Option WorldFault → Position B → Position B → Type 0
 Prints Books line told old new = (told ≢ None) ⊎ (line.statement ≡ Print)
 Prints Steps line told old new =
-    (told ≢ None) ⊎ (length (notes old.noted) < length (notes new.noted)) ⊎ (passing_text line.statement told old.cursor new ≢ [])
+    (told ≢ None) ⊎ (length (notes old.noted) < length (notes new.noted))
+    ⊎ (passing_text line.statement told old.cursor new ≢ [])
 
 -- A LINE IS PLAYED. Over cells whose saves do not fail it tells no failed save, and leaves them so.
-pub record PlaysLine {B : Type 0} (c : Cell B) (telling : Telling) (line : Line) (old new : Position B) (text : List ℕ) : Type 0 where
+pub record PlaysLine {B : Type 0} (c : Cell B) (telling : Telling) (line : Line) (old new : Position B) (text : List ℕ)
+    : Type 0 where
   pub told : Option WorldFault
   pub does : Does c line.statement old new told
   pub prints : text ≡ line_text c.held telling line told old new
@@ -102,7 +105,8 @@ LineStops c telling line old new =
     ⊎ ((told : Option WorldFault) × Does c line.statement old new told × Prints telling line told old new)
 
 -- a line is played, and others after it
-pub record PlaysBoth {B : Type 0} (First Others : Position B → Position B → List ℕ → Type 0) (old new : Position B) (text : List ℕ) : Type 0 where
+pub record PlaysBoth {B : Type 0} (First Others : Position B → Position B → List ℕ → Type 0) (old new : Position B)
+    (text : List ℕ) : Type 0 where
   pub between : Position B
   pub before : List ℕ
   pub after : List ℕ
@@ -115,9 +119,10 @@ abbrev pub Plays : {B : Type 0} → Cell B → Telling → List Line → Positio
 Plays c telling [] old new text = (new ≡ old) × (text ≡ [])
 Plays c telling (line ∷ lines) old new text = PlaysBoth (PlaysLine c telling line) (Plays c telling lines) old new text
 
--- Lines were played up to here, and what they print was appended. Here the headline holds, cells whose saves do not fail are
--- so still, and notes are made where they were at first.
-pub record ArePlayed {B : Type 0} (c : Cell B) (telling : Telling) (first : Position B) (lines : List Line) (end : Position B) (old new : Option (List ℕ)) : Type 0 where
+-- Lines were played up to here, and what they print was appended. Here the headline holds, cells whose saves do not
+-- fail are so still, and notes are made where they were at first.
+pub record ArePlayed {B : Type 0} (c : Cell B) (telling : Telling) (first : Position B) (lines : List Line)
+    (end : Position B) (old new : Option (List ℕ)) : Type 0 where
   pub text : List ℕ
   pub plays : Plays c telling lines first end text
   pub written : Appends old new text
@@ -126,7 +131,8 @@ pub record ArePlayed {B : Type 0} (c : Cell B) (telling : Telling) (first : Posi
   pub noted : is_some end.noted ≡ is_some first.noted
 
 -- Memory was refused for a line: those before it were played, and what they print was appended.
-pub record AreStopped {B : Type 0} (c : Cell B) (telling : Telling) (first : Position B) (lines : List Line) (last : Position B) (old new : Option (List ℕ)) : Type 0 where
+pub record AreStopped {B : Type 0} (c : Cell B) (telling : Telling) (first : Position B) (lines : List Line)
+    (last : Position B) (old new : Option (List ℕ)) : Type 0 where
   pub count : ℕ
   pub line : Line
   pub is_next : slice_get lines count ≡ Some line
@@ -136,7 +142,8 @@ pub record AreStopped {B : Type 0} (c : Cell B) (telling : Telling) (first : Pos
 
 -- How a run of lines ends, and where: with what all of them print; or with what the first of them print, where memory
 -- was refused for the next; or at a line that the writer failed to take. How much was written by then is not said.
-abbrev pub LinesEnd : {B : Type 0} → Cell B → Telling → Position B → List Line → Position B → Result (Unit {0}) RunFault → Option (List ℕ) → Option (List ℕ) → Type 0
+abbrev pub LinesEnd : {B : Type 0} → Cell B → Telling → Position B → List Line → Position B → Result (Unit {0}) RunFault
+    → Option (List ℕ) → Option (List ℕ) → Type 0
 LinesEnd c telling first lines last (Ok _) old new = ArePlayed c telling first lines last old new
 LinesEnd c telling first lines last (Err run.NoMemory) old new = AreStopped c telling first lines last old new
 LinesEnd c telling first lines last (Err run.Output) old new = lines ≢ []
@@ -147,8 +154,8 @@ abbrev pub no_notes : Telling → Option (List Attempt)
 no_notes Books = None
 no_notes Steps = Some []
 
--- A PLAYER OF A NEW WORLD: one of the setup over a cell for each site that was never saved, armed where a save of it is to
--- fail, where nothing was done
+-- A PLAYER OF A NEW WORLD: one of the setup over a cell for each site that was never saved, armed where a save of it is
+-- to fail, where nothing was done
 pub record IsOpening (made_from : Setup) (fails : List Fail) (telling : Telling) (p : Position MemCell) : Type 0 where
   pub setup : p.world.setup ≡ made_from
   pub cells : p.world.opening ≡ replicate (2 * faults made_from + 1) new_cell
@@ -160,13 +167,17 @@ pub record IsOpening (made_from : Setup) (fails : List Fail) (telling : Telling)
   pub reliable : fails ≡ [] → AreReliable memory p.world
 
 -- how a play of what a script was read as ends: a faulty one leaves the writer as it was
-abbrev pub PlaysOver : {W : Type 0} → (W → Option (List ℕ)) → Setup → List Fail → Telling → ScriptReading → Result (List Line) LineFault
+abbrev pub PlaysOver : {W : Type 0} → (W → Option (List ℕ)) → Setup → List Fail → Telling → ScriptReading
+    → Result (List Line) LineFault
     → Result (Unit {0}) RunFault → W → W → Type 0
 PlaysOver contents setup fails telling read (Ok lines) result old new =
     IsNotBegun result old new
-    ⊎ ((first last : Position MemCell) × IsOpening setup fails telling first × LinesEnd memory telling first lines last result (contents old) (contents new))
+    ⊎ ((first last : Position MemCell) × IsOpening setup fails telling first
+    × LinesEnd memory telling first lines last result (contents old) (contents new))
 PlaysOver contents setup fails telling read (Err fault) result old new = Tells read fault result × (new ≡ old)
 
 -- HOW A PLAY of a script ends
-abbrev pub PlayEnds : {W : Type 0} → (W → Option (List ℕ)) → Setup → List Fail → Telling → ScriptReading → Result (Unit {0}) RunFault → W → W → Type 0
-PlayEnds contents setup fails telling read result old new = PlaysOver contents setup fails telling read (read None) result old new
+abbrev pub PlayEnds : {W : Type 0} → (W → Option (List ℕ)) → Setup → List Fail → Telling → ScriptReading
+    → Result (Unit {0}) RunFault → W → W → Type 0
+PlayEnds contents setup fails telling read result old new =
+    PlaysOver contents setup fails telling read (read None) result old new

@@ -20,4 +20,5 @@ numbered_text setup post (number, attempt) = attempt_text setup post number atte
 
 -- those after so many, numbered on from them
 abbrev pub notes_text : Setup → List Envelope → ℕ → List Attempt → List ℕ
-notes_text setup post before noted = flat_map (numbered_text setup post) (enumerate_from (before + 1) (drop before noted))
+notes_text setup post before noted =
+    flat_map (numbered_text setup post) (enumerate_from (before + 1) (drop before noted))

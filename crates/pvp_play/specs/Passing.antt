@@ -33,7 +33,8 @@ taken_text setup word actor (Some fault) = []
 -- the first that was passed, and the last
 abbrev pub skip_text : ℕ → ℕ → List ℕ
 skip_text from to =
-    if nat_lt from to then codes "skip " ++ decimal (from + 1) ++ (if from + 1 == to then [] else codes " to " ++ decimal to) ++ codes "\n"
+    if nat_lt from to then codes "skip " ++ decimal (from + 1)
+    ++ (if from + 1 == to then [] else codes " to " ++ decimal to) ++ codes "\n"
     else []
 
 abbrev pub other_text : ℕ → List ℕ
@@ -41,7 +42,8 @@ other_text number = codes ", " ++ decimal number
 
 abbrev pub held_text : List ℕ → List ℕ
 held_text [] = []
-held_text (number ∷ numbers) = codes "held back by a cut: " ++ decimal number ++ flat_map other_text numbers ++ codes "\n"
+held_text (number ∷ numbers) =
+    codes "held back by a cut: " ++ decimal number ++ flat_map other_text numbers ++ codes "\n"
 
 -- WHAT A LINE DID to the cuts, and to the cursor that stood here before it
 abbrev pub passing_text : {B : Type 0} → Statement → Option WorldFault → ℕ → Position B → List ℕ

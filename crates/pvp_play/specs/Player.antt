@@ -39,7 +39,8 @@ pub record TriesIn {B : Type 0} (c : Cell B) (old new : World B) (step : Step) (
   pub had_memory : refusal_in attempt.result ≢ Some NoMemory
 
 -- the player tries it, and notes that where it makes notes; all else stays
-pub record Tries {B : Type 0} (c : Cell B) (old new : Position B) (step : Step) (told : Option WorldFault) : Type 0 where
+pub record Tries {B : Type 0} (c : Cell B) (old new : Position B) (step : Step) (told : Option WorldFault)
+    : Type 0 where
   pub attempt : Attempt
   pub tried : TriesIn c old.world new.world step attempt
   pub is_told : told ≡ refusal_in attempt.result
@@ -90,10 +91,11 @@ AreDelivered {B} c (number ∷ numbers) (attempt ∷ attempts) old new =
 
 -- where the cursor stands after these were delivered: at the last of them, and at the post's end where they are too few
 abbrev pub cursor_after : ℕ → List ℕ → ℕ → ℕ → ℕ
-cursor_after turns delivered cursor end = if length delivered == turns then fold (λ before number. number) cursor delivered else end
+cursor_after turns delivered cursor end =
+    if length delivered == turns then fold (λ before number. number) cursor delivered else end
 
--- THE NEXT OPEN ENVELOPES ARE DELIVERED, so many at most, in order: those of the post as it then is, which what they lead
--- to may have made longer
+-- THE NEXT OPEN ENVELOPES ARE DELIVERED, so many at most, in order: those of the post as it then is, which what they
+-- lead to may have made longer
 pub record Drains {B : Type 0} (c : Cell B) (turns : ℕ) (old new : Position B) : Type 0 where
   pub delivered : List ℕ
   pub which : delivered ≡ take turns (open_after old.cut old.cursor new.world.post)

@@ -114,7 +114,8 @@ fn push_standing<C: BootCell>(text: &mut String, site: &Replica<Book, C>) -> Res
 /// Appends what is printed of each node.
 fn push_nodes<C: BootCell>(text: &mut String, world: &World<C>) -> Result<(), AllocError>
     ensures { OnOk result (string_bytes text.new
-        ≡ string_bytes text.old ++ flat_map (node_text C.held world.now) (enumerate_from 0 world.now.nodes)) }
+        ≡ string_bytes text.old ++ flat_map (node_text C.held world.now)
+        (enumerate_from 0 world.now.nodes)) }
 {
     world.is_proved();
     let currencies = world.setup().currency_count();
@@ -174,7 +175,8 @@ fn push_figures<C: BootCell>(
 ) -> Result<(), AllocError>
     requires { slice_get world.now.nodes ccy ≡ Some node.now }
     ensures { OnOk result (string_bytes text.new
-        ≡ string_bytes text.old ++ flat_map (way_line C.held ccy node.now.node) (enumerate_from 0 world.now.sites)) }
+        ≡ string_bytes text.old ++ flat_map (way_line C.held ccy node.now.node)
+        (enumerate_from 0 world.now.sites)) }
 {
     world.is_proved();
     let sites = 2 * world.setup().faults() + 1;
@@ -209,7 +211,8 @@ fn push_site_figure<C: BootCell>(
 /// Appends what is printed of each client.
 fn push_clients<C: BootCell>(text: &mut String, world: &World<C>) -> Result<(), AllocError>
     ensures { OnOk result (string_bytes text.new
-        ≡ string_bytes text.old ++ flat_map (client_text world.now.setup) (enumerate_from 0 world.now.clients)) }
+        ≡ string_bytes text.old ++ flat_map (client_text world.now.setup)
+        (enumerate_from 0 world.now.clients)) }
 {
     world.is_proved();
     let clients = world.setup().member_count() + 1;

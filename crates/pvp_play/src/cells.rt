@@ -21,7 +21,8 @@ pub struct Fail {
 pub fn new_cells(alloc: Global, count: u16, fails: &[Fail]) -> Result<Vec<MemCell>, AllocError>
     ensures new { IfOk result (λ cells. map held_by cells.items ≡ replicate count new_cell) }
     ensures count { IfOk result (λ cells. length cells.items ≡ count) }
-    ensures armed { IfOk result (λ cells. (i : _) (cell : AnyCell) → slice_get cells.items i ≡ Some cell → IsArmed fails.now i cell) }
+    ensures armed { IfOk result (λ cells. (i : _) (cell : AnyCell) →
+        slice_get cells.items i ≡ Some cell → IsArmed fails.now i cell) }
 {
     let mut cells = Vec::new(alloc);
     for site in 0..count {

@@ -150,7 +150,8 @@ fn play_line<C: BootCell>(
     player: &mut Player<C>,
     line: Line,
 ) -> Result<String, AllocError>
-    ensures played { IfOk result (λ text. PlaysLine C.BootCell telling line player.old player.new (string_bytes text)) }
+    ensures played { IfOk result (λ text.
+        PlaysLine C.BootCell telling line player.old player.new (string_bytes text)) }
     ensures stopped { OnErr result (LineStops C.BootCell telling line player.old player.new) }
 {
     let before = player.notes().len();

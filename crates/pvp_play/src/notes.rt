@@ -32,7 +32,8 @@ pub fn make_room(noted: &mut Option<Vec<Attempt>>) -> Result<(), AllocError>
 /// Notes a step that was tried, where notes are made.
 pub fn note(noted: &mut Option<Vec<Attempt>>, attempt: Attempt)
     requires { IfSome noted.old (λ v. vec_len v < vec_capacity v) }
-    ensures { option_map (λ v. v.items) noted.new ≡ with_notes (option_map (λ v. v.items) noted.old) (attempt ∷ []) }
+    ensures { option_map (λ v. v.items) noted.new ≡ with_notes
+        (option_map (λ v. v.items) noted.old) (attempt ∷ []) }
 {
     if let Some(attempts) = noted {
         attempts.push_reserved(attempt);

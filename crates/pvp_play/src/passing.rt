@@ -57,7 +57,8 @@ fn push_taken(
 
 /// Appends which envelopes the cursor was moved over.
 fn push_skipped(text: &mut String, from: usize, to: usize) -> Result<(), AllocError>
-    ensures text { OnOk result (string_bytes text.new ≡ string_bytes text.old ++ skip_text from to) }
+    ensures text { OnOk result (string_bytes text.new
+        ≡ string_bytes text.old ++ skip_text from to) }
     ensures stopped { OnErr result (skip_text from to ≢ []) }
 {
     if from >= to {
@@ -88,7 +89,8 @@ fn push_held<C: BootCell>(
 
 /// Appends the numbers of envelopes that a cut held back, where there are some.
 fn push_numbers(text: &mut String, numbers: &[usize]) -> Result<(), AllocError>
-    ensures text { OnOk result (string_bytes text.new ≡ string_bytes text.old ++ held_text numbers.now) }
+    ensures text { OnOk result (string_bytes text.new ≡ string_bytes text.old
+        ++ held_text numbers.now) }
     ensures stopped { OnErr result (held_text numbers.now ≢ []) }
 {
     let Some((first, others)) = numbers.split_first() else {

@@ -28,7 +28,12 @@ impl<C: BootCell> Model for Player<C> {
 
     ghost Value = { Position C };
 
-    ghost view = { λ a. record { world = a.world; cursor = a.cursor; cut = a.cut.items; noted = option_map (λ v. v.items) a.noted } };
+    ghost view = { λ a. record {
+      world = a.world;
+      cursor = a.cursor;
+      cut = a.cut.items;
+      noted = option_map (λ v. v.items) a.noted;
+    } };
 }
 
 impl<C: BootCell> Player<C> {
@@ -191,7 +196,8 @@ impl<C: BootCell> Player<C> {
 
     /// Cuts an actor off. Answers why it was refused, if it was; `Err` where memory is refused.
     pub fn cut(&mut self, actor: u16) -> Result<Option<WorldFault>, AllocError>
-        ensures after { OnOk result (self.new ≡ with_cut self.old actor (cut_off self.old.cut actor)) }
+        ensures after { OnOk result (self.new ≡ with_cut self.old actor
+            (cut_off self.old.cut actor)) }
         ensures stopped { OnErr result (CutStops self.old self.new actor) }
         ensures told { IfOk result (λ told. told ≡ unknown_actor self.old actor) }
     {

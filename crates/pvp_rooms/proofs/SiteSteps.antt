@@ -34,7 +34,8 @@ ended_allowed (Some why) = refl
 
 module _ {H C R O S B : Type 0} (m : Ghosts H C R O S) (c : Cell B) where
   -- a refusal does not look at acknowledgements
-  refusal_is : (v : Shown C S B) (acks : List Ack) (event : EventOf C R O) → refusal v.f v.me (site_shown c.held v acks) event ≡ refusal v.f v.me (site_shown c.held v []) event
+  refusal_is : (v : Shown C S B) (acks : List Ack) (event : EventOf C R O)
+      → refusal v.f v.me (site_shown c.held v acks) event ≡ refusal v.f v.me (site_shown c.held v []) event
   refusal_is v acks (Deliver envelope) = refl
   refusal_is v acks Timer = refl
   refusal_is v acks Beat = refl
@@ -76,7 +77,12 @@ module _ {H C R O S B : Type 0} (m : Ghosts H C R O S) (c : Cell B) where
       pub did : Comes m x event (Did out.sent.items out.dropped) × Shows m c new (after x event (Did out.sent.items out.dropped))
       did = let d = does in (
         record { sends = d.sent ∙ (λ i. envelopes m (sym shows.is.start i) (sym shows.is.me i) (step_in x event)); ending = d.ending },
-        record { is = still old new (record x { site = (step_in x event).site }) place (record { f = shows.is.f; me = shows.is.me; start = shows.is.start; right = shows.is.right }); acks = d.acks; site = d.site },
+        record {
+          is = still old new (record x { site = (step_in x event).site }) place
+              (record { f = shows.is.f; me = shows.is.me; start = shows.is.start; right = shows.is.right });
+          acks = d.acks;
+          site = d.site;
+        },
       )
 
       -- the site fell after its step, as a copy was refused
@@ -85,10 +91,19 @@ module _ {H C R O S B : Type 0} (m : Ghosts H C R O S) (c : Cell B) where
       fell_after now cell fallen held =
           let d = does in
           let last : cell ≡ c.held new.cell = held ∙ ap (λ v. c.held v.cell) fallen in
-          let left : KeepsPlace old now = record { f = ap (λ v. v.f) fallen ∙ place.f; me = ap (λ v. v.me) fallen ∙ place.me; setup = ap (λ v. v.setup) fallen ∙ place.setup } in (
-            (record { allowed = ap is_refused d.ending ∙ ended_allowed out.dropped; down = inr (ap (λ b. over b status.Down) (last ∙ sym (ap (λ y. y.cell) d.site))) }, inl refl),
+          let left : KeepsPlace old now =
+          record { f = ap (λ v. v.f) fallen ∙ place.f; me = ap (λ v. v.me) fallen ∙ place.me; setup = ap (λ v. v.setup) fallen ∙ place.setup } in (
+            (
+              record {
+                allowed = ap is_refused d.ending ∙ ended_allowed out.dropped;
+                down = inr (ap (λ b. over b status.Down) (last ∙ sym (ap (λ y. y.cell) d.site)));
+              },
+              inl refl,
+            ),
             record {
-              is = still old now (record x { site = over cell status.Down }) left (record { f = shows.is.f; me = shows.is.me; start = shows.is.start; right = shows.is.right });
+              is =
+                  still old now (record x { site = over cell status.Down }) left
+                  (record { f = shows.is.f; me = shows.is.me; start = shows.is.start; right = shows.is.right });
               acks = subst (λ (v : Shown C S B). SumUp v.volatile.acked []) (sym fallen) none_summed;
               site = ap (λ b. over b status.Down) last ∙ sym (ap (λ v. site_shown c.held v []) fallen);
             },
@@ -98,7 +113,8 @@ module _ {H C R O S B : Type 0} (m : Ghosts H C R O S) (c : Cell B) where
       falls : Falls c old new x.site (step_in x event) why
       falls =
           let named = handles.fall (sym allowed) x.choose x.site.collected.acks right shows.acks in
-          subst (λ step. Falls c old new x.site step why) (sym step_is) (subst (λ y. Falls c old new y (site_step x.choose old.f old.me (site_shown c.held old x.site.collected.acks) event) why) (sym shows.site) named)
+          subst (λ step. Falls c old new x.site step why) (sym step_is)
+          (subst (λ y. Falls c old new y (site_step x.choose old.f old.me (site_shown c.held old x.site.collected.acks) event) why) (sym shows.site) named)
 
       down_over : (y z : Site C) (b : Boot) → y ≡ over b status.Down → y ≡ over y.cell status.Down
       down_over y z b e = e ∙ ap (λ k. over k status.Down) (sym (ap (λ w. w.cell) e))
@@ -113,9 +129,14 @@ module _ {H C R O S B : Type 0} (m : Ghosts H C R O S) (c : Cell B) where
       fell cell held =
           let f = falls in
           let there : over cell status.Down ≡ site_shown c.held new [] = ap (λ b. over b status.Down) held ∙ sym is_over in (
-            (record { allowed = f.site.allowed; down = elim f.site.down [ inl e ↦ inl (there ∙ e) | inr e ↦ inr (there ∙ e) ] }, elim f.fault [ inl e ↦ inl e | inr e ↦ inr e.0 ]),
+            (
+              record { allowed = f.site.allowed; down = elim f.site.down [ inl e ↦ inl (there ∙ e) | inr e ↦ inr (there ∙ e) ] },
+              elim f.fault [ inl e ↦ inl e | inr e ↦ inr e.0 ],
+            ),
             record {
-              is = still old new (record x { site = over cell status.Down }) place (record { f = shows.is.f; me = shows.is.me; start = shows.is.start; right = shows.is.right });
+              is =
+                  still old new (record x { site = over cell status.Down }) place
+                  (record { f = shows.is.f; me = shows.is.me; start = shows.is.start; right = shows.is.right });
               acks = f.acks;
               site = there;
             },
@@ -163,7 +184,8 @@ module _ {H C R O S B : Type 0} (m : Ghosts H C R O S) (c : Cell B) where
       said : (x : SiteState H C) → Does m c old mid out (step_in x event) → IsSilent (step_in {R = R} {O = O} x event) → ⊥
       said x d silent = some (d.sent ∙ silent-sends m (m.start old.setup) old.me (step_in x event) silent)
 
-      handled_as : (x : SiteState H C) → Does m c old mid out (step_in x event) → (why : Option Why) → (step_in {R = R} {O = O} x event).ending ≡ ended why → (step_in {R = R} {O = O} x event).ending ≡ Handled
+      handled_as : (x : SiteState H C) → Does m c old mid out (step_in x event) → (why : Option Why) → (step_in {R = R} {O = O} x event).ending ≡ ended why
+          → (step_in {R = R} {O = O} x event).ending ≡ Handled
       handled_as x d None e = e
       handled_as x d (Some why) e = absurd (said x d (dropped-silent R O x.choose x.f x.me x.site event why e))
 
@@ -174,7 +196,8 @@ module _ {H C R O S B : Type 0} (m : Ghosts H C R O S) (c : Cell B) where
       }
 
   -- a new replica shows the site that it opens as
-  pub opened : (v : Shown C S B) (boot : Boot) (x : SiteState H C) → SumUp v.volatile.acked [] → site_shown c.held v [] ≡ opening_site v.f boot → Opens m v boot x → Shows m c v x
+  pub opened : (v : Shown C S B) (boot : Boot) (x : SiteState H C) → SumUp v.volatile.acked [] → site_shown c.held v [] ≡ opening_site v.f boot
+      → Opens m v boot x → Shows m c v x
   opened v boot x summed site opens =
       let none : x.site.collected.acks ≡ [] = ap (λ y. y.collected.acks) (opens.site ∙ sym site) in
       record {

@@ -37,7 +37,8 @@ Opens v x = x ≡ record v { node = opening_node }
 pub record Reads (v x : Shown) : Type 0 where
   pub account : account v.node ≡ account x.node
   pub count : length v.setup.members ≡ length x.setup.members
-  pub members : (m : ℕ) → has_member v.setup m ≡ true → member_account v.setup v.ccy m v.node ≡ member_account x.setup x.ccy m x.node
+  pub members : (m : ℕ) → has_member v.setup m ≡ true
+      → member_account v.setup v.ccy m v.node ≡ member_account x.setup x.ccy m x.node
   pub pay_ins : v.node.pay_ins ≡ x.node.pay_ins
   pub pay_outs : v.node.pay_outs ≡ x.node.pay_outs
   pub returned : length v.node.returned ≡ length x.node.returned

@@ -46,7 +46,8 @@ pub record Acted {A N E O : Type 0} (m : Ghosts A N E O) (old new : A) (event : 
   pub told : m.tells old new event outcome
 
 -- a room took an input
-pub record Took {A N E O : Type 0} (m : Ghosts A N E O) (input : Input E) (old new : Shown N A E O) (clock : ℕ) (outcome : O) : Type 0 where
+pub record Took {A N E O : Type 0} (m : Ghosts A N E O) (input : Input E) (old new : Shown N A E O) (clock : ℕ)
+    (outcome : O) : Type 0 where
   pub opening : new.opening ≡ old.opening
   pub next : clock_after old.clock input.stamp ≡ Some clock
   pub clock_is : new.clock ≡ clock

@@ -34,7 +34,8 @@ abbrev pub step_in : {H C R O : Type 0} → SiteState H C → EventOf C R O → 
 step_in x event = site_step x.choose x.f x.me x.site event
 
 -- what came out is the step's
-pub record IsOutcome {H C R O S : Type 0} (m : Ghosts H C R O S) (x : SiteState H C) (step : Step C R O) (sent : List (EnvelopeOf C R O)) (dropped : Option Why) : Type 0 where
+pub record IsOutcome {H C R O S : Type 0} (m : Ghosts H C R O S) (x : SiteState H C) (step : Step C R O)
+    (sent : List (EnvelopeOf C R O)) (dropped : Option Why) : Type 0 where
   pub sends : sent ≡ envelopes m x.start x.me step
   pub ending : step.ending ≡ ended dropped
 
@@ -42,7 +43,8 @@ pub record IsOutcome {H C R O S : Type 0} (m : Ghosts H C R O S) (x : SiteState 
 abbrev pub Comes : {H C R O S : Type 0} → Ghosts H C R O S → SiteState H C → EventOf C R O → CameOf C R O → Type 0
 Comes m x event (Did sent dropped) = IsOutcome m x (step_in x event) sent dropped
 Comes m x event (Refused why) = refusal x.f x.me x.site event ≡ Some why
-Comes m x event (Fell why cell) = IsFall x.site (step_in x event) (over cell status.Down) × ((why ≡ NoMemory) ⊎ (why ≡ CellFault))
+Comes m x event (Fell why cell) =
+    IsFall x.site (step_in x event) (over cell status.Down) × ((why ≡ NoMemory) ⊎ (why ≡ CellFault))
 
 -- the site after an event that came out so
 abbrev pub after : {H C R O : Type 0} → SiteState H C → EventOf C R O → CameOf C R O → SiteState H C
@@ -58,12 +60,14 @@ pub record IsSiteOf {H C R O S B : Type 0} (m : Ghosts H C R O S) (v : Shown C S
   pub right : IsRight x.f x.choose
 
 -- the replica opens as this site, over a cell that holds this
-pub record Opens {H C R O S B : Type 0} (m : Ghosts H C R O S) (v : Shown C S B) (boot : Boot) (x : SiteState H C) : Type 0 where
+pub record Opens {H C R O S B : Type 0} (m : Ghosts H C R O S) (v : Shown C S B) (boot : Boot) (x : SiteState H C)
+    : Type 0 where
   pub is : IsSiteOf m v x
   pub site : x.site ≡ opening_site v.f boot
 
 -- the replica shows this site: the acknowledgements that came sum up to the numbers that it keeps
-pub record Shows {H C R O S B : Type 0} (m : Ghosts H C R O S) (c : Cell B) (v : Shown C S B) (x : SiteState H C) : Type 0 where
+pub record Shows {H C R O S B : Type 0} (m : Ghosts H C R O S) (c : Cell B) (v : Shown C S B) (x : SiteState H C)
+    : Type 0 where
   pub is : IsSiteOf m v x
   pub acks : SumUp v.volatile.acked x.site.collected.acks
   pub site : x.site ≡ site_shown c.held v x.site.collected.acks
@@ -73,15 +77,17 @@ pub record IsHandled {H C R O : Type 0} (x : SiteState H C) (event : EventOf C R
   pub no_crash : event ≢ Crash
   pub handled : (step_in x event).ending ≡ Handled
 
--- A FALL HAS ITS CAUSE: a crash fells no site, nor does an event that is dropped; that the cell did not save is told where
--- a save failed, and only there
-pub record HasCause {H C R O S B : Type 0} (m : Ghosts H C R O S) (c : Cell B) (old new : Shown C S B) (event : EventOf C R O) (why : SiteFault) : Type 0 where
+-- A FALL HAS ITS CAUSE: a crash fells no site, nor does an event that is dropped; that the cell did not save is told
+-- where a save failed, and only there
+pub record HasCause {H C R O S B : Type 0} (m : Ghosts H C R O S) (c : Cell B) (old new : Shown C S B)
+    (event : EventOf C R O) (why : SiteFault) : Type 0 where
   pub handled : (x : SiteState H C) → Shows m c old x → IsHandled x event
   pub failed : why ≡ CellFault → HasRisen (c.faults old.cell) (c.faults new.cell)
   pub counted : why ≢ CellFault → c.faults new.cell ≡ c.faults old.cell
 
 -- what is told of an event that came out so: a refusal changes nothing, and no save failed that is not told
-abbrev pub Tells : {H C R O S B : Type 0} → Ghosts H C R O S → Cell B → Shown C S B → Shown C S B → EventOf C R O → CameOf C R O → Type 0
+abbrev pub Tells : {H C R O S B : Type 0} → Ghosts H C R O S → Cell B → Shown C S B → Shown C S B → EventOf C R O
+    → CameOf C R O → Type 0
 Tells m c old new event (Did sent dropped) = c.faults new.cell ≡ c.faults old.cell
 Tells m c old new event (Refused why) = new ≡ old
 Tells m c old new event (Fell why cell) = HasCause m c old new event why
@@ -94,7 +100,8 @@ Brings Beat = ⊥
 Brings Crash = ⊥
 Brings Restart = ⊥
 
--- what the replica's reading calls show, but for its machine, is this site's: of what it knows each number, and a group has at most seven sites
+-- what the replica's reading calls show, but for its machine, is this site's: of what it knows each number, and a group
+-- has at most seven sites
 pub record Reads {H C S B : Type 0} (c : Cell B) (v : Shown C S B) (x : SiteState H C) : Type 0 where
   pub status : v.volatile.status ≡ x.site.status
   pub view : v.volatile.view ≡ x.site.view

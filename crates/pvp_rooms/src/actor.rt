@@ -46,8 +46,10 @@ pub trait Actor: Drop {
         alloc: Global,
         event: Self::Event,
     ) -> Result<Copies<Self::Outcome>, AllocError>
-        ensures step { IfOk result (λ copies. (x : Self.State) → shows self.old x → Takes comes after x event copies.answered (shows self.new)) }
-        ensures opens { (opening : Self.Opening) (x : Self.State) → opens self.new opening x → opens self.old opening x }
+        ensures step { IfOk result (λ copies. (x : Self.State) → shows self.old x →
+            Takes comes after x event copies.answered (shows self.new)) }
+        ensures opens { (opening : Self.Opening) (x : Self.State) → opens self.new opening x →
+            opens self.old opening x }
         ensures recorded { IfOk result (λ copies. copies.recorded ≡ copies.answered) }
         ensures receipted { IfOk result (λ copies. copies.receipted ≡ copies.answered) }
         ensures err { OnErr result (self.new ≡ self.old) }

@@ -96,7 +96,8 @@ impl<A: Actor> ActorCell<A> {
         input: Input<A::Event>,
         gate: &mut G,
     ) -> Answer<A::Outcome>
-        ensures receipts { seat.new ≡ record seat.old { receipts = receipts_after input seat.old.receipts result } }
+        ensures receipts { seat.new
+            ≡ record seat.old { receipts = receipts_after input seat.old.receipts result } }
         ensures step { AnswersStep A.Actor input result }
         ensures passed { Hears G.heard gate.old gate.new (passage self.now.number result) }
     {
@@ -121,13 +122,17 @@ impl<A: Actor> ActorCell<A> {
         ensures number { IfOk result (λ closed. closed.number ≡ self.number) }
         ensures seats { IfOk result (λ closed. IsPermutation seats.items closed.seats.items) }
         ensures all { IfOk result (λ closed. length closed.seats.items ≡ self.seats) }
-        ensures each { IfOk result (λ closed. are_complete closed.seats.items self.number 0 ≡ true) }
-        ensures room { IfOk result (λ closed. IsClosed A.Actor closed.opening closed.history.items closed.end) }
+        ensures each { IfOk result (λ closed. are_complete closed.seats.items self.number 0
+            ≡ true) }
+        ensures room { IfOk result (λ closed.
+            IsClosed A.Actor closed.opening closed.history.items closed.end) }
         ensures cell { IfErr result (λ fault. fault.cell ≡ self) }
         ensures back { IfErr result (λ fault. IsPermutation seats.items fault.seats.items) }
         // In order of their numbers, the seats are too few, too many, or not each of this actor once.
-        ensures in_order { IfErr result (λ fault. IsNonDecreasingBy (λ seat. seat.number) fault.seats.items) }
-        ensures wanting { IfErr result (λ fault. (length fault.seats.items ≢ self.seats) ⊎ (are_complete fault.seats.items self.number 0 ≡ false)) }
+        ensures in_order { IfErr result (λ fault.
+            IsNonDecreasingBy (λ seat. seat.number) fault.seats.items) }
+        ensures wanting { IfErr result (λ fault. (length fault.seats.items ≢ self.seats)
+            ⊎ (are_complete fault.seats.items self.number 0 ≡ false)) }
     {
         let mut seats = seats;
         seats.sort_unstable_by_key(|seat| seat.number());

@@ -45,7 +45,8 @@ impl Actor for Client {
         alloc: Global,
         event: ClientEvent,
     ) -> Result<Copies<Told<ClientFault>>, AllocError>
-        ensures step { IfOk result (λ copies. (x : Shown) → x ≡ self.old → Takes Comes after x event copies.answered (λ y. y ≡ self.new)) }
+        ensures step { IfOk result (λ copies. (x : Shown) → x ≡ self.old →
+            Takes Comes after x event copies.answered (λ y. y ≡ self.new)) }
         ensures opens { (opening : Unit {0}) (x : Shown) → Opens self.new x → Opens self.old x }
         ensures recorded { IfOk result (λ copies. copies.recorded ≡ copies.answered) }
         ensures receipted { IfOk result (λ copies. copies.receipted ≡ copies.answered) }

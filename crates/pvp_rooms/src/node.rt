@@ -46,7 +46,8 @@ impl Actor for Node {
         alloc: Global,
         event: NodeEvent,
     ) -> Result<Copies<Told<NodeFault>>, AllocError>
-        ensures step { IfOk result (λ copies. (x : Shown) → x ≡ self.old → Takes Comes after x event copies.answered (λ y. y ≡ self.new)) }
+        ensures step { IfOk result (λ copies. (x : Shown) → x ≡ self.old →
+            Takes Comes after x event copies.answered (λ y. y ≡ self.new)) }
         ensures opens { (opening : Unit {0}) (x : Shown) → Opens self.new x → Opens self.old x }
         ensures recorded { IfOk result (λ copies. copies.recorded ≡ copies.answered) }
         ensures receipted { IfOk result (λ copies. copies.receipted ≡ copies.answered) }
@@ -91,7 +92,8 @@ impl ActorCell<Node> {
     ) -> Result<(Self, Vec<NodeSeat>), AllocError>
         requires valid { IsValid setup.now }
         requires known { ccy < length setup.now.currencies }
-        ensures place { IfOk result (λ made. made.0 ≡ record { number = node_of ccy; seats = seats }) }
+        ensures place { IfOk result (λ made.
+            made.0 ≡ record { number = node_of ccy; seats = seats }) }
         ensures seats { IfOk result (λ made. made.1.items ≡ fresh_seats seats (node_of ccy)) }
     {
         let node = Node::new(alloc, setup, ccy)?;

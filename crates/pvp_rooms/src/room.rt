@@ -23,9 +23,20 @@ impl<A: Actor> Model for Room<A> {
 
     ghost Value = { Shown A.Opening A A.Event A.Outcome };
 
-    ghost view = { λ a. record { opening = a.opening; actor = a.actor; clock = a.clock; history = a.history.items } };
+    ghost view = { λ a. record {
+      opening = a.opening;
+      actor = a.actor;
+      clock = a.clock;
+      history = a.history.items;
+    } };
 
-    ghost invariant = { λ a. IsRoom A.Actor (record { opening = a.opening; actor = a.actor; clock = a.clock; history = a.history.items }) };
+    ghost invariant = { λ a. IsRoom A.Actor
+        (record {
+          opening = a.opening;
+          actor = a.actor;
+          clock = a.clock;
+          history = a.history.items;
+        }) };
 }
 
 impl<A: Actor> Room<A> {

@@ -17,7 +17,11 @@ impl<E, O> Model for Seat<E, O> {
 
     ghost Value = { Held E O };
 
-    ghost view = { λ a. record { actor = a.actor; number = a.number; receipts = a.receipts.items } };
+    ghost view = { λ a. record {
+      actor = a.actor;
+      number = a.number;
+      receipts = a.receipts.items;
+    } };
 }
 
 impl<E, O> Seat<E, O> {

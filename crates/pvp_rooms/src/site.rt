@@ -106,8 +106,10 @@ impl<M: Machine, C: BootCell> ActorCell<Replica<M, C>> {
         seats: u16,
     ) -> Result<(Self, Vec<SiteSeat<M>>), AllocError>
         requires { M.admits setup }
-        ensures place { IfOk result (λ made. made.0 ≡ record { number = actor_of config.me; seats = seats }) }
-        ensures seats { IfOk result (λ made. made.1.items ≡ fresh_seats seats (actor_of config.me)) }
+        ensures place { IfOk result (λ made.
+            made.0 ≡ record { number = actor_of config.me; seats = seats }) }
+        ensures seats { IfOk result (λ made. made.1.items
+            ≡ fresh_seats seats (actor_of config.me)) }
     {
         let opening = cell.load();
         let site = Replica::new(alloc, config, setup, cell)?;
@@ -119,7 +121,8 @@ impl<M: Machine, C: BootCell> ActorCell<Replica<M, C>> {
 
 /// What a step led to, three times. `Err` where memory is refused, which is asked for where something was sent alone.
 fn did<M: Machine>(alloc: Global, out: Outcome<M>) -> Result<Copies<Came<M>>, AllocError>
-    ensures answered { IfOk result (λ copies. copies.answered ≡ CameOf.Did out.sent.items out.dropped) }
+    ensures answered { IfOk result (λ copies. copies.answered
+        ≡ CameOf.Did out.sent.items out.dropped) }
     ensures recorded { IfOk result (λ copies. copies.recorded ≡ copies.answered) }
     ensures receipted { IfOk result (λ copies. copies.receipted ≡ copies.answered) }
     ensures nothing { out.sent.items ≡ [] → IsOk result }

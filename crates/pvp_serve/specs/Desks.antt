@@ -63,7 +63,8 @@ says_nothing (first ∷ more) = first == 35
 
 -- THE LINE OF A SCRIPT that a line at a terminal stands for: a client's is what stands behind its name in a script
 abbrev pub script_as : ActorId → Setup → ℕ → List ℕ → List ℕ
-script_as (Client client) setup me line = if says_nothing line then line else codes "do " ++ actor_text setup me ++ codes " " ++ line
+script_as (Client client) setup me line =
+    if says_nothing line then line else codes "do " ++ actor_text setup me ++ codes " " ++ line
 script_as (Node ccy) setup me line = line
 script_as (Site site) setup me line = line
 
@@ -80,7 +81,8 @@ asked_as _ me _ = None
 abbrev pub asked_of : ℕ → Step → Option PartyEvent
 asked_of me step = asked_as (id_of me) me step
 
--- WHAT A LINE AT A TERMINAL ASKS AN ACTOR FOR, or what is wrong with it: the first line of its script is to be a step of its own
+-- WHAT A LINE AT A TERMINAL ASKS AN ACTOR FOR, or what is wrong with it: the first line of its script is to be a step
+-- of its own
 abbrev pub asked_by : ℕ → Statement → Result (Option PartyEvent) LineCode
 asked_by me (Do step) = option_map_or (λ event. Ok (Some event)) (asked_of me step) (Err UnknownWord)
 asked_by me _ = Err UnknownWord
@@ -127,7 +129,8 @@ look_of has_orders sites me standing = record {
 
 -- what a site of a bank has told that has told nothing
 abbrev pub fresh_teller : Setup → Teller
-fresh_teller setup = record { setup = setup; stood = None; ended = None; away = 0; why = None; told = (0, 0); ticks = 0 }
+fresh_teller setup =
+    record { setup = setup; stood = None; ended = None; away = 0; why = None; told = (0, 0); ticks = 0 }
 
 -- the word for where a site stands
 abbrev pub status_word : Status → List ℕ
@@ -176,13 +179,16 @@ event_due due.Ping = None
 event_due due.Timer = Some (OfSite event.Timer)
 
 -- AN EVENT OF ITS OWN IS TAKEN or refused, where there is one, and else nothing changes
-abbrev pub DoesOwn : {N A O L : Type 0} → Ghosts A N PartyEvent O → (ℕ → Texts PartyEvent O) → (L → Option (List ℕ)) → Option PartyEvent → Option (Held N A O L) → Option (Held N A O L) → Result (Unit {0}) ServeFault → Type 0
+abbrev pub DoesOwn : {N A O L : Type 0} → Ghosts A N PartyEvent O → (ℕ → Texts PartyEvent O) → (L → Option (List ℕ))
+    → Option PartyEvent → Option (Held N A O L) → Option (Held N A O L) → Result (Unit {0}) ServeFault → Type 0
 DoesOwn m texts seen None old new result = (result ≡ Ok tt) × (new ≡ old)
 DoesOwn m texts seen (Some event) old new (Ok done) = TakesIn m texts seen (own_input event) old new
 DoesOwn m texts seen (Some event) old new (Err fault) = IsRefused None old new fault
 
 -- A NODE'S BEAT is taken and written, and it waits on where that sent something
-pub record BeatsNode {N A L : Type 0} (m : Ghosts A N PartyEvent PartyOutcome) (texts : ℕ → Texts PartyEvent PartyOutcome) (seen : L → Option (List ℕ)) (old new : Option (Held N A PartyOutcome L)) (still : Bool) : Type 0 where
+pub record BeatsNode {N A L : Type 0} (m : Ghosts A N PartyEvent PartyOutcome)
+    (texts : ℕ → Texts PartyEvent PartyOutcome) (seen : L → Option (List ℕ))
+    (old new : Option (Held N A PartyOutcome L)) (still : Bool) : Type 0 where
   pub between : Option (Held N A PartyOutcome L)
   pub letters : List (Letter PartyOutcome)
   pub takes : TakesIn m texts seen (own_input (OfNode Beats)) old between
@@ -190,7 +196,9 @@ pub record BeatsNode {N A L : Type 0} (m : Ghosts A N PartyEvent PartyOutcome) (
   pub waits : still ≡ last_may_say_more letters
 
 -- A CLIENT SAYS ITS REQUEST AGAIN: what waited is written, and its beat is taken
-pub record BeatsClient {N A L : Type 0} (m : Ghosts A N PartyEvent PartyOutcome) (texts : ℕ → Texts PartyEvent PartyOutcome) (seen : L → Option (List ℕ)) (old new : Option (Held N A PartyOutcome L)) : Type 0 where
+pub record BeatsClient {N A L : Type 0} (m : Ghosts A N PartyEvent PartyOutcome)
+    (texts : ℕ → Texts PartyEvent PartyOutcome) (seen : L → Option (List ℕ))
+    (old new : Option (Held N A PartyOutcome L)) : Type 0 where
   pub between : Option (Held N A PartyOutcome L)
   pub letters : List (Letter PartyOutcome)
   pub written : HasFlushed m texts seen old between letters
@@ -213,8 +221,8 @@ abbrev pub is_end : Inbox → Bool
 is_end End = true
 is_end _ = false
 
--- WHAT A TERMINAL IS OWED once its actor heard something: a client that waits tells the answer that came, and a node's beat may
--- say something again
+-- WHAT A TERMINAL IS OWED once its actor heard something: a client that waits tells the answer that came, and a node's
+-- beat may say something again
 abbrev pub answered : ℕ → Option Reply → Bool → TerminalDesk → TerminalDesk
 answered number (Some reply) true desk = record desk { waits = false; ticks = 0; owes = Some (number, reply) }
 answered number (Some reply) false desk = desk
@@ -224,9 +232,11 @@ abbrev pub after_hearing : Option Request → TerminalDesk → TerminalDesk
 after_hearing None desk = record desk { waits = true }
 after_hearing (Some request) desk = answered request.number request.answer desk.waits desk
 
--- NOTHING IS LEFT to be done at a terminal: it has ended and the process is not to stay, no answer is awaited and no line waits
+-- NOTHING IS LEFT to be done at a terminal: it has ended and the process is not to stay, no answer is awaited and no
+-- line waits
 abbrev pub is_done : Option Request → TerminalDesk → Bool
-is_done request desk = desk.ended && not desk.stays && not (is_busy request desk.waits) && (length desk.lines.items == 0)
+is_done request desk =
+    desk.ended && not desk.stays && not (is_busy request desk.waits) && (length desk.lines.items == 0)
 
 -- at every which tick a client that waits says so: the count of those that went by since
 abbrev pub next_wait : ℕ → ℕ

@@ -35,8 +35,8 @@ came_again (Ok (Some again)) = Ok again
 came_again (Ok None) = Err (serve.Folder folder.History)
 came_again (Err refused) = Err serve.NoMemory
 
--- WHAT IS WRONG WITH THE HEAD OF A JOURNAL in the folder of an actor of a bank: it is of another setup (V1), of another life
--- of the bank (V2) or of another actor (V3). The first 16 bytes of a bank tell its setup, and the others its life
+-- WHAT IS WRONG WITH THE HEAD OF A JOURNAL in the folder of an actor of a bank: it is of another setup (V1), of another
+-- life of the bank (V2) or of another actor (V3). The first 16 bytes of a bank tell its setup, and the others its life
 abbrev pub wrong_in : List ℕ → ℕ → Head → Option EvidenceWhy
 wrong_in bank me head =
     if not (bytes_eq (take 16 head.bank) (take 16 bank)) then Some evidence.Setup

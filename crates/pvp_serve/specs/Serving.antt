@@ -96,16 +96,18 @@ abbrev pub HasClock : {N A O L : Type 0} → Option (Held N A O L) → Option St
 HasClock None stamp = ⊥
 HasClock (Some room) stamp = IsSome (clock_after room.clock stamp)
 
--- WHY AN INPUT IS NOT TAKEN, and what is left of the room. There is no greater clock, or memory was refused, and it is as it
--- was; or the record could not be written, and it is gone. Where it was gone before, that is told as M8
-abbrev pub IsRefused : {N A O L : Type 0} → Option Stamp → Option (Held N A O L) → Option (Held N A O L) → ServeFault → Type 0
+-- WHY AN INPUT IS NOT TAKEN, and what is left of the room. There is no greater clock, or memory was refused, and it is
+-- as it was; or the record could not be written, and it is gone. Where it was gone before, that is told as M8
+abbrev pub IsRefused : {N A O L : Type 0} → Option Stamp → Option (Held N A O L) → Option (Held N A O L) → ServeFault
+    → Type 0
 IsRefused stamp old new serve.Clock = IsSpent old stamp × (new ≡ old)
 IsRefused stamp old new serve.NoMemory = (HasClock old stamp × (new ≡ old)) ⊎ (IsSome old × (new ≡ None))
 IsRefused stamp old new serve.Unfit = new ≡ None
 IsRefused stamp old new _ = ⊥
 
 -- AN INPUT IS TAKEN by the room, at a clock, and its record is in the batch
-pub record TakesIn {N A E O L : Type 0} (m : Ghosts A N E O) (texts : ℕ → Texts E O) (seen : L → Option (List ℕ)) (input : Input E) (old new : Option (Held N A O L)) : Type 0 where
+pub record TakesIn {N A E O L : Type 0} (m : Ghosts A N E O) (texts : ℕ → Texts E O) (seen : L → Option (List ℕ))
+    (input : Input E) (old new : Option (Held N A O L)) : Type 0 where
   pub before : Held N A O L
   pub after : Held N A O L
   pub clock : ℕ
@@ -114,7 +116,8 @@ pub record TakesIn {N A E O L : Type 0} (m : Ghosts A N E O) (texts : ℕ → Te
   pub steps : Steps m texts seen input before after (Done clock)
 
 -- THE BATCH IS WRITTEN: of each event in it this came, and its record stands in the log
-pub record HasFlushed {N A E O L : Type 0} (m : Ghosts A N E O) (texts : ℕ → Texts E O) (seen : L → Option (List ℕ)) (old new : Option (Held N A O L)) (letters : List (Letter O)) : Type 0 where
+pub record HasFlushed {N A E O L : Type 0} (m : Ghosts A N E O) (texts : ℕ → Texts E O) (seen : L → Option (List ℕ))
+    (old new : Option (Held N A O L)) (letters : List (Letter O)) : Type 0 where
   pub before : Held N A O L
   pub after : Held N A O L
   pub had : old ≡ Some before

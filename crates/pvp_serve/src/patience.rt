@@ -94,7 +94,10 @@ impl Patience {
 
     /// The stream of the primary has ended: it is given a little longer.
     pub fn misses(&mut self)
-        ensures { self.new ≡ record self.old { quiet = max self.old.quiet (self.old.limit - TICKS_LEFT) } }
+        ensures { self.new ≡ record self.old {
+          quiet = max self.old.quiet
+              (self.old.limit - TICKS_LEFT);
+        } }
     {
         self.quiet = self.quiet.max(self.limit.saturating_sub(TICKS_LEFT));
     }
@@ -135,7 +138,10 @@ impl Patience {
     /// Its timer, where it has waited long enough, and else this.
     fn waiting(&mut self, is_out: bool, otherwise: Due) -> Due
         ensures due { result ≡ (if is_out then Due.Timer else otherwise) }
-        ensures quiet { self.new ≡ record self.old { quiet = if is_out then 0 else self.old.quiet } }
+        ensures quiet { self.new ≡ record self.old {
+          quiet = if is_out then 0
+              else self.old.quiet;
+        } }
     {
         if !is_out {
             return otherwise;
@@ -147,7 +153,10 @@ impl Patience {
     /// A beat where it may have something to say, and else a ping.
     fn primary(&mut self, look: Look) -> Due
         ensures due { result ≡ primary_due self.old look }
-        ensures same { self.new ≡ record self.old { done = look.done; same = same_after self.old look } }
+        ensures same { self.new ≡ record self.old {
+          done = look.done;
+          same = same_after self.old look;
+        } }
     {
         if look.owes || look.done != self.done {
             self.done = look.done;

@@ -92,7 +92,13 @@ pub struct Serving<C: BootCell, L: Log, O: Outbox + Drop> {
 impl<C: BootCell, L: Log, O: Outbox + Drop> Serving<C, L, O> {
     /// A room that is served.
     pub fn new(me: u16, syncs: bool, room: JournalRoom<PartyOf<C>, L>, out: O) -> Self
-        ensures { result ≡ record { me = me; syncs = syncs; room = Some room; out = out; unbelieved = 0 } }
+        ensures { result ≡ record {
+          me = me;
+          syncs = syncs;
+          room = Some room;
+          out = out;
+          unbelieved = 0;
+        } }
     {
         Serving {
             me,
@@ -237,7 +243,8 @@ impl<C: BootCell, L: Log, O: Outbox + Drop> Serving<C, L, O> {
 
     /// Takes an event of its own. What it sends waits for `flush`.
     pub fn take_event(&mut self, alloc: Global, event: PartyEvent) -> Result<(), ServeFault>
-        ensures takes { OnOk result (TakesIn ⟦<PartyOf<C> as Actor>⟧ bank_texts L.seen (own_input event)
+        ensures takes { OnOk result
+            (TakesIn ⟦<PartyOf<C> as Actor>⟧ bank_texts L.seen (own_input event)
             self.old.room self.new.room) }
         ensures refused { IfErr result (λ fault. IsRefused None self.old.room self.new.room fault) }
         ensures rest { self.new ≡ record self.old { room = self.new.room } }
@@ -264,7 +271,8 @@ impl<C: BootCell, L: Log, O: Outbox + Drop> Serving<C, L, O> {
         alloc: Global,
         is_told: bool,
     ) -> Result<Vec<Letter<PartyOutcome>>, ServeFault>
-        ensures written { IfOk result (λ letters. HasFlushed ⟦<PartyOf<C> as Actor>⟧ bank_texts L.seen
+        ensures written { IfOk result (λ letters.
+            HasFlushed ⟦<PartyOf<C> as Actor>⟧ bank_texts L.seen
             self.old.room self.new.room letters.items) }
         ensures letters { IfOk result (λ letters. letters.items ≡ waiting_in self.old.room) }
         ensures idle { IsIdle self.old.room → IsOk result × (self.new ≡ self.old) }

@@ -48,13 +48,16 @@ module _ {W : Type 0} where
   counted_here : (to : ℕ) (out : Outgoing W) → out.to ≡ to → one to out ≡ 1
   counted_here to out is = ap (λ (b : Bool). cond b 1 0) (eq-eqb out.to to is)
 
-  counted_first : (to : ℕ) (first out : Outgoing W) (streams : List (Outgoing W)) → out.to ≡ to → (Contains streams out → 1 ≤ count to streams) → (first ≡ out) ⊎ Contains streams out → 1 ≤ count to (first ∷ streams)
-  counted_first to first out streams is rest (inl e) = let all = counted_cons to first streams in let here = counted_here to first (ap (λ (o : Outgoing W). o.to) e ∙ is) in omega (arith, all, here)
+  counted_first : (to : ℕ) (first out : Outgoing W) (streams : List (Outgoing W)) → out.to ≡ to → (Contains streams out → 1 ≤ count to streams)
+      → (first ≡ out) ⊎ Contains streams out → 1 ≤ count to (first ∷ streams)
+  counted_first to first out streams is rest (inl e) = let all = counted_cons to first streams in
+      let here = counted_here to first (ap (λ (o : Outgoing W). o.to) e ∙ is) in omega (arith, all, here)
   counted_first to first out streams is rest (inr more) = let all = counted_cons to first streams in let there = rest more in omega (arith, all, there)
 
   counted_in : (to : ℕ) (streams : List (Outgoing W)) (out : Outgoing W) → Contains streams out → out.to ≡ to → 1 ≤ count to streams
   counted_in to [] out in' is = absurd (Contains-none out in')
-  counted_in to (first ∷ streams) out in' is = counted_first to first out streams is (λ more. counted_in to streams out more is) (Contains-cases first out streams in')
+  counted_in to (first ∷ streams) out in' is =
+      counted_first to first out streams is (λ more. counted_in to streams out more is) (Contains-cases first out streams in')
 
   -- those beside a stream go to others
   apart : (out : Outgoing W) (rest : List (Outgoing W)) (other : Outgoing W) → HasOneEach (out ∷ rest) → Contains rest other → other.to ≢ out.to
@@ -89,23 +92,31 @@ module _ {W : Type 0} where
 
   -- ---- what one frame does
 
-  untouched : (contents : W → Option (List ℕ)) (frame : Stamped) (old : List (Outgoing W)) (out : Outgoing W) → Contains old out → frame.envelope.to ≢ out.to → HasTakenAll contents (frame ∷ []) old out
+  untouched : (contents : W → Option (List ℕ)) (frame : Stamped) (old : List (Outgoing W)) (out : Outgoing W) → Contains old out → frame.envelope.to ≢ out.to
+      → HasTakenAll contents (frame ∷ []) old out
   untouched contents frame old out was other =
-      record { before = out.stream; was = was; bytes = subst (Appends (contents out.stream) (contents out.stream)) (sym (bytes_miss out.to frame other)) (Appends-nil (contents out.stream)) }
+      record {
+        before = out.stream;
+        was = was;
+        bytes = subst (Appends (contents out.stream) (contents out.stream)) (sym (bytes_miss out.to frame other)) (Appends-nil (contents out.stream));
+      }
 
   -- how each stream stands after it, and that there is still one to each receiver
   abbrev Steps : (W → Option (List ℕ)) → Stamped → List (Outgoing W) → List (Outgoing W) → Type 0
   Steps contents frame old mid = HasOneEach mid × ((out : Outgoing W) → Contains mid out → HasTakenAll contents (frame ∷ []) old out)
 
-  closed_steps : (contents : W → Option (List ℕ)) (frame : Stamped) (old mid : List (Outgoing W)) → HasOneEach old → IsClosed frame old mid → Steps contents frame old mid
+  closed_steps : (contents : W → Option (List ℕ)) (frame : Stamped) (old mid : List (Outgoing W)) → HasOneEach old → IsClosed frame old mid
+      → Steps contents frame old mid
   closed_steps contents frame old mid each c =
       let all = each_shuffled old (c.closed ∷ mid) c.others each in (
         each_rest c.closed mid all,
-        λ out in'. untouched contents frame old out (Contains-permutation (c.closed ∷ mid) old out (IsPermutation-sym old (c.closed ∷ mid) c.others) (Contains-there c.closed out mid in'))
+        λ out in'. untouched contents frame old out (Contains-permutation (c.closed ∷ mid) old out (IsPermutation-sym old (c.closed ∷ mid) c.others)
+            (Contains-there c.closed out mid in'))
             (λ e. apart c.closed mid out all in' (sym e ∙ sym c.receiver)),
       )
 
-  lost_steps : (contents : W → Option (List ℕ)) (frame : Stamped) (old mid : List (Outgoing W)) → HasOneEach old → IsLost frame old mid → Steps contents frame old mid
+  lost_steps : (contents : W → Option (List ℕ)) (frame : Stamped) (old mid : List (Outgoing W)) → HasOneEach old → IsLost frame old mid
+      → Steps contents frame old mid
   lost_steps contents frame old mid each l = (
     subst (λ (s : List (Outgoing W)). HasOneEach s) (sym l.same) each,
     λ out in'. untouched contents frame old out (subst (λ (s : List (Outgoing W)). Contains s out) l.same in')
@@ -119,7 +130,8 @@ module _ {W : Type 0} where
     before : IsPermutation old (out ∷ rest)
     now : IsPermutation mid (record out { stream = after } ∷ rest)
 
-  around : (contents : W → Option (List ℕ)) (frame : Stamped) (old mid : List (Outgoing W)) (w : IsWritten contents frame old mid) → Around frame old mid w.out w.after
+  around : (contents : W → Option (List ℕ)) (frame : Stamped) (old mid : List (Outgoing W)) (w : IsWritten contents frame old mid)
+      → Around frame old mid w.out w.after
   around contents frame old mid w =
       let within = slice_get_within old w.at w.out w.there in
       let read : w.out ≡ get_or old w.at w.out = sym (get_or_from_slice_get old w.at w.out w.out w.there) in
@@ -136,7 +148,8 @@ module _ {W : Type 0} where
             (IsPermutation-swap_remove changed w.at next inside (sym (get_or-set_same old w.at next next within))));
       }
 
-  written_in : (contents : W → Option (List ℕ)) (frame : Stamped) (old mid : List (Outgoing W)) (w : IsWritten contents frame old mid) (a : Around frame old mid w.out w.after) (x : Outgoing W) → HasOneEach (w.out ∷ a.rest)
+  written_in : (contents : W → Option (List ℕ)) (frame : Stamped) (old mid : List (Outgoing W)) (w : IsWritten contents frame old mid)
+      (a : Around frame old mid w.out w.after) (x : Outgoing W) → HasOneEach (w.out ∷ a.rest)
       → (record w.out { stream = w.after } ≡ x) ⊎ Contains a.rest x → HasTakenAll contents (frame ∷ []) old x
   written_in contents frame old mid w a x each (inl e) =
       subst (HasTakenAll contents (frame ∷ []) old) e (record {
@@ -145,10 +158,12 @@ module _ {W : Type 0} where
         bytes = subst (Appends (contents w.out.stream) (contents w.after)) (sym (bytes_hit w.out.to frame (sym a.receiver))) w.bytes;
       })
   written_in contents frame old mid w a x each (inr beside) =
-      untouched contents frame old x (Contains-permutation (w.out ∷ a.rest) old x (IsPermutation-sym old (w.out ∷ a.rest) a.before) (Contains-there w.out x a.rest beside))
+      untouched contents frame old x (Contains-permutation (w.out ∷ a.rest) old x (IsPermutation-sym old (w.out ∷ a.rest) a.before)
+      (Contains-there w.out x a.rest beside))
       (λ e. apart w.out a.rest x each beside (sym e ∙ sym a.receiver))
 
-  written_steps : (contents : W → Option (List ℕ)) (frame : Stamped) (old mid : List (Outgoing W)) → HasOneEach old → IsWritten contents frame old mid → Steps contents frame old mid
+  written_steps : (contents : W → Option (List ℕ)) (frame : Stamped) (old mid : List (Outgoing W)) → HasOneEach old → IsWritten contents frame old mid
+      → Steps contents frame old mid
   written_steps contents frame old mid each w =
       let a = around contents frame old mid w in
       let next : Outgoing W = record w.out { stream = w.after } in
@@ -157,7 +172,8 @@ module _ {W : Type 0} where
         λ x in'. written_in contents frame old mid w a x all (Contains-cases next x a.rest (Contains-permutation mid (next ∷ a.rest) x a.now in')),
       )
 
-  steps : (contents : W → Option (List ℕ)) (frame : Stamped) (old mid : List (Outgoing W)) (whole : Bool) → HasOneEach old → Writes contents frame old mid whole → Steps contents frame old mid
+  steps : (contents : W → Option (List ℕ)) (frame : Stamped) (old mid : List (Outgoing W)) (whole : Bool) → HasOneEach old → Writes contents frame old mid whole
+      → Steps contents frame old mid
   steps contents frame old mid true each w = written_steps contents frame old mid each w
   steps contents frame old mid false each (inl c) = closed_steps contents frame old mid each c
   steps contents frame old mid false each (inr l) = lost_steps contents frame old mid each l
@@ -166,7 +182,8 @@ module _ {W : Type 0} where
 
   pub taken : (contents : W → Option (List ℕ)) (frames : List Stamped) (old new : List (Outgoing W)) → AreWritten contents frames old new → HasOneEach old
       → (out : Outgoing W) → Contains new out → HasTakenAll contents frames old out
-  taken contents [] old new same each out in' = record { before = out.stream; was = subst (λ (s : List (Outgoing W)). Contains s out) same in'; bytes = Appends-nil (contents out.stream) }
+  taken contents [] old new same each out in' =
+      record { before = out.stream; was = subst (λ (s : List (Outgoing W)). Contains s out) same in'; bytes = Appends-nil (contents out.stream) }
   taken contents (frame ∷ more) old new written each out in' =
       let step = steps contents frame old written.0 written.1 each written.2 in
       let later = taken contents more written.0 new written.3 step.0 out in' in
@@ -175,5 +192,6 @@ module _ {W : Type 0} where
         before = first.before;
         was = first.was;
         bytes = subst (Appends (contents first.before) (contents out.stream)) (sym (bytes_more out.to frame more))
-            (Appends-trans (contents first.before) (contents later.before) (contents out.stream) (bytes_for out.to (frame ∷ [])) (bytes_for out.to more) first.bytes later.bytes);
+            (Appends-trans (contents first.before) (contents later.before) (contents out.stream) (bytes_for out.to (frame ∷ []))
+            (bytes_for out.to more) first.bytes later.bytes);
       }

@@ -37,7 +37,8 @@ module _ {X : Type 0} where
 
 module _ {W : Type 0} where
   -- the stream of a receiver was written to, and then closed
-  pub closed_after : (frame : Stamped) (old new : List (Outgoing W)) (at : ℕ) (out taken : Outgoing W) → place_of old frame.envelope.to ≡ Some at → slice_get old at ≡ Some out
+  pub closed_after : (frame : Stamped) (old new : List (Outgoing W)) (at : ℕ) (out taken : Outgoing W) → place_of old frame.envelope.to ≡ Some at
+      → slice_get old at ≡ Some out
       → new ≡ swap_remove (slice_set old at taken) at taken → IsClosed frame old new
   closed_after frame old new at out taken place there is =
       let within = slice_get_within old at out there in
@@ -46,19 +47,23 @@ module _ {W : Type 0} where
       record {
         closed = out;
         receiver = ap (λ (o : Outgoing W). o.to) read ∙ eqb-true (get_or old at out).to frame.envelope.to found.1;
-        others = subst (λ (l : List (Outgoing W)). IsPermutation old (out ∷ l)) (sym (is ∙ swap_after_set old at out taken within)) (IsPermutation-swap_remove old at out within read);
+        others =
+            subst (λ (l : List (Outgoing W)). IsPermutation old (out ∷ l)) (sym (is ∙ swap_after_set old at out taken within))
+            (IsPermutation-swap_remove old at out within read);
       }
 
   -- one frame more
   written_more : (contents : W → Option (List ℕ)) (frames : List Stamped) (frame : Stamped) (whole : Bool) (old mid new : List (Outgoing W))
       → AreWritten contents frames old mid → Writes contents frame mid new whole → AreWritten contents (frames ++ frame ∷ []) old new
-  written_more contents [] frame whole old mid new same writes = (new, whole, subst (λ (l : List (Outgoing W)). Writes contents frame l new whole) same writes, refl)
+  written_more contents [] frame whole old mid new same writes =
+      (new, whole, subst (λ (l : List (Outgoing W)). Writes contents frame l new whole) same writes, refl)
   written_more contents (first ∷ frames) frame whole old mid new written writes =
       (written.0, written.1, written.2, written_more contents frames frame whole written.0 mid new written.3 writes)
 
   pub has_written_more : (contents : W → Option (List ℕ)) (frame : Stamped) (whole : Bool) (old mid new : List (Outgoing W))
       → HasWritten contents old mid → Writes contents frame mid new whole → HasWritten contents old new
-  has_written_more contents frame whole old mid new before writes = record { frames = before.frames ++ frame ∷ []; written = written_more contents before.frames frame whole old mid new before.written writes }
+  has_written_more contents frame whole old mid new before writes =
+      record { frames = before.frames ++ frame ∷ []; written = written_more contents before.frames frame whole old mid new before.written writes }
 
   pub has_written_none : (contents : W → Option (List ℕ)) (streams : List (Outgoing W)) → HasWritten contents streams streams
   has_written_none contents streams = record { frames = []; written = refl }

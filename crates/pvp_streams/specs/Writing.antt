@@ -11,7 +11,8 @@ abbrev pub place_of : {W : Type 0} → List (Outgoing W) → ℕ → Option ℕ
 place_of streams to = position (λ out. out.to == to) streams
 
 -- A FRAME WAS WRITTEN, whole, to the stream of its receiver, and nothing to another
-pub record IsWritten {W : Type 0} (contents : W → Option (List ℕ)) (frame : Stamped) (old new : List (Outgoing W)) : Type 0 where
+pub record IsWritten {W : Type 0} (contents : W → Option (List ℕ)) (frame : Stamped) (old new : List (Outgoing W))
+    : Type 0 where
   pub at : ℕ
   pub place : place_of old frame.envelope.to ≡ Some at
   pub out : Outgoing W
@@ -31,12 +32,14 @@ pub record IsLost {W : Type 0} (frame : Stamped) (old new : List (Outgoing W)) :
   pub nowhere : place_of old frame.envelope.to ≡ None
   pub same : new ≡ old
 
-abbrev pub Writes : {W : Type 0} → (W → Option (List ℕ)) → Stamped → List (Outgoing W) → List (Outgoing W) → Bool → Type 0
+abbrev pub Writes : {W : Type 0} → (W → Option (List ℕ)) → Stamped → List (Outgoing W) → List (Outgoing W) → Bool
+    → Type 0
 Writes contents frame old new true = IsWritten contents frame old new
 Writes contents frame old new false = IsClosed frame old new ⊎ IsLost frame old new
 
 -- so of some frames, one after another
-abbrev pub AreWritten : {W : Type 0} → (W → Option (List ℕ)) → List Stamped → List (Outgoing W) → List (Outgoing W) → Type 0
+abbrev pub AreWritten : {W : Type 0} → (W → Option (List ℕ)) → List Stamped → List (Outgoing W) → List (Outgoing W)
+    → Type 0
 AreWritten contents [] old new = new ≡ old
 AreWritten {W} contents (frame ∷ more) old new =
     (mid : List (Outgoing W)) × (whole : Bool) × Writes contents frame old mid whole × AreWritten contents more mid new
@@ -55,7 +58,8 @@ abbrev pub bytes_for : ℕ → List Stamped → List ℕ
 bytes_for to frames = flat_map spelling (filter (λ frame. frame.envelope.to == to) frames)
 
 -- A STREAM HAS TAKEN ALL OF ITS FRAMES, whole and in order, and nothing else
-pub record HasTakenAll {W : Type 0} (contents : W → Option (List ℕ)) (frames : List Stamped) (old : List (Outgoing W)) (out : Outgoing W) : Type 0 where
+pub record HasTakenAll {W : Type 0} (contents : W → Option (List ℕ)) (frames : List Stamped) (old : List (Outgoing W))
+    (out : Outgoing W) : Type 0 where
   pub before : W
   pub was : Contains old (record out { stream = before })
   pub bytes : Appends (contents before) (contents out.stream) (bytes_for out.to frames)

@@ -109,8 +109,10 @@ pub fn connect_all<N: Net>(
     alloc: Global,
     actors: &[u16],
 ) -> Result<Connected<N::Stream>, NetFault>
-    ensures incoming { IfOk result (λ made. ends_of made.incoming.items ≡ links actors.now actors.now) }
-    ensures outgoing { IfOk result (λ made. lists_of made.outgoing.items ≡ wanted actors.now actors.now) }
+    ensures incoming { IfOk result (λ made. ends_of made.incoming.items
+        ≡ links actors.now actors.now) }
+    ensures outgoing { IfOk result (λ made. lists_of made.outgoing.items
+        ≡ wanted actors.now actors.now) }
 {
     let doors = open_doors(net, alloc, actors)?;
     let mut incoming = Vec::new(alloc);
@@ -154,8 +156,10 @@ fn connect_one<N: Net>(
     doors: &[Door<N::Listener>],
     incoming: &mut Vec<Incoming<N::Stream>>,
 ) -> Result<Vec<Outgoing<N::Stream>>, NetFault>
-    ensures streams { IfOk result (λ streams. goals_of streams.items ≡ receivers (actors_of doors.now) from) }
-    ensures incoming { OnOk result (ends_of incoming.new.items ≡ ends_of incoming.old.items ++ links_from (actors_of doors.now) from) }
+    ensures streams { IfOk result (λ streams. goals_of streams.items
+        ≡ receivers (actors_of doors.now) from) }
+    ensures incoming { OnOk result (ends_of incoming.new.items
+        ≡ ends_of incoming.old.items ++ links_from (actors_of doors.now) from) }
 {
     let mut streams = Vec::new(alloc);
     for door in doors {
@@ -172,8 +176,10 @@ fn connect_two<N: Net>(
     streams: &mut Vec<Outgoing<N::Stream>>,
     incoming: &mut Vec<Incoming<N::Stream>>,
 ) -> Result<(), NetFault>
-    ensures streams { OnOk result (goals_of streams.new.items ≡ goals_of streams.old.items ++ receivers (door.now.actor ∷ []) from) }
-    ensures incoming { OnOk result (ends_of incoming.new.items ≡ ends_of incoming.old.items ++ links_from (door.now.actor ∷ []) from) }
+    ensures streams { OnOk result (goals_of streams.new.items
+        ≡ goals_of streams.old.items ++ receivers (door.now.actor ∷ []) from) }
+    ensures incoming { OnOk result (ends_of incoming.new.items
+        ≡ ends_of incoming.old.items ++ links_from (door.now.actor ∷ []) from) }
 {
     if !may_send(from, door.actor) {
         return Ok(());

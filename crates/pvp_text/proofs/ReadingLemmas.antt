@@ -4,7 +4,8 @@ use Rattle.pvp_text.specs.Reading.{◌>>=◌, Faults, IsSteady}
 use Rattle.pvp_text.specs.declared.setup.TextFault.{TextFault}
 
 -- a step after one that was read
-at_later : {A B : Type 0} (is_memory : TextFault → Bool) (fault : TextFault) (x : A) (read : Option TextFault → Result A TextFault) (next : Option TextFault → A → Result B TextFault)
+at_later : {A B : Type 0} (is_memory : TextFault → Bool) (fault : TextFault) (x : A) (read : Option TextFault → Result A TextFault)
+    (next : Option TextFault → A → Result B TextFault)
     → IsSteady read → read None ≡ Ok x → Faults is_memory fault (λ refused. next refused x) → Faults is_memory fault (λ refused. read refused >>= next refused)
 at_later is_memory fault x read next steady held (inl failed) = inl (rw (held, failed) refl)
 at_later {A} {B} is_memory fault x read next steady held (inr told) =
@@ -16,7 +17,8 @@ at_later {A} {B} is_memory fault x read next steady held (inr told) =
 
 -- the third step
 pub at_third : {A B C Z : Type 0} (is_memory : TextFault → Bool) (fault : TextFault) (a : A) (b : B)
-    (first : Option TextFault → Result A TextFault) (second : Option TextFault → Result B TextFault) (last : Option TextFault → Result C TextFault) (make : A → B → C → Z)
+    (first : Option TextFault → Result A TextFault) (second : Option TextFault → Result B TextFault)
+    (last : Option TextFault → Result C TextFault) (make : A → B → C → Z)
     → IsSteady first → first None ≡ Ok a → IsSteady second → second None ≡ Ok b → Faults is_memory fault last
     → Faults is_memory fault (λ refused. first refused >>= λ x. second refused >>= λ y. last refused >>= λ z. Ok (make x y z))
 at_third is_memory fault a b first second last make steady-a held-a steady-b held-b told =

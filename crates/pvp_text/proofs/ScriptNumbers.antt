@@ -35,7 +35,8 @@ has_digit true padded all h = absurd cc
 has_digit false padded all h = refl
 
 -- the number that `parse` gives, and where it gives none, the number is too large
-pub parsed : (word : List ℕ) (read : Result ℕ ParseIntError) → is_number word ≡ true → ParsesUnsigned 64 10 word read → result_or read (Err Number) ≡ number_at (2 ^ 64) word
+pub parsed : (word : List ℕ) (read : Result ℕ ParseIntError) → is_number word ≡ true → ParsesUnsigned 64 10 word read
+    → result_or read (Err Number) ≡ number_at (2 ^ 64) word
 parsed word (Ok n) h p =
     let g = parse_digits digits {E = ParseIntError} 64 word (Ok n) p (is_all _ _ h) in
     rw g.1 (sym (below word (2 ^ 64) h g.0.1))

@@ -13,7 +13,8 @@ use Rattle.pvp_text.specs.Reading.{◌>>=◌}
 use Rattle.pvp_text.specs.ScriptWords.{words}
 
 -- a line that is not skipped, not long and of printable bytes says what its words say
-pub line_says : (kind : Kind) (setup : Setup) (line first : List ℕ) (others : List (List ℕ)) → words line ≡ first ∷ others → eqb (get_or line 0 0) 35 ≡ false → length line ≤ 256 → list_all is_printable line ≡ true
+pub line_says : (kind : Kind) (setup : Setup) (line first : List ℕ) (others : List (List ℕ)) → words line ≡ first ∷ others → eqb (get_or line 0 0) 35 ≡ false
+    → length line ≤ 256 → list_all is_printable line ≡ true
     → line_at kind setup line ≡ (statement_at kind setup (first ∷ others) >>= λ statement. Ok (Some statement))
 unfolding line_at
 line_says kind setup line first others worded no_comment short printable = rw (no_comment, worded, le-ltb 256 (length line) short, printable) refl
@@ -35,7 +36,8 @@ regroup front found (Ok others) = ap (λ (lines : List Line). Ok lines) (sym (ap
 regroup front found (Err fault) = refl
 
 -- a line to which memory is not refused
-is_kept : (refused : Option LineFault) (number : ℕ) (said : Option Statement) → IsAhead refused (number + 1) → kept_line refused number said ≡ Ok (line_of number said)
+is_kept : (refused : Option LineFault) (number : ℕ) (said : Option Statement) → IsAhead refused (number + 1)
+    → kept_line refused number said ≡ Ok (line_of number said)
 is_kept None number said ahead = refl
 is_kept (Some refusal) number None ahead = refl
 is_kept (Some refusal) number (Some statement) ahead = rw (ne_eqb refusal.line number (λ e. absurd (omega arith))) refl
@@ -45,21 +47,26 @@ pub ahead_before : (refused : Option LineFault) (number : ℕ) → IsAhead refus
 ahead_before None number ahead = tt
 ahead_before (Some refusal) number ahead = omega arith
 
-pub goes_on : (refused : Option LineFault) (kind : Kind) (setup : Setup) (front : List Line) (number : ℕ) (line : List ℕ) (rest : List (List ℕ)) (said : Option Statement) (total : Result (List Line) LineFault)
-    → IsAhead refused (number + 1) → of_line number (line_at kind setup line) ≡ Ok said → with_front front (lines_at refused kind setup number (line ∷ rest)) ≡ total
+pub goes_on : (refused : Option LineFault) (kind : Kind) (setup : Setup) (front : List Line) (number : ℕ) (line : List ℕ) (rest : List (List ℕ))
+    (said : Option Statement) (total : Result (List Line) LineFault)
+    → IsAhead refused (number + 1) → of_line number (line_at kind setup line) ≡ Ok said
+    → with_front front (lines_at refused kind setup number (line ∷ rest)) ≡ total
     → (found : List Line) → found ≡ front ++ line_of number said → with_front found (lines_at refused kind setup (number + 1) rest) ≡ total
 unfolding lines_at
 goes_on refused kind setup front number line rest said total ahead h so_far found e =
     rw e (sym (regroup front (line_of number said) (lines_at refused kind setup (number + 1) rest)) ∙ (rw (h, is_kept refused number said ahead) at so_far))
 
-pub ends : (kind : Kind) (setup : Setup) (front : List Line) (number : ℕ) (line : List ℕ) (rest : List (List ℕ)) (fault : LineFault) (total : Result (List Line) LineFault)
+pub ends : (kind : Kind) (setup : Setup) (front : List Line) (number : ℕ) (line : List ℕ) (rest : List (List ℕ)) (fault : LineFault)
+    (total : Result (List Line) LineFault)
     → of_line number (line_at kind setup line) ≡ Err fault → with_front front (lines_at None kind setup number (line ∷ rest)) ≡ total → total ≡ Err fault
 unfolding lines_at
 ends kind setup front number line rest fault total h so_far = sym (rw h at so_far)
 
 -- memory is refused to this line, which asks for something
-pub is_refused : (kind : Kind) (setup : Setup) (front : List Line) (refusal : LineFault) (line : List ℕ) (rest : List (List ℕ)) (statement : Statement) (total : Result (List Line) LineFault)
-    → of_line refusal.line (line_at kind setup line) ≡ Ok (Some statement) → with_front front (lines_at (Some refusal) kind setup refusal.line (line ∷ rest)) ≡ total → total ≡ Err refusal
+pub is_refused : (kind : Kind) (setup : Setup) (front : List Line) (refusal : LineFault) (line : List ℕ) (rest : List (List ℕ)) (statement : Statement)
+    (total : Result (List Line) LineFault)
+    → of_line refusal.line (line_at kind setup line) ≡ Ok (Some statement)
+    → with_front front (lines_at (Some refusal) kind setup refusal.line (line ∷ rest)) ≡ total → total ≡ Err refusal
 unfolding lines_at
 is_refused kind setup front refusal line rest statement total h so_far = sym (rw (h, eq-eqb refusal.line refusal.line refl) at so_far)
 

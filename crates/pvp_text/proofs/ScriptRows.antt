@@ -35,7 +35,8 @@ lf = 10 ∷ []
 abbrev pub at : ℕ → Statement → Line
 at number statement = record { number = number; statement = statement }
 
-paid_out : script_at Book setup (codes "do USD fund USD 1 ALFA 1200" ++ lf ++ codes "do ALFA payout USD 200" ++ lf ++ codes "do USD paid USD 1" ++ lf ++ codes "print" ++ lf)
+paid_out : script_at Book setup (codes "do USD fund USD 1 ALFA 1200" ++ lf ++ codes "do ALFA payout USD 200" ++ lf ++ codes "do USD paid USD 1"
+    ++ lf ++ codes "print" ++ lf)
     ≡ Ok (at 1 (Do (Submit 102 (Fund 1 1 1 1200))) ∷ at 2 (Do (Submit 1 (PayOut 1 200))) ∷ at 3 (Do (Submit 102 (Paid 1 1))) ∷ at 4 Print ∷ [])
 unfolding script_where lines_at line_at statement_at do_at fund_at payout_at order_at paid_at
 paid_out = refl
@@ -46,7 +47,8 @@ returned = refl
 
 settled : script_at Book setup (codes "do ALFA instruct 1 BETA USD 1100 EUR 1000" ++ lf ++ codes "do BETA instruct 1 @1 EUR 1000 @1 1100" ++ lf
     ++ codes "do OP settle 10" ++ lf ++ codes "do ALFA rescind 1" ++ lf)
-    ≡ Ok (at 1 (Do (Submit 1 (Instruct 1 2 1 1100 0 1000))) ∷ at 2 (Do (Submit 2 (Instruct 1 1 0 1000 1 1100))) ∷ at 3 (Do (Submit 0 (Settle 10))) ∷ at 4 (Do (Submit 1 (Rescind 1))) ∷ [])
+    ≡ Ok (at 1 (Do (Submit 1 (Instruct 1 2 1 1100 0 1000))) ∷ at 2 (Do (Submit 2 (Instruct 1 1 0 1000 1 1100))) ∷ at 3 (Do (Submit 0 (Settle 10)))
+    ∷ at 4 (Do (Submit 1 (Rescind 1))) ∷ [])
 unfolding script_where lines_at line_at statement_at do_at instruct_at rescind_at settle_at
 settled = refl
 

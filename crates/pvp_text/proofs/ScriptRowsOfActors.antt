@@ -13,13 +13,15 @@ use Rattle.pvp_text.specs.Script.{payout_at, order_at, paid_at, do_at, lone_acto
 use Rattle.pvp_text.proofs.ScriptRows.{setup, lf, at, fault}
 
 played : script_at Play setup (codes "payin ALFA USD 1200" ++ lf ++ codes "deliver 0" ++ lf ++ codes "beat s1" ++ lf ++ codes "timer s255" ++ lf
-    ++ codes "cut @7" ++ lf ++ codes "heal JPY" ++ lf ++ codes "drain 3" ++ lf ++ codes "skip 2" ++ lf ++ codes "chaos 18446744073709551615 1000000" ++ lf ++ codes "print" ++ lf)
+    ++ codes "cut @7" ++ lf ++ codes "heal JPY" ++ lf ++ codes "drain 3" ++ lf ++ codes "skip 2" ++ lf ++ codes "chaos 18446744073709551615 1000000"
+    ++ lf ++ codes "print" ++ lf)
     ≡ Ok (at 1 (Do (PayIn 1 1 1200)) ∷ at 2 (Do (Deliver 0)) ∷ at 3 (Do (Beat 201)) ∷ at 4 (Do (Timer 255)) ∷ at 5 (Cut 7) ∷ at 6 (Heal 103)
     ∷ at 7 (Drain 3) ∷ at 8 (Skip 2) ∷ at 9 (Chaos 18446744073709551615 1000000) ∷ at 10 Print ∷ [])
 unfolding script_where lines_at line_at statement_at told_at play_at move_at lone_actor_at lone_site_at lone_number_at payin_at chaos_at
 played = refl
 
-ran_live : script_at Live setup (codes "do ALFA payout USD 200" ++ lf ++ codes "crash s0" ++ lf ++ codes "rest 250" ++ lf ++ codes "restart s0" ++ lf ++ codes "close @2 @1" ++ lf)
+ran_live : script_at Live setup (codes "do ALFA payout USD 200" ++ lf ++ codes "crash s0" ++ lf ++ codes "rest 250" ++ lf ++ codes "restart s0" ++ lf
+    ++ codes "close @2 @1" ++ lf)
     ≡ Ok (at 1 (Do (Submit 1 (PayOut 1 200))) ∷ at 2 (Do (Crash 0)) ∷ at 3 (Rest 250) ∷ at 4 (Do (Restart 0)) ∷ at 5 (Do (Close 1 2)) ∷ [])
 unfolding script_where lines_at line_at statement_at do_at payout_at told_at live_at move_at lone_site_at lone_number_at close_at
 ran_live = refl

@@ -73,10 +73,12 @@ words_cut bs =
 
 -- ---- the same of what a cut gave
 
-pub first_line : (text before after : List ℕ) → eqb (length text) 0 ≡ false → before ≡ before_first (is_byte 10) text → after ≡ after_first (is_byte 10) text → lines text ≡ before ∷ lines after
+pub first_line : (text before after : List ℕ) → eqb (length text) 0 ≡ false → before ≡ before_first (is_byte 10) text → after ≡ after_first (is_byte 10) text
+    → lines text ≡ before ∷ lines after
 first_line [] before after some _ _ = absurd cc
 first_line (b ∷ bs) before after some p q = rw (p, q) (lines_cut b bs)
 
-pub first_word : (line before after : List ℕ) → eqb (length before) 0 ≡ false → before ≡ before_first (is_byte 32) line → after ≡ after_first (is_byte 32) line → words line ≡ before ∷ words after
+pub first_word : (line before after : List ℕ) → eqb (length before) 0 ≡ false → before ≡ before_first (is_byte 32) line → after ≡ after_first (is_byte 32) line
+    → words line ≡ before ∷ words after
 first_word line [] after some _ _ = absurd cc
 first_word line (b ∷ bs) after some p q = words_cut line ∙ rw (← p, ← q) refl

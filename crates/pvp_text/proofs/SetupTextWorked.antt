@@ -24,12 +24,20 @@ three_currencies = record {
 }
 
 -- each number and text at its place
-reads_three_currencies : setup_text (codes "{\"sites\":3,\"currencies\":[{\"code\":\"EUR\",\"rate\":110,\"haircut\":500},{\"code\":\"USD\",\"rate\":100,\"haircut\":0},{\"code\":\"JPY\",\"rate\":1,\"haircut\":1000}],\"members\":[{\"name\":\"ALFA\",\"aggregate\":150000,\"short\":[1000,1000,100000],\"deposit\":[10000,10000,1000000]},{\"name\":\"BETA\",\"aggregate\":150000,\"short\":[1000,1000,100000],\"deposit\":[10000,10000,1000000]}]}") ≡ Ok three_currencies
+reads_three_currencies
+    : setup_text
+    (codes
+    "{\"sites\":3,\"currencies\":[{\"code\":\"EUR\",\"rate\":110,\"haircut\":500},{\"code\":\"USD\",\"rate\":100,\"haircut\":0},{\"code\":\"JPY\",\"rate\":1,\"haircut\":1000}],\"members\":[{\"name\":\"ALFA\",\"aggregate\":150000,\"short\":[1000,1000,100000],\"deposit\":[10000,10000,1000000]},{\"name\":\"BETA\",\"aggregate\":150000,\"short\":[1000,1000,100000],\"deposit\":[10000,10000,1000000]}]}")
+    ≡ Ok three_currencies
 unfolding setup_where setup currency bank_member meets serde_json_on_literals is_utf8 chars
 reads_three_currencies = refl
 
 -- other members are ignored, and of a name that stands twice the last value counts
-ignores_others : setup_text (codes "{\"sites\":\"x\",\"note\":[null,1e2],\"sites\":3,\"currencies\":[{\"code\":\"EUR\",\"rate\":110,\"haircut\":500},{\"code\":\"USD\",\"rate\":7,\"rate\":100,\"rat\":1.5,\"haircut\":0},{\"code\":\"JPY\",\"rate\":1,\"haircut\":1000}],\"members\":[{\"name\":\"ALFA\",\"aggregate\":150000,\"short\":[1000,1000,100000],\"deposit\":[10000,10000,1000000]},{\"name\":\"BETA\",\"aggregate\":150000,\"short\":[1000,1000,100000],\"deposit\":[10000,10000,1000000]}]}") ≡ Ok three_currencies
+ignores_others
+    : setup_text
+    (codes
+    "{\"sites\":\"x\",\"note\":[null,1e2],\"sites\":3,\"currencies\":[{\"code\":\"EUR\",\"rate\":110,\"haircut\":500},{\"code\":\"USD\",\"rate\":7,\"rate\":100,\"rat\":1.5,\"haircut\":0},{\"code\":\"JPY\",\"rate\":1,\"haircut\":1000}],\"members\":[{\"name\":\"ALFA\",\"aggregate\":150000,\"short\":[1000,1000,100000],\"deposit\":[10000,10000,1000000]},{\"name\":\"BETA\",\"aggregate\":150000,\"short\":[1000,1000,100000],\"deposit\":[10000,10000,1000000]}]}")
+    ≡ Ok three_currencies
 unfolding setup_where setup currency bank_member meets serde_json_on_literals is_utf8 chars
 ignores_others = refl
 
@@ -39,7 +47,11 @@ unfolding setup_where setup currency bank_member meets serde_json_on_literals is
 no_json = refl
 
 -- a number that is refused as JSON, also where it is ignored
-too_large : setup_text (codes "{\"sites\":3,\"note\":1e999,\"currencies\":[{\"code\":\"EUR\",\"rate\":110,\"haircut\":500},{\"code\":\"USD\",\"rate\":100,\"haircut\":0},{\"code\":\"JPY\",\"rate\":1,\"haircut\":1000}],\"members\":[{\"name\":\"ALFA\",\"aggregate\":150000,\"short\":[1000,1000,100000],\"deposit\":[10000,10000,1000000]},{\"name\":\"BETA\",\"aggregate\":150000,\"short\":[1000,1000,100000],\"deposit\":[10000,10000,1000000]}]}") ≡ Err NotJson
+too_large
+    : setup_text
+    (codes
+    "{\"sites\":3,\"note\":1e999,\"currencies\":[{\"code\":\"EUR\",\"rate\":110,\"haircut\":500},{\"code\":\"USD\",\"rate\":100,\"haircut\":0},{\"code\":\"JPY\",\"rate\":1,\"haircut\":1000}],\"members\":[{\"name\":\"ALFA\",\"aggregate\":150000,\"short\":[1000,1000,100000],\"deposit\":[10000,10000,1000000]},{\"name\":\"BETA\",\"aggregate\":150000,\"short\":[1000,1000,100000],\"deposit\":[10000,10000,1000000]}]}")
+    ≡ Err NotJson
 unfolding setup_where setup currency bank_member meets serde_json_on_literals is_utf8 chars
 too_large = refl
 
@@ -54,12 +66,20 @@ unfolding setup_where setup currency bank_member meets serde_json_on_literals is
 first_rule = refl
 
 -- a code that stands twice
-one_code_twice : setup_text (codes "{\"sites\":3,\"currencies\":[{\"code\":\"EUR\",\"rate\":110,\"haircut\":500},{\"code\":\"EUR\",\"rate\":100,\"haircut\":0},{\"code\":\"JPY\",\"rate\":1,\"haircut\":1000}],\"members\":[{\"name\":\"ALFA\",\"aggregate\":150000,\"short\":[1000,1000,100000],\"deposit\":[10000,10000,1000000]},{\"name\":\"BETA\",\"aggregate\":150000,\"short\":[1000,1000,100000],\"deposit\":[10000,10000,1000000]}]}") ≡ Err (BadSetup CurrencyCode)
+one_code_twice
+    : setup_text
+    (codes
+    "{\"sites\":3,\"currencies\":[{\"code\":\"EUR\",\"rate\":110,\"haircut\":500},{\"code\":\"EUR\",\"rate\":100,\"haircut\":0},{\"code\":\"JPY\",\"rate\":1,\"haircut\":1000}],\"members\":[{\"name\":\"ALFA\",\"aggregate\":150000,\"short\":[1000,1000,100000],\"deposit\":[10000,10000,1000000]},{\"name\":\"BETA\",\"aggregate\":150000,\"short\":[1000,1000,100000],\"deposit\":[10000,10000,1000000]}]}")
+    ≡ Err (BadSetup CurrencyCode)
 unfolding setup_where setup currency bank_member meets serde_json_on_literals is_utf8 chars
 one_code_twice = refl
 
 -- a list with too few places
-short_list : setup_text (codes "{\"sites\":3,\"currencies\":[{\"code\":\"EUR\",\"rate\":110,\"haircut\":500},{\"code\":\"USD\",\"rate\":100,\"haircut\":0},{\"code\":\"JPY\",\"rate\":1,\"haircut\":1000}],\"members\":[{\"name\":\"ALFA\",\"aggregate\":150000,\"short\":[1000,100000],\"deposit\":[10000,10000,1000000]},{\"name\":\"BETA\",\"aggregate\":150000,\"short\":[1000,1000,100000],\"deposit\":[10000,10000,1000000]}]}") ≡ Err (BadSetup ListLength)
+short_list
+    : setup_text
+    (codes
+    "{\"sites\":3,\"currencies\":[{\"code\":\"EUR\",\"rate\":110,\"haircut\":500},{\"code\":\"USD\",\"rate\":100,\"haircut\":0},{\"code\":\"JPY\",\"rate\":1,\"haircut\":1000}],\"members\":[{\"name\":\"ALFA\",\"aggregate\":150000,\"short\":[1000,100000],\"deposit\":[10000,10000,1000000]},{\"name\":\"BETA\",\"aggregate\":150000,\"short\":[1000,1000,100000],\"deposit\":[10000,10000,1000000]}]}")
+    ≡ Err (BadSetup ListLength)
 unfolding setup_where setup currency bank_member meets serde_json_on_literals is_utf8 chars
 short_list = refl
 

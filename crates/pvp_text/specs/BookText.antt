@@ -28,21 +28,25 @@ balances_text held m currencies =
 
 -- a member's name and balances
 abbrev pub member_line : List ℕ → Ledger → ℕ × Member → List ℕ
-member_line indent held (m, member) = indent ++ member.name ++ balances_text held m (length held.setup.currencies) ++ codes "\n"
+member_line indent held (m, member) =
+    indent ++ member.name ++ balances_text held m (length held.setup.currencies) ++ codes "\n"
 
 abbrev pub member_lines : List ℕ → Ledger → List ℕ
 member_lines indent held = flat_map (member_line indent held) (enumerate_from 1 held.setup.members)
 
 -- a space and how many pairs are in a state, for each state
 abbrev pub counts_text : Ledger → List ℕ
-counts_text held = flat_map (λ state. 32 ∷ decimal (length (pairs_in held.setup held.entries state))) (Unmatched ∷ Matched ∷ Settled ∷ Rescinded ∷ [])
+counts_text held =
+    flat_map (λ state. 32 ∷ decimal (length (pairs_in held.setup held.entries state)))
+    (Unmatched ∷ Matched ∷ Settled ∷ Rescinded ∷ [])
 
 abbrev pub pairs_line : List ℕ → Ledger → List ℕ
 pairs_line indent held = indent ++ codes "pairs" ++ counts_text held ++ codes "\n"
 
 -- a space and the bank's figure, for each currency
 abbrev pub figures_text : Ledger → ℕ → List ℕ
-figures_text held currencies = flat_map (λ c. 32 ∷ signed_decimal (figure held.setup held.entries c)) (range_with_len 0 currencies)
+figures_text held currencies =
+    flat_map (λ c. 32 ∷ signed_decimal (figure held.setup held.entries c)) (range_with_len 0 currencies)
 
 abbrev pub figure_line : List ℕ → Ledger → List ℕ
 figure_line indent held = indent ++ codes "figure" ++ figures_text held (length held.setup.currencies) ++ codes "\n"
@@ -53,11 +57,13 @@ open_line indent held = indent ++ codes "open " ++ decimal (length (outstanding 
 
 -- the block of a book, where each line begins with this indent
 abbrev pub block : List ℕ → Ledger → List ℕ
-block indent held = member_lines indent held ++ pairs_line indent held ++ figure_line indent held ++ open_line indent held
+block indent held =
+    member_lines indent held ++ pairs_line indent held ++ figure_line indent held ++ open_line indent held
 
 -- what `do` writes: the row's number, counted over all that were applied, and the answer
 abbrev pub answer_line : Ledger → ℕ → Cmd → List ℕ
-answer_line held client cmd = decimal (held.applied + 1) ++ codes " " ++ reply_text (answer_to held client cmd) ++ codes "\n"
+answer_line held client cmd =
+    decimal (held.applied + 1) ++ codes " " ++ reply_text (answer_to held client cmd) ++ codes "\n"
 
 -- what a line of a script writes: a line that no script of one book has writes nothing
 abbrev pub statement_text : Ledger → Statement → List ℕ
@@ -83,7 +89,8 @@ book_text setup lines = text_of (opening setup) lines
 -- for the next; or at a line that the writer failed to take. How much was written by then is not said.
 abbrev pub LinesEnd : Ledger → List Line → Result (Unit {0}) RunFault → Option (List ℕ) → Option (List ℕ) → Type 0
 LinesEnd held lines (Ok _) old new = Appends old new (text_of held lines)
-LinesEnd held lines (Err RunFaults.NoMemory) old new = (n : ℕ) × (n < length lines) × Appends old new (text_of held (take n lines))
+LinesEnd held lines (Err RunFaults.NoMemory) old new =
+    (n : ℕ) × (n < length lines) × Appends old new (text_of held (take n lines))
 LinesEnd held lines (Err RunFaults.Output) old new = lines ≢ []
 LinesEnd held lines (Err (RunFaults.Line fault)) old new = ⊥
 
@@ -115,7 +122,8 @@ RunsOver contents setup read (Ok lines) result old new =
 RunsOver contents setup read (Err fault) result old new = Tells read fault result × (new ≡ old)
 
 -- HOW A RUN of a script ends
-abbrev pub RunEnds : {W : Type 0} → (W → Option (List ℕ)) → Setup → ScriptReading → Result (Unit {0}) RunFault → W → W → Type 0
+abbrev pub RunEnds : {W : Type 0} → (W → Option (List ℕ)) → Setup → ScriptReading → Result (Unit {0}) RunFault → W → W
+    → Type 0
 RunEnds contents setup read result old new = RunsOver contents setup read (read None) result old new
 
 -- what a script was read as: its lines, of which there are not too many for one book

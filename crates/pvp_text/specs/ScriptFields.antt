@@ -24,7 +24,8 @@ is_number word = not ((length word == 0) || has_leading_zero word) && list_all i
 
 -- a number below a limit
 abbrev pub number_at : ℕ → List ℕ → Result ℕ LineCode
-number_at limit word = if is_number word && nat_lt (digits_value 10 word) limit then Ok (digits_value 10 word) else Err Number
+number_at limit word =
+    if is_number word && nat_lt (digits_value 10 word) limit then Ok (digits_value 10 word) else Err Number
 
 -- a client or a currency as a line spells it
 pub data Spelled : Type 0 where
@@ -33,17 +34,18 @@ pub data Spelled : Type 0 where
 
 -- `@` and a number below a limit, or a name
 abbrev pub reference_at : ℕ → List ℕ → Result Spelled LineCode
-reference_at limit word = if slice_index word 0 == 64 then (number_at limit (drop 1 word) >>= λ n. Ok (numbered n)) else Ok (named word)
+reference_at limit word =
+    if slice_index word 0 == 64 then (number_at limit (drop 1 word) >>= λ n. Ok (numbered n)) else Ok (named word)
 
--- An actor as a line spells it: `s` and the number of a site, whose actors are numbered from 200, or a client. Names are
--- capitals, so no client is named with `s` in front.
+-- An actor as a line spells it: `s` and the number of a site, whose actors are numbered from 200, or a client. Names
+-- are capitals, so no client is named with `s` in front.
 abbrev pub actor_at : List ℕ → Result Spelled LineCode
 actor_at word =
     if slice_index word 0 == 115 then (number_at (2 ^ 8) (drop 1 word) >>= λ n. Ok (numbered (FIRST_SITE + n)))
     else reference_at (2 ^ 16) word
 
--- A site, where no other actor may stand: `s` and its number. Neither `@` nor a name tells one: what begins with `@` is a
--- malformed number, and what begins otherwise is nothing's name.
+-- A site, where no other actor may stand: `s` and its number. Neither `@` nor a name tells one: what begins with `@` is
+-- a malformed number, and what begins otherwise is nothing's name.
 abbrev pub site_at : List ℕ → Result ℕ LineCode
 site_at word =
     if slice_index word 0 == 115 then number_at (2 ^ 8) (drop 1 word)
@@ -63,8 +65,8 @@ client_of setup who = number_of (client_number setup) who
 abbrev pub operator_or_member : Setup → List ℕ → Option ℕ
 operator_or_member setup name = if bytes_eq name (codes "OP") then Some 0 else member_number setup name
 
--- Who may be told by name to send a command: on one book any client. Elsewhere the nodes stand in the bank themselves, and
--- send what they have to say by their own steps.
+-- Who may be told by name to send a command: on one book any client. Elsewhere the nodes stand in the bank themselves,
+-- and send what they have to say by their own steps.
 abbrev pub sender_number : Kind → Setup → List ℕ → Option ℕ
 sender_number Book setup name = client_number setup name
 sender_number Play setup name = operator_or_member setup name

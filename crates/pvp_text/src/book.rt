@@ -93,7 +93,8 @@ fn run_lines<W: Write>(
 
 /// Writes a text.
 pub fn write_text<W: Write>(writer: &mut W, text: &str) -> Result<(), RunFault>
-    ensures written { OnOk result (Appends (W.contents writer.old) (W.contents writer.new) text.now) }
+    ensures written { OnOk result (Appends (W.contents writer.old)
+        (W.contents writer.new) text.now) }
     ensures fault { IfErr result (λ fault. fault ≡ Output) }
 {
     match writer.write_all(text.as_bytes()) {
@@ -153,7 +154,8 @@ fn push_counts(text: &mut String, book: &Book) -> Result<(), AllocError>
 /// Appends how many pairs are in a state.
 fn push_count(text: &mut String, book: &Book, state: PairState) -> Result<(), AllocError>
     ensures { OnOk result (string_bytes text.new
-        ≡ string_bytes text.old ++ 32 ∷ decimal (length (pairs_in book.now.setup book.now.entries state))) }
+        ≡ string_bytes text.old ++ 32 ∷ decimal
+        (length (pairs_in book.now.setup book.now.entries state))) }
 {
     let count = book.pairs(state);
     write!(text, " {count}")

@@ -160,7 +160,10 @@ pub struct LineFault {
 
 /// L8, at the line that memory had no room for.
 impl From<AllocFailed<Line>> for LineFault {
-    ghost from_gives = { λ refused fault. fault ≡ record { line = refused.value.number; code = NoMemory } };
+    ghost from_gives = { λ refused fault. fault ≡ record {
+      line = refused.value.number;
+      code = NoMemory;
+    } };
 
     fn from(refused: AllocFailed<Line>) -> LineFault {
         LineFault {

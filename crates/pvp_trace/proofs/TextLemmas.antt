@@ -45,7 +45,8 @@ module _ (word : ℕ → List ℕ) (first : ℕ) where
   with_numbers n = flat_map word (range_with_len first n)
 
   -- one word more was written
-  pub one_number-more : (new old start : List ℕ) (n m : ℕ) → m ≡ suc n → new ≡ old ++ word (first + n) → old ≡ start ++ with_numbers n → new ≡ start ++ with_numbers m
+  pub one_number-more : (new old start : List ℕ) (n m : ℕ) → m ≡ suc n → new ≡ old ++ word (first + n) → old ≡ start ++ with_numbers n
+      → new ≡ start ++ with_numbers m
   one_number-more new old start n m next written before =
       written ∙ ap (λ t. t ++ word (first + n)) before ∙ append_assoc start (with_numbers n) (word (first + n))
       ∙ ap (λ t. start ++ t) (ap (λ t. with_numbers n ++ t) (sym (append-nil (word (first + n))))

@@ -34,8 +34,8 @@ abbrev pub fell_by : Result Report WorldFault → List Move → Option Boot
 fell_by (Ok report) trail = None
 fell_by (Err fault) trail = if is_world_fall fault then cell_of (slice_get trail (length trail - 1)) else None
 
--- a step was tried in a world: it did with it what it does, and this is what came of it; was and now are where the site of
--- the step stands in the world before and after it
+-- a step was tried in a world: it did with it what it does, and this is what came of it; was and now are where the site
+-- of the step stands in the world before and after it
 pub record Attempts {B : Type 0} (held : B → Boot) (old new : Shown B) (asked : Step) (a : Attempt) : Type 0 where
   pub step : a.step ≡ asked
   pub applies : Applies held old new asked a.result
@@ -54,9 +54,12 @@ envelope_of post number = if number == 0 then None else slice_get post (number -
 -- a step reads as the script's line that asks for it; a delivery says to whom it goes
 abbrev pub step_text : Setup → List Envelope → Step → List ℕ
 step_text setup post (Deliver number) =
-    codes "deliver " ++ decimal number ++ option_map_or (λ e. codes " to " ++ actor_text setup e.to) (envelope_of post number) []
-step_text setup post (PayIn ccy member amt) = codes "payin " ++ actor_text setup member ++ codes " " ++ amount_text setup ccy amt
-step_text setup post (Close ccy member) = codes "close " ++ actor_text setup member ++ codes " " ++ currency_text setup ccy
+    codes "deliver " ++ decimal number ++ option_map_or (λ e. codes " to " ++ actor_text setup e.to)
+    (envelope_of post number) []
+step_text setup post (PayIn ccy member amt) =
+    codes "payin " ++ actor_text setup member ++ codes " " ++ amount_text setup ccy amt
+step_text setup post (Close ccy member) =
+    codes "close " ++ actor_text setup member ++ codes " " ++ currency_text setup ccy
 step_text setup post (Submit client cmd) = codes "do " ++ actor_text setup client ++ codes " " ++ command_text setup cmd
 step_text setup post (Beat actor) = codes "beat " ++ actor_text setup actor
 step_text setup post (Timer site) = codes "timer s" ++ decimal site
@@ -80,7 +83,8 @@ fell_text a = option_map_or (λ boot. codes ", its cell holds " ++ decimal boot.
 -- the envelope of a number
 abbrev pub sent_line : Setup → List Envelope → ℕ → List ℕ
 sent_line setup post number =
-    option_map_or (λ e. codes "   " ++ decimal number ++ codes "  " ++ envelope_text setup e ++ codes "\n") (envelope_of post number) []
+    option_map_or (λ e. codes "   " ++ decimal number ++ codes "  " ++ envelope_text setup e
+    ++ codes "\n") (envelope_of post number) []
 
 -- all that it sent
 abbrev pub sent_text : Setup → List Envelope → Attempt → List ℕ
@@ -89,7 +93,8 @@ sent_text setup post a = flat_map (sent_line setup post) (range_with_len (a.befo
 -- its number among those that were tried, what it was, and what came of it
 abbrev pub told_text : Setup → List Envelope → ℕ → Attempt → List ℕ
 told_text setup post number a =
-    decimal number ++ codes "  " ++ step_text setup post a.step ++ kind_text post a.step ++ came_text a.result ++ fell_text a ++ codes "\n"
+    decimal number ++ codes "  " ++ step_text setup post a.step ++ kind_text post a.step ++ came_text a.result
+    ++ fell_text a ++ codes "\n"
 
 -- A STEP THAT WAS TRIED: this, what it changed of its site, and what it sent
 abbrev pub attempt_text : Setup → List Envelope → ℕ → Attempt → List ℕ

@@ -47,19 +47,22 @@ kind_name (PayOrder order) = codes "PAYORDER"
 abbrev pub fields_text : Setup → MsgOf Cmd Answer PaymentOrder → List ℕ
 fields_text setup (Request msg) = codes " " ++ decimal msg.number ++ codes " " ++ command_text setup msg.cmd
 fields_text setup (Prepare msg) =
-    view_text msg.view ++ field_text (codes "place") msg.place ++ done_text msg.done ++ codes " row " ++ row_text setup msg.row
+    view_text msg.view ++ field_text (codes "place") msg.place ++ done_text msg.done ++ codes " row "
+    ++ row_text setup msg.row
 fields_text setup (PrepareOk msg) = view_text msg.view ++ field_text (codes "place") msg.place
 fields_text setup (Commit msg) = view_text msg.view ++ done_text msg.done
 fields_text setup (StartViewChange msg) = view_text msg.view ++ boots_text msg.known
 fields_text setup (DoViewChange msg) =
-    view_text msg.view ++ field_text (codes "normal") msg.last_normal ++ done_text msg.done ++ rows_text setup msg.rows ++ boots_text msg.known
+    view_text msg.view ++ field_text (codes "normal") msg.last_normal ++ done_text msg.done
+    ++ rows_text setup msg.rows ++ boots_text msg.known
 fields_text setup (StartView msg) = view_text msg.view ++ done_text msg.done ++ rows_text setup msg.rows
 fields_text setup (GetState msg) = view_text msg.view ++ field_text (codes "base") msg.base
 fields_text setup (NewState msg) =
     view_text msg.view ++ field_text (codes "base") msg.base ++ done_text msg.done ++ rows_text setup msg.rows
 fields_text setup (Recovery msg) = field_text (codes "nonce") msg.nonce
 fields_text setup (RecoveryResponse msg) =
-    view_text msg.view ++ field_text (codes "nonce") msg.nonce ++ option_map_or (state_text setup) msg.state [] ++ boots_text msg.known
+    view_text msg.view ++ field_text (codes "nonce") msg.nonce ++ option_map_or
+    (state_text setup) msg.state [] ++ boots_text msg.known
 fields_text setup (Reply msg) =
     view_text msg.view ++ field_text (codes "to") msg.number ++ codes " " ++ reply_text msg.reply
 fields_text setup (PayOrder order) = codes " " ++ order_text setup order

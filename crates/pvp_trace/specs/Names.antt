@@ -18,7 +18,8 @@ abbrev pub name_text : Setup → List ℕ → ActorId → List ℕ
 name_text setup other (Site site) = codes "s" ++ decimal site
 name_text setup other (Node ccy) = option_map_or (λ currency. currency.code) (slice_get setup.currencies ccy) other
 name_text setup other (Client client) =
-    if client == 0 then codes "OP" else option_map_or (λ member. member.name) (slice_get setup.members (client - 1)) other
+    if client == 0 then codes "OP" else option_map_or (λ member. member.name)
+    (slice_get setup.members (client - 1)) other
 
 -- a site by its number, a node by its currency's code, a client by its name
 abbrev pub actor_text : Setup → ℕ → List ℕ

@@ -16,7 +16,8 @@ use Rattle.pvp_trace.specs.declared.stand.Stand.{Stand}
 
 -- WHERE A SITE STANDS, by its number
 abbrev pub stand_of : {B : Type 0} → ℕ → Replica Cmd Setup B → Stand
-stand_of i site = record { site = i; status = site.volatile.status; view = site.volatile.view; done = site.volatile.done }
+stand_of i site =
+    record { site = i; status = site.volatile.status; view = site.volatile.view; done = site.volatile.done }
 
 -- the site of a world that has this number, where there is one
 abbrev pub stand_at : {B : Type 0} → World B → ℕ → Option Stand
@@ -55,12 +56,14 @@ turned_text was now =
 -- the rows after so many, up to so many
 abbrev pub places_text : ℕ → ℕ → List ℕ
 places_text before last =
-    if before + 1 == last then codes "row " ++ decimal last else codes "rows " ++ decimal (before + 1) ++ codes " to " ++ decimal last
+    if before + 1 == last then codes "row " ++ decimal last
+    else codes "rows " ++ decimal (before + 1) ++ codes " to " ++ decimal last
 
 -- its line, where it has executed more rows than before
 abbrev pub executed_text : Stand → Stand → List ℕ
 executed_text was now =
-    if nat_lt was.done now.done then codes "   s" ++ decimal now.site ++ codes " executes " ++ places_text was.done now.done ++ codes "\n" else []
+    if nat_lt was.done now.done then codes "   s" ++ decimal now.site ++ codes " executes "
+    ++ places_text was.done now.done ++ codes "\n" else []
 
 -- WHAT A STEP CHANGED of where its site stands
 abbrev pub changes_text : Option Stand → Option Stand → List ℕ

@@ -28,11 +28,13 @@ command_text setup (Returned ccy out) = codes "returned " ++ amount_text setup c
 -- an order: its currency and number, whom it pays, and how much
 abbrev pub order_text : Setup → PayOrder → List ℕ
 order_text setup order =
-    amount_text setup order.ccy order.out ++ codes " " ++ actor_text setup order.member ++ codes " " ++ decimal order.amt
+    amount_text setup order.ccy order.out ++ codes " " ++ actor_text setup order.member
+    ++ codes " " ++ decimal order.amt
 
 -- a row: whose request it is, by which number, and what it asks for
 abbrev pub row_text : Setup → RowOf Cmd → List ℕ
-row_text setup row = actor_text setup row.client ++ codes " " ++ decimal row.number ++ codes " " ++ command_text setup row.cmd
+row_text setup row =
+    actor_text setup row.client ++ codes " " ++ decimal row.number ++ codes " " ++ command_text setup row.cmd
 
 -- rows: how many, and the last of them
 abbrev pub rows_text : Setup → List (RowOf Cmd) → List ℕ

@@ -170,7 +170,8 @@ fn push_delivery<C: BootCell>(
 
 /// Appends the kind of the message that a step delivers, where it does.
 fn push_kind<C: BootCell>(text: &mut String, world: &World<C>, step: Step) -> Result<(), AllocError>
-    ensures { OnOk result (string_bytes text.new ≡ string_bytes text.old ++ kind_text world.now.post step) }
+    ensures { OnOk result (string_bytes text.new ≡ string_bytes text.old
+        ++ kind_text world.now.post step) }
 {
     let Step::Deliver(number) = step else {
         return Ok(());

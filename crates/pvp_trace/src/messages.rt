@@ -20,7 +20,8 @@ pub fn push_envelope(
     setup: &Setup,
     envelope: &Envelope<Book>,
 ) -> Result<(), AllocError>
-    ensures { OnOk result (string_bytes text.new ≡ string_bytes text.old ++ envelope_text setup.now envelope.now) }
+    ensures { OnOk result (string_bytes text.new ≡ string_bytes text.old
+        ++ envelope_text setup.now envelope.now) }
 {
     push_actor(text, setup, envelope.from)?;
     text.push_str(" -> ")?;
@@ -31,7 +32,8 @@ pub fn push_envelope(
 
 /// Appends a message: its kind, and its fields.
 pub fn push_message(text: &mut String, setup: &Setup, msg: &Msg<Book>) -> Result<(), AllocError>
-    ensures { OnOk result (string_bytes text.new ≡ string_bytes text.old ++ message_text setup.now msg.now) }
+    ensures { OnOk result (string_bytes text.new ≡ string_bytes text.old
+        ++ message_text setup.now msg.now) }
 {
     text.push_str(kind_name(msg))?;
     push_fields(text, setup, msg)
@@ -60,7 +62,8 @@ pub fn kind_name(msg: &Msg<Book>) -> &'static str
 
 /// Appends a message's fields.
 fn push_fields(text: &mut String, setup: &Setup, msg: &Msg<Book>) -> Result<(), AllocError>
-    ensures { OnOk result (string_bytes text.new ≡ string_bytes text.old ++ fields_text setup.now msg.now) }
+    ensures { OnOk result (string_bytes text.new ≡ string_bytes text.old
+        ++ fields_text setup.now msg.now) }
 {
     match msg {
         MsgOf::Request(msg) => {
@@ -105,7 +108,8 @@ fn push_fields(text: &mut String, setup: &Setup, msg: &Msg<Book>) -> Result<(), 
 
 /// Appends the fields of a PREPARE.
 fn push_prepare(text: &mut String, setup: &Setup, msg: &PrepareOf<Cmd>) -> Result<(), AllocError>
-    ensures { OnOk result (string_bytes text.new ≡ string_bytes text.old ++ fields_text setup.now (MsgOf.Prepare msg.now)) }
+    ensures { OnOk result (string_bytes text.new ≡ string_bytes text.old
+        ++ fields_text setup.now (MsgOf.Prepare msg.now)) }
 {
     push_field(text, "view", msg.view)?;
     push_field(text, "place", u32::from(msg.place))?;
@@ -120,7 +124,8 @@ fn push_do_view_change(
     setup: &Setup,
     msg: &DoViewChangeOf<Cmd>,
 ) -> Result<(), AllocError>
-    ensures { OnOk result (string_bytes text.new ≡ string_bytes text.old ++ fields_text setup.now (MsgOf.DoViewChange msg.now)) }
+    ensures { OnOk result (string_bytes text.new ≡ string_bytes text.old
+        ++ fields_text setup.now (MsgOf.DoViewChange msg.now)) }
 {
     push_field(text, "view", msg.view)?;
     push_field(text, "normal", msg.last_normal)?;
@@ -135,7 +140,8 @@ fn push_start_view(
     setup: &Setup,
     msg: &StartViewOf<Cmd>,
 ) -> Result<(), AllocError>
-    ensures { OnOk result (string_bytes text.new ≡ string_bytes text.old ++ fields_text setup.now (MsgOf.StartView msg.now)) }
+    ensures { OnOk result (string_bytes text.new ≡ string_bytes text.old
+        ++ fields_text setup.now (MsgOf.StartView msg.now)) }
 {
     push_field(text, "view", msg.view)?;
     push_field(text, "done", u32::from(msg.done))?;
@@ -144,7 +150,8 @@ fn push_start_view(
 
 /// Appends the fields of a NEWSTATE.
 fn push_new_state(text: &mut String, setup: &Setup, msg: &NewStateOf<Cmd>) -> Result<(), AllocError>
-    ensures { OnOk result (string_bytes text.new ≡ string_bytes text.old ++ fields_text setup.now (MsgOf.NewState msg.now)) }
+    ensures { OnOk result (string_bytes text.new ≡ string_bytes text.old
+        ++ fields_text setup.now (MsgOf.NewState msg.now)) }
 {
     push_field(text, "view", msg.view)?;
     push_field(text, "base", u32::from(msg.base))?;
@@ -158,7 +165,8 @@ fn push_recovery_response(
     setup: &Setup,
     msg: &RecoveryResponseOf<Cmd>,
 ) -> Result<(), AllocError>
-    ensures { OnOk result (string_bytes text.new ≡ string_bytes text.old ++ fields_text setup.now (MsgOf.RecoveryResponse msg.now)) }
+    ensures { OnOk result (string_bytes text.new ≡ string_bytes text.old
+        ++ fields_text setup.now (MsgOf.RecoveryResponse msg.now)) }
 {
     push_field(text, "view", msg.view)?;
     push_field(text, "nonce", msg.nonce)?;
@@ -184,7 +192,8 @@ fn push_state(
 
 /// Appends a number that has this name.
 fn push_field(text: &mut String, name: &str, number: u32) -> Result<(), AllocError>
-    ensures { OnOk result (string_bytes text.new ≡ string_bytes text.old ++ field_text name.now number) }
+    ensures { OnOk result (string_bytes text.new ≡ string_bytes text.old
+        ++ field_text name.now number) }
 {
     write!(text, " {name} {number}")
 }

@@ -81,7 +81,8 @@ fn push_turned(text: &mut String, was: Stand, now: Stand) -> Result<(), AllocErr
 
 /// Appends a status, and of a site that has a log its view.
 fn push_status(text: &mut String, status: Status, view: u32) -> Result<(), AllocError>
-    ensures { OnOk result (string_bytes text.new ≡ string_bytes text.old ++ status_text status view) }
+    ensures { OnOk result (string_bytes text.new ≡ string_bytes text.old
+        ++ status_text status view) }
 {
     match status {
         Status::Normal => write!(text, "normal in view {view}"),
@@ -107,7 +108,8 @@ fn push_executed(text: &mut String, was: Stand, now: Stand) -> Result<(), AllocE
 /// Appends the places of the rows after the first so many, up to the last.
 fn push_places(text: &mut String, before: usize, last: usize) -> Result<(), AllocError>
     requires { before < last }
-    ensures { OnOk result (string_bytes text.new ≡ string_bytes text.old ++ places_text before last) }
+    ensures { OnOk result (string_bytes text.new ≡ string_bytes text.old
+        ++ places_text before last) }
 {
     let first = before + 1;
     if first == last {

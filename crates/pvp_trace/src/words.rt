@@ -10,7 +10,8 @@ use vr_types::{Known, RowOf, RowsOf};
 
 /// Appends a command as a script has it.
 pub fn push_command(text: &mut String, setup: &Setup, cmd: Cmd) -> Result<(), AllocError>
-    ensures { OnOk result (string_bytes text.new ≡ string_bytes text.old ++ command_text setup.now cmd) }
+    ensures { OnOk result (string_bytes text.new ≡ string_bytes text.old
+        ++ command_text setup.now cmd) }
 {
     match cmd {
         Cmd::Instruct {
@@ -59,7 +60,8 @@ pub fn push_command(text: &mut String, setup: &Setup, cmd: Cmd) -> Result<(), Al
 
 /// Appends a number that is of a currency: an amount, or what counts its payments.
 pub fn push_amount(text: &mut String, setup: &Setup, ccy: u8, amt: u64) -> Result<(), AllocError>
-    ensures { OnOk result (string_bytes text.new ≡ string_bytes text.old ++ amount_text setup.now ccy amt) }
+    ensures { OnOk result (string_bytes text.new ≡ string_bytes text.old
+        ++ amount_text setup.now ccy amt) }
 {
     push_currency(text, setup, ccy)?;
     write!(text, " {amt}")
@@ -67,7 +69,8 @@ pub fn push_amount(text: &mut String, setup: &Setup, ccy: u8, amt: u64) -> Resul
 
 /// Appends an order: its currency and number, whom it pays, and how much.
 pub fn push_order(text: &mut String, setup: &Setup, order: PayOrder) -> Result<(), AllocError>
-    ensures { OnOk result (string_bytes text.new ≡ string_bytes text.old ++ order_text setup.now order) }
+    ensures { OnOk result (string_bytes text.new ≡ string_bytes text.old
+        ++ order_text setup.now order) }
 {
     push_amount(text, setup, order.ccy, u64::from(order.out))?;
     text.push_str(" ")?;
@@ -78,7 +81,8 @@ pub fn push_order(text: &mut String, setup: &Setup, order: PayOrder) -> Result<(
 
 /// Appends a row: whose request it is, by which number, and what it asks for.
 pub fn push_row(text: &mut String, setup: &Setup, row: RowOf<Cmd>) -> Result<(), AllocError>
-    ensures { OnOk result (string_bytes text.new ≡ string_bytes text.old ++ row_text setup.now row) }
+    ensures { OnOk result (string_bytes text.new ≡ string_bytes text.old
+        ++ row_text setup.now row) }
 {
     push_actor(text, setup, row.client)?;
     let number = row.number;
@@ -88,7 +92,8 @@ pub fn push_row(text: &mut String, setup: &Setup, row: RowOf<Cmd>) -> Result<(),
 
 /// Appends how many rows there are, and the last of them.
 pub fn push_rows(text: &mut String, setup: &Setup, rows: &RowsOf<Cmd>) -> Result<(), AllocError>
-    ensures { OnOk result (string_bytes text.new ≡ string_bytes text.old ++ rows_text setup.now rows.now) }
+    ensures { OnOk result (string_bytes text.new ≡ string_bytes text.old
+        ++ rows_text setup.now rows.now) }
 {
     let count = rows.len();
     write!(text, " rows {count}")?;

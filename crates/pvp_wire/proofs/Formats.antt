@@ -91,12 +91,14 @@ first_part {A} {Z} {spell} {Fits} {read} format k bytes z rest Goal fits e then 
 abbrev pub reads1 : {A Z : Type 0} (ra : List ℕ → Reads A) → (A → Z) → List ℕ → Reads Z
 reads1 ra make bytes = ra bytes >>= λ xa. Ok (make xa.0, xa.1)
 
-pub takes1 : {A Z : Type 0} {sa : A → List ℕ} {fa : A → Type 0} {ra : List ℕ → Reads A} (pa : IsFormat sa fa ra) (make : A → Z) (spell : Z → List ℕ) (Fits : Z → Type 0)
+pub takes1 : {A Z : Type 0} {sa : A → List ℕ} {fa : A → Type 0} {ra : List ℕ → Reads A} (pa : IsFormat sa fa ra) (make : A → Z)
+    (spell : Z → List ℕ) (Fits : Z → Type 0)
     → ((a : A) → spell (make a) ≡ sa a) → ((a : A) → fa a → Fits (make a))
     → TakesBy spell Fits (reads1 ra make)
 takes1 {A} {Z} {sa} {fa} {ra} pa make spell Fits spelled fit bytes z rest fits e =
     first_part pa (λ xa. Ok (make xa.0, xa.1)) bytes z rest (Takes bytes (spell z) rest × Fits z) fits e (λ a aftera wa ha ea.
-    subst (λ (p : Z × List ℕ). Takes bytes (spell p.0) p.1 × Fits p.0) (ok_is (make a, aftera) (z, rest) ea) (subst (λ (t : List ℕ). Takes bytes t aftera) (sym (spelled a)) wa, fit a ha))
+    subst (λ (p : Z × List ℕ). Takes bytes (spell p.0) p.1 × Fits p.0) (ok_is (make a, aftera) (z, rest) ea)
+    (subst (λ (t : List ℕ). Takes bytes t aftera) (sym (spelled a)) wa, fit a ha))
 
 pub again1 : {A Z : Type 0} {sa : A → List ℕ} {fa : A → Type 0} {ra : List ℕ → Reads A} (pa : IsFormat sa fa ra) (make : A → Z) (a : A) (rest : List ℕ) → fa a
     → reads1 ra make ((sa a) ++ rest) ≡ Ok (make a, rest)
@@ -106,15 +108,18 @@ again1 {A} {Z} {sa} {fa} {ra} pa make a rest ha =
 abbrev pub reads2 : {A B Z : Type 0} (ra : List ℕ → Reads A) (rb : List ℕ → Reads B) → (A → B → Z) → List ℕ → Reads Z
 reads2 ra rb make bytes = ra bytes >>= λ xa. (rb xa.1 >>= λ xb. Ok (make xa.0 xb.0, xb.1))
 
-pub takes2 : {A B Z : Type 0} {sa : A → List ℕ} {fa : A → Type 0} {ra : List ℕ → Reads A} {sb : B → List ℕ} {fb : B → Type 0} {rb : List ℕ → Reads B} (pa : IsFormat sa fa ra) (pb : IsFormat sb fb rb) (make : A → B → Z) (spell : Z → List ℕ) (Fits : Z → Type 0)
+pub takes2 : {A B Z : Type 0} {sa : A → List ℕ} {fa : A → Type 0} {ra : List ℕ → Reads A} {sb : B → List ℕ} {fb : B → Type 0} {rb : List ℕ → Reads B}
+    (pa : IsFormat sa fa ra) (pb : IsFormat sb fb rb) (make : A → B → Z) (spell : Z → List ℕ) (Fits : Z → Type 0)
     → ((a : A) (b : B) → spell (make a b) ≡ sa a ++ sb b) → ((a : A) (b : B) → fa a → fb b → Fits (make a b))
     → TakesBy spell Fits (reads2 ra rb make)
 takes2 {A} {B} {Z} {sa} {fa} {ra} {sb} {fb} {rb} pa pb make spell Fits spelled fit bytes z rest fits e =
     first_part pa (λ xa. (rb xa.1 >>= λ xb. Ok (make xa.0 xb.0, xb.1))) bytes z rest (Takes bytes (spell z) rest × Fits z) fits e (λ a aftera wa ha ea.
     first_part pb (λ xb. Ok (make a xb.0, xb.1)) aftera z rest (Takes bytes (spell z) rest × Fits z) wa.rest_fits ea (λ b afterb wb hb eb.
-    subst (λ (p : Z × List ℕ). Takes bytes (spell p.0) p.1 × Fits p.0) (ok_is (make a b, afterb) (z, rest) eb) (subst (λ (t : List ℕ). Takes bytes t afterb) (sym (spelled a b)) (Takes-then bytes (sa a) aftera (sb b) afterb wa wb), fit a b ha hb)))
+    subst (λ (p : Z × List ℕ). Takes bytes (spell p.0) p.1 × Fits p.0) (ok_is (make a b, afterb) (z, rest) eb)
+    (subst (λ (t : List ℕ). Takes bytes t afterb) (sym (spelled a b)) (Takes-then bytes (sa a) aftera (sb b) afterb wa wb), fit a b ha hb)))
 
-pub again2 : {A B Z : Type 0} {sa : A → List ℕ} {fa : A → Type 0} {ra : List ℕ → Reads A} {sb : B → List ℕ} {fb : B → Type 0} {rb : List ℕ → Reads B} (pa : IsFormat sa fa ra) (pb : IsFormat sb fb rb) (make : A → B → Z) (a : A) (b : B) (rest : List ℕ) → fa a → fb b
+pub again2 : {A B Z : Type 0} {sa : A → List ℕ} {fa : A → Type 0} {ra : List ℕ → Reads A} {sb : B → List ℕ} {fb : B → Type 0} {rb : List ℕ → Reads B}
+    (pa : IsFormat sa fa ra) (pb : IsFormat sb fb rb) (make : A → B → Z) (a : A) (b : B) (rest : List ℕ) → fa a → fb b
     → reads2 ra rb make ((sa a ++ sb b) ++ rest) ≡ Ok (make a b, rest)
 again2 {A} {B} {Z} {sa} {fa} {ra} {sb} {fb} {rb} pa pb make a b rest ha hb =
     ap (reads2 ra rb make) (append_assoc (sa a) (sb b) rest) ∙ rw (pa.again a (sb b ++ rest) ha, pb.again b rest hb) refl
@@ -122,73 +127,171 @@ again2 {A} {B} {Z} {sa} {fa} {ra} {sb} {fb} {rb} pa pb make a b rest ha hb =
 abbrev pub reads3 : {A B C Z : Type 0} (ra : List ℕ → Reads A) (rb : List ℕ → Reads B) (rc : List ℕ → Reads C) → (A → B → C → Z) → List ℕ → Reads Z
 reads3 ra rb rc make bytes = ra bytes >>= λ xa. (rb xa.1 >>= λ xb. (rc xb.1 >>= λ xc. Ok (make xa.0 xb.0 xc.0, xc.1)))
 
-pub takes3 : {A B C Z : Type 0} {sa : A → List ℕ} {fa : A → Type 0} {ra : List ℕ → Reads A} {sb : B → List ℕ} {fb : B → Type 0} {rb : List ℕ → Reads B} {sc : C → List ℕ} {fc : C → Type 0} {rc : List ℕ → Reads C} (pa : IsFormat sa fa ra) (pb : IsFormat sb fb rb) (pc : IsFormat sc fc rc) (make : A → B → C → Z) (spell : Z → List ℕ) (Fits : Z → Type 0)
+pub takes3 : {A B C Z : Type 0} {sa : A → List ℕ} {fa : A → Type 0} {ra : List ℕ → Reads A} {sb : B → List ℕ} {fb : B → Type 0} {rb : List ℕ → Reads B} {sc : C
+    → List ℕ} {fc : C → Type 0} {rc : List ℕ → Reads C} (pa : IsFormat sa fa ra) (pb : IsFormat sb fb rb) (pc : IsFormat sc fc rc) (make : A → B → C → Z)
+    (spell : Z → List ℕ) (Fits : Z → Type 0)
     → ((a : A) (b : B) (c : C) → spell (make a b c) ≡ sa a ++ sb b ++ sc c) → ((a : A) (b : B) (c : C) → fa a → fb b → fc c → Fits (make a b c))
     → TakesBy spell Fits (reads3 ra rb rc make)
 takes3 {A} {B} {C} {Z} {sa} {fa} {ra} {sb} {fb} {rb} {sc} {fc} {rc} pa pb pc make spell Fits spelled fit bytes z rest fits e =
-    first_part pa (λ xa. (rb xa.1 >>= λ xb. (rc xb.1 >>= λ xc. Ok (make xa.0 xb.0 xc.0, xc.1)))) bytes z rest (Takes bytes (spell z) rest × Fits z) fits e (λ a aftera wa ha ea.
-    first_part pb (λ xb. (rc xb.1 >>= λ xc. Ok (make a xb.0 xc.0, xc.1))) aftera z rest (Takes bytes (spell z) rest × Fits z) wa.rest_fits ea (λ b afterb wb hb eb.
+    first_part pa (λ xa. (rb xa.1 >>= λ xb. (rc xb.1 >>= λ xc. Ok (make xa.0 xb.0 xc.0, xc.1)))) bytes z rest
+    (Takes bytes (spell z) rest × Fits z) fits e (λ a aftera wa ha ea.
+    first_part pb (λ xb. (rc xb.1 >>= λ xc. Ok (make a xb.0 xc.0, xc.1))) aftera z rest
+    (Takes bytes (spell z) rest × Fits z) wa.rest_fits ea (λ b afterb wb hb eb.
     first_part pc (λ xc. Ok (make a b xc.0, xc.1)) afterb z rest (Takes bytes (spell z) rest × Fits z) wb.rest_fits eb (λ c afterc wc hc ec.
-    subst (λ (p : Z × List ℕ). Takes bytes (spell p.0) p.1 × Fits p.0) (ok_is (make a b c, afterc) (z, rest) ec) (subst (λ (t : List ℕ). Takes bytes t afterc) (sym (spelled a b c)) (Takes-then bytes (sa a ++ sb b) afterb (sc c) afterc (Takes-then bytes (sa a) aftera (sb b) afterb wa wb) wc), fit a b c ha hb hc))))
+    subst (λ (p : Z × List ℕ). Takes bytes (spell p.0) p.1 × Fits p.0) (ok_is (make a b c, afterc) (z, rest) ec) (
+      subst (λ (t : List ℕ). Takes bytes t afterc) (sym (spelled a b c))
+          (Takes-then bytes (sa a ++ sb b) afterb (sc c) afterc (Takes-then bytes (sa a) aftera (sb b) afterb wa wb) wc),
+      fit a b c ha hb hc,
+    ))))
 
-pub again3 : {A B C Z : Type 0} {sa : A → List ℕ} {fa : A → Type 0} {ra : List ℕ → Reads A} {sb : B → List ℕ} {fb : B → Type 0} {rb : List ℕ → Reads B} {sc : C → List ℕ} {fc : C → Type 0} {rc : List ℕ → Reads C} (pa : IsFormat sa fa ra) (pb : IsFormat sb fb rb) (pc : IsFormat sc fc rc) (make : A → B → C → Z) (a : A) (b : B) (c : C) (rest : List ℕ) → fa a → fb b → fc c
+pub again3 : {A B C Z : Type 0} {sa : A → List ℕ} {fa : A → Type 0} {ra : List ℕ → Reads A} {sb : B → List ℕ} {fb : B → Type 0} {rb : List ℕ → Reads B} {sc : C
+    → List ℕ} {fc : C → Type 0} {rc : List ℕ → Reads C} (pa : IsFormat sa fa ra) (pb : IsFormat sb fb rb) (pc : IsFormat sc fc rc) (make : A → B → C → Z)
+    (a : A) (b : B) (c : C) (rest : List ℕ) → fa a → fb b → fc c
     → reads3 ra rb rc make ((sa a ++ sb b ++ sc c) ++ rest) ≡ Ok (make a b c, rest)
 again3 {A} {B} {C} {Z} {sa} {fa} {ra} {sb} {fb} {rb} {sc} {fc} {rc} pa pb pc make a b c rest ha hb hc =
-    ap (reads3 ra rb rc make) (append_assoc (sa a ++ sb b) (sc c) rest ∙ append_assoc (sa a) (sb b) (sc c ++ rest)) ∙ rw (pa.again a (sb b ++ (sc c ++ rest)) ha, pb.again b (sc c ++ rest) hb, pc.again c rest hc) refl
+    ap (reads3 ra rb rc make) (append_assoc (sa a ++ sb b) (sc c) rest ∙ append_assoc (sa a) (sb b) (sc c ++ rest))
+    ∙ rw (pa.again a (sb b ++ (sc c ++ rest)) ha, pb.again b (sc c ++ rest) hb, pc.again c rest hc) refl
 
-abbrev pub reads4 : {A B C D Z : Type 0} (ra : List ℕ → Reads A) (rb : List ℕ → Reads B) (rc : List ℕ → Reads C) (rd : List ℕ → Reads D) → (A → B → C → D → Z) → List ℕ → Reads Z
+abbrev pub reads4 : {A B C D Z : Type 0} (ra : List ℕ → Reads A) (rb : List ℕ → Reads B) (rc : List ℕ → Reads C) (rd : List ℕ → Reads D) → (A → B → C → D → Z)
+    → List ℕ → Reads Z
 reads4 ra rb rc rd make bytes = ra bytes >>= λ xa. (rb xa.1 >>= λ xb. (rc xb.1 >>= λ xc. (rd xc.1 >>= λ xd. Ok (make xa.0 xb.0 xc.0 xd.0, xd.1))))
 
-pub takes4 : {A B C D Z : Type 0} {sa : A → List ℕ} {fa : A → Type 0} {ra : List ℕ → Reads A} {sb : B → List ℕ} {fb : B → Type 0} {rb : List ℕ → Reads B} {sc : C → List ℕ} {fc : C → Type 0} {rc : List ℕ → Reads C} {sd : D → List ℕ} {fd : D → Type 0} {rd : List ℕ → Reads D} (pa : IsFormat sa fa ra) (pb : IsFormat sb fb rb) (pc : IsFormat sc fc rc) (pd : IsFormat sd fd rd) (make : A → B → C → D → Z) (spell : Z → List ℕ) (Fits : Z → Type 0)
-    → ((a : A) (b : B) (c : C) (d : D) → spell (make a b c d) ≡ sa a ++ sb b ++ sc c ++ sd d) → ((a : A) (b : B) (c : C) (d : D) → fa a → fb b → fc c → fd d → Fits (make a b c d))
+pub takes4 : {A B C D Z : Type 0} {sa : A → List ℕ} {fa : A → Type 0} {ra : List ℕ → Reads A} {sb : B → List ℕ} {fb : B → Type 0} {rb : List ℕ → Reads B}
+    {sc : C → List ℕ} {fc : C → Type 0} {rc : List ℕ → Reads C} {sd : D → List ℕ} {fd : D → Type 0} {rd : List ℕ → Reads D} (pa : IsFormat sa fa ra)
+    (pb : IsFormat sb fb rb) (pc : IsFormat sc fc rc) (pd : IsFormat sd fd rd) (make : A → B → C → D → Z) (spell : Z → List ℕ) (Fits : Z → Type 0)
+    → ((a : A) (b : B) (c : C) (d : D) → spell (make a b c d) ≡ sa a ++ sb b ++ sc c ++ sd d)
+    → ((a : A) (b : B) (c : C) (d : D) → fa a → fb b → fc c → fd d → Fits (make a b c d))
     → TakesBy spell Fits (reads4 ra rb rc rd make)
 takes4 {A} {B} {C} {D} {Z} {sa} {fa} {ra} {sb} {fb} {rb} {sc} {fc} {rc} {sd} {fd} {rd} pa pb pc pd make spell Fits spelled fit bytes z rest fits e =
-    first_part pa (λ xa. (rb xa.1 >>= λ xb. (rc xb.1 >>= λ xc. (rd xc.1 >>= λ xd. Ok (make xa.0 xb.0 xc.0 xd.0, xd.1))))) bytes z rest (Takes bytes (spell z) rest × Fits z) fits e (λ a aftera wa ha ea.
-    first_part pb (λ xb. (rc xb.1 >>= λ xc. (rd xc.1 >>= λ xd. Ok (make a xb.0 xc.0 xd.0, xd.1)))) aftera z rest (Takes bytes (spell z) rest × Fits z) wa.rest_fits ea (λ b afterb wb hb eb.
-    first_part pc (λ xc. (rd xc.1 >>= λ xd. Ok (make a b xc.0 xd.0, xd.1))) afterb z rest (Takes bytes (spell z) rest × Fits z) wb.rest_fits eb (λ c afterc wc hc ec.
+    first_part pa (λ xa. (rb xa.1 >>= λ xb. (rc xb.1 >>= λ xc. (rd xc.1 >>= λ xd. Ok (make xa.0 xb.0 xc.0 xd.0, xd.1))))) bytes z rest
+    (Takes bytes (spell z) rest × Fits z) fits e (λ a aftera wa ha ea.
+    first_part pb (λ xb. (rc xb.1 >>= λ xc. (rd xc.1 >>= λ xd. Ok (make a xb.0 xc.0 xd.0, xd.1)))) aftera z rest
+    (Takes bytes (spell z) rest × Fits z) wa.rest_fits ea (λ b afterb wb hb eb.
+    first_part pc (λ xc. (rd xc.1 >>= λ xd. Ok (make a b xc.0 xd.0, xd.1))) afterb z rest
+    (Takes bytes (spell z) rest × Fits z) wb.rest_fits eb (λ c afterc wc hc ec.
     first_part pd (λ xd. Ok (make a b c xd.0, xd.1)) afterc z rest (Takes bytes (spell z) rest × Fits z) wc.rest_fits ec (λ d afterd wd hd ed.
-    subst (λ (p : Z × List ℕ). Takes bytes (spell p.0) p.1 × Fits p.0) (ok_is (make a b c d, afterd) (z, rest) ed) (subst (λ (t : List ℕ). Takes bytes t afterd) (sym (spelled a b c d)) (Takes-then bytes (sa a ++ sb b ++ sc c) afterc (sd d) afterd (Takes-then bytes (sa a ++ sb b) afterb (sc c) afterc (Takes-then bytes (sa a) aftera (sb b) afterb wa wb) wc) wd), fit a b c d ha hb hc hd)))))
+    subst (λ (p : Z × List ℕ). Takes bytes (spell p.0) p.1 × Fits p.0) (ok_is (make a b c d, afterd) (z, rest) ed) (
+      subst (λ (t : List ℕ). Takes bytes t afterd) (sym (spelled a b c d))
+          (Takes-then bytes (sa a ++ sb b ++ sc c) afterc (sd d) afterd
+          (Takes-then bytes (sa a ++ sb b) afterb (sc c) afterc (Takes-then bytes (sa a) aftera (sb b) afterb wa wb) wc) wd),
+      fit a b c d ha hb hc hd,
+    )))))
 
-pub again4 : {A B C D Z : Type 0} {sa : A → List ℕ} {fa : A → Type 0} {ra : List ℕ → Reads A} {sb : B → List ℕ} {fb : B → Type 0} {rb : List ℕ → Reads B} {sc : C → List ℕ} {fc : C → Type 0} {rc : List ℕ → Reads C} {sd : D → List ℕ} {fd : D → Type 0} {rd : List ℕ → Reads D} (pa : IsFormat sa fa ra) (pb : IsFormat sb fb rb) (pc : IsFormat sc fc rc) (pd : IsFormat sd fd rd) (make : A → B → C → D → Z) (a : A) (b : B) (c : C) (d : D) (rest : List ℕ) → fa a → fb b → fc c → fd d
+pub again4 : {A B C D Z : Type 0} {sa : A → List ℕ} {fa : A → Type 0} {ra : List ℕ → Reads A} {sb : B → List ℕ} {fb : B → Type 0} {rb : List ℕ → Reads B}
+    {sc : C → List ℕ} {fc : C → Type 0} {rc : List ℕ → Reads C} {sd : D → List ℕ} {fd : D → Type 0} {rd : List ℕ → Reads D} (pa : IsFormat sa fa ra)
+    (pb : IsFormat sb fb rb) (pc : IsFormat sc fc rc) (pd : IsFormat sd fd rd) (make : A → B → C → D → Z) (a : A) (b : B) (c : C) (d : D) (rest : List ℕ) → fa a
+    → fb b → fc c → fd d
     → reads4 ra rb rc rd make ((sa a ++ sb b ++ sc c ++ sd d) ++ rest) ≡ Ok (make a b c d, rest)
 again4 {A} {B} {C} {D} {Z} {sa} {fa} {ra} {sb} {fb} {rb} {sc} {fc} {rc} {sd} {fd} {rd} pa pb pc pd make a b c d rest ha hb hc hd =
-    ap (reads4 ra rb rc rd make) (append_assoc (sa a ++ sb b ++ sc c) (sd d) rest ∙ append_assoc (sa a ++ sb b) (sc c) (sd d ++ rest) ∙ append_assoc (sa a) (sb b) (sc c ++ (sd d ++ rest))) ∙ rw (pa.again a (sb b ++ (sc c ++ (sd d ++ rest))) ha, pb.again b (sc c ++ (sd d ++ rest)) hb, pc.again c (sd d ++ rest) hc, pd.again d rest hd) refl
+    ap (reads4 ra rb rc rd make) (append_assoc (sa a ++ sb b ++ sc c) (sd d) rest ∙ append_assoc (sa a ++ sb b) (sc c) (sd d ++ rest)
+    ∙ append_assoc (sa a) (sb b) (sc c ++ (sd d ++ rest))) ∙ rw (
+      pa.again a (sb b ++ (sc c ++ (sd d ++ rest))) ha,
+      pb.again b (sc c ++ (sd d ++ rest)) hb,
+      pc.again c (sd d ++ rest) hc,
+      pd.again d rest hd,
+    ) refl
 
-abbrev pub reads5 : {A B C D E Z : Type 0} (ra : List ℕ → Reads A) (rb : List ℕ → Reads B) (rc : List ℕ → Reads C) (rd : List ℕ → Reads D) (re : List ℕ → Reads E) → (A → B → C → D → E → Z) → List ℕ → Reads Z
-reads5 ra rb rc rd re make bytes = ra bytes >>= λ xa. (rb xa.1 >>= λ xb. (rc xb.1 >>= λ xc. (rd xc.1 >>= λ xd. (re xd.1 >>= λ xe. Ok (make xa.0 xb.0 xc.0 xd.0 xe.0, xe.1)))))
+abbrev pub reads5 : {A B C D E Z : Type 0} (ra : List ℕ → Reads A) (rb : List ℕ → Reads B) (rc : List ℕ → Reads C) (rd : List ℕ → Reads D)
+    (re : List ℕ → Reads E) → (A → B → C → D → E → Z) → List ℕ → Reads Z
+reads5 ra rb rc rd re make bytes =
+    ra bytes >>= λ xa. (rb xa.1 >>= λ xb. (rc xb.1 >>= λ xc. (rd xc.1 >>= λ xd. (re xd.1 >>= λ xe. Ok (make xa.0 xb.0 xc.0 xd.0 xe.0, xe.1)))))
 
-pub takes5 : {A B C D E Z : Type 0} {sa : A → List ℕ} {fa : A → Type 0} {ra : List ℕ → Reads A} {sb : B → List ℕ} {fb : B → Type 0} {rb : List ℕ → Reads B} {sc : C → List ℕ} {fc : C → Type 0} {rc : List ℕ → Reads C} {sd : D → List ℕ} {fd : D → Type 0} {rd : List ℕ → Reads D} {se : E → List ℕ} {fe : E → Type 0} {re : List ℕ → Reads E} (pa : IsFormat sa fa ra) (pb : IsFormat sb fb rb) (pc : IsFormat sc fc rc) (pd : IsFormat sd fd rd) (pe : IsFormat se fe re) (make : A → B → C → D → E → Z) (spell : Z → List ℕ) (Fits : Z → Type 0)
-    → ((a : A) (b : B) (c : C) (d : D) (e : E) → spell (make a b c d e) ≡ sa a ++ sb b ++ sc c ++ sd d ++ se e) → ((a : A) (b : B) (c : C) (d : D) (e : E) → fa a → fb b → fc c → fd d → fe e → Fits (make a b c d e))
+pub takes5 : {A B C D E Z : Type 0} {sa : A → List ℕ} {fa : A → Type 0} {ra : List ℕ → Reads A} {sb : B → List ℕ} {fb : B → Type 0} {rb : List ℕ → Reads B}
+    {sc : C → List ℕ} {fc : C → Type 0} {rc : List ℕ → Reads C} {sd : D → List ℕ} {fd : D → Type 0} {rd : List ℕ → Reads D} {se : E → List ℕ} {fe : E → Type 0}
+    {re : List ℕ → Reads E} (pa : IsFormat sa fa ra) (pb : IsFormat sb fb rb) (pc : IsFormat sc fc rc) (pd : IsFormat sd fd rd) (pe : IsFormat se fe re)
+    (make : A → B → C → D → E → Z) (spell : Z → List ℕ) (Fits : Z → Type 0)
+    → ((a : A) (b : B) (c : C) (d : D) (e : E) → spell (make a b c d e) ≡ sa a ++ sb b ++ sc c ++ sd d ++ se e)
+    → ((a : A) (b : B) (c : C) (d : D) (e : E) → fa a → fb b → fc c → fd d → fe e → Fits (make a b c d e))
     → TakesBy spell Fits (reads5 ra rb rc rd re make)
-takes5 {A} {B} {C} {D} {E} {Z} {sa} {fa} {ra} {sb} {fb} {rb} {sc} {fc} {rc} {sd} {fd} {rd} {se} {fe} {re} pa pb pc pd pe make spell Fits spelled fit bytes z rest fits e =
-    first_part pa (λ xa. (rb xa.1 >>= λ xb. (rc xb.1 >>= λ xc. (rd xc.1 >>= λ xd. (re xd.1 >>= λ xe. Ok (make xa.0 xb.0 xc.0 xd.0 xe.0, xe.1)))))) bytes z rest (Takes bytes (spell z) rest × Fits z) fits e (λ a aftera wa ha ea.
-    first_part pb (λ xb. (rc xb.1 >>= λ xc. (rd xc.1 >>= λ xd. (re xd.1 >>= λ xe. Ok (make a xb.0 xc.0 xd.0 xe.0, xe.1))))) aftera z rest (Takes bytes (spell z) rest × Fits z) wa.rest_fits ea (λ b afterb wb hb eb.
-    first_part pc (λ xc. (rd xc.1 >>= λ xd. (re xd.1 >>= λ xe. Ok (make a b xc.0 xd.0 xe.0, xe.1)))) afterb z rest (Takes bytes (spell z) rest × Fits z) wb.rest_fits eb (λ c afterc wc hc ec.
-    first_part pd (λ xd. (re xd.1 >>= λ xe. Ok (make a b c xd.0 xe.0, xe.1))) afterc z rest (Takes bytes (spell z) rest × Fits z) wc.rest_fits ec (λ d afterd wd hd ed.
+takes5 {A} {B} {C} {D} {E} {Z} {sa} {fa} {ra} {sb} {fb} {rb} {sc} {fc} {rc} {sd} {fd} {rd} {se} {fe} {re} pa pb pc pd pe make spell Fits spelled
+    fit bytes z rest fits e =
+    first_part pa (λ xa. (rb xa.1 >>= λ xb. (rc xb.1 >>= λ xc. (rd xc.1 >>= λ xd. (re xd.1 >>= λ xe. Ok (make xa.0 xb.0 xc.0 xd.0 xe.0, xe.1)))))) bytes z rest
+    (Takes bytes (spell z) rest × Fits z) fits e (λ a aftera wa ha ea.
+    first_part pb (λ xb. (rc xb.1 >>= λ xc. (rd xc.1 >>= λ xd. (re xd.1 >>= λ xe. Ok (make a xb.0 xc.0 xd.0 xe.0, xe.1))))) aftera z rest
+    (Takes bytes (spell z) rest × Fits z) wa.rest_fits ea (λ b afterb wb hb eb.
+    first_part pc (λ xc. (rd xc.1 >>= λ xd. (re xd.1 >>= λ xe. Ok (make a b xc.0 xd.0 xe.0, xe.1)))) afterb z rest
+    (Takes bytes (spell z) rest × Fits z) wb.rest_fits eb (λ c afterc wc hc ec.
+    first_part pd (λ xd. (re xd.1 >>= λ xe. Ok (make a b c xd.0 xe.0, xe.1))) afterc z rest
+    (Takes bytes (spell z) rest × Fits z) wc.rest_fits ec (λ d afterd wd hd ed.
     first_part pe (λ xe. Ok (make a b c d xe.0, xe.1)) afterd z rest (Takes bytes (spell z) rest × Fits z) wd.rest_fits ed (λ f afterf wf hf ef.
-    subst (λ (p : Z × List ℕ). Takes bytes (spell p.0) p.1 × Fits p.0) (ok_is (make a b c d f, afterf) (z, rest) ef) (subst (λ (t : List ℕ). Takes bytes t afterf) (sym (spelled a b c d f)) (Takes-then bytes (sa a ++ sb b ++ sc c ++ sd d) afterd (se f) afterf (Takes-then bytes (sa a ++ sb b ++ sc c) afterc (sd d) afterd (Takes-then bytes (sa a ++ sb b) afterb (sc c) afterc (Takes-then bytes (sa a) aftera (sb b) afterb wa wb) wc) wd) wf), fit a b c d f ha hb hc hd hf))))))
+    subst (λ (p : Z × List ℕ). Takes bytes (spell p.0) p.1 × Fits p.0) (ok_is (make a b c d f, afterf) (z, rest) ef) (
+      subst (λ (t : List ℕ). Takes bytes t afterf) (sym (spelled a b c d f))
+          (Takes-then bytes (sa a ++ sb b ++ sc c ++ sd d) afterd (se f) afterf
+          (Takes-then bytes (sa a ++ sb b ++ sc c) afterc (sd d) afterd
+          (Takes-then bytes (sa a ++ sb b) afterb (sc c) afterc (Takes-then bytes (sa a) aftera (sb b) afterb wa wb) wc) wd) wf),
+      fit a b c d f ha hb hc hd hf,
+    ))))))
 
-pub again5 : {A B C D E Z : Type 0} {sa : A → List ℕ} {fa : A → Type 0} {ra : List ℕ → Reads A} {sb : B → List ℕ} {fb : B → Type 0} {rb : List ℕ → Reads B} {sc : C → List ℕ} {fc : C → Type 0} {rc : List ℕ → Reads C} {sd : D → List ℕ} {fd : D → Type 0} {rd : List ℕ → Reads D} {se : E → List ℕ} {fe : E → Type 0} {re : List ℕ → Reads E} (pa : IsFormat sa fa ra) (pb : IsFormat sb fb rb) (pc : IsFormat sc fc rc) (pd : IsFormat sd fd rd) (pe : IsFormat se fe re) (make : A → B → C → D → E → Z) (a : A) (b : B) (c : C) (d : D) (e : E) (rest : List ℕ) → fa a → fb b → fc c → fd d → fe e
+pub again5 : {A B C D E Z : Type 0} {sa : A → List ℕ} {fa : A → Type 0} {ra : List ℕ → Reads A} {sb : B → List ℕ} {fb : B → Type 0} {rb : List ℕ → Reads B}
+    {sc : C → List ℕ} {fc : C → Type 0} {rc : List ℕ → Reads C} {sd : D → List ℕ} {fd : D → Type 0} {rd : List ℕ → Reads D} {se : E → List ℕ} {fe : E → Type 0}
+    {re : List ℕ → Reads E} (pa : IsFormat sa fa ra) (pb : IsFormat sb fb rb) (pc : IsFormat sc fc rc) (pd : IsFormat sd fd rd) (pe : IsFormat se fe re)
+    (make : A → B → C → D → E → Z) (a : A) (b : B) (c : C) (d : D) (e : E) (rest : List ℕ) → fa a → fb b → fc c → fd d → fe e
     → reads5 ra rb rc rd re make ((sa a ++ sb b ++ sc c ++ sd d ++ se e) ++ rest) ≡ Ok (make a b c d e, rest)
 again5 {A} {B} {C} {D} {E} {Z} {sa} {fa} {ra} {sb} {fb} {rb} {sc} {fc} {rc} {sd} {fd} {rd} {se} {fe} {re} pa pb pc pd pe make a b c d e rest ha hb hc hd he =
-    ap (reads5 ra rb rc rd re make) (append_assoc (sa a ++ sb b ++ sc c ++ sd d) (se e) rest ∙ append_assoc (sa a ++ sb b ++ sc c) (sd d) (se e ++ rest) ∙ append_assoc (sa a ++ sb b) (sc c) (sd d ++ (se e ++ rest)) ∙ append_assoc (sa a) (sb b) (sc c ++ (sd d ++ (se e ++ rest)))) ∙ rw (pa.again a (sb b ++ (sc c ++ (sd d ++ (se e ++ rest)))) ha, pb.again b (sc c ++ (sd d ++ (se e ++ rest))) hb, pc.again c (sd d ++ (se e ++ rest)) hc, pd.again d (se e ++ rest) hd, pe.again e rest he) refl
+    ap (reads5 ra rb rc rd re make) (append_assoc (sa a ++ sb b ++ sc c ++ sd d) (se e) rest ∙ append_assoc (sa a ++ sb b ++ sc c) (sd d) (se e ++ rest)
+    ∙ append_assoc (sa a ++ sb b) (sc c) (sd d ++ (se e ++ rest)) ∙ append_assoc (sa a) (sb b) (sc c ++ (sd d ++ (se e ++ rest))))
+    ∙ rw (
+      pa.again a (sb b ++ (sc c ++ (sd d ++ (se e ++ rest)))) ha,
+      pb.again b (sc c ++ (sd d ++ (se e ++ rest))) hb,
+      pc.again c (sd d ++ (se e ++ rest)) hc,
+      pd.again d (se e ++ rest) hd,
+      pe.again e rest he,
+    ) refl
 
-abbrev pub reads6 : {A B C D E F Z : Type 0} (ra : List ℕ → Reads A) (rb : List ℕ → Reads B) (rc : List ℕ → Reads C) (rd : List ℕ → Reads D) (re : List ℕ → Reads E) (rf : List ℕ → Reads F) → (A → B → C → D → E → F → Z) → List ℕ → Reads Z
-reads6 ra rb rc rd re rf make bytes = ra bytes >>= λ xa. (rb xa.1 >>= λ xb. (rc xb.1 >>= λ xc. (rd xc.1 >>= λ xd. (re xd.1 >>= λ xe. (rf xe.1 >>= λ xf. Ok (make xa.0 xb.0 xc.0 xd.0 xe.0 xf.0, xf.1))))))
+abbrev pub reads6 : {A B C D E F Z : Type 0} (ra : List ℕ → Reads A) (rb : List ℕ → Reads B) (rc : List ℕ → Reads C) (rd : List ℕ → Reads D)
+    (re : List ℕ → Reads E) (rf : List ℕ → Reads F) → (A → B → C → D → E → F → Z) → List ℕ → Reads Z
+reads6 ra rb rc rd re rf make bytes =
+    ra bytes
+    >>= λ xa. (rb xa.1 >>= λ xb. (rc xb.1 >>= λ xc. (rd xc.1 >>= λ xd. (re xd.1 >>= λ xe. (rf xe.1 >>= λ xf. Ok (make xa.0 xb.0 xc.0 xd.0 xe.0 xf.0, xf.1))))))
 
-pub takes6 : {A B C D E F Z : Type 0} {sa : A → List ℕ} {fa : A → Type 0} {ra : List ℕ → Reads A} {sb : B → List ℕ} {fb : B → Type 0} {rb : List ℕ → Reads B} {sc : C → List ℕ} {fc : C → Type 0} {rc : List ℕ → Reads C} {sd : D → List ℕ} {fd : D → Type 0} {rd : List ℕ → Reads D} {se : E → List ℕ} {fe : E → Type 0} {re : List ℕ → Reads E} {sf : F → List ℕ} {ff : F → Type 0} {rf : List ℕ → Reads F} (pa : IsFormat sa fa ra) (pb : IsFormat sb fb rb) (pc : IsFormat sc fc rc) (pd : IsFormat sd fd rd) (pe : IsFormat se fe re) (pf : IsFormat sf ff rf) (make : A → B → C → D → E → F → Z) (spell : Z → List ℕ) (Fits : Z → Type 0)
-    → ((a : A) (b : B) (c : C) (d : D) (e : E) (f : F) → spell (make a b c d e f) ≡ sa a ++ sb b ++ sc c ++ sd d ++ se e ++ sf f) → ((a : A) (b : B) (c : C) (d : D) (e : E) (f : F) → fa a → fb b → fc c → fd d → fe e → ff f → Fits (make a b c d e f))
+pub takes6 : {A B C D E F Z : Type 0} {sa : A → List ℕ} {fa : A → Type 0} {ra : List ℕ → Reads A} {sb : B → List ℕ} {fb : B → Type 0} {rb : List ℕ → Reads B}
+    {sc : C → List ℕ} {fc : C → Type 0} {rc : List ℕ → Reads C} {sd : D → List ℕ} {fd : D → Type 0} {rd : List ℕ → Reads D} {se : E → List ℕ} {fe : E → Type 0}
+    {re : List ℕ → Reads E} {sf : F → List ℕ} {ff : F → Type 0} {rf : List ℕ → Reads F} (pa : IsFormat sa fa ra) (pb : IsFormat sb fb rb)
+    (pc : IsFormat sc fc rc) (pd : IsFormat sd fd rd) (pe : IsFormat se fe re) (pf : IsFormat sf ff rf) (make : A → B → C → D → E → F → Z)
+    (spell : Z → List ℕ) (Fits : Z → Type 0)
+    → ((a : A) (b : B) (c : C) (d : D) (e : E) (f : F) → spell (make a b c d e f) ≡ sa a ++ sb b ++ sc c ++ sd d ++ se e ++ sf f)
+    → ((a : A) (b : B) (c : C) (d : D) (e : E) (f : F) → fa a → fb b → fc c → fd d → fe e → ff f → Fits (make a b c d e f))
     → TakesBy spell Fits (reads6 ra rb rc rd re rf make)
-takes6 {A} {B} {C} {D} {E} {F} {Z} {sa} {fa} {ra} {sb} {fb} {rb} {sc} {fc} {rc} {sd} {fd} {rd} {se} {fe} {re} {sf} {ff} {rf} pa pb pc pd pe pf make spell Fits spelled fit bytes z rest fits e =
-    first_part pa (λ xa. (rb xa.1 >>= λ xb. (rc xb.1 >>= λ xc. (rd xc.1 >>= λ xd. (re xd.1 >>= λ xe. (rf xe.1 >>= λ xf. Ok (make xa.0 xb.0 xc.0 xd.0 xe.0 xf.0, xf.1))))))) bytes z rest (Takes bytes (spell z) rest × Fits z) fits e (λ a aftera wa ha ea.
-    first_part pb (λ xb. (rc xb.1 >>= λ xc. (rd xc.1 >>= λ xd. (re xd.1 >>= λ xe. (rf xe.1 >>= λ xf. Ok (make a xb.0 xc.0 xd.0 xe.0 xf.0, xf.1)))))) aftera z rest (Takes bytes (spell z) rest × Fits z) wa.rest_fits ea (λ b afterb wb hb eb.
-    first_part pc (λ xc. (rd xc.1 >>= λ xd. (re xd.1 >>= λ xe. (rf xe.1 >>= λ xf. Ok (make a b xc.0 xd.0 xe.0 xf.0, xf.1))))) afterb z rest (Takes bytes (spell z) rest × Fits z) wb.rest_fits eb (λ c afterc wc hc ec.
-    first_part pd (λ xd. (re xd.1 >>= λ xe. (rf xe.1 >>= λ xf. Ok (make a b c xd.0 xe.0 xf.0, xf.1)))) afterc z rest (Takes bytes (spell z) rest × Fits z) wc.rest_fits ec (λ d afterd wd hd ed.
-    first_part pe (λ xe. (rf xe.1 >>= λ xf. Ok (make a b c d xe.0 xf.0, xf.1))) afterd z rest (Takes bytes (spell z) rest × Fits z) wd.rest_fits ed (λ e aftere we he ee.
+takes6 {A} {B} {C} {D} {E} {F} {Z} {sa} {fa} {ra} {sb} {fb} {rb} {sc} {fc} {rc} {sd} {fd} {rd} {se} {fe} {re} {sf} {ff} {rf} pa pb pc pd pe pf make spell Fits
+    spelled fit bytes z rest fits e =
+    first_part pa
+    (λ xa.
+    (rb xa.1 >>= λ xb. (rc xb.1 >>= λ xc. (rd xc.1 >>= λ xd. (re xd.1 >>= λ xe. (rf xe.1 >>= λ xf. Ok (make xa.0 xb.0 xc.0 xd.0 xe.0 xf.0, xf.1))))))) bytes
+    z rest (Takes bytes (spell z) rest × Fits z) fits e (λ a aftera wa ha ea.
+    first_part pb (λ xb. (rc xb.1 >>= λ xc. (rd xc.1 >>= λ xd. (re xd.1 >>= λ xe. (rf xe.1 >>= λ xf. Ok (make a xb.0 xc.0 xd.0 xe.0 xf.0, xf.1)))))) aftera z
+    rest (Takes bytes (spell z) rest × Fits z) wa.rest_fits ea (λ b afterb wb hb eb.
+    first_part pc (λ xc. (rd xc.1 >>= λ xd. (re xd.1 >>= λ xe. (rf xe.1 >>= λ xf. Ok (make a b xc.0 xd.0 xe.0 xf.0, xf.1))))) afterb z rest
+    (Takes bytes (spell z) rest × Fits z) wb.rest_fits eb (λ c afterc wc hc ec.
+    first_part pd (λ xd. (re xd.1 >>= λ xe. (rf xe.1 >>= λ xf. Ok (make a b c xd.0 xe.0 xf.0, xf.1)))) afterc z rest
+    (Takes bytes (spell z) rest × Fits z) wc.rest_fits ec (λ d afterd wd hd ed.
+    first_part pe (λ xe. (rf xe.1 >>= λ xf. Ok (make a b c d xe.0 xf.0, xf.1))) afterd z rest
+    (Takes bytes (spell z) rest × Fits z) wd.rest_fits ed (λ e aftere we he ee.
     first_part pf (λ xf. Ok (make a b c d e xf.0, xf.1)) aftere z rest (Takes bytes (spell z) rest × Fits z) we.rest_fits ee (λ f afterf wf hf ef.
-    subst (λ (p : Z × List ℕ). Takes bytes (spell p.0) p.1 × Fits p.0) (ok_is (make a b c d e f, afterf) (z, rest) ef) (subst (λ (t : List ℕ). Takes bytes t afterf) (sym (spelled a b c d e f)) (Takes-then bytes (sa a ++ sb b ++ sc c ++ sd d ++ se e) aftere (sf f) afterf (Takes-then bytes (sa a ++ sb b ++ sc c ++ sd d) afterd (se e) aftere (Takes-then bytes (sa a ++ sb b ++ sc c) afterc (sd d) afterd (Takes-then bytes (sa a ++ sb b) afterb (sc c) afterc (Takes-then bytes (sa a) aftera (sb b) afterb wa wb) wc) wd) we) wf), fit a b c d e f ha hb hc hd he hf)))))))
+    subst (λ (p : Z × List ℕ). Takes bytes (spell p.0) p.1 × Fits p.0) (ok_is (make a b c d e f, afterf) (z, rest) ef) (
+      subst (λ (t : List ℕ). Takes bytes t afterf) (sym (spelled a b c d e f))
+          (Takes-then bytes (sa a ++ sb b ++ sc c ++ sd d ++ se e) aftere (sf f) afterf
+          (Takes-then bytes (sa a ++ sb b ++ sc c ++ sd d) afterd (se e) aftere
+          (Takes-then bytes (sa a ++ sb b ++ sc c) afterc (sd d) afterd
+          (Takes-then bytes (sa a ++ sb b) afterb (sc c) afterc (Takes-then bytes (sa a) aftera (sb b) afterb wa wb) wc) wd) we) wf),
+      fit a b c d e f ha hb hc hd he hf,
+    )))))))
 
-pub again6 : {A B C D E F Z : Type 0} {sa : A → List ℕ} {fa : A → Type 0} {ra : List ℕ → Reads A} {sb : B → List ℕ} {fb : B → Type 0} {rb : List ℕ → Reads B} {sc : C → List ℕ} {fc : C → Type 0} {rc : List ℕ → Reads C} {sd : D → List ℕ} {fd : D → Type 0} {rd : List ℕ → Reads D} {se : E → List ℕ} {fe : E → Type 0} {re : List ℕ → Reads E} {sf : F → List ℕ} {ff : F → Type 0} {rf : List ℕ → Reads F} (pa : IsFormat sa fa ra) (pb : IsFormat sb fb rb) (pc : IsFormat sc fc rc) (pd : IsFormat sd fd rd) (pe : IsFormat se fe re) (pf : IsFormat sf ff rf) (make : A → B → C → D → E → F → Z) (a : A) (b : B) (c : C) (d : D) (e : E) (f : F) (rest : List ℕ) → fa a → fb b → fc c → fd d → fe e → ff f
+pub again6 : {A B C D E F Z : Type 0} {sa : A → List ℕ} {fa : A → Type 0} {ra : List ℕ → Reads A} {sb : B → List ℕ} {fb : B → Type 0} {rb : List ℕ → Reads B}
+    {sc : C → List ℕ} {fc : C → Type 0} {rc : List ℕ → Reads C} {sd : D → List ℕ} {fd : D → Type 0} {rd : List ℕ → Reads D} {se : E → List ℕ} {fe : E → Type 0}
+    {re : List ℕ → Reads E} {sf : F → List ℕ} {ff : F → Type 0} {rf : List ℕ → Reads F} (pa : IsFormat sa fa ra) (pb : IsFormat sb fb rb)
+    (pc : IsFormat sc fc rc) (pd : IsFormat sd fd rd) (pe : IsFormat se fe re) (pf : IsFormat sf ff rf) (make : A → B → C → D → E → F → Z) (a : A) (b : B)
+    (c : C) (d : D) (e : E) (f : F) (rest : List ℕ) → fa a → fb b → fc c → fd d → fe e → ff f
     → reads6 ra rb rc rd re rf make ((sa a ++ sb b ++ sc c ++ sd d ++ se e ++ sf f) ++ rest) ≡ Ok (make a b c d e f, rest)
-again6 {A} {B} {C} {D} {E} {F} {Z} {sa} {fa} {ra} {sb} {fb} {rb} {sc} {fc} {rc} {sd} {fd} {rd} {se} {fe} {re} {sf} {ff} {rf} pa pb pc pd pe pf make a b c d e f rest ha hb hc hd he hf =
-    ap (reads6 ra rb rc rd re rf make) (append_assoc (sa a ++ sb b ++ sc c ++ sd d ++ se e) (sf f) rest ∙ append_assoc (sa a ++ sb b ++ sc c ++ sd d) (se e) (sf f ++ rest) ∙ append_assoc (sa a ++ sb b ++ sc c) (sd d) (se e ++ (sf f ++ rest)) ∙ append_assoc (sa a ++ sb b) (sc c) (sd d ++ (se e ++ (sf f ++ rest))) ∙ append_assoc (sa a) (sb b) (sc c ++ (sd d ++ (se e ++ (sf f ++ rest))))) ∙ rw (pa.again a (sb b ++ (sc c ++ (sd d ++ (se e ++ (sf f ++ rest))))) ha, pb.again b (sc c ++ (sd d ++ (se e ++ (sf f ++ rest)))) hb, pc.again c (sd d ++ (se e ++ (sf f ++ rest))) hc, pd.again d (se e ++ (sf f ++ rest)) hd, pe.again e (sf f ++ rest) he, pf.again f rest hf) refl
+again6 {A} {B} {C} {D} {E} {F} {Z} {sa} {fa} {ra} {sb} {fb} {rb} {sc} {fc} {rc} {sd} {fd} {rd} {se} {fe} {re} {sf} {ff} {rf} pa pb pc pd pe pf make a b c d e
+    f rest ha hb hc hd he hf =
+    ap (reads6 ra rb rc rd re rf make) (append_assoc (sa a ++ sb b ++ sc c ++ sd d ++ se e) (sf f) rest
+    ∙ append_assoc (sa a ++ sb b ++ sc c ++ sd d) (se e) (sf f ++ rest) ∙ append_assoc (sa a ++ sb b ++ sc c) (sd d) (se e ++ (sf f ++ rest))
+    ∙ append_assoc (sa a ++ sb b) (sc c) (sd d ++ (se e ++ (sf f ++ rest))) ∙ append_assoc (sa a) (sb b) (sc c ++ (sd d ++ (se e ++ (sf f ++ rest)))))
+    ∙ rw (
+      pa.again a (sb b ++ (sc c ++ (sd d ++ (se e ++ (sf f ++ rest))))) ha,
+      pb.again b (sc c ++ (sd d ++ (se e ++ (sf f ++ rest)))) hb,
+      pc.again c (sd d ++ (se e ++ (sf f ++ rest))) hc,
+      pd.again d (se e ++ (sf f ++ rest)) hd,
+      pe.again e (sf f ++ rest) he,
+      pf.again f rest hf,
+    ) refl

@@ -55,8 +55,11 @@ is_admitted m = list_all has_client (rows_in m) && has_site_count (known_in m)
 joined : (k : ℕ) (s : Stamped) → Parts k s → IsSpelled s
 joined k s p = record {
   fits = (p.stamp.0, p.to.0, p.msg.0.0);
-  wireable = both (s.envelope.from == s.stamp.actor) (is_actor s.stamp.actor && (is_actor s.envelope.to && is_admitted s.envelope.msg)) (eq-eqb s.envelope.from s.stamp.actor p.from)
-      (both (is_actor s.stamp.actor) (is_actor s.envelope.to && is_admitted s.envelope.msg) p.stamp.1 (both (is_actor s.envelope.to) (is_admitted s.envelope.msg) p.to.1
+  wireable =
+      both (s.envelope.from == s.stamp.actor) (is_actor s.stamp.actor && (is_actor s.envelope.to && is_admitted s.envelope.msg))
+      (eq-eqb s.envelope.from s.stamp.actor p.from)
+      (both (is_actor s.stamp.actor) (is_actor s.envelope.to && is_admitted s.envelope.msg) p.stamp.1
+      (both (is_actor s.envelope.to) (is_admitted s.envelope.msg) p.to.1
       (both (list_all has_client (rows_in s.envelope.msg)) (has_site_count (known_in s.envelope.msg)) p.msg.0.1.0 p.msg.0.1.1)));
 }
 
@@ -70,7 +73,9 @@ part s h =
 
 envelope-takes : (k : ℕ) → 1 ≤ k → k ≤ 13 → TakesBy inside (Parts k) (envelope_at false k)
 unfolding envelope_at
-envelope-takes k low high = takes3 stamp_format (listed_format 2 is_actor) (message_format k low high) make_stamped inside (Parts k) (λ a b c. refl) (λ a b c ha hb hc. record { stamp = ha; to = hb; msg = hc; from = refl })
+envelope-takes k low high =
+    takes3 stamp_format (listed_format 2 is_actor) (message_format k low high) make_stamped inside (Parts k) (λ a b c. refl)
+    (λ a b c ha hb hc. record { stamp = ha; to = hb; msg = hc; from = refl })
 
 rebuilt : (s : Stamped) → s.envelope.from ≡ s.stamp.actor → make_stamped s.stamp s.envelope.to s.envelope.msg ≡ s
 rebuilt s e = ap (λ (from : ℕ). record { stamp = s.stamp; envelope = record { from = from; to = s.envelope.to; msg = s.envelope.msg } }) (sym e)
@@ -95,7 +100,8 @@ unfolding envelope_at
 envelope-again s rest h =
     let p = part s h in
     let b = kinds s.envelope.msg in
-    again3 stamp_format (listed_format 2 is_actor) (message_format (kind s.envelope.msg) b.0 b.1) make_stamped s.stamp s.envelope.to s.envelope.msg rest p.stamp p.to p.msg
+    again3 stamp_format (listed_format 2 is_actor) (message_format (kind s.envelope.msg) b.0 b.1) make_stamped s.stamp s.envelope.to
+    s.envelope.msg rest p.stamp p.to p.msg
     ∙ ap (λ (t : Stamped). Ok (t, rest)) (rebuilt s p.from)
 
 number-parts : (bytes : List ℕ) (n : ℕ) (rest : List ℕ) → number_at 4 bytes ≡ Ok (n, rest) → (big_number 4 bytes ≡ n) × (drop 4 bytes ≡ rest)
@@ -130,15 +136,18 @@ counted-takes (n ∷ k ∷ bytes) s fits e =
     let a = all_read-ok m.0 s m.2 in
     let text : bytes ≡ inside m.0.0 = t.0.parts ∙ ap (λ (x : List ℕ). inside m.0.0 ++ x) (no_bytes m.0.1 a.1) ∙ append-nil (inside m.0.0) in
     let whole : n ∷ k ∷ bytes ≡ head m.0.0 ++ body m.0.0.envelope.msg =
-    ap (λ (v : ℕ). v ∷ k ∷ bytes) version-is ∙ ap (λ (j : ℕ). version ∷ j ∷ bytes) (sym t.1.msg.1) ∙ ap (λ (x : List ℕ). version ∷ kind m.0.0.envelope.msg ∷ x) text in
+    ap (λ (v : ℕ). v ∷ k ∷ bytes) version-is ∙ ap (λ (j : ℕ). version ∷ j ∷ bytes) (sym t.1.msg.1)
+    ∙ ap (λ (x : List ℕ). version ∷ kind m.0.0.envelope.msg ∷ x) text in
     subst (λ (x : Stamped). (n ∷ k ∷ bytes ≡ head x ++ body x.envelope.msg) × IsSpelled x) a.0 (whole, joined k m.0.0 t.1)
 
 counted-again : (s : Stamped) → IsSpelled s → counted_at false (head s ++ body s.envelope.msg) ≡ Ok s
 unfolding counted_at
 counted-again s h =
     let b = kinds s.envelope.msg in
-    let known : (nat_le 1 (kind s.envelope.msg) && nat_le (kind s.envelope.msg) 13) ≡ true = both (nat_le 1 (kind s.envelope.msg)) (nat_le (kind s.envelope.msg) 13) (le-leb 1 (kind s.envelope.msg) b.0) (le-leb (kind s.envelope.msg) 13 b.1) in
-    let read : envelope_at false (kind s.envelope.msg) (inside s) ≡ Ok (s, []) = ap (envelope_at false (kind s.envelope.msg)) (sym (append-nil (inside s))) ∙ envelope-again s [] h in
+    let known : (nat_le 1 (kind s.envelope.msg) && nat_le (kind s.envelope.msg) 13) ≡ true =
+    both (nat_le 1 (kind s.envelope.msg)) (nat_le (kind s.envelope.msg) 13) (le-leb 1 (kind s.envelope.msg) b.0) (le-leb (kind s.envelope.msg) 13 b.1) in
+    let read : envelope_at false (kind s.envelope.msg) (inside s) ≡ Ok (s, []) =
+    ap (envelope_at false (kind s.envelope.msg)) (sym (append-nil (inside s))) ∙ envelope-again s [] h in
     rw (known, read) refl
 
 -- the tests of a frame, from the last to the first
@@ -167,13 +176,15 @@ pub record IsFound (bytes : List ℕ) (s : Stamped) (n : ℕ) : Type 0 where
   pub within : n ≤ length bytes
   pub spelled : IsSpelled s
 
-found : (bytes : List ℕ) (len : ℕ) (s : Stamped) → bytes ≡ number 4 len ++ drop 4 bytes → 4 + len ≤ length bytes → take len (drop 4 bytes) ≡ head s ++ body s.envelope.msg → IsSpelled s → IsFound bytes s (4 + len)
+found : (bytes : List ℕ) (len : ℕ) (s : Stamped) → bytes ≡ number 4 len ++ drop 4 bytes → 4 + len ≤ length bytes
+    → take len (drop 4 bytes) ≡ head s ++ body s.envelope.msg → IsSpelled s → IsFound bytes s (4 + len)
 found bytes len s front long inner spelled =
     let d = drop 4 bytes in
     let number-len = length-number 4 len in
     let rest-len : length d + 4 ≡ length bytes = omega (arith, ap length front, length-append (number 4 len) d, number-len) in
     let inner-len : length (take len d) ≡ len = omega (arith, length-take len d, rest-len) in
-    let body-len : 18 + length (body s.envelope.msg) ≡ len = omega (arith, inner-len, ap length inner, length-append (head s) (body s.envelope.msg), length-head s) in
+    let body-len : 18 + length (body s.envelope.msg) ≡ len =
+    omega (arith, inner-len, ap length inner, length-append (head s) (body s.envelope.msg), length-head s) in
     let text : spelling s ≡ number 4 len ++ take len d =
     append_assoc (number 4 (18 + length (body s.envelope.msg))) (head s) (body s.envelope.msg)
     ∙ ap (λ (n : ℕ). number 4 n ++ (head s ++ body s.envelope.msg)) body-len ∙ ap (λ (x : List ℕ). number 4 len ++ x) (sym inner) in
@@ -213,7 +224,8 @@ frame-again s rest h =
     let inner-len : length inner ≡ len = omega (arith, length-append (head s) (body msg), length-head s) in
     let shape : bytes ≡ number 4 len ++ (inner ++ rest) =
     ap (λ (x : List ℕ). x ++ rest) (append_assoc (number 4 len) (head s) (body msg)) ∙ append_assoc (number 4 len) inner rest in
-    let size : length (spelling s) ≡ 4 + len = ap length (append_assoc (number 4 len) (head s) (body msg)) ∙ (omega (arith, length-append (number 4 len) inner, length-number 4 len, inner-len)) in
+    let size : length (spelling s) ≡ 4 + len =
+    ap length (append_assoc (number 4 len) (head s) (body msg)) ∙ (omega (arith, length-append (number 4 len) inner, length-number 4 len, inner-len)) in
     let total : length bytes ≡ 4 + len + length rest = omega (arith, length-append (spelling s) rest, size) in
     let read : number_at 4 (number 4 len ++ (inner ++ rest)) ≡ Ok (len, inner ++ rest) = n4.again len (inner ++ rest) fits in
     let parts = number-parts (number 4 len ++ (inner ++ rest)) len (inner ++ rest) read in
@@ -228,12 +240,14 @@ frame-again s rest h =
 
 -- ---- what is wrong stays so
 
-not_short : (b : Bool) (read : Result (Stamped × ℕ) WireFault) (fault : WireFault) → (if b then Err Short else read) ≡ Err fault → (fault ≡ Short → ⊥) → (b ≡ false) × (read ≡ Err fault)
+not_short : (b : Bool) (read : Result (Stamped × ℕ) WireFault) (fault : WireFault) → (if b then Err Short else read) ≡ Err fault → (fault ≡ Short → ⊥)
+    → (b ≡ false) × (read ≡ Err fault)
 not_short true read fault e other = absurd (other (sym (fault_is {A = Stamped × ℕ} Short fault e)))
 not_short false read fault e other = (refl, e)
 
 -- behind a test
-behind : (b : Bool) (d : WireFault) (x y : Result (Stamped × ℕ) WireFault) (fault : WireFault) → (x ≡ Err fault → y ≡ Err fault) → (if b then Err d else x) ≡ Err fault → (if b then Err d else y) ≡ Err fault
+behind : (b : Bool) (d : WireFault) (x y : Result (Stamped × ℕ) WireFault) (fault : WireFault) → (x ≡ Err fault → y ≡ Err fault)
+    → (if b then Err d else x) ≡ Err fault → (if b then Err d else y) ≡ Err fault
 behind true d x y fault h e = e
 behind false d x y fault h e = h e
 
@@ -255,5 +269,6 @@ frame-lasts x more fault e other =
     let cut : take len (drop 4 (x ++ more)) ≡ take len (drop 4 x) = ap (take len) (drop-append-le 4 x more long) ∙ take-append-le len (drop 4 x) more room in
     rw (t4, cut) d.1 in
     let bounded : bounded_in (x ++ more) len ≡ Err fault =
-    behind (nat_lt most_length len) TooLong (long_in x len) (long_in (x ++ more) len) fault (behind (nat_lt len 18) Length (whole_in x len) (whole_in (x ++ more) len) fault inner) a.1 in
+    behind (nat_lt most_length len) TooLong (long_in x len) (long_in (x ++ more) len) fault
+    (behind (nat_lt len 18) Length (whole_in x len) (whole_in (x ++ more) len) fault inner) a.1 in
     rw (t1, number-is) bounded

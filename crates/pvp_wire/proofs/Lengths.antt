@@ -23,8 +23,12 @@ and_right false b h = absurd cc
 -- the boots that it tells of are those of 1 to 7 sites
 pub site_counted : (s : Stamped) → is_wireable s ≡ true → has_site_count (known_in s.envelope.msg) ≡ true
 site_counted s h =
-    let a = and_right (s.envelope.from == s.stamp.actor) (is_actor s.stamp.actor && (is_actor s.envelope.to && (list_all has_client (rows_in s.envelope.msg) && has_site_count (known_in s.envelope.msg)))) h in
-    let b = and_right (is_actor s.stamp.actor) (is_actor s.envelope.to && (list_all has_client (rows_in s.envelope.msg) && has_site_count (known_in s.envelope.msg))) a in
+    let a =
+    and_right (s.envelope.from == s.stamp.actor) (is_actor s.stamp.actor
+    && (is_actor s.envelope.to && (list_all has_client (rows_in s.envelope.msg) && has_site_count (known_in s.envelope.msg)))) h in
+    let b =
+    and_right (is_actor s.stamp.actor) (is_actor s.envelope.to
+    && (list_all has_client (rows_in s.envelope.msg) && has_site_count (known_in s.envelope.msg))) a in
     let c = and_right (is_actor s.envelope.to) (list_all has_client (rows_in s.envelope.msg) && has_site_count (known_in s.envelope.msg)) b in
     and_right (list_all has_client (rows_in s.envelope.msg)) (has_site_count (known_in s.envelope.msg)) c
 
@@ -87,7 +91,11 @@ body-short (Commit msg) h k = omega (arith, two _ _ _ _ (num 4 msg.view) (num 2 
 body-short (StartViewChange msg) h k = omega (arith, two _ _ _ _ (num 4 msg.view) (boots-short msg.known k))
 body-short (DoViewChange msg) h k =
     let few : length msg.rows < 65536 = h.4.0 in
-    omega (arith, two _ _ _ _ (two _ _ _ _ (two _ _ _ _ (two _ _ _ _ (num 4 msg.view) (num 4 msg.last_normal)) (num 2 msg.done)) (boots-short msg.known k)) (rows-short msg.rows few))
+    omega (
+      arith,
+      two _ _ _ _ (two _ _ _ _ (two _ _ _ _ (two _ _ _ _ (num 4 msg.view) (num 4 msg.last_normal)) (num 2 msg.done)) (boots-short msg.known k))
+          (rows-short msg.rows few),
+    )
 body-short (StartView msg) h k =
     let few : length msg.rows < 65536 = h.2.0 in
     omega (arith, two _ _ _ _ (two _ _ _ _ (num 4 msg.view) (num 2 msg.done)) (rows-short msg.rows few))
@@ -96,7 +104,8 @@ body-short (NewState msg) h k =
     let few : length msg.rows < 65536 = h.3.0 in
     omega (arith, two _ _ _ _ (two _ _ _ _ (two _ _ _ _ (num 4 msg.view) (num 2 msg.base)) (num 2 msg.done)) (rows-short msg.rows few))
 body-short (Recovery msg) h k = omega (arith, num 4 msg.nonce)
-body-short (RecoveryResponse msg) h k = omega (arith, two _ _ _ _ (two _ _ _ _ (two _ _ _ _ (num 4 msg.view) (num 4 msg.nonce)) (boots-short msg.known k)) (state-short msg.state h.3))
+body-short (RecoveryResponse msg) h k =
+    omega (arith, two _ _ _ _ (two _ _ _ _ (two _ _ _ _ (num 4 msg.view) (num 4 msg.nonce)) (boots-short msg.known k)) (state-short msg.state h.3))
 body-short (Reply msg) h k = omega (arith, two _ _ _ _ (two _ _ _ _ (num 4 msg.view) (num 4 msg.number)) (reply-short msg.reply))
 body-short (PayOrder a) h k = omega (arith, two _ _ _ _ (two _ _ _ _ (two _ _ _ _ (num 1 a.ccy) (num 4 a.out)) (num 2 a.member)) (num 8 a.amt))
 
@@ -108,7 +117,8 @@ both a b m n ha hb = omega (arith, length-append a b, ha, hb)
 pub ruleset lengths = (length-append, length-number)
 
 pub length-row : (r : BankRow) → length (row r) ≡ 6 + length (command r.cmd)
-length-row r = omega (arith, length-append (number 2 r.client ++ number 4 r.number) (command r.cmd), both _ _ _ _ (length-number 2 r.client) (length-number 4 r.number))
+length-row r =
+    omega (arith, length-append (number 2 r.client ++ number 4 r.number) (command r.cmd), both _ _ _ _ (length-number 2 r.client) (length-number 4 r.number))
 
 -- of an envelope that has a spelling
 pub spelled-short : (s : Stamped) → MessageFits s.envelope.msg → is_wireable s ≡ true → length (body s.envelope.msg) ≤ most_body

@@ -35,7 +35,8 @@ state-again s rest h = again2 n2 rows_format make_state s.done s.rows rest h.0.0
 state_format : IsFormat spelled_state (λ s. IsState (Some s)) (state_at false)
 state_format = record { takes = state-takes; again = state-again }
 
-some-takes : TakesBy (λ (o : Option (StateOf Cmd)). drop 1 (state o)) (λ o. IsState o × (state o ≡ 1 ∷ drop 1 (state o))) (λ bytes. state_at false bytes >>= λ s. Ok (Some s.0, s.1))
+some-takes : TakesBy (λ (o : Option (StateOf Cmd)). drop 1 (state o)) (λ o. IsState o × (state o ≡ 1 ∷ drop 1 (state o)))
+    (λ bytes. state_at false bytes >>= λ s. Ok (Some s.0, s.1))
 some-takes = takes1 state_format Some (λ o. drop 1 (state o)) (λ o. IsState o × (state o ≡ 1 ∷ drop 1 (state o))) (λ a. refl) (λ a ha. (ha, refl))
 
 never2 : {A : Type 0} (a b : Reads A) (flag : ℕ) (x : A × List ℕ) → 1 < flag → (if flag == 0 then a else if flag == 1 then b else refused) ≡ Ok x → ⊥
@@ -45,7 +46,8 @@ option-takes : TakesBy state IsState (option_at false)
 unfolding option_at
 option-takes [] o rest fits e = absurd cc
 option-takes (zero ∷ bytes) o rest fits e =
-    subst (λ (p : Option (StateOf Cmd) × List ℕ). Takes (0 ∷ bytes) (state p.0) p.1 × IsState p.0) (ok_is (None, bytes) (o, rest) e) (record { parts = refl; rest_fits = IsBytes-rest 0 bytes fits }, (tt, refl))
+    subst (λ (p : Option (StateOf Cmd) × List ℕ). Takes (0 ∷ bytes) (state p.0) p.1 × IsState p.0) (ok_is (None, bytes) (o, rest) e)
+    (record { parts = refl; rest_fits = IsBytes-rest 0 bytes fits }, (tt, refl))
 option-takes (suc zero ∷ bytes) o rest fits e =
     let t = some-takes bytes o rest (IsBytes-rest 1 bytes fits) e in
     (subst (λ (x : List ℕ). Takes (1 ∷ bytes) x rest) (sym t.1.1) (tagged 1 bytes (drop 1 (state o)) rest t.0), t.1.0)
@@ -128,7 +130,9 @@ request-takes = takes2 n4 command_format make_request body (IsOfKind 1) (λ a b.
 
 prepare-takes : TakesBy body (IsOfKind 2) prepare_at
 unfolding prepare_at
-prepare-takes = takes4 n4 n2 n2 row_format make_prepare body (IsOfKind 2) (λ a b c d. refl) (λ a b c d ha hb hc hd. (((ha, hb, hc, hd.0), (both (has_client d) true hd.1 refl, refl)), refl))
+prepare-takes =
+    takes4 n4 n2 n2 row_format make_prepare body (IsOfKind 2) (λ a b c d. refl)
+    (λ a b c d ha hb hc hd. (((ha, hb, hc, hd.0), (both (has_client d) true hd.1 refl, refl)), refl))
 
 start_view_change-takes : TakesBy body (IsOfKind 5) start_view_change_at
 unfolding start_view_change_at
@@ -136,7 +140,9 @@ start_view_change-takes = takes2 n4 boots_format make_start_view_change body (Is
 
 do_view_change-takes : TakesBy body (IsOfKind 6) (do_view_change_at false)
 unfolding do_view_change_at
-do_view_change-takes = takes5 n4 n4 n2 boots_format rows_format make_vote body (IsOfKind 6) (λ a b c d e. refl) (λ a b c d e ha hb hc hd he. (((ha, hb, hc, hd.0, he.0), (he.1, hd.1)), refl))
+do_view_change-takes =
+    takes5 n4 n4 n2 boots_format rows_format make_vote body (IsOfKind 6) (λ a b c d e. refl)
+    (λ a b c d e ha hb hc hd he. (((ha, hb, hc, hd.0, he.0), (he.1, hd.1)), refl))
 
 start_view-takes : TakesBy body (IsOfKind 7) (start_view_at false)
 unfolding start_view_at
@@ -144,11 +150,14 @@ start_view-takes = takes3 n4 n2 rows_format make_start_view body (IsOfKind 7) (�
 
 new_state-takes : TakesBy body (IsOfKind 9) (new_state_at false)
 unfolding new_state_at
-new_state-takes = takes4 n4 n2 n2 rows_format make_new_state body (IsOfKind 9) (λ a b c d. refl) (λ a b c d ha hb hc hd. (((ha, hb, hc, hd.0), (hd.1, refl)), refl))
+new_state-takes =
+    takes4 n4 n2 n2 rows_format make_new_state body (IsOfKind 9) (λ a b c d. refl) (λ a b c d ha hb hc hd. (((ha, hb, hc, hd.0), (hd.1, refl)), refl))
 
 recovery_response-takes : TakesBy body (IsOfKind 11) (recovery_response_at false)
 unfolding recovery_response_at
-recovery_response-takes = takes4 n4 n4 boots_format option_format make_response body (IsOfKind 11) (λ a b c d. refl) (λ a b c d ha hb hc hd. (((ha, hb, hc.0, hd.0), (hd.1, hc.1)), refl))
+recovery_response-takes =
+    takes4 n4 n4 boots_format option_format make_response body (IsOfKind 11) (λ a b c d. refl)
+    (λ a b c d ha hb hc hd. (((ha, hb, hc.0, hd.0), (hd.1, hc.1)), refl))
 
 answer-takes : TakesBy body (IsOfKind 12) answer_at
 unfolding answer_at
@@ -184,22 +193,26 @@ message-takes (suc (suc (suc (suc (suc (suc (suc (suc (suc zero))))))))) low hig
 message-takes (suc (suc (suc (suc (suc (suc (suc (suc (suc (suc zero)))))))))) low high bytes m rest fits e = recovery-takes bytes m rest fits e
 message-takes (suc (suc (suc (suc (suc (suc (suc (suc (suc (suc (suc zero))))))))))) low high bytes m rest fits e = recovery_response-takes bytes m rest fits e
 message-takes (suc (suc (suc (suc (suc (suc (suc (suc (suc (suc (suc (suc zero)))))))))))) low high bytes m rest fits e = answer-takes bytes m rest fits e
-message-takes (suc (suc (suc (suc (suc (suc (suc (suc (suc (suc (suc (suc (suc zero))))))))))))) low high bytes m rest fits e = pay_order-takes bytes m rest fits e
+message-takes (suc (suc (suc (suc (suc (suc (suc (suc (suc (suc (suc (suc (suc zero))))))))))))) low high bytes m rest fits e =
+    pay_order-takes bytes m rest fits e
 message-takes (suc (suc (suc (suc (suc (suc (suc (suc (suc (suc (suc (suc (suc (suc n)))))))))))))) low high bytes m rest fits e = absurd (omega arith)
 
 message-again : (m : BankMsg) (rest : List ℕ) → IsMessage m → message_at false (kind m) (body m ++ rest) ≡ Ok (m, rest)
 unfolding message_at request_at prepare_at start_view_change_at do_view_change_at start_view_at new_state_at recovery_response_at answer_at
 message-again (Request msg) rest h = again2 n4 command_format make_request msg.number msg.cmd rest h.0.0 h.0.1
-message-again (Prepare msg) rest h = again4 n4 n2 n2 row_format make_prepare msg.view msg.place msg.done msg.row rest h.0.0 h.0.1 h.0.2 (h.0.3, (parted (has_client msg.row) true h.1.0).0)
+message-again (Prepare msg) rest h =
+    again4 n4 n2 n2 row_format make_prepare msg.view msg.place msg.done msg.row rest h.0.0 h.0.1 h.0.2 (h.0.3, (parted (has_client msg.row) true h.1.0).0)
 message-again (PrepareOk msg) rest h = again1 pair_format make_prepare_ok (msg.view, msg.place) rest h.0
 message-again (Commit msg) rest h = again1 pair_format make_commit (msg.view, msg.done) rest h.0
 message-again (StartViewChange msg) rest h = again2 n4 boots_format make_start_view_change msg.view msg.known rest h.0.0 (h.0.1, h.1.1)
-message-again (DoViewChange msg) rest h = again5 n4 n4 n2 boots_format rows_format make_vote msg.view msg.last_normal msg.done msg.known msg.rows rest h.0.0 h.0.1 h.0.2 (h.0.3, h.1.1) (h.0.4, h.1.0)
+message-again (DoViewChange msg) rest h =
+    again5 n4 n4 n2 boots_format rows_format make_vote msg.view msg.last_normal msg.done msg.known msg.rows rest h.0.0 h.0.1 h.0.2 (h.0.3, h.1.1) (h.0.4, h.1.0)
 message-again (StartView msg) rest h = again3 n4 n2 rows_format make_start_view msg.view msg.done msg.rows rest h.0.0 h.0.1 (h.0.2, h.1.0)
 message-again (GetState msg) rest h = again1 pair_format make_get_state (msg.view, msg.base) rest h.0
 message-again (NewState msg) rest h = again4 n4 n2 n2 rows_format make_new_state msg.view msg.base msg.done msg.rows rest h.0.0 h.0.1 h.0.2 (h.0.3, h.1.0)
 message-again (Recovery msg) rest h = again1 n4 make_recovery msg.nonce rest h.0
-message-again (RecoveryResponse msg) rest h = again4 n4 n4 boots_format option_format make_response msg.view msg.nonce msg.known msg.state rest h.0.0 h.0.1 (h.0.2, h.1.1) (h.0.3, h.1.0)
+message-again (RecoveryResponse msg) rest h =
+    again4 n4 n4 boots_format option_format make_response msg.view msg.nonce msg.known msg.state rest h.0.0 h.0.1 (h.0.2, h.1.1) (h.0.3, h.1.0)
 message-again (Reply msg) rest h = again3 n4 n4 reply_format make_answer msg.view msg.number msg.reply rest h.0.0 h.0.1 h.0.2
 message-again (PayOrder a) rest h = again1 order_format PayOrder a rest h.0
 

@@ -52,7 +52,8 @@ back n bytes long fits =
     let below : x < 256 ^ n = big_from-lt 0 n bytes (each_byte bytes fits) in
     let written : big_from 0 n (big_bytes n x) ≡ x = ap (big_from 0 n) (sym (append-nil (big_bytes n x))) ∙ big_number-reads_back n x [] below in
     let read : big_from 0 n (take n bytes) ≡ x = big_from-take 0 n n bytes (omega arith) in
-    one_number n (big_bytes n x) (take n bytes) (length-bytes_high_first n x) (omega (arith, length-take n bytes)) (IsBytes-high_first n x) (IsBytes-take n bytes fits) (written ∙ sym read)
+    one_number n (big_bytes n x) (take n bytes) (length-bytes_high_first n x) (omega (arith, length-take n bytes)) (IsBytes-high_first n x)
+    (IsBytes-take n bytes fits) (written ∙ sym read)
 
 -- a number of n bytes
 pub number_format : (n : ℕ) → IsFormat (number n) (λ x. x < 256 ^ n) (number_at n)
@@ -63,7 +64,10 @@ number_format n = record {
       let long : n ≤ length bytes = ltb-false _ _ g.0 in
       let x-is : big_number n bytes ≡ x = ap (λ (p : ℕ × List ℕ). p.0) g.1 in
       let rest-is : drop n bytes ≡ rest = ap (λ (p : ℕ × List ℕ). p.1) g.1 in (
-        record { parts = rw (← x-is, back n bytes long fits, ← rest-is) (sym (take-append-drop n bytes)); rest_fits = rw (← rest-is) (IsBytes-drop n bytes fits) },
+        record {
+          parts = rw (← x-is, back n bytes long fits, ← rest-is) (sym (take-append-drop n bytes));
+          rest_fits = rw (← rest-is) (IsBytes-drop n bytes fits);
+        },
         rw (← x-is) (big_from-lt 0 n bytes (each_byte bytes fits)),
       );
   again = λ x rest lt.

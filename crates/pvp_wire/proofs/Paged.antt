@@ -20,11 +20,13 @@ page-more rows page =
     rw e (take-add (page_rows * page) page_rows rows)
 
 -- how many they are
-pub length-page-more : (rows : List BankRow) (page : ℕ) → length (take (page_rows * (page + 1)) rows) ≡ length (take (page_rows * page) rows) + length (rows_at rows page)
+pub length-page-more : (rows : List BankRow) (page : ℕ)
+    → length (take (page_rows * (page + 1)) rows) ≡ length (take (page_rows * page) rows) + length (rows_at rows page)
 length-page-more rows page = ap (λ l. length l) (page-more rows page) ∙ length-append (take (page_rows * page) rows) (rows_at rows page)
 
 -- their bytes
-pub spelled-more : (rows : List BankRow) (page : ℕ) → flat_map row (take (page_rows * (page + 1)) rows) ≡ flat_map row (take (page_rows * page) rows) ++ flat_map row (rows_at rows page)
+pub spelled-more : (rows : List BankRow) (page : ℕ)
+    → flat_map row (take (page_rows * (page + 1)) rows) ≡ flat_map row (take (page_rows * page) rows) ++ flat_map row (rows_at rows page)
 spelled-more rows page = ap (flat_map row) (page-more rows page) ∙ flat_map-append row (take (page_rows * page) rows) (rows_at rows page)
 
 pub EachFits-append : {A : Type 0} (ItemFits : A → Type 0) (xs ys : List A) → EachFits ItemFits xs → EachFits ItemFits ys → EachFits ItemFits (xs ++ ys)

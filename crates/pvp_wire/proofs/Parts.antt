@@ -33,7 +33,8 @@ record IsTagged (tag : ℕ) (cmd : Cmd) : Type 0 where
   fits : CommandFits cmd
   text : command cmd ≡ tag ∷ fields cmd
 
-finish : (tag : ℕ) (bytes : List ℕ) (cmd : Cmd) (rest : List ℕ) → Takes bytes (fields cmd) rest × IsTagged tag cmd → Takes (tag ∷ bytes) (command cmd) rest × CommandFits cmd
+finish : (tag : ℕ) (bytes : List ℕ) (cmd : Cmd) (rest : List ℕ) → Takes bytes (fields cmd) rest × IsTagged tag cmd
+    → Takes (tag ∷ bytes) (command cmd) rest × CommandFits cmd
 finish tag bytes cmd rest t = (subst (λ (x : List ℕ). Takes (tag ∷ bytes) x rest) (sym t.1.text) (tagged tag bytes (fields cmd) rest t.0), t.1.fits)
 
 pub n1 : IsFormat (number 1) (Fits 1) (number_at 1)
@@ -49,7 +50,9 @@ pub n8 : IsFormat (number 8) (Fits 8) (number_at 8)
 n8 = number_format 8
 
 instruct-takes : TakesBy fields (IsTagged 1) instruct_at
-instruct-takes = takes6 n4 n2 n1 n8 n1 n8 Instruct fields (IsTagged 1) (λ a b c d e f. refl) (λ a b c d e f ha hb hc hd he hf. record { fits = (ha, hb, hc, hd, he, hf); text = refl })
+instruct-takes =
+    takes6 n4 n2 n1 n8 n1 n8 Instruct fields (IsTagged 1) (λ a b c d e f. refl)
+    (λ a b c d e f ha hb hc hd he hf. record { fits = (ha, hb, hc, hd, he, hf); text = refl })
 
 fund-takes : TakesBy fields (IsTagged 3) fund_at
 fund-takes = takes4 n1 n4 n2 n8 Fund fields (IsTagged 3) (λ a b c d. refl) (λ a b c d ha hb hc hd. record { fits = (ha, hb, hc, hd); text = refl })
@@ -79,14 +82,42 @@ pub off : (n k : ℕ) → k < n → (n == k) ≡ false
 off n k lt = ne_eqb n k (λ e. absurd (omega arith))
 
 -- no tag that is above all known ones is taken
-never5 : {A : Type 0} (a b c d f : Reads A) (tag : ℕ) (x : A × List ℕ) → 5 < tag → (if tag == 1 then a else if tag == 2 then b else if tag == 3 then c else if tag == 4 then d else if tag == 5 then f else refused) ≡ Ok x → ⊥
-never5 a b c d f tag x above e = never x (rw (off tag 1 (omega arith), off tag 2 (omega arith), off tag 3 (omega arith), off tag 4 (omega arith), off tag 5 (omega arith)) at e)
+never5 : {A : Type 0} (a b c d f : Reads A) (tag : ℕ) (x : A × List ℕ) → 5 < tag
+    → (if tag == 1 then a else if tag == 2 then b else if tag == 3 then c else if tag == 4 then d else if tag == 5 then f else refused) ≡ Ok x → ⊥
+never5 a b c d f tag x above e =
+    never x (rw (off tag 1 (omega arith), off tag 2 (omega arith), off tag 3 (omega arith), off tag 4 (omega arith), off tag 5 (omega arith)) at e)
 
-never7 : {A : Type 0} (a b c d f g h : Reads A) (tag : ℕ) (x : A × List ℕ) → 7 < tag → (if tag == 1 then a else if tag == 2 then b else if tag == 3 then c else if tag == 4 then d else if tag == 5 then f else if tag == 6 then g else if tag == 7 then h else refused) ≡ Ok x → ⊥
-never7 a b c d f g h tag x above e = never x (rw (off tag 1 (omega arith), off tag 2 (omega arith), off tag 3 (omega arith), off tag 4 (omega arith), off tag 5 (omega arith), off tag 6 (omega arith), off tag 7 (omega arith)) at e)
+never7 : {A : Type 0} (a b c d f g h : Reads A) (tag : ℕ) (x : A × List ℕ) → 7 < tag
+    → (if tag == 1 then a else if tag == 2 then b else if tag == 3 then c else if tag == 4 then d else if tag == 5 then f else if tag == 6 then g
+    else if tag == 7 then h else refused) ≡ Ok x → ⊥
+never7 a b c d f g h tag x above e =
+    never x (rw (
+      off tag 1 (omega arith),
+      off tag 2 (omega arith),
+      off tag 3 (omega arith),
+      off tag 4 (omega arith),
+      off tag 5 (omega arith),
+      off tag 6 (omega arith),
+      off tag 7 (omega arith),
+    ) at e)
 
-never11 : {A : Type 0} (a b c d f g h i j k l : Reads A) (tag : ℕ) (x : A × List ℕ) → 11 < tag → (if tag == 1 then a else if tag == 2 then b else if tag == 3 then c else if tag == 4 then d else if tag == 5 then f else if tag == 6 then g else if tag == 7 then h else if tag == 8 then i else if tag == 9 then j else if tag == 10 then k else if tag == 11 then l else refused) ≡ Ok x → ⊥
-never11 a b c d f g h i j k l tag x above e = never x (rw (off tag 1 (omega arith), off tag 2 (omega arith), off tag 3 (omega arith), off tag 4 (omega arith), off tag 5 (omega arith), off tag 6 (omega arith), off tag 7 (omega arith), off tag 8 (omega arith), off tag 9 (omega arith), off tag 10 (omega arith), off tag 11 (omega arith)) at e)
+never11 : {A : Type 0} (a b c d f g h i j k l : Reads A) (tag : ℕ) (x : A × List ℕ) → 11 < tag
+    → (if tag == 1 then a else if tag == 2 then b else if tag == 3 then c else if tag == 4 then d else if tag == 5 then f else if tag == 6 then g
+    else if tag == 7 then h else if tag == 8 then i else if tag == 9 then j else if tag == 10 then k else if tag == 11 then l else refused) ≡ Ok x → ⊥
+never11 a b c d f g h i j k l tag x above e =
+    never x (rw (
+      off tag 1 (omega arith),
+      off tag 2 (omega arith),
+      off tag 3 (omega arith),
+      off tag 4 (omega arith),
+      off tag 5 (omega arith),
+      off tag 6 (omega arith),
+      off tag 7 (omega arith),
+      off tag 8 (omega arith),
+      off tag 9 (omega arith),
+      off tag 10 (omega arith),
+      off tag 11 (omega arith),
+    ) at e)
 
 command-takes : TakesBy command CommandFits command_at
 unfolding command_at
@@ -97,9 +128,12 @@ command-takes (suc (suc zero) ∷ bytes) cmd rest fits e = finish 2 bytes cmd re
 command-takes (suc (suc (suc zero)) ∷ bytes) cmd rest fits e = finish 3 bytes cmd rest (fund-takes bytes cmd rest (IsBytes-rest 3 bytes fits) e)
 command-takes (suc (suc (suc (suc zero))) ∷ bytes) cmd rest fits e = finish 4 bytes cmd rest (settle-takes bytes cmd rest (IsBytes-rest 4 bytes fits) e)
 command-takes (suc (suc (suc (suc (suc zero)))) ∷ bytes) cmd rest fits e = finish 5 bytes cmd rest (pay_out-takes bytes cmd rest (IsBytes-rest 5 bytes fits) e)
-command-takes (suc (suc (suc (suc (suc (suc zero))))) ∷ bytes) cmd rest fits e = finish 6 bytes cmd rest (paid-takes bytes cmd rest (IsBytes-rest 6 bytes fits) e)
-command-takes (suc (suc (suc (suc (suc (suc (suc zero)))))) ∷ bytes) cmd rest fits e = finish 7 bytes cmd rest (returned-takes bytes cmd rest (IsBytes-rest 7 bytes fits) e)
-command-takes (suc (suc (suc (suc (suc (suc (suc (suc tag))))))) ∷ bytes) cmd rest fits e = absurd (never7 _ _ _ _ _ _ _ (suc (suc (suc (suc (suc (suc (suc (suc tag)))))))) (cmd, rest) (omega arith) e)
+command-takes (suc (suc (suc (suc (suc (suc zero))))) ∷ bytes) cmd rest fits e =
+    finish 6 bytes cmd rest (paid-takes bytes cmd rest (IsBytes-rest 6 bytes fits) e)
+command-takes (suc (suc (suc (suc (suc (suc (suc zero)))))) ∷ bytes) cmd rest fits e =
+    finish 7 bytes cmd rest (returned-takes bytes cmd rest (IsBytes-rest 7 bytes fits) e)
+command-takes (suc (suc (suc (suc (suc (suc (suc (suc tag))))))) ∷ bytes) cmd rest fits e =
+    absurd (never7 _ _ _ _ _ _ _ (suc (suc (suc (suc (suc (suc (suc (suc tag)))))))) (cmd, rest) (omega arith) e)
 
 command-again : (cmd : Cmd) (rest : List ℕ) → CommandFits cmd → command_at (command cmd ++ rest) ≡ Ok (cmd, rest)
 unfolding command_at
@@ -116,7 +150,8 @@ command_format = record { takes = command-takes; again = command-again }
 
 -- ---- answers
 
-one_reason : (n : ℕ) (bytes : List ℕ) (known why : Reason) (rest : List ℕ) → IsBytes (n ∷ bytes) → reason_number known ≡ n → done {A = Reason × List ℕ} (known, bytes) ≡ Ok (why, rest)
+one_reason : (n : ℕ) (bytes : List ℕ) (known why : Reason) (rest : List ℕ) → IsBytes (n ∷ bytes) → reason_number known ≡ n
+    → done {A = Reason × List ℕ} (known, bytes) ≡ Ok (why, rest)
     → Takes (n ∷ bytes) (reason_number why ∷ []) rest × Unit {0}
 one_reason n bytes known why rest fits numbered e =
     let same = ok_is (known, bytes) (why, rest) e in
@@ -136,9 +171,12 @@ reason-takes (suc (suc (suc (suc (suc (suc zero))))) ∷ bytes) why rest fits e 
 reason-takes (suc (suc (suc (suc (suc (suc (suc zero)))))) ∷ bytes) why rest fits e = one_reason 7 bytes reason.UnknownReference why rest fits refl e
 reason-takes (suc (suc (suc (suc (suc (suc (suc (suc zero))))))) ∷ bytes) why rest fits e = one_reason 8 bytes reason.Late why rest fits refl e
 reason-takes (suc (suc (suc (suc (suc (suc (suc (suc (suc zero)))))))) ∷ bytes) why rest fits e = one_reason 9 bytes reason.Short why rest fits refl e
-reason-takes (suc (suc (suc (suc (suc (suc (suc (suc (suc (suc zero))))))))) ∷ bytes) why rest fits e = one_reason 10 bytes reason.TestFails why rest fits refl e
-reason-takes (suc (suc (suc (suc (suc (suc (suc (suc (suc (suc (suc zero)))))))))) ∷ bytes) why rest fits e = one_reason 11 bytes reason.BankShort why rest fits refl e
-reason-takes (suc (suc (suc (suc (suc (suc (suc (suc (suc (suc (suc (suc tag))))))))))) ∷ bytes) why rest fits e = absurd (never11 _ _ _ _ _ _ _ _ _ _ _ (suc (suc (suc (suc (suc (suc (suc (suc (suc (suc (suc (suc tag)))))))))))) (why, rest) (omega arith) e)
+reason-takes (suc (suc (suc (suc (suc (suc (suc (suc (suc (suc zero))))))))) ∷ bytes) why rest fits e =
+    one_reason 10 bytes reason.TestFails why rest fits refl e
+reason-takes (suc (suc (suc (suc (suc (suc (suc (suc (suc (suc (suc zero)))))))))) ∷ bytes) why rest fits e =
+    one_reason 11 bytes reason.BankShort why rest fits refl e
+reason-takes (suc (suc (suc (suc (suc (suc (suc (suc (suc (suc (suc (suc tag))))))))))) ∷ bytes) why rest fits e =
+    absurd (never11 _ _ _ _ _ _ _ _ _ _ _ (suc (suc (suc (suc (suc (suc (suc (suc (suc (suc (suc (suc tag)))))))))))) (why, rest) (omega arith) e)
 
 reason-again : (why : Reason) (rest : List ℕ) → Unit {0} → reason_at ((reason_number why ∷ []) ++ rest) ≡ Ok (why, rest)
 reason-again reason.NotYours rest h = refl
@@ -165,14 +203,17 @@ record IsAnswer (tag : ℕ) (r : replies.Reply) : Type 0 where
   fits : ReplyFits r
   text : reply r ≡ tag ∷ answer_fields r
 
-answered : (tag : ℕ) (bytes : List ℕ) (r : replies.Reply) (rest : List ℕ) → Takes bytes (answer_fields r) rest × IsAnswer tag r → Takes (tag ∷ bytes) (reply r) rest × ReplyFits r
+answered : (tag : ℕ) (bytes : List ℕ) (r : replies.Reply) (rest : List ℕ) → Takes bytes (answer_fields r) rest × IsAnswer tag r
+    → Takes (tag ∷ bytes) (reply r) rest × ReplyFits r
 answered tag bytes r rest t = (subst (λ (x : List ℕ). Takes (tag ∷ bytes) x rest) (sym t.1.text) (tagged tag bytes (answer_fields r) rest t.0), t.1.fits)
 
 -- an answer without fields
-bare : (tag : ℕ) (bytes : List ℕ) (known r : replies.Reply) (rest : List ℕ) → IsBytes (tag ∷ bytes) → reply known ≡ tag ∷ [] → ReplyFits known → done {A = replies.Reply × List ℕ} (known, bytes) ≡ Ok (r, rest)
+bare : (tag : ℕ) (bytes : List ℕ) (known r : replies.Reply) (rest : List ℕ) → IsBytes (tag ∷ bytes) → reply known ≡ tag ∷ [] → ReplyFits known
+    → done {A = replies.Reply × List ℕ} (known, bytes) ≡ Ok (r, rest)
     → Takes (tag ∷ bytes) (reply r) rest × ReplyFits r
 bare tag bytes known r rest fits text h e =
-    subst (λ (p : replies.Reply × List ℕ). Takes (tag ∷ bytes) (reply p.0) p.1 × ReplyFits p.0) (ok_is (known, bytes) (r, rest) e) (record { parts = rw text refl; rest_fits = IsBytes-rest tag bytes fits }, h)
+    subst (λ (p : replies.Reply × List ℕ). Takes (tag ∷ bytes) (reply p.0) p.1 × ReplyFits p.0) (ok_is (known, bytes) (r, rest) e)
+    (record { parts = rw text refl; rest_fits = IsBytes-rest tag bytes fits }, h)
 
 settled-takes : TakesBy answer_fields (IsAnswer 3) (λ bytes. number_at 4 bytes >>= λ count. Ok (Settled count.0, count.1))
 settled-takes = takes1 n4 Settled answer_fields (IsAnswer 3) (λ a. refl) (λ a ha. record { fits = ha; text = refl })
@@ -192,7 +233,8 @@ reply-takes (suc (suc zero) ∷ bytes) r rest fits e = bare 2 bytes Matched r re
 reply-takes (suc (suc (suc zero)) ∷ bytes) r rest fits e = answered 3 bytes r rest (settled-takes bytes r rest (IsBytes-rest 3 bytes fits) e)
 reply-takes (suc (suc (suc (suc zero))) ∷ bytes) r rest fits e = answered 4 bytes r rest (ordered-takes bytes r rest (IsBytes-rest 4 bytes fits) e)
 reply-takes (suc (suc (suc (suc (suc zero)))) ∷ bytes) r rest fits e = answered 5 bytes r rest (refused-takes bytes r rest (IsBytes-rest 5 bytes fits) e)
-reply-takes (suc (suc (suc (suc (suc (suc tag))))) ∷ bytes) r rest fits e = absurd (never5 _ _ _ _ _ (suc (suc (suc (suc (suc (suc tag)))))) (r, rest) (omega arith) e)
+reply-takes (suc (suc (suc (suc (suc (suc tag))))) ∷ bytes) r rest fits e =
+    absurd (never5 _ _ _ _ _ (suc (suc (suc (suc (suc (suc tag)))))) (r, rest) (omega arith) e)
 
 reply-again : (r : replies.Reply) (rest : List ℕ) → ReplyFits r → reply_at (reply r ++ rest) ≡ Ok (r, rest)
 unfolding reply_at
@@ -252,21 +294,25 @@ parted false b h = absurd cc
 
 -- ---- lists: the items of a format one after the other
 
-more-takes : {A : Type 0} {spell : A → List ℕ} {ItemFits : A → Type 0} {item_at : List ℕ → Reads A} → IsFormat spell ItemFits item_at → (count : ℕ) (bytes : List ℕ) (xs : List A) (rest : List ℕ) → IsBytes bytes → items_from item_at false count bytes ≡ Ok (xs, rest)
+more-takes : {A : Type 0} {spell : A → List ℕ} {ItemFits : A → Type 0} {item_at : List ℕ → Reads A} → IsFormat spell ItemFits item_at
+    → (count : ℕ) (bytes : List ℕ) (xs : List A) (rest : List ℕ) → IsBytes bytes → items_from item_at false count bytes ≡ Ok (xs, rest)
     → Takes bytes (flat_map spell xs) rest × (EachFits ItemFits xs × (length xs ≡ count))
 unfolding items_from
 more-takes {A} {spell} {ItemFits} {item_at} format zero bytes xs rest fits e =
-    subst (λ (p : List A × List ℕ). Takes bytes (flat_map spell p.0) p.1 × (EachFits ItemFits p.0 × (length p.0 ≡ 0))) (ok_is ([], bytes) (xs, rest) e) (record { parts = refl; rest_fits = fits }, (tt, refl))
+    subst (λ (p : List A × List ℕ). Takes bytes (flat_map spell p.0) p.1 × (EachFits ItemFits p.0 × (length p.0 ≡ 0))) (ok_is ([], bytes) (xs, rest) e)
+    (record { parts = refl; rest_fits = fits }, (tt, refl))
 more-takes {A} {spell} {ItemFits} {item_at} format (suc count) bytes xs rest fits e =
     let m = bind_ok (item_at bytes) (λ x. items_from item_at false count x.1 >>= λ others. Ok (x.0 ∷ others.0, others.1)) (xs, rest) e in
     let t = format.takes bytes m.0.0 m.0.1 fits m.1 in
     let o = bind_ok (items_from item_at false count m.0.1) (λ others. Ok (m.0.0 ∷ others.0, others.1)) (xs, rest) m.2 in
     let u = more-takes format count m.0.1 o.0.0 o.0.1 t.0.rest_fits o.1 in
     let whole = Takes-then bytes (spell m.0.0) m.0.1 (flat_map spell o.0.0) o.0.1 t.0 u.0 in
-    subst (λ (p : List A × List ℕ). Takes bytes (flat_map spell p.0) p.1 × (EachFits ItemFits p.0 × (length p.0 ≡ suc count))) (ok_is (m.0.0 ∷ o.0.0, o.0.1) (xs, rest) o.2)
+    subst (λ (p : List A × List ℕ). Takes bytes (flat_map spell p.0) p.1 × (EachFits ItemFits p.0 × (length p.0 ≡ suc count)))
+    (ok_is (m.0.0 ∷ o.0.0, o.0.1) (xs, rest) o.2)
     (whole, ((t.1, u.1.0), ap suc u.1.1))
 
-more-again : {A : Type 0} {spell : A → List ℕ} {ItemFits : A → Type 0} {item_at : List ℕ → Reads A} → IsFormat spell ItemFits item_at → (xs : List A) (rest : List ℕ) → EachFits ItemFits xs → items_from item_at false (length xs) (flat_map spell xs ++ rest) ≡ Ok (xs, rest)
+more-again : {A : Type 0} {spell : A → List ℕ} {ItemFits : A → Type 0} {item_at : List ℕ → Reads A} → IsFormat spell ItemFits item_at
+    → (xs : List A) (rest : List ℕ) → EachFits ItemFits xs → items_from item_at false (length xs) (flat_map spell xs ++ rest) ≡ Ok (xs, rest)
 unfolding items_from
 more-again format [] rest h = refl
 more-again {A} {spell} {ItemFits} {item_at} format (x ∷ xs) rest h =
@@ -295,7 +341,9 @@ rows_format = record {
       let each = rows-fit log u.1.0 in
       let whole = Takes-then bytes (number 2 m.0.0) m.0.1 (flat_map row log) rest t.0 u.0 in
       (subst (λ (k : ℕ). Takes bytes (number 2 k ++ flat_map row log) rest) (sym u.1.1) whole, ((subst (λ (k : ℕ). Fits 2 k) (sym u.1.1) t.1, each.0), each.1));
-  again = λ log rest h. rw (append_assoc (number 2 (length log)) (flat_map row log) rest, n2.again (length log) (flat_map row log ++ rest) h.0.0) (more-again row_format log rest (are-rows log h.0.1 h.1));
+  again =
+      λ log rest h. rw (append_assoc (number 2 (length log)) (flat_map row log) rest, n2.again (length log) (flat_map row log ++ rest) h.0.0)
+      (more-again row_format log rest (are-rows log h.0.1 h.1));
 }
 
 -- the boots of 1 to 7 sites, that fit
@@ -315,23 +363,31 @@ boots_format = record {
       let whole = Takes-then bytes (number 1 m.0.0) m.0.1 (flat_map (number 4) known) rest t.0 u.0 in
       (subst (λ (k : ℕ). Takes bytes (number 1 k ++ flat_map (number 4) known) rest) (sym u.1.1) whole, (u.1.0, ap is_site_count u.1.1 ∙ t.1.1));
   again = λ known rest h.
-      rw (append_assoc (number 1 (length known)) (flat_map (number 4) known) rest, (listed_format 1 is_site_count).again (length known) (flat_map (number 4) known ++ rest) (count_fits (length known) h.1, h.1))
+      rw (
+        append_assoc (number 1 (length known)) (flat_map (number 4) known) rest,
+        (listed_format 1 is_site_count).again (length known)
+            (flat_map (number 4) known ++ rest) (count_fits (length known) h.1, h.1),
+      )
       (more-again n4 known rest h.0);
 }
 
 -- ---- one more item
 
-each_suc : {A : Type 0} (ItemFits : A → Type 0) (xs : List A) (j : ℕ) (d : A) → j < length xs → EachFits ItemFits (take j xs) → ItemFits (get_or xs j d) → EachFits ItemFits (take (suc j) xs)
+each_suc : {A : Type 0} (ItemFits : A → Type 0) (xs : List A) (j : ℕ) (d : A) → j < length xs → EachFits ItemFits (take j xs) → ItemFits (get_or xs j d)
+    → EachFits ItemFits (take (suc j) xs)
 each_suc ItemFits [] j d lt h r = absurd (omega arith)
 each_suc ItemFits (x ∷ xs) zero d lt h r = (r, tt)
 each_suc ItemFits (x ∷ xs) (suc j) d lt h r = (h.0, each_suc ItemFits xs j d (omega arith) h.1 r)
 
-pub each_more : {A : Type 0} (ItemFits : A → Type 0) (xs : List A) (j : ℕ) (d : A) → j < length xs → EachFits ItemFits (take j xs) → ItemFits (get_or xs j d) → EachFits ItemFits (take (j + 1) xs)
+pub each_more : {A : Type 0} (ItemFits : A → Type 0) (xs : List A) (j : ℕ) (d : A) → j < length xs → EachFits ItemFits (take j xs) → ItemFits (get_or xs j d)
+    → EachFits ItemFits (take (j + 1) xs)
 each_more ItemFits xs j d lt h r =
     let k : suc j ≡ j + 1 = omega arith in
     subst (λ (i : ℕ). EachFits ItemFits (take i xs)) k (each_suc ItemFits xs j d lt h r)
 
-pub flat_more : {A : Type 0} (spell : A → List ℕ) (xs : List A) (j : ℕ) (d : A) → j < length xs → flat_map spell (take (j + 1) xs) ≡ flat_map spell (take j xs) ++ spell (get_or xs j d)
+pub flat_more : {A : Type 0} (spell : A → List ℕ) (xs : List A) (j : ℕ) (d : A) → j < length xs
+    → flat_map spell (take (j + 1) xs) ≡ flat_map spell (take j xs) ++ spell (get_or xs j d)
 flat_more spell xs j d lt =
     let k : j + 1 ≡ suc j = omega arith in
-    ap (λ (i : ℕ). flat_map spell (take i xs)) k ∙ ap (flat_map spell) (take-suc xs j d lt) ∙ flat_map-append spell (take j xs) (get_or xs j d ∷ []) ∙ ap (λ (x : List ℕ). flat_map spell (take j xs) ++ x) (append-nil (spell (get_or xs j d)))
+    ap (λ (i : ℕ). flat_map spell (take i xs)) k ∙ ap (flat_map spell) (take-suc xs j d lt) ∙ flat_map-append spell (take j xs) (get_or xs j d ∷ [])
+    ∙ ap (λ (x : List ℕ). flat_map spell (take j xs) ++ x) (append-nil (spell (get_or xs j d)))

@@ -23,7 +23,13 @@ use Rattle.pvp_wire.proofs.Refusals.{frame_asked, frame_never}
 -- a frame has bytes
 pub length-spelling : (s : Stamped) → length (spelling s) ≡ 22 + length (body s.envelope.msg)
 length-spelling s =
-    omega (arith, length-append (number 4 (18 + length (body s.envelope.msg)) ++ head s) (body s.envelope.msg), length-append (number 4 (18 + length (body s.envelope.msg))) (head s), length-number 4 (18 + length (body s.envelope.msg)), length-head s)
+    omega (
+      arith,
+      length-append (number 4 (18 + length (body s.envelope.msg)) ++ head s) (body s.envelope.msg),
+      length-append (number 4 (18 + length (body s.envelope.msg))) (head s),
+      length-number 4 (18 + length (body s.envelope.msg)),
+      length-head s,
+    )
 
 -- one more frame is taken
 pub record TakesOne (bytes : List ℕ) (frames : List Stamped) (used : ℕ) (s : Stamped) (size : ℕ) : Type 0 where
@@ -31,21 +37,27 @@ pub record TakesOne (bytes : List ℕ) (frames : List Stamped) (used : ℕ) (s :
   pub some : 0 < size
   pub splits : Splits bytes (frames ++ s ∷ []) (drop (used + size) bytes)
 
-pub takes_one : (bytes : List ℕ) (frames : List Stamped) (used : ℕ) (s : Stamped) (size : ℕ) → IsBytes bytes → used ≤ length bytes → Splits bytes frames (drop used bytes) → frame_at (take (length bytes - used) (drop used bytes)) ≡ Ok (s, size)
+pub takes_one : (bytes : List ℕ) (frames : List Stamped) (used : ℕ) (s : Stamped) (size : ℕ) → IsBytes bytes → used ≤ length bytes
+    → Splits bytes frames (drop used bytes) → frame_at (take (length bytes - used) (drop used bytes)) ≡ Ok (s, size)
     → TakesOne bytes frames used s size
 takes_one bytes frames used s size fits inside splits cut =
-    let e : frame_at (drop used bytes) ≡ Ok (s, size) = ap frame_at (sym (take_all (length bytes - used) (drop used bytes) (omega (arith, length-drop used bytes)))) ∙ cut in
+    let e : frame_at (drop used bytes) ≡ Ok (s, size) =
+    ap frame_at (sym (take_all (length bytes - used) (drop used bytes) (omega (arith, length-drop used bytes)))) ∙ cut in
     let f = frame-takes (drop used bytes) s size (IsBytes-drop used bytes fits) e in
     let rest = drop used bytes in
     let next : drop size rest ≡ drop (used + size) bytes = drop-drop size used bytes in
-    let front : rest ≡ spelling s ++ drop (used + size) bytes = sym (take-append-drop size rest) ∙ ap (λ (x : List ℕ). x ++ drop size rest) f.text ∙ ap (λ (x : List ℕ). spelling s ++ x) next in
+    let front : rest ≡ spelling s ++ drop (used + size) bytes =
+    sym (take-append-drop size rest) ∙ ap (λ (x : List ℕ). x ++ drop size rest) f.text ∙ ap (λ (x : List ℕ). spelling s ++ x) next in
     let one : flat_map spelling (frames ++ s ∷ []) ≡ flat_map spelling frames ++ spelling s =
     flat_map-append spelling frames (s ∷ []) ∙ ap (λ (x : List ℕ). flat_map spelling frames ++ x) (append-nil (spelling s)) in
     record {
       within = omega (arith, f.within, length-drop used bytes);
       some = omega (arith, f.size, length-spelling s);
       splits = record {
-        whole = splits.whole ∙ ap (λ (x : List ℕ). flat_map spelling frames ++ x) front ∙ sym (append_assoc (flat_map spelling frames) (spelling s) (drop (used + size) bytes)) ∙ ap (λ (x : List ℕ). x ++ drop (used + size) bytes) (sym one);
+        whole =
+            splits.whole ∙ ap (λ (x : List ℕ). flat_map spelling frames ++ x) front ∙ sym
+            (append_assoc (flat_map spelling frames) (spelling s) (drop (used + size) bytes))
+            ∙ ap (λ (x : List ℕ). x ++ drop (used + size) bytes) (sym one);
         each = All-append IsSpelled frames (s ∷ []) splits.each (All-cons IsSpelled s [] f.spelled (All-nil IsSpelled));
       };
     }
@@ -65,11 +77,14 @@ no_frame s more rest fault h e failed =
     absurd cc
 
 -- a stream is split in one way
-pub one_split : (xs ys : List Stamped) (r q : List ℕ) (f g : WireFault) → All IsSpelled xs → All IsSpelled ys → flat_map spelling xs ++ r ≡ flat_map spelling ys ++ q → frame_at r ≡ Err f → frame_at q ≡ Err g
+pub one_split : (xs ys : List Stamped) (r q : List ℕ) (f g : WireFault) → All IsSpelled xs → All IsSpelled ys
+    → flat_map spelling xs ++ r ≡ flat_map spelling ys ++ q → frame_at r ≡ Err f → frame_at q ≡ Err g
     → (xs ≡ ys) × (r ≡ q)
 one_split [] [] r q f g hx hy e fr fq = (refl, e)
-one_split [] (y ∷ ys) r q f g hx hy e fr fq = absurd (no_frame y (flat_map spelling ys ++ q) r f (All-head IsSpelled y ys hy) (e ∙ append_assoc (spelling y) (flat_map spelling ys) q) fr)
-one_split (x ∷ xs) [] r q f g hx hy e fr fq = absurd (no_frame x (flat_map spelling xs ++ r) q g (All-head IsSpelled x xs hx) (sym e ∙ append_assoc (spelling x) (flat_map spelling xs) r) fq)
+one_split [] (y ∷ ys) r q f g hx hy e fr fq =
+    absurd (no_frame y (flat_map spelling ys ++ q) r f (All-head IsSpelled y ys hy) (e ∙ append_assoc (spelling y) (flat_map spelling ys) q) fr)
+one_split (x ∷ xs) [] r q f g hx hy e fr fq =
+    absurd (no_frame x (flat_map spelling xs ++ r) q g (All-head IsSpelled x xs hx) (sym e ∙ append_assoc (spelling x) (flat_map spelling xs) r) fq)
 one_split (x ∷ xs) (y ∷ ys) r q f g hx hy e fr fq =
     let front = one_frame x y (flat_map spelling xs ++ r) (flat_map spelling ys ++ q) (All-head IsSpelled x xs hx) (All-head IsSpelled y ys hy)
     (sym (append_assoc (spelling x) (flat_map spelling xs) r) ∙ e ∙ append_assoc (spelling y) (flat_map spelling ys) q) in
@@ -81,7 +96,8 @@ short_is_no_field (inl e) = absurd cc
 short_is_no_field (inr e) = absurd cc
 
 -- one call goes on with a split of what came before
-fed_once : (stream : List ℕ) (done : List Stamped) (fed : Fed) (call : Call) → Splits stream done fed.held → FeedsAt fed.fault fed call.piece call.answer call.after
+fed_once : (stream : List ℕ) (done : List Stamped) (fed : Fed) (call : Call) → Splits stream done fed.held
+    → FeedsAt fed.fault fed call.piece call.answer call.after
     → Splits (stream ++ taken_at fed.fault call.answer call.piece) (done ++ answered call.answer) call.after.held
 fed_once stream done fed call so_far feeds = go fed.fault call.answer feeds
   where
@@ -94,7 +110,8 @@ fed_once stream done fed call so_far feeds = go fed.fault call.answer feeds
       each = rw (append-nil done) so_far.each;
     }
 
-    told : (fault : WireFault) → IsTold fed call.piece fault call.after ⊎ IsRefused fed call.piece fault call.after → Splits (stream ++ taken_by (Err fault) call.piece) (done ++ []) call.after.held
+    told : (fault : WireFault) → IsTold fed call.piece fault call.after ⊎ IsRefused fed call.piece fault call.after
+        → Splits (stream ++ taken_by (Err fault) call.piece) (done ++ []) call.after.held
     told NoMemory (inl t) = absurd (t.is_of_the_stream refl)
     told NoMemory (inr h) = same h.same
     told Short (inl t) = grown t.held
@@ -114,8 +131,11 @@ fed_once stream done fed call so_far feeds = go fed.fault call.answer feeds
         → Splits (stream ++ taken_at fault answer call.piece) (done ++ answered answer) call.after.held
     go (Some fault) answer h = rw h.0 (same h.1)
     go None (Ok frames) h = record {
-      whole = ap (λ (x : List ℕ). x ++ call.piece) so_far.whole ∙ append_assoc (flat_map spelling done) fed.held call.piece ∙ ap (λ (x : List ℕ). flat_map spelling done ++ x) h.0.whole
-          ∙ sym (append_assoc (flat_map spelling done) (flat_map spelling frames.items) call.after.held) ∙ ap (λ (x : List ℕ). x ++ call.after.held) (sym (flat_map-append spelling done frames.items));
+      whole =
+          ap (λ (x : List ℕ). x ++ call.piece) so_far.whole ∙ append_assoc (flat_map spelling done) fed.held call.piece
+          ∙ ap (λ (x : List ℕ). flat_map spelling done ++ x) h.0.whole
+          ∙ sym (append_assoc (flat_map spelling done) (flat_map spelling frames.items) call.after.held)
+          ∙ ap (λ (x : List ℕ). x ++ call.after.held) (sym (flat_map-append spelling done frames.items));
       each = All-append IsSpelled done frames.items so_far.each h.0.each;
     }
     go None (Err fault) h = told fault h
@@ -127,18 +147,24 @@ fed_all stream done fed [] so_far h = rw (append-nil stream, append-nil done) so
 fed_all stream done fed (call ∷ calls) so_far h =
     let one = fed_once stream done fed call so_far h.0 in
     let all = fed_all (stream ++ taken_at fed.fault call.answer call.piece) (done ++ answered call.answer) call.after calls one h.2 in
-    rw (← append_assoc stream (taken_at fed.fault call.answer call.piece) (all_taken call.after calls), ← append_assoc done (answered call.answer) (all_answered calls)) all
+    rw (
+      ← append_assoc stream (taken_at fed.fault call.answer call.piece) (all_taken call.after calls),
+      ← append_assoc done (answered call.answer) (all_answered calls),
+    ) all
 
 pub fed_pieces : (calls : List Call) → AreFed empty calls → Splits (all_taken empty calls) (all_answered calls) (after_calls empty calls).held
 fed_pieces calls h = fed_all [] [] empty calls (record { whole = refl; each = All-nil IsSpelled }) h
 
 -- memory is refused behind the frames that were kept
-pub cut_short : (bytes : List ℕ) (frames kept : Vec Stamped) (used : ℕ) → used ≤ length bytes → Splits bytes kept.items (drop used bytes) → frames.items ≡ kept.items
+pub cut_short : (bytes : List ℕ) (frames kept : Vec Stamped) (used : ℕ) → used ≤ length bytes → Splits bytes kept.items (drop used bytes)
+    → frames.items ≡ kept.items
     → (frame_at (take (length bytes - used) (drop used bytes)) ≡ Err NoMemory) ⊎ ((NoMemory ≡ NoMemory)
-    × (TakesMemory (take (length bytes - used) (drop used bytes)) ⊎ (IsOk (frame_at (take (length bytes - used) (drop used bytes))) × (vec_capacity kept ≤ vec_len kept))))
+    × (TakesMemory (take (length bytes - used) (drop used bytes))
+    ⊎ (IsOk (frame_at (take (length bytes - used) (drop used bytes))) × (vec_capacity kept ≤ vec_len kept))))
     → IsCutShort bytes frames
 cut_short bytes frames kept used inside splits same needs =
-    let all : take (length bytes - used) (drop used bytes) ≡ drop used bytes = take_all (length bytes - used) (drop used bytes) (omega (arith, length-drop used bytes)) in
+    let all : take (length bytes - used) (drop used bytes) ≡ drop used bytes =
+    take_all (length bytes - used) (drop used bytes) (omega (arith, length-drop used bytes)) in
     let needed = rw all at needs in
     let front : Splits bytes frames.items (drop used bytes) = rw same splits in
     elim needed [
@@ -160,14 +186,18 @@ asks_none held frames waits cut = go frames.items cut.rest cut.splits cut.needs
     go : (done : List Stamped) (rest : List ℕ) → Splits held done rest → TakesMemory rest ⊎ IsOk (frame_at rest) → ⊥
     go [] rest splits needs = unread-in rest (ap frame_at (sym splits.whole) ∙ waits) needs
     go (s ∷ ss) rest splits needs =
-        no_frame s (flat_map spelling ss ++ rest) held Short (All-head IsSpelled s ss splits.each) (splits.whole ∙ append_assoc (spelling s) (flat_map spelling ss) rest) waits
+        no_frame s (flat_map spelling ss ++ rest) held Short (All-head IsSpelled s ss splits.each)
+        (splits.whole ∙ append_assoc (spelling s) (flat_map spelling ss) rest) waits
 
 -- so memory is refused for a piece that is not empty
-pub refused : (fed new : Fed) (piece : List ℕ) (frames : Vec Stamped) (fault : WireFault) → IsFed fed → fed.fault ≡ None → IsCutShort (fed.held ++ piece) frames → fault ≡ NoMemory → new ≡ fed
+pub refused : (fed new : Fed) (piece : List ℕ) (frames : Vec Stamped) (fault : WireFault) → IsFed fed → fed.fault ≡ None → IsCutShort (fed.held ++ piece) frames
+    → fault ≡ NoMemory → new ≡ fed
     → FeedsAt fed.fault fed piece (Err fault) new
 refused fed new piece frames fault is_fed none cut memory same =
     let waits : frame_at fed.held ≡ Err Short = subst (IsAt fed.held) none is_fed in
-    let some : piece ≢ [] = λ empty. asks_none fed.held frames waits (subst (λ (x : List ℕ). IsCutShort x frames) (ap (λ (x : List ℕ). fed.held ++ x) empty ∙ append-nil fed.held) cut) in
+    let some : piece ≢ [] =
+    λ empty. asks_none fed.held frames waits (subst (λ (x : List ℕ). IsCutShort x frames)
+    (ap (λ (x : List ℕ). fed.held ++ x) empty ∙ append-nil fed.held) cut) in
     let takes : FeedsAt None fed piece (Err fault) new = inr (record { some = some; memory = memory; same = same }) in
     subst (λ (f : Option WireFault). FeedsAt f fed piece (Err fault) new) (sym none) takes
 
@@ -206,7 +236,8 @@ one_fed a b e ha hb =
     ap (λ (held : List ℕ). fed_of held a.fault) e ∙ ap (fed_of b.held) fault-is
 
 -- pieces that are the same, joined, give the same
-pub fed_cuts : (a b : List Call) → AreFed empty a → AreFed empty b → all_taken empty a ≡ all_taken empty b → (all_answered a ≡ all_answered b) × (after_calls empty a ≡ after_calls empty b)
+pub fed_cuts : (a b : List Call) → AreFed empty a → AreFed empty b → all_taken empty a ≡ all_taken empty b
+    → (all_answered a ≡ all_answered b) × (after_calls empty a ≡ after_calls empty b)
 fed_cuts a b ha hb e =
     let sa = fed_pieces a ha in
     let sb = fed_pieces b hb in
@@ -214,7 +245,9 @@ fed_cuts a b ha hb e =
     let lb = fed_left b hb in
     let ua = unread (after_calls empty a).held (after_calls empty a).fault la in
     let ub = unread (after_calls empty b).held (after_calls empty b).fault lb in
-    let one = one_split (all_answered a) (all_answered b) (after_calls empty a).held (after_calls empty b).held ua.0 ub.0 sa.each sb.each (sym sa.whole ∙ e ∙ sb.whole) ua.1 ub.1 in
+    let one =
+    one_split (all_answered a) (all_answered b) (after_calls empty a).held (after_calls empty b).held ua.0 ub.0 sa.each sb.each
+    (sym sa.whole ∙ e ∙ sb.whole) ua.1 ub.1 in
     (one.0, one_fed (after_calls empty a) (after_calls empty b) one.1 la lb)
 
 -- ---- pieces that are given, also after a fault
@@ -225,19 +258,25 @@ record IsRest (stream : List ℕ) (done : List Stamped) (fault : Option WireFaul
   stands : IsAt rest fault
 
 -- after a fault nothing is answered
-stuck : (fault : WireFault) (fed : Fed) (calls : List Call) → fed.fault ≡ Some fault → AreFed fed calls → (all_answered calls ≡ []) × ((after_calls fed calls).fault ≡ Some fault)
+stuck : (fault : WireFault) (fed : Fed) (calls : List Call) → fed.fault ≡ Some fault → AreFed fed calls
+    → (all_answered calls ≡ []) × ((after_calls fed calls).fault ≡ Some fault)
 stuck fault fed [] e h = (refl, e)
 stuck fault fed (call ∷ calls) e h =
     let one : (call.answer ≡ Err fault) × (call.after ≡ fed) = subst (λ (f : Option WireFault). FeedsAt f fed call.piece call.answer call.after) e h.0 in
     let others = stuck fault call.after calls (ap (λ (x : Fed). x.fault) one.1 ∙ e) h.2 in
     (rw (one.0, others.0) refl, others.1)
 
-given_more : (stream : List ℕ) (done : List Stamped) (fed : Fed) (call : Call) (calls : List Call) → Splits stream done fed.held → IsFed fed → AreFed fed (call ∷ calls)
-    → (Splits (stream ++ taken_by call.answer call.piece) (done ++ answered call.answer) call.after.held → IsRest ((stream ++ taken_by call.answer call.piece) ++ all_given calls) ((done ++ answered call.answer) ++ all_answered calls) (after_calls call.after calls).fault)
-    → (fault : Option WireFault) → fed.fault ≡ fault → IsRest (stream ++ all_given (call ∷ calls)) (done ++ all_answered (call ∷ calls)) (after_calls call.after calls).fault
+given_more : (stream : List ℕ) (done : List Stamped) (fed : Fed) (call : Call) (calls : List Call) → Splits stream done fed.held → IsFed fed
+    → AreFed fed (call ∷ calls)
+    → (Splits (stream ++ taken_by call.answer call.piece) (done ++ answered call.answer) call.after.held
+    → IsRest ((stream ++ taken_by call.answer call.piece) ++ all_given calls) ((done ++ answered call.answer) ++ all_answered calls)
+    (after_calls call.after calls).fault)
+    → (fault : Option WireFault) → fed.fault ≡ fault
+    → IsRest (stream ++ all_given (call ∷ calls)) (done ++ all_answered (call ∷ calls)) (after_calls call.after calls).fault
 given_more stream done fed call calls so_far before h next None e =
     let one = fed_once stream done fed call so_far h.0 in
-    let all = next (subst (λ (f : Option WireFault). Splits (stream ++ taken_at f call.answer call.piece) (done ++ answered call.answer) call.after.held) e one) in
+    let all =
+    next (subst (λ (f : Option WireFault). Splits (stream ++ taken_at f call.answer call.piece) (done ++ answered call.answer) call.after.held) e one) in
     rw (← append_assoc stream (taken_by call.answer call.piece) (all_given calls), ← append_assoc done (answered call.answer) (all_answered calls)) all
 given_more stream done fed call calls so_far before h next (Some fault) e =
     let still = stuck fault fed (call ∷ calls) e h in
@@ -257,17 +296,24 @@ given_from : (stream : List ℕ) (done : List Stamped) (fed : Fed) (calls : List
     → IsRest (stream ++ all_given calls) (done ++ all_answered calls) (after_calls fed calls).fault
 given_from stream done fed [] so_far before h = record { rest = fed.held; splits = rw (append-nil stream, append-nil done) so_far; stands = before }
 given_from stream done fed (call ∷ calls) so_far before h =
-    given_more stream done fed call calls so_far before h (λ one. given_from (stream ++ taken_by call.answer call.piece) (done ++ answered call.answer) call.after calls one h.1 h.2) fed.fault refl
+    given_more stream done fed call calls so_far before h
+    (λ one. given_from (stream ++ taken_by call.answer call.piece) (done ++ answered call.answer) call.after calls one h.1 h.2) fed.fault refl
 
 given_all : (calls : List Call) → AreFed empty calls → IsRest (all_given calls) (all_answered calls) (after_calls empty calls).fault
 given_all calls h = given_from [] [] empty calls (record { whole = refl; each = All-nil IsSpelled }) empty_fed h
 
 -- the same pieces, joined, are answered the same
-pub given_cuts : (a b : List Call) → AreFed empty a → AreFed empty b → all_given a ≡ all_given b → (all_answered a ≡ all_answered b) × ((after_calls empty a).fault ≡ (after_calls empty b).fault)
+pub given_cuts : (a b : List Call) → AreFed empty a → AreFed empty b → all_given a ≡ all_given b
+    → (all_answered a ≡ all_answered b) × ((after_calls empty a).fault ≡ (after_calls empty b).fault)
 given_cuts a b ha hb e =
     let ra = given_all a ha in
     let rb = given_all b hb in
     let ua = unread ra.rest (after_calls empty a).fault ra.stands in
     let ub = unread rb.rest (after_calls empty b).fault rb.stands in
-    let one = one_split (all_answered a) (all_answered b) ra.rest rb.rest ua.0 ub.0 ra.splits.each rb.splits.each (sym ra.splits.whole ∙ e ∙ rb.splits.whole) ua.1 ub.1 in
-    (one.0, same_fault rb.rest (after_calls empty a).fault (after_calls empty b).fault (subst (λ (rest : List ℕ). IsAt rest (after_calls empty a).fault) one.1 ra.stands) rb.stands)
+    let one =
+    one_split (all_answered a) (all_answered b) ra.rest rb.rest ua.0 ub.0 ra.splits.each rb.splits.each
+    (sym ra.splits.whole ∙ e ∙ rb.splits.whole) ua.1 ub.1 in (
+      one.0,
+      same_fault rb.rest (after_calls empty a).fault (after_calls empty b).fault
+          (subst (λ (rest : List ℕ). IsAt rest (after_calls empty a).fault) one.1 ra.stands) rb.stands,
+    )

@@ -48,7 +48,9 @@ abbrev order : Stamped
 order = sent 200 7 2 102 (PayOrder (record { ccy = 1; out = 1; member = 1; amt = 200 }))
 
 abbrev order_bytes : List ℕ
-order_bytes = 0 ∷ 0 ∷ 0 ∷ 33 ∷ 2 ∷ 13 ∷ 0 ∷ 200 ∷ 0 ∷ 0 ∷ 0 ∷ 0 ∷ 0 ∷ 0 ∷ 0 ∷ 7 ∷ 0 ∷ 0 ∷ 0 ∷ 2 ∷ 0 ∷ 102 ∷ 1 ∷ 0 ∷ 0 ∷ 0 ∷ 1 ∷ 0 ∷ 1 ∷ 0 ∷ 0 ∷ 0 ∷ 0 ∷ 0 ∷ 0 ∷ 0 ∷ 200 ∷ []
+order_bytes =
+    0 ∷ 0 ∷ 0 ∷ 33 ∷ 2 ∷ 13 ∷ 0 ∷ 200 ∷ 0 ∷ 0 ∷ 0 ∷ 0 ∷ 0 ∷ 0 ∷ 0 ∷ 7 ∷ 0 ∷ 0 ∷ 0 ∷ 2 ∷ 0 ∷ 102 ∷ 1 ∷ 0 ∷ 0 ∷ 0 ∷ 1 ∷ 0 ∷ 1 ∷ 0 ∷ 0 ∷ 0
+    ∷ 0 ∷ 0 ∷ 0 ∷ 0 ∷ 200 ∷ []
 
 order_is_spelled : spelling order ≡ order_bytes
 unfolding number
@@ -110,7 +112,8 @@ abbrev with_sites : ℕ → List ℕ
 with_sites count = take 26 start_view_change_bytes ++ count ∷ drop 27 start_view_change_bytes
 
 -- of no site, and of more than seven, nothing is told; two leave bytes behind them, and of four one is cut off
-other_counts_of_sites : (frame_at (with_sites 0) ≡ Err Field) × (frame_at (with_sites 8) ≡ Err Field) × (frame_at (with_sites 2) ≡ Err Length) × (frame_at (with_sites 4) ≡ Err Length)
+other_counts_of_sites : (frame_at (with_sites 0) ≡ Err Field) × (frame_at (with_sites 8) ≡ Err Field) × (frame_at (with_sites 2) ≡ Err Length)
+    × (frame_at (with_sites 4) ≡ Err Length)
 unfolding frame_where counted_at envelope_at stamp_at message_at start_view_change_at boots_at items_from
 other_counts_of_sites = (refl, refl, refl, refl)
 

@@ -19,7 +19,8 @@ pub record Fed : Type 0 where
 abbrev pub empty : Fed
 empty = record { held = []; fault = None }
 
--- No fault stands there, and what is held is no whole frame. Or one does: it is what is wrong with the bytes that are held, whatever comes after them.
+-- No fault stands there, and what is held is no whole frame. Or one does: it is what is wrong with the bytes that are
+-- held, whatever comes after them.
 abbrev pub IsAt : List ℕ → Option WireFault → Type 0
 IsAt held None = frame_at held ≡ Err Short
 IsAt held (Some fault) = (frame_at held ≡ Err fault) × (fault ≢ Short) × (fault ≢ NoMemory)
@@ -33,8 +34,8 @@ pub record Splits (stream : List ℕ) (frames : List Stamped) (rest : List ℕ) 
   pub whole : stream ≡ flat_map spelling frames ++ rest
   pub each : All IsSpelled frames
 
--- What stands in front is kept behind these frames: as one more, of which the size is answered, or there is none. Memory
--- may be refused for its rows, or where there is no room for one more.
+-- What stands in front is kept behind these frames: as one more, of which the size is answered, or there is none.
+-- Memory may be refused for its rows, or where there is no room for one more.
 abbrev pub Keeps : Vec Stamped → List ℕ → Result ℕ WireFault → Vec Stamped → Type 0
 Keeps old bytes (Ok size) new = (s : Stamped) × (frame_at bytes ≡ Ok (s, size)) × (new.items ≡ old.items ++ s ∷ [])
 Keeps old bytes (Err fault) new = (new.items ≡ old.items) × ((frame_at bytes ≡ Err fault)
@@ -62,7 +63,8 @@ pub record IsRefused (old : Fed) (piece : List ℕ) (told : WireFault) (new : Fe
 -- What a feeder without a fault makes of a piece: the frames that are whole now are answered, and the rest is held. A
 -- fault behind them is told at the next call, one in front of all of them at once.
 abbrev pub Takes : Fed → List ℕ → Result (Vec Stamped) WireFault → Fed → Type 0
-Takes old piece (Ok frames) new = Splits (old.held ++ piece) frames.items new.held × ((frames.items ≢ []) ⊎ (new.fault ≡ None))
+Takes old piece (Ok frames) new =
+    Splits (old.held ++ piece) frames.items new.held × ((frames.items ≢ []) ⊎ (new.fault ≡ None))
 Takes old piece (Err fault) new = IsTold old piece fault new ⊎ IsRefused old piece fault new
 
 -- What a feeder makes of a piece: where a fault stands, it is told again, and the piece is not taken.

@@ -1,4 +1,5 @@
--- The two parts in which the fields of a message are written: what stands in front of its rows, and the rows page by page.
+-- The two parts in which the fields of a message are written: what stands in front of its rows, and the rows page by
+-- page.
 use Rattle.std.specs.Prelude.{ℕ, ◌*◌, List, [], take, drop, Option, Some, None}
 use Rattle.std.specs.List.{flat_map}
 use Rattle.vr_types.specs.declared.message.MsgOf.TheVariants.{DoViewChange, StartView, NewState, RecoveryResponse}

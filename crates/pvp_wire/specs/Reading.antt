@@ -207,7 +207,10 @@ do_view_change_at refused bytes = do
   k ← number_at 2 last_normal.1
   known ← boots_at k.1
   log ← rows_at refused known.1
-  Ok (DoViewChange (record { view = view.0; last_normal = last_normal.0; done = k.0; rows = log.0; known = known.0 }), log.1)
+  Ok (
+    DoViewChange (record { view = view.0; last_normal = last_normal.0; done = k.0; rows = log.0; known = known.0 }),
+    log.1,
+  )
 
 unfoldable pub start_view_at : Bool → List ℕ → Reads BankMsg
 start_view_at refused bytes = do
@@ -244,7 +247,8 @@ unfoldable pub message_at : Bool → ℕ → List ℕ → Reads BankMsg
 message_at refused kind bytes =
     if kind == 1 then request_at bytes
     else if kind == 2 then prepare_at bytes
-    else if kind == 3 then (view_and_place_at bytes >>= λ x. Ok (PrepareOk (record { view = x.0.0; place = x.0.1 }), x.1))
+    else if kind == 3 then (view_and_place_at bytes >>= λ x.
+    Ok (PrepareOk (record { view = x.0.0; place = x.0.1 }), x.1))
     else if kind == 4 then (view_and_place_at bytes >>= λ x. Ok (Commit (record { view = x.0.0; done = x.0.1 }), x.1))
     else if kind == 5 then start_view_change_at bytes
     else if kind == 6 then do_view_change_at refused bytes

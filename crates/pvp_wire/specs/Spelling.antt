@@ -105,7 +105,8 @@ body (Prepare msg) = number 4 msg.view ++ number 2 msg.place ++ number 2 msg.don
 body (PrepareOk msg) = number 4 msg.view ++ number 2 msg.place
 body (Commit msg) = number 4 msg.view ++ number 2 msg.done
 body (StartViewChange msg) = number 4 msg.view ++ boots msg.known
-body (DoViewChange msg) = number 4 msg.view ++ number 4 msg.last_normal ++ number 2 msg.done ++ boots msg.known ++ rows msg.rows
+body (DoViewChange msg) =
+    number 4 msg.view ++ number 4 msg.last_normal ++ number 2 msg.done ++ boots msg.known ++ rows msg.rows
 body (StartView msg) = number 4 msg.view ++ number 2 msg.done ++ rows msg.rows
 body (GetState msg) = number 4 msg.view ++ number 2 msg.base
 body (NewState msg) = number 4 msg.view ++ number 2 msg.base ++ number 2 msg.done ++ rows msg.rows
@@ -125,8 +126,8 @@ version = 2
 abbrev pub head : Stamped → List ℕ
 head s = version ∷ kind s.envelope.msg ∷ stamp s.stamp ++ number 2 s.envelope.to
 
--- the most bytes that a command, a row, rows, boots and the fields of a message have: an Instruct, and a RECOVERYRESPONSE
--- with as many rows as a log has
+-- the most bytes that a command, a row, rows, boots and the fields of a message have: an Instruct, and a
+-- RECOVERYRESPONSE with as many rows as a log has
 abbrev pub most_command : ℕ
 most_command = 25
 
@@ -158,8 +159,8 @@ abbrev pub has_site_count : Option (List ℕ) → Bool
 has_site_count None = true
 has_site_count (Some known) = is_site_count (length known)
 
--- An envelope that has a spelling: it is from the actor of its stamp, its actors are actors, its rows are of clients, and
--- the boots that it tells of are those of 1 to 7 sites.
+-- An envelope that has a spelling: it is from the actor of its stamp, its actors are actors, its rows are of clients,
+-- and the boots that it tells of are those of 1 to 7 sites.
 abbrev pub is_wireable : Stamped → Bool
 is_wireable s =
     (s.envelope.from == s.stamp.actor)

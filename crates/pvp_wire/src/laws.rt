@@ -11,32 +11,42 @@ ghost use Rattle.pvp_wire.specs.Feeding.{Splits, Call, IsFed, AreFed, empty, all
 /// What is read is spelled so, to the byte; what has a spelling is read again from it, whatever follows; no spelling
 /// begins another, and none is longer than one with a whole log and the boots of seven sites, 2,031,649 bytes.
 pub fn frames()
-    ensures read { (bytes : List ℕ) (stamped : Stamped) (size : ℕ) → IsBytes bytes → frame_at bytes ≡ Ok (stamped, size) →
-        (take size bytes ≡ spelling stamped) × (size ≡ length (spelling stamped)) × (size ≤ length bytes) × IsSpelled stamped }
-    ensures again { (stamped : Stamped) (rest : List ℕ) → IsSpelled stamped → frame_at (spelling stamped ++ rest) ≡ Ok (stamped, length (spelling stamped)) }
-    ensures one { (a b : Stamped) (x y : List ℕ) → IsSpelled a → IsSpelled b → spelling a ++ x ≡ spelling b ++ y → (a ≡ b) × (x ≡ y) }
-    ensures short { (stamped : Stamped) → IsSpelled stamped → length (spelling stamped) ≤ 22 + most_body }
+    ensures read { (bytes : List ℕ) (stamped : Stamped) (size : ℕ) → IsBytes bytes →
+        frame_at bytes ≡ Ok (stamped, size) →
+        (take size bytes ≡ spelling stamped) × (size ≡ length (spelling stamped))
+        × (size ≤ length bytes) × IsSpelled stamped }
+    ensures again { (stamped : Stamped) (rest : List ℕ) → IsSpelled stamped →
+        frame_at (spelling stamped ++ rest) ≡ Ok (stamped, length (spelling stamped)) }
+    ensures one { (a b : Stamped) (x y : List ℕ) → IsSpelled a → IsSpelled b →
+        spelling a ++ x ≡ spelling b ++ y → (a ≡ b) × (x ≡ y) }
+    ensures short { (stamped : Stamped) → IsSpelled stamped →
+        length (spelling stamped) ≤ 22 + most_body }
 {}
 
 /// Memory is taken only for frames of the four kinds that carry a list of rows. One that is read has a row then; of one
 /// that is not, a field is at fault, or the frame's length.
 pub fn memory()
-    ensures kind { (bytes : List ℕ) → TakesMemory bytes → carries_a_list (slice_index bytes 5) ≡ true }
-    ensures read { (bytes : List ℕ) (stamped : Stamped) (size : ℕ) → TakesMemory bytes → frame_at bytes ≡ Ok (stamped, size) →
+    ensures kind { (bytes : List ℕ) → TakesMemory bytes →
+        carries_a_list (slice_index bytes 5) ≡ true }
+    ensures read { (bytes : List ℕ) (stamped : Stamped) (size : ℕ) → TakesMemory bytes →
+        frame_at bytes ≡ Ok (stamped, size) →
         HasARow stamped.envelope.msg }
-    ensures fault { (bytes : List ℕ) (fault : WireFault) → TakesMemory bytes → frame_at bytes ≡ Err fault → IsOfField fault }
+    ensures fault { (bytes : List ℕ) (fault : WireFault) → TakesMemory bytes →
+        frame_at bytes ≡ Err fault → IsOfField fault }
 {}
 
 /// A stream that goes on with no frame is split into frames in one way alone.
 pub fn streams()
-    ensures { (stream : List ℕ) (a b : List Stamped) (x y : List ℕ) (f g : WireFault) → Splits stream a x → Splits stream b y → frame_at x ≡ Err f → frame_at y ≡ Err g →
+    ensures { (stream : List ℕ) (a b : List Stamped) (x y : List ℕ) (f g : WireFault) →
+        Splits stream a x → Splits stream b y → frame_at x ≡ Err f → frame_at y ≡ Err g →
         (a ≡ b) × (x ≡ y) }
 {}
 
 /// After any calls of a new feeder the frames that it answered are those at the front of the pieces that it took,
 /// joined. What it holds is what is left: no whole frame, or the fault that it keeps stands there.
 pub fn pieces()
-    ensures front { (calls : List Call) → AreFed empty calls → Splits (all_taken empty calls) (all_answered calls) (after_calls empty calls).held }
+    ensures front { (calls : List Call) → AreFed empty calls →
+        Splits (all_taken empty calls) (all_answered calls) (after_calls empty calls).held }
     ensures left { (calls : List Call) → AreFed empty calls → IsFed (after_calls empty calls) }
 {}
 
@@ -44,8 +54,11 @@ pub fn pieces()
 /// answered the same frames and keep the same fault. Where those that they took are the same, without any that came
 /// after a fault, they hold the same bytes too. A piece for which memory was refused does not count.
 pub fn cuts()
-    ensures given { (a b : List Call) → AreFed empty a → AreFed empty b → all_given a ≡ all_given b →
-        (all_answered a ≡ all_answered b) × ((after_calls empty a).fault ≡ (after_calls empty b).fault) }
-    ensures taken { (a b : List Call) → AreFed empty a → AreFed empty b → all_taken empty a ≡ all_taken empty b →
+    ensures given { (a b : List Call) → AreFed empty a → AreFed empty b →
+        all_given a ≡ all_given b →
+        (all_answered a ≡ all_answered b)
+        × ((after_calls empty a).fault ≡ (after_calls empty b).fault) }
+    ensures taken { (a b : List Call) → AreFed empty a → AreFed empty b →
+        all_taken empty a ≡ all_taken empty b →
         (all_answered a ≡ all_answered b) × (after_calls empty a ≡ after_calls empty b) }
 {}

@@ -142,7 +142,8 @@ fn new_state_at(alloc: Global, bytes: &[u8]) -> Result<(Message, &[u8]), WireFau
 
 #[tactic(auto, unfolding(crate::specs::Reading::recovery_response_at))]
 fn recovery_response_at(alloc: Global, bytes: &[u8]) -> Result<(Message, &[u8]), WireFault>
-    ensures { Gives (λ x. (x.0, x.1.now)) result (λ refused. recovery_response_at refused bytes.now) }
+    ensures { Gives (λ x. (x.0, x.1.now)) result (λ refused.
+        recovery_response_at refused bytes.now) }
 {
     let (view, rest) = u32_at(bytes)?;
     let (nonce, rest) = u32_at(rest)?;

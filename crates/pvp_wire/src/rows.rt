@@ -10,7 +10,8 @@ use vr_types::{RowsOf, StateOf};
 
 /// So many rows.
 fn rows_from(alloc: Global, count: u16, bytes: &[u8]) -> Result<(RowsOf<Cmd>, &[u8]), WireFault>
-    ensures { Gives (λ x. (x.0, x.1.now)) result (λ refused. items_from row_at refused count bytes.now) }
+    ensures { Gives (λ x. (x.0, x.1.now)) result (λ refused.
+        items_from row_at refused count bytes.now) }
 {
     let mut rows = RowsOf::new(alloc);
     let mut rest = bytes;

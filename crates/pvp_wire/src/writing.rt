@@ -35,7 +35,8 @@ type Page = ArrayVec<u8, 1984>;
 /// An `Err` is the writer's; how much was written then is not said. A page of rows is written at a time.
 pub fn encode<W: Write>(stamped: &Stamped, writer: &mut W) -> io::Result<()>
     requires { spell.is_wireable stamped.now ≡ true }
-    ensures written { OnOk result (Appends (W.contents writer.old) (W.contents writer.new) (spell.spelling stamped.now)) }
+    ensures written { OnOk result (Appends (W.contents writer.old) (W.contents writer.new)
+        (spell.spelling stamped.now)) }
     // So `decode` reads it again.
     ensures spelled { OnOk result (IsSpelled stamped.now) }
 {
@@ -157,7 +158,8 @@ fn command_len(cmd: Cmd) -> u32
 
 /// Writes the rows with which a message ends.
 fn write_rows<W: Write>(msg: &Message, writer: &mut W) -> io::Result<()>
-    ensures { OnOk result (Appends (W.contents writer.old) (W.contents writer.new) (piece.spelled (piece.last_rows msg.now))) }
+    ensures { OnOk result (Appends (W.contents writer.old) (W.contents writer.new)
+        (piece.spelled (piece.last_rows msg.now))) }
 {
     match last_rows(msg) {
         Some(rows) => write_each(rows, writer),
@@ -167,7 +169,8 @@ fn write_rows<W: Write>(msg: &Message, writer: &mut W) -> io::Result<()>
 
 /// Writes the rows of a list, a page at a time.
 fn write_each<W: Write>(rows: &RowsOf<Cmd>, writer: &mut W) -> io::Result<()>
-    ensures { OnOk result (Appends (W.contents writer.old) (W.contents writer.new) (flat_map spell.row rows.now)) }
+    ensures { OnOk result (Appends (W.contents writer.old) (W.contents writer.new)
+        (flat_map spell.row rows.now)) }
 {
     for at in 0..page_count(rows) {
         write_page(page_at(rows, at), writer)?;
@@ -178,7 +181,8 @@ fn write_each<W: Write>(rows: &RowsOf<Cmd>, writer: &mut W) -> io::Result<()>
 /// Writes the rows of a page at once.
 fn write_page<W: Write>(rows: &[RowOf<Cmd>], writer: &mut W) -> io::Result<()>
     requires { length rows.now ≤ page_rows }
-    ensures { OnOk result (Appends (W.contents writer.old) (W.contents writer.new) (flat_map spell.row rows.now)) }
+    ensures { OnOk result (Appends (W.contents writer.old) (W.contents writer.new)
+        (flat_map spell.row rows.now)) }
 {
     let mut page = Page::new();
     for row in rows {
@@ -191,7 +195,8 @@ fn write_page<W: Write>(rows: &[RowOf<Cmd>], writer: &mut W) -> io::Result<()>
 fn push_head(out: &mut Piece, stamped: &Stamped, body: u32)
     requires room { array_vec_len out.old + 22 ≤ piece.room }
     requires short { body ≤ spell.most_body }
-    ensures bytes { out.new.items ≡ out.old.items ++ spell.number 4 (18 + body) ++ spell.head stamped.now }
+    ensures bytes { out.new.items ≡ out.old.items ++ spell.number 4 (18 + body)
+        ++ spell.head stamped.now }
     ensures fits { StampFits stamped.now.stamp × Fits 2 stamped.now.envelope.to }
 {
     push_u32(out, 18 + body);
@@ -381,7 +386,8 @@ fn push_payment<const N: usize>(
     amt: u64,
 )
     requires { array_vec_len out.old + 15 ≤ N }
-    ensures bytes { out.new.items ≡ out.old.items ++ spell.number 1 ccy ++ spell.number 4 number ++ spell.number 2 member ++ spell.number 8 amt }
+    ensures bytes { out.new.items ≡ out.old.items ++ spell.number 1 ccy ++ spell.number 4 number
+        ++ spell.number 2 member ++ spell.number 8 amt }
     ensures len { array_vec_len out.new ≡ array_vec_len out.old + 15 }
 {
     push_u8(out, ccy);
@@ -452,7 +458,8 @@ fn push_row<const N: usize>(out: &mut ArrayVec<u8, N>, row: RowOf<Cmd>)
 /// How many rows there are. They come behind it.
 fn push_count(out: &mut Piece, rows: &RowsOf<Cmd>)
     requires { array_vec_len out.old + 2 ≤ piece.room }
-    ensures bytes { out.new.items ++ flat_map spell.row rows.now ≡ out.old.items ++ spell.rows rows.now }
+    ensures bytes { out.new.items ++ flat_map spell.row rows.now
+        ≡ out.old.items ++ spell.rows rows.now }
     ensures len { array_vec_len out.new ≡ array_vec_len out.old + 2 }
 {
     push_u16(out, rows.len() as u16);
@@ -475,7 +482,8 @@ fn push_boots(out: &mut Piece, known: &Known)
 /// 0, or 1 and the state in front of its rows.
 fn push_state(out: &mut Piece, state: &Option<StateOf<Cmd>>)
     requires { array_vec_len out.old + 5 ≤ piece.room }
-    ensures bytes { out.new.items ++ piece.spelled (piece.rows_of state.now) ≡ out.old.items ++ spell.state state.now }
+    ensures bytes { out.new.items ++ piece.spelled (piece.rows_of state.now)
+        ≡ out.old.items ++ spell.state state.now }
     ensures fits { piece.LastFits (piece.rows_of state.now) → StateFits state.now }
 {
     match state {
@@ -523,7 +531,8 @@ fn push_view_and_place(out: &mut Piece, view: u32, place: u16)
 fn push_front(out: &mut Piece, msg: &Message)
     requires count { spell.has_site_count (known_in msg.now) ≡ true }
     requires room { array_vec_len out.old + 42 ≤ piece.room }
-    ensures bytes { out.new.items ++ piece.spelled (piece.last_rows msg.now) ≡ out.old.items ++ spell.body msg.now }
+    ensures bytes { out.new.items ++ piece.spelled (piece.last_rows msg.now)
+        ≡ out.old.items ++ spell.body msg.now }
     ensures fits { piece.LastFits (piece.last_rows msg.now) → MessageFits msg.now }
 {
     match msg {
@@ -575,7 +584,8 @@ fn push_start_view_change(out: &mut Piece, msg: &StartViewChange)
 fn push_do_view_change(out: &mut Piece, msg: &DoViewChangeOf<Cmd>)
     requires count { spell.is_site_count (length msg.now.known) ≡ true }
     requires room { array_vec_len out.old + 41 ≤ piece.room }
-    ensures bytes { out.new.items ++ flat_map spell.row msg.now.rows ≡ out.old.items ++ spell.body (message.DoViewChange msg.now) }
+    ensures bytes { out.new.items ++ flat_map spell.row msg.now.rows
+        ≡ out.old.items ++ spell.body (message.DoViewChange msg.now) }
     ensures fits { RowsFit msg.now.rows → MessageFits (message.DoViewChange msg.now) }
 {
     push_u32(out, msg.view);
@@ -586,7 +596,8 @@ fn push_do_view_change(out: &mut Piece, msg: &DoViewChangeOf<Cmd>)
 
 fn push_start_view(out: &mut Piece, msg: &StartViewOf<Cmd>)
     requires { array_vec_len out.old + 8 ≤ piece.room }
-    ensures bytes { out.new.items ++ flat_map spell.row msg.now.rows ≡ out.old.items ++ spell.body (message.StartView msg.now) }
+    ensures bytes { out.new.items ++ flat_map spell.row msg.now.rows
+        ≡ out.old.items ++ spell.body (message.StartView msg.now) }
     ensures fits { RowsFit msg.now.rows → MessageFits (message.StartView msg.now) }
 {
     push_view_and_place(out, msg.view, msg.done);
@@ -595,7 +606,8 @@ fn push_start_view(out: &mut Piece, msg: &StartViewOf<Cmd>)
 
 fn push_new_state(out: &mut Piece, msg: &NewStateOf<Cmd>)
     requires { array_vec_len out.old + 10 ≤ piece.room }
-    ensures bytes { out.new.items ++ flat_map spell.row msg.now.rows ≡ out.old.items ++ spell.body (message.NewState msg.now) }
+    ensures bytes { out.new.items ++ flat_map spell.row msg.now.rows
+        ≡ out.old.items ++ spell.body (message.NewState msg.now) }
     ensures fits { RowsFit msg.now.rows → MessageFits (message.NewState msg.now) }
 {
     push_view_and_place(out, msg.view, msg.base);
@@ -609,7 +621,8 @@ fn push_regained(out: &mut Piece, msg: &RecoveryResponseOf<Cmd>)
     requires room { array_vec_len out.old + 42 ≤ piece.room }
     ensures bytes { out.new.items ++ piece.spelled (piece.rows_of msg.now.state) ≡ out.old.items
         ++ spell.body (message.RecoveryResponse msg.now) }
-    ensures fits { piece.LastFits (piece.rows_of msg.now.state) → MessageFits (message.RecoveryResponse msg.now) }
+    ensures fits { piece.LastFits (piece.rows_of msg.now.state) →
+        MessageFits (message.RecoveryResponse msg.now) }
 {
     push_u32(out, msg.view);
     push_u32(out, msg.nonce);

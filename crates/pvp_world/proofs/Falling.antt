@@ -38,7 +38,8 @@ module _ {B : Type 0} (held : B → Boot) (old new : Shown B) (step : Step) (cel
   -- a fall over another value is told by what is a miss, and as elsewhere where that value is what the step saves
   pub told-elsewhere : (missed : FallFault) (i : ℕ) (event : EventOf Cmd Answer PaymentOrder) (v : replica.Shown Cmd Setup B) (other : Boot)
       → is_miss missed ≡ true → turn old.post step ≡ Some (OfSite i event) → slice_get old.sites i ≡ Some v → other ≢ cell → (held v.cell ≡ cell → other ≡ cell)
-      → (moves : Moves held old new (Falls step other)) → (missed ≡ Elsewhere → IsOverSaved held old new step other moves) → FallsTo held old new step cell (Err missed)
+      → (moves : Moves held old new (Falls step other)) → (missed ≡ Elsewhere → IsOverSaved held old new step other moves)
+      → FallsTo held old new step cell (Err missed)
   unfolding elsewhere
   told-elsewhere Elsewhere i event v other misses is there apart lasts moves saved = record {
     fell = elsewhere i event v other is there apart lasts moves;
@@ -50,7 +51,8 @@ module _ {B : Type 0} (held : B → Boot) (old new : Shown B) (step : Step) (cel
   }
 
   -- the step was refused, and nothing changed
-  pub told-kept : (fault : SiteFault) → (new ≡ old) × IsWhy held old step (OfSiteFault fault) × (is_fall fault ≡ false) → FallsTo held old new step cell (Err (OfStep (OfSiteFault fault)))
+  pub told-kept : (fault : SiteFault) → (new ≡ old) × IsWhy held old step (OfSiteFault fault) × (is_fall fault ≡ false)
+      → FallsTo held old new step cell (Err (OfStep (OfSiteFault fault)))
   told-kept fault kept = record {
     kept = λ _. (kept.0, inl kept.1);
     fell = λ falls. absurd (true≢false (sym falls ∙ kept.2));
@@ -64,8 +66,12 @@ step-same : (a b : WorldFault) → OfStep a ≡ OfStep b → a ≡ b
 step-same a b e = cc
 
 -- a fault that fells no site is no failed save
-no-failure : (fault : WorldFault) → is_world_fall fault ≡ false → ◌≢◌ {A = Result (Unit {0}) FallFault} (Err (OfStep fault)) (Err (OfStep (OfSiteFault CellFault)))
-no-failure fault stays e = true≢false (sym (ap (λ (z : WorldFault). is_world_fall z) (step-same fault (OfSiteFault CellFault) (told-same (OfStep fault) (OfStep (OfSiteFault CellFault)) e))) ∙ stays)
+no-failure : (fault : WorldFault) → is_world_fall fault ≡ false
+    → ◌≢◌ {A = Result (Unit {0}) FallFault} (Err (OfStep fault)) (Err (OfStep (OfSiteFault CellFault)))
+no-failure fault stays e =
+    true≢false
+    (sym (ap (λ (z : WorldFault). is_world_fall z) (step-same fault (OfSiteFault CellFault) (told-same (OfStep fault) (OfStep (OfSiteFault CellFault)) e)))
+    ∙ stays)
 
 -- WHERE NO SAVE OF A CELL FAILS
 module _ {B : Type 0} (c : Cell B) (old new : Shown B) where

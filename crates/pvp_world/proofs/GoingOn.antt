@@ -45,7 +45,8 @@ each_sum f g (x ∷ xs) (y ∷ ys) e same =
 
 each_count : {A B : Type 0} (p : A → Bool) (q : B → Bool) (xs : List A) (ys : List B) → length xs ≡ length ys
     → ((i : ℕ) (x : A) (y : B) → slice_get xs i ≡ Some x → slice_get ys i ≡ Some y → p x ≡ q y) → count_by p xs ≡ count_by q ys
-each_count p q xs ys e same = each_sum (λ x. cond (p x) 1 0) (λ y. cond (q y) 1 0) xs ys e (λ i x y at at'. ap (λ (t : Bool). cond {A = ℕ} t 1 0) (same i x y at at'))
+each_count p q xs ys e same =
+    each_sum (λ x. cond (p x) 1 0) (λ y. cond (q y) 1 0) xs ys e (λ i x y at at'. ap (λ (t : Bool). cond {A = ℕ} t 1 0) (same i x y at at'))
 
 has_place : {A : Type 0} (xs : List A) (i : ℕ) → i < length xs → (x : A) × (slice_get xs i ≡ Some x)
 has_place [] i low = absurd (omega arith)
@@ -89,8 +90,10 @@ counted p x xs = sum_by-cons (λ y. cond (p y) 1 0) x xs
 one_later : (q : ℕ → Bool) (a n : ℕ) → count_by q (range_with_len (a + 1) n) ≡ count_by (λ i. q (suc i)) (range_with_len a n)
 one_later q a zero = refl
 one_later q a (suc n) =
-    let c : count_by q (range_with_len (a + 1) (suc n)) ≡ cond (q (a + 1)) 1 0 + count_by q (range_with_len (a + 1 + 1) n) = counted q (a + 1) (range_with_len (a + 1 + 1) n) in
-    let d : count_by (λ i. q (suc i)) (range_with_len a (suc n)) ≡ cond (q (suc a)) 1 0 + count_by (λ i. q (suc i)) (range_with_len (a + 1) n) = counted (λ i. q (suc i)) a (range_with_len (a + 1) n) in
+    let c : count_by q (range_with_len (a + 1) (suc n)) ≡ cond (q (a + 1)) 1 0 + count_by q (range_with_len (a + 1 + 1) n) =
+    counted q (a + 1) (range_with_len (a + 1 + 1) n) in
+    let d : count_by (λ i. q (suc i)) (range_with_len a (suc n)) ≡ cond (q (suc a)) 1 0 + count_by (λ i. q (suc i)) (range_with_len (a + 1) n) =
+    counted (λ i. q (suc i)) a (range_with_len (a + 1) n) in
     let r = one_later q (a + 1) n in
     let s : cond {A = ℕ} (q (a + 1)) 1 0 ≡ cond (q (suc a)) 1 0 = ap (λ (k : ℕ). cond {A = ℕ} (q k) 1 0) (omega arith) in
     omega arith
@@ -99,8 +102,10 @@ one_later q a (suc n) =
 runs_are : (xs : List (Site Cmd)) → count_by (runs_at xs) (range_with_len 0 (length xs)) ≡ count_by (λ (x : Site Cmd). is_running x.status) xs
 runs_are [] = refl
 runs_are (x ∷ xs) =
-    let c : count_by (runs_at (x ∷ xs)) (range_with_len 0 (suc (length xs))) ≡ cond (is_running x.status) 1 0 + count_by (runs_at (x ∷ xs)) (range_with_len (0 + 1) (length xs)) = counted (runs_at (x ∷ xs)) 0 (range_with_len (0 + 1) (length xs)) in
-    let d : count_by (λ (y : Site Cmd). is_running y.status) (x ∷ xs) ≡ cond (is_running x.status) 1 0 + count_by (λ (y : Site Cmd). is_running y.status) xs = sum_by-cons (λ (y : Site Cmd). cond {A = ℕ} (is_running y.status) 1 0) x xs in
+    let c : count_by (runs_at (x ∷ xs)) (range_with_len 0 (suc (length xs))) ≡ cond (is_running x.status) 1 0 + count_by (runs_at (x ∷ xs))
+    (range_with_len (0 + 1) (length xs)) = counted (runs_at (x ∷ xs)) 0 (range_with_len (0 + 1) (length xs)) in
+    let d : count_by (λ (y : Site Cmd). is_running y.status) (x ∷ xs) ≡ cond (is_running x.status) 1 0 + count_by (λ (y : Site Cmd). is_running y.status) xs =
+    sum_by-cons (λ (y : Site Cmd). cond {A = ℕ} (is_running y.status) 1 0) x xs in
     let r = one_later (runs_at (x ∷ xs)) 0 (length xs) in
     let s = runs_are xs in
     omega arith
@@ -119,15 +124,19 @@ lt_yes a b h = grind (arith, nat_tests, h)
 lt_of : (a b : ℕ) → nat_lt a b ≡ true → a < b
 lt_of a b e = grind (arith, nat_tests, e)
 
-module _ {B : Type 0} (held : B → Boot) (world : Shown B) (bank : Bank) (shows : ShowsBank held world bank) (size : length bank.sites ≡ 2 * faults world.setup + 1) where
+module _ {B : Type 0} (held : B → Boot) (world : Shown B) (bank : Bank) (shows : ShowsBank held world bank)
+    (size : length bank.sites ≡ 2 * faults world.setup + 1) where
   run_is : running world ≡ count_by (runs_at bank.sites) (sites (faults world.setup))
   run_is =
-      each_count (λ (v : replica.Shown Cmd Setup B). is_running v.volatile.status) (λ (x : Site Cmd). is_running x.status) world.sites bank.sites shows.sites.count
+      each_count (λ (v : replica.Shown Cmd Setup B). is_running v.volatile.status) (λ (x : Site Cmd). is_running x.status) world.sites
+      bank.sites shows.sites.count
       (λ i v x at at'. sym (ap (λ (y : Site Cmd). is_running y.status) (shows.sites.each i v x at at').site))
       ∙ (sym (runs_are bank.sites) ∙ ap (λ (n : ℕ). count_by (runs_at bank.sites) (range_with_len 0 n)) size)
 
   notices_are : unanswered world ≡ progress.unanswered bank
-  notices_are = each_sum (λ (s : node.Shown). length s.node.notices - s.node.answered) (λ (x : Node). length x.notices - x.answered) world.nodes bank.nodes shows.nodes.count
+  notices_are =
+      each_sum (λ (s : node.Shown). length s.node.notices - s.node.answered) (λ (x : Node). length x.notices - x.answered) world.nodes
+      bank.nodes shows.nodes.count
       (λ c v x at at'. ap (λ (s : node.Shown). length s.node.notices - s.node.answered) (shows.nodes.each c v x at at'))
 
   -- a site of the bank has room where what is shown of it has
@@ -135,19 +144,23 @@ module _ {B : Type 0} (held : B → Boot) (world : Shown B) (bank : Bank) (shows
     view : x.view + 2 * (2 * faults world.setup + 1) ≤ max_number
     space : 2 * (length x.log + length bank.clients) + progress.unanswered bank ≤ MAX_ROWS
 
-  room_there : (i : ℕ) (v : replica.Shown Cmd Setup B) (x : Site Cmd) → slice_get world.sites i ≡ Some v → slice_get bank.sites i ≡ Some x → has_room world v ≡ true → HasRoom x
+  room_there : (i : ℕ) (v : replica.Shown Cmd Setup B) (x : Site Cmd) → slice_get world.sites i ≡ Some v → slice_get bank.sites i ≡ Some x
+      → has_room world v ≡ true → HasRoom x
   room_there i v x at at' has =
       let is = (shows.sites.each i v x at at').site in
       let view = ap (λ (y : Site Cmd). y.view) is in
       let long = ap (λ (y : Site Cmd). length y.log) is in
-      let parts = and_parts (nat_le (v.volatile.view + 2 * (2 * faults world.setup + 1)) max_number) (nat_le (2 * (length v.volatile.log + length world.clients) + unanswered world) MAX_ROWS) has in
+      let parts =
+      and_parts (nat_le (v.volatile.view + 2 * (2 * faults world.setup + 1)) max_number)
+      (nat_le (2 * (length v.volatile.log + length world.clients) + unanswered world) MAX_ROWS) has in
       let a = le_of (v.volatile.view + 2 * (2 * faults world.setup + 1)) max_number parts.0 in
       let b = le_of (2 * (length v.volatile.log + length world.clients) + unanswered world) MAX_ROWS parts.1 in
       let c = shows.clients.count in
       let d = notices_are in
       record { view = omega arith; space = omega arith }
 
-  room_shown : (i : ℕ) (v : replica.Shown Cmd Setup B) (x : Site Cmd) → slice_get world.sites i ≡ Some v → slice_get bank.sites i ≡ Some x → HasRoom x → has_room world v ≡ true
+  room_shown : (i : ℕ) (v : replica.Shown Cmd Setup B) (x : Site Cmd) → slice_get world.sites i ≡ Some v → slice_get bank.sites i ≡ Some x → HasRoom x
+      → has_room world v ≡ true
   room_shown i v x at at' has =
       let is = (shows.sites.each i v x at at').site in
       let view = ap (λ (y : Site Cmd). y.view) is in
@@ -156,7 +169,8 @@ module _ {B : Type 0} (held : B → Boot) (world : Shown B) (bank : Bank) (shows
       let d = notices_are in
       let e = has.view in
       let g = has.space in
-      both (nat_le (v.volatile.view + 2 * (2 * faults world.setup + 1)) max_number) (nat_le (2 * (length v.volatile.log + length world.clients) + unanswered world) MAX_ROWS)
+      both (nat_le (v.volatile.view + 2 * (2 * faults world.setup + 1)) max_number)
+      (nat_le (2 * (length v.volatile.log + length world.clients) + unanswered world) MAX_ROWS)
       (le_yes (v.volatile.view + 2 * (2 * faults world.setup + 1)) max_number (omega arith))
       (le_yes (2 * (length v.volatile.log + length world.clients) + unanswered world) MAX_ROWS (omega arith))
 
@@ -197,7 +211,8 @@ module _ {B : Type 0} (held : B → Boot) (world : Shown B) (bank : Bank) (shows
 all_there : {setup : Setup} {f : ℕ} (list : LegalList setup f) → length list.bank.sites ≡ 2 * f + 1
 all_there {setup} {f} list =
     let h = legal-holds setup (valid-members setup list.valid).1 list.choose f list.right list.cells list.moves list.bank list.legal.all list.legal.run in
-    ap (length {A = Site Cmd}) (sym h.sites) ∙ alone.all_there f (record { choose = list.choose; right = list.right; cells = list.cells; events = h.events; world = h.world; legal = h.alone })
+    ap (length {A = Site Cmd}) (sym h.sites) ∙ alone.all_there f
+    (record { choose = list.choose; right = list.right; cells = list.cells; events = h.events; world = h.world; legal = h.alone })
 
 module _ {B : Type 0} (held : B → Boot) (world : Shown B) (at : IsAt held world)
     (one_bank : (setup : Setup) (f : ℕ) (a b : LegalList setup f) → a.cells ≡ b.cells → a.moves ≡ b.moves → a.bank ≡ b.bank) where
@@ -207,7 +222,8 @@ module _ {B : Type 0} (held : B → Boot) (world : Shown B) (at : IsAt held worl
     (λ each. can_shown held world at.list.bank at.shows (all_there at.list) (each at.list at.cells at.moves)),
   )
 
-  pub goes_on : ((setup : Setup) (f : ℕ) → 1 ≤ f → (list : LegalList setup f) → progress.CanGoOn f list.bank → progress.Progresses list) → IsTrue (can_go_on world) → GoesOn world
+  pub goes_on : ((setup : Setup) (f : ℕ) → 1 ≤ f → (list : LegalList setup f) → progress.CanGoOn f list.bank → progress.Progresses list)
+      → IsTrue (can_go_on world) → GoesOn world
   goes_on progresses can list cells moves =
       progresses world.setup (faults world.setup) (valid-sites world.setup list.valid).some list
       (can_there held world list.bank (shows_there held world at one_bank list cells moves) (all_there list) can)

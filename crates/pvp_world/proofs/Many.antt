@@ -32,7 +32,8 @@ map-more (t ∷ steps) s = ap (λ zs. Takes t ∷ zs) (map-more steps s)
 pub none-taken : {B : Type 0} (old : Shown B) → AreTaken old old []
 none-taken old = record { setup = refl; opening = refl; trail = sym (append-nil old.trail) }
 
-module _ {B : Type 0} (c : Cell B) (old mid new : Shown B) (steps : List Step) (i : ℕ) (s : Step) (at : slice_get steps i ≡ Some s) (taken : AreTaken old mid (take i steps)) where
+module _ {B : Type 0} (c : Cell B) (old mid new : Shown B) (steps : List Step) (i : ℕ) (s : Step) (at : slice_get steps i ≡ Some s)
+    (taken : AreTaken old mid (take i steps)) where
   taken-next : Moves c.held mid new (Takes s) → AreTaken old new (take (suc i) steps)
   taken-next moves = record {
     setup = moves.setup ∙ taken.setup;
@@ -46,7 +47,8 @@ module _ {B : Type 0} (c : Cell B) (old mid new : Shown B) (steps : List Step) (
   pub taken-more : Moves c.held mid new (Takes s) → AreTaken old new (take (i + 1) steps)
   taken-more moves = let e : suc i ≡ i + 1 = omega arith in subst (λ n. AreTaken old new (take n steps)) e (taken-next moves)
 
-  pub stopped-at : (fault : WorldFault) → failures c mid ≡ failures c old → IsRefused c.held mid new s fault → TellsFailures c mid new s (Err fault) → IsStopped c old new steps fault
+  pub stopped-at : (fault : WorldFault) → failures c mid ≡ failures c old → IsRefused c.held mid new s fault → TellsFailures c mid new s (Err fault)
+      → IsStopped c old new steps fault
   stopped-at fault counted refused tells = record {
     done = take i steps;
     next = s;

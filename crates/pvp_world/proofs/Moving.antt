@@ -86,18 +86,21 @@ set-both Is (z ∷ xs) (w ∷ ys) zero x y all is (suc j) p q e d = all (suc j) 
 set-both Is (z ∷ xs) (w ∷ ys) (suc i) x y all is zero p q e d = all zero p q e d
 set-both Is (z ∷ xs) (w ∷ ys) (suc i) x y all is (suc j) p q e d = set-both (λ k. Is (suc k)) xs ys i x y (λ k. all (suc k)) is j p q e d
 
-set-each : {A B : Type 0} (Is : ℕ → A → B → Type 0) (xs : List A) (ys : List B) (i : ℕ) (x : A) (y : B) → AreEach Is xs ys → Is i x y → AreEach Is (slice_set xs i x) (slice_set ys i y)
+set-each : {A B : Type 0} (Is : ℕ → A → B → Type 0) (xs : List A) (ys : List B) (i : ℕ) (x : A) (y : B) → AreEach Is xs ys → Is i x y
+    → AreEach Is (slice_set xs i x) (slice_set ys i y)
 set-each Is xs ys i x y are is = record {
   count = set-length xs i x ∙ are.count ∙ sym (set-length ys i y);
   each = set-both Is xs ys i x y are.each is;
 }
 
-module _ {B : Type 0} (held : B → Boot) (setup : Setup) (first : List Boot) (sites : List (replica.Shown Cmd Setup B)) (nodes : List node.Shown) (clients : List client.Shown) (post : List Envelope) (trail : List Move) where
+module _ {B : Type 0} (held : B → Boot) (setup : Setup) (first : List Boot) (sites : List (replica.Shown Cmd Setup B)) (nodes : List node.Shown)
+    (clients : List client.Shown) (post : List Envelope) (trail : List Move) where
   abbrev old : Shown B
   old = world_of setup first sites nodes clients post trail
 
   -- a move that the list before it allows
-  moved : (at : IsAt held old) (move : Move) (after : Bank) (new : Shown B) → Leads setup at.list.choose (faults setup) at.list.bank move after → ShowsBank held new after
+  moved : (at : IsAt held old) (move : Move) (after : Bank) (new : Shown B) → Leads setup at.list.choose (faults setup) at.list.bank move after
+      → ShowsBank held new after
       → new.setup ≡ setup → new.opening ≡ first → new.trail ≡ trail ++ move ∷ [] → Moves held old new move
   moved at move after new leads shows made opened trailed = record {
     list = at.list;
@@ -113,7 +116,8 @@ module _ {B : Type 0} (held : B → Boot) (setup : Setup) (first : List Boot) (s
   }
 
   -- the world is where its trail leads
-  pub moves-at : (sites' : List (replica.Shown Cmd Setup B)) (nodes' : List node.Shown) (clients' : List client.Shown) (post' : List Envelope) (trail' : List Move) (move : Move)
+  pub moves-at : (sites' : List (replica.Shown Cmd Setup B)) (nodes' : List node.Shown) (clients' : List client.Shown) (post' : List Envelope)
+      (trail' : List Move) (move : Move)
       → Moves held old (world_of setup first sites' nodes' clients' post' trail') move → IsAt held (world_of setup first sites' nodes' clients' post' trail')
   moves-at sites' nodes' clients' post' trail' move moves =
       let list = moves.list in
@@ -125,7 +129,12 @@ module _ {B : Type 0} (held : B → Boot) (setup : Setup) (first : List Boot) (s
           cells = list.cells;
           moves = list.moves ++ move ∷ [];
           bank = moves.after;
-          legal = record { all = list.legal.all; run = leads-more setup list.choose (faults setup) (opening_bank setup (faults setup) list.cells) list.moves list.bank moves.after move list.legal.run moves.leads };
+          legal =
+              record {
+                all = list.legal.all;
+                run = leads-more setup list.choose (faults setup) (opening_bank setup (faults setup) list.cells) list.moves list.bank moves.after move
+                    list.legal.run moves.leads;
+              };
         };
         cells = moves.cells;
         moves = ap (λ ms. ms ++ move ∷ []) moves.moves ∙ sym moves.trail;
@@ -143,9 +152,11 @@ module _ {B : Type 0} (held : B → Boot) (setup : Setup) (first : List Boot) (s
     turns t is = ap (λ p. turn p step) (sym at.shows.post) ∙ is
 
     -- A SITE'S TURN
-    pub site-taken : (i : ℕ) (event : EventOf Cmd Answer PaymentOrder) (v new : replica.Shown Cmd Setup B) (posted : List Envelope) (trailed : List Move) (report : Report)
+    pub site-taken : (i : ℕ) (event : EventOf Cmd Answer PaymentOrder) (v new : replica.Shown Cmd Setup B) (posted : List Envelope)
+        (trailed : List Move) (report : Report)
         → turn post step ≡ Some (OfSite i event) → slice_get sites i ≡ Some v
-        → ((x : Site Cmd) (choose : Choice Cmd) → IsRight (faults setup) choose → IsSite held setup i v x → IsServed held setup choose i x event new post posted report)
+        → ((x : Site Cmd) (choose : Choice Cmd) → IsRight (faults setup) choose → IsSite held setup i v x
+        → IsServed held setup choose i x event new post posted report)
         → trailed ≡ trail ++ Takes step ∷ []
         → IsTaken held old (world_of setup first (slice_set sites i new) nodes clients posted trailed) step report
     unfolding moved
@@ -154,8 +165,14 @@ module _ {B : Type 0} (held : B → Boot) (setup : Setup) (first : List Boot) (s
         let served = serves x.0 choose at.list.right (at.shows.sites.each i v x.0 there x.1) in
         let s = site_step {R = Answer} {O = PaymentOrder} choose (faults setup) i x.0 event in
         record {
-          moves = moved at (Takes step) (with_site bank i s.site (envelopes book (opening setup) i s)) (world_of setup first (slice_set sites i new) nodes clients posted trailed)
-              (record { turn_is = OfSite i event; has_turn = turns (OfSite i event) is; acts = record { before = x.0; is_there = x.1; allowed = served.allowed; leads = refl } })
+          moves =
+              moved at (Takes step) (with_site bank i s.site (envelopes book (opening setup) i s))
+              (world_of setup first (slice_set sites i new) nodes clients posted trailed)
+              (record {
+                turn_is = OfSite i event;
+                has_turn = turns (OfSite i event) is;
+                acts = record { before = x.0; is_there = x.1; allowed = served.allowed; leads = refl };
+              })
               (record {
                 sites = set-each (IsSite held setup) sites bank.sites i new s.site at.shows.sites served.site;
                 nodes = at.shows.nodes;
@@ -167,7 +184,8 @@ module _ {B : Type 0} (held : B → Boot) (setup : Setup) (first : List Boot) (s
         }
 
     -- A SITE'S FALL
-    pub site-down : (i : ℕ) (event : EventOf Cmd Answer PaymentOrder) (v new : replica.Shown Cmd Setup B) (posted : List Envelope) (trailed : List Move) (cell : Boot)
+    pub site-down : (i : ℕ) (event : EventOf Cmd Answer PaymentOrder) (v new : replica.Shown Cmd Setup B) (posted : List Envelope)
+        (trailed : List Move) (cell : Boot)
         → turn post step ≡ Some (OfSite i event) → slice_get sites i ≡ Some v → cell ≡ held new.cell
         → ((x : Site Cmd) (choose : Choice Cmd) → IsRight (faults setup) choose → IsSite held setup i v x → IsDown held setup choose i x event new)
         → posted ≡ post → trailed ≡ trail ++ Falls step cell ∷ []
@@ -178,11 +196,18 @@ module _ {B : Type 0} (held : B → Boot) (setup : Setup) (first : List Boot) (s
         let down = goes x.0 choose at.list.right (at.shows.sites.each i v x.0 there x.1) in
         let y = over cell Down in
         let same = ap (λ (k : Boot). over {C = Cmd} k Down) (sym cell_is) in
-        moved at (Falls step cell) (record bank { sites = slice_set bank.sites i y }) (world_of setup first (slice_set sites i new) nodes clients posted trailed)
+        moved at (Falls step cell) (record bank { sites = slice_set bank.sites i y })
+        (world_of setup first (slice_set sites i new) nodes clients posted trailed)
         (record {
           turn_is = OfSite i event;
           has_turn = turns (OfSite i event) is;
-          falls = record { before = x.0; is_there = x.1; falls = subst (λ z. IsFall x.0 (site_step {R = Answer} {O = PaymentOrder} choose (faults setup) i x.0 event) z) same down.falls; leads = refl };
+          falls =
+              record {
+                before = x.0;
+                is_there = x.1;
+                falls = subst (λ z. IsFall x.0 (site_step {R = Answer} {O = PaymentOrder} choose (faults setup) i x.0 event) z) same down.falls;
+                leads = refl;
+              };
         })
         (record {
           sites = set-each (IsSite held setup) sites bank.sites i new y at.shows.sites (subst (λ z. IsSite held setup i new z) same down.site);
@@ -193,19 +218,23 @@ module _ {B : Type 0} (held : B → Boot) (setup : Setup) (first : List Boot) (s
         refl refl noted
 
     -- over what its event saves
-    pub down-saved : (i : ℕ) (event : EventOf Cmd Answer PaymentOrder) (v new : replica.Shown Cmd Setup B) (posted : List Envelope) (trailed : List Move) (cell : Boot)
+    pub down-saved : (i : ℕ) (event : EventOf Cmd Answer PaymentOrder) (v new : replica.Shown Cmd Setup B) (posted : List Envelope)
+        (trailed : List Move) (cell : Boot)
         (is : turn post step ≡ Some (OfSite i event)) (there : slice_get sites i ≡ Some v) (cell_is : cell ≡ held new.cell)
         (goes : (x : Site Cmd) (choose : Choice Cmd) → IsRight (faults setup) choose → IsSite held setup i v x → IsDown held setup choose i x event new)
         (kept : posted ≡ post) (noted : trailed ≡ trail ++ Falls step cell ∷ []) → HoldsSaved held setup i v new event
-        → IsOverSaved held old (world_of setup first (slice_set sites i new) nodes clients posted trailed) step cell (site-down i event v new posted trailed cell is there cell_is goes kept noted)
+        → IsOverSaved held old (world_of setup first (slice_set sites i new) nodes clients posted trailed) step cell
+        (site-down i event v new posted trailed cell is there cell_is goes kept noted)
     unfolding site-down moved
     down-saved i event v new posted trailed cell is there cell_is goes kept noted saves =
         let x = other-there sites bank.sites i v at.shows.sites.count there in
         cell_is ∙ saves x.0 choose at.list.right (at.shows.sites.each i v x.0 there x.1)
 
-    pub site-fell : (i : ℕ) (event : EventOf Cmd Answer PaymentOrder) (v new : replica.Shown Cmd Setup B) (posted : List Envelope) (trailed : List Move) (fault : SiteFault) (cell : Boot)
+    pub site-fell : (i : ℕ) (event : EventOf Cmd Answer PaymentOrder) (v new : replica.Shown Cmd Setup B) (posted : List Envelope) (trailed : List Move)
+        (fault : SiteFault) (cell : Boot)
         → turn post step ≡ Some (OfSite i event) → slice_get sites i ≡ Some v → is_fall fault ≡ true → cell ≡ held new.cell
-        → ((x : Site Cmd) (choose : Choice Cmd) → IsRight (faults setup) choose → IsSite held setup i v x → IsUnserved held setup choose i x event v new post posted fault)
+        → ((x : Site Cmd) (choose : Choice Cmd) → IsRight (faults setup) choose → IsSite held setup i v x
+        → IsUnserved held setup choose i x event v new post posted fault)
         → trailed ≡ trail ++ Falls step cell ∷ []
         → HasFallen held old (world_of setup first (slice_set sites i new) nodes clients posted trailed) step
     unfolding site-down moved
@@ -221,9 +250,11 @@ module _ {B : Type 0} (held : B → Boot) (setup : Setup) (first : List Boot) (s
           no_crash = λ site crash. fell.no_crash (same-event site i event (sym (ap (λ (s : Step). turn post s) crash) ∙ is));
         }
 
-    pub site-falls : (i : ℕ) (event : EventOf Cmd Answer PaymentOrder) (v new : replica.Shown Cmd Setup B) (posted : List Envelope) (trailed : List Move) (fault : SiteFault) (cell : Boot)
+    pub site-falls : (i : ℕ) (event : EventOf Cmd Answer PaymentOrder) (v new : replica.Shown Cmd Setup B) (posted : List Envelope) (trailed : List Move)
+        (fault : SiteFault) (cell : Boot)
         → turn post step ≡ Some (OfSite i event) → slice_get sites i ≡ Some v → is_fall fault ≡ true → cell ≡ held new.cell
-        → ((x : Site Cmd) (choose : Choice Cmd) → IsRight (faults setup) choose → IsSite held setup i v x → IsUnserved held setup choose i x event v new post posted fault)
+        → ((x : Site Cmd) (choose : Choice Cmd) → IsRight (faults setup) choose → IsSite held setup i v x
+        → IsUnserved held setup choose i x event v new post posted fault)
         → trailed ≡ trail ++ Falls step cell ∷ []
         → IsRefused held old (world_of setup first (slice_set sites i new) nodes clients posted trailed) step (OfSiteFault fault)
     site-falls i event v new posted trailed fault cell is there falls cell_is serves noted = record {
@@ -232,9 +263,11 @@ module _ {B : Type 0} (held : B → Boot) (setup : Setup) (first : List Boot) (s
     }
 
     -- a site refuses its turn
-    pub site-stays : (i : ℕ) (event : EventOf Cmd Answer PaymentOrder) (v new : replica.Shown Cmd Setup B) (posted : List Envelope) (trailed : List Move) (fault : SiteFault)
+    pub site-stays : (i : ℕ) (event : EventOf Cmd Answer PaymentOrder) (v new : replica.Shown Cmd Setup B) (posted : List Envelope)
+        (trailed : List Move) (fault : SiteFault)
         → slice_get sites i ≡ Some v → is_fall fault ≡ false
-        → ((x : Site Cmd) (choose : Choice Cmd) → IsRight (faults setup) choose → IsSite held setup i v x → IsUnserved held setup choose i x event v new post posted fault)
+        → ((x : Site Cmd) (choose : Choice Cmd) → IsRight (faults setup) choose → IsSite held setup i v x
+        → IsUnserved held setup choose i x event v new post posted fault)
         → trailed ≡ trail
         → world_of setup first (slice_set sites i new) nodes clients posted trailed ≡ old
     site-stays i event v new posted trailed fault there stays serves noted =
@@ -251,9 +284,11 @@ module _ {B : Type 0} (held : B → Boot) (setup : Setup) (first : List Boot) (s
         ∙ ap (λ (me : ℕ). refusal {R = Answer} {O = PaymentOrder} (faults setup) me (site_shown held v x.collected.acks) event) shown.me
         ∙ ap (λ (y : Site Cmd). refusal {R = Answer} {O = PaymentOrder} (faults setup) i y event) (sym shown.site)
 
-    pub site-refuses : (i : ℕ) (event : EventOf Cmd Answer PaymentOrder) (v new : replica.Shown Cmd Setup B) (posted : List Envelope) (trailed : List Move) (fault : SiteFault)
+    pub site-refuses : (i : ℕ) (event : EventOf Cmd Answer PaymentOrder) (v new : replica.Shown Cmd Setup B) (posted : List Envelope)
+        (trailed : List Move) (fault : SiteFault)
         → turn post step ≡ Some (OfSite i event) → slice_get sites i ≡ Some v → is_fall fault ≡ false
-        → ((x : Site Cmd) (choose : Choice Cmd) → IsRight (faults setup) choose → IsSite held setup i v x → IsUnserved held setup choose i x event v new post posted fault)
+        → ((x : Site Cmd) (choose : Choice Cmd) → IsRight (faults setup) choose → IsSite held setup i v x
+        → IsUnserved held setup choose i x event v new post posted fault)
         → trailed ≡ trail
         → IsRefused held old (world_of setup first (slice_set sites i new) nodes clients posted trailed) step (OfSiteFault fault)
     site-refuses i event v new posted trailed fault is there stays serves noted =
@@ -261,7 +296,11 @@ module _ {B : Type 0} (held : B → Boot) (setup : Setup) (first : List Boot) (s
         let shown = at.shows.sites.each i v x.0 there x.1 in
         let served = serves x.0 choose at.list.right shown in
         record {
-          kept = λ no. (site-stays i event v new posted trailed fault there stays serves noted, (OfSite i event, is, (v, there, named-refusal i event v shown ∙ (served.refused stays).1)));
+          kept =
+              λ no. (
+                site-stays i event v new posted trailed fault there stays serves noted,
+                (OfSite i event, is, (v, there, named-refusal i event v shown ∙ (served.refused stays).1)),
+              );
           fell = λ yes. absurd (true≢false (sym yes ∙ stays));
         }
 
@@ -275,7 +314,8 @@ module _ {B : Type 0} (held : B → Boot) (setup : Setup) (first : List Boot) (s
         let x = other-there sites bank.sites i v at.shows.sites.count there in
         let shown = at.shows.sites.each i v x.0 there x.1 in
         let kept = keeps x.0 choose at.list.right shown in (
-          ap (λ s. world_of setup first s nodes clients post trailed) (ap (λ n. slice_set sites i n) kept.same ∙ set-same sites i v there) ∙ ap (λ t. world_of setup first sites nodes clients post t) noted,
+          ap (λ s. world_of setup first s nodes clients post trailed) (ap (λ n. slice_set sites i n) kept.same ∙ set-same sites i v there)
+              ∙ ap (λ t. world_of setup first sites nodes clients post t) noted,
           (OfSite i event, is, (v, there, named-refusal i event v shown ∙ kept.refused)),
           refusal-stays (faults setup) i x.0 event fault kept.refused,
         )
@@ -293,11 +333,16 @@ module _ {B : Type 0} (held : B → Boot) (setup : Setup) (first : List Boot) (s
         let same = ap (λ (w : node.Shown). node_step w.setup (faults w.setup) w.ccy w.node event) shown in
         record {
           moves = moved at (Takes step) (with_node bank i s.node s.sent) (world_of setup first sites (slice_set nodes i new) clients posted trailed)
-              (record { turn_is = OfNode i event; has_turn = turns (OfNode i event) is; acts = record { before = x.0; is_there = x.1; allowed = ap (λ t. t.fault) (sym same) ∙ steps.allowed; leads = refl } })
+              (record {
+                turn_is = OfNode i event;
+                has_turn = turns (OfNode i event) is;
+                acts = record { before = x.0; is_there = x.1; allowed = ap (λ t. t.fault) (sym same) ∙ steps.allowed; leads = refl };
+              })
               (record {
                 sites = at.shows.sites;
                 nodes = set-each (IsNode setup) nodes bank.nodes i new s.node at.shows.nodes
-                    (steps.node ∙ ap (λ (w : node.Shown). record w { node = (node_step v.setup (faults v.setup) v.ccy v.node event).node }) shown ∙ ap (λ n. record { setup = setup; ccy = i; node = n }) (ap (λ t. t.node) same));
+                    (steps.node ∙ ap (λ (w : node.Shown). record w { node = (node_step v.setup (faults v.setup) v.ccy v.node event).node }) shown
+                    ∙ ap (λ n. record { setup = setup; ccy = i; node = n }) (ap (λ t. t.node) same));
                 clients = at.shows.clients;
                 post = put ∙ ap (λ p. p ++ sent) at.shows.post ∙ ap (λ p. bank.post ++ p) (steps.sends ∙ ap (λ t. t.sent) same);
               })
@@ -318,12 +363,17 @@ module _ {B : Type 0} (held : B → Boot) (setup : Setup) (first : List Boot) (s
         → posted ≡ post → trailed ≡ trail
         → IsRefused held old (world_of setup first sites (slice_set nodes i new) clients posted trailed) step (OfNodeFault fault)
     node-refuses i event v new posted trailed fault is there refuses put noted = record {
-      kept = λ no. (node-stays i event v new posted trailed fault there refuses put noted, (OfNode i event, is, (v, there, record { node = refl; why = refuses.why })));
+      kept =
+          λ no. (
+            node-stays i event v new posted trailed fault there refuses put noted,
+            (OfNode i event, is, (v, there, record { node = refl; why = refuses.why })),
+          );
       fell = λ yes. absurd (true≢false (sym yes));
     }
 
     -- what a node sends has room where there is room for one envelope a site
-    pub node-fits : IsValid setup → (i : ℕ) (event : NodeEvent) (v new : node.Shown) (sent : List Envelope) → slice_get nodes i ≡ Some v → node.IsStep v new (node.step_of v event) sent → length sent ≤ 7
+    pub node-fits : IsValid setup → (i : ℕ) (event : NodeEvent) (v new : node.Shown) (sent : List Envelope) → slice_get nodes i ≡ Some v
+        → node.IsStep v new (node.step_of v event) sent → length sent ≤ 7
     unfolding node.step_of
     node-fits valid i event v new sent there steps =
         let x = other-there nodes bank.nodes i v at.shows.nodes.count there in
@@ -333,7 +383,8 @@ module _ {B : Type 0} (held : B → Boot) (setup : Setup) (first : List Boot) (s
         subst (λ es. length es ≤ 7) (sym steps.sends) (omega arith)
 
     -- A CLIENT'S TURN
-    pub client-fits : IsValid setup → (i : ℕ) (event : ClientEvent) (v new : client.Shown) (sent : List Envelope) → slice_get clients i ≡ Some v → client.IsStep v new (client.step_of v event) sent → length sent ≤ 7
+    pub client-fits : IsValid setup → (i : ℕ) (event : ClientEvent) (v new : client.Shown) (sent : List Envelope) → slice_get clients i ≡ Some v
+        → client.IsStep v new (client.step_of v event) sent → length sent ≤ 7
     client-fits valid i event v new sent there steps =
         let x = other-there clients bank.clients i v at.shows.clients.count there in
         let made = ap (λ (w : client.Shown). w.f) (at.shows.clients.each i v x.0 there x.1) in
@@ -353,12 +404,17 @@ module _ {B : Type 0} (held : B → Boot) (setup : Setup) (first : List Boot) (s
         let same = ap (λ (w : client.Shown). client_step w.f w.me w.client event) shown in
         record {
           moves = moved at (Takes step) (with_client bank i s.client s.sent) (world_of setup first sites nodes (slice_set clients i new) posted trailed)
-              (record { turn_is = OfClient i event; has_turn = turns (OfClient i event) is; acts = record { before = x.0; is_there = x.1; allowed = ap (λ t. t.fault) (sym same) ∙ steps.allowed; leads = refl } })
+              (record {
+                turn_is = OfClient i event;
+                has_turn = turns (OfClient i event) is;
+                acts = record { before = x.0; is_there = x.1; allowed = ap (λ t. t.fault) (sym same) ∙ steps.allowed; leads = refl };
+              })
               (record {
                 sites = at.shows.sites;
                 nodes = at.shows.nodes;
                 clients = set-each (IsClient setup) clients bank.clients i new s.client at.shows.clients
-                    (steps.client ∙ ap (λ (w : client.Shown). record w { client = (client_step v.f v.me v.client event).client }) shown ∙ ap (λ n. record { f = faults setup; me = i; client = n }) (ap (λ t. t.client) same));
+                    (steps.client ∙ ap (λ (w : client.Shown). record w { client = (client_step v.f v.me v.client event).client }) shown
+                    ∙ ap (λ n. record { f = faults setup; me = i; client = n }) (ap (λ t. t.client) same));
                 post = put ∙ ap (λ p. p ++ sent) at.shows.post ∙ ap (λ p. bank.post ++ p) (steps.sends ∙ ap (λ t. t.sent) same);
               })
               refl refl noted;
@@ -390,7 +446,8 @@ module _ {B : Type 0} (held : B → Boot) (setup : Setup) (first : List Boot) (s
         why : (fault : ClientFault) → client.IsRefusal v v (client.step_of v event) fault → IsWhy held old step (told_as fault)
         why client_fault.Outstanding r = (OfClient i event, is, (v, there, r))
         why client_fault.Spent r = (OfClient i event, is, (v, there, r))
-        why client_fault.NoMemory r = record { turn_is = OfClient i event; has_turn = is; there = nat_lt-holds i (length clients) (place-low clients i v there) }
+        why client_fault.NoMemory r =
+            record { turn_is = OfClient i event; has_turn = is; there = nat_lt-holds i (length clients) (place-low clients i v there) }
 
 -- what an index lends, by the number that it was made from
 pub found : {A : Type 0} (xs : List A) (i j : ℕ) (x : A) → j ≡ i → i < length xs → x ≡ slice_index_or xs j x → slice_get xs j ≡ Some x

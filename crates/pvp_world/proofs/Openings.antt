@@ -34,7 +34,8 @@ pub record AreSoFar {A B : Type 0} (Is : ℕ → A → B → Type 0) (xs : List 
   pub each : (i : ℕ) (x : A) (y : B) → slice_get xs i ≡ Some x → slice_get ys i ≡ Some y → Is i x y
 
 pub so_far-none : {A B : Type 0} (Is : ℕ → A → B → Type 0) (xs : List A) (ys : List B) → xs ≡ [] → AreSoFar Is xs ys 0
-so_far-none {A} {B} Is xs ys none = subst (λ (zs : List A). AreSoFar Is zs ys 0) (sym none) (record { count = refl; each = λ i x y h k. absurd (none-some x h) })
+so_far-none {A} {B} Is xs ys none =
+    subst (λ (zs : List A). AreSoFar Is zs ys 0) (sym none) (record { count = refl; each = λ i x y h k. absurd (none-some x h) })
 
 pub so_far-more : {A B : Type 0} (Is : ℕ → A → B → Type 0) (xs : List A) (ys : List B) (n : ℕ) (x : A) (more : List A) → AreSoFar Is xs ys n
     → more ≡ xs ++ x ∷ [] → ((y : B) → slice_get ys n ≡ Some y → Is n x y) → AreSoFar Is more ys (n + 1)
@@ -70,7 +71,9 @@ same-at_first b xs (suc n) y e = same-at b xs n y e
 pub made-at : {A B C : Type 0} (f : B → C) (h : A → B) (xs : List A) (n : ℕ) (x : A) (y : C) → n < length xs → x ≡ get_or xs n x
     → slice_get (map f (map h xs)) n ≡ Some y → f (h x) ≡ y
 made-at {A} {B} {C} f h xs n x y within read e =
-    some-same (f (h x)) y (sym (slice_get-map f (map h xs) n ∙ ap (option_map f) (slice_get-map h xs n ∙ ap (option_map h) (slice_get_read xs (length xs) n x refl within read))) ∙ e)
+    some-same (f (h x)) y
+    (sym (slice_get-map f (map h xs) n ∙ ap (option_map f) (slice_get-map h xs n ∙ ap (option_map h) (slice_get_read xs (length xs) n x refl within read)))
+    ∙ e)
 
 -- what was made of a list's elements in their order, and one more
 pub made-more : {A B : Type 0} (f : A → B) (xs : List A) (ys : List B) (n : ℕ) (x : A) (y : B) (more : List A) → map f xs ≡ take n ys
@@ -85,7 +88,8 @@ pub record IsPlaced {A : Type 0} (xs : List A) (n i : ℕ) (x : A) : Type 0 wher
   pub number : i ≡ n
   pub read : x ≡ get_or xs n x
 
-pub IsPlaced-numbered : {A : Type 0} (xs : List A) (n i : ℕ) (x : A) → (n < length (enumerate_from 0 xs)) × ((i, x) ≡ get_or (enumerate_from 0 xs) n (i, x)) → IsPlaced xs n i x
+pub IsPlaced-numbered : {A : Type 0} (xs : List A) (n i : ℕ) (x : A) → (n < length (enumerate_from 0 xs)) × ((i, x) ≡ get_or (enumerate_from 0 xs) n (i, x))
+    → IsPlaced xs n i x
 IsPlaced-numbered {A} xs n i x turn =
     let within : n < length xs = subst (λ (k : ℕ). n < k) (length-enumerate_from 0 xs) turn.0 in
     let same = turn.1 ∙ get_or-enumerate_from 0 xs n (i, x) within in

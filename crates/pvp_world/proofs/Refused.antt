@@ -63,11 +63,13 @@ module _ (setup : Setup) (choose : Choice Cmd) (bank : Bank) where
       ap (λ (o : Option (Site Cmd)). site_refuses (faults setup) i event o) a.is_there
       ∙ ap (λ (o : Option SiteFault). option_map (λ why. fault.Site why) o) (allowed-none choose (faults setup) i a.before event a.allowed)
   taken-none (OfNode c event) after a =
-      ap (λ (o : Option Node). node_refuses setup (faults setup) c event o) a.is_there ∙ ap (λ (o : Option NodeFault). option_map (λ why. fault.Node why) o) a.allowed
+      ap (λ (o : Option Node). node_refuses setup (faults setup) c event o) a.is_there ∙ ap
+      (λ (o : Option NodeFault). option_map (λ why. fault.Node why) o) a.allowed
   taken-none (OfClient k event) after a =
       ap (λ (o : Option Client). client_refuses (faults setup) k event o) a.is_there ∙ ap (λ (o : Option ClientFault). option_map told_as o) a.allowed
 
-  pub fallen-none : (t : Turn) (cell : Boot) (after : Bank) → FallsBy setup choose (faults setup) bank t cell after → turn_refuses setup (faults setup) bank (Some t) ≡ None
+  pub fallen-none : (t : Turn) (cell : Boot) (after : Bank) → FallsBy setup choose (faults setup) bank t cell after
+      → turn_refuses setup (faults setup) bank (Some t) ≡ None
   fallen-none (OfSite i event) cell after a =
       ap (λ (o : Option (Site Cmd)). site_refuses (faults setup) i event o) a.is_there
       ∙ ap (λ (o : Option SiteFault). option_map (λ why. fault.Site why) o) (allowed-none choose (faults setup) i a.before event a.falls.allowed)
@@ -87,9 +89,12 @@ module _ {B : Type 0} (held : B → Boot) (w : Shown B) (bank : Bank) (shows : S
   turns t is = ap (λ (o : Option Turn). turn_refuses w.setup f bank o) (ap (λ p. turn p step) (sym shows.post) ∙ is)
 
   absent : (t : Turn) → has_actor w t ≡ false → turn_refuses w.setup f bank (Some t) ≡ Some fault.NoSuchActor
-  absent (OfSite i event) off = ap (λ (o : Option (Site Cmd)). site_refuses f i event o) (past bank.sites i (ap (λ n. nat_lt i n) (sym shows.sites.count) ∙ off))
-  absent (OfNode c event) off = ap (λ (o : Option Node). node_refuses w.setup f c event o) (past bank.nodes c (ap (λ n. nat_lt c n) (sym shows.nodes.count) ∙ off))
-  absent (OfClient k event) off = ap (λ (o : Option Client). client_refuses f k event o) (past bank.clients k (ap (λ n. nat_lt k n) (sym shows.clients.count) ∙ off))
+  absent (OfSite i event) off =
+      ap (λ (o : Option (Site Cmd)). site_refuses f i event o) (past bank.sites i (ap (λ n. nat_lt i n) (sym shows.sites.count) ∙ off))
+  absent (OfNode c event) off =
+      ap (λ (o : Option Node). node_refuses w.setup f c event o) (past bank.nodes c (ap (λ n. nat_lt c n) (sym shows.nodes.count) ∙ off))
+  absent (OfClient k event) off =
+      ap (λ (o : Option Client). client_refuses f k event o) (past bank.clients k (ap (λ n. nat_lt k n) (sym shows.clients.count) ∙ off))
 
   named : (i : ℕ) (v : replica.Shown Cmd Setup B) (x : Site Cmd) (event : EventOf Cmd Answer PaymentOrder) → IsSite held w.setup i v x
       → refusal {R = Answer} {O = PaymentOrder} f i x event ≡ refusal v.f v.me (site_shown held v []) event
@@ -106,7 +111,8 @@ module _ {B : Type 0} (held : B → Boot) (w : Shown B) (bank : Bank) (shows : S
   site-why (OfNode c event) why r = absurd r
   site-why (OfClient k event) why r = absurd r
 
-  node-told : (c : ℕ) (event : NodeEvent) (v : node.Shown) (x : Node) (why : NodeFault) → hinders_node why ≡ false → v ≡ record { setup = w.setup; ccy = c; node = x }
+  node-told : (c : ℕ) (event : NodeEvent) (v : node.Shown) (x : Node) (why : NodeFault) → hinders_node why ≡ false
+      → v ≡ record { setup = w.setup; ccy = c; node = x }
       → node.IsRefusal v v (node.step_of v event) why → (node_step w.setup f c x event).fault ≡ Some why
   unfolding node.step_of
   node-told c event v x why had shown r = by r.why
@@ -115,7 +121,8 @@ module _ {B : Type 0} (held : B → Boot) (w : Shown B) (bank : Bank) (shows : S
       same = ap (λ (u : node.Shown). (node_step u.setup (faults u.setup) u.ccy u.node event).fault) (sym shown)
 
       by : ((node_step v.setup (faults v.setup) v.ccy v.node event).fault ≡ Some why)
-          ⊎ ((why ≡ node_fault.NoMemory) × ((node_step v.setup (faults v.setup) v.ccy v.node event).fault ≡ None) × (node.takes_memory v.node (node_step v.setup (faults v.setup) v.ccy v.node event) ≡ true))
+          ⊎ ((why ≡ node_fault.NoMemory) × ((node_step v.setup (faults v.setup) v.ccy v.node event).fault ≡ None)
+          × (node.takes_memory v.node (node_step v.setup (faults v.setup) v.ccy v.node event) ≡ true))
           → (node_step w.setup f c x event).fault ≡ Some why
       by (inl e) = same ∙ e
       by (inr e) = absurd (true≢false (ap hinders_node (sym e.0) ∙ had))
@@ -128,7 +135,8 @@ module _ {B : Type 0} (held : B → Boot) (w : Shown B) (bank : Bank) (shows : S
       ∙ ap (λ (o : Option NodeFault). option_map (λ why. fault.Node why) o) (node-told c event r.0 x.0 why had (shows.nodes.each c r.0 x.0 r.1 x.1) r.2)
   node-why (OfClient k event) why had r = absurd r
 
-  client-told : (k : ℕ) (event : ClientEvent) (v : client.Shown) (x : Client) (why : ClientFault) → hinders (told_as why) ≡ false → v ≡ record { f = f; me = k; client = x }
+  client-told : (k : ℕ) (event : ClientEvent) (v : client.Shown) (x : Client) (why : ClientFault) → hinders (told_as why) ≡ false
+      → v ≡ record { f = f; me = k; client = x }
       → client.IsRefusal v v (client.step_of v event) why → (client_step f k x event).fault ≡ Some why
   client-told k event v x why had shown r = by r.why
     where
@@ -141,7 +149,8 @@ module _ {B : Type 0} (held : B → Boot) (w : Shown B) (bank : Bank) (shows : S
       by (inl e) = same ∙ e
       by (inr e) = absurd (true≢false (ap (λ (c : ClientFault). hinders (told_as c)) (sym e.0) ∙ had))
 
-  client-why : (t : Turn) (why : ClientFault) → hinders (told_as why) ≡ false → ClientRefuses w why t → turn_refuses w.setup f bank (Some t) ≡ Some (told_as why)
+  client-why : (t : Turn) (why : ClientFault) → hinders (told_as why) ≡ false → ClientRefuses w why t
+      → turn_refuses w.setup f bank (Some t) ≡ Some (told_as why)
   client-why (OfSite i event) why had r = absurd r
   client-why (OfNode c event) why had r = absurd r
   client-why (OfClient k event) why had r =

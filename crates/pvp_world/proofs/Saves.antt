@@ -32,7 +32,8 @@ module _ {B : Type 0} (IsReliable : B → Type 0) (sites : List (replica.Shown C
       by (inr h) = all j u h
 
 -- where one is changed to what is counted alike, so are all
-set-counted : {A : Type 0} (count : A → ℕ) (xs : List A) (i : ℕ) (x y : A) → slice_get xs i ≡ Some x → count y ≡ count x → map count (slice_set xs i y) ≡ map count xs
+set-counted : {A : Type 0} (count : A → ℕ) (xs : List A) (i : ℕ) (x y : A) → slice_get xs i ≡ Some x → count y ≡ count x
+    → map count (slice_set xs i y) ≡ map count xs
 set-counted count [] i x y at same = refl
 set-counted count (z ∷ xs) zero x y at same = ap (λ n. n ∷ map count xs) (same ∙ ap count (sym (some-same z x at)))
 set-counted count (z ∷ xs) (suc i) x y at same = ap (λ ns. count z ∷ ns) (set-counted count xs i x y at same)
@@ -50,7 +51,8 @@ site-fault fault e = cc
 pub done-is-none : (report : Report) → ◌≡◌ {A = Result Report WorldFault} (Ok report) (Err (Site CellFault)) → ⊥
 done-is-none report e = cc
 
-other-fault : {A : Type 0} (result : Result A SiteFault) (fault : SiteFault) → result ≡ Err fault → result ≢ Err CellFault → ◌≡◌ {A = Result Report WorldFault} (Err (Site fault)) (Err (Site CellFault)) → ⊥
+other-fault : {A : Type 0} (result : Result A SiteFault) (fault : SiteFault) → result ≡ Err fault → result ≢ Err CellFault
+    → ◌≡◌ {A = Result Report WorldFault} (Err (Site fault)) (Err (Site CellFault)) → ⊥
 other-fault result fault is other e = other (is ∙ ap (λ z. Err z) (same e))
   where
     same : ◌≡◌ {A = Result Report WorldFault} (Err (Site fault)) (Err (Site CellFault)) → fault ≡ CellFault
@@ -109,7 +111,8 @@ module _ {B : Type 0} (c : Cell B) (old new : Shown B) (step : Step) where
 pub end-is-none : ◌≡◌ {A = Result (Unit {0}) WorldFault} (Ok (tt {0})) (Err (Site CellFault)) → ⊥
 end-is-none e = cc
 
-pub fault-told : (result : Result Report WorldFault) (fault : WorldFault) → result ≡ Err fault → result ≢ Err (Site CellFault) → ◌≡◌ {A = Result (Unit {0}) WorldFault} (Err fault) (Err (Site CellFault)) → ⊥
+pub fault-told : (result : Result Report WorldFault) (fault : WorldFault) → result ≡ Err fault → result ≢ Err (Site CellFault)
+    → ◌≡◌ {A = Result (Unit {0}) WorldFault} (Err fault) (Err (Site CellFault)) → ⊥
 fault-told result fault is other e = other (is ∙ ap (λ z. Err z) (same e))
   where
     same : ◌≡◌ {A = Result (Unit {0}) WorldFault} (Err fault) (Err (Site CellFault)) → fault ≡ Site CellFault
@@ -118,7 +121,8 @@ fault-told result fault is other e = other (is ∙ ap (λ z. Err z) (same e))
 pub ok-no-failure : (result : Result Report WorldFault) (report : Report) → result ≡ Ok report → result ≢ Err (Site CellFault)
 ok-no-failure result report is e = cc
 
-pub fault-not-told : (result : Result Report WorldFault) (fault : WorldFault) → result ≡ Err fault → ◌≢◌ {A = Result (Unit {0}) WorldFault} (Err fault) (Err (Site CellFault)) → result ≢ Err (Site CellFault)
+pub fault-not-told : (result : Result Report WorldFault) (fault : WorldFault) → result ≡ Err fault
+    → ◌≢◌ {A = Result (Unit {0}) WorldFault} (Err fault) (Err (Site CellFault)) → result ≢ Err (Site CellFault)
 fault-not-told result fault is other e = other (ap (λ z. Err z) (same result fault is e))
   where
     same : (result : Result Report WorldFault) (fault : WorldFault) → result ≡ Err fault → result ≡ Err (Site CellFault) → fault ≡ Site CellFault

@@ -44,7 +44,8 @@ one-each f me number cmd = subst (λ k. k ≤ 2 * f + 1) (sym (length-map-range_
 
 all-fixed : (f me number : ℕ) (cmd : Cmd) → All (λ (e : Envelope). has_fixed_size e.msg ≡ true) (to_sites f me number cmd)
 all-fixed f me number cmd =
-    All-map (λ (e : Envelope). has_fixed_size e.msg ≡ true) (λ j. record { from = me; to = actor_of j; msg = Request (record { number = number; cmd = cmd }) }) (sites f) (λ k d low. refl)
+    All-map (λ (e : Envelope). has_fixed_size e.msg ≡ true) (λ j. record { from = me; to = actor_of j; msg = Request (record { number = number; cmd = cmd }) })
+    (sites f) (λ k d low. refl)
 
 -- these are at most one a site
 pub requests-few : (f me : ℕ) (sent : List Envelope) → AreRequests f me sent → length sent ≤ 2 * f + 1
@@ -67,7 +68,8 @@ module _ (setup : Setup) (f c : ℕ) (x : Node) where
       by None = nothing f (node_of c)
       by (Some cmd) = inr (y.answered + 1, cmd, refl)
 
-  after_checks : (checks : List (Bool × NodeFault)) (step : NodeStep) → AreRequests f (node_of c) step.sent → AreRequests f (node_of c) (unless x checks step).sent
+  after_checks : (checks : List (Bool × NodeFault)) (step : NodeStep) → AreRequests f (node_of c) step.sent
+      → AreRequests f (node_of c) (unless x checks step).sent
   after_checks [] step sent = sent
   after_checks ((fails, fault) ∷ more) step sent = by fails (after_checks more step sent)
     where
@@ -75,7 +77,8 @@ module _ (setup : Setup) (f c : ℕ) (x : Node) where
       by true rest = nothing f (node_of c)
       by false rest = rest
 
-  either_way : (b : Bool) (p q : NodeStep) → AreRequests f (node_of c) p.sent → AreRequests f (node_of c) q.sent → AreRequests f (node_of c) (if b then p else q).sent
+  either_way : (b : Bool) (p q : NodeStep) → AreRequests f (node_of c) p.sent → AreRequests f (node_of c) q.sent
+      → AreRequests f (node_of c) (if b then p else q).sent
   either_way true p q left right = left
   either_way false p q left right = right
 
@@ -93,12 +96,15 @@ module _ (setup : Setup) (f c : ℕ) (x : Node) where
       (after_checks ((int_lt (account x) (pos o.amt), Short) ∷ []) _ (noted (with_pay_out x o) (Paid c o.out))))))
 
   at_message : (msg : MsgOf Cmd Answer PaymentOrder) → AreRequests f (node_of c) (on_message setup f c x msg).sent
-  at_message (Reply msg) = either_way ((msg.number == x.answered + 1) && nat_lt x.answered (length x.notices)) _ _ (out (record x { answered = x.answered + 1 })) (nothing f (node_of c))
+  at_message (Reply msg) =
+      either_way ((msg.number == x.answered + 1) && nat_lt x.answered (length x.notices)) _ _
+      (out (record x { answered = x.answered + 1 })) (nothing f (node_of c))
   at_message (PayOrder o) = at_order o
   at_message _ = nothing f (node_of c)
 
   pub node-requests : (event : NodeEvent) → AreRequests f (node_of c) (node_step setup f c x event).sent
-  node-requests (PaysIn member amt) = after_checks (pay_in_checks setup f c x member amt) _ (noted (with_pay_in x member amt) (Fund c (length x.pay_ins + 1) member amt))
+  node-requests (PaysIn member amt) =
+      after_checks (pay_in_checks setup f c x member amt) _ (noted (with_pay_in x member amt) (Fund c (length x.pay_ins + 1) member amt))
   node-requests (Closes member) = after_checks (close_checks setup f c x member) _ (nothing f (node_of c))
   node-requests (Takes e) = either_way (not (e.to == node_of c)) _ _ (nothing f (node_of c)) (at_message e.msg)
   node-requests Beats = out x
@@ -110,7 +116,9 @@ module _ (f me : ℕ) (x : Client) where
   pub client-requests : (event : ClientEvent) → AreRequests f me (client_step f me x event).sent
   client-requests (client.Submits cmd) = by x.waiting
     where
-      by_number : (b : Bool) → AreRequests f me (if b then rules.refuses x Spent else rules.does (record { number = x.number + 1; waiting = Some cmd; answer = None }) (to_sites f me (x.number + 1) cmd)).sent
+      by_number : (b : Bool)
+          → AreRequests f me (if b then rules.refuses x Spent else rules.does (record { number = x.number + 1; waiting = Some cmd; answer = None })
+          (to_sites f me (x.number + 1) cmd)).sent
       by_number true = nothing f me
       by_number false = inr (x.number + 1, cmd, refl)
 

@@ -46,7 +46,8 @@ SilentAs (Refused fault) s = Unit {0}
 abbrev IsQuiet : {C R O : Type 0} → Step C R O → Type 0
 IsQuiet s = SilentAs s.ending s
 
-silent : {C R O : Type 0} {x : Site C} {e : Ending} → IsSilent {C = C} {R = R} {O = O} (record { site = x; sent = []; replies = []; orders = false; ending = e })
+silent : {C R O : Type 0} {x : Site C} {e : Ending}
+    → IsSilent {C = C} {R = R} {O = O} (record { site = x; sent = []; replies = []; orders = false; ending = e })
 silent = record { sent = refl; replies = refl; orders = refl }
 
 quiet_if : {C R O : Type 0} (b : Bool) (p q : Step C R O) → IsQuiet p → IsQuiet q → IsQuiet (if b then p else q)
@@ -146,8 +147,10 @@ module _ (R O : Type 0) {C : Type 0} (choose : Choice C) (f me : ℕ) (x : Site 
       (quiet_if (nat_lt msg.view x.view) _ _ silent
       (quiet_if (nat_lt MAX_ROWS (msg.base + length msg.rows)) _ _ silent
       (quiet_if (is_normal x.status && (msg.view == x.view)) _ _
-      (quiet_if (nat_le msg.base (length x.log) && nat_lt (length x.log) (msg.base + length msg.rows)) _ _ (taking_quiet msg.view msg.done (take msg.base x.log ++ msg.rows)) silent)
-      (quiet_if (nat_le msg.base x.done && nat_le x.done (msg.base + length msg.rows)) _ _ (taking_quiet msg.view msg.done (take msg.base x.log ++ msg.rows)) silent)))))
+      (quiet_if (nat_le msg.base (length x.log) && nat_lt (length x.log) (msg.base + length msg.rows)) _ _
+      (taking_quiet msg.view msg.done (take msg.base x.log ++ msg.rows)) silent)
+      (quiet_if (nat_le msg.base x.done && nat_le x.done (msg.base + length msg.rows)) _ _
+      (taking_quiet msg.view msg.done (take msg.base x.log ++ msg.rows)) silent)))))
 
   recovery_quiet : (from : ℕ) (msg : RecoveryMsg) → IsQuiet (on_recovery {R = R} {O = O} f me x from msg)
   unfolding on_recovery

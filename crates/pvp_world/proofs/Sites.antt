@@ -39,12 +39,14 @@ use Rattle.pvp_world.specs.Serving.{IsUnserved, IsDown, IsKept}
 use Rattle.pvp_world.proofs.Silent.{IsSilent, dropped-silent, crash-silent, silent-sends}
 
 -- A refusal is no fall.
-two-stay : (a b : Bool) (p q fault : SiteFault) → is_fall p ≡ false → is_fall q ≡ false → (if a then Some p else if b then Some q else None) ≡ Some fault → is_fall fault ≡ false
+two-stay : (a b : Bool) (p q fault : SiteFault) → is_fall p ≡ false → is_fall q ≡ false → (if a then Some p else if b then Some q else None) ≡ Some fault
+    → is_fall fault ≡ false
 two-stay true b p q fault first second e = subst (λ (z : SiteFault). is_fall z ≡ false) (some-same p fault e) first
 two-stay false true p q fault first second e = subst (λ (z : SiteFault). is_fall z ≡ false) (some-same q fault e) second
 two-stay false false p q fault first second e = absurd (none-some fault e)
 
-pub refusal-stays : {C R O : Type 0} (f me : ℕ) (x : Site C) (event : EventOf C R O) (fault : SiteFault) → refusal f me x event ≡ Some fault → is_fall fault ≡ false
+pub refusal-stays : {C R O : Type 0} (f me : ℕ) (x : Site C) (event : EventOf C R O) (fault : SiteFault) → refusal f me x event ≡ Some fault
+    → is_fall fault ≡ false
 refusal-stays f me x (Deliver envelope) fault = two-stay (is_down x.status) (not (is_mine f me envelope)) NotUp NotMine fault refl refl
 refusal-stays f me x Timer fault = two-stay (is_down x.status) (not (is_recovering x.status) && (x.view == max_number)) NotUp ViewsSpent fault refl refl
 refusal-stays f me x Beat fault = two-stay (is_down x.status) false NotUp NotUp fault refl refl
@@ -69,7 +71,9 @@ restart-handled : (choose : Choice Cmd) (f me : ℕ) (x : Site Cmd) → is_refus
 unfolding on_restart
 restart-handled choose f me x = refl
 
-module _ {H B : Type 0} (m : Ghosts H Cmd Answer PaymentOrder Setup) (c : Cell B) (setup : Setup) (i : ℕ) (old new : replica.Shown Cmd Setup B) (event : EventOf Cmd Answer PaymentOrder) (x : Site Cmd) (choose : Choice Cmd) (right : IsRight (faults setup) choose) (is : IsSite c.held setup i old x) where
+module _ {H B : Type 0} (m : Ghosts H Cmd Answer PaymentOrder Setup) (c : Cell B) (setup : Setup) (i : ℕ) (old new : replica.Shown Cmd Setup B)
+    (event : EventOf Cmd Answer PaymentOrder) (x : Site Cmd) (choose : Choice Cmd) (right : IsRight (faults setup) choose)
+    (is : IsSite c.held setup i old x) where
   abbrev step : Step Cmd Answer PaymentOrder
   step = site_step choose (faults setup) i x event
 
@@ -86,7 +90,8 @@ module _ {H B : Type 0} (m : Ghosts H Cmd Answer PaymentOrder Setup) (c : Cell B
       ∙ ap (λ (y : Site Cmd). site_step choose (faults setup) i y event) (sym is.site)
 
   -- the site is down over what its cell holds
-  down-is : (y : Site Cmd) → new.f ≡ old.f → new.me ≡ old.me → new.setup ≡ old.setup → SumUp new.volatile.acked [] → site_shown c.held new [] ≡ over (c.held new.cell) Down
+  down-is : (y : Site Cmd) → new.f ≡ old.f → new.me ≡ old.me → new.setup ≡ old.setup → SumUp new.volatile.acked []
+      → site_shown c.held new [] ≡ over (c.held new.cell) Down
       → IsSite c.held setup i new (over (c.held new.cell) Down)
   down-is y f me made acks down = record { f = f ∙ is.f; me = me ∙ is.me; made_from = made ∙ is.made_from; acks = acks; site = sym down }
 
@@ -122,7 +127,10 @@ module _ {H B : Type 0} (m : Ghosts H Cmd Answer PaymentOrder Setup) (c : Cell B
   done : (out : OutcomeOf Cmd Answer PaymentOrder) (mid : replica.Shown Cmd Setup B) (result : Result (OutcomeOf Cmd Answer PaymentOrder) SiteFault)
       → Handles m c old mid event result → result ≡ Ok out → Does m c old mid out named
   done out mid result handles answered =
-      subst (λ (r : Result (OutcomeOf Cmd Answer PaymentOrder) SiteFault). IfOk r (λ out. (choose : Choice Cmd) (acks : List Ack) → IsRight old.f choose → SumUp old.volatile.acked acks → Does m c old mid out (site_step choose old.f old.me (site_shown c.held old acks) event))) answered handles.step choose x.collected.acks right_here is.acks
+      subst (λ (r : Result (OutcomeOf Cmd Answer PaymentOrder) SiteFault).
+      IfOk r (λ out. (choose : Choice Cmd) (acks : List Ack) → IsRight old.f choose → SumUp old.volatile.acked acks
+      → Does m c old mid out (site_step choose old.f old.me (site_shown c.held old acks) event))) answered handles.step choose
+      x.collected.acks right_here is.acks
 
   -- what was answered is a refusal, or a fall
   pub unserved : (result : Result (OutcomeOf Cmd Answer PaymentOrder) SiteFault) (fault : SiteFault) (post posted : List Envelope)
@@ -130,7 +138,8 @@ module _ {H B : Type 0} (m : Ghosts H Cmd Answer PaymentOrder Setup) (c : Cell B
       → IsUnserved c.held setup choose i x event old new post posted fault
   unserved result fault post posted handles taken answered kept = by (refusal old.f old.me (site_shown c.held old []) event) refl
     where
-      falls : refusal old.f old.me (site_shown c.held old []) event ≡ None → (Falls c old new (site_shown c.held old x.collected.acks) named fault) → IsUnserved c.held setup choose i x event old new post posted fault
+      falls : refusal old.f old.me (site_shown c.held old []) event ≡ None → (Falls c old new (site_shown c.held old x.collected.acks) named fault)
+          → IsUnserved c.held setup choose i x event old new post posted fault
       falls unrefused f =
           let fell = subst (λ (y : Site Cmd). IsFall y named (site_shown c.held new [])) (sym is.site) f.site in
           let at = falls-down (site_shown c.held new []) named fell in
@@ -150,7 +159,8 @@ module _ {H B : Type 0} (m : Ghosts H Cmd Answer PaymentOrder Setup) (c : Cell B
           is_one (inl e) = ap (λ (z : SiteFault). is_fall z) e
           is_one (inr e) = ap (λ (z : SiteFault). is_fall z) e.0
 
-      by : (found : Option SiteFault) → refusal old.f old.me (site_shown c.held old []) event ≡ found → IsUnserved c.held setup choose i x event old new post posted fault
+      by : (found : Option SiteFault) → refusal old.f old.me (site_shown c.held old []) event ≡ found
+          → IsUnserved c.held setup choose i x event old new post posted fault
       by (Some r) at =
           let t = handles.refused r at in
           let one = err-same result r fault t.0 answered in
@@ -160,7 +170,11 @@ module _ {H B : Type 0} (m : Ghosts H Cmd Answer PaymentOrder Setup) (c : Cell B
             refused = λ _. (t.1, sym named-refusal ∙ at ∙ ap (λ (z : SiteFault). Some z) one);
             fell = λ yes. absurd (true≢false (sym yes ∙ no));
           }
-      by None at = falls at (subst (λ (r : Result (OutcomeOf Cmd Answer PaymentOrder) SiteFault). IfErr r (λ fault. (choose : Choice Cmd) (acks : List Ack) → IsRight old.f choose → SumUp old.volatile.acked acks → Falls c old new (site_shown c.held old acks) (site_step choose old.f old.me (site_shown c.held old acks) event) fault)) answered (handles.fall at) choose x.collected.acks right_here is.acks)
+      by None at =
+          falls at (subst (λ (r : Result (OutcomeOf Cmd Answer PaymentOrder) SiteFault).
+          IfErr r (λ fault. (choose : Choice Cmd) (acks : List Ack) → IsRight old.f choose → SumUp old.volatile.acked acks
+          → Falls c old new (site_shown c.held old acks) (site_step choose old.f old.me (site_shown c.held old acks) event) fault)) answered
+          (handles.fall at) choose x.collected.acks right_here is.acks)
 
   -- its cell then holds what the event saves
   pub saved-after : (out : OutcomeOf Cmd Answer PaymentOrder) (mid : replica.Shown Cmd Setup B) (result : Result (OutcomeOf Cmd Answer PaymentOrder) SiteFault)
@@ -189,13 +203,15 @@ module _ {H B : Type 0} (m : Ghosts H Cmd Answer PaymentOrder Setup) (c : Cell B
       does = done out mid result handles answered
 
       allowed : is_refused step.ending ≡ false
-      allowed = ap (λ (s : Step Cmd Answer PaymentOrder). is_refused s.ending) (sym same) ∙ ap (λ (e : Ending). is_refused e) does.ending ∙ ended-allowed out.dropped
+      allowed =
+          ap (λ (s : Step Cmd Answer PaymentOrder). is_refused s.ending) (sym same) ∙ ap (λ (e : Ending). is_refused e) does.ending ∙ ended-allowed out.dropped
 
       cell_is : c.held new.cell ≡ c.held mid.cell
       cell_is = ap (λ (v : replica.Shown Cmd Setup B). c.held v.cell) fallen
 
   -- a site that handled the event, and fell as the post took nothing of what it sent
-  pub fell-after : (out : OutcomeOf Cmd Answer PaymentOrder) (mid : replica.Shown Cmd Setup B) (result : Result (OutcomeOf Cmd Answer PaymentOrder) SiteFault) (post posted : List Envelope)
+  pub fell-after : (out : OutcomeOf Cmd Answer PaymentOrder) (mid : replica.Shown Cmd Setup B) (result : Result (OutcomeOf Cmd Answer PaymentOrder) SiteFault)
+      (post posted : List Envelope)
       → Handles m c old mid event result → result ≡ Ok out → new ≡ record mid { volatile = lost } → posted ≡ post → out.sent.items ≢ []
       → IsUnserved c.held setup choose i x event old new post posted NoMemory
   fell-after out mid result post posted handles answered fallen kept some =
@@ -206,7 +222,10 @@ module _ {H B : Type 0} (m : Ghosts H Cmd Answer PaymentOrder Setup) (c : Cell B
         fell = λ yes. record {
           falls = down.falls;
           handled = ap (λ (s : Step Cmd Answer PaymentOrder). s.ending) (sym same) ∙ handled out.dropped does.ending;
-          no_crash = λ crash. said (subst (λ (e : EventOf Cmd Answer PaymentOrder). IsSilent (site_step choose old.f old.me (site_shown c.held old x.collected.acks) e)) (sym crash)
+          no_crash =
+              λ crash.
+              said (subst (λ (e : EventOf Cmd Answer PaymentOrder). IsSilent (site_step choose old.f old.me (site_shown c.held old x.collected.acks) e))
+              (sym crash)
               (crash-silent Answer PaymentOrder choose old.f old.me (site_shown c.held old x.collected.acks)));
           site = down.site;
         };
@@ -243,7 +262,8 @@ module _ {H B : Type 0} (m : Ghosts H Cmd Answer PaymentOrder Setup) (c : Cell B
   kept-refused fault at kept = record { same = kept; refused = sym named-refusal ∙ at }
 
   -- a site that falls in place of a restart, before it saves
-  pub down-before : refusal {R = Answer} {O = PaymentOrder} old.f old.me (site_shown c.held old []) event ≡ None → event ≡ Restart → new ≡ record old { volatile = lost }
+  pub down-before : refusal {R = Answer} {O = PaymentOrder} old.f old.me (site_shown c.held old []) event ≡ None → event ≡ Restart
+      → new ≡ record old { volatile = lost }
       → IsDown c.held setup choose i x event new
   down-before at restart fallen = record {
     falls = record { allowed = allowed; down = inl (ap (λ (k : Boot). over k Down) (cell_is ∙ ap (λ (y : Site Cmd). y.cell) (sym is.site))) };
@@ -260,5 +280,8 @@ module _ {H B : Type 0} (m : Ghosts H Cmd Answer PaymentOrder Setup) (c : Cell B
       cell_is = ap (λ (v : replica.Shown Cmd Setup B). c.held v.cell) fallen
 
       allowed : is_refused step.ending ≡ false
-      allowed = ap (λ (r : Option SiteFault). is_refused (refused_or x r (on_event {R = Answer} {O = PaymentOrder} choose (faults setup) i x event)).ending) (sym named-refusal ∙ at)
-          ∙ ap (λ (e : EventOf Cmd Answer PaymentOrder). is_refused (on_event choose (faults setup) i x e).ending) restart ∙ restart-handled choose (faults setup) i x
+      allowed =
+          ap (λ (r : Option SiteFault). is_refused (refused_or x r (on_event {R = Answer} {O = PaymentOrder} choose (faults setup) i x event)).ending)
+          (sym named-refusal ∙ at)
+          ∙ ap (λ (e : EventOf Cmd Answer PaymentOrder). is_refused (on_event choose (faults setup) i x e).ending) restart
+          ∙ restart-handled choose (faults setup) i x

@@ -24,7 +24,8 @@ is_of_site (OfClient k event) = false
 
 -- the cell of the site whose turn it is does not hold this
 abbrev pub HoldsAnother : {B : Type 0} → (B → Boot) → Shown B → Boot → Turn → Type 0
-HoldsAnother {B} held world cell (OfSite i event) = (v : replica.Shown Cmd Setup B) × (slice_get world.sites i ≡ Some v) × (held v.cell ≢ cell)
+HoldsAnother {B} held world cell (OfSite i event) =
+    (v : replica.Shown Cmd Setup B) × (slice_get world.sites i ≡ Some v) × (held v.cell ≢ cell)
 HoldsAnother held world cell _ = ⊥
 
 -- the site fell in place of the step over another value than this, which was not the old one either
@@ -41,10 +42,12 @@ pub record FellAsSaved {B : Type 0} (held : B → Boot) (old new : Shown B) (ste
 
 -- why the step has no fall: as it is not taken, or it is no site's
 abbrev pub IsWhyNot : {B : Type 0} → (B → Boot) → Shown B → Step → WorldFault → Type 0
-IsWhyNot held world step fault = IsWhy held world step fault ⊎ ((fault ≡ NoSuchActor) × InTurn world step (λ t. is_of_site t ≡ false))
+IsWhyNot held world step fault =
+    IsWhy held world step fault ⊎ ((fault ≡ NoSuchActor) × InTurn world step (λ t. is_of_site t ≡ false))
 
 -- the world is as it was; but where the site met want of memory or a failed save, it fell elsewhere
-pub record IsUnfallen {B : Type 0} (held : B → Boot) (old new : Shown B) (step : Step) (cell : Boot) (fault : WorldFault) : Type 0 where
+pub record IsUnfallen {B : Type 0} (held : B → Boot) (old new : Shown B) (step : Step) (cell : Boot)
+    (fault : WorldFault) : Type 0 where
   pub kept : is_world_fall fault ≡ false → (new ≡ old) × IsWhyNot held old step fault
   pub fell : is_world_fall fault ≡ true → FellElsewhere held old new step cell
 

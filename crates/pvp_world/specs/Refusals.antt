@@ -32,7 +32,8 @@ use Rattle.pvp_world.specs.Steps.{told_as}
 -- an actor's own reason, where the actor is there
 abbrev pub site_refuses : ℕ → ℕ → EventOf Cmd Answer PaymentOrder → Option (Site Cmd) → Option WorldFault
 site_refuses f i event None = Some fault.NoSuchActor
-site_refuses f i event (Some x) = option_map (λ why. fault.Site why) (refusal {R = Answer} {O = PaymentOrder} f i x event)
+site_refuses f i event (Some x) =
+    option_map (λ why. fault.Site why) (refusal {R = Answer} {O = PaymentOrder} f i x event)
 
 abbrev pub node_refuses : Setup → ℕ → ℕ → NodeEvent → Option Node → Option WorldFault
 node_refuses setup f c event None = Some fault.NoSuchActor
@@ -107,7 +108,8 @@ abbrev pub wants_fall : FallFault → Bool
 wants_fall (fall_fault.Step why) = wants why
 wants_fall fall_fault.Elsewhere = false
 
--- A MOVE THAT A WORLD'S TRAIL ALLOWS: the trail is a legal list over the first values of its cells, which goes on with it
+-- A MOVE THAT A WORLD'S TRAIL ALLOWS: the trail is a legal list over the first values of its cells, which goes on with
+-- it
 pub record IsAllowed {B : Type 0} (world : Shown B) (move : Move) : Type 0 where
   pub list : LegalList world.setup (faults world.setup)
   pub cells : list.cells ≡ world.opening

@@ -48,7 +48,8 @@ pub record IsReport (post posted : List Envelope) (why : Option Why) (report : R
   pub dropped : report.dropped ≡ why
 
 -- why an actor's turn was dropped: sites alone drop
-abbrev pub dropped_in : (setup : Setup) (choose : Choice Cmd) (f : ℕ) (bank : Bank) (t : Turn) (after : Bank) → Acts setup choose f bank t after → Option Why
+abbrev pub dropped_in : (setup : Setup) (choose : Choice Cmd) (f : ℕ) (bank : Bank) (t : Turn) (after : Bank)
+    → Acts setup choose f bank t after → Option Why
 dropped_in setup choose f bank (OfSite i event) after acts =
     dropped_as (site_step {R = Answer} {O = PaymentOrder} choose f i acts.before event).ending
 dropped_in setup choose f bank (OfNode c event) after acts = None
@@ -70,8 +71,10 @@ pub record Moves {B : Type 0} (held : B → Boot) (old new : Shown B) (move : Mo
 -- A STEP THAT WAS TAKEN, and its report
 pub record IsTaken {B : Type 0} (held : B → Boot) (old new : Shown B) (step : Step) (report : Report) : Type 0 where
   pub moves : Moves held old new (Takes step)
-  pub told : let by : Steps old.setup moves.list.choose (faults old.setup) moves.list.bank step moves.after = moves.leads in
-      IsReport old.post new.post (dropped_in old.setup moves.list.choose (faults old.setup) moves.list.bank by.turn_is moves.after by.acts) report
+  pub told : let by : Steps old.setup moves.list.choose (faults old.setup) moves.list.bank step moves.after =
+      moves.leads in
+      IsReport old.post new.post (dropped_in old.setup moves.list.choose
+      (faults old.setup) moves.list.bank by.turn_is moves.after by.acts) report
 
 -- A STEP THAT WAS NOT TAKEN
 
@@ -94,11 +97,13 @@ pub record IsTurn {B : Type 0} (world : Shown B) (step : Step) (is_there : Bool)
 -- a site, a node, a client refuses its turn for this reason
 abbrev pub SiteRefuses : {B : Type 0} → (B → Boot) → Shown B → SiteFault → Turn → Type 0
 SiteRefuses {B} held world fault (OfSite i event) =
-    (v : replica.Shown Cmd Setup B) × (slice_get world.sites i ≡ Some v) × (refusal {R = Answer} {O = PaymentOrder} v.f v.me (site_shown held v []) event ≡ Some fault)
+    (v : replica.Shown Cmd Setup B) × (slice_get world.sites i ≡ Some v)
+    × (refusal {R = Answer} {O = PaymentOrder} v.f v.me (site_shown held v []) event ≡ Some fault)
 SiteRefuses held world fault _ = ⊥
 
 abbrev pub NodeRefuses : {B : Type 0} → Shown B → NodeFault → Turn → Type 0
-NodeRefuses world fault (OfNode c event) = (v : node.Shown) × (slice_get world.nodes c ≡ Some v) × node.IsRefusal v v (node.step_of v event) fault
+NodeRefuses world fault (OfNode c event) =
+    (v : node.Shown) × (slice_get world.nodes c ≡ Some v) × node.IsRefusal v v (node.step_of v event) fault
 NodeRefuses world fault _ = ⊥
 
 abbrev pub ClientRefuses : {B : Type 0} → Shown B → ClientFault → Turn → Type 0
@@ -146,33 +151,42 @@ IsWhy held world step Outstanding = InTurn world step (ClientRefuses world clien
 IsWhy held world step Spent = InTurn world step (ClientRefuses world client_fault.Spent)
 
 -- what a fallen site would have done with its event
-abbrev pub ending_in : (setup : Setup) (choose : Choice Cmd) (f : ℕ) (bank : Bank) (t : Turn) (cell : Boot) (after : Bank) → FallsBy setup choose f bank t cell after → Ending
-ending_in setup choose f bank (OfSite i event) cell after falls = (site_step {R = Answer} {O = PaymentOrder} choose f i falls.before event).ending
+abbrev pub ending_in : (setup : Setup) (choose : Choice Cmd) (f : ℕ) (bank : Bank) (t : Turn) (cell : Boot)
+    (after : Bank) → FallsBy setup choose f bank t cell after → Ending
+ending_in setup choose f bank (OfSite i event) cell after falls =
+    (site_step {R = Answer} {O = PaymentOrder} choose f i falls.before event).ending
 ending_in setup choose f bank (OfNode c event) cell after falls = absurd falls
 ending_in setup choose f bank (OfClient k event) cell after falls = absurd falls
 
 -- what its event would have saved
-abbrev pub saved_in : (setup : Setup) (choose : Choice Cmd) (f : ℕ) (bank : Bank) (t : Turn) (cell : Boot) (after : Bank) → FallsBy setup choose f bank t cell after → Boot
-saved_in setup choose f bank (OfSite i event) cell after falls = (site_step {R = Answer} {O = PaymentOrder} choose f i falls.before event).site.cell
+abbrev pub saved_in : (setup : Setup) (choose : Choice Cmd) (f : ℕ) (bank : Bank) (t : Turn) (cell : Boot)
+    (after : Bank) → FallsBy setup choose f bank t cell after → Boot
+saved_in setup choose f bank (OfSite i event) cell after falls =
+    (site_step {R = Answer} {O = PaymentOrder} choose f i falls.before event).site.cell
 saved_in setup choose f bank (OfNode c event) cell after falls = absurd falls
 saved_in setup choose f bank (OfClient k event) cell after falls = absurd falls
 
 -- it fell over what its event saves
-abbrev pub IsOverSaved : {B : Type 0} (held : B → Boot) (old new : Shown B) (step : Step) (cell : Boot) → Moves held old new (Falls step cell) → Type 0
+abbrev pub IsOverSaved : {B : Type 0} (held : B → Boot) (old new : Shown B) (step : Step) (cell : Boot)
+    → Moves held old new (Falls step cell) → Type 0
 IsOverSaved held old new step cell moves =
     let by : Fails old.setup moves.list.choose (faults old.setup) moves.list.bank step cell moves.after = moves.leads in
     cell ≡ saved_in old.setup moves.list.choose (faults old.setup) moves.list.bank by.turn_is cell moves.after by.falls
 
--- A FALL, which is the move: only of a site that would handle its event, and neither drop nor refuse it, and by no crash
+-- A FALL, which is the move: only of a site that would handle its event, and neither drop nor refuse it, and by no
+-- crash
 pub record HasFallen {B : Type 0} (held : B → Boot) (old new : Shown B) (step : Step) : Type 0 where
   pub cell : Boot
   pub moves : Moves held old new (Falls step cell)
-  pub handled : let by : Fails old.setup moves.list.choose (faults old.setup) moves.list.bank step cell moves.after = moves.leads in
-      ending_in old.setup moves.list.choose (faults old.setup) moves.list.bank by.turn_is cell moves.after by.falls ≡ Handled
+  pub handled : let by : Fails old.setup moves.list.choose (faults old.setup) moves.list.bank step cell moves.after =
+      moves.leads in
+      ending_in old.setup moves.list.choose (faults old.setup) moves.list.bank by.turn_is cell moves.after by.falls
+      ≡ Handled
   pub no_crash : (site : ℕ) → step ≢ Crash site
 
 -- the world is as it was; but where a site fell, that is the move
-pub record IsRefused {B : Type 0} (held : B → Boot) (old new : Shown B) (step : Step) (fault : WorldFault) : Type 0 where
+pub record IsRefused {B : Type 0} (held : B → Boot) (old new : Shown B) (step : Step) (fault : WorldFault)
+    : Type 0 where
   pub kept : is_world_fall fault ≡ false → (new ≡ old) × IsWhy held old step fault
   pub fell : is_world_fall fault ≡ true → HasFallen held old new step
 
@@ -184,7 +198,8 @@ Applies held old new step result = MatchResult result (IsTaken held old new step
 
 -- no save of a site's cell fails
 abbrev pub AreReliable : {B : Type 0} → Cell B → Shown B → Type 0
-AreReliable {B} c world = (i : ℕ) (v : replica.Shown Cmd Setup B) → slice_get world.sites i ≡ Some v → c.is_reliable v.cell
+AreReliable {B} c world = (i : ℕ) (v : replica.Shown Cmd Setup B) → slice_get world.sites i ≡ Some v
+    → c.is_reliable v.cell
 
 -- how many saves of each site's cell have failed
 abbrev pub failures : {B : Type 0} → Cell B → Shown B → List ℕ
@@ -203,7 +218,8 @@ pub record HasFailed {B : Type 0} (c : Cell B) (old new : Shown B) (step : Step)
 
 -- A step tells a failed save, and nothing else as one: then the count of its site's cell rises, and else no count does.
 -- Where no cell's saves fail, none did.
-pub record TellsFailures {B : Type 0} (c : Cell B) (old new : Shown B) (step : Step) (result : Result Report WorldFault) : Type 0 where
+pub record TellsFailures {B : Type 0} (c : Cell B) (old new : Shown B) (step : Step) (result : Result Report WorldFault)
+    : Type 0 where
   pub failed : result ≡ Err (OfSiteFault site_fault.CellFault) → HasFailed c old new step
   pub counted : result ≢ Err (OfSiteFault site_fault.CellFault) → failures c new ≡ failures c old
   pub reliable : AreReliable c old → AreReliable c new × (result ≢ Err (OfSiteFault site_fault.CellFault))
@@ -216,7 +232,8 @@ pub record AreTaken {B : Type 0} (old new : Shown B) (steps : List Step) : Type 
   pub trail : new.trail ≡ old.trail ++ map (λ step. Takes step) steps
 
 -- the steps before one are taken, and that one is not
-pub record IsStopped {B : Type 0} (c : Cell B) (old new : Shown B) (steps : List Step) (fault : WorldFault) : Type 0 where
+pub record IsStopped {B : Type 0} (c : Cell B) (old new : Shown B) (steps : List Step) (fault : WorldFault)
+    : Type 0 where
   pub done : List Step
   pub next : Step
   pub rest : List Step

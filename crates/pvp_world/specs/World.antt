@@ -27,9 +27,18 @@ pub record Shown (B : Type 0) : Type 0 where
   pub post : List Envelope  -- numbered from 1
   pub trail : List Move
 
-abbrev pub world_of : {B : Type 0} → Setup → List Boot → List (replica.Shown Cmd Setup B) → List node.Shown → List client.Shown → List Envelope → List Move → Shown B
+abbrev pub world_of : {B : Type 0} → Setup → List Boot → List (replica.Shown Cmd Setup B) → List node.Shown
+    → List client.Shown → List Envelope → List Move → Shown B
 world_of setup opening sites nodes clients post trail =
-    record { setup = setup; opening = opening; sites = sites; nodes = nodes; clients = clients; post = post; trail = trail }
+    record {
+      setup = setup;
+      opening = opening;
+      sites = sites;
+      nodes = nodes;
+      clients = clients;
+      post = post;
+      trail = trail;
+    }
 
 -- as many of these as of those, and each is so of the one in its place
 pub record AreEach {A B : Type 0} (Is : ℕ → A → B → Type 0) (xs : List A) (ys : List B) : Type 0 where
@@ -37,7 +46,8 @@ pub record AreEach {A B : Type 0} (Is : ℕ → A → B → Type 0) (xs : List A
   pub each : (i : ℕ) (x : A) (y : B) → slice_get xs i ≡ Some x → slice_get ys i ≡ Some y → Is i x y
 
 -- a replica shows this site of a bank; of the acknowledgements that came it shows the sums
-pub record IsSite {B : Type 0} (held : B → Boot) (setup : Setup) (i : ℕ) (v : replica.Shown Cmd Setup B) (x : Site Cmd) : Type 0 where
+pub record IsSite {B : Type 0} (held : B → Boot) (setup : Setup) (i : ℕ) (v : replica.Shown Cmd Setup B) (x : Site Cmd)
+    : Type 0 where
   pub f : v.f ≡ faults setup
   pub me : v.me ≡ i
   pub made_from : v.setup ≡ setup
@@ -57,8 +67,8 @@ pub record ShowsBank {B : Type 0} (held : B → Boot) (world : Shown B) (bank : 
   pub clients : AreEach (IsClient world.setup) world.clients bank.clients
   pub post : world.post ≡ bank.post
 
--- THE WORLD IS WHERE ITS TRAIL LEADS: the moves taken are a legal list over the cells' first values, and the world shows
--- the bank that this leads to
+-- THE WORLD IS WHERE ITS TRAIL LEADS: the moves taken are a legal list over the cells' first values, and the world
+-- shows the bank that this leads to
 pub record IsAt {B : Type 0} (held : B → Boot) (world : Shown B) : Type 0 where
   pub list : LegalList world.setup (faults world.setup)
   pub cells : list.cells ≡ world.opening

@@ -27,7 +27,11 @@ impl Model for Client {
 
     ghost Value = { Shown };
 
-    ghost view = { λ a. record { f = a.faults; me = a.me; client = record { number = a.number; waiting = a.waiting; answer = a.answer } } };
+    ghost view = { λ a. record {
+      f = a.faults;
+      me = a.me;
+      client = record { number = a.number; waiting = a.waiting; answer = a.answer };
+    } };
 
     ghost invariant = { λ a. a.faults ≤ 3 };
 }
@@ -60,7 +64,8 @@ impl Client {
         alloc: Global,
         event: ClientEvent,
     ) -> Result<Vec<Envelope<Book>>, ClientFault>
-        ensures taken { IfOk result (λ sent. IsStep self.old self.new (step_of self.old event) sent.items) }
+        ensures taken { IfOk result (λ sent. IsStep self.old self.new
+            (step_of self.old event) sent.items) }
         ensures refused { IfErr result (IsRefusal self.old self.new (step_of self.old event)) }
     {
         match event {
@@ -73,8 +78,10 @@ impl Client {
     /// Asks for this under the next number: a REQUEST goes to every site. `Outstanding` is tested first, then `Spent`;
     /// `NoMemory` comes after them. After an `Err` the client is as it was.
     pub fn submit(&mut self, alloc: Global, cmd: Cmd) -> Result<Vec<Envelope<Book>>, ClientFault>
-        ensures taken { IfOk result (λ sent. IsStep self.old self.new (step_of self.old (Submits cmd)) sent.items) }
-        ensures refused { IfErr result (IsRefusal self.old self.new (step_of self.old (Submits cmd))) }
+        ensures taken { IfOk result (λ sent. IsStep self.old self.new
+            (step_of self.old (Submits cmd)) sent.items) }
+        ensures refused { IfErr result
+            (IsRefusal self.old self.new (step_of self.old (Submits cmd))) }
     {
         if self.waiting.is_some() {
             return Err(ClientFault::Outstanding);
@@ -107,7 +114,8 @@ impl Client {
 
     /// The request that waits goes to every site again. The client stays as it is, and the only fault is `NoMemory`.
     pub fn beat(&self, alloc: Global) -> Result<Vec<Envelope<Book>>, ClientFault>
-        ensures taken { IfOk result (λ sent. IsStep self.now self.now (step_of self.now Beats) sent.items) }
+        ensures taken { IfOk result (λ sent. IsStep self.now self.now
+            (step_of self.now Beats) sent.items) }
         ensures refused { IfErr result (IsRefusal self.now self.now (step_of self.now Beats)) }
     {
         let Some(cmd) = self.waiting else {

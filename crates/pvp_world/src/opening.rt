@@ -30,7 +30,8 @@ pub fn sites_over<C: BootCell>(
     requires valid { IsValid setup.now }
     requires count { length cells.items ≡ 2 * faults setup.now + 1 }
     ensures cells { IfOk result (λ sites. map (λ site. site.cell) sites.items ≡ cells.items) }
-    ensures sites { IfOk result (λ sites. AreEach (IsSite C.held setup.now) sites.items (map (opening_site (faults setup.now)) (map C.held cells.items))) }
+    ensures sites { IfOk result (λ sites. AreEach (IsSite C.held setup.now) sites.items
+        (map (opening_site (faults setup.now)) (map C.held cells.items))) }
 {
     let f = setup.faults();
     let mut sites = Vec::with_capacity(alloc, cells.len())?;
@@ -44,7 +45,8 @@ pub fn sites_over<C: BootCell>(
 /// A node for each currency.
 pub fn nodes_of(alloc: Global, setup: &Setup) -> Result<Vec<Node>, AllocError>
     requires { IsValid setup.now }
-    ensures { IfOk result (λ nodes. AreEach (IsNode setup.now) nodes.items (map (λ currency. opening_node) setup.now.currencies)) }
+    ensures { IfOk result (λ nodes. AreEach (IsNode setup.now) nodes.items
+        (map (λ currency. opening_node) setup.now.currencies)) }
 {
     let mut nodes = Vec::with_capacity(alloc, setup.currencies.len())?;
     for ccy in 0..setup.currency_count() {
@@ -56,7 +58,8 @@ pub fn nodes_of(alloc: Global, setup: &Setup) -> Result<Vec<Node>, AllocError>
 /// The operator and the members.
 pub fn clients_of(alloc: Global, setup: &Setup) -> Result<Vec<Client>, AllocError>
     requires { IsValid setup.now }
-    ensures { IfOk result (λ clients. AreEach (IsClient setup.now) clients.items (opening_client ∷ map (λ member. opening_client) setup.now.members)) }
+    ensures { IfOk result (λ clients. AreEach (IsClient setup.now) clients.items
+        (opening_client ∷ map (λ member. opening_client) setup.now.members)) }
 {
     let mut clients = Vec::with_capacity(alloc, setup.members.len() + 1)?;
     for number in 0..setup.member_count() + 1 {

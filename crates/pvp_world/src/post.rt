@@ -23,10 +23,13 @@ pub fn serve<C: BootCell>(
     event: Event<Book>,
     post: &mut Vec<Envelope<Book>>,
 ) -> Result<Report, SiteFault>
-    ensures serves { (setup : Setup) (i : _) → Serves C.held setup i site.old site.new event post.old.items post.new.items result }
-    ensures cause { IsErrOf result CellFault → HasRisen (C.faults site.old.cell) (C.faults site.new.cell) }
+    ensures serves { (setup : Setup) (i : _) →
+        Serves C.held setup i site.old site.new event post.old.items post.new.items result }
+    ensures cause { IsErrOf result CellFault →
+        HasRisen (C.faults site.old.cell) (C.faults site.new.cell) }
     ensures counted { result ≢ Err CellFault → C.faults site.new.cell ≡ C.faults site.old.cell }
-    ensures reliable { C.is_reliable site.old.cell → C.is_reliable site.new.cell × (result ≢ Err CellFault) }
+    ensures reliable { C.is_reliable site.old.cell →
+        C.is_reliable site.new.cell × (result ≢ Err CellFault) }
 {
     let out = match site.handle(alloc, event) {
         Ok(out) => out,

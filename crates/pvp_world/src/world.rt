@@ -41,9 +41,12 @@ impl<C: BootCell> Model for World<C> {
 
     ghost Value = { Shown C };
 
-    ghost view = { λ a. world_of a.setup a.opening.items a.sites.items a.nodes.items a.clients.items a.post.items a.trail.items };
+    ghost view = { λ a. world_of a.setup a.opening.items a.sites.items a.nodes.items a.clients.items
+        a.post.items a.trail.items };
 
-    ghost invariant = { λ a. IsValid a.setup × IsAt C.held (world_of a.setup a.opening.items a.sites.items a.nodes.items a.clients.items a.post.items a.trail.items) };
+    ghost invariant = { λ a. IsValid a.setup × IsAt C.held
+        (world_of a.setup a.opening.items a.sites.items a.nodes.items a.clients.items
+        a.post.items a.trail.items) };
 }
 
 impl<C: BootCell> World<C> {
@@ -103,8 +106,10 @@ impl<C: BootCell> World<C> {
         ensures taken { OnOk result (AreTaken self.old self.new steps.now) }
         ensures stopped { IfErr result (IsStopped C.BootCell self.old self.new steps.now) }
         ensures headline { IsProved C.held self.new }
-        ensures counted { result ≢ Err (OfSiteFault CellFault) → failures C.BootCell self.new ≡ failures C.BootCell self.old }
-        ensures reliable { AreReliable C.BootCell self.old → AreReliable C.BootCell self.new × (result ≢ Err (OfSiteFault CellFault)) }
+        ensures counted { result ≢ Err (OfSiteFault CellFault) →
+            failures C.BootCell self.new ≡ failures C.BootCell self.old }
+        ensures reliable { AreReliable C.BootCell self.old →
+            AreReliable C.BootCell self.new × (result ≢ Err (OfSiteFault CellFault)) }
     {
         self.is_proved();
         for step in steps {
@@ -178,7 +183,8 @@ impl<C: BootCell> World<C> {
 
     /// An envelope, by its number, counted from 1.
     pub fn envelope(&self, number: usize) -> Option<&Envelope<Book>>
-        ensures { option_map (λ lent. lent.now) result ≡ (if number == 0 then None else slice_get self.now.post (number - 1)) }
+        ensures { option_map (λ lent. lent.now) result
+            ≡ (if number == 0 then None else slice_get self.now.post (number - 1)) }
     {
         self.post.get(number.checked_sub(1)?)
     }

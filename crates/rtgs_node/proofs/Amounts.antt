@@ -30,5 +30,6 @@ within (x ∷ xs) zero d low = refl
 within (x ∷ xs) (suc i) d low = within xs i d (omega arith)
 
 -- what is read at a place
-pub at-place : (xs : List ℕ) (at place value : ℕ) → value ≡ slice_index_or xs (at - 1) value → at ≡ place → place - 1 < length xs → value ≡ slice_index_or xs (place - 1) 0
+pub at-place : (xs : List ℕ) (at place value : ℕ) → value ≡ slice_index_or xs (at - 1) value → at ≡ place → place - 1 < length xs
+    → value ≡ slice_index_or xs (place - 1) 0
 at-place xs at place value read is low = read ∙ ap (λ k. slice_index_or xs (k - 1) value) is ∙ within xs (place - 1) value low

@@ -130,7 +130,9 @@ closes-one closed k a (suc n) low high is_open = by (cases_eq k a) (λ above. cl
     by (inl same) more =
         let past = closed-past closed k (a + 1) n (omega arith) in
         let was = ap (λ b. one_if (not b)) (ap (λ m. list_any (λ j. j == m) closed) (sym same) ∙ is_open) in
-        let is = ap one_if (closed-more closed k a ∙ ap (λ b. not (list_any (λ j. j == a) closed || (b || false))) (eq-eqb k a same) ∙ shut (list_any (λ j. j == a) closed)) in
+        let is =
+        ap one_if (closed-more closed k a ∙ ap (λ b. not (list_any (λ j. j == a) closed || (b || false))) (eq-eqb k a same)
+        ∙ shut (list_any (λ j. j == a) closed)) in
         let new' = new in
         let old' = old in
         omega arith
@@ -147,7 +149,8 @@ closes-one closed k a (suc n) low high is_open = by (cases_eq k a) (λ above. cl
 
 -- WHAT THE ACCOUNTS HOLD
 
-module _ (setup : Setup) (c : ℕ) (x : Node) (bank : ℕ) (members : List ℕ) (are : AreAccounts setup c x bank members) (member amt : ℕ) (mine : has_member setup member ≡ true) where
+module _ (setup : Setup) (c : ℕ) (x : Node) (bank : ℕ) (members : List ℕ) (are : AreAccounts setup c x bank members) (member amt : ℕ)
+    (mine : has_member setup member ≡ true) where
   held : ℕ
   held = slice_index_or members (member - 1) 0
 
@@ -204,25 +207,29 @@ module _ (setup : Setup) (c : ℕ) (x : Node) (bank : ℕ) (members : List ℕ) 
       → AreAccounts setup c (record x { pay_outs = x.pay_outs ++ record { ccy = ccy; out = out; member = member; amt = amt } ∷ []; notices = cmds })
       (bank - amt) (slice_set members (member - 1) (slice_index_or members (member - 1) 0 + amt))
   accounts-paid_out ccy out cmds enough = record {
-    bank = let more = sum_by_push (λ (o : PaymentOrder). o.amt) x.pay_outs (record { ccy = ccy; out = out; member = member; amt = amt }) in let was = are.bank in omega arith;
+    bank = let more = sum_by_push (λ (o : PaymentOrder). o.amt) x.pay_outs (record { ccy = ccy; out = out; member = member; amt = amt }) in
+        let was = are.bank in omega arith;
     count = length-set members (member - 1) (slice_index_or members (member - 1) 0 + amt) ∙ are.count;
     members = λ m known. by m known (cases_eq m member);
   }
     where
       by : (m : ℕ) → has_member setup m ≡ true → (m ≡ member) ⊎ (m ≡ member → ⊥)
           → slice_index_or (with_held (slice_index_or members (member - 1) 0 + amt)) (m - 1) 0 + came_from m x
-          ≡ deposit setup c m + sum_by (λ (o : PaymentOrder). if o.member == m then o.amt else 0) (x.pay_outs ++ record { ccy = ccy; out = out; member = member; amt = amt } ∷ [])
+          ≡ deposit setup c m + sum_by (λ (o : PaymentOrder). if o.member == m then o.amt else 0)
+          (x.pay_outs ++ record { ccy = ccy; out = out; member = member; amt = amt } ∷ [])
       by m known (inl same) =
           let now = at-member m (slice_index_or members (member - 1) 0 + amt) same in
           let before = ap (λ k. slice_index_or members (k - 1) 0) same in
           let was = are.members m known in
-          let more = sum_by_push (λ (o : PaymentOrder). if o.member == m then o.amt else 0) x.pay_outs (record { ccy = ccy; out = out; member = member; amt = amt }) in
+          let more =
+          sum_by_push (λ (o : PaymentOrder). if o.member == m then o.amt else 0) x.pay_outs (record { ccy = ccy; out = out; member = member; amt = amt }) in
           let here = counts m same in
           omega arith
       by m known (inr other) =
           let now = at-other m (slice_index_or members (member - 1) 0 + amt) known other in
           let was = are.members m known in
-          let more = sum_by_push (λ (o : PaymentOrder). if o.member == m then o.amt else 0) x.pay_outs (record { ccy = ccy; out = out; member = member; amt = amt }) in
+          let more =
+          sum_by_push (λ (o : PaymentOrder). if o.member == m then o.amt else 0) x.pay_outs (record { ccy = ccy; out = out; member = member; amt = amt }) in
           let here = counts-not m other in
           omega arith
 
@@ -232,7 +239,9 @@ module _ (s : Shown) (bank room : ℕ) (members known : List ℕ) (is : IsKept s
   pub bank-small : bank ≤ 65535 * most_amount
   bank-small =
       let few = is.counted.pay_ins in
-      let each = each-weaker (λ (p : PayIn). IsPayment s.setup p.member p.amt) (λ (p : PayIn). p.amt ≤ most_amount) s.node.pay_ins (λ p k. amount-small p.amt k.small) is.payments.pay_ins in
+      let each =
+      each-weaker (λ (p : PayIn). IsPayment s.setup p.member p.amt) (λ (p : PayIn). p.amt ≤ most_amount) s.node.pay_ins
+      (λ p k. amount-small p.amt k.small) is.payments.pay_ins in
       let sum = sum-small (λ (p : PayIn). p.amt) most_amount s.node.pay_ins each in
       let held = is.accounts.bank in
       omega arith
@@ -240,7 +249,9 @@ module _ (s : Shown) (bank room : ℕ) (members known : List ℕ) (is : IsKept s
   pub member-small : (m : ℕ) → has_member s.setup m ≡ true → slice_index_or members (m - 1) 0 ≤ 10 ^ 15 + 65535 * most_amount
   member-small m mine =
       let few = is.counted.orders in
-      let each = each-weaker (λ (o : PaymentOrder). IsPayment s.setup o.member o.amt) (λ (o : PaymentOrder). (if o.member == m then o.amt else 0) ≤ most_amount) s.node.pay_outs
+      let each =
+      each-weaker (λ (o : PaymentOrder). IsPayment s.setup o.member o.amt)
+      (λ (o : PaymentOrder). (if o.member == m then o.amt else 0) ≤ most_amount) s.node.pay_outs
       (λ o k. by (o.member == m) o.amt (amount-small o.amt k.small)) is.payments.pay_outs in
       let sum = sum-small (λ (o : PaymentOrder). if o.member == m then o.amt else 0) most_amount s.node.pay_outs each in
       let held = is.accounts.members m mine in
@@ -255,7 +266,8 @@ module _ (s : Shown) (bank room : ℕ) (members known : List ℕ) (is : IsKept s
   member-place m mine = let at = is-member s.setup m mine in let count = is.accounts.count in (omega arith, omega arith)
 
   pub member-holds : (m : ℕ) → has_member s.setup m ≡ true → pos (slice_index_or members (m - 1) 0) ≡ member_account s.setup s.ccy m s.node
-  member-holds m mine = held-is (deposit s.setup s.ccy m + went_to m s.node) (came_from m s.node) (slice_index_or members (m - 1) 0) (is.accounts.members m mine)
+  member-holds m mine =
+      held-is (deposit s.setup s.ccy m + went_to m s.node) (came_from m s.node) (slice_index_or members (m - 1) 0) (is.accounts.members m mine)
 
   pub bank-holds : pos bank ≡ account s.node
   bank-holds = held-is (came_in s.node) (went_out s.node) bank is.accounts.bank
@@ -277,13 +289,19 @@ module _ (s : Shown) (bank room : ℕ) (members known : List ℕ) (is : IsKept s
 
     -- the amount goes from the member's account to the bank's
     pub IsKept-paid_in : (cmd : Cmd)
-        → IsKept (record s { node = record s.node { pay_ins = s.node.pay_ins ++ record { member = member; amt = amt } ∷ []; notices = s.node.notices ++ cmd ∷ [] } })
+        → IsKept (record s {
+          node = record s.node {
+            pay_ins = s.node.pay_ins ++ record { member = member; amt = amt } ∷ [];
+            notices = s.node.notices ++ cmd ∷ [];
+          };
+        })
         (bank + amt) (slice_set members (member - 1) (slice_index_or members (member - 1) 0 - amt)) known room
     IsKept-paid_in cmd = record {
       valid = is.valid;
       currency = is.currency;
       counted = record {
-        notices = let was = is.counted.notices in let ins = length-append s.node.pay_ins (record { member = member; amt = amt } ∷ []) in let outs = length-append s.node.notices (cmd ∷ []) in omega arith;
+        notices = let was = is.counted.notices in let ins = length-append s.node.pay_ins (record { member = member; amt = amt } ∷ []) in
+            let outs = length-append s.node.notices (cmd ∷ []) in omega arith;
         answered = let was = is.counted.answered in let outs = length-append s.node.notices (cmd ∷ []) in omega arith;
         pay_ins = let few = paid_in-room in let ins = length-append s.node.pay_ins (record { member = member; amt = amt } ∷ []) in omega arith;
         orders = is.counted.orders;
@@ -319,14 +337,17 @@ module _ (s : Shown) (bank room : ℕ) (members known : List ℕ) (is : IsKept s
       valid = is.valid;
       currency = is.currency;
       counted = record {
-        notices = let was = is.counted.notices in let orders = length-append s.node.pay_outs (o ∷ []) in let outs = length-append s.node.notices (cmd ∷ []) in omega arith;
+        notices = let was = is.counted.notices in let orders = length-append s.node.pay_outs (o ∷ []) in let outs = length-append s.node.notices (cmd ∷ []) in
+            omega arith;
         answered = let was = is.counted.answered in let outs = length-append s.node.notices (cmd ∷ []) in omega arith;
         pay_ins = is.counted.pay_ins;
         orders = let few = order-room in let orders = length-append s.node.pay_outs (o ∷ []) in omega arith;
       };
       payments = record {
         pay_ins = is.payments.pay_ins;
-        pay_outs = each-append (λ (p : PaymentOrder). IsPayment s.setup p.member p.amt) s.node.pay_outs (o ∷ []) is.payments.pay_outs (record { known = order-known; small = order-amount }, tt);
+        pay_outs =
+            each-append (λ (p : PaymentOrder). IsPayment s.setup p.member p.amt) s.node.pay_outs (o ∷ []) is.payments.pay_outs
+            (record { known = order-known; small = order-amount }, tt);
       };
       accounts = accounts-paid_out s.setup s.ccy s.node bank members is.accounts o.member o.amt order-known o.ccy o.out (s.node.notices ++ cmd ∷ []) enough;
       known = λ n. knows n ∙ ap (λ b. (n == o.out) || b) (is.known n) ∙ sym (known-done s.node o n);
@@ -340,7 +361,8 @@ module _ (s : Shown) (bank room : ℕ) (members known : List ℕ) (is : IsKept s
       valid = is.valid;
       currency = is.currency;
       counted = record {
-        notices = let was = is.counted.notices in let orders = length-append s.node.returned (o ∷ []) in let outs = length-append s.node.notices (cmd ∷ []) in omega arith;
+        notices = let was = is.counted.notices in let orders = length-append s.node.returned (o ∷ []) in let outs = length-append s.node.notices (cmd ∷ []) in
+            omega arith;
         answered = let was = is.counted.answered in let outs = length-append s.node.notices (cmd ∷ []) in omega arith;
         pay_ins = is.counted.pay_ins;
         orders = let few = order-room in let orders = length-append s.node.returned (o ∷ []) in omega arith;
@@ -371,7 +393,8 @@ module _ (s : Shown) (bank room : ℕ) (members known : List ℕ) (is : IsKept s
     }
 
   -- the notice that was out is answered
-  pub IsKept-answered : s.node.answered < length s.node.notices → IsKept (record s { node = record s.node { answered = s.node.answered + 1 } }) bank members known room
+  pub IsKept-answered : s.node.answered < length s.node.notices
+      → IsKept (record s { node = record s.node { answered = s.node.answered + 1 } }) bank members known room
   IsKept-answered more = record {
     valid = is.valid;
     currency = is.currency;
@@ -398,7 +421,9 @@ IsKept-opening setup c room valid known enough = record {
   room = all-open (range_with_len 1 (length setup.members)) (length-range_with_len 1 (length setup.members));
 }
   where
-    by : (ms : List Member) (i : ℕ) → slice_index_or (map (λ (m : Member). slice_index_or m.deposit c 0) ms) i 0 + 0 ≡ option_map_or (λ (m : Member). slice_index_or m.deposit c 0) (slice_get ms i) 0 + 0
+    by : (ms : List Member) (i : ℕ)
+        → slice_index_or (map (λ (m : Member). slice_index_or m.deposit c 0) ms) i 0 + 0
+        ≡ option_map_or (λ (m : Member). slice_index_or m.deposit c 0) (slice_get ms i) 0 + 0
     by [] i = refl
     by (m ∷ ms) zero = refl
     by (m ∷ ms) (suc i) = by ms i

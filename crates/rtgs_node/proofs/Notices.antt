@@ -19,14 +19,17 @@ on_err (Err e) p = p
 
 sent-some : (f client number : ℕ) (cmd : Cmd) → nat_lt 0 (length (to_sites f client number cmd)) ≡ true
 sent-some f client number cmd =
-    let all : length (to_sites f client number cmd) ≡ 2 * f + 1 = length-map (sites f) (λ (j : ℕ). record { from = client; to = actor_of j; msg = Request (record { number = number; cmd = cmd }) }) ∙ length-range_with_len 0 (2 * f + 1) in
+    let all : length (to_sites f client number cmd) ≡ 2 * f + 1 =
+    length-map (sites f) (λ (j : ℕ). record { from = client; to = actor_of j; msg = Request (record { number = number; cmd = cmd }) })
+    ∙ length-range_with_len 0 (2 * f + 1) in
     lt-ltb 0 (length (to_sites f client number cmd)) (omega arith)
 
 -- a notice that is not answered goes out
 pub notice-some : (f c : ℕ) (x : Node) → x.answered < length x.notices → nat_lt 0 (length (notice_out f c x)) ≡ true
 notice-some f c x more = by (slice_get_cases x.notices x.answered).1
   where
-    by : ((cmd : Cmd) × (x.answered < length x.notices) × (slice_get x.notices x.answered ≡ Some cmd) × (slice_index_or x.notices x.answered cmd ≡ cmd)) ⊎ ((length x.notices ≤ x.answered) × (slice_get x.notices x.answered ≡ None))
+    by : ((cmd : Cmd) × (x.answered < length x.notices) × (slice_get x.notices x.answered ≡ Some cmd) × (slice_index_or x.notices x.answered cmd ≡ cmd))
+        ⊎ ((length x.notices ≤ x.answered) × (slice_get x.notices x.answered ≡ None))
         → nat_lt 0 (length (notice_out f c x)) ≡ true
     by (inl there) =
         ap (λ o. nat_lt 0 (length (option_map_or (λ (cmd : Cmd). to_sites f (node_of c) (x.answered + 1) cmd) o []))) there.2

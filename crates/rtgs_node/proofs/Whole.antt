@@ -75,7 +75,8 @@ accounts-upto setup c x (suc n) =
 pub whole : (setup : Setup) (c : ℕ) (x : Node) → AreMembers setup x → all_accounts setup c x ≡ pos (all_deposits setup c)
 whole setup c x are =
     ap (λ z. account x +ℤ z) (accounts-upto setup c x (length setup.members))
-    ∙ sums (came_in x) (went_out x) (upto (λ m. deposit setup c m + went_to m x) (length setup.members)) (upto (λ m. came_from m x) (length setup.members)) (all_deposits setup c)
+    ∙ sums (came_in x) (went_out x) (upto (λ m. deposit setup c m + went_to m x) (length setup.members))
+    (upto (λ m. came_from m x) (length setup.members)) (all_deposits setup c)
     (all-of setup (λ (p : PayIn). p.member) (λ (p : PayIn). p.amt) x.pay_ins are.pay_ins)
     (upto-add (λ m. deposit setup c m) (λ m. went_to m x) (length setup.members)
     ∙ ap (λ d. d + upto (λ m. went_to m x) (length setup.members)) (deposits-are setup c (length setup.members))
@@ -87,7 +88,8 @@ whole setup c x are =
 -- AFTER ANY EVENTS
 
 module _ (setup : Setup) (f c : ℕ) (x : Node) (are : AreMembers setup x) where
-  unless-are : (checks : List (Bool × NodeFault)) (step : NodeStep) → (Passed checks → AreMembers setup step.node) → AreMembers setup (unless x checks step).node
+  unless-are : (checks : List (Bool × NodeFault)) (step : NodeStep) → (Passed checks → AreMembers setup step.node)
+      → AreMembers setup (unless x checks step).node
   unless-are [] step then' = then' tt
   unless-are ((fails, fault) ∷ more) step then' = by fails (λ (p : fails ≡ false). unless-are more step (λ rest. then' (p, rest)))
     where
@@ -95,7 +97,8 @@ module _ (setup : Setup) (f c : ℕ) (x : Node) (are : AreMembers setup x) where
       by true rest = are
       by false rest = rest refl
 
-  if-are : (b : Bool) (p q : NodeStep) → (b ≡ true → AreMembers setup p.node) → (b ≡ false → AreMembers setup q.node) → AreMembers setup (if b then p else q).node
+  if-are : (b : Bool) (p q : NodeStep) → (b ≡ true → AreMembers setup p.node) → (b ≡ false → AreMembers setup q.node)
+      → AreMembers setup (if b then p else q).node
   if-are true p q left right = left refl
   if-are false p q left right = right refl
 
@@ -106,12 +109,15 @@ module _ (setup : Setup) (f c : ℕ) (x : Node) (are : AreMembers setup x) where
       (λ _. record { pay_ins = are.pay_ins; pay_outs = are.pay_outs })
       (λ _. unless-are ((int_lt (account x) (pos o.amt), Short) ∷ []) _ (λ _. record {
         pay_ins = are.pay_ins;
-        pay_outs = each-append (λ (p : PaymentOrder). has_member setup p.member ≡ true) x.pay_outs (o ∷ []) are.pay_outs (not-false (has_member setup o.member) ok.0, tt);
+        pay_outs =
+            each-append (λ (p : PaymentOrder). has_member setup p.member ≡ true) x.pay_outs (o ∷ []) are.pay_outs
+            (not-false (has_member setup o.member) ok.0, tt);
       })))))
 
   reply-are : (number : ℕ) → AreMembers setup (on_reply setup f c x number).node
   reply-are number =
-      if-are ((number == x.answered + 1) && nat_lt x.answered (length x.notices)) _ _ (λ _. record { pay_ins = are.pay_ins; pay_outs = are.pay_outs }) (λ _. are)
+      if-are ((number == x.answered + 1) && nat_lt x.answered (length x.notices)) _ _
+      (λ _. record { pay_ins = are.pay_ins; pay_outs = are.pay_outs }) (λ _. are)
 
   message-are : (msg : MsgOf Cmd Answer PaymentOrder) → AreMembers setup (on_message setup f c x msg).node
   message-are (Reply msg) = reply-are msg.number
@@ -120,7 +126,9 @@ module _ (setup : Setup) (f c : ℕ) (x : Node) (are : AreMembers setup x) where
 
   step-are : (event : NodeEvent) → AreMembers setup (node_step setup f c x event).node
   step-are (PaysIn member amt) = unless-are (pay_in_checks setup f c x member amt) _ (λ ok. record {
-    pay_ins = each-append (λ (p : PayIn). has_member setup p.member ≡ true) x.pay_ins (record { member = member; amt = amt } ∷ []) are.pay_ins (not-false (has_member setup member) ok.0, tt);
+    pay_ins =
+        each-append (λ (p : PayIn). has_member setup p.member ≡ true) x.pay_ins (record { member = member; amt = amt } ∷ []) are.pay_ins
+        (not-false (has_member setup member) ok.0, tt);
     pay_outs = are.pay_outs;
   })
   step-are (Closes member) = unless-are (close_checks setup f c x member) _ (λ _. record { pay_ins = are.pay_ins; pay_outs = are.pay_outs })
@@ -135,8 +143,13 @@ whole-after setup f c events = whole setup c (node_after setup f c events) (afte
     after x (event ∷ more) are = after (node_step setup f c x event).node more (step-are setup f c x are event)
 
 -- of a node that is kept right
-pub kept-whole : (s : Shown) (bank room : ℕ) (members known : List ℕ) → IsKept s bank members known room → all_accounts s.setup s.ccy s.node ≡ pos (all_deposits s.setup s.ccy)
+pub kept-whole : (s : Shown) (bank room : ℕ) (members known : List ℕ) → IsKept s bank members known room
+    → all_accounts s.setup s.ccy s.node ≡ pos (all_deposits s.setup s.ccy)
 kept-whole s bank room members known is = whole s.setup s.ccy s.node (record {
-  pay_ins = each-weaker (λ (p : PayIn). IsPayment s.setup p.member p.amt) (λ (p : PayIn). has_member s.setup p.member ≡ true) s.node.pay_ins (λ p k. k.known) is.payments.pay_ins;
-  pay_outs = each-weaker (λ (o : PaymentOrder). IsPayment s.setup o.member o.amt) (λ (o : PaymentOrder). has_member s.setup o.member ≡ true) s.node.pay_outs (λ o k. k.known) is.payments.pay_outs;
+  pay_ins =
+      each-weaker (λ (p : PayIn). IsPayment s.setup p.member p.amt) (λ (p : PayIn). has_member s.setup p.member ≡ true) s.node.pay_ins
+      (λ p k. k.known) is.payments.pay_ins;
+  pay_outs =
+      each-weaker (λ (o : PaymentOrder). IsPayment s.setup o.member o.amt) (λ (o : PaymentOrder). has_member s.setup o.member ≡ true) s.node.pay_outs
+      (λ o k. k.known) is.payments.pay_outs;
 })

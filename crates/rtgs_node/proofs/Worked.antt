@@ -28,7 +28,8 @@ order : ℕ → ℕ → PaymentOrder
 order out amt = record { ccy = 1; out = out; member = 1; amt = amt }
 
 usd_node : node_sees opening_node (
-    PaysIn 1 1200 ∷ PaysIn 1 8801 ∷ PaysIn 1 300 ∷ to_usd (Reply (record { view = 0; number = 1; reply = Done })) ∷ to_usd (Reply (record { view = 0; number = 1; reply = Done }))
+    PaysIn 1 1200 ∷ PaysIn 1 8801 ∷ PaysIn 1 300 ∷ to_usd (Reply (record { view = 0; number = 1; reply = Done }))
+    ∷ to_usd (Reply (record { view = 0; number = 1; reply = Done }))
     ∷ to_usd (PayOrder (order 1 200)) ∷ to_usd (PayOrder (order 1 200)) ∷ to_usd (PayOrder (order 2 200))
     ∷ to_usd (PayOrder (order 3 1101)) ∷ Beats ∷ [])
     ≡ (None, 3, pos 1200, pos 8800) ∷ (Some Short, 0, pos 1200, pos 8800) ∷ (None, 0, pos 1500, pos 8500)

@@ -1,4 +1,5 @@
--- What a node keeps beside what it shows, and why no sum leaves its type: invariants of the code, which no answer rests on.
+-- What a node keeps beside what it shows, and why no sum leaves its type: invariants of the code, which no answer rests
+-- on.
 use Rattle.std.specs.Prelude.{◌≡◌, ℕ, ◌+◌, ◌-◌, ◌<◌, ◌≤◌, ◌==◌, true, not, List, length, count_by, slice_index_or}
 use Rattle.std.specs.List.{AllByRecursion, list_any, range_with_len}
 use Rattle.pvp_types.specs.declared.setup.Setup.{Setup}
@@ -14,7 +15,15 @@ abbrev pub shown_of : Setup → ℕ → List PayIn → List PaymentOrder → Lis
 shown_of setup ccy pay_ins pay_outs returned closed notices answered = record {
   setup = setup;
   ccy = ccy;
-  node = record { pay_ins = pay_ins; pay_outs = pay_outs; returned = returned; closed = closed; notices = notices; answered = answered };
+  node =
+      record {
+        pay_ins = pay_ins;
+        pay_outs = pay_outs;
+        returned = returned;
+        closed = closed;
+        notices = notices;
+        answered = answered;
+      };
 }
 
 -- each payment made one notice, and there are no more than have numbers

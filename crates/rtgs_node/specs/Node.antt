@@ -26,7 +26,8 @@ Envelope = EnvelopeOf Cmd Answer PaymentOrder
 -- a client's REQUEST, to every site
 abbrev pub to_sites : ℕ → ℕ → ℕ → Cmd → List Envelope
 to_sites f client number cmd =
-    map (λ j. record { from = client; to = actor_of j; msg = Request (record { number = number; cmd = cmd }) }) (sites f)
+    map (λ j. record { from = client; to = actor_of j; msg = Request (record { number = number; cmd = cmd }) })
+    (sites f)
 
 pub record Node : Type 0 where
   pub pay_ins : List PayIn  -- numbered from 1

@@ -24,7 +24,8 @@ pub some_one : {A : Type 0} {a b : A} → Some a ≡ Some b → a ≡ b
 some_one e = cc
 
 -- the vote at an index
-pub kept_at : {C : Type 0} (votes : List (VoteOf C)) (at : ℕ) (vote : VoteOf C) → at < length votes → vote ≡ get_or votes at vote → slice_get (map vote_of votes) at ≡ Some (vote_of vote)
+pub kept_at : {C : Type 0} (votes : List (VoteOf C)) (at : ℕ) (vote : VoteOf C) → at < length votes → vote ≡ get_or votes at vote
+    → slice_get (map vote_of votes) at ≡ Some (vote_of vote)
 kept_at votes at vote low e = slice_get-map vote_of votes at ∙ ap (option_map vote_of) (slice_get_read votes (length votes) at vote refl low e)
 
 -- what stands at an index is one
@@ -37,23 +38,28 @@ best_of [] = None
 best_of (vote ∷ votes) = Some (pick_of (vote ∷ votes))
 
 -- one more vote
-pub best_of-more : {C : Type 0} (votes : List (Vote C)) (vote : Vote C) → best_of (votes ++ vote ∷ []) ≡ (if goes_past vote (best_of votes) then Some vote else best_of votes)
+pub best_of-more : {C : Type 0} (votes : List (Vote C)) (vote : Vote C)
+    → best_of (votes ++ vote ∷ []) ≡ (if goes_past vote (best_of votes) then Some vote else best_of votes)
 best_of-more [] vote = refl
 best_of-more {C} (first ∷ votes) vote =
-    ap (λ p. let o : Option (Vote C) = Some p in o) (fold-append (λ best next. if goes_before next best then next else best) first votes (vote ∷ [])) ∙ by_test (goes_before vote (pick_of (first ∷ votes)))
+    ap (λ p. let o : Option (Vote C) = Some p in o) (fold-append (λ best next. if goes_before next best then next else best) first votes (vote ∷ []))
+    ∙ by_test (goes_before vote (pick_of (first ∷ votes)))
   where
     by_test : (b : Bool) → Some (if b then vote else pick_of (first ∷ votes)) ≡ (if b then Some vote else Some (pick_of (first ∷ votes)))
     by_test true = refl
     by_test false = refl
 
 -- one more vote, where it is left
-pub left-more : {C : Type 0} (known told : List ℕ) (votes : List (Vote C)) (at : ℕ) (vote : Vote C) (b : Bool) → slice_get votes at ≡ Some vote → is_left known told vote.from vote.known ≡ b
+pub left-more : {C : Type 0} (known told : List ℕ) (votes : List (Vote C)) (at : ℕ) (vote : Vote C) (b : Bool) → slice_get votes at ≡ Some vote
+    → is_left known told vote.from vote.known ≡ b
     → votes_left known told (take (at + 1) votes) ≡ (if b then votes_left known told (take at votes) ++ vote ∷ [] else votes_left known told (take at votes))
 left-more {C} known told votes at vote b e is =
     ap (votes_left known told) (take_next votes at vote e) ∙ filter-append (λ (v : Vote C). is_left known told v.from v.known) (take at votes) (vote ∷ [])
     ∙ ap (λ c. votes_left known told (take at votes) ++ (if c then vote ∷ [] else [])) is ∙ by_test b
   where
-    by_test : (c : Bool) → votes_left known told (take at votes) ++ (if c then vote ∷ [] else []) ≡ (if c then votes_left known told (take at votes) ++ vote ∷ [] else votes_left known told (take at votes))
+    by_test : (c : Bool)
+        → votes_left known told (take at votes) ++ (if c then vote ∷ [] else [])
+        ≡ (if c then votes_left known told (take at votes) ++ vote ∷ [] else votes_left known told (take at votes))
     by_test true = refl
     by_test false = append-nil (votes_left known told (take at votes))
 
@@ -61,21 +67,31 @@ left-more {C} known told votes at vote b e is =
 pub best_next : {C : Type 0} (known told : List ℕ) (votes : List (Vote C)) (at : ℕ) (best : Option ℕ) (a : Vote C) (t : Bool) → slice_get votes at ≡ Some a
     → vote_at votes best ≡ best_of (votes_left known told (take at votes)) → (is_left known told a.from a.known && goes_past a (vote_at votes best)) ≡ t
     → vote_at votes (if t then Some at else best) ≡ best_of (votes_left known told (take (at + 1) votes))
-best_next {C} known told votes at best a t ea so_far e = by_left (is_left known told a.from a.known) (goes_past a (best_of (votes_left known told (take at votes)))) refl refl (ap (λ o. is_left known told a.from a.known && goes_past a o) (sym so_far) ∙ e)
+best_next {C} known told votes at best a t ea so_far e =
+    by_left (is_left known told a.from a.known) (goes_past a (best_of (votes_left known told (take at votes)))) refl refl
+    (ap (λ o. is_left known told a.from a.known && goes_past a o) (sym so_far) ∙ e)
   where
-    by_left : (l p : Bool) → is_left known told a.from a.known ≡ l → goes_past a (best_of (votes_left known told (take at votes))) ≡ p → (is_left known told a.from a.known && goes_past a (best_of (votes_left known told (take at votes)))) ≡ t → vote_at votes (if t then Some at else best) ≡ best_of (votes_left known told (take (at + 1) votes))
+    by_left : (l p : Bool) → is_left known told a.from a.known ≡ l → goes_past a (best_of (votes_left known told (take at votes))) ≡ p
+        → (is_left known told a.from a.known && goes_past a (best_of (votes_left known told (take at votes)))) ≡ t
+        → vote_at votes (if t then Some at else best) ≡ best_of (votes_left known told (take (at + 1) votes))
     by_left l p el ep et =
         let test : t ≡ (l && p) = sym et ∙ ap (λ b. b && goes_past a (best_of (votes_left known told (take at votes)))) el ∙ ap (λ b. l && b) ep in
         ap (λ b. vote_at votes (if b then Some at else best)) test ∙ by_tests l p el ep ∙ ap best_of (sym (left-more known told votes at a l ea el))
       where
         by_tests : (l p : Bool) → is_left known told a.from a.known ≡ l → goes_past a (best_of (votes_left known told (take at votes))) ≡ p
-            → vote_at votes (if l && p then Some at else best) ≡ best_of (if l then votes_left known told (take at votes) ++ a ∷ [] else votes_left known told (take at votes))
+            → vote_at votes (if l && p then Some at else best) ≡ best_of (if l then votes_left known told (take at votes) ++ a ∷ []
+            else votes_left known told (take at votes))
         by_tests false p el ep = so_far
-        by_tests true true el ep = ea ∙ sym (best_of-more (votes_left known told (take at votes)) a ∙ ap (λ b. if b then Some a else best_of (votes_left known told (take at votes))) ep)
-        by_tests true false el ep = so_far ∙ sym (best_of-more (votes_left known told (take at votes)) a ∙ ap (λ b. if b then Some a else best_of (votes_left known told (take at votes))) ep)
+        by_tests true true el ep =
+            ea ∙ sym (best_of-more (votes_left known told (take at votes)) a ∙ ap (λ b. if b then Some a
+            else best_of (votes_left known told (take at votes))) ep)
+        by_tests true false el ep =
+            so_far ∙ sym (best_of-more (votes_left known told (take at votes)) a ∙ ap
+            (λ b. if b then Some a else best_of (votes_left known told (take at votes))) ep)
 
 -- the best of those that are left is the pick
-pub best_is_pick : {C : Type 0} (votes left : List (Vote C)) (n : ℕ) (best : Option ℕ) → length votes ≡ n → vote_at votes best ≡ best_of left → IfSome best (λ at. at < n)
+pub best_is_pick : {C : Type 0} (votes left : List (Vote C)) (n : ℕ) (best : Option ℕ) → length votes ≡ n → vote_at votes best ≡ best_of left
+    → IfSome best (λ at. at < n)
     → MatchOption best (left ≡ []) (λ at. (at < n) × IfSome (slice_get votes at) (IsPick left))
 best_is_pick votes [] n None long e within = refl
 best_is_pick votes (first ∷ left) n None long e within = absurd (none_some e)
@@ -88,7 +104,8 @@ best_is_pick votes [] n (Some at) long e within = absurd (there votes at (omega 
     there [] i low n = absurd (omega arith)
     there (x ∷ xs) zero low n = cc
     there (x ∷ xs) (suc i) low n = there xs i (omega arith) n
-best_is_pick votes (first ∷ left) n (Some at) long e within = (within, subst (λ o. IfSome o (IsPick (first ∷ left))) (sym e) (pick-right (first ∷ left) (omega arith)))
+best_is_pick votes (first ∷ left) n (Some at) long e within =
+    (within, subst (λ o. IfSome o (IsPick (first ∷ left))) (sym e) (pick-right (first ∷ left) (omega arith)))
 
 pub Contains-left : {A : Type 0} (x : A) (xs ys : List A) → Contains xs x → Contains (xs ++ ys) x
 Contains-left x [] ys h = absurd (Contains-none x h)
@@ -125,7 +142,8 @@ pick_new {C} votes best new p t = record {
   first = λ vote h. before_refuted vote new (by_place vote (before_by_test new best) (Contains-snoc vote new votes h));
 }
   where
-    by_place : (vote : Vote C) → ((goes_before new best ≡ true) × GoesBefore new best) ⊎ ((goes_before new best ≡ false) × IsNotBefore new best) → Contains votes vote ⊎ (new ≡ vote) → IsNotBefore vote new
+    by_place : (vote : Vote C) → ((goes_before new best ≡ true) × GoesBefore new best) ⊎ ((goes_before new best ≡ false) × IsNotBefore new best)
+        → Contains votes vote ⊎ (new ≡ vote) → IsNotBefore vote new
     by_place vote (inl before) (inl at) = not_before-trans vote best new (not_before vote best (p.first vote at)) (before_one_way new best before.1)
     by_place vote (inl before) (inr e) = subst (λ v. IsNotBefore v new) e (record { view = omega arith; rows = λ _. omega arith; site = λ _ _. omega arith })
     by_place vote (inr other) at = absurd (true≢false (sym t ∙ other.0))
@@ -136,7 +154,8 @@ pick_kept {C} votes best new p t = record {
   first = λ vote h. before_refuted vote best (by_place vote (before_by_test new best) (Contains-snoc vote new votes h));
 }
   where
-    by_place : (vote : Vote C) → ((goes_before new best ≡ true) × GoesBefore new best) ⊎ ((goes_before new best ≡ false) × IsNotBefore new best) → Contains votes vote ⊎ (new ≡ vote) → IsNotBefore vote best
+    by_place : (vote : Vote C) → ((goes_before new best ≡ true) × GoesBefore new best) ⊎ ((goes_before new best ≡ false) × IsNotBefore new best)
+        → Contains votes vote ⊎ (new ≡ vote) → IsNotBefore vote best
     by_place vote (inl before) at = absurd (true≢false (sym before.0 ∙ t))
     by_place vote (inr other) (inl at) = not_before vote best (p.first vote at)
     by_place vote (inr other) (inr e) = subst (λ v. IsNotBefore v best) e other.1
@@ -146,10 +165,12 @@ pub pick_alone : {C : Type 0} (vote : Vote C) → IsPick (vote ∷ []) vote
 pick_alone vote = pick-right (vote ∷ []) (omega arith)
 
 -- the vote that the pick is
-pub picked : {C : Type 0} (votes ballot : List (Vote C)) (at : ℕ) (vote : Vote C) → slice_get votes at ≡ Some vote → IfSome (slice_get votes at) (IsPick ballot) → IsPick ballot vote
+pub picked : {C : Type 0} (votes ballot : List (Vote C)) (at : ℕ) (vote : Vote C) → slice_get votes at ≡ Some vote → IfSome (slice_get votes at) (IsPick ballot)
+    → IsPick ballot vote
 picked votes ballot at vote e h = subst (λ o. IfSome o (IsPick ballot)) e h
 
-pub picked_at : {C : Type 0} (votes ballot : List (Vote C)) (at : ℕ) (vote : Vote C) → slice_get votes at ≡ Some vote → IsPick ballot vote → IfSome (slice_get votes at) (IsPick ballot)
+pub picked_at : {C : Type 0} (votes ballot : List (Vote C)) (at : ℕ) (vote : Vote C) → slice_get votes at ≡ Some vote → IsPick ballot vote
+    → IfSome (slice_get votes at) (IsPick ballot)
 picked_at votes ballot at vote e h = subst (λ o. IfSome o (IsPick ballot)) (sym e) h
 
 -- something stands at an index below the length
@@ -167,9 +188,11 @@ there_is P (x ∷ xs) (suc at) low h = there_is P xs at (omega arith) h
 -- none of the votes is of that site
 not_there : {C : Type 0} (votes : List (Vote C)) (vote other : Vote C) → has_vote votes vote.from ≡ false → Contains votes other → other.from ≡ vote.from → ⊥
 not_there [] vote other none at same = Contains-none other at
-not_there {C} (first ∷ votes) vote other none at same = by_place (Contains-cases first other votes at) (first.from == vote.from) refl none (not_there votes vote other)
+not_there {C} (first ∷ votes) vote other none at same =
+    by_place (Contains-cases first other votes at) (first.from == vote.from) refl none (not_there votes vote other)
   where
-    by_place : (first ≡ other) ⊎ Contains votes other → (b : Bool) → (first.from == vote.from) ≡ b → (b || has_vote votes vote.from) ≡ false → (has_vote votes vote.from ≡ false → Contains votes other → other.from ≡ vote.from → ⊥) → ⊥
+    by_place : (first ≡ other) ⊎ Contains votes other → (b : Bool) → (first.from == vote.from) ≡ b → (b || has_vote votes vote.from) ≡ false
+        → (has_vote votes vote.from ≡ false → Contains votes other → other.from ≡ vote.from → ⊥) → ⊥
     by_place (inl e) b eb f rest =
         let one : (first.from == vote.from) ≡ true = eq-eqb first.from vote.from (ap (λ (v : Vote C). v.from) e ∙ same) in
         let all : (b || has_vote votes vote.from) ≡ true = ap (λ t. t || has_vote votes vote.from) (sym eb ∙ one) in
@@ -178,7 +201,8 @@ not_there {C} (first ∷ votes) vote other none at same = by_place (Contains-cas
     by_place (inr at) false eb f rest = rest f at same
 
 -- one of each site, with a vote of a site that had none
-pub one_each-more : {C : Type 0} (votes : List (Vote C)) (vote : Vote C) → OneEach (λ (v : Vote C). v.from) votes → has_vote votes vote.from ≡ false → OneEach (λ (v : Vote C). v.from) (votes ++ vote ∷ [])
+pub one_each-more : {C : Type 0} (votes : List (Vote C)) (vote : Vote C) → OneEach (λ (v : Vote C). v.from) votes → has_vote votes vote.from ≡ false
+    → OneEach (λ (v : Vote C). v.from) (votes ++ vote ∷ [])
 one_each-more {C} votes vote each none = λ a b at bt same. by_place a b same (Contains-snoc a vote votes at) (Contains-snoc b vote votes bt)
   where
     by_place : (a b : Vote C) → a.from ≡ b.from → Contains votes a ⊎ (vote ≡ a) → Contains votes b ⊎ (vote ≡ b) → a ≡ b
@@ -188,11 +212,14 @@ one_each-more {C} votes vote each none = λ a b at bt same. by_place a b same (C
     by_place a b same (inr e) (inr d) = sym e ∙ d
 
 -- the largest commit-number of those that are left, with the next vote
-pub most_next : {C : Type 0} (known told : List ℕ) (votes : List (Vote C)) (at : ℕ) (vote : Vote C) (b : Bool) → slice_get votes at ≡ Some vote → is_left known told vote.from vote.known ≡ b
-    → (let most = fold (λ m (v : Vote C). max m v.done) 0 (votes_left known told (take at votes)) in if b then max most vote.done else most) ≡ fold (λ m (v : Vote C). max m v.done) 0 (votes_left known told (take (at + 1) votes))
+pub most_next : {C : Type 0} (known told : List ℕ) (votes : List (Vote C)) (at : ℕ) (vote : Vote C) (b : Bool) → slice_get votes at ≡ Some vote
+    → is_left known told vote.from vote.known ≡ b
+    → (let most = fold (λ m (v : Vote C). max m v.done) 0 (votes_left known told (take at votes)) in if b then max most vote.done else most)
+    ≡ fold (λ m (v : Vote C). max m v.done) 0 (votes_left known told (take (at + 1) votes))
 most_next {C} known told votes at vote b e is = by_test b ∙ ap (fold (λ m (v : Vote C). max m v.done) 0) (sym (left-more known told votes at vote b e is))
   where
-    by_test : (c : Bool) → (let most = fold (λ m (v : Vote C). max m v.done) 0 (votes_left known told (take at votes)) in if c then max most vote.done else most)
+    by_test : (c : Bool)
+        → (let most = fold (λ m (v : Vote C). max m v.done) 0 (votes_left known told (take at votes)) in if c then max most vote.done else most)
         ≡ fold (λ m (v : Vote C). max m v.done) 0 (if c then votes_left known told (take at votes) ++ vote ∷ [] else votes_left known told (take at votes))
     by_test true = sym (fold-append (λ m (v : Vote C). max m v.done) 0 (votes_left known told (take at votes)) (vote ∷ []))
     by_test false = refl

@@ -22,7 +22,8 @@ pub count_by-filter : {X : Type 0} (p q : X → Bool) (xs : List X) → count_by
 count_by-filter p q [] = refl
 count_by-filter {X} p q (x ∷ xs) = by_test (q x) (count_by-filter p q xs) ∙ sym (sum_by-cons (λ y. cond (q y && p y) 1 0) x xs)
   where
-    by_test : (b : Bool) → count_by p (filter q xs) ≡ count_by (λ y. q y && p y) xs → count_by p (if b then x ∷ filter q xs else filter q xs) ≡ cond (b && p x) 1 0 + count_by (λ y. q y && p y) xs
+    by_test : (b : Bool) → count_by p (filter q xs) ≡ count_by (λ y. q y && p y) xs
+        → count_by p (if b then x ∷ filter q xs else filter q xs) ≡ cond (b && p x) 1 0 + count_by (λ y. q y && p y) xs
     by_test true e = sum_by-cons (λ y. cond (p y) 1 0) x (filter q xs) ∙ ap (λ n. cond (p x) 1 0 + n) e
     by_test false e = e ∙ none_more (count_by (λ y. q y && p y) xs)
       where
@@ -36,7 +37,8 @@ count_others f me p = count_by-filter p (λ j. not (j == me)) (sites f)
 pub count_same : {X : Type 0} (p q : X → Bool) (xs : List X) → ((x : X) → p x ≡ q x) → count_by p xs ≡ count_by q xs
 count_same p q [] e = refl
 count_same p q (x ∷ xs) e =
-    sum_by-cons (λ y. cond (p y) 1 0) x xs ∙ ap (λ b. cond b 1 0 + count_by p xs) (e x) ∙ ap (λ n. cond (q x) 1 0 + n) (count_same p q xs e) ∙ sym (sum_by-cons (λ y. cond (q y) 1 0) x xs)
+    sum_by-cons (λ y. cond (p y) 1 0) x xs ∙ ap (λ b. cond b 1 0 + count_by p xs) (e x) ∙ ap (λ n. cond (q x) 1 0 + n) (count_same p q xs e)
+    ∙ sym (sum_by-cons (λ y. cond (q y) 1 0) x xs)
 
 -- no site above this one is it
 none_above : (k a n : ℕ) → k < a → count_by (λ j. (k == j) || false) (range_with_len a n) ≡ 0
@@ -53,7 +55,8 @@ at_most_one k a (suc n) =
     subst (λ m. m ≤ 1) (sym (sum_by-cons (λ j. cond ((k == j) || false) 1 0) a (range_with_len (a + 1) n)))
     (by_test (k == a) refl (at_most_one k (a + 1) n))
   where
-    by_test : (b : Bool) → (k == a) ≡ b → count_by (λ j. (k == j) || false) (range_with_len (a + 1) n) ≤ 1 → cond (b || false) 1 0 + count_by (λ j. (k == j) || false) (range_with_len (a + 1) n) ≤ 1
+    by_test : (b : Bool) → (k == a) ≡ b → count_by (λ j. (k == j) || false) (range_with_len (a + 1) n) ≤ 1
+        → cond (b || false) 1 0 + count_by (λ j. (k == j) || false) (range_with_len (a + 1) n) ≤ 1
     by_test true e rest =
         let same : k ≡ a = eqb→eq k a (rw e tt) in
         let none = none_above k (a + 1) n (omega arith) in

@@ -11,18 +11,24 @@ use Rattle.vr_types.proofs.Vectors.{greater_is}
 use Rattle.vr_change.specs.Ballot.{is_left, votes_left}
 
 -- what is left is not outdated by what was known, nor by what was told
-pub left_by_both : (known told : List ℕ) (from : ℕ) (sent : List ℕ) → (not (is_outdated known from sent) && not (is_outdated told from sent)) ≡ is_left known told from sent
-left_by_both known told from sent = tests (boot_of sent from) (boot_of known from) (boot_of told from) ∙ ap (λ n. not (nat_lt (boot_of sent from) n)) (sym (greater_is known told from))
+pub left_by_both : (known told : List ℕ) (from : ℕ) (sent : List ℕ)
+    → (not (is_outdated known from sent) && not (is_outdated told from sent)) ≡ is_left known told from sent
+left_by_both known told from sent =
+    tests (boot_of sent from) (boot_of known from) (boot_of told from) ∙ ap (λ n. not (nat_lt (boot_of sent from) n)) (sym (greater_is known told from))
   where
     tests : (a b c : ℕ) → (not (nat_lt a b) && not (nat_lt a c)) ≡ not (nat_lt a (max b c))
     tests a b c = by_tests (nat_lt a b) (nat_lt a c) (nat_lt a (max b c)) refl refl refl
       where
         by_tests : (p q r : Bool) → nat_lt a b ≡ p → nat_lt a c ≡ q → nat_lt a (max b c) ≡ r → (not p && not q) ≡ not r
         by_tests true q true ep eq er = refl
-        by_tests true q false ep eq er = absurd (let h : a < b = grind (arith, nat_tests, ep) in let k : max b c ≤ a = grind (arith, nat_tests, er) in omega arith)
+        by_tests true q false ep eq er =
+            absurd (let h : a < b = grind (arith, nat_tests, ep) in let k : max b c ≤ a = grind (arith, nat_tests, er) in omega arith)
         by_tests false true true ep eq er = refl
-        by_tests false true false ep eq er = absurd (let h : a < c = grind (arith, nat_tests, eq) in let k : max b c ≤ a = grind (arith, nat_tests, er) in omega arith)
-        by_tests false false true ep eq er = absurd (let h : b ≤ a = grind (arith, nat_tests, ep) in let k : c ≤ a = grind (arith, nat_tests, eq) in let l : a < max b c = grind (arith, nat_tests, er) in omega arith)
+        by_tests false true false ep eq er =
+            absurd (let h : a < c = grind (arith, nat_tests, eq) in let k : max b c ≤ a = grind (arith, nat_tests, er) in omega arith)
+        by_tests false false true ep eq er =
+            absurd (let h : b ≤ a = grind (arith, nat_tests, ep) in let k : c ≤ a = grind (arith, nat_tests, eq) in
+            let l : a < max b c = grind (arith, nat_tests, er) in omega arith)
         by_tests false false false ep eq er = refl
 
 -- what is known stays as long
@@ -37,7 +43,9 @@ pub filter-map : {A B : Type 0} (p : B → Bool) (h : A → B) (xs : List A) →
 filter-map p h [] = refl
 filter-map {A} {B} p h (x ∷ xs) = by_test (p (h x)) ∙ ap (λ l. if p (h x) then h x ∷ l else l) (filter-map p h xs)
   where
-    by_test : (b : Bool) → map h (if b then x ∷ filter (λ y. p (h y)) xs else filter (λ y. p (h y)) xs) ≡ (if b then h x ∷ map h (filter (λ y. p (h y)) xs) else map h (filter (λ y. p (h y)) xs))
+    by_test : (b : Bool)
+        → map h (if b then x ∷ filter (λ y. p (h y)) xs else filter (λ y. p (h y)) xs)
+        ≡ (if b then h x ∷ map h (filter (λ y. p (h y)) xs) else map h (filter (λ y. p (h y)) xs))
     by_test true = refl
     by_test false = refl
 
@@ -54,7 +62,8 @@ Contains-filter {A} p (y ∷ xs) x at = by_test (p y) at (Contains-filter p xs x
     by_test false in' rest = by_place (inr in') rest
 
 -- of each site one is left
-pub one_each-left : {C : Type 0} (known told : List ℕ) (votes : List (Vote C)) → OneEach (λ (vote : Vote C). vote.from) votes → OneEach (λ (vote : Vote C). vote.from) (votes_left known told votes)
+pub one_each-left : {C : Type 0} (known told : List ℕ) (votes : List (Vote C)) → OneEach (λ (vote : Vote C). vote.from) votes
+    → OneEach (λ (vote : Vote C). vote.from) (votes_left known told votes)
 one_each-left known told votes each = λ a b at bt same. each a b (Contains-filter _ votes a at) (Contains-filter _ votes b bt) same
 
 -- a test of those that are left

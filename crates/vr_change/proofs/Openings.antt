@@ -30,8 +30,10 @@ abbrev pub done_in_all : {C : Type 0} → Site C → ℕ → List (RowOf C) → 
 done_in_all x k log = max x.done (min k (length log))
 
 -- the view was opened
-pub opened_meets : {H C R O S : Type 0} (m : Ghosts H C R O S) (start : H) (f me : ℕ) (n : Running H C R O S) (out : OutcomeOf C R O) (x : Site C) (log : List (RowOf C)) (k : ℕ) (sent : List (EnvelopeOf C R O)) → out.dropped ≡ None
-    → out.sent.items ≡ (sent ++ to_all f me (StartView (record { view = x.view; done = done_in_all x k log; rows = log }))) ++ map (reply_mail me x.view) (filter_map (answer_to m start log) (places_between x.done (done_in_all x k log)))
+pub opened_meets : {H C R O S : Type 0} (m : Ghosts H C R O S) (start : H) (f me : ℕ) (n : Running H C R O S) (out : OutcomeOf C R O) (x : Site C)
+    (log : List (RowOf C)) (k : ℕ) (sent : List (EnvelopeOf C R O)) → out.dropped ≡ None
+    → out.sent.items ≡ (sent ++ to_all f me (StartView (record { view = x.view; done = done_in_all x k log; rows = log })))
+    ++ map (reply_mail me x.view) (filter_map (answer_to m start log) (places_between x.done (done_in_all x k log)))
     → IsRunning m start f n [] → normal_with x.view (done_in_all x k log) log x.known x.cell ≡ site_of n [] x.cell
     → Meets m start f me n out (opened_with f me log k (record { site = x; sent = sent }))
 opened_meets m start f me n out x log k sent dropped mails runs site =
@@ -48,12 +50,14 @@ module _ {C R O : Type 0} (choose : Choice C) (f me : ℕ) (x y : Site C) (sent 
   pub opens_with-stale : begins_with_executed choose.same y log ≡ false → ◌≡◌ {A = Step C R O} (opens_with choose f me x y sent log k) (drops x Stale)
   opens_with-stale e = rw e
 
-  pub opens_with-opens : begins_with_executed choose.same y log ≡ true → ◌≡◌ {A = Step C R O} (opens_with choose f me x y sent log k) (opened_with f me log k (record { site = y; sent = sent }))
+  pub opens_with-opens : begins_with_executed choose.same y log ≡ true
+      → ◌≡◌ {A = Step C R O} (opens_with choose f me x y sent log k) (opened_with f me log k (record { site = y; sent = sent }))
   opens_with-opens e = rw e
 
 -- the view is opened over one log, with as many rows executed
 pub opened_over : {C R O : Type 0} (f me : ℕ) (x : Site C) (log own : List (RowOf C)) (done k : ℕ) (sent : List (EnvelopeOf C R O)) → log ≡ own → x.done ≡ done
-    → ◌≡◌ {A = Step C R O} (opened_with f me log k (record { site = x; sent = sent })) (opened_with f me own k (record { site = record x { done = done }; sent = sent }))
+    → ◌≡◌ {A = Step C R O} (opened_with f me log k (record { site = x; sent = sent }))
+    (opened_with f me own k (record { site = record x { done = done }; sent = sent }))
 opened_over {C} {R} {O} f me x log own done k sent e d =
     let at : List (RowOf C) → ℕ → Step C R O = λ l n. opened_with f me l k (record { site = record x { done = n }; sent = sent }) in
     ap (λ l. at l x.done) e ∙ ap (λ n. at own n) d
@@ -64,12 +68,14 @@ on_ok_then (Ok value) P Q h p = h p
 on_ok_then (Err error) P Q h p = tt
 
 -- the right choice opens the view with this vote's log and this commit-number
-pub opens_picked : {C R O : Type 0} (choose : Choice C) (f me : ℕ) (x y : Site C) (sent : List (EnvelopeOf C R O)) (ballot : List (Vote C)) (vote : Vote C) (k : ℕ) → IsRight f choose → OneEach (λ (v : Vote C). v.from) ballot → IsPick ballot vote → k ≡ most_done_of ballot
+pub opens_picked : {C R O : Type 0} (choose : Choice C) (f me : ℕ) (x y : Site C) (sent : List (EnvelopeOf C R O)) (ballot : List (Vote C)) (vote : Vote C)
+    (k : ℕ) → IsRight f choose → OneEach (λ (v : Vote C). v.from) ballot → IsPick ballot vote → k ≡ most_done_of ballot
     → ◌≡◌ {A = Step C R O} (opens_with choose f me x y sent (choose.pick ballot).log (choose.most_done ballot)) (opens_with choose f me x y sent vote.log k)
 opens_picked {C} {R} {O} choose f me x y sent ballot vote k right each p done =
     let some : 0 < length ballot = contains_some ballot vote p.kept in
     let pick : choose.pick ballot ≡ vote = pick-one ballot (choose.pick ballot) vote each (right.pick ballot some) p in
-    let most : choose.most_done ballot ≡ k = IsLargest-one _ (choose.most_done ballot) (most_done_of ballot) (right.most_done ballot some) (most_done-right ballot some) ∙ sym done in
+    let most : choose.most_done ballot ≡ k =
+    IsLargest-one _ (choose.most_done ballot) (most_done_of ballot) (right.most_done ballot some) (most_done-right ballot some) ∙ sym done in
     let at : Vote C → ℕ → Step C R O = λ v n. opens_with choose f me x y sent v.log n in
     ap (λ v. at v (choose.most_done ballot)) pick ∙ ap (at vote) most
   where

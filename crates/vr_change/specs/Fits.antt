@@ -3,8 +3,10 @@ use Rattle.std.specs.Prelude.{ℕ, ◌+◌, ◌==◌, ◌&&◌, Bool, not, nat_l
 use Rattle.vr_types.specs.declared.limits.TheConstants.{MAX_ROWS}
 use Rattle.vr_types.specs.Site.{Site, is_normal}
 
--- So many rows after the first `base` fit the log. In its view a normal site takes what makes its log longer; otherwise it takes what begins among its executed rows and reaches to their end.
+-- So many rows after the first `base` fit the log. In its view a normal site takes what makes its log longer; otherwise
+-- it takes what begins among its executed rows and reaches to their end.
 abbrev pub rows_fit : {C : Type 0} → Site C → ℕ → ℕ → ℕ → Bool
 rows_fit x w base rows =
     not (nat_lt MAX_ROWS (base + rows))
-    && (if is_normal x.status && (w == x.view) then nat_le base (length x.log) && nat_lt (length x.log) (base + rows) else nat_le base x.done && nat_le x.done (base + rows))
+    && (if is_normal x.status && (w == x.view) then nat_le base (length x.log) && nat_lt (length x.log) (base + rows)
+    else nat_le base x.done && nat_le x.done (base + rows))

@@ -13,25 +13,31 @@ use Rattle.vr_log.specs.Running.{IsRunning, site_of}
 use Rattle.vr_change.specs.Ballot.{with_starter, with_ballot}
 
 -- what runs shows the site in the middle of a rule, and these are the messages that it sends by then
-pub record IsPart {H C R O S : Type 0} (m : Ghosts H C R O S) (start : H) (f : ℕ) (r : Running H C R O S) (mails : List (EnvelopeOf C R O)) (part : Part C R O) : Type 0 where
+pub record IsPart {H C R O S : Type 0} (m : Ghosts H C R O S) (start : H) (f : ℕ) (r : Running H C R O S)
+    (mails : List (EnvelopeOf C R O)) (part : Part C R O) : Type 0 where
   pub running : IsRunning m start f r part.site.collected.acks
   pub site : part.site ≡ site_of r part.site.collected.acks part.site.cell
   pub sent : mails ≡ part.sent
 
--- A view is opened with a log that begins with what the site executed; any other is dropped. The site is first as the message found it, then as it has learnt.
-abbrev pub opens_with : {C R O : Type 0} → Choice C → ℕ → ℕ → Site C → Site C → List (EnvelopeOf C R O) → List (RowOf C) → ℕ → Step C R O
+-- A view is opened with a log that begins with what the site executed; any other is dropped. The site is first as the
+-- message found it, then as it has learnt.
+abbrev pub opens_with : {C R O : Type 0} → Choice C → ℕ → ℕ → Site C → Site C → List (EnvelopeOf C R O) → List (RowOf C)
+    → ℕ → Step C R O
 opens_with choose f me x y sent log k =
     if not (begins_with_executed choose.same y log) then drops x Stale
     else opened_with f me log k (record { site = y; sent = sent })
 
 -- a later view is started by a site that has learnt what was told
 abbrev pub starts_learnt : {C R O : Type 0} → ℕ → ℕ → ℕ → List ℕ → Site C → Part C R O
-starts_learnt f me w told x = if nat_lt x.view w then starts_view f me w (learns told x) else record { site = x; sent = [] }
+starts_learnt f me w told x =
+    if nat_lt x.view w then starts_view f me w (learns told x) else record { site = x; sent = [] }
 
--- A STARTVIEWCHANGE goes on at a site that takes part in the change: what it tells is learnt, it is kept, the site votes where that is due, and the view is opened where it can be.
+-- A STARTVIEWCHANGE goes on at a site that takes part in the change: what it tells is learnt, it is kept, the site
+-- votes where that is due, and the view is opened where it can be.
 abbrev pub start_goes_on : {C R O : Type 0} → Choice C → ℕ → ℕ → Start → Site C → List (EnvelopeOf C R O) → Step C R O
 start_goes_on choose f me start x sent =
-    opens_where_due choose f me x (votes_where_due f me (record { site = with_start start (learns start.known x); sent = sent }))
+    opens_where_due choose f me x
+    (votes_where_due f me (record { site = with_start start (learns start.known x); sent = sent }))
 
 -- so does a vote at the primary of its view
 abbrev pub vote_goes_on : {C R O : Type 0} → Choice C → ℕ → ℕ → Vote C → Site C → List (EnvelopeOf C R O) → Step C R O

@@ -66,7 +66,8 @@ pub fn has_started(starts: &[StartOf], site: u16) -> bool
 
 /// Whether a vote of this site is left.
 pub fn has_vote_left<M: Machine>(running: &Running<M>, told: &Known, site: u16) -> bool
-    ensures { result ≡ has_vote (votes_left running.now.known told.now (map vote_of running.now.votes.items)) site }
+    ensures { result ≡ has_vote (votes_left running.now.known told.now
+        (map vote_of running.now.votes.items)) site }
 {
     running.votes.iter().any(|vote| vote.from == site
         && is_left(running, told, vote.from, &vote.known))
@@ -74,7 +75,8 @@ pub fn has_vote_left<M: Machine>(running: &Running<M>, told: &Known, site: u16) 
 
 /// Whether a STARTVIEWCHANGE of this site is left.
 fn has_start_left<M: Machine>(running: &Running<M>, told: &Known, site: u16) -> bool
-    ensures { result ≡ has_start (starts_left running.now.known told.now (map start_of running.now.starts.items)) site }
+    ensures { result ≡ has_start (starts_left running.now.known told.now
+        (map start_of running.now.starts.items)) site }
 {
     running.starts.iter().any(|start| start.from == site
         && is_left(running, told, start.from, &start.known))
@@ -82,7 +84,9 @@ fn has_start_left<M: Machine>(running: &Running<M>, told: &Known, site: u16) -> 
 
 /// Whether a vote of this site is left, or comes now.
 pub fn votes_now<M: Machine>(running: &Running<M>, told: &Known, from: u16, site: u16) -> bool
-    ensures { result ≡ (has_vote (votes_left running.now.known told.now (map vote_of running.now.votes.items)) site || (from == site)) }
+    ensures { result
+        ≡ (has_vote (votes_left running.now.known told.now (map vote_of running.now.votes.items))
+        site || (from == site)) }
 {
     has_vote_left(running, told, site) || from == site
 }
@@ -94,7 +98,10 @@ pub fn enough_voted<M: Machine>(
     told: &Known,
     from: u16,
 ) -> bool
-    ensures { result ≡ nat_lt config.f (count_by (λ j. has_vote (votes_left running.now.known told.now (map vote_of running.now.votes.items)) j || (from == j)) (sites config.f)) }
+    ensures { result ≡ nat_lt config.f
+        (count_by
+        (λ j. has_vote (votes_left running.now.known told.now (map vote_of running.now.votes.items))
+        j || (from == j)) (sites config.f)) }
 {
     let mut count: u16 = 0;
     for site in 0..2 * config.f + 1 {
@@ -112,7 +119,10 @@ pub fn enough_started<M: Machine>(
     told: &Known,
     from: u16,
 ) -> bool
-    ensures { result ≡ nat_le config.f (count_by (λ j. has_start (starts_left running.now.known told.now (map start_of running.now.starts.items)) j || (from == j)) (others config.f config.me)) }
+    ensures { result ≡ nat_le config.f
+        (count_by
+        (λ j. has_start (starts_left running.now.known told.now
+        (map start_of running.now.starts.items)) j || (from == j)) (others config.f config.me)) }
 {
     let mut count: u16 = 0;
     for site in 0..2 * config.f + 1 {
@@ -131,7 +141,9 @@ fn takes_part<M: Machine>(
     from: u16,
     site: u16,
 ) -> bool
-    ensures { result ≡ (not (site == config.me) && (has_start (starts_left running.now.known told.now (map start_of running.now.starts.items)) site || (from == site))) }
+    ensures { result ≡ (not (site == config.me)
+        && (has_start (starts_left running.now.known told.now
+        (map start_of running.now.starts.items)) site || (from == site))) }
 {
     site != config.me && (has_start_left(running, told, site) || from == site)
 }
@@ -140,7 +152,8 @@ fn takes_part<M: Machine>(
 pub fn best<M: Machine>(running: &Running<M>, told: &Known) -> Option<usize>
     ensures { let votes = map vote_of running.now.votes.items in
         let left = votes_left running.now.known told.now votes in
-        MatchOption result (left ≡ []) (λ at. (at < length running.now.votes.items) × IfSome (slice_get votes at) (IsPick left)) }
+        MatchOption result (left ≡ []) (λ at. (at < length running.now.votes.items)
+        × IfSome (slice_get votes at) (IsPick left)) }
 {
     let mut best = None;
     for at in 0..running.votes.len() {
@@ -156,7 +169,8 @@ fn goes_next<M: Machine>(running: &Running<M>, told: &Known, best: Option<usize>
     requires at { at < length running.now.votes.items }
     requires best { IfSome best (λ best. best < length running.now.votes.items) }
     ensures { (vote : Vote M.Cmd) → slice_get (map vote_of running.now.votes.items) at ≡ Some vote →
-        result ≡ (stays running.now.known told.now vote.from vote.known && goes_past vote (vote_at (map vote_of running.now.votes.items) best)) }
+        result ≡ (stays running.now.known told.now vote.from vote.known
+        && goes_past vote (vote_at (map vote_of running.now.votes.items) best)) }
 {
     let vote = &running.votes[at];
     if !is_left(running, told, vote.from, &vote.known) {
@@ -175,7 +189,8 @@ pub fn best_before<M: Machine>(running: &Running<M>, told: &Known, new: Claim) -
     ensures pick { (vote : Vote M.Cmd) → claim vote ≡ new →
         let votes = map vote_of running.now.votes.items in
         let ballot = votes_left running.now.known told.now votes ++ vote ∷ [] in
-        MatchOption result (IsPick ballot vote) (λ at. IfSome (slice_get votes at) (IsPick ballot)) }
+        MatchOption result (IsPick ballot vote)
+        (λ at. IfSome (slice_get votes at) (IsPick ballot)) }
 {
     let at = best(running, told)?;
     if new.goes_before(Claim::of(&running.votes[at])) {
@@ -187,7 +202,8 @@ pub fn best_before<M: Machine>(running: &Running<M>, told: &Known, new: Claim) -
 
 /// The largest commit-number of the votes that are left, 0 of none.
 pub fn most_done<M: Machine>(running: &Running<M>, told: &Known) -> u16
-    ensures { result ≡ fold (λ most vote. max most vote.done) 0 (votes_left running.now.known told.now (map vote_of running.now.votes.items)) }
+    ensures { result ≡ fold (λ most vote. max most vote.done) 0
+        (votes_left running.now.known told.now (map vote_of running.now.votes.items)) }
 {
     let mut most = 0;
     for vote in &running.votes {

@@ -20,10 +20,13 @@ pub fn timer<M: Machine>(
     running: &mut Running<M>,
 ) -> Result<Outcome<M>, AllocError>
     requires { running.old.view < max_number }
-    ensures sound { OnOk result ((start : M) → IsSound M.Machine start config.f running.old → IsSound M.Machine start config.f running.new) }
+    ensures sound { OnOk result ((start : M) → IsSound M.Machine start config.f running.old →
+        IsSound M.Machine start config.f running.new) }
     ensures later { running.old.view ≤ running.new.view }
-    ensures step { (start : M) (acks : List Ack) (cell : Boot) → IsRunning M.Machine start config.f running.old acks →
-        Follows M.Machine start config.f config.me running.new result (on_timer config.f config.me (site_of running.old acks cell)) }
+    ensures step { (start : M) (acks : List Ack) (cell : Boot) →
+        IsRunning M.Machine start config.f running.old acks →
+        Follows M.Machine start config.f config.me running.new result
+        (on_timer config.f config.me (site_of running.old acks cell)) }
 {
     let view = running.view + 1;
     start_change(running, view);
@@ -40,8 +43,10 @@ pub fn beat_in_change<M: Machine>(
     config: Config,
     running: &Running<M>,
 ) -> Result<Outcome<M>, AllocError>
-    ensures { (start : M) (acks : List Ack) (cell : Boot) → IsRunning M.Machine start config.f running.now acks →
-        Follows M.Machine start config.f config.me running.now result (beats_in_change config.f config.me (site_of running.now acks cell)) }
+    ensures { (start : M) (acks : List Ack) (cell : Boot) →
+        IsRunning M.Machine start config.f running.now acks →
+        Follows M.Machine start config.f config.me running.now result
+        (beats_in_change config.f config.me (site_of running.now acks cell)) }
 {
     let mut sent = tell_change(alloc, config, running)?;
     if running.voted && primary_of(config, running.view) != config.me {
@@ -59,7 +64,8 @@ pub fn own_vote<M: Machine>(
     config: Config,
     running: &Running<M>,
 ) -> Result<Envelope<M>, AllocError>
-    ensures { IfOk result (λ mail. (acks : List Ack) (cell : Boot) → mail ∷ [] ≡ sends_vote config.f config.me (site_of running.now acks cell)) }
+    ensures { IfOk result (λ mail. (acks : List Ack) (cell : Boot) →
+        mail ∷ [] ≡ sends_vote config.f config.me (site_of running.now acks cell)) }
 {
     let msg = MsgOf::DoViewChange(DoViewChangeOf {
         view: running.view,
@@ -77,7 +83,8 @@ pub fn tell_change<M: Machine>(
     config: Config,
     running: &Running<M>,
 ) -> Result<Vec<Envelope<M>>, AllocError>
-    ensures { IfOk result (λ sent. sent.items ≡ to_all config.f config.me (MsgOf.StartViewChange (record { view = running.now.view; known = running.now.known }))) }
+    ensures { IfOk result (λ sent. sent.items ≡ to_all config.f config.me
+        (MsgOf.StartViewChange (record { view = running.now.view; known = running.now.known }))) }
 {
     let change = StartViewChange {
         view: running.view,

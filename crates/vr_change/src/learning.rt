@@ -23,9 +23,13 @@ pub fn learn<M: Machine>(running: &mut Running<M>, told: &Known)
     ensures view { running.new.view ≡ running.old.view }
     ensures kept { running.new.kept ≡ running.old.kept }
     ensures known { running.new.known ≡ greater running.old.known told.now }
-    ensures sound { (start : M) (f : ℕ) → IsSound M.Machine start f running.old → IsSound M.Machine start f running.new }
-    ensures running { (start : M) (f : ℕ) (acks : List Ack) → IsRunning M.Machine start f running.old acks → IsRunning M.Machine start f running.new acks }
-    ensures site { (acks : List Ack) (cell : Boot) → site_of running.new acks cell ≡ learns told.now (site_of running.old acks cell) }
+    ensures sound { (start : M) (f : ℕ) → IsSound M.Machine start f running.old →
+        IsSound M.Machine start f running.new }
+    ensures running { (start : M) (f : ℕ) (acks : List Ack) →
+        IsRunning M.Machine start f running.old acks →
+        IsRunning M.Machine start f running.new acks }
+    ensures site { (acks : List Ack) (cell : Boot) →
+        site_of running.new acks cell ≡ learns told.now (site_of running.old acks cell) }
 {
     running.known.learn(told);
     let known = &running.known;

@@ -32,14 +32,18 @@ pub fn open_with_kept<M: Machine>(
 ) -> Result<Outcome<M>, AllocError>
     requires ready { IsReady M.Machine running.old.kept }
     requires known { length told.now ≤ length running.old.known }
-    requires some { votes_left running.old.known told.now (map vote_of running.old.votes.items) ≢ [] }
-    ensures sound { OnOk result ((start : M) → IsSound M.Machine start config.f running.old → IsSound M.Machine start config.f running.new) }
+    requires some { votes_left running.old.known told.now (map vote_of running.old.votes.items)
+        ≢ [] }
+    ensures sound { OnOk result ((start : M) → IsSound M.Machine start config.f running.old →
+        IsSound M.Machine start config.f running.new) }
     ensures later { running.old.view ≤ running.new.view }
-    ensures step { (choose : Choice M.Cmd) (start : M) (acks : List Ack) (cell : Boot) → IsRight config.f choose → IsRunning M.Machine start config.f running.old acks →
+    ensures step { (choose : Choice M.Cmd) (start : M) (acks : List Ack) (cell : Boot) →
+        IsRight config.f choose → IsRunning M.Machine start config.f running.old acks →
         Follows M.Machine start config.f config.me running.new result (
         let x = site_of running.old acks cell in
         let ballot = votes_left running.old.known told.now (map vote_of running.old.votes.items) in
-        opens_with choose config.f config.me x (learns told.now x) sent.items (choose.pick ballot).log (choose.most_done ballot)) }
+        opens_with choose config.f config.me x (learns told.now x) sent.items
+        (choose.pick ballot).log (choose.most_done ballot)) }
 {
     let done = most_done(running, told);
     match best(running, told) {
@@ -58,14 +62,20 @@ pub fn open_with_new<M: Machine>(
 ) -> Result<Outcome<M>, AllocError>
     requires ready { IsReady M.Machine running.old.kept }
     requires known { length vote.known ≤ length running.old.known }
-    requires new { has_vote (votes_left running.old.known vote.known (map vote_of running.old.votes.items)) vote.from ≡ false }
-    ensures sound { OnOk result ((start : M) → IsSound M.Machine start config.f running.old → IsSound M.Machine start config.f running.new) }
+    requires new { has_vote (votes_left running.old.known vote.known
+        (map vote_of running.old.votes.items)) vote.from ≡ false }
+    ensures sound { OnOk result ((start : M) → IsSound M.Machine start config.f running.old →
+        IsSound M.Machine start config.f running.new) }
     ensures later { running.old.view ≤ running.new.view }
-    ensures step { (choose : Choice M.Cmd) (start : M) (acks : List Ack) (cell : Boot) → IsRight config.f choose → IsRunning M.Machine start config.f running.old acks →
+    ensures step { (choose : Choice M.Cmd) (start : M) (acks : List Ack) (cell : Boot) →
+        IsRight config.f choose → IsRunning M.Machine start config.f running.old acks →
         Follows M.Machine start config.f config.me running.new result (
         let x = site_of running.old acks cell in
-        let ballot = votes_left running.old.known vote.known (map vote_of running.old.votes.items) ++ vote_of vote ∷ [] in
-        opens_with choose config.f config.me x (learns vote.known x) sent.items (choose.pick ballot).log (choose.most_done ballot)) }
+        let ballot =
+        votes_left running.old.known vote.known (map vote_of running.old.votes.items)
+        ++ vote_of vote ∷ [] in
+        opens_with choose config.f config.me x (learns vote.known x) sent.items
+        (choose.pick ballot).log (choose.most_done ballot)) }
 {
     let new = Claim::of(&vote);
     let VoteOf {
@@ -92,15 +102,21 @@ pub fn open_with_own<M: Machine>(
 ) -> Result<Outcome<M>, AllocError>
     requires ready { IsReady M.Machine running.old.kept }
     requires known { length told.now ≤ length running.old.known }
-    requires new { has_vote (votes_left running.old.known told.now (map vote_of running.old.votes.items)) config.me ≡ false }
-    ensures sound { OnOk result ((start : M) → IsSound M.Machine start config.f running.old → IsSound M.Machine start config.f running.new) }
+    requires new { has_vote (votes_left running.old.known told.now
+        (map vote_of running.old.votes.items)) config.me ≡ false }
+    ensures sound { OnOk result ((start : M) → IsSound M.Machine start config.f running.old →
+        IsSound M.Machine start config.f running.new) }
     ensures later { running.old.view ≤ running.new.view }
-    ensures step { (choose : Choice M.Cmd) (start : M) (acks : List Ack) (cell : Boot) → IsRight config.f choose → IsRunning M.Machine start config.f running.old acks →
+    ensures step { (choose : Choice M.Cmd) (start : M) (acks : List Ack) (cell : Boot) →
+        IsRight config.f choose → IsRunning M.Machine start config.f running.old acks →
         Follows M.Machine start config.f config.me running.new result (
         let x = site_of running.old acks cell in
         let y = learns told.now x in
-        let ballot = votes_left running.old.known told.now (map vote_of running.old.votes.items) ++ own_vote config.me y ∷ [] in
-        opens_with choose config.f config.me x y sent.items (choose.pick ballot).log (choose.most_done ballot)) }
+        let ballot =
+        votes_left running.old.known told.now (map vote_of running.old.votes.items)
+        ++ own_vote config.me y ∷ [] in
+        opens_with choose config.f config.me x y sent.items (choose.pick ballot).log
+        (choose.most_done ballot)) }
 {
     let own = Claim {
         from: config.me,
@@ -127,9 +143,12 @@ pub fn open_with_vote<M: Machine>(
     requires ready { IsReady M.Machine running.old.kept }
     requires known { length told.now ≤ length running.old.known }
     requires at { at < length running.old.votes.items }
-    ensures sound { OnOk result ((start : M) → IsSound M.Machine start config.f running.old → IsSound M.Machine start config.f running.new) }
+    ensures sound { OnOk result ((start : M) → IsSound M.Machine start config.f running.old →
+        IsSound M.Machine start config.f running.new) }
     ensures later { running.old.view ≤ running.new.view }
-    ensures step { (choose : Choice M.Cmd) (start : M) (acks : List Ack) (cell : Boot) (vote : Vote M.Cmd) → IsRight config.f choose → IsRunning M.Machine start config.f running.old acks →
+    ensures step { (choose : Choice M.Cmd) (start : M) (acks : List Ack) (cell : Boot)
+        (vote : Vote M.Cmd) → IsRight config.f choose →
+        IsRunning M.Machine start config.f running.old acks →
         slice_get (map vote_of running.old.votes.items) at ≡ Some vote →
         Follows M.Machine start config.f config.me running.new result (
         let x = site_of running.old acks cell in
@@ -156,9 +175,11 @@ pub fn open_with_rows<M: Machine>(
 ) -> Result<Outcome<M>, AllocError>
     requires ready { IsReady M.Machine running.old.kept }
     requires known { length told.now ≤ length running.old.known }
-    ensures sound { OnOk result ((start : M) → IsSound M.Machine start config.f running.old → IsSound M.Machine start config.f running.new) }
+    ensures sound { OnOk result ((start : M) → IsSound M.Machine start config.f running.old →
+        IsSound M.Machine start config.f running.new) }
     ensures later { running.old.view ≤ running.new.view }
-    ensures step { (choose : Choice M.Cmd) (start : M) (acks : List Ack) (cell : Boot) → IsRight config.f choose → IsRunning M.Machine start config.f running.old acks →
+    ensures step { (choose : Choice M.Cmd) (start : M) (acks : List Ack) (cell : Boot) →
+        IsRight config.f choose → IsRunning M.Machine start config.f running.old acks →
         Follows M.Machine start config.f config.me running.new result (
         let x = site_of running.old acks cell in
         opens_with choose config.f config.me x (learns told.now x) sent.items rows done) }
@@ -183,11 +204,17 @@ pub fn open<M: Machine>(
 ) -> Result<Outcome<M>, AllocError>
     requires ready { IsReady M.Machine running.old.kept }
     requires known { length told.now ≤ length running.old.known }
-    ensures sound { OnOk result ((start : M) → IsSound M.Machine start config.f running.old → IsSound M.Machine start config.f running.new) }
+    ensures sound { OnOk result ((start : M) → IsSound M.Machine start config.f running.old →
+        IsSound M.Machine start config.f running.new) }
     ensures later { running.old.view ≤ running.new.view }
-    ensures step { (start : M) (acks : List Ack) (cell : Boot) → IsRunning M.Machine start config.f running.old acks →
+    ensures step { (start : M) (acks : List Ack) (cell : Boot) →
+        IsRunning M.Machine start config.f running.old acks →
         Follows M.Machine start config.f config.me running.new result (
-        opened_with config.f config.me running.old.kept.log done (record { site = learns told.now (site_of running.old acks cell); sent = sent.items })) }
+        opened_with config.f config.me running.old.kept.log done
+        (record {
+          site = learns told.now (site_of running.old acks cell);
+          sent = sent.items;
+        })) }
 {
     let view = running.view;
     let answers = running.kept.execute(alloc, done)?;
@@ -208,7 +235,13 @@ fn tell_view<M: Machine>(
     running: &Running<M>,
     sent: &mut Vec<Envelope<M>>,
 ) -> Result<(), AllocError>
-    ensures { OnOk result (sent.new.items ≡ sent.old.items ++ to_all config.f config.me (MsgOf.StartView (record { view = running.now.view; done = running.now.kept.done; rows = running.now.kept.log }))) }
+    ensures { OnOk result (sent.new.items ≡ sent.old.items
+        ++ to_all config.f config.me
+        (MsgOf.StartView (record {
+          view = running.now.view;
+          done = running.now.kept.done;
+          rows = running.now.kept.log;
+        }))) }
 {
     for site in 0..2 * config.f + 1 {
         if site != config.me {
@@ -226,7 +259,12 @@ fn view_mail<M: Machine>(
     site: u16,
 ) -> Result<Envelope<M>, AllocError>
     requires { site ≤ 2 * config.f }
-    ensures { IfOk result (λ sent. sent ≡ mail config.me site (MsgOf.StartView (record { view = running.now.view; done = running.now.kept.done; rows = running.now.kept.log }))) }
+    ensures { IfOk result (λ sent. sent ≡ mail config.me site
+        (MsgOf.StartView (record {
+          view = running.now.view;
+          done = running.now.kept.done;
+          rows = running.now.kept.log;
+        }))) }
 {
     let msg = MsgOf::StartView(StartViewOf {
         view: running.view,

@@ -22,10 +22,13 @@ pub fn start_view<M: Machine>(
     msg: StartViewOf<M::Cmd>,
 ) -> Result<Outcome<M>, AllocError>
     requires { IsReady M.Machine running.old.kept }
-    ensures sound { OnOk result ((start : M) → IsSound M.Machine start config.f running.old → IsSound M.Machine start config.f running.new) }
+    ensures sound { OnOk result ((start : M) → IsSound M.Machine start config.f running.old →
+        IsSound M.Machine start config.f running.new) }
     ensures later { running.old.view ≤ running.new.view }
-    ensures step { (choose : Choice M.Cmd) (start : M) (acks : List Ack) (cell : Boot) → IsRight config.f choose → IsRunning M.Machine start config.f running.old acks →
-        Follows M.Machine start config.f config.me running.new result (on_start_view choose config.f config.me (site_of running.old acks cell) from msg) }
+    ensures step { (choose : Choice M.Cmd) (start : M) (acks : List Ack) (cell : Boot) →
+        IsRight config.f choose → IsRunning M.Machine start config.f running.old acks →
+        Follows M.Machine start config.f config.me running.new result
+        (on_start_view choose config.f config.me (site_of running.old acks cell) from msg) }
 {
     if primary_of(config, msg.view) != from {
         return Ok(dropped(alloc, Why::NotPrimary));
@@ -63,10 +66,14 @@ pub fn take_log<M: Machine>(
     requires base { base ≤ length running.old.kept.log }
     requires few { base + length rows ≤ MAX_ROWS }
     requires later { running.old.view ≤ view }
-    ensures sound { OnOk result ((start : M) → IsSound M.Machine start config.f running.old → IsSound M.Machine start config.f running.new) }
+    ensures sound { OnOk result ((start : M) → IsSound M.Machine start config.f running.old →
+        IsSound M.Machine start config.f running.new) }
     ensures later { running.old.view ≤ running.new.view }
-    ensures step { (choose : Choice M.Cmd) (start : M) (acks : List Ack) (cell : Boot) → IsRight config.f choose → IsRunning M.Machine start config.f running.old acks →
-        Follows M.Machine start config.f config.me running.new result (takes_log choose config.f config.me (site_of running.old acks cell) view done (take base running.old.kept.log ++ rows)) }
+    ensures step { (choose : Choice M.Cmd) (start : M) (acks : List Ack) (cell : Boot) →
+        IsRight config.f choose → IsRunning M.Machine start config.f running.old acks →
+        Follows M.Machine start config.f config.me running.new result
+        (takes_log choose config.f config.me (site_of running.old acks cell) view done
+        (take base running.old.kept.log ++ rows)) }
 {
     if !running.kept.keeps_executed(base, &rows) {
         return Ok(dropped(alloc, Why::Stale));

@@ -22,8 +22,10 @@ pub fn get_state<M: Machine>(
     msg: GetState,
 ) -> Result<Outcome<M>, AllocError>
     requires { from ≤ 2 * config.f }
-    ensures { (start : M) (acks : List Ack) (cell : Boot) → IsRunning M.Machine start config.f running.now acks →
-        Follows M.Machine start config.f config.me running.now result (on_get_state config.f config.me (site_of running.now acks cell) from msg) }
+    ensures { (start : M) (acks : List Ack) (cell : Boot) →
+        IsRunning M.Machine start config.f running.now acks →
+        Follows M.Machine start config.f config.me running.now result
+        (on_get_state config.f config.me (site_of running.now acks cell) from msg) }
 {
     if !runs_normally(running.status) {
         return Ok(dropped(alloc, Why::Status));
@@ -55,10 +57,13 @@ pub fn new_state<M: Machine>(
     msg: NewStateOf<M::Cmd>,
 ) -> Result<Outcome<M>, AllocError>
     requires { IsReady M.Machine running.old.kept }
-    ensures sound { OnOk result ((start : M) → IsSound M.Machine start config.f running.old → IsSound M.Machine start config.f running.new) }
+    ensures sound { OnOk result ((start : M) → IsSound M.Machine start config.f running.old →
+        IsSound M.Machine start config.f running.new) }
     ensures later { running.old.view ≤ running.new.view }
-    ensures step { (choose : Choice M.Cmd) (start : M) (acks : List Ack) (cell : Boot) → IsRight config.f choose → IsRunning M.Machine start config.f running.old acks →
-        Follows M.Machine start config.f config.me running.new result (on_new_state choose config.f config.me (site_of running.old acks cell) from msg) }
+    ensures step { (choose : Choice M.Cmd) (start : M) (acks : List Ack) (cell : Boot) →
+        IsRight config.f choose → IsRunning M.Machine start config.f running.old acks →
+        Follows M.Machine start config.f config.me running.new result
+        (on_new_state choose config.f config.me (site_of running.old acks cell) from msg) }
 {
     if primary_of(config, msg.view) != from {
         return Ok(dropped(alloc, Why::NotPrimary));
@@ -78,7 +83,8 @@ fn fits<M: Machine>(running: &Running<M>, view: u32, base: usize, rows: usize) -
     requires ready { IsReady M.Machine running.now.kept }
     requires base { base ≤ MAX_ROWS }
     requires rows { rows ≤ MAX_ROWS }
-    ensures fit { (acks : List Ack) (cell : Boot) → result ≡ rows_fit (site_of running.now acks cell) view base rows }
+    ensures fit { (acks : List Ack) (cell : Boot) →
+        result ≡ rows_fit (site_of running.now acks cell) view base rows }
     ensures base { IsTrue result → base ≤ length running.now.kept.log }
     ensures few { IsTrue result → base + rows ≤ MAX_ROWS }
 {

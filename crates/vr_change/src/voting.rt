@@ -34,10 +34,14 @@ pub fn start_view_change<M: Machine>(
 ) -> Result<Outcome<M>, AllocError>
     requires ready { IsReady M.Machine running.old.kept }
     requires known { length start.known ≤ length running.old.known }
-    ensures sound { OnOk result ((first : M) → IsSound M.Machine first config.f running.old → IsSound M.Machine first config.f running.new) }
+    ensures sound { OnOk result ((first : M) → IsSound M.Machine first config.f running.old →
+        IsSound M.Machine first config.f running.new) }
     ensures later { running.old.view ≤ running.new.view }
-    ensures step { (choose : Choice M.Cmd) (first : M) (acks : List Ack) (cell : Boot) → IsRight config.f choose → IsRunning M.Machine first config.f running.old acks →
-        Follows M.Machine first config.f config.me running.new result (on_start_view_change choose config.f config.me (site_of running.old acks cell) view (start_of start)) }
+    ensures step { (choose : Choice M.Cmd) (first : M) (acks : List Ack) (cell : Boot) →
+        IsRight config.f choose → IsRunning M.Machine first config.f running.old acks →
+        Follows M.Machine first config.f config.me running.new result
+        (on_start_view_change choose config.f config.me
+        (site_of running.old acks cell) view (start_of start)) }
 {
     if view < running.view {
         return Ok(dropped(alloc, Why::View));
@@ -67,10 +71,14 @@ pub fn do_view_change<M: Machine>(
 ) -> Result<Outcome<M>, AllocError>
     requires ready { IsReady M.Machine running.old.kept }
     requires known { length vote.known ≤ length running.old.known }
-    ensures sound { OnOk result ((start : M) → IsSound M.Machine start config.f running.old → IsSound M.Machine start config.f running.new) }
+    ensures sound { OnOk result ((start : M) → IsSound M.Machine start config.f running.old →
+        IsSound M.Machine start config.f running.new) }
     ensures later { running.old.view ≤ running.new.view }
-    ensures step { (choose : Choice M.Cmd) (start : M) (acks : List Ack) (cell : Boot) → IsRight config.f choose → IsRunning M.Machine start config.f running.old acks →
-        Follows M.Machine start config.f config.me running.new result (on_do_view_change choose config.f config.me (site_of running.old acks cell) view (vote_of vote)) }
+    ensures step { (choose : Choice M.Cmd) (start : M) (acks : List Ack) (cell : Boot) →
+        IsRight config.f choose → IsRunning M.Machine start config.f running.old acks →
+        Follows M.Machine start config.f config.me running.new result
+        (on_do_view_change choose config.f config.me
+        (site_of running.old acks cell) view (vote_of vote)) }
 {
     if view < running.view {
         return Ok(dropped(alloc, Why::View));
@@ -104,9 +112,12 @@ fn start_later<M: Machine>(
     ensures kept { running.new.kept ≡ running.old.kept }
     ensures known { length running.new.known ≡ length running.old.known }
     ensures change { is_normal running.new.status ≡ false }
-    ensures sound { (start : M) → IsSound M.Machine start config.f running.old → IsSound M.Machine start config.f running.new }
-    ensures part { IfOk result (λ sent. (start : M) (acks : List Ack) (cell : Boot) → IsRunning M.Machine start config.f running.old acks →
-        IsPart M.Machine start config.f running.new sent.items (starts_learnt config.f config.me view told.now (site_of running.old acks cell))) }
+    ensures sound { (start : M) → IsSound M.Machine start config.f running.old →
+        IsSound M.Machine start config.f running.new }
+    ensures part { IfOk result (λ sent. (start : M) (acks : List Ack) (cell : Boot) →
+        IsRunning M.Machine start config.f running.old acks →
+        IsPart M.Machine start config.f running.new sent.items
+        (starts_learnt config.f config.me view told.now (site_of running.old acks cell))) }
 {
     if view == running.view {
         return Ok(Vec::new(alloc));
@@ -126,11 +137,14 @@ fn follow<M: Machine>(
 ) -> Result<Outcome<M>, AllocError>
     requires known { length start.known ≤ length running.old.known }
     requires other { primary config.f running.old.view ≢ config.me }
-    ensures sound { OnOk result ((first : M) → IsSound M.Machine first config.f running.old → IsSound M.Machine first config.f running.new) }
+    ensures sound { OnOk result ((first : M) → IsSound M.Machine first config.f running.old →
+        IsSound M.Machine first config.f running.new) }
     ensures later { running.old.view ≤ running.new.view }
-    ensures step { (choose : Choice M.Cmd) (first : M) (acks : List Ack) (cell : Boot) → IsRunning M.Machine first config.f running.old acks →
+    ensures step { (choose : Choice M.Cmd) (first : M) (acks : List Ack) (cell : Boot) →
+        IsRunning M.Machine first config.f running.old acks →
         Follows M.Machine first config.f config.me running.new result (
-        start_goes_on choose config.f config.me (start_of start) (site_of running.old acks cell) sent.items) }
+        start_goes_on choose config.f config.me (start_of start)
+        (site_of running.old acks cell) sent.items) }
 {
     let votes = is_due(config, running, &start.known, start.from);
     learn(running, &start.known);
@@ -155,11 +169,14 @@ fn lead<M: Machine>(
     requires known { length start.known ≤ length running.old.known }
     requires change { is_normal running.old.status ≡ false }
     requires mine { primary config.f running.old.view ≡ config.me }
-    ensures sound { OnOk result ((first : M) → IsSound M.Machine first config.f running.old → IsSound M.Machine first config.f running.new) }
+    ensures sound { OnOk result ((first : M) → IsSound M.Machine first config.f running.old →
+        IsSound M.Machine first config.f running.new) }
     ensures later { running.old.view ≤ running.new.view }
-    ensures step { (choose : Choice M.Cmd) (first : M) (acks : List Ack) (cell : Boot) → IsRight config.f choose → IsRunning M.Machine first config.f running.old acks →
+    ensures step { (choose : Choice M.Cmd) (first : M) (acks : List Ack) (cell : Boot) →
+        IsRight config.f choose → IsRunning M.Machine first config.f running.old acks →
         Follows M.Machine first config.f config.me running.new result (
-        start_goes_on choose config.f config.me (start_of start) (site_of running.old acks cell) sent.items) }
+        start_goes_on choose config.f config.me (start_of start)
+        (site_of running.old acks cell) sent.items) }
 {
     let told = &start.known;
     let votes = is_due(config, running, told, start.from);
@@ -180,7 +197,8 @@ fn lead<M: Machine>(
 /// Whether the site's own vote is due, with the STARTVIEWCHANGE that comes.
 fn is_due<M: Machine>(config: Config, running: &Running<M>, told: &Known, from: u16) -> bool
     ensures { (start : Start) (acks : List Ack) (cell : Boot) → start.from ≡ from →
-        result ≡ is_to_vote config.f config.me (with_start start (learns told.now (site_of running.now acks cell))) }
+        result ≡ is_to_vote config.f config.me
+        (with_start start (learns told.now (site_of running.now acks cell))) }
 {
     enough_started(config, running, told, from) && !running.voted
 }
@@ -195,7 +213,8 @@ fn keep_start<M: Machine>(running: &mut Running<M>, start: StartOf) -> Result<()
     ensures acked { running.new.acked ≡ running.old.acked }
     ensures voted { running.new.voted ≡ running.old.voted }
     ensures votes { running.new.votes ≡ running.old.votes }
-    ensures starts { OnOk result (map start_of running.new.starts.items ≡ with_starter (map start_of running.old.starts.items) (start_of start)) }
+    ensures starts { OnOk result (map start_of running.new.starts.items
+        ≡ with_starter (map start_of running.old.starts.items) (start_of start)) }
 {
     if !has_started(running.starts.as_slice(), start.from) {
         running.starts.push(start)?;
@@ -213,11 +232,14 @@ fn wait<M: Machine>(
     sent: Vec<Envelope<M>>,
 ) -> Result<Outcome<M>, AllocError>
     requires { length start.known ≤ length running.old.known }
-    ensures sound { OnOk result ((first : M) → IsSound M.Machine first config.f running.old → IsSound M.Machine first config.f running.new) }
+    ensures sound { OnOk result ((first : M) → IsSound M.Machine first config.f running.old →
+        IsSound M.Machine first config.f running.new) }
     ensures later { running.old.view ≤ running.new.view }
-    ensures step { (first : M) (acks : List Ack) (cell : Boot) → IsRunning M.Machine first config.f running.old acks →
+    ensures step { (first : M) (acks : List Ack) (cell : Boot) →
+        IsRunning M.Machine first config.f running.old acks →
         Follows M.Machine first config.f config.me running.new result (
-        does (gathered votes config.me (start_of start) (learns start.known (site_of running.old acks cell))) sent.items) }
+        does (gathered votes config.me (start_of start)
+        (learns start.known (site_of running.old acks cell))) sent.items) }
 {
     learn(running, &start.known);
     keep_start(running, start)?;
@@ -243,7 +265,9 @@ fn keep_own_vote<M: Machine>(
     ensures acked { running.new.acked ≡ running.old.acked }
     ensures starts { running.new.starts ≡ running.old.starts }
     ensures voted { running.new.voted ≡ running.old.voted }
-    ensures votes { OnOk result ((acks : List Ack) (cell : Boot) → map vote_of running.new.votes.items ≡ with_ballot (map vote_of running.old.votes.items) (vote_made config.me (site_of running.old acks cell))) }
+    ensures votes { OnOk result ((acks : List Ack) (cell : Boot) →
+        map vote_of running.new.votes.items ≡ with_ballot (map vote_of running.old.votes.items)
+        (vote_made config.me (site_of running.old acks cell))) }
 {
     if has_voted(running.votes.as_slice(), config.me) {
         return Ok(());
@@ -271,11 +295,14 @@ fn take_vote<M: Machine>(
     requires known { length vote.known ≤ length running.old.known }
     requires change { is_normal running.old.status ≡ false }
     requires mine { primary config.f running.old.view ≡ config.me }
-    ensures sound { OnOk result ((start : M) → IsSound M.Machine start config.f running.old → IsSound M.Machine start config.f running.new) }
+    ensures sound { OnOk result ((start : M) → IsSound M.Machine start config.f running.old →
+        IsSound M.Machine start config.f running.new) }
     ensures later { running.old.view ≤ running.new.view }
-    ensures step { (choose : Choice M.Cmd) (start : M) (acks : List Ack) (cell : Boot) → IsRight config.f choose → IsRunning M.Machine start config.f running.old acks →
+    ensures step { (choose : Choice M.Cmd) (start : M) (acks : List Ack) (cell : Boot) →
+        IsRight config.f choose → IsRunning M.Machine start config.f running.old acks →
         Follows M.Machine start config.f config.me running.new result (
-        vote_goes_on choose config.f config.me (vote_of vote) (site_of running.old acks cell) sent.items) }
+        vote_goes_on choose config.f config.me (vote_of vote)
+        (site_of running.old acks cell) sent.items) }
 {
     let told = &vote.known;
     if !votes_now(running, told, vote.from, config.me) {
@@ -298,11 +325,14 @@ fn keep_vote<M: Machine>(
     sent: Vec<Envelope<M>>,
 ) -> Result<Outcome<M>, AllocError>
     requires { length vote.known ≤ length running.old.known }
-    ensures sound { OnOk result ((start : M) (f : ℕ) → IsSound M.Machine start f running.old → IsSound M.Machine start f running.new) }
+    ensures sound { OnOk result ((start : M) (f : ℕ) → IsSound M.Machine start f running.old →
+        IsSound M.Machine start f running.new) }
     ensures later { running.old.view ≤ running.new.view }
-    ensures step { (start : M) (f me : ℕ) (acks : List Ack) (cell : Boot) → IsRunning M.Machine start f running.old acks →
+    ensures step { (start : M) (f me : ℕ) (acks : List Ack) (cell : Boot) →
+        IsRunning M.Machine start f running.old acks →
         Follows M.Machine start f me running.new result (
-        does (with_vote (vote_of vote) (learns vote.known (site_of running.old acks cell))) sent.items) }
+        does (with_vote (vote_of vote) (learns vote.known (site_of running.old acks cell)))
+        sent.items) }
 {
     learn(running, &vote.known);
     if has_voted(running.votes.as_slice(), vote.from) {

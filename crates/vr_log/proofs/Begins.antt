@@ -23,11 +23,13 @@ row_decides {C} same tells a b =
     parts e = (ap (λ (r : RowOf C). r.client) e, (ap (λ (r : RowOf C). r.number) e, ap (λ (r : RowOf C). r.cmd) e))
 
 -- a test of whether the first rows are these is the definition's
-pub begins_is : {C : Type 0} (same : C → C → Bool) → ((a b : C) → IsTrue (same a b) ↔ (a ≡ b)) → (b : Bool) (n : ℕ) (own log : List (RowOf C)) → n ≤ length own → Decides b (take n log ≡ take n own) → b ≡ starts_with (is_same_row same) log (take n own)
+pub begins_is : {C : Type 0} (same : C → C → Bool) → ((a b : C) → IsTrue (same a b) ↔ (a ≡ b)) → (b : Bool) (n : ℕ) (own log : List (RowOf C)) → n ≤ length own
+    → Decides b (take n log ≡ take n own) → b ≡ starts_with (is_same_row same) log (take n own)
 begins_is {C} same tells b n own log low h =
     let len : length (take n own) ≡ n = length-take-le n own low in
     same_from_decides b (starts_with (is_same_row same) log (take n own)) h
-    (Decides-like _ (turn len) (back len) (slice_eq-Decides (row_decides same tells) (take n own) (take (length (take n own)) log) (starts_with (is_same_row same) log (take n own)) refl))
+    (Decides-like _ (turn len) (back len) (slice_eq-Decides (row_decides same tells) (take n own) (take (length (take n own)) log)
+    (starts_with (is_same_row same) log (take n own)) refl))
   where
     turn : length (take n own) ≡ n → take n own ≡ take (length (take n own)) log → take n log ≡ take n own
     turn len e = ap (λ k. take k log) (sym len) ∙ sym e
@@ -44,20 +46,23 @@ begins_within n own log low e =
     omega arith
 
 -- a row after the first ones that stay
-pub row_there : {A : Type 0} (own rows : List A) (base at : ℕ) (d : A) → base ≤ length own → base ≤ at → get_or (take base own ++ rows) at d ≡ get_or rows (at - base) d
+pub row_there : {A : Type 0} (own rows : List A) (base at : ℕ) (d : A) → base ≤ length own → base ≤ at
+    → get_or (take base own ++ rows) at d ≡ get_or rows (at - base) d
 row_there own rows base at d low le =
     let len : length (take base own) ≡ base = length-take-le base own low in
     let i : at ≡ length (take base own) + (at - base) = omega arith in
     ap (λ k. get_or (take base own ++ rows) k d) i ∙ get_or-append-add (take base own) rows (at - base) d
 
 -- where the first rows are one, so is each of them
-pub one_there : {A : Type 0} (own rows : List A) (base at n : ℕ) (a b : A) → base ≤ length own → base ≤ at → at < n → a ≡ get_or rows (at - base) a → slice_get own at ≡ Some b → take n (take base own ++ rows) ≡ take n own → a ≡ b
+pub one_there : {A : Type 0} (own rows : List A) (base at n : ℕ) (a b : A) → base ≤ length own → base ≤ at → at < n → a ≡ get_or rows (at - base) a
+    → slice_get own at ≡ Some b → take n (take base own ++ rows) ≡ take n own → a ≡ b
 one_there own rows base at n a b low le lt ea eb e =
     ea ∙ sym (row_there own rows base at a low le) ∙ sym (get_or-take n (take base own ++ rows) at a lt)
     ∙ ap (λ l. get_or l at a) e ∙ get_or-take n own at a lt ∙ get_or_from_slice_get own at b a eb
 
 -- one more row is the same
-pub one_more : {A : Type 0} (own rows : List A) (base at : ℕ) (a b : A) → base ≤ length own → base ≤ at → at < base + length rows → a ≡ get_or rows (at - base) a → slice_get own at ≡ Some b → a ≡ b
+pub one_more : {A : Type 0} (own rows : List A) (base at : ℕ) (a b : A) → base ≤ length own → base ≤ at → at < base + length rows
+    → a ≡ get_or rows (at - base) a → slice_get own at ≡ Some b → a ≡ b
     → take at (take base own ++ rows) ≡ take at own → take (at + 1) (take base own ++ rows) ≡ take (at + 1) own
 one_more own rows base at a b low le lt ea eb e so_far =
     let len : length (take base own) ≡ base = length-take-le base own low in

@@ -20,13 +20,16 @@ module _ {H C R O S : Type 0} (m : Ghosts H C R O S) (start : H) where
   held_after-snoc rows row = fold-append (λ now r. m.after now r.client r.cmd) start rows (row ∷ [])
 
   -- the answer to a row depends on the rows before it alone
-  pub answer_at-append : (rows more : List (RowOf C)) (place : ℕ) (row : RowOf C) → place ≤ length rows + 1 → answer_at m start (rows ++ more) place row ≡ answer_at m start rows place row
+  pub answer_at-append : (rows more : List (RowOf C)) (place : ℕ) (row : RowOf C) → place ≤ length rows + 1
+      → answer_at m start (rows ++ more) place row ≡ answer_at m start rows place row
   answer_at-append rows more place row le =
       let low : place - 1 ≤ length rows = omega arith in
       ap (λ before. m.answer (held_after m start before) row.client row.cmd) (take-append-le (place - 1) rows more low)
 
   -- one more row is executed
-  pub last_answer-snoc : (rows : List (RowOf C)) (row : RowOf C) (q : ℕ) → last_answer m start (rows ++ row ∷ []) q ≡ (if row.client == q then Some (row.number, m.answer (held_after m start rows) row.client row.cmd) else last_answer m start rows q)
+  pub last_answer-snoc : (rows : List (RowOf C)) (row : RowOf C) (q : ℕ)
+      → last_answer m start (rows ++ row ∷ []) q ≡ (if row.client == q then Some (row.number, m.answer (held_after m start rows) row.client row.cmd)
+      else last_answer m start rows q)
   last_answer-snoc rows row q = ap told (last_of-snoc rows row q) ∙ by_test (row.client == q)
     where
       all : List (RowOf C)
@@ -36,30 +39,38 @@ module _ {H C R O S : Type 0} (m : Ghosts H C R O S) (start : H) where
       told last = option_map (λ placed. (placed.1.number, answer_at m start all placed.0 placed.1)) last
 
       new : answer_at m start all (length rows + 1) row ≡ m.answer (held_after m start rows) row.client row.cmd
-      new = let e : length rows + 1 - 1 ≡ length rows = omega arith in ap (λ before. m.answer (held_after m start before) row.client row.cmd) (ap (λ n. take n all) e ∙ take-append_seam rows (row ∷ []))
+      new = let e : length rows + 1 - 1 ≡ length rows = omega arith in
+          ap (λ before. m.answer (held_after m start before) row.client row.cmd) (ap (λ n. take n all) e ∙ take-append_seam rows (row ∷ []))
 
-      old : (last : Option (ℕ × RowOf C)) → last_of rows q ≡ last → told last ≡ option_map (λ placed. (placed.1.number, answer_at m start rows placed.0 placed.1)) last
+      old : (last : Option (ℕ × RowOf C)) → last_of rows q ≡ last
+          → told last ≡ option_map (λ placed. (placed.1.number, answer_at m start rows placed.0 placed.1)) last
       old None e = refl
       old (Some placed) e =
           let at = last_of-placed rows q placed e in
           let within = slice_get_within rows (placed.0 - 1) placed.1 at.there in
-          ap (λ reply. let o : Option (ℕ × R) = Some (placed.1.number, reply) in o) (answer_at-append rows (row ∷ []) placed.0 placed.1 (omega (arith, within, at.after)))
+          ap (λ reply. let o : Option (ℕ × R) = Some (placed.1.number, reply) in
+          o) (answer_at-append rows (row ∷ []) placed.0 placed.1 (omega (arith, within, at.after)))
 
-      by_test : (b : Bool) → told (if b then Some (length rows + 1, row) else last_of rows q) ≡ (if b then Some (row.number, m.answer (held_after m start rows) row.client row.cmd) else last_answer m start rows q)
+      by_test : (b : Bool)
+          → told (if b then Some (length rows + 1, row) else last_of rows q)
+          ≡ (if b then Some (row.number, m.answer (held_after m start rows) row.client row.cmd) else last_answer m start rows q)
       by_test true = ap (λ reply. let o : Option (ℕ × R) = Some (row.number, reply) in o) new
       by_test false = old (last_of rows q) refl
 
   -- a row was added and noted
   pub IsKept-append : (k n : Kept H C R O S) (row : RowOf C) → n.log ≡ k.log ++ row ∷ [] → n.done ≡ k.done → n.machine ≡ k.machine
-      → ((q : ℕ) → newest_in n.clients q ≡ (if row.client == q then row.number else newest_in k.clients q)) → ((q : ℕ) → reply_in n.clients q ≡ reply_in k.clients q)
+      → ((q : ℕ) → newest_in n.clients q ≡ (if row.client == q then row.number else newest_in k.clients q))
+      → ((q : ℕ) → reply_in n.clients q ≡ reply_in k.clients q)
       → IsKept m start k → IsKept m start n
   IsKept-append k n row log done machine noted same was =
-      let first : take n.done n.log ≡ take k.done k.log = ap (λ d. take d n.log) done ∙ ap (λ l. take k.done l) log ∙ take-append-le k.done k.log (row ∷ []) was.within in
+      let first : take n.done n.log ≡ take k.done k.log =
+      ap (λ d. take d n.log) done ∙ ap (λ l. take k.done l) log ∙ take-append-le k.done k.log (row ∷ []) was.within in
       record {
         within = omega (arith, done, was.within, ap (λ l. length l) log ∙ length-append k.log (row ∷ []));
         count = ap m.count machine ∙ was.count ∙ sym done;
         held = machine ∙ was.held ∙ ap (held_after m start) (sym first);
-        newest = λ q. noted q ∙ ap (λ v. if row.client == q then row.number else v) (was.newest q) ∙ sym (newest-snoc k.log row q) ∙ ap (λ l. newest l q) (sym log);
+        newest =
+            λ q. noted q ∙ ap (λ v. if row.client == q then row.number else v) (was.newest q) ∙ sym (newest-snoc k.log row q) ∙ ap (λ l. newest l q) (sym log);
         replies = λ q. same q ∙ was.replies q ∙ ap (λ rows. last_answer m start rows q) (sym first);
       }
 

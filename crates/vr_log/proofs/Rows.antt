@@ -53,7 +53,8 @@ abbrev pub last_from : {C : Type 0} → Option (ℕ × RowOf C) → ℕ → List
 last_from before n rows client = last_or before (filter (λ placed. placed.1.client == client) (enumerate_from n rows))
 
 -- one more row at the end
-pub last_from-snoc : {C : Type 0} (before : Option (ℕ × RowOf C)) (n : ℕ) (rows : List (RowOf C)) (row : RowOf C) (q : ℕ) → last_from before n (rows ++ row ∷ []) q ≡ (if row.client == q then Some (n + length rows, row) else last_from before n rows q)
+pub last_from-snoc : {C : Type 0} (before : Option (ℕ × RowOf C)) (n : ℕ) (rows : List (RowOf C)) (row : RowOf C) (q : ℕ)
+    → last_from before n (rows ++ row ∷ []) q ≡ (if row.client == q then Some (n + length rows, row) else last_from before n rows q)
 last_from-snoc {C} before n [] row q = by_test (row.client == q)
   where
     by_test : (b : Bool) → last_or before (if b then (n, row) ∷ [] else []) ≡ (if b then Some (n + 0, row) else before)
@@ -68,17 +69,22 @@ last_from-snoc {C} before n (r ∷ rows) row q = by_test (r.client == q) (λ d. 
     shifted a b = omega arith
 
     by_test : (b : Bool) → ((d : Option (ℕ × RowOf C)) → last_from d (n + 1) (rows ++ row ∷ []) q ≡ found d (n + suc (length rows)))
-        → last_or before (if b then (n, r) ∷ filter (λ placed. placed.1.client == q) (enumerate_from (n + 1) (rows ++ row ∷ [])) else filter (λ placed. placed.1.client == q) (enumerate_from (n + 1) (rows ++ row ∷ [])))
-        ≡ (if row.client == q then Some (n + suc (length rows), row) else last_or before (if b then (n, r) ∷ filter (λ placed. placed.1.client == q) (enumerate_from (n + 1) rows) else filter (λ placed. placed.1.client == q) (enumerate_from (n + 1) rows)))
+        → last_or before (if b then (n, r) ∷ filter (λ placed. placed.1.client == q) (enumerate_from (n + 1) (rows ++ row ∷ []))
+        else filter (λ placed. placed.1.client == q) (enumerate_from (n + 1) (rows ++ row ∷ [])))
+        ≡ (if row.client == q then Some (n + suc (length rows), row)
+        else last_or before (if b then (n, r) ∷ filter (λ placed. placed.1.client == q) (enumerate_from (n + 1) rows)
+        else filter (λ placed. placed.1.client == q) (enumerate_from (n + 1) rows)))
     by_test true rest = rest (Some (n, r))
     by_test false rest = rest before
 
-pub last_of-snoc : {C : Type 0} (rows : List (RowOf C)) (row : RowOf C) (q : ℕ) → last_of (rows ++ row ∷ []) q ≡ (if row.client == q then Some (length rows + 1, row) else last_of rows q)
+pub last_of-snoc : {C : Type 0} (rows : List (RowOf C)) (row : RowOf C) (q : ℕ)
+    → last_of (rows ++ row ∷ []) q ≡ (if row.client == q then Some (length rows + 1, row) else last_of rows q)
 last_of-snoc {C} rows row q =
     let e : 1 + length rows ≡ length rows + 1 = omega arith in
     last_from-snoc None 1 rows row q ∙ ap (λ k. let p : Option (ℕ × RowOf C) = if row.client == q then Some (k, row) else last_of rows q in p) e
 
-pub newest-snoc : {C : Type 0} (rows : List (RowOf C)) (row : RowOf C) (q : ℕ) → newest (rows ++ row ∷ []) q ≡ (if row.client == q then row.number else newest rows q)
+pub newest-snoc : {C : Type 0} (rows : List (RowOf C)) (row : RowOf C) (q : ℕ)
+    → newest (rows ++ row ∷ []) q ≡ (if row.client == q then row.number else newest rows q)
 newest-snoc {C} rows row q = ap number (last_of-snoc rows row q) ∙ by_test (row.client == q)
   where
     number : Option (ℕ × RowOf C) → ℕ
@@ -89,7 +95,8 @@ newest-snoc {C} rows row q = ap number (last_of-snoc rows row q) ∙ by_test (ro
     by_test false = refl
 
 -- the row at a place is noted behind a log and the rows before it
-pub newest_next : {C : Type 0} (log rows : List (RowOf C)) (at : ℕ) (row : RowOf C) (q : ℕ) → slice_get rows at ≡ Some row → (if row.client == q then row.number else newest (log ++ take at rows) q) ≡ newest (log ++ take (at + 1) rows) q
+pub newest_next : {C : Type 0} (log rows : List (RowOf C)) (at : ℕ) (row : RowOf C) (q : ℕ) → slice_get rows at ≡ Some row
+    → (if row.client == q then row.number else newest (log ++ take at rows) q) ≡ newest (log ++ take (at + 1) rows) q
 newest_next log rows at row q there =
     let before = log ++ take at rows in
     sym (newest-snoc before row q)
@@ -107,7 +114,8 @@ placed_later n row rows q p h =
     let e : p.0 - n ≡ suc (p.0 - (n + 1)) = omega (arith, h.after) in
     record { after = omega (arith, h.after); there = rw e h.there; whose = h.whose }
 
-pub last_from-placed : {C : Type 0} (before : Option (ℕ × RowOf C)) (n : ℕ) (rows : List (RowOf C)) (q : ℕ) (p : ℕ × RowOf C) → last_from before n rows q ≡ Some p → (before ≡ Some p) ⊎ IsPlaced n rows q p
+pub last_from-placed : {C : Type 0} (before : Option (ℕ × RowOf C)) (n : ℕ) (rows : List (RowOf C)) (q : ℕ) (p : ℕ × RowOf C)
+    → last_from before n rows q ≡ Some p → (before ≡ Some p) ⊎ IsPlaced n rows q p
 last_from-placed before n [] q p h = inl h
 last_from-placed {C} before n (r ∷ rows) q p h = by_test (r.client == q) (λ e. eqb→eq r.client q (rw e tt)) (λ d e. last_from-placed d (n + 1) rows q p e) h
   where
@@ -116,11 +124,16 @@ last_from-placed {C} before n (r ∷ rows) q p h = by_test (r.client == q) (λ e
         let at : n ≡ p.0 = cc in
         let row : r ≡ p.1 = cc in
         let none : p.0 - n ≡ 0 = omega arith in
-        record { after = omega arith; there = rw none (ap (λ (x : RowOf C). let o : Option (RowOf C) = Some x in o) row); whose = ap (λ x. x.client) (sym row) ∙ mine }
+        record {
+          after = omega arith;
+          there = rw none (ap (λ (x : RowOf C). let o : Option (RowOf C) = Some x in o) row);
+          whose = ap (λ x. x.client) (sym row) ∙ mine;
+        }
 
     by_test : (b : Bool) → (b ≡ true → r.client ≡ q)
         → ((d : Option (ℕ × RowOf C)) → last_from d (n + 1) rows q ≡ Some p → (d ≡ Some p) ⊎ IsPlaced (n + 1) rows q p)
-        → last_or before (if b then (n, r) ∷ filter (λ placed. placed.1.client == q) (enumerate_from (n + 1) rows) else filter (λ placed. placed.1.client == q) (enumerate_from (n + 1) rows)) ≡ Some p
+        → last_or before (if b then (n, r) ∷ filter (λ placed. placed.1.client == q) (enumerate_from (n + 1) rows)
+        else filter (λ placed. placed.1.client == q) (enumerate_from (n + 1) rows)) ≡ Some p
         → (before ≡ Some p) ⊎ IsPlaced n (r ∷ rows) q p
     by_test true mine rest e = elim (rest (Some (n, r)) e) [ inl same ↦ inr (first (mine refl) same) | inr placed ↦ inr (placed_later n r rows q p placed) ]
     by_test false mine rest e = elim (rest before e) [ inl same ↦ inl same | inr placed ↦ inr (placed_later n r rows q p placed) ]
@@ -144,7 +157,8 @@ places_next d n le =
     rw e (range_more (d + 1) (n - d) ∙ ap (λ k. range_with_len (d + 1) (n - d) ++ k ∷ []) last)
 
 -- what is given at one more place
-pub given_next : {Y : Type 0} (h : ℕ → Option Y) (d n : ℕ) (y : Y) → d ≤ n → h (n + 1) ≡ Some y → filter_map h (places_between d (n + 1)) ≡ filter_map h (places_between d n) ++ y ∷ []
+pub given_next : {Y : Type 0} (h : ℕ → Option Y) (d n : ℕ) (y : Y) → d ≤ n → h (n + 1) ≡ Some y
+    → filter_map h (places_between d (n + 1)) ≡ filter_map h (places_between d n) ++ y ∷ []
 given_next h d n y le e =
     ap (filter_map h) (places_next d n le) ∙ filter_map-append h (places_between d n) ((n + 1) ∷ [])
     ∙ ap (λ o. filter_map h (places_between d n) ++ cons_option o []) e

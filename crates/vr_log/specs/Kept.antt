@@ -33,7 +33,8 @@ pub record KeepsExecuted {H C R O S : Type 0} (k : Kept H C R O S) (log : List (
   pub within : k.done ≤ length log
   pub same : take k.done log ≡ take k.done k.log
 
--- The machine went from start through the first rows, as many as are done; the table says of each client what the log and the executed rows say.
+-- The machine went from start through the first rows, as many as are done; the table says of each client what the log
+-- and the executed rows say.
 pub record IsKept {H C R O S : Type 0} (m : Ghosts H C R O S) (start : H) (k : Kept H C R O S) : Type 0 where
   pub within : k.done ≤ length k.log
   pub count : m.count k.machine ≡ k.done
@@ -43,4 +44,9 @@ pub record IsKept {H C R O S : Type 0} (m : Ghosts H C R O S) (start : H) (k : K
 
 -- an answer in an envelope
 abbrev pub reply_mail : {C R O : Type 0} → ℕ → ℕ → AnswerOf R → EnvelopeOf C R O
-reply_mail me view answer = record { from = actor_of me; to = answer.client; msg = Reply (record { view = view; number = answer.number; reply = answer.reply }) }
+reply_mail me view answer =
+    record {
+      from = actor_of me;
+      to = answer.client;
+      msg = Reply (record { view = view; number = answer.number; reply = answer.reply });
+    }

@@ -16,13 +16,15 @@ use Rattle.vr_log.specs.Outcomes.{ended}
 
 -- a kept vote
 abbrev pub vote_of : {C : Type 0} → VoteOf C → Vote C
-vote_of vote = record { from = vote.from; last_normal = vote.last_normal; done = vote.done; log = vote.log; known = vote.known }
+vote_of vote =
+    record { from = vote.from; last_normal = vote.last_normal; done = vote.done; log = vote.log; known = vote.known }
 
 -- a kept STARTVIEWCHANGE
 abbrev pub start_of : StartOf → Start
 start_of start = record { from = start.from; known = start.known }
 
--- One number a site sums up the acknowledgements that came: site j has acknowledged the first n rows exactly where n is at most its number.
+-- One number a site sums up the acknowledgements that came: site j has acknowledged the first n rows exactly where n is
+-- at most its number.
 abbrev pub SumUp : List ℕ → List Ack → Type 0
 SumUp acked acks = (j n : ℕ) → has_acknowledged acks n j ≡ nat_le n (slice_index acked j)
 
@@ -34,13 +36,22 @@ site_of r acks cell = record {
   last_normal = r.last_normal;
   log = r.kept.log;
   done = r.kept.done;
-  collected = record { acks = acks; starts = map start_of r.starts.items; voted = r.voted; votes = map vote_of r.votes.items; responses = [] };
+  collected =
+      record {
+        acks = acks;
+        starts = map start_of r.starts.items;
+        voted = r.voted;
+        votes = map vote_of r.votes.items;
+        responses = [];
+      };
   known = r.known;
   cell = cell;
 }
 
--- what runs is kept from this start, has a number of rows and of boots for each of 2f+1 sites, is normal or in change, and keeps one vote of a site
-pub record IsSound {H C R O S : Type 0} (m : Ghosts H C R O S) (start : H) (f : ℕ) (r : Running H C R O S) : Type 0 where
+-- what runs is kept from this start, has a number of rows and of boots for each of 2f+1 sites, is normal or in change,
+-- and keeps one vote of a site
+pub record IsSound {H C R O S : Type 0} (m : Ghosts H C R O S) (start : H) (f : ℕ) (r : Running H C R O S)
+    : Type 0 where
   pub kept : IsKept m start r.kept
   pub sites : length r.acked.items ≡ 2 * f + 1
   pub known : length r.known ≡ 2 * f + 1
@@ -48,17 +59,21 @@ pub record IsSound {H C R O S : Type 0} (m : Ghosts H C R O S) (start : H) (f : 
   pub votes : OneEach (λ vote. vote.from) (map vote_of r.votes.items)
 
 -- the same, where these acknowledgements came
-pub record IsRunning {H C R O S : Type 0} (m : Ghosts H C R O S) (start : H) (f : ℕ) (r : Running H C R O S) (acks : List Ack) : Type 0 where
+pub record IsRunning {H C R O S : Type 0} (m : Ghosts H C R O S) (start : H) (f : ℕ) (r : Running H C R O S)
+    (acks : List Ack) : Type 0 where
   pub sound : IsSound m start f r
   pub summed : SumUp r.acked.items acks
 
 -- What was done is the step: what runs shows the site after it, and the outcome is the step's.
-pub record Meets {H C R O S : Type 0} (m : Ghosts H C R O S) (start : H) (f me : ℕ) (r : Running H C R O S) (out : OutcomeOf C R O) (step : Step C R O) : Type 0 where
+pub record Meets {H C R O S : Type 0} (m : Ghosts H C R O S) (start : H) (f me : ℕ) (r : Running H C R O S)
+    (out : OutcomeOf C R O) (step : Step C R O) : Type 0 where
   pub running : IsRunning m start f r step.site.collected.acks
   pub site : step.site ≡ site_of r step.site.collected.acks step.site.cell
   pub sent : out.sent.items ≡ envelopes m start me step
   pub ending : step.ending ≡ ended out.dropped
 
 -- What was done is the step; or a growth was refused, which comes only where the event is handled.
-abbrev pub Follows : {H C R O S : Type 0} → Ghosts H C R O S → H → ℕ → ℕ → Running H C R O S → Result (OutcomeOf C R O) AllocError → Step C R O → Type 0
-Follows m start f me r result step = MatchResult result (λ out. Meets m start f me r out step) (λ _. step.ending ≡ Handled)
+abbrev pub Follows : {H C R O S : Type 0} → Ghosts H C R O S → H → ℕ → ℕ → Running H C R O S
+    → Result (OutcomeOf C R O) AllocError → Step C R O → Type 0
+Follows m start f me r result step =
+    MatchResult result (λ out. Meets m start f me r out step) (λ _. step.ending ≡ Handled)

@@ -61,7 +61,8 @@ impl<R: Copy> ClientsOf<R> {
 
     /// Notes the number of a client's newest row. An `Err` leaves the table as it was.
     pub fn note(&mut self, client: u16, number: u32) -> Result<(), AllocError>
-        ensures ok { OnOk result ((q : ℕ) → newest_in self.new q ≡ (if client == q then number else newest_in self.old q)) }
+        ensures ok { OnOk result ((q : ℕ) →
+            newest_in self.new q ≡ (if client == q then number else newest_in self.old q)) }
         ensures err { OnErr result ((q : ℕ) → newest_in self.new q ≡ newest_in self.old q) }
         ensures replies { (q : ℕ) → reply_in self.new q ≡ reply_in self.old q }
     {
@@ -79,7 +80,9 @@ impl<R: Copy> ClientsOf<R> {
 
     /// Notes that a client's row of this number was executed and answered so. An `Err` leaves the table as it was.
     pub fn answered(&mut self, client: u16, number: u32, reply: R) -> Result<(), AllocError>
-        ensures ok { OnOk result ((q : ℕ) → reply_in self.new q ≡ (if client == q then Some (number, reply) else reply_in self.old q)) }
+        ensures ok { OnOk result ((q : ℕ) →
+            reply_in self.new q ≡ (if client == q then Some (number, reply)
+            else reply_in self.old q)) }
         ensures err { OnErr result ((q : ℕ) → reply_in self.new q ≡ reply_in self.old q) }
         ensures newest { (q : ℕ) → newest_in self.new q ≡ newest_in self.old q }
     {
@@ -112,7 +115,8 @@ impl<R: Copy> ClientsOf<R> {
 
     /// Notes the rows that come at a log's end. After an `Err` this may only be dropped.
     pub fn note_rows<C: Copy>(&mut self, rows: &RowsOf<C>) -> Result<(), AllocError>
-        ensures ok { OnOk result ((log : List (RowOf C)) → ((q : ℕ) → newest_in self.old q ≡ newest log q) →
+        ensures ok { OnOk result ((log : List (RowOf C)) →
+            ((q : ℕ) → newest_in self.old q ≡ newest log q) →
             (q : ℕ) → newest_in self.new q ≡ newest (log ++ rows.now) q) }
         ensures replies { (q : ℕ) → reply_in self.new q ≡ reply_in self.old q }
     {
@@ -124,7 +128,8 @@ impl<R: Copy> ClientsOf<R> {
 
     /// Notes the rows of a page that come at a log's end. After an `Err` this may only be dropped.
     fn note_page<C: Copy>(&mut self, page: &[RowOf<C>]) -> Result<(), AllocError>
-        ensures ok { OnOk result ((log : List (RowOf C)) → ((q : ℕ) → newest_in self.old q ≡ newest log q) →
+        ensures ok { OnOk result ((log : List (RowOf C)) →
+            ((q : ℕ) → newest_in self.old q ≡ newest log q) →
             (q : ℕ) → newest_in self.new q ≡ newest (log ++ page.now) q) }
         ensures replies { (q : ℕ) → reply_in self.new q ≡ reply_in self.old q }
     {
@@ -149,7 +154,8 @@ impl<R: Copy> ClientsOf<R> {
     /// A table with the same answers, and no numbers.
     fn without_numbers(&self) -> Result<Self, AllocError>
         ensures newest { IfOk result (λ clients. (q : ℕ) → newest_in clients q ≡ 0) }
-        ensures replies { IfOk result (λ clients. (q : ℕ) → reply_in clients q ≡ reply_in self.now q) }
+        ensures replies { IfOk result (λ clients. (q : ℕ) →
+            reply_in clients q ≡ reply_in self.now q) }
     {
         let mut table = Vec::with_capacity(self.alloc, self.table.len())?;
         for known in self.table.as_slice() {

@@ -40,7 +40,8 @@ impl<M: Machine> Kept<M> {
         ensures log { OnOk result (self.new.log ≡ self.old.log ++ row ∷ []) }
         ensures done { self.new.done ≡ self.old.done }
         ensures machine { self.new.machine ≡ self.old.machine }
-        ensures kept { OnOk result ((start : M) → IsKept M.Machine start self.old → IsKept M.Machine start self.new) }
+        ensures kept { OnOk result ((start : M) → IsKept M.Machine start self.old →
+            IsKept M.Machine start self.new) }
     {
         self.clients.note(row.client, row.number)?;
         self.log.push(row)?;
@@ -53,8 +54,10 @@ impl<M: Machine> Kept<M> {
         requires ready { IsReady M.Machine self.now }
         requires base { base ≤ length self.now.log }
         ensures same { (f : ℕ) (choose : Choice M.Cmd) → IsRight f choose →
-            result ≡ starts_with (same_row choose.same) (take base self.now.log ++ rows.now) (take self.now.done self.now.log) }
-        ensures keeps { IsTrue result → KeepsExecuted self.now (take base self.now.log ++ rows.now) }
+            result ≡ starts_with (same_row choose.same) (take base self.now.log ++ rows.now)
+            (take self.now.done self.now.log) }
+        ensures keeps { IsTrue result →
+            KeepsExecuted self.now (take base self.now.log ++ rows.now) }
     {
         let done = self.done as usize;
         let _len = self.log.len();
@@ -82,8 +85,11 @@ impl<M: Machine> Kept<M> {
         ensures log { OnOk result (self.new.log ≡ take base self.old.log ++ rows) }
         ensures done { self.new.done ≡ self.old.done }
         ensures machine { self.new.machine ≡ self.old.machine }
-        ensures kept { OnOk result ((start : M) → KeepsExecuted self.old (take base self.old.log ++ rows) → IsKept M.Machine start self.old → IsKept M.Machine start self.new) }
-        ensures ready { OnOk result (KeepsExecuted self.old (take base self.old.log ++ rows) → IsReady M.Machine self.old → IsReady M.Machine self.new) }
+        ensures kept { OnOk result ((start : M) →
+            KeepsExecuted self.old (take base self.old.log ++ rows) →
+            IsKept M.Machine start self.old → IsKept M.Machine start self.new) }
+        ensures ready { OnOk result (KeepsExecuted self.old (take base self.old.log ++ rows) →
+            IsReady M.Machine self.old → IsReady M.Machine self.new) }
     {
         if base == self.log.len() {
             self.clients.note_rows(&rows)?;
@@ -97,12 +103,15 @@ impl<M: Machine> Kept<M> {
     /// After an `Err` this may only be dropped.
     pub fn execute(&mut self, alloc: Global, upto: u16) -> Result<Vec<Answer<M>>, AllocError>
         requires { IsReady M.Machine self.old }
-        ensures done { OnOk result (self.new.done ≡ max self.old.done (min upto (length self.old.log))) }
+        ensures done { OnOk result (self.new.done ≡ max self.old.done
+            (min upto (length self.old.log))) }
         ensures log { self.new.log ≡ self.old.log }
         ensures ready { OnOk result (IsReady M.Machine self.new) }
-        ensures kept { OnOk result ((start : M) → IsKept M.Machine start self.old → IsKept M.Machine start self.new) }
+        ensures kept { OnOk result ((start : M) → IsKept M.Machine start self.old →
+            IsKept M.Machine start self.new) }
         ensures answers { IfOk result (λ answers. (start : M) → IsKept M.Machine start self.old →
-            answers.items ≡ filter_map (answer_to M.Machine start self.old.log) (places_between self.old.done self.new.done)) }
+            answers.items ≡ filter_map (answer_to M.Machine start self.old.log)
+            (places_between self.old.done self.new.done)) }
     {
         let mut answers = Vec::new(alloc);
         let end = (upto as usize).min(self.log.len());
@@ -121,7 +130,8 @@ impl<M: Machine> Kept<M> {
         ensures done { OnOk result (self.new.done ≡ self.old.done + 1) }
         ensures log { self.new.log ≡ self.old.log }
         ensures ready { OnOk result (IsReady M.Machine self.new) }
-        ensures kept { OnOk result ((start : M) → IsKept M.Machine start self.old → IsKept M.Machine start self.new) }
+        ensures kept { OnOk result ((start : M) → IsKept M.Machine start self.old →
+            IsKept M.Machine start self.new) }
         ensures answer { IfOk result (λ answer. (start : M) → IsKept M.Machine start self.old →
             answer_to M.Machine start self.old.log (self.old.done + 1) ≡ Some answer) }
     {

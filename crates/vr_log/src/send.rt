@@ -149,7 +149,9 @@ pub fn acknowledge_log<C: Drop, R: Drop, O: Drop>(
     view: u32,
     place: u16,
 ) -> Result<OutcomeOf<C, R, O>, AllocError>
-    ensures { IfOk result (λ out. Sends out (mail config.me (primary config.f view) (MsgOf.PrepareOk (record { view = view; place = place })) ∷ [])) }
+    ensures { IfOk result
+        (λ out. Sends out (mail config.me (primary config.f view)
+        (MsgOf.PrepareOk (record { view = view; place = place })) ∷ [])) }
 {
     let msg = MsgOf::PrepareOk(PrepareOk { view, place });
     sends_one(alloc, mail_to(config, primary_of(config, view), msg))
@@ -162,7 +164,8 @@ pub fn send_replies<C: Drop, R: Copy, O: Drop>(
     answers: &[AnswerOf<R>],
     sent: &mut Vec<EnvelopeOf<C, R, O>>,
 ) -> Result<(), AllocError>
-    ensures { OnOk result (sent.new.items ≡ sent.old.items ++ map (reply_mail config.me view) answers.now) }
+    ensures { OnOk result (sent.new.items ≡ sent.old.items
+        ++ map (reply_mail config.me view) answers.now) }
 {
     for answer in answers {
         let reply = MsgOf::Reply(ReplyOf {

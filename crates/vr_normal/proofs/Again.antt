@@ -29,15 +29,18 @@ module _ {H C R O S : Type 0} (m : Ghosts H C R O S) (start : H) (x : Site C) wh
   abbrev pub told : ℕ × RowOf C → ℕ × R
   told placed = (placed.1.number, answer_at m start (take x.done x.log) placed.0 placed.1)
 
-  pub again-none : (number newest : ℕ) (last : Option (ℕ × RowOf C)) → option_map told last ≡ None → ◌≡◌ {A = Step C R O} (answers_again x number newest last) (drops x Known)
+  pub again-none : (number newest : ℕ) (last : Option (ℕ × RowOf C)) → option_map told last ≡ None
+      → ◌≡◌ {A = Step C R O} (answers_again x number newest last) (drops x Known)
   again-none number newest None e = refl
   again-none number newest (Some placed) e = cc
 
-  pub again-other : (number newest : ℕ) (last : Option (ℕ × RowOf C)) → number ≢ newest → ◌≡◌ {A = Step C R O} (answers_again x number newest last) (drops x Known)
+  pub again-other : (number newest : ℕ) (last : Option (ℕ × RowOf C)) → number ≢ newest
+      → ◌≡◌ {A = Step C R O} (answers_again x number newest last) (drops x Known)
   again-other number newest None other = refl
   again-other number newest (Some placed) other = rw (ne_eqb _ _ other)
 
-  pub again-older : (number newest : ℕ) (last : Option (ℕ × RowOf C)) (a : ℕ × R) → option_map told last ≡ Some a → number ≡ newest → a.0 ≢ number → ◌≡◌ {A = Step C R O} (answers_again x number newest last) (drops x Known)
+  pub again-older : (number newest : ℕ) (last : Option (ℕ × RowOf C)) (a : ℕ × R) → option_map told last ≡ Some a → number ≡ newest → a.0 ≢ number
+      → ◌≡◌ {A = Step C R O} (answers_again x number newest last) (drops x Known)
   again-older number newest None a e same older = refl
   again-older number newest (Some placed) a e same older =
       let pair : told placed ≡ a = cc in
@@ -50,7 +53,8 @@ module _ {H C R O S : Type 0} (m : Ghosts H C R O S) (start : H) (x : Site C) wh
     pub step : ◌≡◌ {A = Step C R O} (answers_again x number newest last) (answers x (place ∷ []))
     pub answer : answer_to m start x.log place ≡ Some (record { client = q; number = a.0; reply = a.1 })
 
-  placed_answer : (q : ℕ) (p : ℕ × RowOf C) (a : ℕ × R) → last_of (take x.done x.log) q ≡ Some p → told p ≡ a → answer_to m start x.log p.0 ≡ Some (record { client = q; number = a.0; reply = a.1 })
+  placed_answer : (q : ℕ) (p : ℕ × RowOf C) (a : ℕ × R) → last_of (take x.done x.log) q ≡ Some p → told p ≡ a
+      → answer_to m start x.log p.0 ≡ Some (record { client = q; number = a.0; reply = a.1 })
   placed_answer q p a e pair =
       let rows = take x.done x.log in
       let at = last_of-placed rows q p e in
@@ -59,12 +63,14 @@ module _ {H C R O S : Type 0} (m : Ghosts H C R O S) (start : H) (x : Site C) wh
       let low : p.0 - 1 ≤ x.done = omega (arith, within, length-take x.done x.log) in
       let before = take-take (p.0 - 1) x.done x.log low in
       let made : ℕ → ℕ → R → Option (AnswerOf R) = λ client number reply. Some (record { client = client; number = number; reply = reply }) in
-      ap (option_map (λ (row : RowOf C). let o : AnswerOf R = record { client = row.client; number = row.number; reply = answer_at m start x.log p.0 row } in o)) there
+      ap (option_map (λ (row : RowOf C). let o : AnswerOf R = record { client = row.client; number = row.number; reply = answer_at m start x.log p.0 row } in
+      o)) there
       ∙ ap (λ client. made client p.1.number (answer_at m start x.log p.0 p.1)) at.whose
       ∙ ap (λ number. made q number (answer_at m start x.log p.0 p.1)) (ap (λ v. v.0) pair)
       ∙ ap (λ reply. made q a.0 reply) (ap (λ before. m.answer (held_after m start before) p.1.client p.1.cmd) (sym before) ∙ ap (λ v. v.1) pair)
 
-  pub again-same : (number newest q : ℕ) (last : Option (ℕ × RowOf C)) (a : ℕ × R) → last_of (take x.done x.log) q ≡ last → option_map told last ≡ Some a → number ≡ newest → a.0 ≡ number → IsAgain number newest q last a
+  pub again-same : (number newest q : ℕ) (last : Option (ℕ × RowOf C)) (a : ℕ × R) → last_of (take x.done x.log) q ≡ last → option_map told last ≡ Some a
+      → number ≡ newest → a.0 ≡ number → IsAgain number newest q last a
   again-same number newest q None a at e same now = absurd (cc)
   again-same number newest q (Some p) a at e same now =
       let pair : told p ≡ a = cc in
@@ -73,9 +79,11 @@ module _ {H C R O S : Type 0} (m : Ghosts H C R O S) (start : H) (x : Site C) wh
 
   -- the envelope that tells a client again
   pub again_mails : (me view number q place : ℕ) (last : ℕ × R) (e : EnvelopeOf C R O) (result : Result (OutcomeOf C R O) AllocError)
-      → e ≡ record { from = actor_of me; to = q; msg = Reply (record { view = view; number = number; reply = last.1 }) } → last.0 ≡ number → answer_to m start x.log place ≡ Some (record { client = q; number = last.0; reply = last.1 })
+      → e ≡ record { from = actor_of me; to = q; msg = Reply (record { view = view; number = number; reply = last.1 }) } → last.0 ≡ number
+      → answer_to m start x.log place ≡ Some (record { client = q; number = last.0; reply = last.1 })
       → IfOk result (λ out. Sends out (e ∷ [])) → IfOk result (λ out. Sends out (map (reply_mail me view) (filter_map (answer_to m start x.log) (place ∷ []))))
-  again_mails me view number q place last e result is now answer h = subst (λ mails. IfOk result (λ out. Sends out mails)) (ap one is ∙ ap again (sym now) ∙ ap mails (sym answer)) h
+  again_mails me view number q place last e result is now answer h =
+      subst (λ mails. IfOk result (λ out. Sends out mails)) (ap one is ∙ ap again (sym now) ∙ ap mails (sym answer)) h
     where
       one : EnvelopeOf C R O → List (EnvelopeOf C R O)
       one d = d ∷ []

@@ -26,10 +26,12 @@ get_or-any xs i d e h =
 pub count_by-same : {X : Type 0} (p q : X → Bool) (xs : List X) → ((x : X) → p x ≡ q x) → count_by p xs ≡ count_by q xs
 count_by-same p q [] e = refl
 count_by-same p q (x ∷ xs) e =
-    sum_by-cons (λ y. cond (p y) 1 0) x xs ∙ ap (λ b. cond b 1 0 + count_by p xs) (e x) ∙ ap (λ n. cond (q x) 1 0 + n) (count_by-same p q xs e) ∙ sym (sum_by-cons (λ y. cond (q y) 1 0) x xs)
+    sum_by-cons (λ y. cond (p y) 1 0) x xs ∙ ap (λ b. cond b 1 0 + count_by p xs) (e x) ∙ ap (λ n. cond (q x) 1 0 + n) (count_by-same p q xs e)
+    ∙ sym (sum_by-cons (λ y. cond (q y) 1 0) x xs)
 
 -- what the messages say, the numbers say
-pub IsLargest-summed : (f me : ℕ) (acked : List ℕ) (acks : List Ack) (place : ℕ) → SumUp acked acks → IsLargest (λ n. IsTrue (has_support f me acked n)) place → IsCommitPlace f me acks place
+pub IsLargest-summed : (f me : ℕ) (acked : List ℕ) (acks : List Ack) (place : ℕ) → SumUp acked acks → IsLargest (λ n. IsTrue (has_support f me acked n)) place
+    → IsCommitPlace f me acks place
 IsLargest-summed f me acked acks place s h = record {
   holds = let e = same place in let t = h.holds in grind (arith, nat_tests, e, t);
   largest = λ n k. let e = same n in h.largest n (grind (arith, nat_tests, e, k));
@@ -42,7 +44,8 @@ IsLargest-summed f me acked acks place s h = record {
 pub SumUp-more : (acked : List ℕ) (acks : List Ack) (from place rows : ℕ) → SumUp acked acks → from < length acked
     → SumUp (slice_set acked from (max (slice_index acked from) (min place rows))) (acks ++ record { from = from; place = place; rows = rows } ∷ [])
 SumUp-more acked acks from place rows s within = λ j n.
-    ap (λ b. (n == 0) || b) (list_any-append (λ (ack : Ack). (ack.from == j) && nat_le n (min ack.place ack.rows)) acks (record { from = from; place = place; rows = rows } ∷ []))
+    ap (λ b. (n == 0) || b) (list_any-append (λ (ack : Ack). (ack.from == j) && nat_le n (min ack.place ack.rows)) acks
+    (record { from = from; place = place; rows = rows } ∷ []))
     ∙ regroup (n == 0) (list_any (λ (ack : Ack). (ack.from == j) && nat_le n (min ack.place ack.rows)) acks) ((from == j) && nat_le n (min place rows))
     ∙ ap (λ b. b || ((from == j) && nat_le n (min place rows))) (s j n) ∙ by_site j n (eqb_tells from j)
   where
@@ -60,27 +63,33 @@ SumUp-more acked acks from place rows s within = λ j n.
     no_more false = refl
 
     by_site : (j n : ℕ) → ((from == j) ≡ true) × (from ≡ j) ⊎ ((from == j) ≡ false) × (from ≢ j)
-        → (nat_le n (slice_index acked j) || ((from == j) && nat_le n (min place rows))) ≡ nat_le n (slice_index (slice_set acked from (max (slice_index acked from) (min place rows))) j)
-    by_site j n (inl h) = rw (h.0) (rw (← h.1) (or_max n (slice_index acked from) (min place rows) ∙ ap (nat_le n) (sym (get_or-set_same acked from _ 0 within))))
+        → (nat_le n (slice_index acked j) || ((from == j) && nat_le n (min place rows)))
+        ≡ nat_le n (slice_index (slice_set acked from (max (slice_index acked from) (min place rows))) j)
+    by_site j n (inl h) =
+        rw (h.0) (rw (← h.1) (or_max n (slice_index acked from) (min place rows) ∙ ap (nat_le n) (sym (get_or-set_same acked from _ 0 within))))
     by_site j n (inr h) = rw (h.0) (no_more (nat_le n (slice_index acked j)) ∙ ap (nat_le n) (sym (get_or-set_other acked from j _ 0 (λ e. h.1 (sym e)))))
 
 -- one more site: it counts, where it isn't this one and its number is at least the place
 count_next : (n me place : ℕ) (acked : List ℕ) → n ≢ me
-    → count_by (λ j. nat_le place (slice_index acked j)) (others_below (n + 1) me) ≡ count_by (λ j. nat_le place (slice_index acked j)) (others_below n me) + (cond (nat_le place (slice_index acked n)) 1 0)
+    → count_by (λ j. nat_le place (slice_index acked j)) (others_below (n + 1) me) ≡ count_by (λ j. nat_le place (slice_index acked j))
+    (others_below n me) + (cond (nat_le place (slice_index acked n)) 1 0)
 count_next n me place acked ne =
     ap (count_by (λ j. nat_le place (slice_index acked j))) (others_below-other n me ne)
     ∙ sum_by-append (λ j. cond (nat_le place (slice_index acked j)) 1 0) (others_below n me) (n ∷ [])
-    ∙ ap (λ k. count_by (λ j. nat_le place (slice_index acked j)) (others_below n me) + k) (sum_by-cons (λ j. cond (nat_le place (slice_index acked j)) 1 0) n [] ∙ omega arith)
+    ∙ ap (λ k. count_by (λ j. nat_le place (slice_index acked j)) (others_below n me) + k)
+    (sum_by-cons (λ j. cond (nat_le place (slice_index acked j)) 1 0) n [] ∙ omega arith)
 
 pub count_yes : (n me place : ℕ) (acked : List ℕ) → n ≢ me → place ≤ slice_index acked n
     → count_by (λ j. nat_le place (slice_index acked j)) (others_below (n + 1) me) ≡ count_by (λ j. nat_le place (slice_index acked j)) (others_below n me) + 1
 count_yes n me place acked ne h =
-    count_next n me place acked ne ∙ ap (λ b. count_by (λ j. nat_le place (slice_index acked j)) (others_below n me) + cond b 1 0) (le-leb place (slice_index acked n) h)
+    count_next n me place acked ne ∙ ap (λ b. count_by (λ j. nat_le place (slice_index acked j)) (others_below n me) + cond b 1 0)
+    (le-leb place (slice_index acked n) h)
 
 pub count_no : (n me place : ℕ) (acked : List ℕ) → n ≢ me → slice_index acked n < place
     → count_by (λ j. nat_le place (slice_index acked j)) (others_below (n + 1) me) ≡ count_by (λ j. nat_le place (slice_index acked j)) (others_below n me)
 count_no n me place acked ne h =
-    count_next n me place acked ne ∙ ap (λ b. count_by (λ j. nat_le place (slice_index acked j)) (others_below n me) + cond b 1 0) (lt-leb place (slice_index acked n) h) ∙ omega arith
+    count_next n me place acked ne ∙ ap (λ b. count_by (λ j. nat_le place (slice_index acked j)) (others_below n me) + cond b 1 0)
+    (lt-leb place (slice_index acked n) h) ∙ omega arith
 
 pub count_me : (n me place : ℕ) (acked : List ℕ) → n ≡ me
     → count_by (λ j. nat_le place (slice_index acked j)) (others_below (n + 1) me) ≡ count_by (λ j. nat_le place (slice_index acked j)) (others_below n me)
@@ -96,12 +105,15 @@ bound_of (x ∷ xs) = let rest = bound_of xs in (max x rest.0, by_place x rest.0
     by_place x b h (suc j) = let low = h j in omega arith
 
 -- where nobody stands at n, as many stand above it as at it
-none_at : (acked : List ℕ) (n : ℕ) (xs : List ℕ) → list_any (λ j. slice_index acked j == n) xs ≡ false → count_by (λ j. nat_le n (slice_index acked j)) xs ≡ count_by (λ j. nat_le (n + 1) (slice_index acked j)) xs
+none_at : (acked : List ℕ) (n : ℕ) (xs : List ℕ) → list_any (λ j. slice_index acked j == n) xs ≡ false
+    → count_by (λ j. nat_le n (slice_index acked j)) xs ≡ count_by (λ j. nat_le (n + 1) (slice_index acked j)) xs
 none_at acked n [] e = refl
 none_at acked n (x ∷ xs) e =
     sum_by-cons (λ j. cond (nat_le n (slice_index acked j)) 1 0) x xs
-    ∙ ap (λ b. cond b 1 0 + count_by (λ j. nat_le n (slice_index acked j)) xs) (here (slice_index acked x) (neither (slice_index acked x == n) (list_any (λ j. slice_index acked j == n) xs) e).0)
-    ∙ ap (λ k. cond (nat_le (n + 1) (slice_index acked x)) 1 0 + k) (none_at acked n xs (neither (slice_index acked x == n) (list_any (λ j. slice_index acked j == n) xs) e).1)
+    ∙ ap (λ b. cond b 1 0 + count_by (λ j. nat_le n (slice_index acked j)) xs)
+    (here (slice_index acked x) (neither (slice_index acked x == n) (list_any (λ j. slice_index acked j == n) xs) e).0)
+    ∙ ap (λ k. cond (nat_le (n + 1) (slice_index acked x)) 1 0 + k)
+    (none_at acked n xs (neither (slice_index acked x == n) (list_any (λ j. slice_index acked j == n) xs) e).1)
     ∙ sym (sum_by-cons (λ j. cond (nat_le (n + 1) (slice_index acked j)) 1 0) x xs)
   where
     neither : (a b : Bool) → (a || b) ≡ false → (a ≡ false) × (b ≡ false)
@@ -117,19 +129,23 @@ stands_at acked n [] e = absurd (true≢false (sym e))
 stands_at acked n (x ∷ xs) e = by_test (eqb_tells (slice_index acked x) n) e (λ h. stands_at acked n xs h)
   where
     by_test : ((slice_index acked x == n) ≡ true) × (slice_index acked x ≡ n) ⊎ ((slice_index acked x == n) ≡ false) × (slice_index acked x ≢ n)
-        → ((slice_index acked x == n) || list_any (λ j. slice_index acked j == n) xs) ≡ true → (list_any (λ j. slice_index acked j == n) xs ≡ true → (j : ℕ) × (slice_index acked j ≡ n)) → (j : ℕ) × (slice_index acked j ≡ n)
+        → ((slice_index acked x == n) || list_any (λ j. slice_index acked j == n) xs) ≡ true
+        → (list_any (λ j. slice_index acked j == n) xs ≡ true → (j : ℕ) × (slice_index acked j ≡ n)) → (j : ℕ) × (slice_index acked j ≡ n)
     by_test (inl h) e rest = (x, h.1)
     by_test (inr h) e rest = rest (ap (λ b. b || list_any (λ j. slice_index acked j == n) xs) (sym h.0) ∙ e)
 
 -- a place with support isn't above all numbers with support
-above_all : (f me : ℕ) (acked : List ℕ) (place bound : ℕ) → 1 ≤ f → ((j : ℕ) → slice_index acked j ≤ bound) → ((j : ℕ) → has_support f me acked (slice_index acked j) ≡ true → slice_index acked j ≤ place)
+above_all : (f me : ℕ) (acked : List ℕ) (place bound : ℕ) → 1 ≤ f → ((j : ℕ) → slice_index acked j ≤ bound)
+    → ((j : ℕ) → has_support f me acked (slice_index acked j) ≡ true → slice_index acked j ≤ place)
     → (gap n : ℕ) → bound < n + gap → place < n → has_support f me acked n ≡ true → ⊥
 above_all f me acked place bound some low most zero n far above h =
     let none : count_by (λ j. nat_le n (slice_index acked j)) (others f me) ≡ 0 =
     count_by-none (λ j. nat_le n (slice_index acked j)) (others f me) (λ j. lt-leb n (slice_index acked j) (let l = low j in omega arith)) in
     true≢false (sym h ∙ ap (nat_le f) none ∙ lt-leb f 0 some)
 above_all f me acked place bound some low most (suc gap) n far above h =
-    by_test (list_any (λ j. slice_index acked j == n) (others f me)) refl (λ e. above_all f me acked place bound some low most gap (n + 1) (omega arith) (omega arith) (ap (nat_le f) (sym (none_at acked n (others f me) e)) ∙ h))
+    by_test (list_any (λ j. slice_index acked j == n) (others f me)) refl
+    (λ e. above_all f me acked place bound some low most gap (n + 1) (omega arith) (omega arith)
+    (ap (nat_le f) (sym (none_at acked n (others f me) e)) ∙ h))
   where
     by_test : (b : Bool) → list_any (λ j. slice_index acked j == n) (others f me) ≡ b → (list_any (λ j. slice_index acked j == n) (others f me) ≡ false → ⊥) → ⊥
     by_test false e rest = rest e
@@ -166,18 +182,22 @@ pub record IsBest (f me : ℕ) (acked : List ℕ) (count place : ℕ) : Type 0 w
 pub best_none : (f me : ℕ) (acked : List ℕ) → IsBest f me acked 0 0
 best_none f me acked = record { supported = supports_none f me acked; greatest = λ j low h. absurd (omega arith) }
 
-pub best_taken : (f me : ℕ) (acked : List ℕ) (i place : ℕ) → IsBest f me acked i place → has_support f me acked (slice_index acked i) ≡ true → place < slice_index acked i → IsBest f me acked (i + 1) (slice_index acked i)
+pub best_taken : (f me : ℕ) (acked : List ℕ) (i place : ℕ) → IsBest f me acked i place → has_support f me acked (slice_index acked i) ≡ true
+    → place < slice_index acked i → IsBest f me acked (i + 1) (slice_index acked i)
 best_taken f me acked i place best h above = record {
   supported = h;
   greatest = below_more _ i (λ j low s. let under = best.greatest j low s in omega arith) (λ s. omega arith);
 }
 
-pub best_kept : (f me : ℕ) (acked : List ℕ) (i place : ℕ) → IsBest f me acked i place → (has_support f me acked (slice_index acked i) ≡ true → slice_index acked i ≤ place) → IsBest f me acked (i + 1) place
+pub best_kept : (f me : ℕ) (acked : List ℕ) (i place : ℕ) → IsBest f me acked i place
+    → (has_support f me acked (slice_index acked i) ≡ true → slice_index acked i ≤ place) → IsBest f me acked (i + 1) place
 best_kept f me acked i place best h = record { supported = best.supported; greatest = below_more _ i best.greatest h }
 
-pub best_is_largest : (f me : ℕ) (acked : List ℕ) (place : ℕ) → 1 ≤ f → IsBest f me acked (length acked) place → IsLargest (λ n. IsTrue (has_support f me acked n)) place
+pub best_is_largest : (f me : ℕ) (acked : List ℕ) (place : ℕ) → 1 ≤ f → IsBest f me acked (length acked) place
+    → IsLargest (λ n. IsTrue (has_support f me acked n)) place
 best_is_largest f me acked place some best = IsLargest-candidate f me acked place some best.supported (λ j s. by_place j s (leb_tells (length acked) j))
   where
-    by_place : (j : ℕ) → has_support f me acked (slice_index acked j) ≡ true → ((nat_le (length acked) j ≡ true) × (length acked ≤ j)) ⊎ ((nat_le (length acked) j ≡ false) × (j < length acked)) → slice_index acked j ≤ place
+    by_place : (j : ℕ) → has_support f me acked (slice_index acked j) ≡ true
+        → ((nat_le (length acked) j ≡ true) × (length acked ≤ j)) ⊎ ((nat_le (length acked) j ≡ false) × (j < length acked)) → slice_index acked j ≤ place
     by_place j s (inl p) = let past = get_or_past acked j 0 p.1 in omega arith
     by_place j s (inr p) = best.greatest j p.1 s

@@ -26,11 +26,14 @@ pub fn prepare<M: Machine>(
     msg: PrepareOf<M::Cmd>,
 ) -> Result<Outcome<M>, AllocError>
     requires { IsReady M.Machine running.old.kept }
-    ensures sound { OnOk result ((start : M) → IsSound M.Machine start config.f running.old → IsSound M.Machine start config.f running.new) }
+    ensures sound { OnOk result ((start : M) → IsSound M.Machine start config.f running.old →
+        IsSound M.Machine start config.f running.new) }
     ensures status { running.new.status ≡ running.old.status }
     ensures view { running.new.view ≡ running.old.view }
-    ensures step { (start : M) (acks : List Ack) (cell : Boot) → IsRunning M.Machine start config.f running.old acks →
-        Follows M.Machine start config.f config.me running.new result (on_prepare config.f config.me (site_of running.old acks cell) from msg) }
+    ensures step { (start : M) (acks : List Ack) (cell : Boot) →
+        IsRunning M.Machine start config.f running.old acks →
+        Follows M.Machine start config.f config.me running.new result
+        (on_prepare config.f config.me (site_of running.old acks cell) from msg) }
 {
     if primary_of(config, msg.view) != from {
         return Ok(dropped(alloc, Why::NotPrimary));
@@ -53,11 +56,14 @@ pub fn commit<M: Machine>(
     msg: Commit,
 ) -> Result<Outcome<M>, AllocError>
     requires { IsReady M.Machine running.old.kept }
-    ensures sound { OnOk result ((start : M) → IsSound M.Machine start config.f running.old → IsSound M.Machine start config.f running.new) }
+    ensures sound { OnOk result ((start : M) → IsSound M.Machine start config.f running.old →
+        IsSound M.Machine start config.f running.new) }
     ensures status { running.new.status ≡ running.old.status }
     ensures view { running.new.view ≡ running.old.view }
-    ensures step { (start : M) (acks : List Ack) (cell : Boot) → IsRunning M.Machine start config.f running.old acks →
-        Follows M.Machine start config.f config.me running.new result (on_commit config.f config.me (site_of running.old acks cell) from msg) }
+    ensures step { (start : M) (acks : List Ack) (cell : Boot) →
+        IsRunning M.Machine start config.f running.old acks →
+        Follows M.Machine start config.f config.me running.new result
+        (on_commit config.f config.me (site_of running.old acks cell) from msg) }
 {
     if primary_of(config, msg.view) != from {
         return Ok(dropped(alloc, Why::NotPrimary));
@@ -86,11 +92,14 @@ fn take_row<M: Machine>(
     msg: PrepareOf<M::Cmd>,
 ) -> Result<Outcome<M>, AllocError>
     requires { IsReady M.Machine running.old.kept }
-    ensures sound { OnOk result ((start : M) → IsSound M.Machine start config.f running.old → IsSound M.Machine start config.f running.new) }
+    ensures sound { OnOk result ((start : M) → IsSound M.Machine start config.f running.old →
+        IsSound M.Machine start config.f running.new) }
     ensures status { running.new.status ≡ running.old.status }
     ensures view { running.new.view ≡ running.old.view }
-    ensures step { (start : M) (acks : List Ack) (cell : Boot) → IsRunning M.Machine start config.f running.old acks →
-        Follows M.Machine start config.f config.me running.new result (prepares config.f config.me (site_of running.old acks cell) msg) }
+    ensures step { (start : M) (acks : List Ack) (cell : Boot) →
+        IsRunning M.Machine start config.f running.old acks →
+        Follows M.Machine start config.f config.me running.new result
+        (prepares config.f config.me (site_of running.old acks cell) msg) }
 {
     let len = running.kept.log.len();
     append_next(&mut running.kept, msg.place, msg.row)?;
@@ -105,10 +114,13 @@ fn take_row<M: Machine>(
 /// Puts the row at the log's end where its place is the next one. After an `Err` this may only be dropped.
 fn append_next<M: Machine>(kept: &mut Kept<M>, place: u16, row: Row<M>) -> Result<(), AllocError>
     requires { IsReady M.Machine kept.old }
-    ensures log { OnOk result (kept.new.log ≡ (if place == length kept.old.log + 1 then kept.old.log ++ row ∷ [] else kept.old.log)) }
+    ensures log { OnOk result
+        (kept.new.log ≡ (if place == length kept.old.log + 1 then kept.old.log ++ row ∷ []
+        else kept.old.log)) }
     ensures done { kept.new.done ≡ kept.old.done }
     ensures ready { OnOk result (IsReady M.Machine kept.new) }
-    ensures kept { OnOk result ((start : M) → IsKept M.Machine start kept.old → IsKept M.Machine start kept.new) }
+    ensures kept { OnOk result ((start : M) → IsKept M.Machine start kept.old →
+        IsKept M.Machine start kept.new) }
 {
     if place as usize != kept.log.len() + 1 {
         return Ok(());

@@ -21,8 +21,10 @@ pub fn beat<M: Machine>(
     running: &Running<M>,
 ) -> Result<Outcome<M>, AllocError>
     requires { IsReady M.Machine running.now.kept }
-    ensures { (start : M) (acks : List Ack) (cell : Boot) → IsRunning M.Machine start config.f running.now acks →
-        Follows M.Machine start config.f config.me running.now result (beats_normal config.f config.me (site_of running.now acks cell)) }
+    ensures { (start : M) (acks : List Ack) (cell : Boot) →
+        IsRunning M.Machine start config.f running.now acks →
+        Follows M.Machine start config.f config.me running.now result
+        (beats_normal config.f config.me (site_of running.now acks cell)) }
 {
     if primary_of(config, running.view) != config.me {
         return Ok(silent(alloc));
@@ -39,7 +41,8 @@ pub fn beat<M: Machine>(
 fn news<M: Machine>(running: &Running<M>) -> News<M::Cmd>
     requires { IsReady M.Machine running.now.kept }
     ensures { (acks : List Ack) (cell : Boot) →
-        news_msg {R = M.Reply} {O = M.Order} result ≡ news_of (site_of running.now acks cell) (slice_get running.now.kept.log running.now.kept.done) }
+        news_msg {R = M.Reply} {O = M.Order} result ≡ news_of (site_of running.now acks cell)
+        (slice_get running.now.kept.log running.now.kept.done) }
 {
     let done = running.kept.done;
     let _len = running.kept.log.len();
@@ -63,7 +66,8 @@ fn send_orders<M: Machine>(
     machine: &M,
     sent: &mut Vec<Envelope<M>>,
 ) -> Result<(), AllocError>
-    ensures { OnOk result (sent.new.items ≡ sent.old.items ++ map (order_to config.me) (M.orders machine.now)) }
+    ensures { OnOk result (sent.new.items ≡ sent.old.items
+        ++ map (order_to config.me) (M.orders machine.now)) }
 {
     let mut at = 0;
     while let Some(due) = machine.open(at) {

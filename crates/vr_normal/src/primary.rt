@@ -21,11 +21,14 @@ pub fn request<M: Machine>(
     row: Row<M>,
 ) -> Result<Outcome<M>, AllocError>
     requires { IsReady M.Machine running.old.kept }
-    ensures sound { OnOk result ((start : M) → IsSound M.Machine start config.f running.old → IsSound M.Machine start config.f running.new) }
+    ensures sound { OnOk result ((start : M) → IsSound M.Machine start config.f running.old →
+        IsSound M.Machine start config.f running.new) }
     ensures status { running.new.status ≡ running.old.status }
     ensures view { running.new.view ≡ running.old.view }
-    ensures step { (start : M) (acks : List Ack) (cell : Boot) → IsRunning M.Machine start config.f running.old acks →
-        Follows M.Machine start config.f config.me running.new result (on_request config.f config.me (site_of running.old acks cell) row) }
+    ensures step { (start : M) (acks : List Ack) (cell : Boot) →
+        IsRunning M.Machine start config.f running.old acks →
+        Follows M.Machine start config.f config.me running.new result
+        (on_request config.f config.me (site_of running.old acks cell) row) }
 {
     if !runs_normally(running.status) {
         return Ok(dropped(alloc, Why::Status));
@@ -48,11 +51,14 @@ fn append<M: Machine>(
     row: Row<M>,
 ) -> Result<Outcome<M>, AllocError>
     requires { IsReady M.Machine running.old.kept }
-    ensures sound { OnOk result ((start : M) → IsSound M.Machine start config.f running.old → IsSound M.Machine start config.f running.new) }
+    ensures sound { OnOk result ((start : M) → IsSound M.Machine start config.f running.old →
+        IsSound M.Machine start config.f running.new) }
     ensures status { running.new.status ≡ running.old.status }
     ensures view { running.new.view ≡ running.old.view }
-    ensures step { (start : M) (acks : List Ack) (cell : Boot) → IsRunning M.Machine start config.f running.old acks →
-        Follows M.Machine start config.f config.me running.new result (appends config.f config.me (site_of running.old acks cell) row) }
+    ensures step { (start : M) (acks : List Ack) (cell : Boot) →
+        IsRunning M.Machine start config.f running.old acks →
+        Follows M.Machine start config.f config.me running.new result
+        (appends config.f config.me (site_of running.old acks cell) row) }
 {
     let place = running.kept.log.len();
     if place == MAX_ROWS {
@@ -80,9 +86,12 @@ fn answer_again<M: Machine>(
     client: u16,
     number: u32,
 ) -> Result<Outcome<M>, AllocError>
-    ensures { (start : M) (acks : List Ack) (cell : Boot) → IsRunning M.Machine start config.f running.now acks →
-        Follows M.Machine start config.f config.me running.now result (answers_again (site_of running.now acks cell) number
-        (newest running.now.kept.log client) (last_of (take running.now.kept.done running.now.kept.log) client)) }
+    ensures { (start : M) (acks : List Ack) (cell : Boot) →
+        IsRunning M.Machine start config.f running.now acks →
+        Follows M.Machine start config.f config.me running.now result
+        (answers_again (site_of running.now acks cell) number
+        (newest running.now.kept.log client)
+        (last_of (take running.now.kept.done running.now.kept.log) client)) }
 {
     let Some(last) = running.kept.clients.reply(client) else {
         return Ok(dropped(alloc, Why::Known));

@@ -24,11 +24,14 @@ pub fn prepare_ok<M: Machine>(
     requires ready { IsReady M.Machine running.old.kept }
     requires sites { length running.old.acked.items ≡ 2 * config.f + 1 }
     requires from { from ≤ 2 * config.f }
-    ensures sound { OnOk result ((start : M) → IsSound M.Machine start config.f running.old → IsSound M.Machine start config.f running.new) }
+    ensures sound { OnOk result ((start : M) → IsSound M.Machine start config.f running.old →
+        IsSound M.Machine start config.f running.new) }
     ensures status { running.new.status ≡ running.old.status }
     ensures view { running.new.view ≡ running.old.view }
-    ensures step { (choose : Choice M.Cmd) (start : M) (acks : List Ack) (cell : Boot) → IsRight config.f choose → IsRunning M.Machine start config.f running.old acks →
-        Follows M.Machine start config.f config.me running.new result (on_prepare_ok choose config.f config.me (site_of running.old acks cell) from msg) }
+    ensures step { (choose : Choice M.Cmd) (start : M) (acks : List Ack) (cell : Boot) →
+        IsRight config.f choose → IsRunning M.Machine start config.f running.old acks →
+        Follows M.Machine start config.f config.me running.new result
+        (on_prepare_ok choose config.f config.me (site_of running.old acks cell) from msg) }
 {
     if !runs_normally(running.status) {
         return Ok(dropped(alloc, Why::Status));
@@ -53,10 +56,12 @@ fn acknowledge<M: Machine>(
     requires ready { IsReady M.Machine running.old.kept }
     requires sites { length running.old.acked.items ≡ 2 * config.f + 1 }
     requires from { from ≤ 2 * config.f }
-    ensures sound { OnOk result ((start : M) → IsSound M.Machine start config.f running.old → IsSound M.Machine start config.f running.new) }
+    ensures sound { OnOk result ((start : M) → IsSound M.Machine start config.f running.old →
+        IsSound M.Machine start config.f running.new) }
     ensures status { running.new.status ≡ running.old.status }
     ensures view { running.new.view ≡ running.old.view }
-    ensures step { (choose : Choice M.Cmd) (start : M) (acks : List Ack) (cell : Boot) → IsRight config.f choose → IsRunning M.Machine start config.f running.old acks →
+    ensures step { (choose : Choice M.Cmd) (start : M) (acks : List Ack) (cell : Boot) →
+        IsRight config.f choose → IsRunning M.Machine start config.f running.old acks →
         Follows M.Machine start config.f config.me running.new result (
         let y = with_ack from place (site_of running.old acks cell) in
         executes_and_answers (choose.commit_place config.me y.collected.acks) y) }

@@ -17,7 +17,8 @@ list_any-map p h (x ∷ xs) = ap (λ b. p (h x) || b) (list_any-map p h xs)
 pub count_by-same : {X : Type 0} (p q : X → Bool) (xs : List X) → ((x : X) → p x ≡ q x) → count_by p xs ≡ count_by q xs
 count_by-same p q [] e = refl
 count_by-same p q (x ∷ xs) e =
-    sum_by-cons (λ y. cond (p y) 1 0) x xs ∙ ap (λ b. cond b 1 0 + count_by p xs) (e x) ∙ ap (λ n. cond (q x) 1 0 + n) (count_by-same p q xs e) ∙ sym (sum_by-cons (λ y. cond (q y) 1 0) x xs)
+    sum_by-cons (λ y. cond (p y) 1 0) x xs ∙ ap (λ b. cond b 1 0 + count_by p xs) (e x) ∙ ap (λ n. cond (q x) 1 0 + n) (count_by-same p q xs e)
+    ∙ sym (sum_by-cons (λ y. cond (q y) 1 0) x xs)
 
 -- what a map has is the image of something
 pub map-has : {A B : Type 0} (h : A → B) (xs : List A) (y : B) → Contains (map h xs) y → (x : A) × Contains xs x × (h x ≡ y)
@@ -50,7 +51,8 @@ pub filter-map : {A B : Type 0} (p : B → Bool) (h : A → B) (xs : List A) →
 filter-map p h [] = refl
 filter-map {A} {B} p h (x ∷ xs) = by_test (p (h x)) (filter-map p h xs)
   where
-    by_test : (b : Bool) → filter p (map h xs) ≡ map h (filter (λ y. p (h y)) xs) → cond b (h x ∷ filter p (map h xs)) (filter p (map h xs)) ≡ map h (cond b (x ∷ filter (λ y. p (h y)) xs) (filter (λ y. p (h y)) xs))
+    by_test : (b : Bool) → filter p (map h xs) ≡ map h (filter (λ y. p (h y)) xs)
+        → cond b (h x ∷ filter p (map h xs)) (filter p (map h xs)) ≡ map h (cond b (x ∷ filter (λ y. p (h y)) xs) (filter (λ y. p (h y)) xs))
     by_test true e = ap (λ ys. h x ∷ ys) e
     by_test false e = e
 

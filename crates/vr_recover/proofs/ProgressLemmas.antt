@@ -37,7 +37,8 @@ pub regained_chosen : {C : Type 0} (f : ℕ) (choose : Choice C) (kept : List (R
     → IsRegained f (responses_of kept) regained → choose.regained (responses_of kept) ≡ Some regained
 regained_chosen {C} f choose kept regained right one is = by_choice (choose.regained (responses_of kept)) (right.regained (responses_of kept))
   where
-    by_choice : (o : Option (Regained C)) → MatchOption o ((r : Regained C) → ¬ IsRegained f (responses_of kept) r) (IsRegained f (responses_of kept)) → o ≡ Some regained
+    by_choice : (o : Option (Regained C)) → MatchOption o ((r : Regained C) → ¬ IsRegained f (responses_of kept) r) (IsRegained f (responses_of kept))
+        → o ≡ Some regained
     by_choice None h = absurd (h regained is)
     by_choice (Some r) h = ap (λ x. Some x) (regained-one f (responses_of kept) r regained one h is)
 
@@ -66,7 +67,8 @@ one_each_with {C} kept new one = rw (responses_with kept new) each
 
     by_place : (a b : Response C) → Contains others a ⊎ (response_of new ≡ a) → Contains others b ⊎ (response_of new ≡ b) → a.from ≡ b.from → a ≡ b
     by_place a b (inl p) (inl q) same =
-        one a b (filter-has (λ (old : Response C). not (old.from == new.from)) (responses_of kept) a p).0 (filter-has (λ (old : Response C). not (old.from == new.from)) (responses_of kept) b q).0 same
+        one a b (filter-has (λ (old : Response C). not (old.from == new.from)) (responses_of kept) a p).0
+        (filter-has (λ (old : Response C). not (old.from == new.from)) (responses_of kept) b q).0 same
     by_place a b (inl p) (inr q) same = absurd (differs a p (same ∙ sym (ap (λ r. r.from) q)))
     by_place a b (inr p) (inl q) same = absurd (differs b q (sym same ∙ sym (ap (λ r. r.from) p)))
     by_place a b (inr p) (inr q) same = sym p ∙ q
@@ -95,7 +97,8 @@ one_each_current {C} known kept one = subst (OneEach (λ (response : Response C)
 abbrev pub left_with : {C : Type 0} → List ℕ → List (ResponseOf C) → ResponseOf C → List (ResponseOf C)
 left_with known kept new = current_of (greater known new.known) kept
 
-module _ {C : Type 0} (known : List ℕ) (kept : List (ResponseOf C)) (new : ResponseOf C) (told : nat_lt (boot_of new.known new.from) (boot_of known new.from) ≡ false) where
+module _ {C : Type 0} (known : List ℕ) (kept : List (ResponseOf C)) (new : ResponseOf C)
+    (told : nat_lt (boot_of new.known new.from) (boot_of known new.from) ≡ false) where
   -- of the new one's sender the site then knows what that knew
   sender_known : boot_of (greater known new.known) new.from ≡ boot_of new.known new.from
   sender_known = let e = greater_is known new.known new.from in grind (arith, nat_tests, told, e)
@@ -121,25 +124,33 @@ module _ {C : Type 0} (known : List ℕ) (kept : List (ResponseOf C)) (new : Res
       ≡ list_any (λ old. (old.from == new.from) && nat_le new.view old.view && not (is_outdated new.known old.from old.known)) kept
   as_late-same =
       list_any-map (λ (old : Response C). (old.from == new.from) && nat_le new.view old.view) response_of (left_with known kept new)
-      ∙ list_any-filter (λ (old : ResponseOf C). not (is_outdated (greater known new.known) old.from old.known)) (λ (old : ResponseOf C). (old.from == new.from) && nat_le new.view old.view) kept
+      ∙ list_any-filter (λ (old : ResponseOf C). not (is_outdated (greater known new.known) old.from old.known))
+      (λ (old : ResponseOf C). (old.from == new.from) && nat_le new.view old.view) kept
       ∙ list_any-same _ _ kept one_late
 
-module _ {C R O : Type 0} (choose : Choice C) (known : List ℕ) (kept : List (ResponseOf C)) (acks : List Ack) (cell : Boot) (nonce : ℕ) (new : ResponseOf C) where
-  pub response_to_earlier : nonce ≢ nonce_of cell → ◌≡◌ {A = Step C R O} (on_recovery_response choose (recovers_with known kept acks cell) nonce (response_of new)) (drops (recovers_with known kept acks cell) Stale)
+module _ {C R O : Type 0} (choose : Choice C) (known : List ℕ) (kept : List (ResponseOf C)) (acks : List Ack) (cell : Boot) (nonce : ℕ)
+    (new : ResponseOf C) where
+  pub response_to_earlier : nonce ≢ nonce_of cell
+      → ◌≡◌ {A = Step C R O} (on_recovery_response choose (recovers_with known kept acks cell) nonce (response_of new))
+      (drops (recovers_with known kept acks cell) Stale)
   unfolding on_recovery_response
   response_to_earlier ne = rw (ne_eqb _ _ ne)
 
   pub response_outdated : nonce ≡ nonce_of cell → is_outdated known new.from new.known ≡ true
-      → ◌≡◌ {A = Step C R O} (on_recovery_response choose (recovers_with known kept acks cell) nonce (response_of new)) (drops (recovers_with known kept acks cell) Stale)
+      → ◌≡◌ {A = Step C R O} (on_recovery_response choose (recovers_with known kept acks cell) nonce (response_of new))
+      (drops (recovers_with known kept acks cell) Stale)
   unfolding on_recovery_response
   response_outdated same old = rw (eq-eqb _ _ same, old)
 
-  pub response_known : nonce ≡ nonce_of cell → is_outdated known new.from new.known ≡ false → has_as_late (responses_of (left_with known kept new)) (response_of new) ≡ true
-      → ◌≡◌ {A = Step C R O} (on_recovery_response choose (recovers_with known kept acks cell) nonce (response_of new)) (drops (recovers_with known kept acks cell) Known)
+  pub response_known : nonce ≡ nonce_of cell → is_outdated known new.from new.known ≡ false
+      → has_as_late (responses_of (left_with known kept new)) (response_of new) ≡ true
+      → ◌≡◌ {A = Step C R O} (on_recovery_response choose (recovers_with known kept acks cell) nonce (response_of new))
+      (drops (recovers_with known kept acks cell) Known)
   unfolding on_recovery_response
   response_known same current late = rw (eq-eqb _ _ same, current, responses_current (greater known new.known) kept, late)
 
-  pub response_kept : nonce ≡ nonce_of cell → is_outdated known new.from new.known ≡ false → has_as_late (responses_of (left_with known kept new)) (response_of new) ≡ false
+  pub response_kept : nonce ≡ nonce_of cell → is_outdated known new.from new.known ≡ false
+      → has_as_late (responses_of (left_with known kept new)) (response_of new) ≡ false
       → ◌≡◌ {A = Step C R O} (on_recovery_response choose (recovers_with known kept acks cell) nonce (response_of new))
       (regains (recovers_with (greater known new.known) (kept_with (left_with known kept new) new) acks cell)
       (choose.regained (responses_of (kept_with (left_with known kept new) new))))
@@ -157,10 +168,12 @@ regains_handled R O x (Some regained) = refl
 
 module _ {H C R O S : Type 0} (kept : RecoveringOf C) (acks : List Ack) (cell : Boot) where
   -- it follows the step that this one is
-  pub progress_as : (result : Result (Progress H C R O S) AllocError) (a b : Step C R O) → a ≡ b → FollowsProgress kept acks cell result b → FollowsProgress kept acks cell result a
+  pub progress_as : (result : Result (Progress H C R O S) AllocError) (a b : Step C R O) → a ≡ b → FollowsProgress kept acks cell result b
+      → FollowsProgress kept acks cell result a
   progress_as result a b e p = subst (λ s. FollowsProgress kept acks cell result s) (sym e) p
 
   -- a growth was refused
-  pub err_progress : (result : Result (Progress H C R O S) AllocError) (step : Step C R O) → IsErr result → step.ending ≡ Handled → FollowsProgress kept acks cell result step
+  pub err_progress : (result : Result (Progress H C R O S) AllocError) (step : Step C R O) → IsErr result → step.ending ≡ Handled
+      → FollowsProgress kept acks cell result step
   err_progress (Ok progress) step e h = absurd (true≢false (sym e))
   err_progress (Err error) step e h = h

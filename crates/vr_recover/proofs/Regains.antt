@@ -28,11 +28,13 @@ module _ {C : Type 0} (f : ℕ) (kept : List (ResponseOf C)) (regained : Regaine
   regained_above = λ k d low. h.greatest (response_of _) (has-map response_of kept _ (Contains-get_or kept k d low))
 
   -- the primary's response
-  pub regained_response : (response : ResponseOf C) × Contains kept response × (response_of response ≡ record { from = primary f regained.view; view = regained.view; state = Some regained.state; known = h.known })
+  pub regained_response : (response : ResponseOf C) × Contains kept response
+      × (response_of response ≡ record { from = primary f regained.view; view = regained.view; state = Some regained.state; known = h.known })
   regained_response = map-has response_of kept _ h.answered
 
   -- its view is the least that is above all
-  pub regained_view_is : (view : ℕ) → All (λ (response : ResponseOf C). response.view ≤ view) kept → ((v : ℕ) → All (λ (response : ResponseOf C). response.view ≤ v) kept → view ≤ v) → view ≡ regained.view
+  pub regained_view_is : (view : ℕ) → All (λ (response : ResponseOf C). response.view ≤ view) kept
+      → ((v : ℕ) → All (λ (response : ResponseOf C). response.view ≤ v) kept → view ≤ v) → view ≡ regained.view
   regained_view_is view above least =
       let low = least regained.view regained_above in
       let there = regained_response in
@@ -61,7 +63,8 @@ regained_place f kept regained from view primary_is view_is none h =
     absurd (true≢false (sym passes ∙ fails))
 
 -- what stands at the place is the site's response of the view
-found_is : {C : Type 0} (kept : List (ResponseOf C)) (from view at : ℕ) (item : ResponseOf C) → position (is_of from view) kept ≡ Some at → item ≡ get_or kept at item
+found_is : {C : Type 0} (kept : List (ResponseOf C)) (from view at : ℕ) (item : ResponseOf C) → position (is_of from view) kept ≡ Some at
+    → item ≡ get_or kept at item
     → Contains kept item × (item.from ≡ from) × (item.view ≡ view)
 found_is kept from view at item some is =
     let there = position-Some (is_of from view) kept at item some in
@@ -70,7 +73,8 @@ found_is kept from view at item some is =
 
 -- that response has a state, where a state is regained
 pub regained_has_state : {C : Type 0} (f : ℕ) (kept : List (ResponseOf C)) (regained : Regained C) (from view at : ℕ) (item : ResponseOf C) → IsOneEach kept
-    → from ≡ primary f view → view ≡ regained.view → position (is_of from view) kept ≡ Some at → item ≡ get_or kept at item → item.state ≡ None → IsRegained f (responses_of kept) regained → ⊥
+    → from ≡ primary f view → view ≡ regained.view → position (is_of from view) kept ≡ Some at → item ≡ get_or kept at item → item.state ≡ None
+    → IsRegained f (responses_of kept) regained → ⊥
 regained_has_state f kept regained from view at item one primary_is view_is some is none h =
     let there = regained_response f kept regained h in
     let r = there.0 in
@@ -91,7 +95,11 @@ found_is_regained {C} f kept from view at item state enough above primary_is som
     let mine : Answered item.from item.view item.state = has-map response_of kept item found.0 in
     record {
       enough = enough;
-      greatest = λ response in'. All-contains (λ r. r.view ≤ view) (responses_of kept) response (All-map (λ (r : Response C). r.view ≤ view) response_of kept above) in';
+      greatest =
+          λ response in'. All-contains (λ r. r.view ≤ view) (responses_of kept) response
+          (All-map (λ (r : Response C). r.view ≤ view) response_of kept above) in';
       known = item.known;
-      answered = subst (λ a. Answered a view (Some state)) (found.1 ∙ primary_is) (subst (λ b. Answered item.from b (Some state)) found.2 (subst (Answered item.from item.view) has mine));
+      answered =
+          subst (λ a. Answered a view (Some state)) (found.1 ∙ primary_is)
+          (subst (λ b. Answered item.from b (Some state)) found.2 (subst (Answered item.from item.view) has mine));
     }

@@ -9,7 +9,8 @@ use Rattle.vr_recover.specs.declared.recovering.ResponseOf.{ResponseOf}
 
 -- a kept response
 abbrev pub response_of : {C : Type 0} → ResponseOf C → Response C
-response_of response = record { from = response.from; view = response.view; state = response.state; known = response.known }
+response_of response =
+    record { from = response.from; view = response.view; state = response.state; known = response.known }
 
 -- those that are kept
 abbrev pub responses_of : {C : Type 0} → List (ResponseOf C) → List (Response C)
@@ -19,10 +20,14 @@ responses_of kept = map response_of kept
 abbrev pub IsOneEach : {C : Type 0} → List (ResponseOf C) → Type 0
 IsOneEach kept = OneEach (λ response. response.from) (responses_of kept)
 
--- the site that recovers, knows these boots and keeps these responses, over this cell, where these acknowledgements came
+-- the site that recovers, knows these boots and keeps these responses, over this cell, where these acknowledgements
+-- came
 abbrev pub recovers_with : {C : Type 0} → List ℕ → List (ResponseOf C) → List Ack → Boot → Site C
 recovers_with known kept acks cell =
-    record (over cell Recovering) { known = known; collected = record nothing { acks = acks; responses = responses_of kept } }
+    record (over cell Recovering) {
+      known = known;
+      collected = record nothing { acks = acks; responses = responses_of kept };
+    }
 
 -- the site that recovers so
 abbrev pub recovering_site : {C : Type 0} → RecoveringOf C → List Ack → Boot → Site C

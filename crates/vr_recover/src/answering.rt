@@ -25,11 +25,14 @@ pub fn recovery<M: Machine>(
 ) -> Result<Outcome<M>, AllocError>
     requires from { from ≤ 2 * config.f }
     requires known { length running.old.known ≡ 2 * config.f + 1 }
-    ensures sound { OnOk result ((start : M) → IsSound M.Machine start config.f running.old → IsSound M.Machine start config.f running.new) }
+    ensures sound { OnOk result ((start : M) → IsSound M.Machine start config.f running.old →
+        IsSound M.Machine start config.f running.new) }
     ensures status { running.new.status ≡ running.old.status }
     ensures view { running.new.view ≡ running.old.view }
-    ensures step { (start : M) (acks : List Ack) (cell : Boot) → IsRunning M.Machine start config.f running.old acks →
-        Follows M.Machine start config.f config.me running.new result (on_recovery config.f config.me (site_of running.old acks cell) from msg) }
+    ensures step { (start : M) (acks : List Ack) (cell : Boot) →
+        IsRunning M.Machine start config.f running.old acks →
+        Follows M.Machine start config.f config.me running.new result
+        (on_recovery config.f config.me (site_of running.old acks cell) from msg) }
 {
     if !runs_normally(running.status) {
         return Ok(dropped(alloc, Why::Status));
@@ -53,7 +56,8 @@ fn state_of_its_view<M: Machine>(
     config: Config,
     running: &Running<M>,
 ) -> Result<Option<State<M>>, AllocError>
-    ensures { IfOk result (λ state. (acks : List Ack) (cell : Boot) → state ≡ state_of_view config.f config.me (site_of running.now acks cell)) }
+    ensures { IfOk result (λ state. (acks : List Ack) (cell : Boot) →
+        state ≡ state_of_view config.f config.me (site_of running.now acks cell)) }
 {
     if primary_of(config, running.view) != config.me {
         return Ok(None);
@@ -72,7 +76,8 @@ pub fn ask_all<C: Copy + Drop, R: Drop, O: Drop>(
     config: Config,
     nonce: u32,
 ) -> Result<OutcomeOf<C, R, O>, AllocError>
-    ensures { IfOk result (λ out. Sends out (to_all config.f config.me (MsgOf.Recovery (record { nonce = nonce })))) }
+    ensures { IfOk result
+        (λ out. Sends out (to_all config.f config.me (MsgOf.Recovery (record { nonce = nonce })))) }
 {
     let sent = tell_all(alloc, config, News::<C>::Recovery(Recovery { nonce }))?;
     Ok(OutcomeOf {

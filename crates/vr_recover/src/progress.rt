@@ -39,10 +39,12 @@ pub fn take_response<M: Machine>(
     requires setup { M.admits setup.now }
     requires sound { IsSoundRecovering config.f recovering.old }
     requires told { length response.known ≡ 2 * config.f + 1 }
-    ensures sound { IfOk result (λ progress. IsSoundProgress M.Machine (M.start setup.now) config.f recovering.new progress) }
+    ensures sound { IfOk result (λ progress.
+        IsSoundProgress M.Machine (M.start setup.now) config.f recovering.new progress) }
     ensures step { (choose : Choice M.Cmd) (acks : List Ack) → IsRight config.f choose →
         FollowsProgress recovering.new acks boot result
-        (on_recovery_response choose (recovering_site recovering.old acks boot) nonce (response_of response)) }
+        (on_recovery_response choose (recovering_site recovering.old acks boot) nonce
+        (response_of response)) }
 {
     if nonce != boot.boots {
         return Ok(Progress::Dropped(Why::Stale));
@@ -68,10 +70,12 @@ fn regain_where_due<M: Machine>(
 ) -> Result<Progress<M>, AllocError>
     requires setup { M.admits setup.now }
     requires sound { IsSoundRecovering config.f recovering.old }
-    ensures sound { IfOk result (λ progress. IsSoundProgress M.Machine (M.start setup.now) config.f recovering.new progress) }
+    ensures sound { IfOk result (λ progress.
+        IsSoundProgress M.Machine (M.start setup.now) config.f recovering.new progress) }
     ensures step { (choose : Choice M.Cmd) (acks : List Ack) → IsRight config.f choose →
         FollowsProgress recovering.new acks boot result
-        (regains (recovering_site recovering.old acks boot) (choose.regained (responses_of recovering.old.responses.items))) }
+        (regains (recovering_site recovering.old acks boot)
+        (choose.regained (responses_of recovering.old.responses.items))) }
 {
     match take_regained(config, &mut recovering.responses) {
         Some((view, state)) => {

@@ -60,7 +60,8 @@ pub(crate) fn learn<C: Drop>(recovering: &mut RecoveringOf<C>, told: &Known)
     requires { length told.now ≤ length recovering.old.known }
     ensures known { recovering.new.known ≡ greater recovering.old.known told.now }
     ensures current { recovering.new.responses.items ≡
-        filter (λ old. not (is_outdated recovering.new.known old.from old.known)) recovering.old.responses.items }
+        filter (λ old. not (is_outdated recovering.new.known old.from old.known))
+        recovering.old.responses.items }
 {
     recovering.known.learn(told);
     let known = &recovering.known;
@@ -74,7 +75,8 @@ pub(crate) fn keep<C: Drop>(
     kept: &mut Vec<ResponseOf<C>>,
     new: ResponseOf<C>,
 ) -> Result<(), AllocError>
-    ensures { OnOk result (kept.new.items ≡ filter (λ old. not (old.from == new.from)) kept.old.items ++ new ∷ []) }
+    ensures { OnOk result (kept.new.items ≡ filter (λ old. not (old.from == new.from))
+        kept.old.items ++ new ∷ []) }
 {
     let from = new.from;
     kept.retain(|old| old.from != from);
@@ -91,7 +93,8 @@ fn has_of<C: Drop>(kept: &[ResponseOf<C>], site: u16) -> bool
 
 /// How many different sites have responded.
 fn senders<C: Drop>(config: Config, kept: &[ResponseOf<C>]) -> usize
-    ensures { result ≡ count_by (λ site. list_any (λ response. response.from == site) kept.now) (sites config.f) }
+    ensures { result ≡ count_by (λ site. list_any (λ response. response.from == site) kept.now)
+        (sites config.f) }
 {
     (0..2 * config.f + 1)
         .filter(|site| has_of(kept, *site))
@@ -112,7 +115,8 @@ fn greatest_view<C: Drop>(kept: &[ResponseOf<C>]) -> u32
 
 /// The index of a site's response of a view.
 fn place_of<C: Drop>(kept: &[ResponseOf<C>], from: u16, view: u32) -> Option<usize>
-    ensures { result ≡ position (λ response. (response.from == from) && (response.view == view)) kept.now }
+    ensures { result ≡ position (λ response. (response.from == from) && (response.view == view))
+        kept.now }
 {
     kept.iter()
         .position(|response| response.from == from && response.view == view)
@@ -121,9 +125,11 @@ fn place_of<C: Drop>(kept: &[ResponseOf<C>], from: u16, view: u32) -> Option<usi
 /// The view whose state is regained, once its primary has answered with it: the greatest of the responses, where more
 /// than f sites have responded.
 fn regained_view<C: Drop>(config: Config, kept: &[ResponseOf<C>]) -> Option<u32>
-    ensures enough { IfSome result (λ view. config.f < count_by (has_response (responses_of kept.now)) (sites config.f)) }
+    ensures enough { IfSome result (λ view. config.f < count_by
+        (has_response (responses_of kept.now)) (sites config.f)) }
     ensures greatest { IfSome result (λ view. All (λ response. response.view ≤ view) kept.now) }
-    ensures only { (regained : Regained C) → IsRegained config.f (responses_of kept.now) regained → result ≡ Some regained.view }
+    ensures only { (regained : Regained C) → IsRegained config.f (responses_of kept.now) regained →
+        result ≡ Some regained.view }
 {
     if senders(config, kept) <= config.f as usize {
         return None;
@@ -137,8 +143,10 @@ pub(crate) fn take_regained<C: Drop>(
     kept: &mut Vec<ResponseOf<C>>,
 ) -> Option<(u32, StateOf<C>)>
     requires { IsOneEach kept.old.items }
-    ensures some { IfSome result (λ found. IsRegained config.f (responses_of kept.old.items) (record { view = found.0; state = found.1 })) }
-    ensures none { IfNone result ((regained : Regained C) → ¬ IsRegained config.f (responses_of kept.old.items) regained) }
+    ensures some { IfSome result (λ found. IsRegained config.f (responses_of kept.old.items)
+        (record { view = found.0; state = found.1 })) }
+    ensures none { IfNone result ((regained : Regained C) →
+        ¬ IsRegained config.f (responses_of kept.old.items) regained) }
     ensures stays { IfNone result (kept.new.items ≡ kept.old.items) }
 {
     let view = regained_view(config, kept.as_slice())?;

@@ -23,9 +23,12 @@ pub fn regain<M: Machine>(
 ) -> Result<Running<M>, AllocError>
     requires setup { M.admits setup.now }
     requires known { length known ≡ 2 * config.f + 1 }
-    ensures running { IfOk result (λ running. IsRunning M.Machine (M.start setup.now) config.f running []) }
-    ensures site { IfOk result (λ running. (kept : List (ResponseOf M.Cmd)) (acks : List Ack) (cell : Boot) →
-        executed_to state.done (normal_in view state.rows (recovers_with known kept acks cell)) ≡ site_of running [] cell) }
+    ensures running { IfOk result (λ running.
+        IsRunning M.Machine (M.start setup.now) config.f running []) }
+    ensures site { IfOk result (λ running. (kept : List (ResponseOf M.Cmd))
+        (acks : List Ack) (cell : Boot) →
+        executed_to state.done (normal_in view state.rows (recovers_with known kept acks cell))
+        ≡ site_of running [] cell) }
 {
     let mut kept = fresh::<M>(alloc, setup, state.rows)?;
     let _ = kept.execute(alloc, state.done)?;

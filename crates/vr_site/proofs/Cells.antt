@@ -34,10 +34,12 @@ keeps_if : {C R O : Type 0} (x : Site C) (b : Bool) (p q : Step C R O) → Keeps
 keeps_if x true p q h k = h
 keeps_if x false p q h k = k
 
-starting_keeps : {C : Type 0} (R O : Type 0) (f me : ℕ) (x : Site C) (w : ℕ) (told : List ℕ) → (starts_later_view {R = R} {O = O} f me w (learns told x)).site.cell ≡ x.cell
+starting_keeps : {C : Type 0} (R O : Type 0) (f me : ℕ) (x : Site C) (w : ℕ) (told : List ℕ)
+    → (starts_later_view {R = R} {O = O} f me w (learns told x)).site.cell ≡ x.cell
 starting_keeps {C} R O f me x w told = by_test (nat_lt x.view w)
   where
-    by_test : (b : Bool) → (let part : Part C R O = if b then starts_view f me w (learns told x) else record { site = learns told x; sent = [] } in part.site.cell) ≡ x.cell
+    by_test : (b : Bool)
+        → (let part : Part C R O = if b then starts_view f me w (learns told x) else record { site = learns told x; sent = [] } in part.site.cell) ≡ x.cell
     by_test true = refl
     by_test false = refl
 
@@ -67,7 +69,8 @@ module _ {C R O : Type 0} (f me : ℕ) (x : Site C) where
     where
       again : (last : Option (ℕ × RowOf C)) → KeepsCell {R = R} {O = O} x (answers_again x row.number (newest x.log row.client) last)
       again None = (record { same = refl })
-      again (Some last) = keeps_if x ((row.number == newest x.log row.client) && (last.1.number == row.number)) _ _ (record { same = refl }) (record { same = refl })
+      again (Some last) =
+          keeps_if x ((row.number == newest x.log row.client) && (last.1.number == row.number)) _ _ (record { same = refl }) (record { same = refl })
 
   prepare_keeps : (from : ℕ) (msg : PrepareOf C) → KeepsCell {R = R} {O = O} x (on_prepare f me x from msg)
   unfolding on_prepare
@@ -99,7 +102,8 @@ module _ {C R O : Type 0} (f me : ℕ) (x : Site C) where
   opening_keeps : (choose : Choice C) (part : Part C R O) → part.site.cell ≡ x.cell → KeepsCell x (opens_where_due choose f me x part)
   opening_keeps choose part h =
       keeps_if x (not (is_to_open f me part.site)) _ _ (record { same = h })
-      (keeps_if x (not (begins_with_executed choose.same part.site (choose.pick part.site.collected.votes).log)) _ _ (record { same = refl }) (record { same = h }))
+      (keeps_if x (not (begins_with_executed choose.same part.site (choose.pick part.site.collected.votes).log)) _ _
+      (record { same = refl }) (record { same = h }))
 
   voting_keeps : (part : Part C R O) → (votes_where_due f me part).site.cell ≡ part.site.cell
   voting_keeps part = by_tests (not (is_to_vote f me part.site)) (primary f part.site.view == me)
@@ -131,7 +135,8 @@ module _ {C R O : Type 0} (f me : ℕ) (x : Site C) where
       (keeps_if x (is_normal x.status && (w == x.view)) _ _ (record { same = refl })
       (keeps_if x (is_outdated x.known vote.from vote.known) _ _ (record { same = refl })
       (let started = starts_later_view {R = R} {O = O} f me w (learns vote.known x) in
-      opening_keeps choose (record started { site = with_vote vote started.site }) (with_vote_keeps vote started.site ∙ starting_keeps R O f me x w vote.known))))))
+      opening_keeps choose (record started { site = with_vote vote started.site })
+      (with_vote_keeps vote started.site ∙ starting_keeps R O f me x w vote.known))))))
 
   taking_keeps : (choose : Choice C) (w k : ℕ) (log : List (RowOf C)) → KeepsCell {R = R} {O = O} x (takes_log choose f me x w k log)
   taking_keeps choose w k log = keeps_if x (begins_with_executed choose.same x log) _ _ (record { same = refl }) (record { same = refl })
@@ -160,15 +165,20 @@ module _ {C R O : Type 0} (f me : ℕ) (x : Site C) where
       (keeps_if x (nat_lt msg.view x.view) _ _ (record { same = refl })
       (keeps_if x (nat_lt MAX_ROWS (msg.base + length msg.rows)) _ _ (record { same = refl })
       (keeps_if x (is_normal x.status && (msg.view == x.view)) _ _
-      (keeps_if x (nat_le msg.base (length x.log) && nat_lt (length x.log) (msg.base + length msg.rows)) _ _ (taking_keeps choose msg.view msg.done _) (record { same = refl }))
-      (keeps_if x (nat_le msg.base x.done && nat_le x.done (msg.base + length msg.rows)) _ _ (taking_keeps choose msg.view msg.done _) (record { same = refl }))))))
+      (keeps_if x (nat_le msg.base (length x.log) && nat_lt (length x.log) (msg.base + length msg.rows)) _ _ (taking_keeps choose msg.view msg.done _)
+      (record { same = refl }))
+      (keeps_if x (nat_le msg.base x.done && nat_le x.done (msg.base + length msg.rows)) _ _ (taking_keeps choose msg.view msg.done _)
+      (record { same = refl }))))))
 
   recovery_keeps : (from : ℕ) (msg : RecoveryMsg) → KeepsCell {R = R} {O = O} x (on_recovery f me x from msg)
   unfolding on_recovery
-  recovery_keeps from msg = keeps_if x (not (is_normal x.status)) _ _ (record { same = refl }) (keeps_if x (nat_lt msg.nonce (boot_of x.known from)) _ _ (record { same = refl }) (record { same = refl }))
+  recovery_keeps from msg =
+      keeps_if x (not (is_normal x.status)) _ _ (record { same = refl })
+      (keeps_if x (nat_lt msg.nonce (boot_of x.known from)) _ _ (record { same = refl }) (record { same = refl }))
 
   -- a running site takes no response
-  pub response_drops : (choose : Choice C) (nonce : ℕ) (response : Response C) → is_running x.status ≡ true → ◌≡◌ {A = Step C R O} (on_recovery_response choose x nonce response) (drops x why.Status)
+  pub response_drops : (choose : Choice C) (nonce : ℕ) (response : Response C) → is_running x.status ≡ true
+      → ◌≡◌ {A = Step C R O} (on_recovery_response choose x nonce response) (drops x why.Status)
   unfolding on_recovery_response
   response_drops choose nonce response up = rw (running_is_here x.status up)
 

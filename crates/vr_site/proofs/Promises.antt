@@ -87,7 +87,8 @@ module _ {H C R O S B : Type 0} (m : Ghosts H C R O S) (c : Cell B) (old new : S
   result_is_saved choose right (Ok out) h = handled_is_saved choose right out h
   result_is_saved choose right (Err fault) h = tt
 
-  dropped_not_refused : (o : Option SiteFault) → refusal old.f old.me (site_shown c.held old []) event ≡ o → (fault : SiteFault) → Handles m c old new event (Err fault) → (choose : Choice C) (acks : List Ack) (why : Why)
+  dropped_not_refused : (o : Option SiteFault) → refusal old.f old.me (site_shown c.held old []) event ≡ o → (fault : SiteFault)
+      → Handles m c old new event (Err fault) → (choose : Choice C) (acks : List Ack) (why : Why)
       → IsRight old.f choose → SumUp old.volatile.acked acks → (site_step choose old.f old.me (site_shown c.held old acks) event).ending ≡ Dropped why → ⊥
   dropped_not_refused None none fault h choose acks why right summed e = let handled = (h.fall none choose acks right summed).handled in absurd (cc)
   dropped_not_refused (Some other) some fault h choose acks why right summed e =
@@ -96,11 +97,14 @@ module _ {H C R O S B : Type 0} (m : Ghosts H C R O S) (c : Cell B) (old new : S
       absurd (cc)
 
   -- what is dropped is handled
-  pub dropped_is_ok : (result : Result (OutcomeOf C R O) SiteFault) → Handles m c old new event result → (choose : Choice C) (acks : List Ack) (why : Why) → IsRight old.f choose → SumUp old.volatile.acked acks
+  pub dropped_is_ok : (result : Result (OutcomeOf C R O) SiteFault) → Handles m c old new event result → (choose : Choice C) (acks : List Ack) (why : Why)
+      → IsRight old.f choose → SumUp old.volatile.acked acks
       → (site_step choose old.f old.me (site_shown c.held old acks) event).ending ≡ Dropped why → IsOk result
   dropped_is_ok (Ok out) h choose acks why right summed e = refl
-  dropped_is_ok (Err fault) h choose acks why right summed e = absurd (dropped_not_refused (refusal old.f old.me (site_shown c.held old []) event) refl fault h choose acks why right summed e)
+  dropped_is_ok (Err fault) h choose acks why right summed e =
+      absurd (dropped_not_refused (refusal old.f old.me (site_shown c.held old []) event) refl fault h choose acks why right summed e)
 
 -- commands can be told apart, so there is a right choice
-pub any_choice : {C : Type 0} (f : ℕ) (eq : C → C → Bool) → 1 ≤ f → IsEquivalence eq → ((a b : C) → eq a b ≡ true → a ≡ b) → (choose : Choice C) × IsRight f choose
+pub any_choice : {C : Type 0} (f : ℕ) (eq : C → C → Bool) → 1 ≤ f → IsEquivalence eq → ((a b : C) → eq a b ≡ true → a ≡ b)
+    → (choose : Choice C) × IsRight f choose
 any_choice f eq some laws exact = (choice_of eq f, choice_of-right f eq some (λ a b. (exact a b, λ e. subst (λ d. eq a d ≡ true) e (laws.refl a))))

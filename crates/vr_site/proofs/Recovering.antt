@@ -28,24 +28,33 @@ use Rattle.vr_recover.specs.Recovering.{recovering_site}
 
 module _ {C R O : Type 0} (f me : ℕ) (kept : RecoveringOf C) (acks : List Ack) (cell : Boot) where
   -- it comes first whether the word is its primary's
-  not_primary_first : (b : Bool) → ◌≡◌ {A = Step C R O} (if not b then drops (recovering_site kept acks cell) NotPrimary else drops (recovering_site kept acks cell) Status)
+  not_primary_first : (b : Bool)
+      → ◌≡◌ {A = Step C R O} (if not b then drops (recovering_site kept acks cell) NotPrimary else drops (recovering_site kept acks cell) Status)
       (drops (recovering_site kept acks cell) (if b then Status else NotPrimary))
   not_primary_first true = refl
   not_primary_first false = refl
 
-  pub prepare_drops : (from : ℕ) (msg : PrepareOf C) → ◌≡◌ {A = Step C R O} (on_prepare f me (recovering_site kept acks cell) from msg) (drops (recovering_site kept acks cell) (if primary f msg.view == from then Status else NotPrimary))
+  pub prepare_drops : (from : ℕ) (msg : PrepareOf C)
+      → ◌≡◌ {A = Step C R O} (on_prepare f me (recovering_site kept acks cell) from msg)
+      (drops (recovering_site kept acks cell) (if primary f msg.view == from then Status else NotPrimary))
   unfolding on_prepare
   prepare_drops from msg = not_primary_first (primary f msg.view == from)
 
-  pub commit_drops : (from : ℕ) (msg : CommitMsg) → ◌≡◌ {A = Step C R O} (on_commit f me (recovering_site kept acks cell) from msg) (drops (recovering_site kept acks cell) (if primary f msg.view == from then Status else NotPrimary))
+  pub commit_drops : (from : ℕ) (msg : CommitMsg)
+      → ◌≡◌ {A = Step C R O} (on_commit f me (recovering_site kept acks cell) from msg)
+      (drops (recovering_site kept acks cell) (if primary f msg.view == from then Status else NotPrimary))
   unfolding on_commit
   commit_drops from msg = not_primary_first (primary f msg.view == from)
 
-  pub start_view_drops : (choose : Choice C) (from : ℕ) (msg : StartViewOf C) → ◌≡◌ {A = Step C R O} (on_start_view choose f me (recovering_site kept acks cell) from msg) (drops (recovering_site kept acks cell) (if primary f msg.view == from then Status else NotPrimary))
+  pub start_view_drops : (choose : Choice C) (from : ℕ) (msg : StartViewOf C)
+      → ◌≡◌ {A = Step C R O} (on_start_view choose f me (recovering_site kept acks cell) from msg)
+      (drops (recovering_site kept acks cell) (if primary f msg.view == from then Status else NotPrimary))
   unfolding on_start_view
   start_view_drops choose from msg = not_primary_first (primary f msg.view == from)
 
-  pub new_state_drops : (choose : Choice C) (from : ℕ) (msg : NewStateOf C) → ◌≡◌ {A = Step C R O} (on_new_state choose f me (recovering_site kept acks cell) from msg) (drops (recovering_site kept acks cell) (if primary f msg.view == from then Status else NotPrimary))
+  pub new_state_drops : (choose : Choice C) (from : ℕ) (msg : NewStateOf C)
+      → ◌≡◌ {A = Step C R O} (on_new_state choose f me (recovering_site kept acks cell) from msg)
+      (drops (recovering_site kept acks cell) (if primary f msg.view == from then Status else NotPrimary))
   unfolding on_new_state
   new_state_drops choose from msg = not_primary_first (primary f msg.view == from)
 
@@ -53,23 +62,28 @@ module _ {C R O : Type 0} (f me : ℕ) (kept : RecoveringOf C) (acks : List Ack)
   unfolding on_request
   request_drops row = refl
 
-  prepare_ok_drops : (choose : Choice C) (from : ℕ) (msg : PrepareOkMsg) → ◌≡◌ {A = Step C R O} (on_prepare_ok choose f me (recovering_site kept acks cell) from msg) (drops (recovering_site kept acks cell) Status)
+  prepare_ok_drops : (choose : Choice C) (from : ℕ) (msg : PrepareOkMsg)
+      → ◌≡◌ {A = Step C R O} (on_prepare_ok choose f me (recovering_site kept acks cell) from msg) (drops (recovering_site kept acks cell) Status)
   unfolding on_prepare_ok
   prepare_ok_drops choose from msg = refl
 
-  start_view_change_drops : (choose : Choice C) (w : ℕ) (start : Start) → ◌≡◌ {A = Step C R O} (on_start_view_change choose f me (recovering_site kept acks cell) w start) (drops (recovering_site kept acks cell) Status)
+  start_view_change_drops : (choose : Choice C) (w : ℕ) (start : Start)
+      → ◌≡◌ {A = Step C R O} (on_start_view_change choose f me (recovering_site kept acks cell) w start) (drops (recovering_site kept acks cell) Status)
   unfolding on_start_view_change
   start_view_change_drops choose w start = refl
 
-  do_view_change_drops : (choose : Choice C) (w : ℕ) (vote : Vote C) → ◌≡◌ {A = Step C R O} (on_do_view_change choose f me (recovering_site kept acks cell) w vote) (drops (recovering_site kept acks cell) Status)
+  do_view_change_drops : (choose : Choice C) (w : ℕ) (vote : Vote C)
+      → ◌≡◌ {A = Step C R O} (on_do_view_change choose f me (recovering_site kept acks cell) w vote) (drops (recovering_site kept acks cell) Status)
   unfolding on_do_view_change
   do_view_change_drops choose w vote = refl
 
-  get_state_drops : (from : ℕ) (msg : GetStateMsg) → ◌≡◌ {A = Step C R O} (on_get_state f me (recovering_site kept acks cell) from msg) (drops (recovering_site kept acks cell) Status)
+  get_state_drops : (from : ℕ) (msg : GetStateMsg)
+      → ◌≡◌ {A = Step C R O} (on_get_state f me (recovering_site kept acks cell) from msg) (drops (recovering_site kept acks cell) Status)
   unfolding on_get_state
   get_state_drops from msg = refl
 
-  recovery_drops : (from : ℕ) (msg : RecoveryMsg) → ◌≡◌ {A = Step C R O} (on_recovery f me (recovering_site kept acks cell) from msg) (drops (recovering_site kept acks cell) Status)
+  recovery_drops : (from : ℕ) (msg : RecoveryMsg)
+      → ◌≡◌ {A = Step C R O} (on_recovery f me (recovering_site kept acks cell) from msg) (drops (recovering_site kept acks cell) Status)
   unfolding on_recovery
   recovery_drops from msg = refl
 
@@ -93,11 +107,13 @@ module _ {C R O : Type 0} (f me : ℕ) (kept : RecoveringOf C) (acks : List Ack)
   others_drop choose actor (PayOrder order) may a b c d e = absurd (true≢false (sym may))
 
 -- it asks all again
-pub beats_is : {C R O : Type 0} (f me : ℕ) (x : Site C) → ◌≡◌ {A = Step C R O} (beats_recovering f me x) (does x (to_all f me (Recovery (record { nonce = nonce_of x.cell }))))
+pub beats_is : {C R O : Type 0} (f me : ℕ) (x : Site C)
+    → ◌≡◌ {A = Step C R O} (beats_recovering f me x) (does x (to_all f me (Recovery (record { nonce = nonce_of x.cell }))))
 unfolding beats_recovering
 beats_is f me x = refl
 
 -- its timer is dropped
-pub timer_is : {C R O : Type 0} (f me : ℕ) (kept : RecoveringOf C) (acks : List Ack) (cell : Boot) → ◌≡◌ {A = Step C R O} (on_timer f me (recovering_site kept acks cell)) (drops (recovering_site kept acks cell) Status)
+pub timer_is : {C R O : Type 0} (f me : ℕ) (kept : RecoveringOf C) (acks : List Ack) (cell : Boot)
+    → ◌≡◌ {A = Step C R O} (on_timer f me (recovering_site kept acks cell)) (drops (recovering_site kept acks cell) Status)
 unfolding on_timer
 timer_is f me kept acks cell = refl

@@ -40,7 +40,8 @@ pub raises : (cell : Boot) → cell ≢ raised cell
 raises cell = λ h. (let more : nonce_of cell ≡ nonce_of cell + 1 = ap nonce_of h in absurd (omega arith))
 
 -- so what it saves is saved once
-pub one_save : {B : Type 0} (c : Cell B) (inside cell new : B) (boot : Boot) → inside ≡ cell → boot ≡ raised (c.held cell) → c.saves inside boot new → IsOneSave c cell (raised (c.held cell)) new
+pub one_save : {B : Type 0} (c : Cell B) (inside cell new : B) (boot : Boot) → inside ≡ cell → boot ≡ raised (c.held cell) → c.saves inside boot new
+    → IsOneSave c cell (raised (c.held cell)) new
 one_save c inside cell new boot same e saves = (raises (c.held cell), subst (λ b. c.saves cell b new) e (subst (λ x. c.saves x boot new) same saves))
 
 restart_is : {C R O : Type 0} (f me : ℕ) (x : Site C)
@@ -48,7 +49,8 @@ restart_is : {C R O : Type 0} (f me : ℕ) (x : Site C)
 unfolding on_restart
 restart_is f me x = refl
 
-module _ {H C R O S B : Type 0} (m : Ghosts H C R O S) (c : Cell B) (old new : Shown C S B) (config : (new.f ≡ old.f) × (new.me ≡ old.me) × (new.setup ≡ old.setup)) where
+module _ {H C R O S B : Type 0} (m : Ghosts H C R O S) (c : Cell B) (old new : Shown C S B)
+    (config : (new.f ≡ old.f) × (new.me ≡ old.me) × (new.setup ≡ old.setup)) where
   -- all is lost but the cell
   pub crashed : (out : OutcomeOf C R O) → is_down old.volatile.status ≡ false → new.volatile ≡ lost → new.cell ≡ old.cell → Sends out []
       → Handles {H = H} {C = C} {R = R} {O = O} m c old new Crash (Ok out)
@@ -125,7 +127,8 @@ module _ {H C R O S B : Type 0} (m : Ghosts H C R O S) (c : Cell B) (old new : S
     beat_is acks choose = ap (on_beat old.f old.me (site_shown c.held old acks)) recovers ∙ beats_is old.f old.me (site_shown c.held old acks)
 
     -- a recovering site asked all again
-    pub asked_again : (out : OutcomeOf C R O) → new.volatile ≡ old.volatile → new.cell ≡ old.cell → Sends out (to_all old.f old.me (Recovery (record { nonce = nonce_of (c.held old.cell) })))
+    pub asked_again : (out : OutcomeOf C R O) → new.volatile ≡ old.volatile → new.cell ≡ old.cell
+        → Sends out (to_all old.f old.me (Recovery (record { nonce = nonce_of (c.held old.cell) })))
         → Handles {H = H} {C = C} {R = R} {O = O} m c old new Beat (Ok out)
     asked_again out volatile cell s = stepped_handles m c old new Beat out may_beat (λ choose acks right summed.
         let told = to_all {C = C} {R = R} {O = O} old.f old.me (Recovery (record { nonce = nonce_of (c.held old.cell) })) in

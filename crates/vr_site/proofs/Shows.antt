@@ -40,7 +40,8 @@ err_is (Err error) x y h same = ap (λ e. Err e) (h ∙ same)
 
 module _ {H C R O S B : Type 0} (m : Ghosts H C R O S) (c : Cell B) where
   -- an event that is refused, and changes nothing
-  pub refused_handles : (old new : Shown C S B) (event : EventOf C R O) (fault : SiteFault) → new ≡ old → refusal old.f old.me (site_shown c.held old []) event ≡ Some fault
+  pub refused_handles : (old new : Shown C S B) (event : EventOf C R O) (fault : SiteFault) → new ≡ old
+      → refusal old.f old.me (site_shown c.held old []) event ≡ Some fault
       → Handles {H = H} {C = C} {R = R} {O = O} m c old new event (Err fault)
   refused_handles old new event fault same refused = record {
     step = tt;
@@ -50,11 +51,14 @@ module _ {H C R O S B : Type 0} (m : Ghosts H C R O S) (c : Cell B) where
 
   -- an event that is not refused, and takes its step
   pub stepped_handles : (old new : Shown C S B) (event : EventOf C R O) (out : OutcomeOf C R O) → refusal old.f old.me (site_shown c.held old []) event ≡ None
-      → ((choose : Choice C) (acks : List Ack) → IsRight old.f choose → SumUp old.volatile.acked acks → Does m c old new out (on_event choose old.f old.me (site_shown c.held old acks) event))
+      → ((choose : Choice C) (acks : List Ack) → IsRight old.f choose → SumUp old.volatile.acked acks
+      → Does m c old new out (on_event choose old.f old.me (site_shown c.held old acks) event))
       → Handles m c old new event (Ok out)
   stepped_handles old new event out none step = record {
     step = λ choose acks right summed.
-        subst (Does m c old new out) (sym (ap (λ o. refused_or (site_shown c.held old acks) o (on_event choose old.f old.me (site_shown c.held old acks) event)) none)) (step choose acks right summed);
+        subst (Does m c old new out)
+        (sym (ap (λ o. refused_or (site_shown c.held old acks) o (on_event choose old.f old.me (site_shown c.held old acks) event)) none))
+        (step choose acks right summed);
     refused = λ fault e. (let clash : None ≡ Some fault = sym none ∙ e in absurd (cc));
     fall = λ _. tt;
   }
@@ -69,18 +73,21 @@ module _ {H C R O S B : Type 0} (m : Ghosts H C R O S) (c : Cell B) where
     refused = λ other e. (let clash : None ≡ Some other = sym none ∙ e in absurd (cc));
     fall = λ _ choose acks right summed.
         subst (λ s. Falls c old new (site_shown c.held old acks) s fault)
-        (sym (ap (λ o. refused_or (site_shown c.held old acks) o (on_event choose old.f old.me (site_shown c.held old acks) event)) none)) (falls choose acks right summed);
+        (sym (ap (λ o. refused_or (site_shown c.held old acks) o (on_event choose old.f old.me (site_shown c.held old acks) event)) none))
+        (falls choose acks right summed);
   }
 
   -- a fall of a site that is down by now over the old cell
-  pub down_falls : (base : Shown C S B) (v : Volatile C) (x : Site C) (step : Step C R O) → base.volatile ≡ lost → x.cell ≡ c.held base.cell → step.ending ≡ Handled
+  pub down_falls : (base : Shown C S B) (v : Volatile C) (x : Site C) (step : Step C R O) → base.volatile ≡ lost → x.cell ≡ c.held base.cell
+      → step.ending ≡ Handled
       → Falls c (record base { volatile = v }) base x step NoMemory
   down_falls base v x step volatile cell handled = record {
     f = refl;
     me = refl;
     setup = refl;
     acks = subst (λ (u : Volatile C). SumUp u.acked []) (sym volatile) none_summed;
-    site = record { allowed = ap is_refused handled; down = inl (ap (λ u. site_with u [] (c.held base.cell)) volatile ∙ ap (λ b. over b status.Down) (sym cell)) };
+    site =
+        record { allowed = ap is_refused handled; down = inl (ap (λ u. site_with u [] (c.held base.cell)) volatile ∙ ap (λ b. over b status.Down) (sym cell)) };
     saved = inl refl;
     handled = handled;
     fault = inl refl;
@@ -105,7 +112,8 @@ module _ {H C R O S B : Type 0} (m : Ghosts H C R O S) (c : Cell B) where
     ran_on new out config volatile cell serves =
         stepped_handles (record base { volatile = volatile_of (life.Up r) }) new event out serves.allowed (λ choose acks right summed.
         let step = on_event choose base.f base.me (site_of r acks (c.held base.cell)) event in
-        let meets : Meets m (m.start base.setup) base.f base.me n out step = serves.follows choose acks right (record { sound = serves.sound; summed = summed }) in
+        let meets : Meets m (m.start base.setup) base.f base.me n out step =
+        serves.follows choose acks right (record { sound = serves.sound; summed = summed }) in
         let holds : step.site.cell ≡ c.held new.cell = serves.saves choose acks ∙ ap c.held (sym cell) in
         record {
           f = config.0;
@@ -126,11 +134,13 @@ up_is_not_down status.Recovering e = refl
 up_is_not_down status.Down e = sym e
 
 -- what is for a site that is not down is not refused
-pub mine_is_taken : {C R O : Type 0} (f me : ℕ) (x : Site C) (e : EnvelopeOf C R O) → is_down x.status ≡ false → is_mine f me e ≡ true → refusal f me x (Deliver e) ≡ None
+pub mine_is_taken : {C R O : Type 0} (f me : ℕ) (x : Site C) (e : EnvelopeOf C R O) → is_down x.status ≡ false → is_mine f me e ≡ true
+    → refusal f me x (Deliver e) ≡ None
 mine_is_taken f me x e up mine = rw (up, mine)
 
 -- what is for another is refused
-pub other_is_refused : {C R O : Type 0} (f me : ℕ) (x : Site C) (e : EnvelopeOf C R O) → is_mine f me e ≡ false → refusal f me x (Deliver e) ≡ Some (if is_down x.status then NotUp else NotMine)
+pub other_is_refused : {C R O : Type 0} (f me : ℕ) (x : Site C) (e : EnvelopeOf C R O) → is_mine f me e ≡ false
+    → refusal f me x (Deliver e) ≡ Some (if is_down x.status then NotUp else NotMine)
 other_is_refused f me x e other = by_test (is_down x.status)
   where
     by_test : (b : Bool) → (if b then Some NotUp else if not (is_mine f me e) then Some NotMine else None) ≡ Some (if b then NotUp else NotMine)
@@ -165,17 +175,20 @@ pub refuses_for_another : {C R O : Type 0} (f me : ℕ) (x : Site C) (e : Envelo
 refuses_for_another f me x e = turned_away (is_down x.status) (is_mine f me e)
 
 -- a running site refuses a timer where there is no greater view, and there alone
-pub spent_refuses_timer : {C : Type 0} (R O : Type 0) (f me : ℕ) (x : Site C) → is_running x.status ≡ true → x.view ≡ max_number → refusal {R = R} {O = O} f me x Timer ≡ Some ViewsSpent
+pub spent_refuses_timer : {C : Type 0} (R O : Type 0) (f me : ℕ) (x : Site C) → is_running x.status ≡ true → x.view ≡ max_number
+    → refusal {R = R} {O = O} f me x Timer ≡ Some ViewsSpent
 spent_refuses_timer R O f me x up spent = rw (up_is_not_down x.status up, running_is_here x.status up, eq-eqb _ _ spent)
 
-pub timer_is_taken : {C : Type 0} (R O : Type 0) (f me : ℕ) (x : Site C) → is_running x.status ≡ true → x.view ≢ max_number → refusal {R = R} {O = O} f me x Timer ≡ None
+pub timer_is_taken : {C : Type 0} (R O : Type 0) (f me : ℕ) (x : Site C) → is_running x.status ≡ true → x.view ≢ max_number
+    → refusal {R = R} {O = O} f me x Timer ≡ None
 timer_is_taken R O f me x up more = rw (up_is_not_down x.status up, running_is_here x.status up, ne_eqb _ _ more)
 
 pub beat_is_taken : {C : Type 0} (R O : Type 0) (f me : ℕ) (x : Site C) → is_running x.status ≡ true → refusal {R = R} {O = O} f me x Beat ≡ None
 beat_is_taken R O f me x up = rw (up_is_not_down x.status up)
 
 -- what isn't down is not shown as down
-pub life_is_not_down : {H C R O S : Type 0} (m : Ghosts H C R O S) (start : H) (f : ℕ) (l : Life H C R O S) → (l ≡ life.Down → ⊥) → IsWell m start f l → is_down (volatile_of l).status ≡ false
+pub life_is_not_down : {H C R O S : Type 0} (m : Ghosts H C R O S) (start : H) (f : ℕ) (l : Life H C R O S) → (l ≡ life.Down → ⊥) → IsWell m start f l
+    → is_down (volatile_of l).status ≡ false
 life_is_not_down m start f life.Down other well = absurd (other refl)
 life_is_not_down m start f (life.Recovering r) other well = refl
 life_is_not_down m start f (life.Up r) other well = up_is_not_down r.status well.up

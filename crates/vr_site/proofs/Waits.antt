@@ -31,12 +31,14 @@ module _ {H C R O S B : Type 0} (m : Ghosts H C R O S) (c : Cell B) (base : Show
   waited_short (Ok p) not_ok volatile awaits = absurd (not_ok p refl)
   waited_short (Err error) not_ok volatile awaits =
       fell_handles m c first base event NoMemory awaits.allowed
-      (λ choose acks right summed. down_falls m c base first.volatile (recovering_site before acks (c.held base.cell)) _ volatile refl (awaits.follows choose acks right))
+      (λ choose acks right summed. down_falls m c base first.volatile (recovering_site before acks (c.held base.cell)) _ volatile refl
+      (awaits.follows choose acks right))
 
   module _ (new : Shown C S B) (config : (new.f ≡ base.f) × (new.me ≡ base.me) × (new.setup ≡ base.setup)) where
     -- the event was dropped
     pub waited_dropped : (out : OutcomeOf C R O) (why : Why) → new.volatile ≡ awaiting now → new.cell ≡ base.cell → Drops out why
-        → Awaits {H = H} {C = C} {R = R} {O = O} {S = S} base.f base.me (c.held base.cell) before now (Ok (Dropped why)) event → Handles m c first new event (Ok out)
+        → Awaits {H = H} {C = C} {R = R} {O = O} {S = S} base.f base.me (c.held base.cell) before now (Ok (Dropped why)) event
+        → Handles m c first new event (Ok out)
     waited_dropped out why volatile cell d awaits = stepped_handles m c first new event out awaits.allowed (λ choose acks right summed.
         subst (Does m c first new out) (sym (awaits.follows choose acks right))
         (record {
@@ -67,7 +69,8 @@ module _ {H C R O S B : Type 0} (m : Ghosts H C R O S) (c : Cell B) (base : Show
         }))
 
     -- the state was regained
-    pub regained_on : (out : OutcomeOf C R O) (r : Running H C R O S) → IsRunning m (m.start base.setup) base.f r [] → new.volatile ≡ volatile_of (life.Up r) → new.cell ≡ base.cell → Sends out []
+    pub regained_on : (out : OutcomeOf C R O) (r : Running H C R O S) → IsRunning m (m.start base.setup) base.f r [] → new.volatile ≡ volatile_of (life.Up r)
+        → new.cell ≡ base.cell → Sends out []
         → Awaits base.f base.me (c.held base.cell) before now (Ok (Regained r)) event → Handles m c first new event (Ok out)
     regained_on out r runs volatile cell s awaits = stepped_handles m c first new event out awaits.allowed (λ choose acks right summed.
         subst (Does m c first new out) (sym (awaits.follows choose acks right))

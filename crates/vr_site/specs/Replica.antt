@@ -49,8 +49,10 @@ pub record KeepsPlace {C S B : Type 0} (old new : Shown C S B) : Type 0 where
   pub me : new.me ≡ old.me
   pub setup : new.setup ≡ old.setup
 
--- What was done is the step: what is shown is the site after it, the outcome is the step's, and the rest is as before. The cell is saved where it held another value, and there once.
-pub record Does {H C R O S B : Type 0} (m : Ghosts H C R O S) (c : Cell B) (old new : Shown C S B) (out : OutcomeOf C R O) (step : Step C R O) : Type 0 where
+-- What was done is the step: what is shown is the site after it, the outcome is the step's, and the rest is as before.
+-- The cell is saved where it held another value, and there once.
+pub record Does {H C R O S B : Type 0} (m : Ghosts H C R O S) (c : Cell B) (old new : Shown C S B)
+    (out : OutcomeOf C R O) (step : Step C R O) : Type 0 where
   pub f : new.f ≡ old.f
   pub me : new.me ≡ old.me
   pub setup : new.setup ≡ old.setup
@@ -60,8 +62,10 @@ pub record Does {H C R O S B : Type 0} (m : Ghosts H C R O S) (c : Cell B) (old 
   pub sent : out.sent.items ≡ envelopes m (m.start old.setup) old.me step
   pub ending : step.ending ≡ ended out.dropped
 
--- The site fell in place of the step, only where the event is handled and not dropped: for want of memory, or as the one save of the step's value failed.
-pub record Falls {C R O S B : Type 0} (c : Cell B) (old new : Shown C S B) (x : Site C) (step : Step C R O) (why : SiteFault) : Type 0 where
+-- The site fell in place of the step, only where the event is handled and not dropped: for want of memory, or as the
+-- one save of the step's value failed.
+pub record Falls {C R O S B : Type 0} (c : Cell B) (old new : Shown C S B) (x : Site C) (step : Step C R O)
+    (why : SiteFault) : Type 0 where
   pub f : new.f ≡ old.f
   pub me : new.me ≡ old.me
   pub setup : new.setup ≡ old.setup
@@ -71,25 +75,38 @@ pub record Falls {C R O S B : Type 0} (c : Cell B) (old new : Shown C S B) (x : 
   pub handled : step.ending ≡ Handled
   pub fault : (why ≡ NoMemory) ⊎ ((why ≡ CellFault) × IsOneSave c old.cell step.site.cell new.cell)
 
--- An event was handled as the site step says, for any right choice and any acknowledgements that the kept numbers sum up.
-pub record Handles {H C R O S B : Type 0} (m : Ghosts H C R O S) (c : Cell B) (old new : Shown C S B) (event : EventOf C R O) (result : Result (OutcomeOf C R O) SiteFault) : Type 0 where
+-- An event was handled as the site step says, for any right choice and any acknowledgements that the kept numbers sum
+-- up.
+pub record Handles {H C R O S B : Type 0} (m : Ghosts H C R O S) (c : Cell B) (old new : Shown C S B)
+    (event : EventOf C R O) (result : Result (OutcomeOf C R O) SiteFault) : Type 0 where
   -- an outcome is the step's
-  pub step : IfOk result (λ out. (choose : Choice C) (acks : List Ack) → IsRight old.f choose → SumUp old.volatile.acked acks →
+  pub step : IfOk result (λ out. (choose : Choice C) (acks : List Ack) → IsRight old.f choose
+      → SumUp old.volatile.acked acks →
       Does m c old new out (site_step choose old.f old.me (site_shown c.held old acks) event))
   -- an event that is refused changes nothing, and the fault is the refusal
-  pub refused : (fault : SiteFault) → refusal old.f old.me (site_shown c.held old []) event ≡ Some fault → (result ≡ Err fault) × (new ≡ old)
+  pub refused : (fault : SiteFault) → refusal old.f old.me (site_shown c.held old []) event ≡ Some fault
+      → (result ≡ Err fault) × (new ≡ old)
   -- any other fault is a fall
-  pub fall : refusal old.f old.me (site_shown c.held old []) event ≡ None → IfErr result (λ fault. (choose : Choice C) (acks : List Ack) → IsRight old.f choose → SumUp old.volatile.acked acks →
-      Falls c old new (site_shown c.held old acks) (site_step choose old.f old.me (site_shown c.held old acks) event) fault)
+  pub fall : refusal old.f old.me (site_shown c.held old []) event ≡ None
+      → IfErr result (λ fault. (choose : Choice C) (acks : List Ack) → IsRight old.f choose
+      → SumUp old.volatile.acked acks →
+      Falls c old new (site_shown c.held old acks) (site_step choose old.f old.me (site_shown c.held old acks) event)
+      fault)
 
--- What ran follows the step of an event that is not refused: what runs by now, and what was done. The step saves nothing.
-pub record Serves {H C R O S : Type 0} (m : Ghosts H C R O S) (start : H) (f me : ℕ) (cell : Boot) (old new : Running H C R O S) (done : Result (OutcomeOf C R O) AllocError) (event : EventOf C R O) : Type 0 where
+-- What ran follows the step of an event that is not refused: what runs by now, and what was done. The step saves
+-- nothing.
+pub record Serves {H C R O S : Type 0} (m : Ghosts H C R O S) (start : H) (f me : ℕ) (cell : Boot)
+    (old new : Running H C R O S) (done : Result (OutcomeOf C R O) AllocError) (event : EventOf C R O) : Type 0 where
   pub sound : IsSound m start f old
   pub allowed : refusal f me (site_of old [] cell) event ≡ None
-  pub follows : (choose : Choice C) (acks : List Ack) → IsRight f choose → IsRunning m start f old acks → Follows m start f me new done (on_event choose f me (site_of old acks cell) event)
-  pub saves : (choose : Choice C) (acks : List Ack) → (on_event choose f me (site_of old acks cell) event).site.cell ≡ cell
+  pub follows : (choose : Choice C) (acks : List Ack) → IsRight f choose → IsRunning m start f old acks
+      → Follows m start f me new done (on_event choose f me (site_of old acks cell) event)
+  pub saves : (choose : Choice C) (acks : List Ack)
+      → (on_event choose f me (site_of old acks cell) event).site.cell ≡ cell
 
 -- What was kept follows the step of an event that is not refused: what is kept by now, and what came of it.
-pub record Awaits {H C R O S : Type 0} (f me : ℕ) (cell : Boot) (old new : RecoveringOf C) (progress : Result (Progress H C R O S) AllocError) (event : EventOf C R O) : Type 0 where
+pub record Awaits {H C R O S : Type 0} (f me : ℕ) (cell : Boot) (old new : RecoveringOf C)
+    (progress : Result (Progress H C R O S) AllocError) (event : EventOf C R O) : Type 0 where
   pub allowed : refusal f me (recovering_site old [] cell) event ≡ None
-  pub follows : (choose : Choice C) (acks : List Ack) → IsRight f choose → FollowsProgress new acks cell progress (on_event choose f me (recovering_site old acks cell) event)
+  pub follows : (choose : Choice C) (acks : List Ack) → IsRight f choose
+      → FollowsProgress new acks cell progress (on_event choose f me (recovering_site old acks cell) event)

@@ -57,7 +57,8 @@ pub fn agreement<M: Machine>()
 /// a step opens a view or regains a state.
 pub fn binding<M: Machine>()
     ensures bind { (f : ℕ) (list : LegalList M.Cmd M.Reply M.Order f) → VotesBind list.world }
-    ensures fresh { (f : ℕ) (list : LegalList M.Cmd M.Reply M.Order f) → CollectedAreFresh list.world }
+    ensures fresh { (f : ℕ) (list : LegalList M.Cmd M.Reply M.Order f) →
+        CollectedAreFresh list.world }
     ensures used { (f : ℕ) (list : LegalList M.Cmd M.Reply M.Order f) → UsedAreFresh list }
 {
     agreement::binding::<M::Cmd, M::Reply, M::Order>();

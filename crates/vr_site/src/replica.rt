@@ -46,7 +46,8 @@ impl<M: Machine, C: BootCell> Model for Replica<M, C> {
 
     ghost view = { λ a. shown a.config.f a.config.me a.setup a.cell a.life };
 
-    ghost invariant = { λ a. M.admits a.setup × IsWell M.Machine (M.start a.setup) a.config.f a.life };
+    ghost invariant = { λ a. M.admits a.setup × IsWell M.Machine
+        (M.start a.setup) a.config.f a.life };
 }
 
 impl<M: Machine, C: BootCell> Replica<M, C> {
@@ -59,9 +60,11 @@ impl<M: Machine, C: BootCell> Replica<M, C> {
     /// A site over a cell: over a new one it is normal in view 0 with an empty log, over any other it is down.
     pub fn new(alloc: Global, config: Config, setup: M::Setup, cell: C) -> Result<Self, AllocError>
         requires { M.admits setup }
-        ensures parts { IfOk result (λ site. (site.f ≡ config.f) × (site.me ≡ config.me) × (site.setup ≡ setup) × (site.cell ≡ cell)) }
+        ensures parts { IfOk result (λ site. (site.f ≡ config.f) × (site.me ≡ config.me)
+            × (site.setup ≡ setup) × (site.cell ≡ cell)) }
         ensures acked { IfOk result (λ site. SumUp site.volatile.acked []) }
-        ensures site { IfOk result (λ site. site_shown C.held site [] ≡ opening_site config.f (C.held cell)) }
+        ensures site { IfOk result (λ site. site_shown C.held site []
+            ≡ opening_site config.f (C.held cell)) }
     {
         if !cell.load().is_new() {
             return Ok(Replica {
@@ -84,7 +87,8 @@ impl<M: Machine, C: BootCell> Replica<M, C> {
     pub fn over<D: BootCell>(self, cell: D) -> Replica<M, D>
         requires { D.held cell ≡ C.held self.cell }
         ensures is { result ≡ with_cell self cell }
-        ensures site { (acks : List Ack) → site_shown D.held result acks ≡ site_shown C.held self acks }
+        ensures site { (acks : List Ack) →
+            site_shown D.held result acks ≡ site_shown C.held self acks }
     {
         Replica {
             config: self.config,
@@ -107,17 +111,25 @@ impl<M: Machine, C: BootCell> Replica<M, C> {
         // Its place in the group stays, and what it was made from.
         ensures place { KeepsPlace self.old self.new }
         // A crash takes no memory, nor does an event that is dropped.
-        ensures crash { event ≡ AnyEvent.Crash → self.old.volatile.status ≢ Status.Down → IsOk result }
-        ensures dropped { (choose : Choice M.Cmd) (acks : List Ack) (why : Why) → IsRight self.old.f choose → SumUp self.old.volatile.acked acks →
-            (site_step choose self.old.f self.old.me (site_shown C.held self.old acks) event).ending ≡ Dropped why → IsOk result }
+        ensures crash { event ≡ AnyEvent.Crash → self.old.volatile.status ≢ Status.Down →
+            IsOk result }
+        ensures dropped { (choose : Choice M.Cmd) (acks : List Ack) (why : Why) →
+            IsRight self.old.f choose → SumUp self.old.volatile.acked acks →
+            (site_step choose self.old.f self.old.me (site_shown C.held self.old acks) event).ending
+            ≡ Dropped why → IsOk result }
         // A restart alone saves.
         ensures only_restart { event ≢ AnyEvent.Restart → self.new.cell ≡ self.old.cell }
         // The nonce of a RECOVERY was saved before.
-        ensures saved_first { IfOk result (λ out. All (λ envelope. IsSavedFor (C.held self.new.cell) envelope.msg) out.sent.items) }
+        ensures saved_first { IfOk result
+            (λ out. All (λ envelope. IsSavedFor (C.held self.new.cell) envelope.msg)
+            out.sent.items) }
         // A cell's fault has a cause, and a save that failed is told.
-        ensures cause { IsErrOf result SiteFault.CellFault → HasRisen (C.faults self.old.cell) (C.faults self.new.cell) }
-        ensures counted { result ≢ Err SiteFault.CellFault → C.faults self.new.cell ≡ C.faults self.old.cell }
-        ensures reliable { C.is_reliable self.old.cell → C.is_reliable self.new.cell × (result ≢ Err SiteFault.CellFault) }
+        ensures cause { IsErrOf result SiteFault.CellFault →
+            HasRisen (C.faults self.old.cell) (C.faults self.new.cell) }
+        ensures counted { result ≢ Err SiteFault.CellFault →
+            C.faults self.new.cell ≡ C.faults self.old.cell }
+        ensures reliable { C.is_reliable self.old.cell →
+            C.is_reliable self.new.cell × (result ≢ Err SiteFault.CellFault) }
     {
         // What the site shows is of a sound life.
         let _ = &self.config;
@@ -132,7 +144,8 @@ impl<M: Machine, C: BootCell> Replica<M, C> {
 
     /// Takes a message.
     fn deliver(&mut self, alloc: Global, envelope: Envelope<M>) -> Result<Outcome<M>, SiteFault>
-        ensures handles { Handles M.Machine C.BootCell self.old self.new (EventOf.Deliver envelope) result }
+        ensures handles { Handles M.Machine C.BootCell self.old self.new
+            (EventOf.Deliver envelope) result }
         ensures place { KeepsPlace self.old self.new }
         ensures cell { self.new.cell ≡ self.old.cell }
         ensures no_cell_fault { result ≢ Err SiteFault.CellFault }
@@ -149,7 +162,8 @@ impl<M: Machine, C: BootCell> Replica<M, C> {
 
     /// Why an envelope is refused that is not for this site.
     fn turned_away(&self) -> SiteFault
-        ensures { result ≡ (if is_down self.now.volatile.status then SiteFault.NotUp else SiteFault.NotMine) }
+        ensures { result ≡ (if is_down self.now.volatile.status then SiteFault.NotUp
+            else SiteFault.NotMine) }
     {
         match &self.life {
             Life::Down => SiteFault::NotUp,
@@ -167,7 +181,9 @@ impl<M: Machine, C: BootCell> Replica<M, C> {
         requires down { self.old.volatile ≡ lost }
         requires sound { IsSound M.Machine (M.start self.old.setup) self.old.f running }
         requires mine { is_addressed self.old.f self.old.me envelope ≡ true }
-        ensures handles { Handles M.Machine C.BootCell (record self.old { volatile = volatile_of (Life.Up running) }) self.new (EventOf.Deliver envelope) result }
+        ensures handles { Handles M.Machine C.BootCell
+            (record self.old { volatile = volatile_of (Life.Up running) }) self.new
+            (EventOf.Deliver envelope) result }
         ensures place { KeepsPlace self.old self.new }
         ensures cell { self.new.cell ≡ self.old.cell }
         ensures no_cell_fault { result ≢ Err SiteFault.CellFault }
@@ -193,7 +209,9 @@ impl<M: Machine, C: BootCell> Replica<M, C> {
         requires sound { IsSoundRecovering self.old.f recovering }
         requires admits { M.admits self.old.setup }
         requires mine { is_addressed self.old.f self.old.me envelope ≡ true }
-        ensures handles { Handles M.Machine C.BootCell (record self.old { volatile = awaiting recovering }) self.new (EventOf.Deliver envelope) result }
+        ensures handles { Handles M.Machine C.BootCell
+            (record self.old { volatile = awaiting recovering }) self.new
+            (EventOf.Deliver envelope) result }
         ensures place { KeepsPlace self.old self.new }
         ensures cell { self.new.cell ≡ self.old.cell }
         ensures no_cell_fault { result ≢ Err SiteFault.CellFault }
@@ -276,9 +294,12 @@ impl<M: Machine, C: BootCell> Replica<M, C> {
     fn restart(&mut self, alloc: Global) -> Result<Outcome<M>, SiteFault>
         ensures handles { Handles M.Machine C.BootCell self.old self.new EventOf.Restart result }
         ensures place { KeepsPlace self.old self.new }
-        ensures cause { IsErrOf result SiteFault.CellFault → HasRisen (C.faults self.old.cell) (C.faults self.new.cell) }
-        ensures counted { result ≢ Err SiteFault.CellFault → C.faults self.new.cell ≡ C.faults self.old.cell }
-        ensures reliable { C.is_reliable self.old.cell → C.is_reliable self.new.cell × (result ≢ Err SiteFault.CellFault) }
+        ensures cause { IsErrOf result SiteFault.CellFault →
+            HasRisen (C.faults self.old.cell) (C.faults self.new.cell) }
+        ensures counted { result ≢ Err SiteFault.CellFault →
+            C.faults self.new.cell ≡ C.faults self.old.cell }
+        ensures reliable { C.is_reliable self.old.cell →
+            C.is_reliable self.new.cell × (result ≢ Err SiteFault.CellFault) }
     {
         match &self.life {
             Life::Down => {}
@@ -298,7 +319,8 @@ impl<M: Machine, C: BootCell> Replica<M, C> {
     /// Why the site refuses an event, where it does: `NotUp`, `AlreadyUp`, `ViewsSpent`, `BootsSpent` or `NotMine`. It
     /// takes no memory.
     pub fn refuses(&self, event: &Event<M>) -> Option<SiteFault>
-        ensures { result ≡ refusal self.now.f self.now.me (site_shown C.held self.now []) event.now }
+        ensures { result ≡ refusal self.now.f self.now.me
+            (site_shown C.held self.now []) event.now }
     {
         match event {
             EventOf::Restart if !self.is_down() => Some(SiteFault::AlreadyUp),
@@ -315,7 +337,8 @@ impl<M: Machine, C: BootCell> Replica<M, C> {
 
     /// Whether the site is in the greatest view, as one that recovers is not.
     fn is_in_last_view(&self) -> bool
-        ensures { result ≡ (not (is_recovering self.now.volatile.status) && (self.now.volatile.view == max_number)) }
+        ensures { result ≡ (not (is_recovering self.now.volatile.status)
+            && (self.now.volatile.view == max_number)) }
     {
         match &self.life {
             Life::Up(running) => running.view == u32::MAX,
@@ -345,9 +368,13 @@ impl<M: Machine, C: BootCell> Replica<M, C> {
     ) -> Result<Outcome<M>, SiteFault>
         requires down { self.old.volatile ≡ lost }
         requires sound { OnOk done (IsSound M.Machine (M.start self.old.setup) self.old.f running) }
-        ensures handles { (before : AnyRunning M M.Cmd M.Reply M.Order M.Setup) (event : AnyEvent M.Cmd M.Reply M.Order) →
-            Serves M.Machine (M.start self.old.setup) self.old.f self.old.me (C.held self.old.cell) before running done event →
-            Handles M.Machine C.BootCell (record self.old { volatile = volatile_of (Life.Up before) }) self.new event result }
+        ensures handles { (before : AnyRunning M M.Cmd M.Reply M.Order M.Setup)
+            (event : AnyEvent M.Cmd M.Reply M.Order) →
+            Serves M.Machine (M.start self.old.setup) self.old.f self.old.me
+            (C.held self.old.cell) before running done event →
+            Handles M.Machine C.BootCell
+            (record self.old { volatile = volatile_of (Life.Up before) }) self.new event
+            result }
         ensures place { KeepsPlace self.old self.new }
         ensures cell { self.new.cell ≡ self.old.cell }
         ensures no_cell_fault { result ≢ Err SiteFault.CellFault }
@@ -367,10 +394,12 @@ impl<M: Machine, C: BootCell> Replica<M, C> {
         progress: Result<Progress<M>, AllocError>,
     ) -> Result<Outcome<M>, SiteFault>
         requires down { self.old.volatile ≡ lost }
-        requires sound { IfOk progress (λ progress. IsSoundProgress M.Machine (M.start self.old.setup) self.old.f recovering progress) }
+        requires sound { IfOk progress (λ progress.
+            IsSoundProgress M.Machine (M.start self.old.setup) self.old.f recovering progress) }
         ensures handles { (before : RecoveringOf M.Cmd) (event : AnyEvent M.Cmd M.Reply M.Order) →
             Awaits self.old.f self.old.me (C.held self.old.cell) before recovering progress event →
-            Handles M.Machine C.BootCell (record self.old { volatile = awaiting before }) self.new event result }
+            Handles M.Machine C.BootCell (record self.old { volatile = awaiting before }) self.new
+            event result }
         ensures place { KeepsPlace self.old self.new }
         ensures cell { self.new.cell ≡ self.old.cell }
         ensures no_cell_fault { result ≢ Err SiteFault.CellFault }
@@ -437,7 +466,8 @@ impl<M: Machine, C: BootCell> Replica<M, C> {
 
     /// The row at a place of the log, counted from 1.
     pub fn row(&self, place: usize) -> Option<Row<M>>
-        ensures { result ≡ (if place == 0 then None else slice_get self.now.volatile.log (place - 1)) }
+        ensures { result ≡ (if place == 0 then None
+            else slice_get self.now.volatile.log (place - 1)) }
     {
         let at = place.checked_sub(1)?;
         match &self.life {
@@ -449,7 +479,8 @@ impl<M: Machine, C: BootCell> Replica<M, C> {
     /// The machine of a site that is normal or in change: a fresh one that went through the executed rows.
     pub fn machine(&self) -> Option<&M>
         ensures there { IsSome result ↔ (is_running self.now.volatile.status ≡ true) }
-        ensures fold { IfSome result (λ machine. machine.now ≡ machine_of M.Machine (M.start self.now.setup) (site_shown C.held self.now [])) }
+        ensures fold { IfSome result (λ machine. machine.now
+            ≡ machine_of M.Machine (M.start self.now.setup) (site_shown C.held self.now [])) }
     {
         match &self.life {
             Life::Up(running) => Some(&running.kept.machine),
@@ -499,8 +530,10 @@ fn first<M: Machine>(
     setup: &M::Setup,
 ) -> Result<Running<M>, AllocError>
     requires { M.admits setup.now }
-    ensures sound { IfOk result (λ running. IsRunning M.Machine (M.start setup.now) config.f running []) }
-    ensures site { IfOk result (λ running. (cell : Boot) → site_of running [] cell ≡ record (over cell Status.Normal) { known = no_boots config.f }) }
+    ensures sound { IfOk result (λ running. IsRunning M.Machine
+        (M.start setup.now) config.f running []) }
+    ensures site { IfOk result (λ running. (cell : Boot) →
+        site_of running [] cell ≡ record (over cell Status.Normal) { known = no_boots config.f }) }
 {
     let empty = StateOf {
         done: 0,

@@ -25,9 +25,12 @@ pub(crate) fn serve<M: Machine>(
     requires sites { length running.old.acked.items ≡ 2 * config.f + 1 }
     requires known { length running.old.known ≡ 2 * config.f + 1 }
     requires may_come { may_send config.f config.me from msg ≡ true }
-    ensures sound { OnOk result ((start : M) → IsSound M.Machine start config.f running.old → IsSound M.Machine start config.f running.new) }
-    ensures step { (choose : Choice M.Cmd) (start : M) (acks : List Ack) (cell : Boot) → IsRight config.f choose → IsRunning M.Machine start config.f running.old acks →
-        Follows M.Machine start config.f config.me running.new result (on_message choose config.f config.me (site_of running.old acks cell) from msg) }
+    ensures sound { OnOk result ((start : M) → IsSound M.Machine start config.f running.old →
+        IsSound M.Machine start config.f running.new) }
+    ensures step { (choose : Choice M.Cmd) (start : M) (acks : List Ack) (cell : Boot) →
+        IsRight config.f choose → IsRunning M.Machine start config.f running.old acks →
+        Follows M.Machine start config.f config.me running.new result
+        (on_message choose config.f config.me (site_of running.old acks cell) from msg) }
 {
     let site = site_number(from);
     match msg {
@@ -77,8 +80,10 @@ pub(crate) fn beat<M: Machine>(
     running: &Running<M>,
 ) -> Result<Outcome<M>, AllocError>
     requires { IsReady M.Machine running.now.kept }
-    ensures { (start : M) (acks : List Ack) (cell : Boot) → IsRunning M.Machine start config.f running.now acks →
-        Follows M.Machine start config.f config.me running.now result (on_beat config.f config.me (site_of running.now acks cell) running.now.status) }
+    ensures { (start : M) (acks : List Ack) (cell : Boot) →
+        IsRunning M.Machine start config.f running.now acks →
+        Follows M.Machine start config.f config.me running.now result
+        (on_beat config.f config.me (site_of running.now acks cell) running.now.status) }
 {
     if changes_view(running.status) {
         vr_change::beat_in_change(alloc, config, running)

@@ -26,7 +26,8 @@ pub(crate) fn await_state<M: Machine>(
     requires setup { M.admits setup.now }
     requires sound { IsSoundRecovering config.f recovering.old }
     requires may_come { may_send config.f config.me from msg ≡ true }
-    ensures sound { IfOk result (λ progress. IsSoundProgress M.Machine (M.start setup.now) config.f recovering.new progress) }
+    ensures sound { IfOk result (λ progress.
+        IsSoundProgress M.Machine (M.start setup.now) config.f recovering.new progress) }
     ensures step { (choose : Choice M.Cmd) (acks : List Ack) → IsRight config.f choose →
         FollowsProgress recovering.new acks boot result
         (on_message choose config.f config.me (recovering_site recovering.old acks boot) from msg) }

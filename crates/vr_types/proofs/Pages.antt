@@ -17,7 +17,8 @@ length-full rows [] full = refl
 length-full rows (page ∷ pages) full = let rest = length-full rows pages full.1 in length-append (rows page) (flat_map rows pages) ∙ omega (arith, full.0, rest)
 
 -- how long the whole list is
-pub length-pages : {X Y : Type 0} (rows : X → List Y) (pages : List X) (rest : List Y) → AreFull rows pages → length (flat_map rows pages ++ rest) ≡ 64 * length pages + length rest
+pub length-pages : {X Y : Type 0} (rows : X → List Y) (pages : List X) (rest : List Y) → AreFull rows pages
+    → length (flat_map rows pages ++ rest) ≡ 64 * length pages + length rest
 length-pages rows pages rest full = length-append (flat_map rows pages) rest ∙ ap (λ n. n + length rest) (length-full rows pages full)
 
 -- the pages that stay are full
@@ -31,13 +32,15 @@ pub full-append : {X Y : Type 0} (rows : X → List Y) (pages more : List X) →
 full-append rows [] more full fuller = fuller
 full-append rows (page ∷ pages) more full fuller = (full.0, full-append rows pages more full.1 fuller)
 
-pub full-page : {X Y : Type 0} (rows : X → List Y) (pages : List X) (page : ℕ) (d : X) → AreFull rows pages → page < length pages → length (rows (get_or pages page d)) ≡ 64
+pub full-page : {X Y : Type 0} (rows : X → List Y) (pages : List X) (page : ℕ) (d : X) → AreFull rows pages → page < length pages
+    → length (rows (get_or pages page d)) ≡ 64
 full-page rows [] page d full within = absurd (omega (arith, within))
 full-page rows (p ∷ pages) zero d full within = full.0
 full-page rows (p ∷ pages) (suc page) d full within = full-page rows pages page d full.1 (omega (arith, within))
 
 -- what is left behind whole pages
-pub drop-pages : {X Y : Type 0} (rows : X → List Y) (pages : List X) (rest : List Y) (page : ℕ) → AreFull rows pages → page ≤ length pages → drop (64 * page) (flat_map rows pages ++ rest) ≡ flat_map rows (drop page pages) ++ rest
+pub drop-pages : {X Y : Type 0} (rows : X → List Y) (pages : List X) (rest : List Y) (page : ℕ) → AreFull rows pages → page ≤ length pages
+    → drop (64 * page) (flat_map rows pages ++ rest) ≡ flat_map rows (drop page pages) ++ rest
 drop-pages rows [] rest zero full within = refl
 drop-pages rows [] rest (suc page) full within = absurd (omega (arith, within))
 drop-pages rows (p ∷ pages) rest zero full within = refl
@@ -48,7 +51,8 @@ drop-pages rows (p ∷ pages) rest (suc page) full within =
     ∙ drop-pages rows pages rest page full.1 (omega (arith, within)))
 
 -- what whole pages hold
-pub take-pages : {X Y : Type 0} (rows : X → List Y) (pages : List X) (rest : List Y) (page : ℕ) → AreFull rows pages → page ≤ length pages → take (64 * page) (flat_map rows pages ++ rest) ≡ flat_map rows (take page pages)
+pub take-pages : {X Y : Type 0} (rows : X → List Y) (pages : List X) (rest : List Y) (page : ℕ) → AreFull rows pages → page ≤ length pages
+    → take (64 * page) (flat_map rows pages ++ rest) ≡ flat_map rows (take page pages)
 take-pages rows [] rest zero full within = refl
 take-pages rows [] rest (suc page) full within = absurd (omega (arith, within))
 take-pages rows (p ∷ pages) rest zero full within = refl
@@ -70,10 +74,12 @@ slice_get-append (x ∷ xs) ys zero within = refl
 slice_get-append (x ∷ xs) ys (suc k) within = slice_get-append xs ys k (omega (arith, within))
 
 -- what is left begins with the page
-pub begins-page : {X Y : Type 0} (rows : X → List Y) (pages : List X) (page : ℕ) (d : X) → page < length pages → flat_map rows (drop page pages) ≡ rows (get_or pages page d) ++ flat_map rows (drop (page + 1) pages)
+pub begins-page : {X Y : Type 0} (rows : X → List Y) (pages : List X) (page : ℕ) (d : X) → page < length pages
+    → flat_map rows (drop page pages) ≡ rows (get_or pages page d) ++ flat_map rows (drop (page + 1) pages)
 begins-page rows [] page d within = absurd (omega (arith, within))
 begins-page rows (p ∷ pages) zero d within = refl
-begins-page rows (p ∷ pages) (suc page) d within = let e : suc page + 1 ≡ suc (page + 1) = omega arith in rw e (begins-page rows pages page d (omega (arith, within)))
+begins-page rows (p ∷ pages) (suc page) d within = let e : suc page + 1 ≡ suc (page + 1) = omega arith in
+    rw e (begins-page rows pages page d (omega (arith, within)))
 
 -- a full page and what is behind it
 pub drop-page : {X Y : Type 0} (rows : X → List Y) (pages : List X) (rest : List Y) (page : ℕ) (d : X) → AreFull rows pages → page < length pages
@@ -84,7 +90,8 @@ drop-page rows pages rest page d full within =
     ∙ append_assoc (rows (get_or pages page d)) (flat_map rows (drop (page + 1) pages)) rest
 
 -- a row on a full page
-pub row-on_page : {X Y : Type 0} (rows : X → List Y) (pages : List X) (rest : List Y) (page within : ℕ) (d : X) → AreFull rows pages → page < length pages → within < 64
+pub row-on_page : {X Y : Type 0} (rows : X → List Y) (pages : List X) (rest : List Y) (page within : ℕ) (d : X) → AreFull rows pages → page < length pages
+    → within < 64
     → slice_get (flat_map rows pages ++ rest) (64 * page + within) ≡ slice_get (rows (get_or pages page d)) within
 row-on_page rows pages rest page within d full there few =
     let behind = flat_map rows (drop (page + 1) pages) ++ rest in
@@ -94,13 +101,17 @@ row-on_page rows pages rest page within d full there few =
     ∙ slice_get-append (rows (get_or pages page d)) behind within here
 
 -- behind all full pages only the rest is left
-pub drop-full : {X Y : Type 0} (rows : X → List Y) (pages : List X) (rest : List Y) → AreFull rows pages → drop (64 * length pages) (flat_map rows pages ++ rest) ≡ rest
-drop-full rows pages rest full = let many : 64 * length pages ≡ length (flat_map rows pages) + 0 = (let all = length-full rows pages full in omega (arith, all)) in rw many (drop-append-add (flat_map rows pages) rest 0)
+pub drop-full : {X Y : Type 0} (rows : X → List Y) (pages : List X) (rest : List Y) → AreFull rows pages
+    → drop (64 * length pages) (flat_map rows pages ++ rest) ≡ rest
+drop-full rows pages rest full =
+    let many : 64 * length pages ≡ length (flat_map rows pages) + 0 = (let all = length-full rows pages full in omega (arith, all)) in
+    rw many (drop-append-add (flat_map rows pages) rest 0)
 
 -- a row behind all full pages
 pub row-behind : {X Y : Type 0} (rows : X → List Y) (pages : List X) (rest : List Y) (within : ℕ) → AreFull rows pages
     → slice_get (flat_map rows pages ++ rest) (64 * length pages + within) ≡ slice_get rest within
-row-behind rows pages rest within full = sym (slice_get-drop (flat_map rows pages ++ rest) (64 * length pages) within) ∙ ap (λ l. slice_get l within) (drop-full rows pages rest full)
+row-behind rows pages rest within full =
+    sym (slice_get-drop (flat_map rows pages ++ rest) (64 * length pages) within) ∙ ap (λ l. slice_get l within) (drop-full rows pages rest full)
 
 -- a page that has rows
 as_page-is : {Y : Type 0} (rows : List Y) → 0 < length rows → as_page rows ≡ Some rows
@@ -121,24 +132,28 @@ page_of-full rows pages rest page d full within =
 -- the page behind all full pages
 pub page_of-last : {X Y : Type 0} (rows : X → List Y) (pages : List X) (rest : List Y) → AreFull rows pages → 0 < length rest → length rest ≤ 64
     → page_of (flat_map rows pages ++ rest) (length pages) ≡ Some rest
-page_of-last rows pages rest full some few = ap (λ l. as_page (take 64 l)) (drop-full rows pages rest full) ∙ ap as_page (take_all 64 rest few) ∙ as_page-is rest some
+page_of-last rows pages rest full some few =
+    ap (λ l. as_page (take 64 l)) (drop-full rows pages rest full) ∙ ap as_page (take_all 64 rest few) ∙ as_page-is rest some
 
 -- behind the last page there are no rows
-pub page_of-past : {X Y : Type 0} (rows : X → List Y) (pages : List X) (rest : List Y) (page : ℕ) → AreFull rows pages → 64 * length pages + length rest ≤ 64 * page
+pub page_of-past : {X Y : Type 0} (rows : X → List Y) (pages : List X) (rest : List Y) (page : ℕ) → AreFull rows pages
+    → 64 * length pages + length rest ≤ 64 * page
     → page_of (flat_map rows pages ++ rest) page ≡ None
 page_of-past rows pages rest page full past =
     let long = length-pages rows pages rest full in
     ap (λ l. as_page (take 64 l)) (drop_all (64 * page) (flat_map rows pages ++ rest) (omega (arith, long, past)))
 
 -- where the last page is full, or there is none, whole pages are all there is
-pub whole-pages : {X Y : Type 0} (rows : X → List Y) (pages : List X) (rest : List Y) → AreFull rows pages → length rest % 64 ≡ 0 → length (flat_map rows pages ++ rest) % 64 ≡ 0
+pub whole-pages : {X Y : Type 0} (rows : X → List Y) (pages : List X) (rest : List Y) → AreFull rows pages → length rest % 64 ≡ 0
+    → length (flat_map rows pages ++ rest) % 64 ≡ 0
 whole-pages rows pages rest full whole = ap (λ n. n % 64) (length-pages rows pages rest full) ∙ mul-add-mod_self_left 64 (length pages) (length rest) ∙ whole
 
 pub length-slice_range : {Y : Type 0} (xs : List Y) (from to : ℕ) → from ≤ to → to ≤ length xs → length (slice_range xs from to) ≡ to - from
 length-slice_range xs from to order within = let left = length-drop from xs in length-take-le (to - from) (drop from xs) (omega (arith, left, order, within))
 
 -- one more element
-pub slice_range-next : {Y : Type 0} (xs : List Y) (from at : ℕ) (x : Y) → from ≤ at → slice_get xs at ≡ Some x → slice_range xs from (at + 1) ≡ slice_range xs from at ++ x ∷ []
+pub slice_range-next : {Y : Type 0} (xs : List Y) (from at : ℕ) (x : Y) → from ≤ at → slice_get xs at ≡ Some x
+    → slice_range xs from (at + 1) ≡ slice_range xs from at ++ x ∷ []
 slice_range-next xs from at x order is =
     let more : at + 1 - from ≡ (at - from) + 1 = omega (arith, order) in
     let place : from + (at - from) ≡ at = omega (arith, order) in
@@ -147,7 +162,8 @@ slice_range-next xs from at x order is =
     ∙ ap (λ y. take (at - from) (drop from xs) ++ y ∷ []) (get_or_from_slice_get (drop from xs) (at - from) x x there))
 
 -- whole pages that stay, and the pages of a list that begins with what stays of the next
-pub joined-pages : {X Y : Type 0} (rows : X → List Y) (pages more : List X) (last end part : List Y) (whole from base : ℕ) → AreFull rows pages → whole ≤ length pages → from ≡ 64 * whole → from ≤ base
+pub joined-pages : {X Y : Type 0} (rows : X → List Y) (pages more : List X) (last end part : List Y) (whole from base : ℕ) → AreFull rows pages
+    → whole ≤ length pages → from ≡ 64 * whole → from ≤ base
     → flat_map rows more ++ end ≡ slice_range (flat_map rows pages ++ last) from base ++ part
     → flat_map rows (take whole pages ++ more) ++ end ≡ take base (flat_map rows pages ++ last) ++ part
 joined-pages rows pages more last end part whole from base full within starts order is =
@@ -168,7 +184,8 @@ full-drop rows (page ∷ pages) zero full = full
 full-drop rows (page ∷ pages) (suc n) full = full-drop rows pages n full.1
 
 -- pages that are shared hold the same rows
-pub shared-rows : {X V Y : Type 0} (value : X → V) (rows : V → List Y) (pages copies : List X) → AllZip (λ page copy. value copy ≡ value page) pages copies → flat_map (λ page. rows (value page)) copies ≡ flat_map (λ page. rows (value page)) pages
+pub shared-rows : {X V Y : Type 0} (value : X → V) (rows : V → List Y) (pages copies : List X) → AllZip (λ page copy. value copy ≡ value page) pages copies
+    → flat_map (λ page. rows (value page)) copies ≡ flat_map (λ page. rows (value page)) pages
 shared-rows value rows [] [] same = refl
 shared-rows value rows [] (copy ∷ copies) same = absurd same
 shared-rows value rows (page ∷ pages) [] same = absurd same
@@ -176,7 +193,8 @@ shared-rows value rows (page ∷ pages) (copy ∷ copies) same =
     ap (λ v. rows v ++ flat_map (λ p. rows (value p)) copies) same.0 ∙ ap (λ l. rows (value page) ++ l) (shared-rows value rows pages copies same.1)
 
 -- and are full as they were
-pub shared-full : {X V Y : Type 0} (value : X → V) (rows : V → List Y) (pages copies : List X) → AllZip (λ page copy. value copy ≡ value page) pages copies → AreFull (λ page. rows (value page)) pages → AreFull (λ page. rows (value page)) copies
+pub shared-full : {X V Y : Type 0} (value : X → V) (rows : V → List Y) (pages copies : List X) → AllZip (λ page copy. value copy ≡ value page) pages copies
+    → AreFull (λ page. rows (value page)) pages → AreFull (λ page. rows (value page)) copies
 shared-full value rows [] [] same full = tt
 shared-full value rows [] (copy ∷ copies) same full = absurd same
 shared-full value rows (page ∷ pages) [] same full = absurd same
@@ -184,7 +202,8 @@ shared-full value rows (page ∷ pages) (copy ∷ copies) same full =
     (ap (λ v. length (rows v)) same.0 ∙ full.0, shared-full value rows pages copies same.1 full.1)
 
 -- rows that are one page lie on the page behind all full ones
-pub one-page : {X Y : Type 0} (rows : X → List Y) (pages : List X) (rest : List Y) → AreFull rows pages → (length rest ≡ 0 → length pages ≡ 0) → length (flat_map rows pages ++ rest) ≡ 64 → flat_map rows pages ++ rest ≡ rest
+pub one-page : {X Y : Type 0} (rows : X → List Y) (pages : List X) (rest : List Y) → AreFull rows pages → (length rest ≡ 0 → length pages ≡ 0)
+    → length (flat_map rows pages ++ rest) ≡ 64 → flat_map rows pages ++ rest ≡ rest
 one-page rows [] rest full none long = refl
 one-page rows (page ∷ pages) rest full none long =
     let all = length-pages rows (page ∷ pages) rest full in

@@ -76,7 +76,8 @@ request_saved {C} {R} {O} f me x row =
     saved_if (not (is_normal x.status)) _ _ (no_mail x.cell)
     (saved_if (not (primary f x.view == me)) _ _ (no_mail x.cell)
     (saved_if (nat_lt (newest x.log row.client) row.number) _ _
-    (saved_if (length x.log == MAX_ROWS) _ _ (no_mail x.cell) (mail_to_all x.cell f me (Prepare (record { view = x.view; place = length x.log + 1; done = x.done; row = row })) tt))
+    (saved_if (length x.log == MAX_ROWS) _ _ (no_mail x.cell)
+    (mail_to_all x.cell f me (Prepare (record { view = x.view; place = length x.log + 1; done = x.done; row = row })) tt))
     (again (last_of (take x.done x.log) row.client))))
   where
     again : (last : Option (ℕ × RowOf C)) → IsSavedStep (answers_again {R = R} {O = O} x row.number (newest x.log row.client) last)
@@ -92,7 +93,9 @@ acknowledging_saved f me x = one_mail x.cell _ tt
 prepares_saved : {C R O : Type 0} (f me : ℕ) (x : Site C) (msg : PrepareOf C) → IsSavedStep (prepares {R = R} {O = O} f me x msg)
 prepares_saved {C} {R} {O} f me x msg = by_place (msg.place == length x.log + 1)
   where
-    saved_from : (y : Site C) → IsSavedStep (does {C = C} {R = R} {O = O} y (if nat_lt (length x.log + 1) msg.place then asks_state f me x.view (length x.log) else acknowledges_all f me y))
+    saved_from : (y : Site C)
+        → IsSavedStep (does {C = C} {R = R} {O = O} y (if nat_lt (length x.log + 1) msg.place then asks_state f me x.view (length x.log)
+        else acknowledges_all f me y))
     saved_from y = mail_if y.cell (nat_lt (length x.log + 1) msg.place) _ _ (asking_saved y.cell f me x.view (length x.log)) (acknowledging_saved f me y)
 
     by_place : (b : Bool) → IsSavedStep (
@@ -118,7 +121,8 @@ commit_saved f me x from msg =
     (saved_if (nat_lt x.view msg.view || is_change x.status) _ _ (asking_saved x.cell f me msg.view x.done)
     (mail_if x.cell (nat_lt (length x.log) msg.done) _ _ (asking_saved x.cell f me x.view (length x.log)) (no_mail x.cell)))))
 
-prepare_ok_saved : {C R O : Type 0} (choose : Choice C) (f me : ℕ) (x : Site C) (from : ℕ) (msg : PrepareOkMsg) → IsSavedStep (on_prepare_ok {R = R} {O = O} choose f me x from msg)
+prepare_ok_saved : {C R O : Type 0} (choose : Choice C) (f me : ℕ) (x : Site C) (from : ℕ) (msg : PrepareOkMsg)
+    → IsSavedStep (on_prepare_ok {R = R} {O = O} choose f me x from msg)
 unfolding on_prepare_ok
 prepare_ok_saved choose f me x from msg =
     saved_if (not (is_normal x.status)) _ _ (no_mail x.cell)
@@ -146,14 +150,22 @@ starting_later_saved {C} {R} {O} f me w x = by_test (nat_lt x.view w)
 keeping_start_saved : {C R O : Type 0} (start : Start) (p : Part C R O) → IsSavedPart p → IsSavedPart (record p { site = with_start start p.site })
 keeping_start_saved {C} {R} {O} start p h = by_test (has_start p.site.collected.starts start.from)
   where
-    by_test : (b : Bool) → IsSavedPart (record p { site = if b then p.site else record (p.site) { collected = record (p.site.collected) { starts = p.site.collected.starts ++ start ∷ [] } } })
+    by_test : (b : Bool)
+        → IsSavedPart
+        (record p {
+          site = if b then p.site
+              else record (p.site) { collected = record (p.site.collected) { starts = p.site.collected.starts ++ start ∷ [] } };
+        })
     by_test true = h
     by_test false = h
 
-keeping_vote_saved : {C R O : Type 0} (vote : Vote C) (x : Site C) (sent : List (EnvelopeOf C R O)) → AllSaved x.cell sent → IsSavedPart (record { site = with_vote vote x; sent = sent })
+keeping_vote_saved : {C R O : Type 0} (vote : Vote C) (x : Site C) (sent : List (EnvelopeOf C R O)) → AllSaved x.cell sent
+    → IsSavedPart (record { site = with_vote vote x; sent = sent })
 keeping_vote_saved {C} {R} {O} vote x sent s = by_test (has_vote x.collected.votes vote.from)
   where
-    by_test : (b : Bool) → IsSavedPart {C = C} {R = R} {O = O} (record { site = if b then x else record x { collected = record (x.collected) { votes = x.collected.votes ++ vote ∷ [] } }; sent = sent })
+    by_test : (b : Bool)
+        → IsSavedPart {C = C} {R = R} {O = O}
+        (record { site = if b then x else record x { collected = record (x.collected) { votes = x.collected.votes ++ vote ∷ [] } }; sent = sent })
     by_test true = s
     by_test false = s
 
@@ -177,7 +189,8 @@ opening_saved choose f me x p part =
     (saved_if (not (begins_with_executed choose.same p.site log)) _ _ (no_mail x.cell)
     (both_mails p.site.cell p.sent _ part (mail_to_all p.site.cell f me (StartView (record { view = opened.view; done = opened.done; rows = opened.log })) tt)))
 
-start_view_change_saved : {C R O : Type 0} (choose : Choice C) (f me : ℕ) (x : Site C) (w : ℕ) (start : Start) → IsSavedStep (on_start_view_change {R = R} {O = O} choose f me x w start)
+start_view_change_saved : {C R O : Type 0} (choose : Choice C) (f me : ℕ) (x : Site C) (w : ℕ) (start : Start)
+    → IsSavedStep (on_start_view_change {R = R} {O = O} choose f me x w start)
 unfolding on_start_view_change
 start_view_change_saved choose f me x w start =
     saved_if (is_recovering x.status) _ _ (no_mail x.cell)
@@ -188,7 +201,8 @@ start_view_change_saved choose f me x w start =
     opening_saved choose f me x _ (voting_saved f me (record started { site = with_start start started.site })
     (keeping_start_saved start started (starting_later_saved f me w (learns start.known x))))))))
 
-do_view_change_saved : {C R O : Type 0} (choose : Choice C) (f me : ℕ) (x : Site C) (w : ℕ) (vote : Vote C) → IsSavedStep (on_do_view_change {R = R} {O = O} choose f me x w vote)
+do_view_change_saved : {C R O : Type 0} (choose : Choice C) (f me : ℕ) (x : Site C) (w : ℕ) (vote : Vote C)
+    → IsSavedStep (on_do_view_change {R = R} {O = O} choose f me x w vote)
 unfolding on_do_view_change
 do_view_change_saved choose f me x w vote =
     saved_if (is_recovering x.status) _ _ (no_mail x.cell)
@@ -199,13 +213,15 @@ do_view_change_saved choose f me x w vote =
     (let started = starts_later_view f me w (learns vote.known x) in
     opening_saved choose f me x _ (keeping_vote_saved vote started.site started.sent (starting_later_saved f me w (learns vote.known x))))))))
 
-taking_saved : {C R O : Type 0} (choose : Choice C) (f me : ℕ) (x : Site C) (w k : ℕ) (log : List (RowOf C)) → IsSavedStep (takes_log {R = R} {O = O} choose f me x w k log)
+taking_saved : {C R O : Type 0} (choose : Choice C) (f me : ℕ) (x : Site C) (w k : ℕ) (log : List (RowOf C))
+    → IsSavedStep (takes_log {R = R} {O = O} choose f me x w k log)
 taking_saved choose f me x w k log =
     let y = executed_to k (normal_in w log x) in
     saved_if (begins_with_executed choose.same x log) _ _
     (mail_if x.cell (nat_lt y.done (length y.log)) _ _ (acknowledging_saved f me y) (no_mail x.cell)) (no_mail x.cell)
 
-start_view_saved : {C R O : Type 0} (choose : Choice C) (f me : ℕ) (x : Site C) (from : ℕ) (msg : StartViewOf C) → IsSavedStep (on_start_view {R = R} {O = O} choose f me x from msg)
+start_view_saved : {C R O : Type 0} (choose : Choice C) (f me : ℕ) (x : Site C) (from : ℕ) (msg : StartViewOf C)
+    → IsSavedStep (on_start_view {R = R} {O = O} choose f me x from msg)
 unfolding on_start_view
 start_view_saved choose f me x from msg =
     saved_if (not (primary f msg.view == from)) _ _ (no_mail x.cell)
@@ -235,7 +251,8 @@ get_state_saved f me x from msg =
     (saved_if (nat_lt (length x.log) msg.base) _ _ (no_mail x.cell)
     (one_mail x.cell (mail me from (NewState (record { view = x.view; base = msg.base; done = x.done; rows = drop msg.base x.log }))) tt))))
 
-new_state_saved : {C R O : Type 0} (choose : Choice C) (f me : ℕ) (x : Site C) (from : ℕ) (msg : NewStateOf C) → IsSavedStep (on_new_state {R = R} {O = O} choose f me x from msg)
+new_state_saved : {C R O : Type 0} (choose : Choice C) (f me : ℕ) (x : Site C) (from : ℕ) (msg : NewStateOf C)
+    → IsSavedStep (on_new_state {R = R} {O = O} choose f me x from msg)
 unfolding on_new_state
 new_state_saved choose f me x from msg =
     saved_if (not (primary f msg.view == from)) _ _ (no_mail x.cell)
@@ -243,7 +260,8 @@ new_state_saved choose f me x from msg =
     (saved_if (nat_lt msg.view x.view) _ _ (no_mail x.cell)
     (saved_if (nat_lt MAX_ROWS (msg.base + length msg.rows)) _ _ (no_mail x.cell)
     (saved_if (is_normal x.status && (msg.view == x.view)) _ _
-    (saved_if (nat_le msg.base (length x.log) && nat_lt (length x.log) (msg.base + length msg.rows)) _ _ (taking_saved choose f me x msg.view msg.done _) (no_mail x.cell))
+    (saved_if (nat_le msg.base (length x.log) && nat_lt (length x.log) (msg.base + length msg.rows)) _ _
+    (taking_saved choose f me x msg.view msg.done _) (no_mail x.cell))
     (saved_if (nat_le msg.base x.done && nat_le x.done (msg.base + length msg.rows)) _ _ (taking_saved choose f me x msg.view msg.done _) (no_mail x.cell))))))
 
 -- recovery
@@ -260,7 +278,8 @@ regaining_saved : {C R O : Type 0} (x : Site C) (regained : Option (Regained C))
 regaining_saved x None = no_mail x.cell
 regaining_saved x (Some regained) = no_mail x.cell
 
-recovery_response_saved : {C R O : Type 0} (choose : Choice C) (x : Site C) (nonce : ℕ) (response : Response C) → IsSavedStep (on_recovery_response {R = R} {O = O} choose x nonce response)
+recovery_response_saved : {C R O : Type 0} (choose : Choice C) (x : Site C) (nonce : ℕ) (response : Response C)
+    → IsSavedStep (on_recovery_response {R = R} {O = O} choose x nonce response)
 unfolding on_recovery_response
 recovery_response_saved choose x nonce response =
     let y = learns response.known x in
@@ -322,15 +341,27 @@ module _ {H C R O S : Type 0} (m : Ghosts H C R O S) (start : H) (me : ℕ) (cel
   replies_saved x (p ∷ ps) = one (slice_get x.log (p - 1)) (filter_map (reply_to m start me x) ps) (replies_saved x ps)
     where
       one : (row : Option (RowOf C)) (rest : List (EnvelopeOf C R O)) → AllSaved cell rest
-          → AllSaved cell (cons_option (option_map (λ r. record { from = actor_of me; to = r.client; msg = Reply (record { view = x.view; number = r.number; reply = answer_at m start x.log p r }) }) row) rest)
+          → AllSaved cell
+          (cons_option
+          (option_map (λ r. record {
+            from = actor_of me;
+            to = r.client;
+            msg = Reply (record { view = x.view; number = r.number; reply = answer_at m start x.log p r });
+          }) row) rest)
       one None rest h = h
-      one (Some r) rest h = both_mails cell (record { from = actor_of me; to = r.client; msg = Reply (record { view = x.view; number = r.number; reply = answer_at m start x.log p r }) } ∷ []) rest (one_mail cell _ tt) h
+      one (Some r) rest h =
+          both_mails cell (record {
+            from = actor_of me;
+            to = r.client;
+            msg = Reply (record { view = x.view; number = r.number; reply = answer_at m start x.log p r });
+          } ∷ []) rest (one_mail cell _ tt) h
 
   orders_saved : (b : Bool) (due : List (ℕ × O)) → AllSaved {C = C} {R = R} {O = O} cell (if b then map (order_to me) due else [])
   orders_saved true due = All-map (λ (d : EnvelopeOf C R O). IsSavedFor cell d.msg) (order_to me) due (λ k d low. tt)
   orders_saved false due = no_mail cell
 
-pub envelopes_saved : {H C R O S : Type 0} (m : Ghosts H C R O S) (start : H) (me : ℕ) (s : Step C R O) → IsSavedStep s → AllSaved s.site.cell (envelopes m start me s)
+pub envelopes_saved : {H C R O S : Type 0} (m : Ghosts H C R O S) (start : H) (me : ℕ) (s : Step C R O) → IsSavedStep s
+    → AllSaved s.site.cell (envelopes m start me s)
 envelopes_saved m start me s h =
     let cell = s.site.cell in
     both_mails cell (s.sent ++ filter_map (reply_to m start me s.site) s.replies) _

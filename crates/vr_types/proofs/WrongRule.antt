@@ -35,8 +35,10 @@ takes_unnoted f me x actor msg = on_message (choice_of same_ask f) f me x actor 
 abbrev unnoted : World
 unnoted = run_with (step_but (takes_unnoted 1) 1) 1 (opening 1) late_vote
 
-unnoted_executes : map executed_rows unnoted.sites ≡ (record { client = 102; number = 1; cmd = Add 1 } ∷ []) ∷ (record { client = 102; number = 2; cmd = Add 2 } ∷ []) ∷ [] ∷ []
-unfolding on_request on_prepare on_prepare_ok on_commit beats_normal on_start_view_change on_do_view_change on_start_view on_timer beats_in_change on_get_state on_new_state on_recovery on_recovery_response beats_recovering on_restart
+unnoted_executes : map executed_rows unnoted.sites ≡ (record { client = 102; number = 1; cmd = Add 1 } ∷ [])
+    ∷ (record { client = 102; number = 2; cmd = Add 2 } ∷ []) ∷ [] ∷ []
+unfolding on_request on_prepare on_prepare_ok on_commit beats_normal on_start_view_change on_do_view_change on_start_view on_timer beats_in_change on_get_state
+    on_new_state on_recovery on_recovery_response beats_recovering on_restart
 unnoted_executes = refl
 
 -- THE SECOND: what a sender knew is learnt, and what is collected stays, of whatever boot it is.
@@ -73,6 +75,8 @@ takes_keeping f me x actor msg = on_message (choice_of same_ask f) f me x actor 
 abbrev keeping : World
 keeping = run_with (step_but (takes_keeping 2) 2) 2 (opening 2) old_vote
 
-keeping_executes : map executed_rows keeping.sites ≡ (record { client = 102; number = 1; cmd = Add 1 } ∷ []) ∷ (record { client = 102; number = 2; cmd = Add 2 } ∷ []) ∷ [] ∷ [] ∷ [] ∷ []
-unfolding on_request on_prepare on_prepare_ok on_commit beats_normal on_start_view_change on_do_view_change on_start_view on_timer beats_in_change on_get_state on_new_state on_recovery on_recovery_response beats_recovering on_restart
+keeping_executes : map executed_rows keeping.sites ≡ (record { client = 102; number = 1; cmd = Add 1 } ∷ [])
+    ∷ (record { client = 102; number = 2; cmd = Add 2 } ∷ []) ∷ [] ∷ [] ∷ [] ∷ []
+unfolding on_request on_prepare on_prepare_ok on_commit beats_normal on_start_view_change on_do_view_change on_start_view on_timer beats_in_change on_get_state
+    on_new_state on_recovery on_recovery_response beats_recovering on_restart
 keeping_executes = refl

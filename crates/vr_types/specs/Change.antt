@@ -17,7 +17,8 @@ pub record Part (C R O : Type 0) : Type 0 where
   pub site : Site C
   pub sent : List (EnvelopeOf C R O)
 
--- The site takes part in the change to view w (step 1). It gives up what it collected, and tells all. Its log, what it executed, its last normal view and what it knows stay.
+-- The site takes part in the change to view w (step 1). It gives up what it collected, and tells all. Its log, what it
+-- executed, its last normal view and what it knows stay.
 abbrev pub starts_view : {C R O : Type 0} → ℕ → ℕ → ℕ → Site C → Part C R O
 starts_view f me w x = record {
   site = record x { status = Change; view = w; collected = nothing };
@@ -42,11 +43,13 @@ with_vote vote x =
 
 -- the vote that a site gives by its DOVIEWCHANGE
 abbrev pub vote_of : {C : Type 0} → ℕ → DoViewChangeOf C → Vote C
-vote_of from msg = record { from = from; last_normal = msg.last_normal; done = msg.done; log = msg.rows; known = msg.known }
+vote_of from msg =
+    record { from = from; last_normal = msg.last_normal; done = msg.done; log = msg.rows; known = msg.known }
 
 -- the DOVIEWCHANGE of a view that gives a vote
 abbrev pub ballot : {C : Type 0} → ℕ → Vote C → DoViewChangeOf C
-ballot w vote = record { view = w; last_normal = vote.last_normal; done = vote.done; rows = vote.log; known = vote.known }
+ballot w vote =
+    record { view = w; last_normal = vote.last_normal; done = vote.done; rows = vote.log; known = vote.known }
 
 -- its own DOVIEWCHANGE is made
 abbrev pub with_voted : {C : Type 0} → Site C → Site C
@@ -78,13 +81,18 @@ is_to_open f me x =
     is_change x.status && ((primary f x.view == me)
     && (has_vote x.collected.votes me && nat_lt f (count_by (has_vote x.collected.votes) (sites f))))
 
--- The view is opened with the picked log (steps 3 and 4): the site is normal in it, executes to the largest commit-number, and tells all; then the clients are answered.
+-- The view is opened with the picked log (steps 3 and 4): the site is normal in it, executes to the largest
+-- commit-number, and tells all; then the clients are answered.
 abbrev pub opened_with : {C R O : Type 0} → ℕ → ℕ → List (RowOf C) → ℕ → Part C R O → Step C R O
 opened_with {C} {R} {O} f me log k part =
     let opened = executes_and_answers {R = R} {O = O} k (normal_in part.site.view log part.site) in
-    record opened { sent = part.sent ++ to_all f me (StartView (record { view = opened.site.view; done = opened.site.done; rows = opened.site.log })) }
+    record opened {
+      sent = part.sent ++ to_all f me
+          (StartView (record { view = opened.site.view; done = opened.site.done; rows = opened.site.log }));
+    }
 
--- Where the view can be opened, it is. This project's own: a picked log that does not begin with what the site executed is dropped with its message; x is the site as the message found it.
+-- Where the view can be opened, it is. This project's own: a picked log that does not begin with what the site executed
+-- is dropped with its message; x is the site as the message found it.
 abbrev pub opens_where_due : {C R O : Type 0} → Choice C → ℕ → ℕ → Site C → Part C R O → Step C R O
 opens_where_due choose f me x part =
     let votes = part.site.collected.votes in
@@ -93,7 +101,8 @@ opens_where_due choose f me x part =
     else if not (begins_with_executed choose.same part.site log) then drops x Stale
     else opened_with f me log (choose.most_done votes) part
 
--- The site as it decides whether the view opens, after a STARTVIEWCHANGE: what its sender knew is learnt, the view is started where it is later, the message is kept, and the site votes where that is due.
+-- The site as it decides whether the view opens, after a STARTVIEWCHANGE: what its sender knew is learnt, the view is
+-- started where it is later, the message is kept, and the site votes where that is due.
 abbrev pub after_start : {C R O : Type 0} → ℕ → ℕ → ℕ → Start → Site C → Part C R O
 after_start f me w start x =
     let started = starts_later_view f me w (learns start.known x) in
@@ -105,7 +114,8 @@ after_vote f me w vote x =
     let started = starts_later_view f me w (learns vote.known x) in
     record started { site = with_vote vote started.site }
 
--- STARTVIEWCHANGE (steps 1 and 2). This project's own, here and below: one of an earlier boot of its sender is dropped, and what its sender knew is learnt.
+-- STARTVIEWCHANGE (steps 1 and 2). This project's own, here and below: one of an earlier boot of its sender is dropped,
+-- and what its sender knew is learnt.
 unfoldable pub on_start_view_change : {C R O : Type 0} → Choice C → ℕ → ℕ → Site C → ℕ → Start → Step C R O
 on_start_view_change choose f me x w start =
     if is_recovering x.status then drops x Status

@@ -12,7 +12,8 @@ pub record IsLargest (Holds : ℕ → Type 0) (x : ℕ) : Type 0 where
   pub holds : Holds x
   pub largest : (n : ℕ) → Holds n → n ≤ x
 
--- Site j has acknowledged the first n rows, by a PREPAREOK whose place is cut at the length that the log then had. Of no rows this is always so.
+-- Site j has acknowledged the first n rows, by a PREPAREOK whose place is cut at the length that the log then had. Of
+-- no rows this is always so.
 abbrev pub has_acknowledged : List Ack → ℕ → ℕ → Bool
 has_acknowledged acks n j = (n == 0) || list_any (λ ack. (ack.from == j) && nat_le n (min ack.place ack.rows)) acks
 
@@ -31,7 +32,8 @@ GoesBefore a b =
     ⊎ ((a.last_normal ≡ b.last_normal) × (length b.log < length a.log))
     ⊎ ((a.last_normal ≡ b.last_normal) × (length a.log ≡ length b.log) × (a.from < b.from))
 
--- The vote whose log a new primary takes (section 4.2, step 3): one of those kept, such that none of them goes before it. The published rule leaves open which of equal ones is taken; here it is the lowest site's.
+-- The vote whose log a new primary takes (section 4.2, step 3): one of those kept, such that none of them goes before
+-- it. The published rule leaves open which of equal ones is taken; here it is the lowest site's.
 pub record IsPick {C : Type 0} (votes : List (Vote C)) (pick : Vote C) : Type 0 where
   pub kept : Contains votes pick
   pub first : (vote : Vote C) → Contains votes vote → ¬ GoesBefore vote pick
@@ -45,18 +47,25 @@ pub record Regained (C : Type 0) : Type 0 where
   pub view : ℕ
   pub state : StateOf C
 
--- The state that a recovering site regains (section 4.3, step 3): f+1 sites have answered, none from a later view than this, and the primary of this view has answered from it with its state.
+-- The state that a recovering site regains (section 4.3, step 3): f+1 sites have answered, none from a later view than
+-- this, and the primary of this view has answered from it with its state.
 pub record IsRegained {C : Type 0} (f : ℕ) (responses : List (Response C)) (regained : Regained C) : Type 0 where
   pub enough : f < count_by (has_response responses) (sites f)
   pub greatest : (response : Response C) → Contains responses response → response.view ≤ regained.view
   pub known : List ℕ
-  pub answered : Contains responses (record { from = primary f regained.view; view = regained.view; state = Some regained.state; known = known })
+  pub answered : Contains responses (record {
+    from = primary f regained.view;
+    view = regained.view;
+    state = Some regained.state;
+    known = known;
+  })
 
 -- of each sender there is one
 abbrev pub OneEach : {A : Type 0} → (A → ℕ) → List A → Type 0
 OneEach {A} sender xs = (a b : A) → Contains xs a → Contains xs b → sender a ≡ sender b → a ≡ b
 
--- a set of messages is fresh: of any two of them, the one's sender knew no later boot of the other's sender than that one's message is of
+-- a set of messages is fresh: of any two of them, the one's sender knew no later boot of the other's sender than that
+-- one's message is of
 abbrev pub AreFresh : {A : Type 0} → (A → ℕ) → (A → List ℕ) → List A → Type 0
 AreFresh {A} sender known xs =
     (a b : A) → Contains xs a → Contains xs b

@@ -41,24 +41,29 @@ refusal f me x Restart =
 
 -- a message of an actor that may send it; to the rules a client is its actor's number, and a site its own
 abbrev pub on_message : {C R O : Type 0} → Choice C → ℕ → ℕ → Site C → ℕ → MsgOf C R O → Step C R O
-on_message choose f me x actor (Request msg) = on_request f me x (record { client = actor; number = msg.number; cmd = msg.cmd })
+on_message choose f me x actor (Request msg) =
+    on_request f me x (record { client = actor; number = msg.number; cmd = msg.cmd })
 on_message choose f me x actor (Prepare msg) = on_prepare f me x (site_of actor) msg
 on_message choose f me x actor (PrepareOk msg) = on_prepare_ok choose f me x (site_of actor) msg
 on_message choose f me x actor (Commit msg) = on_commit f me x (site_of actor) msg
-on_message choose f me x actor (StartViewChange msg) = on_start_view_change choose f me x msg.view (record { from = site_of actor; known = msg.known })
-on_message choose f me x actor (DoViewChange msg) = on_do_view_change choose f me x msg.view (vote_of (site_of actor) msg)
+on_message choose f me x actor (StartViewChange msg) =
+    on_start_view_change choose f me x msg.view (record { from = site_of actor; known = msg.known })
+on_message choose f me x actor (DoViewChange msg) =
+    on_do_view_change choose f me x msg.view (vote_of (site_of actor) msg)
 on_message choose f me x actor (StartView msg) = on_start_view choose f me x (site_of actor) msg
 on_message choose f me x actor (GetState msg) = on_get_state f me x (site_of actor) msg
 on_message choose f me x actor (NewState msg) = on_new_state choose f me x (site_of actor) msg
 on_message choose f me x actor (Recovery msg) = on_recovery f me x (site_of actor) msg
-on_message choose f me x actor (RecoveryResponse msg) = on_recovery_response choose x msg.nonce (response_of (site_of actor) msg)
+on_message choose f me x actor (RecoveryResponse msg) =
+    on_recovery_response choose x msg.nonce (response_of (site_of actor) msg)
 on_message choose f me x actor (Reply msg) = refuses x NotMine
 on_message choose f me x actor (PayOrder order) = refuses x NotMine
 
 -- the DOVIEWCHANGEs by which a message decides whether a view opens: none where it opens none
 abbrev pub votes_used : {C R O : Type 0} → ℕ → ℕ → Site C → ℕ → MsgOf C R O → List (Vote C)
 votes_used {C} {R} {O} f me x actor (StartViewChange msg) =
-    let part : Part C R O = after_start f me msg.view (record { from = site_of actor; known = msg.known }) x in part.site.collected.votes
+    let part : Part C R O = after_start f me msg.view (record { from = site_of actor; known = msg.known }) x in
+    part.site.collected.votes
 votes_used {C} {R} {O} f me x actor (DoViewChange msg) =
     let part : Part C R O = after_vote f me msg.view (vote_of (site_of actor) msg) x in part.site.collected.votes
 votes_used f me x actor _ = []
@@ -102,7 +107,8 @@ dropped_as Handled = None
 dropped_as (Dropped why) = Some why
 dropped_as (Refused fault) = None
 
--- A fall in place of a step that is not refused: nothing is sent, and the site is down over a cell that is old or as the step saves it.
+-- A fall in place of a step that is not refused: nothing is sent, and the site is down over a cell that is old or as
+-- the step saves it.
 pub record IsFall {C R O : Type 0} (x : Site C) (step : Step C R O) (y : Site C) : Type 0 where
   pub allowed : is_refused step.ending ≡ false
   pub down : (y ≡ over x.cell Down) ⊎ (y ≡ over step.site.cell Down)
@@ -115,7 +121,11 @@ machine_of m start x = held_after m start (executed_rows x)
 abbrev pub reply_to : {H C R O S : Type 0} → Ghosts H C R O S → H → ℕ → Site C → ℕ → Option (EnvelopeOf C R O)
 reply_to m start me x place =
     option_map
-    (λ row. record { from = actor_of me; to = row.client; msg = Reply (record { view = x.view; number = row.number; reply = answer_at m start x.log place row }) })
+    (λ row. record {
+      from = actor_of me;
+      to = row.client;
+      msg = Reply (record { view = x.view; number = row.number; reply = answer_at m start x.log place row });
+    })
     (slice_get x.log (place - 1))
 
 -- PAYORDER of an open order to its client

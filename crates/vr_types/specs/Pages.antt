@@ -19,7 +19,8 @@ abbrev pub rows_on : {C : Type 0} → List (Arc (Vec (RowOf C) Global) Global) �
 rows_on full last = flat_map on_page full ++ last.items
 
 -- all pages but the last are full, the last has room for a whole page, and it is empty only where there are no rows
-pub record AreOnPages {C : Type 0} (pages : List (Arc (Vec (RowOf C) Global) Global)) (end : Vec (RowOf C) Global) : Type 0 where
+pub record AreOnPages {C : Type 0} (pages : List (Arc (Vec (RowOf C) Global) Global)) (end : Vec (RowOf C) Global)
+    : Type 0 where
   pub full : AllByRecursion (λ page. length (on_page page) ≡ page_rows) pages
   pub last : length end.items ≤ page_rows
   pub room : 0 < length end.items → page_rows ≤ vec_capacity end

@@ -1,4 +1,6 @@
--- Recovery, by section 4.3 of 'Viewstamped Replication Revisited' (MIT-CSAIL-TR-2012-021), whose steps are named. This project's own: the boot cell holds the count of restarts alone, which is the nonce; each site keeps what it has heard of the counts of the others.
+-- Recovery, by section 4.3 of 'Viewstamped Replication Revisited' (MIT-CSAIL-TR-2012-021), whose steps are named. This
+-- project's own: the boot cell holds the count of restarts alone, which is the nonce; each site keeps what it has heard
+-- of the counts of the others.
 use Rattle.std.specs.Prelude.{ℕ, ◌==◌, ◌&&◌, Bool, not, nat_lt, nat_le, List, [], ◌∷◌, ◌++◌, filter, slice_set, Option, Some, None, if◌then◌else◌}
 use Rattle.std.specs.List.{list_any}
 use Rattle.vr_types.specs.declared.event.Status.TheVariants.{Down}
@@ -26,7 +28,11 @@ unfoldable pub on_recovery : {C R O : Type 0} → ℕ → ℕ → Site C → ℕ
 on_recovery f me x from msg =
     if not (is_normal x.status) then drops x Status
     else if nat_lt msg.nonce (boot_of x.known from) then drops x Stale
-    else (let y = notes from msg.nonce x in does y (mail me from (RecoveryResponse (record { view = y.view; nonce = msg.nonce; state = state_of_view f me y; known = y.known })) ∷ []))
+    else (let y = notes from msg.nonce x in
+    does y
+    (mail me from
+    (RecoveryResponse (record { view = y.view; nonce = msg.nonce; state = state_of_view f me y; known = y.known }))
+    ∷ []))
 
 -- what a site answers by its RECOVERYRESPONSE
 abbrev pub response_of : {C : Type 0} → ℕ → RecoveryResponseOf C → Response C
@@ -39,7 +45,12 @@ has_as_late responses new = list_any (λ old. (old.from == new.from) && nat_le n
 -- the response is kept, and none else of its sender
 abbrev pub with_response : {C : Type 0} → Response C → Site C → Site C
 with_response new x =
-    record x { collected = record (x.collected) { responses = filter (λ old. not (old.from == new.from)) x.collected.responses ++ new ∷ [] } }
+    record x {
+      collected = record (x.collected) {
+        responses = filter
+            (λ old. not (old.from == new.from)) x.collected.responses ++ new ∷ [];
+      };
+    }
 
 -- the state is regained, where one is: a fresh machine executes as far as the primary had; nobody is answered
 abbrev pub regains : {C R O : Type 0} → Site C → Option (Regained C) → Step C R O
@@ -68,7 +79,8 @@ beats_recovering f me x = does x (to_all f me (Recovery (record { nonce = nonce_
 abbrev pub on_crash : {C R O : Type 0} → Site C → Step C R O
 on_crash x = does (over x.cell Down) []
 
--- Restart of a site that is down (step 1): the count of restarts is raised and saved, and all are asked. A count at its greatest is refused before.
+-- Restart of a site that is down (step 1): the count of restarts is raised and saved, and all are asked. A count at its
+-- greatest is refused before.
 unfoldable pub on_restart : {C R O : Type 0} → ℕ → ℕ → Site C → Step C R O
 on_restart f me x =
     let cell = raised x.cell in does (restarted f me cell) (to_all f me (Recovery (record { nonce = nonce_of cell })))

@@ -19,7 +19,8 @@ pub record Start : Type 0 where
   pub from : ℕ
   pub known : List ℕ
 
--- a DOVIEWCHANGE: its sender, the last view in which that was normal, how many rows it had executed, its log, and what it knew
+-- a DOVIEWCHANGE: its sender, the last view in which that was normal, how many rows it had executed, its log, and what
+-- it knew
 pub record Vote (C : Type 0) : Type 0 where
   pub from : ℕ
   pub last_normal : ℕ
@@ -27,7 +28,8 @@ pub record Vote (C : Type 0) : Type 0 where
   pub log : List (RowOf C)
   pub known : List ℕ
 
--- a RECOVERYRESPONSE that came: its sender, that site's view, the state of the view where its primary answered, and what the sender knew
+-- a RECOVERYRESPONSE that came: its sender, that site's view, the state of the view where its primary answered, and
+-- what the sender knew
 pub record Response (C : Type 0) : Type 0 where
   pub from : ℕ
   pub view : ℕ
@@ -58,7 +60,17 @@ nothing = record { acks = []; starts = []; voted = false; votes = []; responses 
 
 -- a site that has lost all but its cell
 abbrev pub over : {C : Type 0} → Boot → Status → Site C
-over cell status = record { status = status; view = 0; last_normal = 0; log = []; done = 0; collected = nothing; known = []; cell = cell }
+over cell status =
+    record {
+      status = status;
+      view = 0;
+      last_normal = 0;
+      log = [];
+      done = 0;
+      collected = nothing;
+      known = [];
+      cell = cell;
+    }
 
 -- no boot of any site is known
 abbrev pub no_boots : ℕ → List ℕ

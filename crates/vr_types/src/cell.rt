@@ -109,7 +109,8 @@ impl MemCell {
     /// fails leaves the new value where `keep`.
     pub fn failing(at: u64, keep: bool) -> Self
         ensures held { held_by result ≡ new_cell }
-        ensures before_fault { saves_before_fault result ≡ (if at == 0 then None else Some (at - 1)) }
+        ensures before_fault { saves_before_fault result
+            ≡ (if at == 0 then None else Some (at - 1)) }
         ensures keeps { keeps_at_fault result ≡ keep }
         ensures faults { faults_of result ≡ 0 }
     {
@@ -135,7 +136,8 @@ impl BootCell for MemCell {
 
     fn save(&mut self, boot: Boot) -> Result<(), CellFault>
         ensures ok { OnOk result (held_by self.new ≡ boot) }
-        ensures err { OnErr result ((held_by self.new ≡ held_by self.old) ⊎ (held_by self.new ≡ boot)) }
+        ensures err { OnErr result ((held_by self.new ≡ held_by self.old)
+            ⊎ (held_by self.new ≡ boot)) }
         ensures cause { OnErr result (HasRisen (faults_of self.old) (faults_of self.new)) }
         ensures count { OnOk result (faults_of self.new ≡ faults_of self.old) }
         ensures reliable { IsReliable self.old → IsOk result × IsReliable self.new }

@@ -93,11 +93,14 @@ fn go_down<C: BootCell>(
     event: Event<Book>,
     cell: Boot,
 ) -> Result<FallFault, SiteFault>
-    ensures down { (setup : AnySetup) (i : _) → GoesDown C.held setup i site.old site.new event result }
+    ensures down { (setup : AnySetup) (i : _) →
+        GoesDown C.held setup i site.old site.new event result }
     ensures miss { IfOk result (λ missed. is_miss missed ≡ true) }
     ensures holds { C.held site.old.cell ≡ cell → C.held site.new.cell ≡ cell }
-    ensures saved { result ≡ Ok Elsewhere → C.held site.new.cell ≢ cell → (setup : AnySetup) (i : _) → HoldsSaved C.held setup i site.old site.new event }
-    ensures reliable { C.is_reliable site.old.cell → C.is_reliable site.new.cell × (result ≢ Ok (OfStep (OfSiteFault CellFault))) }
+    ensures saved { result ≡ Ok Elsewhere → C.held site.new.cell ≢ cell →
+        (setup : AnySetup) (i : _) → HoldsSaved C.held setup i site.old site.new event }
+    ensures reliable { C.is_reliable site.old.cell →
+        C.is_reliable site.new.cell × (result ≢ Ok (OfStep (OfSiteFault CellFault))) }
 {
     // A restart saves a new value at once, so it is not begun where the old one is to stay.
     if matches!(event, EventOf::Restart) && site.boot() == cell {
@@ -118,7 +121,8 @@ fn go_down<C: BootCell>(
 
 /// A site falls in place of its restart before it saves, where it does not refuse to restart.
 fn stay_down<C: BootCell>(site: &mut Replica<Book, C>) -> Result<FallFault, SiteFault>
-    ensures down { (setup : AnySetup) (i : _) → GoesDown C.held setup i site.old site.new Restart result }
+    ensures down { (setup : AnySetup) (i : _) →
+        GoesDown C.held setup i site.old site.new Restart result }
     ensures miss { IfOk result (λ missed. missed ≡ Elsewhere) }
     ensures cell { site.new.cell ≡ site.old.cell }
 {

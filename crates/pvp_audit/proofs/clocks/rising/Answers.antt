@@ -7,7 +7,9 @@ pub loop-at-preserved : goal.loop-at-preserved
 loop-at-preserved g c =
     let i = c.loop-at.invariant in
     let r = c.index-history-at.result in
-    let p = rises_on c.args.history.now c.loop-at.at c.loop-at.last r c.loop-at-test.true c.index-history-at.is i.rising i.last (omega (arith, c.if-r-last.false)) (omega (arith, c.if-r-clock_of.false, c.clock_of.ensures)) in
+    let p =
+    rises_on c.args.history.now c.loop-at.at c.loop-at.last r c.loop-at-test.true c.index-history-at.is i.rising i.last (omega (arith, c.if-r-last.false))
+    (omega (arith, c.if-r-clock_of.false, c.clock_of.ensures)) in
     record { within = omega (arith, c.loop-at-test.true); rising = p.0; last = p.1 }
 
 pub returns-then-r-last-clause-err : goal.returns-then-r-last-clause-err

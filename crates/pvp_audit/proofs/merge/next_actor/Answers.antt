@@ -15,24 +15,40 @@ loop-k-preserved g c =
     let now = c.if-place-history in
     let list = c.as_slice-history.result.now in
     let so = c.loop-k.invariant in
-    let same : list ≡ history_of closed k = c.as_slice-history.ensures.value ∙ sym (history_read closed k c.index-closed-k.result c.loop-k-test.true c.index-closed-k.is) in
+    let same : list ≡ history_of closed k =
+    c.as_slice-history.ensures.value ∙ sym (history_read closed k c.index-closed-k.result c.loop-k-test.true c.index-closed-k.is) in
     let both : (o : Option ℕ) (n : ℕ) → now.found ≡ o → now.least ≡ n → SoFar closed at (k + 1) n o → SoFar closed at (k + 1) now.least now.found =
     λ o n f l s. subst (λ p. SoFar closed at (k + 1) now.least p) (sym f) (subst (λ q. SoFar closed at (k + 1) q o) (sym l) s) in
     elim c.if-place-history.branch [
       | then-place-history+in-None w ↦ (
           let r = w.index-history-place.result in
-          let there = subst (λ h. slice_get h (slice_index at k) ≡ Some r) same (slice_get_read list (length list) (slice_index at k) r refl (omega (arith, w.if-place-history.true)) w.index-history-place.is) in
-          both (Some k) r.clock w.found-is (w.least-is ∙ ap (λ (v : Recorded _ _). v.clock) (sym w.index-history-place.is)) (record { found = take_new_first closed at k r there (subst (λ o. IfNone o (NoneLeft closed at k)) w.in-None.is so.none); none = tt })
+          let there =
+          subst (λ h. slice_get h (slice_index at k) ≡ Some r) same
+          (slice_get_read list (length list) (slice_index at k) r refl (omega (arith, w.if-place-history.true)) w.index-history-place.is) in
+          both (Some k) r.clock w.found-is (w.least-is ∙ ap (λ (v : Recorded _ _). v.clock) (sym w.index-history-place.is))
+          (record { found = take_new_first closed at k r there (subst (λ o. IfNone o (NoneLeft closed at k)) w.in-None.is so.none); none = tt })
           )
       | then-place-history+in-Some+then-clock-least w ↦ (
           let r = w.index-history-place.result in
-          let there = subst (λ h. slice_get h (slice_index at k) ≡ Some r) same (slice_get_read list (length list) (slice_index at k) r refl (omega (arith, w.if-place-history.true)) w.index-history-place.is) in
-          both (Some k) r.clock w.found-is (w.least-is ∙ ap (λ (v : Recorded _ _). v.clock) (sym w.index-history-place.is)) (record { found = take_new_less closed at k r c.loop-k.least w.in-Some.field-0 there (subst (λ o. IfSome o (IsLeast closed at k c.loop-k.least)) w.in-Some.is so.found) (let e = ap (λ (v : Recorded _ _). v.clock) w.index-history-place.is in omega (arith, w.if-clock-least.true, e)); none = tt })
+          let there =
+          subst (λ h. slice_get h (slice_index at k) ≡ Some r) same
+          (slice_get_read list (length list) (slice_index at k) r refl (omega (arith, w.if-place-history.true)) w.index-history-place.is) in
+          both (Some k) r.clock w.found-is (w.least-is ∙ ap (λ (v : Recorded _ _). v.clock) (sym w.index-history-place.is))
+          (record {
+            found = take_new_less closed at k r c.loop-k.least w.in-Some.field-0 there
+                (subst (λ o. IfSome o (IsLeast closed at k c.loop-k.least)) w.in-Some.is so.found)
+                (let e = ap (λ (v : Recorded _ _). v.clock) w.index-history-place.is in omega (arith, w.if-clock-least.true, e));
+            none = tt;
+          })
           )
       | then-place-history+in-Some+else-clock-least w ↦ (
           let r = w.index-history-place.result in
-          let there = subst (λ h. slice_get h (slice_index at k) ≡ Some r) same (slice_get_read list (length list) (slice_index at k) r refl (omega (arith, w.if-place-history.true)) w.index-history-place.is) in
-          let old = keep_old closed at k r c.loop-k.least w.in-Some.field-0 there (subst (λ o. IfSome o (IsLeast closed at k c.loop-k.least)) w.in-Some.is so.found) (let e = ap (λ (v : Recorded _ _). v.clock) w.index-history-place.is in omega (arith, w.if-clock-least.false, e)) in
+          let there =
+          subst (λ h. slice_get h (slice_index at k) ≡ Some r) same
+          (slice_get_read list (length list) (slice_index at k) r refl (omega (arith, w.if-place-history.true)) w.index-history-place.is) in
+          let old =
+          keep_old closed at k r c.loop-k.least w.in-Some.field-0 there (subst (λ o. IfSome o (IsLeast closed at k c.loop-k.least)) w.in-Some.is so.found)
+          (let e = ap (λ (v : Recorded _ _). v.clock) w.index-history-place.is in omega (arith, w.if-clock-least.false, e)) in
           both (Some w.in-Some.field-0) c.loop-k.least (w.found-is ∙ w.in-Some.is) w.least-is (record { found = old; none = tt })
           )
       | else-place-history w ↦ (
@@ -42,7 +58,10 @@ loop-k-preserved g c =
     ]
 
 pub returns-clause-some : goal.returns-clause-some
-returns-clause-some g c = (let f = c.loop-k-test.false in some_next c.args.closed.now c.args.at.now c.loop-k.k c.loop-k.least c.loop-k.found c.requires.order (omega (arith, f)) c.loop-k.invariant)
+returns-clause-some g c =
+    (let f = c.loop-k-test.false in
+    some_next c.args.closed.now c.args.at.now c.loop-k.k c.loop-k.least c.loop-k.found c.requires.order (omega (arith, f)) c.loop-k.invariant)
 
 pub returns-clause-none : goal.returns-clause-none
-returns-clause-none g c = (let f = c.loop-k-test.false in none_next c.args.closed.now c.args.at.now c.loop-k.k c.loop-k.least c.loop-k.found (omega (arith, f)) c.loop-k.invariant)
+returns-clause-none g c =
+    (let f = c.loop-k-test.false in none_next c.args.closed.now c.args.at.now c.loop-k.k c.loop-k.least c.loop-k.found (omega (arith, f)) c.loop-k.invariant)

@@ -21,14 +21,19 @@ loop-done-preserved g c =
     record {
       within = omega (arith, c.loop-done-test.true);
       seats = length-set at k (c.index_mut.result.now + 1) ∙ i.seats;
-      used = used_more c.args.history.now c.args.seats.now at c.loop-done.done k c.index_mut.result.now r c.loop-done-test.true c.index-history-done.is i.seats i.used next c.index_mut.ensures.value;
-      used_up = used_up_more c.args.history.now c.args.seats.now (unused c.args.seats.now) at c.loop-done.done k c.index_mut.result.now r c.loop-done-test.true c.index-history-done.is within c.index_mut.ensures.value i.used_up (record { next = next; lowest = low });
+      used =
+          used_more c.args.history.now c.args.seats.now at c.loop-done.done k c.index_mut.result.now r c.loop-done-test.true c.index-history-done.is i.seats
+          i.used next c.index_mut.ensures.value;
+      used_up =
+          used_up_more c.args.history.now c.args.seats.now (unused c.args.seats.now) at c.loop-done.done k c.index_mut.result.now r c.loop-done-test.true
+          c.index-history-done.is within c.index_mut.ensures.value i.used_up (record { next = next; lowest = low });
       few = few_more c.args.seats.now at k c.index_mut.result.now r i.few next within c.index_mut.ensures.value;
     }
 
 pub loop-k-preserved : goal.loop-k-preserved
 loop-k-preserved g c =
-    full_more c.args.seats.now c.loop-done.at.items c.loop-k.k c.index.result.now c.index-seats-k.result c.loop-done.invariant.seats c.loop-k.invariant c.loop-k-test.true c.index-seats-k.is c.index.ensures
+    full_more c.args.seats.now c.loop-done.at.items c.loop-k.k c.index.result.now c.index-seats-k.result c.loop-done.invariant.seats c.loop-k.invariant
+    c.loop-k-test.true c.index-seats-k.is c.index.ensures
     (c.if-index-receipts.false ∙ ap length c.receipts.ensures)
 
 pub returns-in-None-clause-some : goal.returns-in-None-clause-some
@@ -55,22 +60,28 @@ returns-then-index-receipts-clause-some g c =
     let at = c.loop-done.at.items in
     let k = c.loop-k.k in
     let within : k < length at = (let s = i.seats in let t = c.loop-k-test.true in omega (arith, s, t)) in
-    let v : slice_index at k ≡ c.index.result.now = get_or_from_slice_get at k c.index.result.now 0 (slice_get_read at (length at) k c.index.result.now refl within c.index.ensures) in
-    let has : length c.receipts.result.now ≡ length (receipts_of seats k) = ap length (c.receipts.ensures ∙ sym (ap receipts_in (slice_get_read seats (length seats) k c.index-seats-k.result refl c.loop-k-test.true c.index-seats-k.is))) in
+    let v : slice_index at k ≡ c.index.result.now =
+    get_or_from_slice_get at k c.index.result.now 0 (slice_get_read at (length at) k c.index.result.now refl within c.index.ensures) in
+    let has : length c.receipts.result.now ≡ length (receipts_of seats k) =
+    ap length
+    (c.receipts.ensures ∙ sym
+    (ap receipts_in (slice_get_read seats (length seats) k c.index-seats-k.result refl c.loop-k-test.true c.index-seats-k.is))) in
     let few = i.few k in
     let other = c.if-index-receipts.true in
     inl (
       refl,
       record {
         at = at;
-        used = subst (λ l. AreUsedUp seats (unused seats) l at) (take_all c.loop-done.done c.args.history.now (omega (arith, c.loop-done-test.false))) i.used_up;
+        used =
+            subst (λ l. AreUsedUp seats (unused seats) l at) (take_all c.loop-done.done c.args.history.now (omega (arith, c.loop-done-test.false))) i.used_up;
         seat = k;
         left = not_more (slice_index at k) (length (receipts_of seats k)) few (λ e. other (sym v ∙ e ∙ sym has));
       },
     )
   where
     not_more : (a b : ℕ) → a ≤ b → ¬ (a ≡ b) → a < b
-    not_more a b few other = elim (cases_order a b) [ inl e ↦ absurd (other e) | inr w ↦ elim w [ inl less ↦ less | inr more ↦ absurd (omega (arith, more, few)) ] ]
+    not_more a b few other =
+        elim (cases_order a b) [ inl e ↦ absurd (other e) | inr w ↦ elim w [ inl less ↦ less | inr more ↦ absurd (omega (arith, more, few)) ] ]
 
 pub returns-clause-none : goal.returns-clause-none
 returns-clause-none g c =

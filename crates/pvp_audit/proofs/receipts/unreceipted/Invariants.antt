@@ -4,7 +4,14 @@ use Rattle.pvp_audit.specs.Verdicts.{AreUsedUp, unused}
 use Rattle.pvp_audit.proofs.receipts.unreceipted.Given as goal
 
 abbrev pub invariant-loop-done : goal.invariant-loop-done
-invariant-loop-done g l = record { within : l.done ≤ length l.history; seats : length l.at.items ≡ length l.seats; used : AreUsed (take l.done l.history) l.seats l.at.items; used_up : AreUsedUp l.seats (unused l.seats) (take l.done l.history) l.at.items; few : (k : ℕ) → slice_index l.at.items k ≤ length (receipts_of l.seats k) }
+invariant-loop-done g l =
+    record {
+      within : l.done ≤ length l.history;
+      seats : length l.at.items ≡ length l.seats;
+      used : AreUsed (take l.done l.history) l.seats l.at.items;
+      used_up : AreUsedUp l.seats (unused l.seats) (take l.done l.history) l.at.items;
+      few : (k : ℕ) → slice_index l.at.items k ≤ length (receipts_of l.seats k);
+    }
 
 abbrev pub decreases-loop-done : goal.decreases-loop-done
 decreases-loop-done g l = length l.history - l.done

@@ -10,7 +10,9 @@ use Rattle.pvp_audit.proofs.sent.is_sent.Goals as goal
 pub is_sent_by-requires : goal.is_sent_by-requires
 is_sent_by-requires g c =
     let closed = c.args.closed.now in
-    let seen = slice_get_read closed (length closed) c.place_of-place.result c.in-Some.one.now refl (ltb-true _ _ (sym c.in-Some.ensures.lookup.0)) c.in-Some.ensures.lookup.1 in
+    let seen =
+    slice_get_read closed (length closed) c.place_of-place.result c.in-Some.one.now refl
+    (ltb-true _ _ (sym c.in-Some.ensures.lookup.0)) c.in-Some.ensures.lookup.1 in
     c.requires.clocks c.place_of-place.result c.in-Some.one.now seen
 
 pub returns-in-Some : goal.returns-in-Some
@@ -31,7 +33,8 @@ returns-in-Some g c =
           let a = g.A.Audited in
           c.is_sent_by.ensures.1
           (subst (λ n. IsSentBy a.delivers a.sent c.in-Some.one.now.history.items (slice_index c.args.at.now n) c.args.stamp c.args.event.now) at
-          (subst (λ (v : Closed _ _ _ _). IsSentBy a.delivers a.sent v.history.items (slice_index c.args.at.now s.by) c.args.stamp c.args.event.now) one s.there)),
+          (subst (λ (v : Closed _ _ _ _). IsSentBy a.delivers a.sent v.history.items (slice_index c.args.at.now s.by) c.args.stamp c.args.event.now) one
+          s.there)),
     )
 
 pub returns-in_default : goal.returns-in_default

@@ -22,9 +22,11 @@ returns-in-Some g c =
         sends = c.is_sent.ensures.0 e;
       },
       λ s.
-          let at = c.place_at-place.ensures s.place s.what (subst (λ l. slice_get l s.place ≡ Some s.what) (sym c.as_slice-history.ensures.value) s.there) s.clock in
+          let at =
+          c.place_at-place.ensures s.place s.what (subst (λ l. slice_get l s.place ≡ Some s.what) (sym c.as_slice-history.ensures.value) s.there) s.clock in
           let one = same_some s.what c.in-Some.r.now (sym s.there ∙ ap (slice_get c.args.one.now.history.items) at ∙ there) in
-          c.is_sent.ensures.1 (subst (λ (v : Recorded _ _). Sends g.A.Audited.delivers g.A.Audited.sent c.args.event.now v.outcome c.args.stamp.index) one s.sends),
+          c.is_sent.ensures.1 (subst (λ (v : Recorded _ _). Sends g.A.Audited.delivers g.A.Audited.sent c.args.event.now v.outcome c.args.stamp.index) one
+          s.sends),
     )
 
 pub returns-in_default : goal.returns-in_default
@@ -44,7 +46,8 @@ pub returns-in_default-2 : goal.returns-in_default-2
 returns-in_default-2 g c = (
   λ e. cc,
   λ s.
-      let at = c.place_at-place.ensures s.place s.what (subst (λ l. slice_get l s.place ≡ Some s.what) (sym c.as_slice-history.ensures.value) s.there) s.clock in
+      let at =
+      c.place_at-place.ensures s.place s.what (subst (λ l. slice_get l s.place ≡ Some s.what) (sym c.as_slice-history.ensures.value) s.there) s.clock in
       let within = s.within in
       absurd (omega (arith, at, within, c.if-place-upto.false)),
 )

@@ -17,7 +17,11 @@ returns-in-Ok-Some-clause-some g c =
       who = one;
       is = record { is = is; number = refl };
       before = c.loop-k.invariant;
-      fails = subst (λ h. ReceiptsFail h one.seats.items c.in-Ok-Some.event) c.as_slice.ensures.value (subst (λ s. ReceiptsFail c.as_slice.result.now s c.in-Ok-Some.event) c.as_slice-in-loop-k.ensures.value (subst (λ o. IfSome o (λ event. ReceiptsFail c.as_slice.result.now c.as_slice-in-loop-k.result.now event)) c.in-Ok-Some.field-0-is c.in-Ok-Some.ensures.some));
+      fails =
+          subst (λ h. ReceiptsFail h one.seats.items c.in-Ok-Some.event) c.as_slice.ensures.value
+          (subst (λ s. ReceiptsFail c.as_slice.result.now s c.in-Ok-Some.event) c.as_slice-in-loop-k.ensures.value
+          (subst (λ o. IfSome o (λ event. ReceiptsFail c.as_slice.result.now c.as_slice-in-loop-k.result.now event)) c.in-Ok-Some.field-0-is
+          c.in-Ok-Some.ensures.some));
     }
 
 pub returns-in-Err-rising-clause-some : goal.returns-in-Err-rising-clause-some
@@ -27,14 +31,17 @@ returns-in-Err-rising-clause-some g c =
     let one = c.index-closed-k.result in
     let is = slice_get_read closed (length closed) k one refl c.loop-k-test.true c.index-closed-k.is in
     let err = c.in-Err-rising.ensures.err in
-    let clock : ClockFails c.as_slice-in-loop-k-2.result.now (c.in-Err-rising.at + 1) = record { many = c.in-Err-rising.at; count = refl; within = err.0; rising = err.1; fails = err.2 } in
+    let clock : ClockFails c.as_slice-in-loop-k-2.result.now (c.in-Err-rising.at + 1) =
+    record { many = c.in-Err-rising.at; count = refl; within = err.0; rising = err.1; fails = err.2 } in
     record {
       place = k;
       who = one;
       is = record { is = is; number = refl };
       before = c.loop-k.invariant;
       fails = (
-        subst (λ h. AreTogether h one.seats.items) c.as_slice.ensures.value (subst (λ s. AreTogether c.as_slice.result.now s) c.as_slice-in-loop-k.ensures.value (subst (λ o. IfNone o (AreTogether c.as_slice.result.now c.as_slice-in-loop-k.result.now)) c.in-Ok-None.field-0-is c.in-Ok-None.ensures.none)),
+        subst (λ h. AreTogether h one.seats.items) c.as_slice.ensures.value
+            (subst (λ s. AreTogether c.as_slice.result.now s) c.as_slice-in-loop-k.ensures.value
+            (subst (λ o. IfNone o (AreTogether c.as_slice.result.now c.as_slice-in-loop-k.result.now)) c.in-Ok-None.field-0-is c.in-Ok-None.ensures.none)),
         subst (λ h. ClockFails h (c.in-Err-rising.at + 1)) c.as_slice-in-loop-k-2.ensures.value clock,
       );
     }
@@ -46,7 +53,10 @@ loop-k-preserved g c =
     let one = c.index-closed-k.result in
     let is = slice_get_read closed (length closed) k one refl c.loop-k-test.true c.index-closed-k.is in
     below_place (λ j d. IsAlone d) closed k one is c.loop-k.invariant (record {
-      receipts = subst (λ h. AreTogether h one.seats.items) c.as_slice.ensures.value (subst (λ s. AreTogether c.as_slice.result.now s) c.as_slice-in-loop-k.ensures.value (subst (λ o. IfNone o (AreTogether c.as_slice.result.now c.as_slice-in-loop-k.result.now)) c.in-Ok-None.field-0-is c.in-Ok-None.ensures.none));
+      receipts =
+          subst (λ h. AreTogether h one.seats.items) c.as_slice.ensures.value
+          (subst (λ s. AreTogether c.as_slice.result.now s) c.as_slice-in-loop-k.ensures.value
+          (subst (λ o. IfNone o (AreTogether c.as_slice.result.now c.as_slice-in-loop-k.result.now)) c.in-Ok-None.field-0-is c.in-Ok-None.ensures.none));
       clocks = subst (λ h. IsRising h 0) c.as_slice-in-loop-k-2.ensures.value c.in_default.ensures.ok;
     })
 

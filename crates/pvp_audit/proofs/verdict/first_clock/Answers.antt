@@ -12,7 +12,8 @@ returns-in-Err-clause-some g c =
     let one = c.index-closed-k.result in
     let is = slice_get_read closed (length closed) k one refl c.loop-k-test.true c.index-closed-k.is in
     let err = c.in-Err.ensures.err in
-    let clock : ClockFails c.as_slice.result.now (c.in-Err.at + 1) = record { many = c.in-Err.at; count = refl; within = err.0; rising = err.1; fails = err.2 } in
+    let clock : ClockFails c.as_slice.result.now (c.in-Err.at + 1) =
+    record { many = c.in-Err.at; count = refl; within = err.0; rising = err.1; fails = err.2 } in
     record {
       place = k;
       who = one;

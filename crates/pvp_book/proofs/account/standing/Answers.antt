@@ -36,4 +36,5 @@ pub returns-clause-value : goal.returns-clause-value
 returns-clause-value c = (standing-fits _ _ (most-worth c) (most-debt c)).1 ∙ (λ i. pos (worth c i) -ℤ pos (debt c i))
 
 pub returns-clause-small : goal.returns-clause-small
-returns-clause-small c = subst (IsWithin most_standing) (sym (standing-fits _ _ (most-worth c) (most-debt c)).1) (standing-fits _ _ (most-worth c) (most-debt c)).2
+returns-clause-small c =
+    subst (IsWithin most_standing) (sym (standing-fits _ _ (most-worth c) (most-debt c)).1) (standing-fits _ _ (most-worth c) (most-debt c)).2

@@ -12,7 +12,8 @@ returns-in-Ok c =
     let place = c.in-Ok.place in
     let by_number = c.in-Ok.ensures.position (λ (o : PayOrder). o.out) (answers_always _ _ _ (λ f a r g called. search rules)) in
     let within : place < length items = subst (λ n. place < n) c.args.queue.now.ok.0 c.in-Ok.ensures.bound in
-    subst (λ r. OnSome r (c.remove.new.self.items ≡ take place items ++ drop (suc place) items)) (c.remove.ensures.succeeds nobody c.in-Ok.ensures.bound) c.remove.ensures.items
+    subst (λ r. OnSome r (c.remove.new.self.items ≡ take place items ++ drop (suc place) items))
+    (c.remove.ensures.succeeds nobody c.in-Ok.ensures.bound) c.remove.ensures.items
     ∙ found-one items c.args.out c.requires.ascending place within by_number
 
 pub returns-in_default : goal.returns-in_default

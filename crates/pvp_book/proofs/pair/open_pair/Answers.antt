@@ -12,5 +12,6 @@ pub returns-in-Some : goal.returns-in-Some
 returns-in-Some c =
     let pair = c.in-Some.pair in
     let none = subst (λ o. IfSome o (λ (p : Pair). lookup (nat_eq p.reference) c.args.pairs.now.entries ≡ None)) (sym c.in-Some.ensures) c.requires.new in
-    succeeded c.insert.result (c.insert.ensures.succeeds c.requires.room) c.insert.ensures.entries ∙ insert_entry-new nat_eq c.args.pairs.now pair.reference pair none
+    succeeded c.insert.result (c.insert.ensures.succeeds c.requires.room) c.insert.ensures.entries
+    ∙ insert_entry-new nat_eq c.args.pairs.now pair.reference pair none
     ∙ ap (λ o. c.args.pairs.now.entries ++ map kept_as (cons_option o [])) c.in-Some.ensures

@@ -9,7 +9,8 @@ loop-k-preserved c =
     let histories = c.args.histories.now in
     let k = c.loop-k.k in
     let one = c.index-histories-k.result in
-    below_place (λ j h. IsOfPlace c.args.setup.now j h) histories k one (slice_get_read histories (length histories) k one refl c.loop-k-test.true c.index-histories-k.is) c.loop-k.invariant
+    below_place (λ j h. IsOfPlace c.args.setup.now j h) histories k one
+    (slice_get_read histories (length histories) k one refl c.loop-k-test.true c.index-histories-k.is) c.loop-k.invariant
     (record { actor = sym c.from.ensures ∙ c.if-from-actor_at.false ∙ c.actor_at.ensures; opening = sym c.is_actor.ensures ∙ c.if-not-is_actor.false })
 
 pub returns : goal.returns

@@ -9,7 +9,8 @@ use Rattle.pvp_evidence.proofs.judged.judged.Goals as goal
 pub judge_run-requires-clause-bank : goal.judge_run-requires-clause-bank
 judge_run-requires-clause-bank c =
     subst (λ (closed : List Left). IsTheBank c.args.setup.now closed) (sym c.as_slice.ensures.value)
-    (seated c.args.setup.now c.requires.valid c.args.histories.items c.requires.bank c.in_ok-closed.closed.items c.in_ok-closed.ensures.left c.in_ok-closed.ensures.bank)
+    (seated c.args.setup.now c.requires.valid c.args.histories.items c.requires.bank c.in_ok-closed.closed.items c.in_ok-closed.ensures.left
+    c.in_ok-closed.ensures.bank)
 
 pub returns-clause-judges : goal.returns-clause-judges
 returns-clause-judges c =
@@ -18,7 +19,8 @@ returns-clause-judges c =
       c.as_slice.result.now,
       subst (λ (closed : List Left). AreLeftBy closed c.args.histories.items) (sym c.as_slice.ensures.value) c.in_ok-closed.ensures.left,
       subst (λ (closed : List Left). IsTheBank c.args.setup.now closed) (sym c.as_slice.ensures.value)
-          (seated c.args.setup.now c.requires.valid c.args.histories.items c.requires.bank c.in_ok-closed.closed.items c.in_ok-closed.ensures.left c.in_ok-closed.ensures.bank),
+          (seated c.args.setup.now c.requires.valid c.args.histories.items c.requires.bank c.in_ok-closed.closed.items c.in_ok-closed.ensures.left
+          c.in_ok-closed.ensures.bank),
       judges,
     ))
     c.judge_run.ensures.judges

@@ -4,7 +4,8 @@ use Rattle.pvp_judge.proofs.asking.is_posted.Goals as goal
 
 pub returns : goal.returns
 returns c = λ before more parts first. (
-  λ can. more_is c.args.world.now.post before more c.args.sent.now c.args.many parts first (ap (λ n. n - c.args.many) (sym c.post_len.ensures) ∙ c.if-post_len-many.false)
+  λ can. more_is c.args.world.now.post before more c.args.sent.now c.args.many parts first
+      (ap (λ n. n - c.args.many) (sym c.post_len.ensures) ∙ c.if-post_len-many.false)
       (λ j low. c.loop-i.invariant j (omega (arith, low, c.loop-i-test.false))),
   λ same. refl,
 )

@@ -23,5 +23,8 @@ returns-in-Ok-clause-so c = λ list cells moves.
     let new = c.told.new.world in
     let step = c.args.step in
     let told = c.in_ok-found.ensures in
-    let taken : IsTaken held_by old new step c.in-Ok.field-0 = subst (λ r. Applies held_by old new step r) c.in-Ok.is told.applies in
-    (λ can. absurd (true≢false (sym can)), λ is. absurd (taken_free c.one_bank.ensures.right_choices old told.first.is_at list cells moves step new c.in-Ok.field-0 taken c.args.fault is))
+    let taken : IsTaken held_by old new step c.in-Ok.field-0 = subst (λ r. Applies held_by old new step r) c.in-Ok.is told.applies in (
+      λ can. absurd (true≢false (sym can)),
+      λ is.
+          absurd (taken_free c.one_bank.ensures.right_choices old told.first.is_at list cells moves step new c.in-Ok.field-0 taken c.args.fault is),
+    )

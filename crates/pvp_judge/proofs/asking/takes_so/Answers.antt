@@ -13,7 +13,8 @@ returns-in-Err-clause-so c = λ list cells moves.
     let refused : IsRefused held_by old new c.args.step c.in-Err.field-0 = subst (λ r. Applies held_by old new c.args.step r) c.in-Err.is told.applies in
     let had : hinders c.in-Err.field-0 ≡ false = subst (λ r. IfErr r (λ w. hinders w ≡ false)) c.in-Err.is told.free in (
       λ can. absurd (true≢false (sym can)),
-      λ so. absurd (refused_never c.one_bank.ensures.right_choices old told.first.is_at list cells moves c.args.step new c.in-Err.field-0 had refused c.args.sent.now c.args.dropped so),
+      λ so. absurd (refused_never c.one_bank.ensures.right_choices old told.first.is_at list cells moves c.args.step new c.in-Err.field-0 had refused
+          c.args.sent.now c.args.dropped so),
     )
 
 pub returns-then-is_same_why-clause-so : goal.returns-then-is_same_why-clause-so
@@ -26,7 +27,8 @@ returns-then-is_same_why-clause-so c = λ list cells moves.
     let taken : IsTaken held_by old new step c.in-Ok.report = subst (λ r. Applies held_by old new step r) c.in-Ok.is told.applies in
     let put = posted ob old told.first.is_at list cells moves step new c.in-Ok.report taken in
     let is = c.is_posted.ensures old.post put.0 put.1 (sym c.post_len-many.ensures) in (
-      λ can. taken_so ob old told.first.is_at list cells moves step new c.in-Ok.report taken c.args.sent.now c.args.dropped (c.is_same_why.ensures.0 c.if-is_same_why.true) (is.0 can),
+      λ can. taken_so ob old told.first.is_at list cells moves step new c.in-Ok.report taken c.args.sent.now c.args.dropped
+          (c.is_same_why.ensures.0 c.if-is_same_why.true) (is.0 can),
       λ so. is.1 (taken_only ob old told.first.is_at list cells moves step new c.in-Ok.report taken c.args.sent.now c.args.dropped so).1,
     )
 

@@ -9,7 +9,8 @@ loop-k-preserved c =
     let closed = c.args.closed.now in
     let k = c.loop-k.k in
     let one = c.index-closed-k.result in
-    below_place (λ j d. IsOfBank c.args.setup.now d) closed k one (slice_get_read closed (length closed) k one refl c.loop-k-test.true c.index-closed-k.is) c.loop-k.invariant (c.is_of_bank.ensures.0 c.if-not-is_of_bank.false)
+    below_place (λ j d. IsOfBank c.args.setup.now d) closed k one (slice_get_read closed (length closed) k one refl c.loop-k-test.true c.index-closed-k.is)
+    c.loop-k.invariant (c.is_of_bank.ensures.0 c.if-not-is_of_bank.false)
 
 pub returns-then-not-is_of_bank : goal.returns-then-not-is_of_bank
 returns-then-not-is_of_bank c = (

@@ -11,7 +11,9 @@ loop-k-preserved-in_default c =
     let k = c.loop-k.k in
     let one = c.index-closed-k.result in
     record {
-      held = cells_same closed (map held_by c.loop-k.cells.items) k one (slice_get_read closed (length closed) k one refl c.loop-k-test.true c.index-closed-k.is) c.in_default.is c.loop-k.invariant.held;
+      held =
+          cells_same closed (map held_by c.loop-k.cells.items) k one (slice_get_read closed (length closed) k one refl c.loop-k-test.true c.index-closed-k.is)
+          c.in_default.is c.loop-k.invariant.held;
       reliable = c.loop-k.invariant.reliable;
     }
 
@@ -22,6 +24,9 @@ loop-k-preserved c =
     let one = c.index-closed-k.result in
     record {
       held = ap (map held_by) c.in_ok-push.ensures.items
-          ∙ cells_next closed c.loop-k.cells.items k one c.in-Some.boot c.of.result (slice_get_read closed (length closed) k one refl c.loop-k-test.true c.index-closed-k.is) c.in-Some.is c.of.ensures.held c.loop-k.invariant.held;
-      reliable = subst (λ l. AllAre IsReliable l) (sym c.in_ok-push.ensures.items) (all_push IsReliable c.loop-k.cells.items c.of.result c.loop-k.invariant.reliable c.of.ensures.reliable);
+          ∙ cells_next closed c.loop-k.cells.items k one c.in-Some.boot c.of.result
+          (slice_get_read closed (length closed) k one refl c.loop-k-test.true c.index-closed-k.is) c.in-Some.is c.of.ensures.held c.loop-k.invariant.held;
+      reliable =
+          subst (λ l. AllAre IsReliable l) (sym c.in_ok-push.ensures.items)
+          (all_push IsReliable c.loop-k.cells.items c.of.result c.loop-k.invariant.reliable c.of.ensures.reliable);
     }

@@ -30,7 +30,9 @@ loop-k-preserved c =
     record {
       counted = ap (λ n. n + 1) c.loop-k.invariant.counted ∙ sym (counted_next closed k one c.in-Some._boot is c.in-Some.is);
       few = omega (arith, few);
-      far = far_next closed k one is c.loop-k.invariant.far (λ boot opened. c.is_site.ensures.0 c.if-not-is_site.false ∙ ap (λ n. 200 + n) c.loop-k.invariant.counted);
+      far =
+          far_next closed k one is c.loop-k.invariant.far (λ boot opened. c.is_site.ensures.0 c.if-not-is_site.false
+          ∙ ap (λ n. 200 + n) c.loop-k.invariant.counted);
     }
 
 pub returns-then-not-is_site : goal.returns-then-not-is_site
@@ -49,10 +51,12 @@ returns-then-not-is_site c = (
 pub returns : goal.returns
 returns c =
     let closed = c.args.closed.now in
-    let counted : c.loop-k.sites ≡ length (openings closed) = c.loop-k.invariant.counted ∙ ap (λ l. length (openings l)) (take_all c.loop-k.k closed (omega (arith, c.loop-k-test.false))) in (
+    let counted : c.loop-k.sites ≡ length (openings closed) =
+    c.loop-k.invariant.counted ∙ ap (λ l. length (openings l)) (take_all c.loop-k.k closed (omega (arith, c.loop-k-test.false))) in (
       λ e. record {
         all = omega (arith, counted, eqb-true c.loop-k.sites c.from.result e, c.from.ensures, c.faults.ensures.faults);
-        numbered = λ j d boot there opened. c.loop-k.invariant.far j d boot (omega (arith, slice_get_within closed j d there, c.loop-k-test.false)) there opened;
+        numbered =
+            λ j d boot there opened. c.loop-k.invariant.far j d boot (omega (arith, slice_get_within closed j d there, c.loop-k-test.false)) there opened;
       },
       λ its. eq-eqb c.loop-k.sites c.from.result (omega (arith, counted, its.all, c.from.ensures, c.faults.ensures.faults)),
     )

@@ -34,7 +34,8 @@ returns-in_err-get-clause-none g c = rw c.from_residual-in_err-get.ensures (λ b
     let at = c.place_of-place.ensures by e.who e.is e.actor in
     let same = same_some e.who one (sym e.is ∙ ap (slice_get closed) at ∙ seen) in
     let history = c.as_slice-history.result.now in
-    let held : slice_get history place ≡ Some e.what = ap (λ l. slice_get l place) c.as_slice-history.ensures.value ∙ ap (λ (v : Closed _ _ _ _). slice_get v.history.items place) (sym same) ∙ e.there in
+    let held : slice_get history place ≡ Some e.what =
+    ap (λ l. slice_get l place) c.as_slice-history.ensures.value ∙ ap (λ (v : Closed _ _ _ _). slice_get v.history.items place) (sym same) ∙ e.there in
     let within = slice_get_within history place e.what held in
     let found = c.place_at-event.ensures place e.what held e.clock in
     let past = ltb-false c.place_at-event.result (length history) (sym c.in_err-get.ensures.lookup.0) in
@@ -50,9 +51,12 @@ returns-then-branch-stamp-clause-none g c = λ by place e.
     let same = same_some e.who one (sym e.is ∙ ap (slice_get closed) at ∙ seen) in
     let history = c.as_slice-history.result.now in
     let taken = c.in_ok-get.field-0.now in
-    let held : slice_get history place ≡ Some e.what = ap (λ l. slice_get l place) c.as_slice-history.ensures.value ∙ ap (λ (v : Closed _ _ _ _). slice_get v.history.items place) (sym same) ∙ e.there in
+    let held : slice_get history place ≡ Some e.what =
+    ap (λ l. slice_get l place) c.as_slice-history.ensures.value ∙ ap (λ (v : Closed _ _ _ _). slice_get v.history.items place) (sym same) ∙ e.there in
     let found = c.place_at-event.ensures place e.what held e.clock in
-    let read = slice_get_read history (length history) c.place_at-event.result taken refl (ltb-true _ _ (sym c.in_ok-get.ensures.lookup.0)) c.in_ok-get.ensures.lookup.1 in
+    let read =
+    slice_get_read history (length history) c.place_at-event.result taken refl (ltb-true _ _ (sym c.in_ok-get.ensures.lookup.0))
+    c.in_ok-get.ensures.lookup.1 in
     let what = same_some e.what taken (sym held ∙ ap (slice_get history) found ∙ read) in
     c.if-branch-stamp.true (sym (ap (λ (r : Recorded _ _). r.clock) what) ∙ e.clock)
 
@@ -63,7 +67,9 @@ returns-clause-some g c =
     let one = c.in_ok-one.one.now in
     let history = c.as_slice-history.result.now in
     let taken = c.in_ok-get.field-0.now in
-    let read = slice_get_read history (length history) c.place_at-event.result taken refl (ltb-true _ _ (sym c.in_ok-get.ensures.lookup.0)) c.in_ok-get.ensures.lookup.1 in
+    let read =
+    slice_get_read history (length history) c.place_at-event.result taken refl (ltb-true _ _ (sym c.in_ok-get.ensures.lookup.0))
+    c.in_ok-get.ensures.lookup.1 in
     record {
       who = one;
       is = slice_get_read closed (length closed) here one refl (ltb-true _ _ (sym c.in_ok-one.ensures.lookup.0)) c.in_ok-one.ensures.lookup.1;

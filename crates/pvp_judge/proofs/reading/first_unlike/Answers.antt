@@ -19,7 +19,8 @@ pub loop-k-preserved : goal.loop-k-preserved
 loop-k-preserved c =
     let closed = c.args.closed.now in
     let one = c.index-closed-k.result in
-    below_place (λ j d. ReadsWorld c.args.world.now d.number d.end) closed c.loop-k.k one (slice_get_read closed (length closed) c.loop-k.k one refl c.loop-k-test.true c.index-closed-k.is)
+    below_place (λ j d. ReadsWorld c.args.world.now d.number d.end) closed c.loop-k.k one
+    (slice_get_read closed (length closed) c.loop-k.k one refl c.loop-k-test.true c.index-closed-k.is)
     c.loop-k.invariant (c.reads_world.ensures.0 c.if-not-reads_world.false)
 
 pub returns-clause-none : goal.returns-clause-none

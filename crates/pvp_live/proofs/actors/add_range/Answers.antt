@@ -8,4 +8,5 @@ loop-at-preserved c =
     let old = c.args.numbers.now.items in
     let first = c.args.first in
     let at = c.loop-at.at in
-    c.in_ok-push.ensures.items ∙ ap (λ l. l ++ (first + at) ∷ []) c.loop-at.invariant ∙ append_assoc old (range_with_len first at) ((first + at) ∷ []) ∙ ap (λ l. old ++ l) (sym (range_more first at))
+    c.in_ok-push.ensures.items ∙ ap (λ l. l ++ (first + at) ∷ []) c.loop-at.invariant ∙ append_assoc old (range_with_len first at) ((first + at) ∷ [])
+    ∙ ap (λ l. old ++ l) (sym (range_more first at))

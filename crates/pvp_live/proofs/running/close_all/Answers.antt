@@ -17,8 +17,10 @@ loop-own-preserved c =
       tt,
       (
         so_far.0 ++ own ∷ [],
-        so_far.1 ∙ ap (λ (l : List (Vec BankSeat)). so_far.0 ++ l) c.in-Some.ensures.steps.0 ∙ sym (append_assoc so_far.0 (own ∷ []) (into_iter_items c.next.new.self)),
-        subst (λ (l : List Left). Keeps (so_far.0 ++ own ∷ []) l) (sym c.in_ok-push.ensures.items) (keeps_more so_far.0 c.loop-own.closed.items own one c.in_ok-close_one.ensures.kept so_far.2),
+        so_far.1 ∙ ap (λ (l : List (Vec BankSeat)). so_far.0 ++ l) c.in-Some.ensures.steps.0
+            ∙ sym (append_assoc so_far.0 (own ∷ []) (into_iter_items c.next.new.self)),
+        subst (λ (l : List Left). Keeps (so_far.0 ++ own ∷ []) l) (sym c.in_ok-push.ensures.items)
+            (keeps_more so_far.0 c.loop-own.closed.items own one c.in_ok-close_one.ensures.kept so_far.2),
       ),
     )
 

@@ -14,7 +14,8 @@ loop-seat-preserved c =
       tt,
       (
         so_far.0 ++ seat ∷ [],
-        so_far.1 ∙ ap (λ (l : List BankSeat). so_far.0 ++ l) c.in-Some.ensures.steps.0 ∙ sym (append_assoc so_far.0 (seat ∷ []) (into_iter_items c.next.new.self)),
+        so_far.1 ∙ ap (λ (l : List BankSeat). so_far.0 ++ l) c.in-Some.ensures.steps.0 ∙ sym
+            (append_assoc so_far.0 (seat ∷ []) (into_iter_items c.next.new.self)),
         taken_more c.args.seats.now.items c.loop-seat.seats.items c.put_back.new.seats.items so_far.0 seat so_far.2 c.in_ok-put_back.ensures.back,
       ),
     )

@@ -8,4 +8,5 @@ returns-clause-back c =
     let now = c.args.seats.now.items in
     let at = c.in_ok-place.place in
     let own = c.index_mut.result.now in
-    takes_one now at own c.push.new.self c.args.seat (slice_get_read now (length now) at own refl (search rules) c.index_mut.ensures.value) c.in_ok-push.ensures.items _ refl
+    takes_one now at own c.push.new.self c.args.seat (slice_get_read now (length now) at own refl (search rules) c.index_mut.ensures.value)
+    c.in_ok-push.ensures.items _ refl

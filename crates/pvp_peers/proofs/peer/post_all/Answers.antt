@@ -29,18 +29,23 @@ loop-frame-preserved g c =
     let p = subst (IsPosting d c.args.frames.items c.args.seat.now c.loop-frame.seat) c.in-Some.ensures.steps.0 c.loop-frame.invariant.2 in (
       tt,
       tt,
-      posting_next d c.args.frames.items c.args.seat.now c.loop-frame.seat c.post.new.seat c.in-Some.frame (into_iter_items c.next.new.self) _ p c.in-Done.ensures.receipts (record { event = c.deliver.ensures; stamp = refl }),
-      hands_more g.O.Outbox.got g.A.Served.sent n c.args.seat.now c.loop-frame.seat c.post.new.seat c.args.outbox.now c.loop-frame.outbox c.put.new.self c.loop-frame.invariant.3
+      posting_next d c.args.frames.items c.args.seat.now c.loop-frame.seat c.post.new.seat c.in-Some.frame
+          (into_iter_items c.next.new.self) _ p c.in-Done.ensures.receipts (record { event = c.deliver.ensures; stamp = refl }),
+      hands_more g.O.Outbox.got g.A.Served.sent n c.args.seat.now c.loop-frame.seat c.post.new.seat c.args.outbox.now c.loop-frame.outbox
+          c.put.new.self c.loop-frame.invariant.3
           (hands_one g.O.Outbox.got g.A.Served.sent n c.loop-frame.seat c.post.new.seat _ c.loop-frame.outbox c.put.new.self _ c.in-Done.ensures.receipts
           (λ i. record { actor = c.number.ensures i; clock = c.in-Done.clock; sent = c.sent.ensures i }) c.put.ensures),
-      passes_more g.G.Gate.heard n c.args.seat.now c.loop-frame.seat c.post.new.seat c.args.gate.now c.loop-frame.gate c.post.new.gate [] c.loop-frame.invariant.4
-          (passes_one g.G.Gate.heard n c.loop-frame.seat c.post.new.seat _ c.loop-frame.gate c.post.new.gate c.in-Done.ensures.receipts c.in-Done.ensures.passed),
+      passes_more g.G.Gate.heard n c.args.seat.now c.loop-frame.seat c.post.new.seat c.args.gate.now c.loop-frame.gate c.post.new.gate
+          [] c.loop-frame.invariant.4
+          (passes_one g.G.Gate.heard n c.loop-frame.seat c.post.new.seat _ c.loop-frame.gate c.post.new.gate c.in-Done.ensures.receipts
+          c.in-Done.ensures.passed),
     )
 
 pub returns-in-NoMemory-clause-handed : goal.returns-in-NoMemory-clause-handed
 returns-in-NoMemory-clause-handed g c =
     let n = c.args.cell.now.number in
-    hands_more g.O.Outbox.got g.A.Served.sent n c.args.seat.now c.loop-frame.seat c.post.new.seat c.args.outbox.now c.loop-frame.outbox c.loop-frame.outbox c.loop-frame.invariant.3
+    hands_more g.O.Outbox.got g.A.Served.sent n c.args.seat.now c.loop-frame.seat c.post.new.seat c.args.outbox.now c.loop-frame.outbox
+    c.loop-frame.outbox c.loop-frame.invariant.3
     (hands_same g.O.Outbox.got g.A.Served.sent n c.loop-frame.seat c.post.new.seat c.loop-frame.outbox c.in-NoMemory.ensures.receipts)
 
 pub returns-in-NoMemory-clause-passed : goal.returns-in-NoMemory-clause-passed
@@ -49,14 +54,18 @@ returns-in-NoMemory-clause-passed g c =
     record {
       last = refused n;
       ends = refl;
-      passes = passes_more g.G.Gate.heard n c.args.seat.now c.loop-frame.seat c.post.new.seat c.args.gate.now c.loop-frame.gate c.post.new.gate (refused n) c.loop-frame.invariant.4
-          (passes_last g.G.Gate.heard n c.loop-frame.seat c.post.new.seat c.loop-frame.gate c.post.new.gate (refused n) c.in-NoMemory.ensures.receipts c.in-NoMemory.ensures.passed);
+      passes =
+          passes_more g.G.Gate.heard n c.args.seat.now c.loop-frame.seat c.post.new.seat c.args.gate.now c.loop-frame.gate c.post.new.gate
+          (refused n) c.loop-frame.invariant.4
+          (passes_last g.G.Gate.heard n c.loop-frame.seat c.post.new.seat c.loop-frame.gate c.post.new.gate
+          (refused n) c.in-NoMemory.ensures.receipts c.in-NoMemory.ensures.passed);
     }
 
 pub returns-in-ClockSpent-clause-handed : goal.returns-in-ClockSpent-clause-handed
 returns-in-ClockSpent-clause-handed g c =
     let n = c.args.cell.now.number in
-    hands_more g.O.Outbox.got g.A.Served.sent n c.args.seat.now c.loop-frame.seat c.post.new.seat c.args.outbox.now c.loop-frame.outbox c.loop-frame.outbox c.loop-frame.invariant.3
+    hands_more g.O.Outbox.got g.A.Served.sent n c.args.seat.now c.loop-frame.seat c.post.new.seat c.args.outbox.now c.loop-frame.outbox
+    c.loop-frame.outbox c.loop-frame.invariant.3
     (hands_same g.O.Outbox.got g.A.Served.sent n c.loop-frame.seat c.post.new.seat c.loop-frame.outbox c.in-ClockSpent.ensures.receipts)
 
 pub returns-in-ClockSpent-clause-passed : goal.returns-in-ClockSpent-clause-passed
@@ -65,6 +74,9 @@ returns-in-ClockSpent-clause-passed g c =
     record {
       last = spent n;
       ends = refl;
-      passes = passes_more g.G.Gate.heard n c.args.seat.now c.loop-frame.seat c.post.new.seat c.args.gate.now c.loop-frame.gate c.post.new.gate (spent n) c.loop-frame.invariant.4
-          (passes_last g.G.Gate.heard n c.loop-frame.seat c.post.new.seat c.loop-frame.gate c.post.new.gate (spent n) c.in-ClockSpent.ensures.receipts c.in-ClockSpent.ensures.passed);
+      passes =
+          passes_more g.G.Gate.heard n c.args.seat.now c.loop-frame.seat c.post.new.seat c.args.gate.now c.loop-frame.gate c.post.new.gate
+          (spent n) c.loop-frame.invariant.4
+          (passes_last g.G.Gate.heard n c.loop-frame.seat c.post.new.seat c.loop-frame.gate c.post.new.gate
+          (spent n) c.in-ClockSpent.ensures.receipts c.in-ClockSpent.ensures.passed);
     }

@@ -6,5 +6,7 @@ use Rattle.pvp_picture.proofs.escape.push_escaped.Goals as goal
 
 pub returns : goal.returns
 returns c =
-    let end = YieldsList-end (YieldsList-from_chars c.args.plain.now c.utf8.plain cc) c.loop-sign.yielded _ c.loop-sign.yielded_by _ _ c.in-None.is c.next.ensures.steps in
+    let end =
+    YieldsList-end (YieldsList-from_chars c.args.plain.now c.utf8.plain cc) c.loop-sign.yielded _ c.loop-sign.yielded_by _ _
+    c.in-None.is c.next.ensures.steps in
     c.loop-sign.invariant ∙ ap (λ signs. string_bytes c.args.text.now ++ flat_map spelled signs) (sym (map-id c.loop-sign.yielded) ∙ end.0)

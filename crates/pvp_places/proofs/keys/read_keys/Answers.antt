@@ -10,14 +10,17 @@ pub returns-in-Err : goal.returns-in-Err
 returns-in-Err c =
     let so_far = rw c.in-Some.ensures.some at c.loop-line.invariant.so_far in
     subst (λ (told : PlaceFault). (told ≡ NoMemory) ⊎ (keys_in c.args.setup.now c.args.bytes.now ≡ Err told)) (sym c.at.ensures)
-    (stops (with_key c.args.setup.now) (Unit {0}) c.loop-line.shared.items c.read_line.new.shared.items c.loop-line.number c.in-Some.line.now (lines c.in-Some.after.now) _ c.in-Err.fault c.in-Err.ensures so_far)
+    (stops (with_key c.args.setup.now) (Unit {0}) c.loop-line.shared.items c.read_line.new.shared.items c.loop-line.number c.in-Some.line.now
+    (lines c.in-Some.after.now) _ c.in-Err.fault c.in-Err.ensures so_far)
 
 pub loop-line-preserved : goal.loop-line-preserved
 loop-line-preserved c =
     let so_far = rw c.in-Some.ensures.some at c.loop-line.invariant.so_far in
     let shorter = c.in-Some.ensures.shorter in
     record {
-      so_far = goes_on (with_key c.args.setup.now) c.loop-line.shared.items c.read_line.new.shared.items c.loop-line.number c.in-Some.line.now (lines c.in-Some.after.now) _ c.in_default-read_line.ensures so_far;
+      so_far =
+          goes_on (with_key c.args.setup.now) c.loop-line.shared.items c.read_line.new.shared.items c.loop-line.number c.in-Some.line.now
+          (lines c.in-Some.after.now) _ c.in_default-read_line.ensures so_far;
       counted = omega (arith, shorter, c.loop-line.invariant.counted);
     }
 

@@ -14,7 +14,8 @@ loop-k-preserved g c =
       | in-Some+in_ok-push_client w ↦ printed-more line world.clients _ _ (string_bytes c.args.text.now) k w.in-Some.client.now (sym w.in-Some.ensures)
           (ap string_bytes w.text-is ∙ w.in_ok-push_client.ensures
           ∙ ap (λ (s : Setup). string_bytes c.loop-k.text ++ client_text s (k, w.in-Some.client.now)) w.setup-in-Some.ensures.same) c.loop-k.invariant
-      | in_default w ↦ printed-none line world.clients _ (string_bytes c.args.text.now) k (sym w.in_default.ensures) (ap string_bytes w.text-is ∙ c.loop-k.invariant)
+      | in_default w ↦ printed-none line world.clients _ (string_bytes c.args.text.now) k (sym w.in_default.ensures)
+          (ap string_bytes w.text-is ∙ c.loop-k.invariant)
     ]
 
 pub returns : goal.returns
@@ -23,4 +24,5 @@ returns g c =
     let all = (has_all g.C.BootCell.held world c.is_proved.ensures.is_at).clients in
     let same = ap (λ (s : Setup). length s.members) c.setup.ensures.same in
     let end = c.loop-k-test.false in
-    printed-all (client_text world.setup) world.clients _ (string_bytes c.args.text.now) c.loop-k.k (omega (arith, c.member_count-clients.ensures.count)) c.loop-k.invariant
+    printed-all (client_text world.setup) world.clients _ (string_bytes c.args.text.now) c.loop-k.k
+    (omega (arith, c.member_count-clients.ensures.count)) c.loop-k.invariant

@@ -20,7 +20,8 @@ loop-ccy-preserved g c =
           (ap string_bytes w.text-is ∙ w.in_ok-push_figures.ensures
           ∙ ap (λ t. t ++ ways) (w.in_ok-push_account.ensures ∙ ap (λ (s : Setup). so_far ++ node_line s ccy x) w.setup-in-Some.ensures.same)
           ∙ append_assoc so_far (node_line world.setup ccy x) ways) c.loop-ccy.invariant
-      | in_default w ↦ printed-none line world.nodes _ (string_bytes c.args.text.now) ccy (sym w.in_default.ensures) (ap string_bytes w.text-is ∙ c.loop-ccy.invariant)
+      | in_default w ↦ printed-none line world.nodes _ (string_bytes c.args.text.now) ccy (sym w.in_default.ensures)
+          (ap string_bytes w.text-is ∙ c.loop-ccy.invariant)
     ]
 
 pub returns : goal.returns
@@ -29,4 +30,5 @@ returns g c =
     let all = (has_all g.C.BootCell.held world c.is_proved.ensures.is_at).nodes in
     let same = ap (λ (s : Setup). length s.currencies) c.setup.ensures.same in
     let end = c.loop-ccy-test.false in
-    printed-all (node_text g.C.BootCell.held world) world.nodes _ (string_bytes c.args.text.now) c.loop-ccy.ccy (omega (arith, c.currency_count-currencies.ensures.count)) c.loop-ccy.invariant
+    printed-all (node_text g.C.BootCell.held world) world.nodes _ (string_bytes c.args.text.now) c.loop-ccy.ccy
+    (omega (arith, c.currency_count-currencies.ensures.count)) c.loop-ccy.invariant

@@ -12,7 +12,8 @@ loop-i-preserved g c =
     elim c.match-site.branch [
       | in-Some+in_ok-push_site w ↦ printed-more line world.sites _ _ (string_bytes c.args.text.now) c.loop-i.i w.in-Some.site.now (sym w.in-Some.ensures)
           (ap string_bytes w.text-is ∙ w.in_ok-push_site.ensures) c.loop-i.invariant
-      | in_default w ↦ printed-none line world.sites _ (string_bytes c.args.text.now) c.loop-i.i (sym w.in_default.ensures) (ap string_bytes w.text-is ∙ c.loop-i.invariant)
+      | in_default w ↦ printed-none line world.sites _ (string_bytes c.args.text.now) c.loop-i.i (sym w.in_default.ensures)
+          (ap string_bytes w.text-is ∙ c.loop-i.invariant)
     ]
 
 pub returns : goal.returns
@@ -21,4 +22,5 @@ returns g c =
     let all = (has_all g.C.BootCell.held world c.is_proved.ensures.is_at).sites in
     let same = ap faults c.setup.ensures.same in
     let end = c.loop-i-test.false in
-    printed-all (site_text g.C.BootCell.held) world.sites _ (string_bytes c.args.text.now) c.loop-i.i (omega (arith, c.faults.ensures.faults)) c.loop-i.invariant
+    printed-all (site_text g.C.BootCell.held) world.sites _ (string_bytes c.args.text.now) c.loop-i.i
+    (omega (arith, c.faults.ensures.faults)) c.loop-i.invariant

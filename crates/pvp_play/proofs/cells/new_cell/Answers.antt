@@ -8,4 +8,5 @@ returns-in-Some c =
     (c.failing.ensures.before_fault ∙ ap (λ n. before_at n) c.from.ensures) c.failing.ensures.keeps
 
 pub returns-in-None : goal.returns-in-None
-returns-in-None c = armed-not c.args.fails.now c.args.site c.new.result (sym c.fail_of.ensures ∙ c.in-None.is) c.new.ensures.held c.new.ensures.faults c.new.ensures.reliable
+returns-in-None c =
+    armed-not c.args.fails.now c.args.site c.new.result (sym c.fail_of.ensures ∙ c.in-None.is) c.new.ensures.held c.new.ensures.faults c.new.ensures.reliable

@@ -20,7 +20,9 @@ returns-in_err-do_act-clause-stopped g c =
     let old = c.loop-turn.player in
     let new = c.do_act.new.player in
     let words = c.loop-turn.words in
-    let chosen = act-chosen words c.next_word-a.new.self c.next_word-b.new.self c.next_word-a.result c.next_word-b.result c.act_of-act.result c.world.result.now old.world
+    let chosen =
+    act-chosen words c.next_word-a.new.self c.next_word-b.new.self c.next_word-a.result c.next_word-b.result c.act_of-act.result
+    c.world.result.now old.world
     c.next_word-a.ensures c.next_word-b.ensures c.world.ensures c.act_of-act.ensures in
     on-error c.from_residual.result (RageStops g.C.BootCell c.args.seed c.args.turns c.args.player.now new)
     (record {

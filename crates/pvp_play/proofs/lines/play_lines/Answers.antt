@@ -23,7 +23,8 @@ loop-line-preserved g c =
 
 pub returns-in_err-text : goal.returns-in_err-text
 returns-in_err-text g c =
-    end-stopped g.C.BootCell c.args.telling c.args.player.now c.args.lines.now c.play_line.new.player c.from_residual.result _ _ c.from_residual.ensures.1 (record {
+    end-stopped g.C.BootCell c.args.telling c.args.player.now c.args.lines.now c.play_line.new.player c.from_residual.result _ _
+    c.from_residual.ensures.1 (record {
       count = c.loop-line.line-index;
       line = _;
       is_next = slice_get-get_or c.args.lines.now c.loop-line.line-index _ c.loop-line-test.true;
@@ -42,7 +43,8 @@ returns-in_err-text g c =
 pub returns : goal.returns
 returns g c =
     let whole = take_all c.loop-line.line-index c.args.lines.now c.loop-line-test.false in
-    subst (λ lines. ArePlayed g.C.BootCell c.args.telling c.args.player.now lines c.loop-line.player (g.W.Write.contents c.args.writer.now) (g.W.Write.contents c.loop-line.writer)) whole
+    subst (λ lines. ArePlayed g.C.BootCell c.args.telling c.args.player.now lines c.loop-line.player (g.W.Write.contents c.args.writer.now)
+    (g.W.Write.contents c.loop-line.writer)) whole
     (record {
       text = c.loop-line.invariant.0;
       plays = c.loop-line.invariant.1;

@@ -8,4 +8,5 @@ pub loop-c-preserved : goal.loop-c-preserved
 loop-c-preserved c =
     appended _ _ _ _ _ _ c.in_ok-write.ensures.bytes c.loop-c.invariant
     (figures_text-more c.args.book.now c.loop-c.c
-    ∙ ap (λ b. figures_text c.args.book.now c.loop-c.c ++ (32 ∷ signed_decimal b)) (sym (shown c.figure-figure.result _ (search rules) c.figure-figure.ensures)))
+    ∙ ap (λ b. figures_text c.args.book.now c.loop-c.c ++ (32 ∷ signed_decimal b))
+    (sym (shown c.figure-figure.result _ (search rules) c.figure-figure.ensures)))

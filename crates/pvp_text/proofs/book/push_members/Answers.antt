@@ -26,5 +26,6 @@ loop-place-preserved c =
     let within : c.loop-place.place < length c.args.book.now.setup.members = subst (λ ms. c.loop-place.place < length ms) members c.loop-place-test.true in
     appended _ _ _ _ _ _ c.in_ok-push_member.ensures c.loop-place.invariant
     (member_lines-more c.args.indent.now c.args.book.now c.args.book.now.setup.members c.loop-place.place c.member-item.result within
-    ∙ ap (λ m. flat_map (member_line c.args.indent.now c.args.book.now) (enumerate_from 1 (take c.loop-place.place c.args.book.now.setup.members)) ++ member_line c.args.indent.now c.args.book.now (c.loop-place.place + 1, m))
+    ∙ ap (λ m. flat_map (member_line c.args.indent.now c.args.book.now) (enumerate_from 1 (take c.loop-place.place c.args.book.now.setup.members))
+    ++ member_line c.args.indent.now c.args.book.now (c.loop-place.place + 1, m))
     (ap (λ ms. get_or ms c.loop-place.place c.member-item.result) (sym members) ∙ sym c.member-item.is))

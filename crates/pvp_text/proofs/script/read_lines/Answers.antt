@@ -17,7 +17,8 @@ returns-in_err-statement c =
     let p = err_from_is_err_and c.from_residual.result c.from_residual.ensures.1 in
     let failed = sym (c.in_err-statement.ensures ∙ ap (of_line c.loop-line.number) c.read_line.ensures) in
     let so_far = rw c.in-Some.ensures.some at c.loop-line.invariant.so_far None tt in
-    rw (p.1, p.2) (inl (ends c.args.kind c.args.setup.now c.loop-line.found.items c.loop-line.number c.in-Some.line.now (lines c.in-Some.after.now) _ _ failed so_far))
+    rw (p.1, p.2) (inl (ends c.args.kind c.args.setup.now c.loop-line.found.items c.loop-line.number c.in-Some.line.now
+    (lines c.in-Some.after.now) _ _ failed so_far))
 
 pub returns-in_err-push : goal.returns-in_err-push
 returns-in_err-push c =
@@ -30,22 +31,27 @@ returns-in_err-push c =
     let said : of_line number (line_at kind setup c.in-Some.line.now) ≡ Ok (Some c.in-Some-2.statement) =
     sym (c.in_ok-statement.ensures ∙ ap (of_line number) c.read_line.ensures) ∙ ap (λ (s : Option Statement). Ok s) c.in-Some-2.is in
     let so_far = rw c.in-Some.ensures.some at c.loop-line.invariant.so_far (Some refusal) (omega arith) in
-    rw (p.1, p.2, told) (inr (refl, is_refused kind setup c.loop-line.found.items refusal c.in-Some.line.now (lines c.in-Some.after.now) c.in-Some-2.statement _ said so_far))
+    rw (p.1, p.2, told)
+    (inr (refl, is_refused kind setup c.loop-line.found.items refusal c.in-Some.line.now (lines c.in-Some.after.now) c.in-Some-2.statement _ said so_far))
 
 pub loop-line-preserved : goal.loop-line-preserved
 loop-line-preserved c =
     let said = sym (c.in_ok-statement.ensures ∙ ap (of_line c.loop-line.number) c.read_line.ensures) in
     let front = c.loop-line.found.items in
     let held : c.match-branch-2.found.items ≡ front ++ line_of c.loop-line.number c.in_ok-statement.field-0 = elim c.match-branch-2.branch [
-      | in-Some-2+in_ok-push w ↦ ap (λ (v : Vec Line). v.items) w.found-is ∙ w.in_ok-push.ensures.items ∙ ap (λ (s : Option Statement). front ++ line_of c.loop-line.number s) (sym w.in-Some-2.is)
-      | in_default-2 w ↦ ap (λ (v : Vec Line). v.items) w.found-is ∙ sym (append-nil front) ∙ ap (λ (s : Option Statement). front ++ line_of c.loop-line.number s) (sym w.in_default-2.is)
+      | in-Some-2+in_ok-push w ↦ ap (λ (v : Vec Line). v.items) w.found-is ∙ w.in_ok-push.ensures.items
+          ∙ ap (λ (s : Option Statement). front ++ line_of c.loop-line.number s) (sym w.in-Some-2.is)
+      | in_default-2 w ↦ ap (λ (v : Vec Line). v.items) w.found-is ∙ sym (append-nil front)
+          ∙ ap (λ (s : Option Statement). front ++ line_of c.loop-line.number s) (sym w.in_default-2.is)
     ] in
     record {
       so_far = λ refused ahead.
           let so_far = rw c.in-Some.ensures.some at c.loop-line.invariant.so_far refused (ahead_before refused c.loop-line.number ahead) in
-          goes_on refused c.args.kind c.args.setup.now front c.loop-line.number c.in-Some.line.now (lines c.in-Some.after.now) _ _ ahead said so_far c.match-branch-2.found.items held;
+          goes_on refused c.args.kind c.args.setup.now front c.loop-line.number c.in-Some.line.now
+          (lines c.in-Some.after.now) _ _ ahead said so_far c.match-branch-2.found.items held;
       counted = omega (arith, c.loop-line.invariant.counted, ap length c.in-Some.ensures.some);
     }
 
 pub returns : goal.returns
-returns c = is_done c.args.kind c.args.setup.now c.loop-line.found.items c.loop-line.number _ (rw c.in_default.ensures.none at c.loop-line.invariant.so_far None tt)
+returns c =
+    is_done c.args.kind c.args.setup.now c.loop-line.found.items c.loop-line.number _ (rw c.in_default.ensures.none at c.loop-line.invariant.so_far None tt)

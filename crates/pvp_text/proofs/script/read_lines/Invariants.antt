@@ -7,7 +7,8 @@ use Rattle.pvp_text.proofs.script.read_lines.Given as goal
 
 abbrev pub invariant-loop-line : goal.invariant-loop-line
 invariant-loop-line l = record {
-  so_far : (refused : Option LineFault) → IsAhead refused l.number → with_front l.found.items (lines_at refused l.kind l.setup l.number (lines l.rest)) ≡ lines_at refused l.kind l.setup 1 (lines l.text);
+  so_far : (refused : Option LineFault) → IsAhead refused l.number
+      → with_front l.found.items (lines_at refused l.kind l.setup l.number (lines l.rest)) ≡ lines_at refused l.kind l.setup 1 (lines l.text);
   counted : l.number + length (lines l.rest) ≤ 65536;
 }
 

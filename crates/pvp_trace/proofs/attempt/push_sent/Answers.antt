@@ -18,7 +18,8 @@ loop-place-preserved g c =
     let low = c.loop-place.auto.place in
     let place = c.loop-place.place in
     let here : place + 1 ≡ a.before + 1 + (place - a.before) = omega (arith, low) in (
-      one_number-more line (a.before + 1) (string_bytes c.push_sent_line.new.text) (string_bytes c.loop-place.text) (string_bytes c.args.text.now) (place - a.before) (place + 1 - a.before)
+      one_number-more line (a.before + 1) (string_bytes c.push_sent_line.new.text) (string_bytes c.loop-place.text) (string_bytes c.args.text.now)
+          (place - a.before) (place + 1 - a.before)
           (omega (arith, low)) (c.in_ok-push_sent_line.ensures ∙ ap (λ n. string_bytes c.loop-place.text ++ line n) here) c.loop-place.invariant.0,
       λ none. let low' = c.loop-place.auto.place in let more = c.loop-place-test.true in omega (arith, none, low', more),
     )
@@ -29,6 +30,7 @@ returns g c =
     let line = sent_line c.args.world.now.setup c.args.world.now.post in
     c.loop-place.invariant.0 ∙ ap (λ n. string_bytes c.args.text.now ++ with_numbers line (a.before + 1) n) (by (cases_lt a.after a.before))
   where
-    by : (c.args.attempt.after < c.args.attempt.before) ⊎ (c.args.attempt.before ≤ c.args.attempt.after) → c.loop-place.place - c.args.attempt.before ≡ c.args.attempt.after - c.args.attempt.before
+    by : (c.args.attempt.after < c.args.attempt.before) ⊎ (c.args.attempt.before ≤ c.args.attempt.after)
+        → c.loop-place.place - c.args.attempt.before ≡ c.args.attempt.after - c.args.attempt.before
     by (inl none) = let here = c.loop-place.invariant.1 none in omega (arith, none, here)
     by (inr some) = let high = c.loop-place.auto.place-end some in let end = c.loop-place-test.false in omega (arith, some, high, end)

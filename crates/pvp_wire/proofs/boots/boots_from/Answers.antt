@@ -9,15 +9,18 @@ pub returns-in_err-boot : goal.returns-in_err-boot
 returns-in_err-boot c =
     let p = err_from_is_err_and c.from_residual.result c.from_residual.ensures.1 in
     let all = items_from (number_at 4) false c.args.count c.args.bytes.now in
-    rw (p.1, p.2) (ends (number_at 4) c.in_err-boot.field-0.0 c.loop.known c.args.count c.loop.counter c.loop.rest.now all c.loop-test.true c.in_err-boot.ensures c.loop.invariant.1)
+    rw (p.1, p.2) (ends (number_at 4) c.in_err-boot.field-0.0 c.loop.known c.args.count c.loop.counter c.loop.rest.now all c.loop-test.true
+    c.in_err-boot.ensures c.loop.invariant.1)
 
 pub loop-preserved : goal.loop-preserved
 loop-preserved c =
     let all = items_from (number_at 4) false c.args.count c.args.bytes.now in
-    let grown : length (c.loop.known ++ c.in_ok-boot.boot ∷ []) ≡ c.loop.counter + 1 = omega (arith, length-append c.loop.known (c.in_ok-boot.boot ∷ []), c.loop.invariant.0) in
+    let grown : length (c.loop.known ++ c.in_ok-boot.boot ∷ []) ≡ c.loop.counter + 1 =
+    omega (arith, length-append c.loop.known (c.in_ok-boot.boot ∷ []), c.loop.invariant.0) in
     rw c.push.ensures (
       grown,
-      goes_on (number_at 4) c.loop.known c.args.count c.loop.counter c.loop.rest.now c.in_ok-boot.boot c.in_ok-boot.after.now all c.loop-test.true c.in_ok-boot.ensures c.loop.invariant.1,
+      goes_on (number_at 4) c.loop.known c.args.count c.loop.counter c.loop.rest.now c.in_ok-boot.boot c.in_ok-boot.after.now all c.loop-test.true
+          c.in_ok-boot.ensures c.loop.invariant.1,
     )
 
 pub returns : goal.returns

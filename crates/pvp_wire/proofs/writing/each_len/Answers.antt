@@ -13,7 +13,15 @@ overflow_add-len c =
     let rows = c.args.rows.now in
     let page = c.loop-page.page in
     let here = ap (λ l. length l) c.page_at.ensures.rows in
-    omega (arith, c.loop-page.invariant.1, c.page_len-len.ensures.few, here, length-page-more rows page, length-take (page_rows * (page + 1)) rows, c.page_count-page-end.ensures.few)
+    omega (
+      arith,
+      c.loop-page.invariant.1,
+      c.page_len-len.ensures.few,
+      here,
+      length-page-more rows page,
+      length-take (page_rows * (page + 1)) rows,
+      c.page_count-page-end.ensures.few,
+    )
 
 pub loop-page-preserved : goal.loop-page-preserved
 loop-page-preserved c =
@@ -22,8 +30,10 @@ loop-page-preserved c =
     let more = rows_at rows page in
     let before = take (page_rows * page) rows in
     let here = c.page_at.ensures.rows in
-    let bytes : length (flat_map row (take (page_rows * (page + 1)) rows)) ≡ length (flat_map row before) + length (flat_map row more) = ap (λ l. length l) (spelled-more rows page) ∙ length-append (flat_map row before) (flat_map row more) in (
+    let bytes : length (flat_map row (take (page_rows * (page + 1)) rows)) ≡ length (flat_map row before) + length (flat_map row more) =
+    ap (λ l. length l) (spelled-more rows page) ∙ length-append (flat_map row before) (flat_map row more) in (
       omega (arith, bytes, c.loop-page.invariant.0, c.page_len-len.ensures.exact, ap (λ l. length (flat_map row l)) here),
       omega (arith, c.loop-page.invariant.1, c.page_len-len.ensures.few, ap (λ l. length l) here, length-page-more rows page),
-      subst (EachFits RowFits) (sym (page-more rows page)) (EachFits-append RowFits before more c.loop-page.invariant.2 (subst (EachFits RowFits) here c.page_len-len.ensures.fits)),
+      subst (EachFits RowFits) (sym (page-more rows page))
+          (EachFits-append RowFits before more c.loop-page.invariant.2 (subst (EachFits RowFits) here c.page_len-len.ensures.fits)),
     )

@@ -14,6 +14,8 @@ loop-at-preserved g c =
     let here = c.page_at.result.now in
     let bytes = g.W.Write.contents in
     let before = flat_map row (take (page_rows * at) rows) in
-    let more : before ++ flat_map row here ≡ flat_map row (take (page_rows * (at + 1)) rows) = ap (λ l. before ++ flat_map row l) c.page_at.ensures.rows ∙ sym (spelled-more rows at) in
+    let more : before ++ flat_map row here ≡ flat_map row (take (page_rows * (at + 1)) rows) =
+    ap (λ l. before ++ flat_map row l) c.page_at.ensures.rows ∙ sym (spelled-more rows at) in
     subst (λ (all : List ℕ). Appends (bytes c.args.writer.now) (bytes c.write_page.new.writer) all) more
-    (appends_then (bytes c.args.writer.now) (bytes c.loop-at.writer) (bytes c.write_page.new.writer) before (flat_map row here) c.loop-at.invariant c.in_ok-write_page.ensures)
+    (appends_then (bytes c.args.writer.now) (bytes c.loop-at.writer) (bytes c.write_page.new.writer) before
+    (flat_map row here) c.loop-at.invariant c.in_ok-write_page.ensures)

@@ -20,9 +20,11 @@ loop-number-init c = so_far-none _ _ _ c.in_ok-clients.ensures.items
 pub loop-number-preserved : goal.loop-number-preserved
 loop-number-preserved c =
     let setup = c.args.setup.now in
-    so_far-more (IsClient setup) _ (opening_client ∷ map (λ (member : Member). opening_client) setup.members) c.loop-number.number c.new.result c.push.new.self.items
+    so_far-more (IsClient setup) _ (opening_client ∷ map (λ (member : Member). opening_client) setup.members) c.loop-number.number
+    c.new.result c.push.new.self.items
     c.loop-number.invariant c.in_ok-push.ensures.items
-    (λ y at. c.new.ensures ∙ ap (λ (x : Client). let v : client.Shown = record { f = faults setup; me = c.loop-number.number; client = x } in v) (same-at_first opening_client setup.members _ y at))
+    (λ y at. c.new.ensures ∙ ap (λ (x : Client). let v : client.Shown = record { f = faults setup; me = c.loop-number.number; client = x } in
+    v) (same-at_first opening_client setup.members _ y at))
 
 pub returns : goal.returns
 returns c =

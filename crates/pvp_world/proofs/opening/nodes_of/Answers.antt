@@ -15,7 +15,8 @@ loop-ccy-preserved c =
     let setup = c.args.setup.now in
     so_far-more (IsNode setup) _ (map (λ (currency : Currency). opening_node) setup.currencies) c.loop-ccy.ccy c.in_ok-new.field-0 c.push.new.self.items
     c.loop-ccy.invariant c.in_ok-push.ensures.items
-    (λ y at. c.in_ok-new.ensures ∙ ap (λ (x : Node). let v : node.Shown = record { setup = setup; ccy = c.loop-ccy.ccy; node = x } in v) (same-at opening_node setup.currencies _ y at))
+    (λ y at. c.in_ok-new.ensures ∙ ap (λ (x : Node). let v : node.Shown = record { setup = setup; ccy = c.loop-ccy.ccy; node = x } in
+    v) (same-at opening_node setup.currencies _ y at))
 
 pub returns : goal.returns
 returns c =

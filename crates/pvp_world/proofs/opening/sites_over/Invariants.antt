@@ -12,5 +12,6 @@ use Rattle.pvp_world.proofs.opening.sites_over.Given as goal
 abbrev pub invariant-loop-me : goal.invariant-loop-me
 invariant-loop-me g l = record {
   cells : map (λ (site : replica.Shown Cmd Setup g.row.C.Denot). site.cell) l.sites.items ≡ take (length l.yielded) l.fn.cells.items;
-  sites : AreSoFar (IsSite g.C.BootCell.held l.setup) l.sites.items (map (opening_site (faults l.setup)) (map g.C.BootCell.held l.fn.cells.items)) (length l.yielded);
+  sites : AreSoFar (IsSite g.C.BootCell.held l.setup) l.sites.items (map (opening_site (faults l.setup)) (map g.C.BootCell.held l.fn.cells.items))
+      (length l.yielded);
 }

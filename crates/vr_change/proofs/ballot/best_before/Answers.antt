@@ -16,7 +16,8 @@ returns-then-goes_before-clause-pick g c = λ vote same.
     let best = c.in_ok-at.ensures in
     let eb = kept_at r.votes.items at c.index.result.now best.0 c.index.ensures in
     let p : IsPick left b = picked votes left at b eb best.1 in
-    let test : goes_before vote b ≡ c.goes_before.result = sym (c.goes_before.ensures ∙ ap (λ k. claims_before k c.of.result) (sym same) ∙ ap (claims_before (claim vote)) c.of.ensures) in
+    let test : goes_before vote b ≡ c.goes_before.result =
+    sym (c.goes_before.ensures ∙ ap (λ k. claims_before k c.of.result) (sym same) ∙ ap (claims_before (claim vote)) c.of.ensures) in
     pick_new left b vote p (test ∙ c.if-goes_before.true)
 
 pub returns-else-goes_before-clause-pick : goal.returns-else-goes_before-clause-pick
@@ -29,5 +30,6 @@ returns-else-goes_before-clause-pick g c = λ vote same.
     let best = c.in_ok-at.ensures in
     let eb = kept_at r.votes.items at c.index.result.now best.0 c.index.ensures in
     let p : IsPick left b = picked votes left at b eb best.1 in
-    let test : goes_before vote b ≡ c.goes_before.result = sym (c.goes_before.ensures ∙ ap (λ k. claims_before k c.of.result) (sym same) ∙ ap (claims_before (claim vote)) c.of.ensures) in
+    let test : goes_before vote b ≡ c.goes_before.result =
+    sym (c.goes_before.ensures ∙ ap (λ k. claims_before k c.of.result) (sym same) ∙ ap (claims_before (claim vote)) c.of.ensures) in
     picked_at votes (left ++ vote ∷ []) at b eb (pick_kept left b vote p (test ∙ c.if-goes_before.false))

@@ -16,11 +16,19 @@ loop-site-preserved g c =
     let more = c.takes_part.ensures in
     elim c.if-takes_part.branch [
       | then-takes_part w ↦ record {
-        counted = w.count-is ∙ ap (λ n. n + 1) c.loop-site.invariant.counted ∙ sym (count_next (λ j. not (j == c.args.config.me) && (has_start (starts_left c.args.running.now.known c.args.told.now (map start_of c.args.running.now.starts.items)) j || (c.args.from == j))) site true (sym more ∙ w.if-takes_part.true));
+        counted =
+            w.count-is ∙ ap (λ n. n + 1) c.loop-site.invariant.counted ∙ sym
+            (count_next (λ j. not (j == c.args.config.me)
+            && (has_start (starts_left c.args.running.now.known c.args.told.now (map start_of c.args.running.now.starts.items)) j || (c.args.from == j)))
+            site true (sym more ∙ w.if-takes_part.true));
         few = omega arith;
       }
       | else-takes_part w ↦ record {
-        counted = w.count-is ∙ c.loop-site.invariant.counted ∙ sym (count_next (λ j. not (j == c.args.config.me) && (has_start (starts_left c.args.running.now.known c.args.told.now (map start_of c.args.running.now.starts.items)) j || (c.args.from == j))) site false (sym more ∙ w.if-takes_part.false) ∙ none_more _);
+        counted =
+            w.count-is ∙ c.loop-site.invariant.counted ∙ sym
+            (count_next (λ j. not (j == c.args.config.me)
+            && (has_start (starts_left c.args.running.now.known c.args.told.now (map start_of c.args.running.now.starts.items)) j || (c.args.from == j)))
+            site false (sym more ∙ w.if-takes_part.false) ∙ none_more _);
         few = omega arith;
       }
     ]
@@ -28,4 +36,10 @@ loop-site-preserved g c =
 pub returns : goal.returns
 returns g c =
     let all : c.loop-site.site ≡ 2 * c.args.config.f + 1 = omega arith in
-    ap (nat_le c.args.config.f) (c.loop-site.invariant.counted ∙ ap (λ n. count_by (λ j. not (j == c.args.config.me) && (has_start (starts_left c.args.running.now.known c.args.told.now (map start_of c.args.running.now.starts.items)) j || (c.args.from == j))) (range_with_len 0 n)) all ∙ sym (count_others c.args.config.f c.args.config.me (λ j. has_start (starts_left c.args.running.now.known c.args.told.now (map start_of c.args.running.now.starts.items)) j || (c.args.from == j))))
+    ap (nat_le c.args.config.f)
+    (c.loop-site.invariant.counted ∙ ap
+    (λ n.
+    count_by (λ j. not (j == c.args.config.me)
+    && (has_start (starts_left c.args.running.now.known c.args.told.now (map start_of c.args.running.now.starts.items)) j || (c.args.from == j)))
+    (range_with_len 0 n)) all ∙ sym (count_others c.args.config.f c.args.config.me
+    (λ j. has_start (starts_left c.args.running.now.known c.args.told.now (map start_of c.args.running.now.starts.items)) j || (c.args.from == j))))

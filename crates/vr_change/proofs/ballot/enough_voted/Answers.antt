@@ -15,11 +15,17 @@ loop-site-preserved g c =
     let more = c.votes_now.ensures in
     elim c.if-votes_now.branch [
       | then-votes_now w ↦ record {
-        counted = w.count-is ∙ ap (λ n. n + 1) c.loop-site.invariant.counted ∙ sym (count_next (λ j. has_vote (votes_left c.args.running.now.known c.args.told.now (map vote_of c.args.running.now.votes.items)) j || (c.args.from == j)) site true (sym more ∙ w.if-votes_now.true));
+        counted =
+            w.count-is ∙ ap (λ n. n + 1) c.loop-site.invariant.counted ∙ sym
+            (count_next (λ j. has_vote (votes_left c.args.running.now.known c.args.told.now (map vote_of c.args.running.now.votes.items)) j
+            || (c.args.from == j)) site true (sym more ∙ w.if-votes_now.true));
         few = omega arith;
       }
       | else-votes_now w ↦ record {
-        counted = w.count-is ∙ c.loop-site.invariant.counted ∙ sym (count_next (λ j. has_vote (votes_left c.args.running.now.known c.args.told.now (map vote_of c.args.running.now.votes.items)) j || (c.args.from == j)) site false (sym more ∙ w.if-votes_now.false) ∙ none_more _);
+        counted =
+            w.count-is ∙ c.loop-site.invariant.counted ∙ sym
+            (count_next (λ j. has_vote (votes_left c.args.running.now.known c.args.told.now (map vote_of c.args.running.now.votes.items)) j
+            || (c.args.from == j)) site false (sym more ∙ w.if-votes_now.false) ∙ none_more _);
         few = omega arith;
       }
     ]

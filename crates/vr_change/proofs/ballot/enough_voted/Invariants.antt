@@ -8,6 +8,7 @@ use Rattle.vr_change.proofs.ballot.enough_voted.Given as goal
 -- of the sites so far
 abbrev pub invariant-loop-site : goal.invariant-loop-site
 invariant-loop-site g l = record {
-  counted : l.count ≡ count_by (λ j. has_vote (votes_left l.running.known l.told (map vote_of l.running.votes.items)) j || (l.from == j)) (range_with_len 0 l.site);
+  counted : l.count ≡ count_by (λ j. has_vote (votes_left l.running.known l.told (map vote_of l.running.votes.items)) j || (l.from == j))
+      (range_with_len 0 l.site);
   few : l.count ≤ l.site;
 }

@@ -12,6 +12,7 @@ returns g c =
     let known = c.args.running.now.known in
     let told = c.args.told.now in
     let starts = c.args.running.now.starts.items in
-    any_from_yields_List (λ start. (start.from == c.args.site) && is_left known told start.from start.known) _ _ c.any.result c.any.ensures.ran (YieldsList-from_slice starts cc) (λ x b q k. search (rules, tests))
+    any_from_yields_List (λ start. (start.from == c.args.site) && is_left known told start.from start.known) _ _ c.any.result c.any.ensures.ran
+    (YieldsList-from_slice starts cc) (λ x b q k. search (rules, tests))
     ∙ list_any-map (λ start. (start.from == c.args.site) && is_left known told start.from start.known) start_of starts
     ∙ list_any-filter (λ start. start.from == c.args.site) (λ start. is_left known told start.from start.known) _

@@ -8,5 +8,6 @@ use Rattle.vr_change.proofs.ballot.has_started.Goals as goal
 
 pub returns : goal.returns
 returns c =
-    any_from_yields_List (λ start. start.from == c.args.site) _ _ c.any.result c.any.ensures.ran (YieldsList-from_slice c.args.starts.now cc) (λ x b q k. search (rules, tests))
+    any_from_yields_List (λ start. start.from == c.args.site) _ _ c.any.result c.any.ensures.ran (YieldsList-from_slice c.args.starts.now cc)
+    (λ x b q k. search (rules, tests))
     ∙ list_any-map (λ start. start.from == c.args.site) start_of c.args.starts.now

@@ -12,6 +12,7 @@ returns g c =
     let known = c.args.running.now.known in
     let told = c.args.told.now in
     let votes = c.args.running.now.votes.items in
-    any_from_yields_List (λ vote. (vote.from == c.args.site) && is_left known told vote.from vote.known) _ _ c.any.result c.any.ensures.ran (YieldsList-from_slice votes cc) (λ x b q k. search (rules, tests))
+    any_from_yields_List (λ vote. (vote.from == c.args.site) && is_left known told vote.from vote.known) _ _ c.any.result c.any.ensures.ran
+    (YieldsList-from_slice votes cc) (λ x b q k. search (rules, tests))
     ∙ list_any-map (λ vote. (vote.from == c.args.site) && is_left known told vote.from vote.known) vote_of votes
     ∙ list_any-filter (λ vote. vote.from == c.args.site) (λ vote. is_left known told vote.from vote.known) _

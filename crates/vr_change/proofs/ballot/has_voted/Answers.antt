@@ -8,5 +8,6 @@ use Rattle.vr_change.proofs.ballot.has_voted.Goals as goal
 
 pub returns : goal.returns
 returns g c =
-    any_from_yields_List (λ vote. vote.from == c.args.site) _ _ c.any.result c.any.ensures.ran (YieldsList-from_slice c.args.votes.now cc) (λ x b q k. search (rules, tests))
+    any_from_yields_List (λ vote. vote.from == c.args.site) _ _ c.any.result c.any.ensures.ran (YieldsList-from_slice c.args.votes.now cc)
+    (λ x b q k. search (rules, tests))
     ∙ list_any-map (λ vote. vote.from == c.args.site) vote_of c.args.votes.now

@@ -16,6 +16,7 @@ loop-vote-preserved g c =
     elim c.if-is_left.branch [
       | then-is_left w ↦
           let more : w.max-most.result ≡ max c.loop-vote.most a.done = search rules in
-          w.most-is ∙ more ∙ ap (λ m. max m a.done) c.loop-vote.invariant ∙ most_next r.known c.args.told.now votes at (vote_of a) true there (left ∙ w.if-is_left.true)
+          w.most-is ∙ more ∙ ap (λ m. max m a.done) c.loop-vote.invariant ∙ most_next r.known c.args.told.now votes at (vote_of a) true there
+          (left ∙ w.if-is_left.true)
       | else-is_left w ↦ w.most-is ∙ c.loop-vote.invariant ∙ most_next r.known c.args.told.now votes at (vote_of a) false there (left ∙ w.if-is_left.false)
     ]

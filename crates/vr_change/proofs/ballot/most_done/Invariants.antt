@@ -5,4 +5,5 @@ use Rattle.vr_change.proofs.ballot.most_done.Given as goal
 
 -- the most so far
 abbrev pub invariant-loop-vote : goal.invariant-loop-vote
-invariant-loop-vote g l = l.most ≡ fold (λ most vote. max most vote.done) 0 (votes_left l.running.known l.told (take l.vote-index (map vote_of l.running.votes.items)))
+invariant-loop-vote g l =
+    l.most ≡ fold (λ most vote. max most vote.done) 0 (votes_left l.running.known l.told (take l.vote-index (map vote_of l.running.votes.items)))

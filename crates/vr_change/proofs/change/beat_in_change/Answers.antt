@@ -11,17 +11,20 @@ use Rattle.vr_change.proofs.change.beat_in_change.Goals.{then-running+then-prima
 pub returns-in_err-sent : goal.returns-in_err-sent
 returns-in_err-sent g c = λ start acks cell h.
     let r = c.args.running.now in
-    err_follows g.M.Machine start c.args.config.f c.args.config.me _ c.from_residual.result _ c.from_residual.ensures.0 (ap (λ s. s.ending) (beats_in_change-is c.args.config.f c.args.config.me (site_of r acks cell) _ refl))
+    err_follows g.M.Machine start c.args.config.f c.args.config.me _ c.from_residual.result _ c.from_residual.ensures.0
+    (ap (λ s. s.ending) (beats_in_change-is c.args.config.f c.args.config.me (site_of r acks cell) _ refl))
 
 pub returns-in_err-own_vote : goal.returns-in_err-own_vote
 returns-in_err-own_vote g c = λ start acks cell h.
     let r = c.args.running.now in
-    err_follows g.M.Machine start c.args.config.f c.args.config.me _ c.from_residual-in_err-own_vote.result _ c.from_residual-in_err-own_vote.ensures.0 (ap (λ s. s.ending) (beats_in_change-is c.args.config.f c.args.config.me (site_of r acks cell) _ refl))
+    err_follows g.M.Machine start c.args.config.f c.args.config.me _ c.from_residual-in_err-own_vote.result _ c.from_residual-in_err-own_vote.ensures.0
+    (ap (λ s. s.ending) (beats_in_change-is c.args.config.f c.args.config.me (site_of r acks cell) _ refl))
 
 pub returns-in_err-push : goal.returns-in_err-push
 returns-in_err-push g c = λ start acks cell h.
     let r = c.args.running.now in
-    err_follows g.M.Machine start c.args.config.f c.args.config.me _ c.from_residual-in_err-push.result _ c.from_residual-in_err-push.ensures.0 (ap (λ s. s.ending) (beats_in_change-is c.args.config.f c.args.config.me (site_of r acks cell) _ refl))
+    err_follows g.M.Machine start c.args.config.f c.args.config.me _ c.from_residual-in_err-push.result _ c.from_residual-in_err-push.ensures.0
+    (ap (λ s. s.ending) (beats_in_change-is c.args.config.f c.args.config.me (site_of r acks cell) _ refl))
 
 both_fail : (a b : Bool) → b ≡ true → (a && not b) ≡ false
 both_fail true b e = ap not e
@@ -40,12 +43,15 @@ returns g c = λ start acks cell h.
           let p : (primary f r.view == me) ≡ false = ne_eqb _ _ (λ same. w.if-primary_of-config.true (w.primary_of.ensures.site ∙ same)) in
           meets_as m start f me r _ _ _ (beats_in_change-votes f me x w.if-running.true p)
           (does_meets m start f me r _ x _ (record {
-            mails = ap (λ v. v.items) w.sent-is ∙ w.in_ok-push.ensures.items ∙ ap (λ l. l ++ w.in_ok-own_vote.field-0 ∷ []) c.in_ok-sent.ensures ∙ ap (λ l. told ++ l) (w.in_ok-own_vote.ensures acks cell);
+            mails =
+                ap (λ v. v.items) w.sent-is ∙ w.in_ok-push.ensures.items ∙ ap (λ l. l ++ w.in_ok-own_vote.field-0 ∷ []) c.in_ok-sent.ensures
+                ∙ ap (λ l. told ++ l) (w.in_ok-own_vote.ensures acks cell);
             dropped = refl;
           }) h refl)
       | else-running w ↦
           let silent : (r.voted && not (primary f r.view == me)) ≡ false = elim w.else-running.branch [
-            | else-running-via-then-running+else-primary_of-config v ↦ both_fail r.voted (primary f r.view == me) (eq-eqb _ _ (sym v.primary_of.ensures.site ∙ v.if-primary_of-config.false))
+            | else-running-via-then-running+else-primary_of-config v ↦ both_fail r.voted (primary f r.view == me)
+                (eq-eqb _ _ (sym v.primary_of.ensures.site ∙ v.if-primary_of-config.false))
             | else-running-via-else-running v ↦ ap (λ b. b && not (primary f r.view == me)) v.if-running.false
           ] in
           meets_as m start f me r _ _ _ (beats_in_change-silent f me x silent)

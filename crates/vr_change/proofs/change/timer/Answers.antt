@@ -15,7 +15,8 @@ returns-in_err-sent-clause-step g c = λ start acks cell h.
     let me = c.args.config.me in
     let r = c.args.running.now in
     let x = site_of r acks cell in
-    err_follows g.M.Machine start f me _ c.from_residual.result _ c.from_residual.ensures.0 (ap (λ s. s.ending) (on_timer-is f me x (running_is_here r.status h.sound.up)))
+    err_follows g.M.Machine start f me _ c.from_residual.result _ c.from_residual.ensures.0
+    (ap (λ s. s.ending) (on_timer-is f me x (running_is_here r.status h.sound.up)))
 
 pub returns-clause-sound : goal.returns-clause-sound
 returns-clause-sound g c = λ start s.
@@ -39,7 +40,9 @@ returns-clause-step g c = λ start acks cell h.
     let view = r.view + 1 in
     let gave : GaveUp n = record { acked = now.acked; starts = now.starts; voted = now.voted; votes = now.votes } in
     let up : is_running n.status ≡ true = ap is_running now.status in
-    let told : to_all f me (StartViewChange (record { view = n.view; known = n.known })) ≡ to_all f me (StartViewChange (record { view = view; known = r.known })) = λ i. to_all f me (StartViewChange (record { view = now.view i; known = now.known i })) in
+    let told : to_all f me (StartViewChange (record { view = n.view; known = n.known }))
+    ≡ to_all f me (StartViewChange (record { view = view; known = r.known })) =
+    λ i. to_all f me (StartViewChange (record { view = now.view i; known = now.known i })) in
     let kept : IsKept m start n.kept = subst (IsKept m start) (sym now.kept) h.sound.kept in
     meets_as m start f me n _ _ _ (on_timer-is f me x (running_is_here r.status h.sound.up))
     (does_meets m start f me n _ _ _ (record { mails = c.in_ok-sent.ensures ∙ told; dropped = refl })

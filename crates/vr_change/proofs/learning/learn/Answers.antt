@@ -12,16 +12,22 @@ use Rattle.vr_change.proofs.Left.{filter-map, greater_length, one_each-left}
 use Rattle.vr_change.proofs.learning.learn.Given.{Over}
 use Rattle.vr_change.proofs.learning.learn.Goals as goal
 
-starts : (g : Over) (c : goal.After-retain-2 g) → map start_of c.retain.new.self.items ≡ starts_left c.args.running.now.known c.args.told.now (map start_of c.args.running.now.starts.items)
+starts : (g : Over) (c : goal.After-retain-2 g)
+    → map start_of c.retain.new.self.items ≡ starts_left c.args.running.now.known c.args.told.now (map start_of c.args.running.now.starts.items)
 starts g c =
-    let kept = filter_same _ (λ (start : StartOf). not (is_outdated c.learn.new.self start.from start.known)) _ (λ x b f' k. search rules) _ _ c.retain.ensures.filtered in
+    let kept =
+    filter_same _ (λ (start : StartOf). not (is_outdated c.learn.new.self start.from start.known)) _
+    (λ x b f' k. search rules) _ _ c.retain.ensures.filtered in
     ap (map start_of) kept
     ∙ filter-map (λ (start : Start). not (is_outdated c.learn.new.self start.from start.known)) start_of c.args.running.now.starts.items
     ∙ ap (λ known. filter (λ (start : Start). not (is_outdated known start.from start.known)) (map start_of c.args.running.now.starts.items)) c.learn.ensures
 
-votes : (g : Over) (c : goal.After-retain-2 g) → map vote_of c.retain-2.new.self.items ≡ votes_left c.args.running.now.known c.args.told.now (map vote_of c.args.running.now.votes.items)
+votes : (g : Over) (c : goal.After-retain-2 g)
+    → map vote_of c.retain-2.new.self.items ≡ votes_left c.args.running.now.known c.args.told.now (map vote_of c.args.running.now.votes.items)
 votes g c =
-    let kept = filter_same _ (λ (vote : VoteOf _). not (is_outdated c.learn.new.self vote.from vote.known)) _ (λ x b f' k. search rules) _ _ c.retain-2.ensures.filtered in
+    let kept =
+    filter_same _ (λ (vote : VoteOf _). not (is_outdated c.learn.new.self vote.from vote.known)) _
+    (λ x b f' k. search rules) _ _ c.retain-2.ensures.filtered in
     ap (map vote_of) kept
     ∙ filter-map (λ (vote : Vote _). not (is_outdated c.learn.new.self vote.from vote.known)) vote_of c.args.running.now.votes.items
     ∙ ap (λ known. filter (λ (vote : Vote _). not (is_outdated known vote.from vote.known)) (map vote_of c.args.running.now.votes.items)) c.learn.ensures

@@ -34,7 +34,8 @@ returns-clause-step g c = λ start acks cell h.
     let tells : c.tell_view.new.sent.items ≡ said = rw (now.view, done, rows) at c.in_ok-tell_view.ensures in
     let answers = ran.answers start h.sound.kept ∙ ap (λ e. filter_map (answer_to m start log) (places_between r.kept.done e)) ran.done in
     opened_meets m start f me n _ x log c.args.done c.args.sent.items refl
-    (c.in_ok-send_replies.ensures ∙ ap (λ l. l ++ map (reply_mail me r.view) c.as_slice.result.now) tells ∙ ap (λ a. said ++ map (reply_mail me r.view) a) (c.as_slice.ensures.value ∙ answers))
+    (c.in_ok-send_replies.ensures ∙ ap (λ l. l ++ map (reply_mail me r.view) c.as_slice.result.now) tells
+    ∙ ap (λ a. said ++ map (reply_mail me r.view) a) (c.as_slice.ensures.value ∙ answers))
     runs (normal_site n cell r.view d log (greater r.known told) gave now.status now.view now.last_normal rows done (now.known ∙ c.learn.ensures))
 
 pub returns-clause-sound : goal.returns-clause-sound

@@ -26,5 +26,7 @@ returns-clause-step g c = λ choose start acks cell right h.
     let long = length-map r.votes.items vote_of in
     let best = c.in-Some.ensures in
     let at = there_is (IsPick left) votes c.in-Some.at (omega (arith, best.0)) best.1 in
-    follows_as m start f me _ c.open_with_vote.result _ _ (opens_picked choose f me x y sent left at.0 c.most_done-done.result right (one_each-left r.known told votes h.sound.votes) at.2 c.most_done-done.ensures)
+    follows_as m start f me _ c.open_with_vote.result _ _
+    (opens_picked choose f me x y sent left at.0 c.most_done-done.result right (one_each-left r.known told votes h.sound.votes) at.2
+    c.most_done-done.ensures)
     (c.open_with_vote.ensures.step choose start acks cell at.0 right h at.1)

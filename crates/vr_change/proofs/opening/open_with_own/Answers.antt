@@ -32,7 +32,8 @@ returns-in-Some-clause-step g c = λ choose start acks cell right h.
     let ballot = vs ++ v ∷ [] in
     let each = one_each-more vs v (one_each-left r.known told votes h.sound.votes) c.requires.new in
     let done : c.max-done.result ≡ most_done_of ballot = c.max-done.ensures ∙ ap (λ n. max n v.done) c.most_done.ensures ∙ most_done-more vs v in
-    let mine : claim v ≡ record { from = me; last_normal = r.last_normal; rows = c.len.result } = ap (λ n. let k : Claim = record { from = me; last_normal = r.last_normal; rows = n } in k) (sym c.len.ensures.length) in
+    let mine : claim v ≡ record { from = me; last_normal = r.last_normal; rows = c.len.result } =
+    ap (λ n. let k : Claim = record { from = me; last_normal = r.last_normal; rows = n } in k) (sym c.len.ensures.length) in
     let pick = c.in-Some.ensures.pick v mine in
     let long = length-map r.votes.items vote_of in
     let at = there_is (IsPick ballot) votes c.in-Some.at (omega (arith, c.in-Some.ensures.within)) pick in
@@ -55,8 +56,11 @@ returns-in-None-clause-step g c = λ choose start acks cell right h.
     let ballot = vs ++ v ∷ [] in
     let each = one_each-more vs v (one_each-left r.known told votes h.sound.votes) c.requires.new in
     let done : c.max-done.result ≡ most_done_of ballot = c.max-done.ensures ∙ ap (λ n. max n v.done) c.most_done.ensures ∙ most_done-more vs v in
-    let mine : claim v ≡ record { from = me; last_normal = r.last_normal; rows = c.len.result } = ap (λ n. let k : Claim = record { from = me; last_normal = r.last_normal; rows = n } in k) (sym c.len.ensures.length) in
+    let mine : claim v ≡ record { from = me; last_normal = r.last_normal; rows = c.len.result } =
+    ap (λ n. let k : Claim = record { from = me; last_normal = r.last_normal; rows = n } in k) (sym c.len.ensures.length) in
     let pick : IsPick ballot v = c.in-None.ensures.pick v mine in
-    let begins : begins_with_executed choose.same y y.log ≡ true = sym (begins_is choose.same right.same true x.done x.log x.log h.sound.kept.within ((λ _. refl), (λ _. refl))) in
-    follows_as m start f me _ c.open.result _ _ (opens_picked choose f me x y sent ballot v c.max-done.result right each pick done ∙ opens_with-opens choose f me x y sent y.log c.max-done.result begins)
+    let begins : begins_with_executed choose.same y y.log ≡ true =
+    sym (begins_is choose.same right.same true x.done x.log x.log h.sound.kept.within ((λ _. refl), (λ _. refl))) in
+    follows_as m start f me _ c.open.result _ _ (opens_picked choose f me x y sent ballot v c.max-done.result right each pick done
+    ∙ opens_with-opens choose f me x y sent y.log c.max-done.result begins)
     (c.open.ensures.step start acks cell h)

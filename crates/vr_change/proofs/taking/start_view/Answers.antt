@@ -42,7 +42,8 @@ returns-then-is_normal_in-clause-step g c = λ choose start acks cell right h.
     let p : (primary f c.args.msg.view == c.args.from) ≡ true = eq-eqb _ _ (sym c.primary_of.ensures.site ∙ c.if-primary_of-from.false) in
     let here = running_is_here r.status h.sound.up in
     let new : r.view ≤ c.args.msg.view = omega arith in
-    meets_as m start f me r d.result _ _ (on_start_view-known choose f me x c.args.from c.args.msg p here new (sym c.is_normal_in.ensures ∙ c.if-is_normal_in.true))
+    meets_as m start f me r d.result _ _ (on_start_view-known choose f me x c.args.from c.args.msg p here new
+    (sym c.is_normal_in.ensures ∙ c.if-is_normal_in.true))
     (drops_meets m start f me r d.result acks cell _ d.ensures h)
 
 pub returns-clause-step : goal.returns-clause-step

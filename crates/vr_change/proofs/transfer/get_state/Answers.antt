@@ -68,7 +68,8 @@ returns-in_err-copy_from g c = λ start acks cell h.
     let e : is_normal r.status ≡ true = sym c.runs_normally.ensures ∙ c.if-not-runs_normally.false in
     let p : (primary f r.view == me) ≡ true = eq-eqb _ _ (sym c.primary_of.ensures.site ∙ c.if-primary_of-config.false) in
     let long : c.args.msg.base ≤ length r.kept.log = omega arith in
-    err_follows m start f me r c.from_residual.result _ c.from_residual.ensures.0 (ap (λ s. s.ending) (on_get_state-mine f me x c.args.from c.args.msg e c.if-msg-running.false p long))
+    err_follows m start f me r c.from_residual.result _ c.from_residual.ensures.0
+    (ap (λ s. s.ending) (on_get_state-mine f me x c.args.from c.args.msg e c.if-msg-running.false p long))
 
 pub returns : goal.returns
 returns g c = λ start acks cell h.

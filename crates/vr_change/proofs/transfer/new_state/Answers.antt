@@ -43,7 +43,8 @@ returns-then-not-fits-clause-step g c = λ choose start acks cell right h.
     let p : (primary f c.args.msg.view == c.args.from) ≡ true = eq-eqb _ _ (sym c.primary_of.ensures.site ∙ c.if-primary_of-from.false) in
     let here = running_is_here r.status h.sound.up in
     let new : r.view ≤ c.args.msg.view = omega arith in
-    let fit : rows_fit x c.args.msg.view c.args.msg.base (length c.args.msg.rows) ≡ false = ap (λ n. rows_fit x c.args.msg.view c.args.msg.base n) (sym c.len.ensures.length) ∙ sym (c.fits.ensures.fit acks cell) ∙ c.if-not-fits.true in
+    let fit : rows_fit x c.args.msg.view c.args.msg.base (length c.args.msg.rows) ≡ false =
+    ap (λ n. rows_fit x c.args.msg.view c.args.msg.base n) (sym c.len.ensures.length) ∙ sym (c.fits.ensures.fit acks cell) ∙ c.if-not-fits.true in
     meets_as m start f me r d.result _ _ (on_new_state-stale choose f me x c.args.from c.args.msg p here new fit)
     (drops_meets m start f me r d.result acks cell _ d.ensures h)
 
@@ -57,6 +58,7 @@ returns-clause-step g c = λ choose start acks cell right h.
     let p : (primary f c.args.msg.view == c.args.from) ≡ true = eq-eqb _ _ (sym c.primary_of.ensures.site ∙ c.if-primary_of-from.false) in
     let here = running_is_here r.status h.sound.up in
     let new : r.view ≤ c.args.msg.view = omega arith in
-    let fit : rows_fit x c.args.msg.view c.args.msg.base (length c.args.msg.rows) ≡ true = ap (λ n. rows_fit x c.args.msg.view c.args.msg.base n) (sym c.len.ensures.length) ∙ sym (c.fits.ensures.fit acks cell) ∙ c.if-not-fits.false in
+    let fit : rows_fit x c.args.msg.view c.args.msg.base (length c.args.msg.rows) ≡ true =
+    ap (λ n. rows_fit x c.args.msg.view c.args.msg.base n) (sym c.len.ensures.length) ∙ sym (c.fits.ensures.fit acks cell) ∙ c.if-not-fits.false in
     follows_as m start f me _ _ _ _ (on_new_state-takes choose f me x c.args.from c.args.msg p here new fit)
     (c.take_log.ensures.step choose start acks cell right h)

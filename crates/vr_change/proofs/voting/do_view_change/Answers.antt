@@ -92,7 +92,8 @@ returns-in_err-sent-clause-step g c = λ choose start acks cell right h.
     let later : (is_normal r.status && (w == r.view)) ≡ false = sym c.is_normal_in.ensures ∙ c.if-is_normal_in.false in
     let current : is_outdated r.known vote.from vote.known ≡ false = sym c.is_outdated.ensures ∙ c.if-is_outdated.false in
     err_follows m start f me _ c.from_residual.result _ c.from_residual.ensures.0
-    (ap (λ s. s.ending) (on_do_view_change-is choose f me x w vote here new p later current ∙ vote-does choose f me w x c.args.config.some new vote c.in_err-sent.ensures.err))
+    (ap (λ s. s.ending) (on_do_view_change-is choose f me x w vote here new p later current
+    ∙ vote-does choose f me w x c.args.config.some new vote c.in_err-sent.ensures.err))
 
 pub returns-clause-sound : goal.returns-clause-sound
 returns-clause-sound g c = on_ok_then c.take_vote.result _ _ (λ h start s. h start (c.start_later.ensures.sound start s)) c.take_vote.ensures.sound
@@ -113,6 +114,7 @@ returns-clause-step g c = λ choose start acks cell right h.
     let current : is_outdated r.known vote.from vote.known ≡ false = sym c.is_outdated.ensures ∙ c.if-is_outdated.false in
     let part : Part _ _ _ = starts_learnt f me w vote.known x in
     let is = c.in_ok-sent.ensures.part start acks cell h in
-    follows_as m start f me _ c.take_vote.result _ _ (on_do_view_change-is choose f me x w vote here new p later current ∙ vote-later choose f me w x c.args.config.some new vote)
+    follows_as m start f me _ c.take_vote.result _ _ (on_do_view_change-is choose f me x w vote here new p later current
+    ∙ vote-later choose f me w x c.args.config.some new vote)
     (goes_on m start f me c.start_later.new.running c.take_vote.new.running c.take_vote.result c.in_ok-sent.sent.items part is (vote_goes_on choose f me vote)
     (c.take_vote.ensures.step choose start part.site.collected.acks part.site.cell right is.running))

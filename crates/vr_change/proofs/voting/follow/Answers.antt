@@ -21,7 +21,8 @@ returns-in_err-keep_start-clause-step g c = λ choose start acks cell h.
     let x = site_of r acks cell in
     let st = start_of c.args.start in
     let p : (primary f r.view == me) ≡ false = ne_eqb _ _ c.requires.other in
-    err_follows g.M.Machine start f me _ c.from_residual.result _ c.from_residual.ensures.0 (follow-handled choose f me x (learns st.known x) st c.args.sent.items p)
+    err_follows g.M.Machine start f me _ c.from_residual.result _ c.from_residual.ensures.0
+    (follow-handled choose f me x (learns st.known x) st c.args.sent.items p)
 
 pub returns-in_err-own_vote-clause-step : goal.returns-in_err-own_vote-clause-step
 returns-in_err-own_vote-clause-step g c = λ choose start acks cell h.
@@ -31,7 +32,8 @@ returns-in_err-own_vote-clause-step g c = λ choose start acks cell h.
     let x = site_of r acks cell in
     let st = start_of c.args.start in
     let p : (primary f r.view == me) ≡ false = ne_eqb _ _ c.requires.other in
-    err_follows g.M.Machine start f me _ c.from_residual-in_err-own_vote.result _ c.from_residual-in_err-own_vote.ensures.0 (follow-handled choose f me x (learns st.known x) st c.args.sent.items p)
+    err_follows g.M.Machine start f me _ c.from_residual-in_err-own_vote.result _ c.from_residual-in_err-own_vote.ensures.0
+    (follow-handled choose f me x (learns st.known x) st c.args.sent.items p)
 
 pub returns-in_err-push-clause-step : goal.returns-in_err-push-clause-step
 returns-in_err-push-clause-step g c = λ choose start acks cell h.
@@ -41,7 +43,8 @@ returns-in_err-push-clause-step g c = λ choose start acks cell h.
     let x = site_of r acks cell in
     let st = start_of c.args.start in
     let p : (primary f r.view == me) ≡ false = ne_eqb _ _ c.requires.other in
-    err_follows g.M.Machine start f me _ c.from_residual-in_err-push.result _ c.from_residual-in_err-push.ensures.0 (follow-handled choose f me x (learns st.known x) st c.args.sent.items p)
+    err_follows g.M.Machine start f me _ c.from_residual-in_err-push.result _ c.from_residual-in_err-push.ensures.0
+    (follow-handled choose f me x (learns st.known x) st c.args.sent.items p)
 
 pub returns-then-not-votes-clause-sound : goal.returns-then-not-votes-clause-sound
 returns-then-not-votes-clause-sound g c = λ start s.
@@ -49,7 +52,8 @@ returns-then-not-votes-clause-sound g c = λ start s.
     let t = c.learn.ensures.sound start c.args.config.f s in
     let first = c.in_ok-keep_start.ensures in
     let k = c.keep_start.new.running in
-    kept_sound g.M.Machine start c.args.config.f r k first.status first.kept first.acked first.known (subst (λ v. OneEach (λ (vote : Vote _). vote.from) (map vote_of v.items)) (sym first.votes) t.votes) t
+    kept_sound g.M.Machine start c.args.config.f r k first.status first.kept first.acked first.known
+    (subst (λ v. OneEach (λ (vote : Vote _). vote.from) (map vote_of v.items)) (sym first.votes) t.votes) t
 
 pub returns-then-not-votes-clause-step : goal.returns-then-not-votes-clause-step
 returns-then-not-votes-clause-step g c = λ choose start acks cell h.
@@ -69,8 +73,11 @@ returns-then-not-votes-clause-step g c = λ choose start acks cell h.
     meets_as m start f me k _ _ _
     (follow-silent choose f me x y st sent (sym (c.is_due-votes.ensures st acks cell refl) ∙ c.if-not-votes.true) p ∙ ap (λ z. does (started st z) sent) learnt)
     (does_meets m start f me k c.handled.result _ sent c.handled.ensures
-    (kept_running m start f r k acks first.status first.kept first.acked first.known (subst (λ v. OneEach (λ (vote : Vote _). vote.from) (map vote_of v.items)) (sym first.votes) t.sound.votes) t)
-    (collected_site r k acks cell (with_starter (map start_of r.starts.items) st) r.voted (map vote_of r.votes.items) first.status first.view first.last_normal first.kept first.known first.starts first.voted (ap (λ v. map vote_of v.items) first.votes)))
+    (kept_running m start f r k acks first.status first.kept first.acked first.known
+    (subst (λ v. OneEach (λ (vote : Vote _). vote.from) (map vote_of v.items)) (sym first.votes) t.sound.votes) t)
+    (collected_site r k acks cell (with_starter (map start_of r.starts.items) st) r.voted
+    (map vote_of r.votes.items) first.status first.view first.last_normal first.kept first.known first.starts first.voted
+    (ap (λ v. map vote_of v.items) first.votes)))
 
 pub returns-clause-sound : goal.returns-clause-sound
 returns-clause-sound g c = λ start s.
@@ -78,7 +85,8 @@ returns-clause-sound g c = λ start s.
     let t = c.learn.ensures.sound start c.args.config.f s in
     let first = c.in_ok-keep_start.ensures in
     let k = c.keep_start.new.running in
-    kept_sound g.M.Machine start c.args.config.f r (record k { voted = true }) first.status first.kept first.acked first.known (subst (λ v. OneEach (λ (vote : Vote _). vote.from) (map vote_of v.items)) (sym first.votes) t.votes) t
+    kept_sound g.M.Machine start c.args.config.f r (record k { voted = true }) first.status first.kept first.acked first.known
+    (subst (λ v. OneEach (λ (vote : Vote _). vote.from) (map vote_of v.items)) (sym first.votes) t.votes) t
 
 pub returns-clause-step : goal.returns-clause-step
 returns-clause-step g c = λ choose start acks cell h.
@@ -98,10 +106,22 @@ returns-clause-step g c = λ choose start acks cell h.
     let k = c.keep_start.new.running in
     let n = record k { voted = true } in
     let same : sends_vote f me (site_of n acks cell) ≡ sends_vote f me z =
-    λ i. mail me (primary f (first.view i)) (DoViewChange (record { view = first.view i; last_normal = first.last_normal i; done = (first.kept i).done; rows = (first.kept i).log; known = first.known i })) ∷ [] in
+    λ i. mail me (primary f (first.view i))
+    (DoViewChange (record {
+      view = first.view i;
+      last_normal = first.last_normal i;
+      done = (first.kept i).done;
+      rows = (first.kept i).log;
+      known = first.known i;
+    })) ∷ [] in
     let mails = c.in_ok-push.ensures.items ∙ ap (λ l. sent ++ l) (c.in_ok-own_vote.ensures acks cell ∙ same) in
     meets_as m start f me n _ _ _
-    (follow-votes choose f me x y st sent (sym (c.is_due-votes.ensures st acks cell refl) ∙ c.if-not-votes.false) p ∙ ap (λ z. does (with_voted (started st z)) (sent ++ sends_vote f me z)) learnt)
-    (does_meets m start f me n c.handled-2.result _ (sent ++ sends_vote f me z) (record { mails = c.handled-2.ensures.mails ∙ mails; dropped = c.handled-2.ensures.dropped })
-    (kept_running m start f r n acks first.status first.kept first.acked first.known (subst (λ v. OneEach (λ (vote : Vote _). vote.from) (map vote_of v.items)) (sym first.votes) t.sound.votes) t)
-    (collected_site r n acks cell (with_starter (map start_of r.starts.items) st) true (map vote_of r.votes.items) first.status first.view first.last_normal first.kept first.known first.starts refl (ap (λ v. map vote_of v.items) first.votes)))
+    (follow-votes choose f me x y st sent (sym (c.is_due-votes.ensures st acks cell refl) ∙ c.if-not-votes.false) p
+    ∙ ap (λ z. does (with_voted (started st z)) (sent ++ sends_vote f me z)) learnt)
+    (does_meets m start f me n c.handled-2.result _ (sent ++ sends_vote f me z)
+    (record { mails = c.handled-2.ensures.mails ∙ mails; dropped = c.handled-2.ensures.dropped })
+    (kept_running m start f r n acks first.status first.kept first.acked first.known
+    (subst (λ v. OneEach (λ (vote : Vote _). vote.from) (map vote_of v.items)) (sym first.votes) t.sound.votes) t)
+    (collected_site r n acks cell (with_starter (map start_of r.starts.items) st) true
+    (map vote_of r.votes.items) first.status first.view first.last_normal first.kept first.known first.starts refl
+    (ap (λ v. map vote_of v.items) first.votes)))

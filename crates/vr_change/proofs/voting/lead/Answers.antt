@@ -29,7 +29,8 @@ returns-then-not-has_own-clause-step g c = λ choose start acks cell right h.
     let due = sym (c.is_due-votes.ensures st acks cell refl) in
     let has : has_vote vs me ≡ false = sym c.has_vote_left-has_own.ensures ∙ c.if-not-has_own.true in
     let none : has_vote z.collected.votes me ≡ false = ap (λ b. has_vote (if b then with_ballot vs own else vs) me) c.if-not-votes.true ∙ has in
-    follows_as m start f me _ c.wait.result _ _ (lead-is choose f me x y st sent votes due p ∙ opens-not choose f me x y (record { site = z; sent = sent }) (not_open-own f me z none))
+    follows_as m start f me _ c.wait.result _ _ (lead-is choose f me x y st sent votes due p
+    ∙ opens-not choose f me x y (record { site = z; sent = sent }) (not_open-own f me z none))
     (c.wait.ensures.step start acks cell h)
 
 pub returns-then-not-enough_voted-clause-step : goal.returns-then-not-enough_voted-clause-step
@@ -54,8 +55,10 @@ returns-then-not-enough_voted-clause-step g c = λ choose start acks cell right 
     ] in
     let whole : z.collected.votes ≡ with_ballot vs own = ballot_whole vs own votes either in
     let count : nat_lt f (count_by (has_vote z.collected.votes) (sites f)) ≡ false =
-    ap (λ l. nat_lt f (count_by (has_vote l) (sites f))) whole ∙ ap (nat_lt f) (count_ballot f vs own) ∙ sym c.enough_voted.ensures ∙ c.if-not-enough_voted.true in
-    follows_as m start f me _ c.wait-then-not-enough_voted.result _ _ (lead-is choose f me x y st sent votes due p ∙ opens-not choose f me x y (record { site = z; sent = sent }) (not_open-few f me z count))
+    ap (λ l. nat_lt f (count_by (has_vote l) (sites f))) whole ∙ ap (nat_lt f) (count_ballot f vs own) ∙ sym c.enough_voted.ensures
+    ∙ c.if-not-enough_voted.true in
+    follows_as m start f me _ c.wait-then-not-enough_voted.result _ _
+    (lead-is choose f me x y st sent votes due p ∙ opens-not choose f me x y (record { site = z; sent = sent }) (not_open-few f me z count))
     (c.wait-then-not-enough_voted.ensures.step start acks cell h)
 
 pub returns-then-has_own-clause-step : goal.returns-then-has_own-clause-step
@@ -80,13 +83,15 @@ returns-then-has_own-clause-step g c = λ choose start acks cell right h.
     ] in
     let whole : z.collected.votes ≡ with_ballot vs own = ballot_whole vs own votes either in
     let count : nat_lt f (count_by (has_vote z.collected.votes) (sites f)) ≡ true =
-    ap (λ l. nat_lt f (count_by (has_vote l) (sites f))) whole ∙ ap (nat_lt f) (count_ballot f vs own) ∙ sym c.enough_voted.ensures ∙ c.if-not-enough_voted.false in
+    ap (λ l. nat_lt f (count_by (has_vote l) (sites f))) whole ∙ ap (nat_lt f) (count_ballot f vs own) ∙ sym c.enough_voted.ensures
+    ∙ c.if-not-enough_voted.false in
     let change : is_change r.status ≡ true = changes r.status h.sound.up c.requires.change in
     let opened = opens-now f me z change p (ap (λ l. has_vote l me) whole ∙ has_own_ballot vs own me refl) count in
     let has : has_vote vs me ≡ true = sym c.has_vote_left-has_own.ensures ∙ c.if-has_own.true in
     let ballot : z.collected.votes ≡ vs = whole ∙ with_ballot-kept vs own has in
     follows_as m start f me _ c.open_with_kept.result _ _
-    (lead-is choose f me x y st sent votes due p ∙ opens-col choose f me x y z.collected sent opened ∙ ap (λ l. opens_with choose f me x y sent (choose.pick l).log (choose.most_done l)) ballot)
+    (lead-is choose f me x y st sent votes due p ∙ opens-col choose f me x y z.collected sent opened
+    ∙ ap (λ l. opens_with choose f me x y sent (choose.pick l).log (choose.most_done l)) ballot)
     (c.open_with_kept.ensures.step choose start acks cell right h)
 
 pub returns-else-has_own-clause-step : goal.returns-else-has_own-clause-step
@@ -111,11 +116,13 @@ returns-else-has_own-clause-step g c = λ choose start acks cell right h.
     ] in
     let whole : z.collected.votes ≡ with_ballot vs own = ballot_whole vs own votes either in
     let count : nat_lt f (count_by (has_vote z.collected.votes) (sites f)) ≡ true =
-    ap (λ l. nat_lt f (count_by (has_vote l) (sites f))) whole ∙ ap (nat_lt f) (count_ballot f vs own) ∙ sym c.enough_voted.ensures ∙ c.if-not-enough_voted.false in
+    ap (λ l. nat_lt f (count_by (has_vote l) (sites f))) whole ∙ ap (nat_lt f) (count_ballot f vs own) ∙ sym c.enough_voted.ensures
+    ∙ c.if-not-enough_voted.false in
     let change : is_change r.status ≡ true = changes r.status h.sound.up c.requires.change in
     let opened = opens-now f me z change p (ap (λ l. has_vote l me) whole ∙ has_own_ballot vs own me refl) count in
     let has : has_vote vs me ≡ false = sym c.has_vote_left-has_own.ensures ∙ c.if-has_own.false in
     let ballot : z.collected.votes ≡ vs ++ own ∷ [] = whole ∙ with_ballot-new vs own has in
     follows_as m start f me _ c.open_with_own.result _ _
-    (lead-is choose f me x y st sent votes due p ∙ opens-col choose f me x y z.collected sent opened ∙ ap (λ l. opens_with choose f me x y sent (choose.pick l).log (choose.most_done l)) ballot)
+    (lead-is choose f me x y st sent votes due p ∙ opens-col choose f me x y z.collected sent opened
+    ∙ ap (λ l. opens_with choose f me x y sent (choose.pick l).log (choose.most_done l)) ballot)
     (c.open_with_own.ensures.step choose start acks cell right h)

@@ -21,7 +21,8 @@ pub returns-then-view-running-clause-part : goal.returns-then-view-running-claus
 returns-then-view-running-clause-part g c = λ start acks cell h.
     let f = c.args.config.f in
     let x = site_of c.args.running.now acks cell in
-    subst (IsPart g.M.Machine start f c.args.running.now c.new.result.items) (sym (later_same f c.args.config.me c.args.view c.args.told.now x c.if-view-running.true))
+    subst (IsPart g.M.Machine start f c.args.running.now c.new.result.items)
+    (sym (later_same f c.args.config.me c.args.view c.args.told.now x c.if-view-running.true))
     (record { running = h; site = refl; sent = c.new.ensures.items })
 
 pub returns-clause-sound : goal.returns-clause-sound
@@ -60,4 +61,5 @@ returns-clause-part g c = if_ok c.tell_change.result _ _ (λ sent told start ack
     })) c.tell_change.ensures
 
 pub returns-clause-known : goal.returns-clause-known
-returns-clause-known g c = ap length (c.start_change.ensures.known ∙ c.learn.ensures.known) ∙ greater_length c.args.running.now.known c.args.told.now c.requires.known
+returns-clause-known g c =
+    ap length (c.start_change.ensures.known ∙ c.learn.ensures.known) ∙ greater_length c.args.running.now.known c.args.told.now c.requires.known

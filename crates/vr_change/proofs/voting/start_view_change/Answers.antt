@@ -71,7 +71,8 @@ returns-in_err-sent-clause-step g c = λ choose start acks cell right h.
     let later : (is_normal r.status && (w == r.view)) ≡ false = sym c.is_normal_in.ensures ∙ c.if-is_normal_in.false in
     let current : is_outdated r.known st.from st.known ≡ false = sym c.is_outdated.ensures ∙ c.if-is_outdated.false in
     err_follows m start f me _ c.from_residual.result _ c.from_residual.ensures.0
-    (ap (λ s. s.ending) (on_start_view_change-is choose f me x w st here new later current ∙ start-does choose f me w x c.args.config.some new st c.in_err-sent.ensures.err))
+    (ap (λ s. s.ending) (on_start_view_change-is choose f me x w st here new later current
+    ∙ start-does choose f me w x c.args.config.some new st c.in_err-sent.ensures.err))
 
 pub returns-then-primary_of-config-clause-sound : goal.returns-then-primary_of-config-clause-sound
 returns-then-primary_of-config-clause-sound g c = on_ok_then c.lead.result _ _ (λ h start s. h start (c.start_later.ensures.sound start s)) c.lead.ensures.sound
@@ -91,12 +92,14 @@ returns-then-primary_of-config-clause-step g c = λ choose start acks cell right
     let current : is_outdated r.known st.from st.known ≡ false = sym c.is_outdated.ensures ∙ c.if-is_outdated.false in
     let part : Part _ _ _ = starts_learnt f me w st.known x in
     let is = c.in_ok-sent.ensures.part start acks cell h in
-    follows_as m start f me _ c.lead.result _ _ (on_start_view_change-is choose f me x w st here new later current ∙ start-later choose f me w x c.args.config.some new st)
+    follows_as m start f me _ c.lead.result _ _ (on_start_view_change-is choose f me x w st here new later current
+    ∙ start-later choose f me w x c.args.config.some new st)
     (goes_on m start f me c.start_later.new.running c.lead.new.running c.lead.result c.in_ok-sent.sent.items part is (start_goes_on choose f me st)
     (c.lead.ensures.step choose start part.site.collected.acks part.site.cell right is.running))
 
 pub returns-else-primary_of-config-clause-sound : goal.returns-else-primary_of-config-clause-sound
-returns-else-primary_of-config-clause-sound g c = on_ok_then c.follow.result _ _ (λ h start s. h start (c.start_later.ensures.sound start s)) c.follow.ensures.sound
+returns-else-primary_of-config-clause-sound g c =
+    on_ok_then c.follow.result _ _ (λ h start s. h start (c.start_later.ensures.sound start s)) c.follow.ensures.sound
 
 pub returns-else-primary_of-config-clause-step : goal.returns-else-primary_of-config-clause-step
 returns-else-primary_of-config-clause-step g c = λ choose start acks cell right h.
@@ -113,6 +116,7 @@ returns-else-primary_of-config-clause-step g c = λ choose start acks cell right
     let current : is_outdated r.known st.from st.known ≡ false = sym c.is_outdated.ensures ∙ c.if-is_outdated.false in
     let part : Part _ _ _ = starts_learnt f me w st.known x in
     let is = c.in_ok-sent.ensures.part start acks cell h in
-    follows_as m start f me _ c.follow.result _ _ (on_start_view_change-is choose f me x w st here new later current ∙ start-later choose f me w x c.args.config.some new st)
+    follows_as m start f me _ c.follow.result _ _ (on_start_view_change-is choose f me x w st here new later current
+    ∙ start-later choose f me w x c.args.config.some new st)
     (goes_on m start f me c.start_later.new.running c.follow.new.running c.follow.result c.in_ok-sent.sent.items part is (start_goes_on choose f me st)
     (c.follow.ensures.step choose start part.site.collected.acks part.site.cell is.running))

@@ -14,7 +14,8 @@ pub returns-then-not-votes_now-clause-sound : goal.returns-then-not-votes_now-cl
 returns-then-not-votes_now-clause-sound g c = on_ok_then c.keep_vote.result _ _ (λ h start s. h start c.args.config.f s) c.keep_vote.ensures.sound
 
 pub returns-then-not-enough_voted-clause-sound : goal.returns-then-not-enough_voted-clause-sound
-returns-then-not-enough_voted-clause-sound g c = on_ok_then c.keep_vote-then-not-enough_voted.result _ _ (λ h start s. h start c.args.config.f s) c.keep_vote-then-not-enough_voted.ensures.sound
+returns-then-not-enough_voted-clause-sound g c =
+    on_ok_then c.keep_vote-then-not-enough_voted.result _ _ (λ h start s. h start c.args.config.f s) c.keep_vote-then-not-enough_voted.ensures.sound
 
 pub returns-then-not-votes_now-clause-step : goal.returns-then-not-votes_now-clause-step
 returns-then-not-votes_now-clause-step g c = λ choose start acks cell right h.
@@ -71,7 +72,8 @@ returns-then-has_vote_left-clause-step g c = λ choose start acks cell right h.
     let opened = opens-now f me z change p own count in
     let has : has_vote vs vote.from ≡ true = sym c.has_vote_left.ensures ∙ c.if-has_vote_left.true in
     follows_as m start f me _ c.open_with_kept.result _ _
-    (take-is choose f me x y vote sent ∙ opens-col choose f me x y z.collected sent opened ∙ ap (λ l. opens_with choose f me x y sent (choose.pick l).log (choose.most_done l)) (with_ballot-kept vs vote has))
+    (take-is choose f me x y vote sent ∙ opens-col choose f me x y z.collected sent opened
+    ∙ ap (λ l. opens_with choose f me x y sent (choose.pick l).log (choose.most_done l)) (with_ballot-kept vs vote has))
     (c.open_with_kept.ensures.step choose start acks cell right h)
 
 pub returns-else-has_vote_left-clause-step : goal.returns-else-has_vote_left-clause-step
@@ -94,5 +96,6 @@ returns-else-has_vote_left-clause-step g c = λ choose start acks cell right h.
     let opened = opens-now f me z change p own count in
     let has : has_vote vs vote.from ≡ false = sym c.has_vote_left.ensures ∙ c.if-has_vote_left.false in
     follows_as m start f me _ c.open_with_new.result _ _
-    (take-is choose f me x y vote sent ∙ opens-col choose f me x y z.collected sent opened ∙ ap (λ l. opens_with choose f me x y sent (choose.pick l).log (choose.most_done l)) (with_ballot-new vs vote has))
+    (take-is choose f me x y vote sent ∙ opens-col choose f me x y z.collected sent opened
+    ∙ ap (λ l. opens_with choose f me x y sent (choose.pick l).log (choose.most_done l)) (with_ballot-new vs vote has))
     (c.open_with_new.ensures.step choose start acks cell right h)

@@ -19,7 +19,8 @@ returns-then-not-votes-clause-sound g c = λ start s.
     let t = c.learn.ensures.sound start c.args.config.f s in
     let first = c.in_ok-keep_start.ensures in
     let k = c.keep_start.new.running in
-    kept_sound g.M.Machine start c.args.config.f r k first.status first.kept first.acked first.known (subst (λ v. OneEach (λ (vote : Vote _). vote.from) (map vote_of v.items)) (sym first.votes) t.votes) t
+    kept_sound g.M.Machine start c.args.config.f r k first.status first.kept first.acked first.known
+    (subst (λ v. OneEach (λ (vote : Vote _). vote.from) (map vote_of v.items)) (sym first.votes) t.votes) t
 
 pub returns-then-not-votes-clause-step : goal.returns-then-not-votes-clause-step
 returns-then-not-votes-clause-step g c = λ start acks cell h.
@@ -33,10 +34,14 @@ returns-then-not-votes-clause-step g c = λ start acks cell h.
     let learnt = sym (c.learn.ensures.site acks cell) in
     let t = c.learn.ensures.running start f acks h in
     let sent = c.args.sent.items in
-    meets_as m start f me k _ _ _ (ap (λ x. does (gathered c.args.votes me st x) sent) learnt ∙ ap (λ b. does (gathered b me st (site_of r acks cell)) sent) c.if-not-votes.true)
+    meets_as m start f me k _ _ _ (ap (λ x. does (gathered c.args.votes me st x) sent) learnt
+    ∙ ap (λ b. does (gathered b me st (site_of r acks cell)) sent) c.if-not-votes.true)
     (does_meets m start f me k c.handled.result _ sent c.handled.ensures
-    (kept_running m start f r k acks first.status first.kept first.acked first.known (subst (λ v. OneEach (λ (vote : Vote _). vote.from) (map vote_of v.items)) (sym first.votes) t.sound.votes) t)
-    (collected_site r k acks cell (with_starter (map start_of r.starts.items) st) r.voted (map vote_of r.votes.items) first.status first.view first.last_normal first.kept first.known first.starts first.voted (ap (λ v. map vote_of v.items) first.votes)))
+    (kept_running m start f r k acks first.status first.kept first.acked first.known
+    (subst (λ v. OneEach (λ (vote : Vote _). vote.from) (map vote_of v.items)) (sym first.votes) t.sound.votes) t)
+    (collected_site r k acks cell (with_starter (map start_of r.starts.items) st) r.voted
+    (map vote_of r.votes.items) first.status first.view first.last_normal first.kept first.known first.starts first.voted
+    (ap (λ v. map vote_of v.items) first.votes)))
 
 pub returns-clause-sound : goal.returns-clause-sound
 returns-clause-sound g c = λ start s.
@@ -49,9 +54,11 @@ returns-clause-sound g c = λ start s.
     let k = c.keep_start.new.running in
     let n = c.keep_own_vote.new.running in
     let now = c.in_ok-keep_own_vote.ensures in
-    let own : own_vote me (site_of k acks cell) ≡ own_vote me (site_of r acks cell) = λ i. record { from = me; last_normal = first.last_normal i; done = (first.kept i).done; log = (first.kept i).log; known = first.known i } in
+    let own : own_vote me (site_of k acks cell) ≡ own_vote me (site_of r acks cell) =
+    λ i. record { from = me; last_normal = first.last_normal i; done = (first.kept i).done; log = (first.kept i).log; known = first.known i } in
     let votes : map vote_of n.votes.items ≡ with_ballot (map vote_of r.votes.items) (own_vote me (site_of r acks cell)) =
-    now.votes acks cell ∙ ap (λ v. with_ballot (map vote_of v.items) (own_vote me (site_of k acks cell))) first.votes ∙ ap (with_ballot (map vote_of r.votes.items)) own in
+    now.votes acks cell ∙ ap (λ v. with_ballot (map vote_of v.items) (own_vote me (site_of k acks cell))) first.votes
+    ∙ ap (with_ballot (map vote_of r.votes.items)) own in
     kept_sound g.M.Machine start c.args.config.f r n (now.status ∙ first.status) (now.kept ∙ first.kept) (now.acked ∙ first.acked) (now.known ∙ first.known)
     (subst (OneEach (λ (vote : Vote _). vote.from)) (sym votes) (one_each_ballot (map vote_of r.votes.items) (own_vote me (site_of r acks cell)) t.votes)) t
 
@@ -66,9 +73,11 @@ returns-clause-step g c = λ start acks cell h.
     let k = c.keep_start.new.running in
     let n = c.keep_own_vote.new.running in
     let now = c.in_ok-keep_own_vote.ensures in
-    let own : own_vote me (site_of k acks cell) ≡ own_vote me (site_of r acks cell) = λ i. record { from = me; last_normal = first.last_normal i; done = (first.kept i).done; log = (first.kept i).log; known = first.known i } in
+    let own : own_vote me (site_of k acks cell) ≡ own_vote me (site_of r acks cell) =
+    λ i. record { from = me; last_normal = first.last_normal i; done = (first.kept i).done; log = (first.kept i).log; known = first.known i } in
     let votes : map vote_of n.votes.items ≡ with_ballot (map vote_of r.votes.items) (own_vote me (site_of r acks cell)) =
-    now.votes acks cell ∙ ap (λ v. with_ballot (map vote_of v.items) (own_vote me (site_of k acks cell))) first.votes ∙ ap (with_ballot (map vote_of r.votes.items)) own in
+    now.votes acks cell ∙ ap (λ v. with_ballot (map vote_of v.items) (own_vote me (site_of k acks cell))) first.votes
+    ∙ ap (with_ballot (map vote_of r.votes.items)) own in
     let x = site_of r acks cell in
     let learnt = sym (c.learn.ensures.site acks cell) in
     let t = c.learn.ensures.running start f acks h in
@@ -77,4 +86,6 @@ returns-clause-step g c = λ start acks cell h.
     meets_as m start f me n _ _ _ (ap (λ z. does (gathered c.args.votes me st z) sent) learnt ∙ ap (λ b. does (gathered b me st x) sent) c.if-not-votes.false)
     (does_meets m start f me n c.handled-2.result _ sent c.handled-2.ensures
     (kept_running m start f r n acks (now.status ∙ first.status) (now.kept ∙ first.kept) (now.acked ∙ first.acked) (now.known ∙ first.known) each t)
-    (collected_site r n acks cell (with_starter (map start_of r.starts.items) st) true (with_ballot (map vote_of r.votes.items) (own_vote me x)) (now.status ∙ first.status) (now.view ∙ first.view) (now.last_normal ∙ first.last_normal) (now.kept ∙ first.kept) (now.known ∙ first.known) (ap (λ l. map start_of l.items) now.starts ∙ first.starts) now.voted votes))
+    (collected_site r n acks cell (with_starter (map start_of r.starts.items) st) true (with_ballot (map vote_of r.votes.items) (own_vote me x))
+    (now.status ∙ first.status) (now.view ∙ first.view) (now.last_normal ∙ first.last_normal) (now.kept ∙ first.kept) (now.known ∙ first.known)
+    (ap (λ l. map start_of l.items) now.starts ∙ first.starts) now.voted votes))

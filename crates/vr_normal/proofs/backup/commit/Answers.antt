@@ -58,10 +58,18 @@ returns-in_err-execute-clause-step g c = λ start acks cell h.
     let here = running_is_here r.status h.sound.up in
     let new : r.view ≤ c.args.msg.view = omega arith in
     let later : (nat_lt r.view c.args.msg.view || is_change r.status) ≡ false = sym c.lags.ensures ∙ c.if-lags.false in
-    err_follows m start f me _ c.from_residual.result _ c.from_residual.ensures.0 (ap (λ s. s.ending) (on_commit-here f me x c.args.from c.args.msg p here new later))
+    err_follows m start f me _ c.from_residual.result _ c.from_residual.ensures.0
+    (ap (λ s. s.ending) (on_commit-here f me x c.args.from c.args.msg p here new later))
 
 pub returns-then-len-msg-clause-sound : goal.returns-then-len-msg-clause-sound
-returns-then-len-msg-clause-sound g c = on_ok c.ask_state-then-len-msg.result _ (λ start s. record { kept = c.in_ok-execute.ensures.kept start s.kept; sites = s.sites; known = s.known; up = s.up; votes = s.votes })
+returns-then-len-msg-clause-sound g c =
+    on_ok c.ask_state-then-len-msg.result _ (λ start s. record {
+      kept = c.in_ok-execute.ensures.kept start s.kept;
+      sites = s.sites;
+      known = s.known;
+      up = s.up;
+      votes = s.votes;
+    })
 
 pub returns-then-len-msg-clause-step : goal.returns-then-len-msg-clause-step
 returns-then-len-msg-clause-step g c = λ start acks cell h.
@@ -78,13 +86,18 @@ returns-then-len-msg-clause-step g c = λ start acks cell h.
     let later : (nat_lt r.view c.args.msg.view || is_change r.status) ≡ false = sym c.lags.ensures ∙ c.if-lags.false in
     let missing : length r.kept.log < c.args.msg.done = omega (arith, c.len-len.ensures.length, c.if-len-msg.true) in
     follows_as m start f me _ c.ask_state-then-len-msg.result _ _
-    (on_commit-here f me x c.args.from c.args.msg p here new later ∙ ap (does y) (missing_rows (length r.kept.log) c.args.msg.done (asks_state f me r.view (length r.kept.log)) [] missing))
+    (on_commit-here f me x c.args.from c.args.msg p here new later ∙ ap (does y)
+    (missing_rows (length r.kept.log) c.args.msg.done (asks_state f me r.view (length r.kept.log)) [] missing))
     (does_follows m start f me _ c.ask_state-then-len-msg.result y _ (rw c.len-len.ensures.length at c.ask_state-then-len-msg.ensures)
-    (record { sound = record { kept = now.kept start h.sound.kept; sites = h.sound.sites; known = h.sound.known; up = h.sound.up; votes = h.sound.votes }; summed = h.summed })
+    (record {
+      sound = record { kept = now.kept start h.sound.kept; sites = h.sound.sites; known = h.sound.known; up = h.sound.up; votes = h.sound.votes };
+      summed = h.summed;
+    })
     (same_site x r.kept.log _ (max r.kept.done (min c.args.msg.done (length r.kept.log))) _ (sym now.log) (sym now.done)))
 
 pub returns-else-len-msg-clause-sound : goal.returns-else-len-msg-clause-sound
-returns-else-len-msg-clause-sound g c = λ start s. record { kept = c.in_ok-execute.ensures.kept start s.kept; sites = s.sites; known = s.known; up = s.up; votes = s.votes }
+returns-else-len-msg-clause-sound g c =
+    λ start s. record { kept = c.in_ok-execute.ensures.kept start s.kept; sites = s.sites; known = s.known; up = s.up; votes = s.votes }
 
 pub returns-else-len-msg-clause-step : goal.returns-else-len-msg-clause-step
 returns-else-len-msg-clause-step g c = λ start acks cell h.
@@ -101,7 +114,11 @@ returns-else-len-msg-clause-step g c = λ start acks cell h.
     let later : (nat_lt r.view c.args.msg.view || is_change r.status) ≡ false = sym c.lags.ensures ∙ c.if-lags.false in
     let enough : c.args.msg.done ≤ length r.kept.log = omega (arith, c.len-len.ensures.length, c.if-len-msg.false) in
     meets_as m start f me _ c.silent.result _ _
-    (on_commit-here f me x c.args.from c.args.msg p here new later ∙ ap (does y) (enough_rows (length r.kept.log) c.args.msg.done (asks_state f me r.view (length r.kept.log)) [] enough))
+    (on_commit-here f me x c.args.from c.args.msg p here new later ∙ ap (does y)
+    (enough_rows (length r.kept.log) c.args.msg.done (asks_state f me r.view (length r.kept.log)) [] enough))
     (does_meets m start f me _ c.silent.result y [] c.silent.ensures
-    (record { sound = record { kept = now.kept start h.sound.kept; sites = h.sound.sites; known = h.sound.known; up = h.sound.up; votes = h.sound.votes }; summed = h.summed })
+    (record {
+      sound = record { kept = now.kept start h.sound.kept; sites = h.sound.sites; known = h.sound.known; up = h.sound.up; votes = h.sound.votes };
+      summed = h.summed;
+    })
     (same_site x r.kept.log _ (max r.kept.done (min c.args.msg.done (length r.kept.log))) _ (sym now.log) (sym now.done)))

@@ -14,7 +14,8 @@ returns-then-primary_of-config g c = λ start acks cell h.
     let r = c.args.running.now in
     let x = site_of r acks cell in
     let p : (primary f r.view == me) ≡ false = ne_eqb _ _ (λ same. c.if-primary_of-config.true (c.primary_of.ensures.site ∙ same)) in
-    meets_as g.M.Machine start f me r c.silent.result _ _ (beats_normal-backup f me x p) (does_meets g.M.Machine start f me r c.silent.result x _ c.silent.ensures h refl)
+    meets_as g.M.Machine start f me r c.silent.result _ _ (beats_normal-backup f me x p)
+    (does_meets g.M.Machine start f me r c.silent.result x _ c.silent.ensures h refl)
 
 pub returns-in_err-sent : goal.returns-in_err-sent
 returns-in_err-sent g c = λ start acks cell h.
@@ -32,7 +33,8 @@ returns-in_err-send_orders g c = λ start acks cell h.
     let r = c.args.running.now in
     let x = site_of r acks cell in
     let p : (primary f r.view == me) ≡ true = eq-eqb _ _ (sym c.primary_of.ensures.site ∙ c.if-primary_of-config.false) in
-    err_follows g.M.Machine start f me r c.from_residual-in_err-send_orders.result _ c.from_residual-in_err-send_orders.ensures.0 (ap (λ s. s.ending) (beats_normal-primary f me x p))
+    err_follows g.M.Machine start f me r c.from_residual-in_err-send_orders.result _ c.from_residual-in_err-send_orders.ensures.0
+    (ap (λ s. s.ending) (beats_normal-primary f me x p))
 
 pub returns : goal.returns
 returns g c = λ start acks cell h.
@@ -43,4 +45,5 @@ returns g c = λ start acks cell h.
     let p : (primary f r.view == me) ≡ true = eq-eqb _ _ (sym c.primary_of.ensures.site ∙ c.if-primary_of-config.false) in
     meets_as g.M.Machine start f me r _ _ _ (beats_normal-primary f me x p)
     (beat_meets g.M.Machine start f me r _ acks cell h refl
-    (c.in_ok-send_orders.ensures ∙ ap (λ s. s ++ map (order_to me) (g.M.Machine.orders r.kept.machine)) (c.in_ok-sent.ensures ∙ ap (to_all f me) (c.news.ensures acks cell))))
+    (c.in_ok-send_orders.ensures ∙ ap (λ s. s ++ map (order_to me) (g.M.Machine.orders r.kept.machine))
+    (c.in_ok-sent.ensures ∙ ap (to_all f me) (c.news.ensures acks cell))))

@@ -16,4 +16,5 @@ loop-due-preserved g c =
 
 pub returns : goal.returns
 returns g c =
-    orders_end (order_to c.args.config.me) c.loop-due.sent.items (g.M.Machine.orders c.args.machine.now) c.loop-due.at _ (sym c.open.ensures ∙ c.in_default.is) c.loop-due.invariant.sent
+    orders_end (order_to c.args.config.me) c.loop-due.sent.items (g.M.Machine.orders c.args.machine.now) c.loop-due.at _
+    (sym c.open.ensures ∙ c.in_default.is) c.loop-due.invariant.sent

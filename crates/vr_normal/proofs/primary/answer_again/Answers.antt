@@ -24,8 +24,10 @@ returns-then-number-newest g c = λ start acks cell h.
     let r = c.args.running.now in
     let x = site_of r acks cell in
     let d = c.dropped-then-number-newest in
-    let other : c.args.number ≢ newest r.kept.log c.args.client = λ e. c.if-number-newest.true (e ∙ sym (h.sound.kept.newest c.args.client) ∙ sym c.newest.ensures) in
-    meets_as m start f me r d.result _ _ (again-other m start x c.args.number (newest r.kept.log c.args.client) (last_of (take r.kept.done r.kept.log) c.args.client) other)
+    let other : c.args.number ≢ newest r.kept.log c.args.client =
+    λ e. c.if-number-newest.true (e ∙ sym (h.sound.kept.newest c.args.client) ∙ sym c.newest.ensures) in
+    meets_as m start f me r d.result _ _ (again-other m start x c.args.number (newest r.kept.log c.args.client)
+    (last_of (take r.kept.done r.kept.log) c.args.client) other)
     (drops_meets m start f me r d.result acks cell _ d.ensures h)
 
 pub returns-then-last-number : goal.returns-then-last-number
@@ -53,4 +55,5 @@ returns g c = λ start acks cell h.
     let again = again-same m start x c.args.number _ c.args.client _ c.in-Some.last refl (said ∙ c.in-Some.is) same c.if-last-number.false in
     follows_as m start f me r c.sends_one.result _ _ again.step
     (answers_follows m start f me r c.sends_one.result x (again.place ∷ [])
-    (again_mails m start x me r.view c.args.number c.args.client again.place c.in-Some.last c.mail_to_client.result c.sends_one.result c.mail_to_client.ensures c.if-last-number.false again.answer c.sends_one.ensures) h refl)
+    (again_mails m start x me r.view c.args.number c.args.client again.place c.in-Some.last c.mail_to_client.result c.sends_one.result c.mail_to_client.ensures
+    c.if-last-number.false again.answer c.sends_one.ensures) h refl)

@@ -38,7 +38,8 @@ returns-then-newest-row-clause-step g c = λ start acks cell h.
     let r = c.args.running.now in
     let e : is_normal r.status ≡ true = sym c.runs_normally.ensures ∙ c.if-not-runs_normally.false in
     let p : (primary f r.view == me) ≡ true = eq-eqb _ _ (sym c.primary_of.ensures.site ∙ c.if-primary_of-config.false) in
-    let new : newest r.kept.log c.args.row.client < c.args.row.number = rw (h.sound.kept.newest c.args.row.client) at (rw c.newest.ensures at c.if-newest-row.true) in
+    let new : newest r.kept.log c.args.row.client < c.args.row.number =
+    rw (h.sound.kept.newest c.args.row.client) at (rw c.newest.ensures at c.if-newest-row.true) in
     follows_as m start f me c.append.new.running c.append.result _ _ (on_request-new f me (site_of r acks cell) c.args.row e p new)
     (c.append.ensures.step start acks cell h)
 
@@ -50,6 +51,7 @@ returns-else-newest-row-clause-step g c = λ start acks cell h.
     let r = c.args.running.now in
     let e : is_normal r.status ≡ true = sym c.runs_normally.ensures ∙ c.if-not-runs_normally.false in
     let p : (primary f r.view == me) ≡ true = eq-eqb _ _ (sym c.primary_of.ensures.site ∙ c.if-primary_of-config.false) in
-    let old : c.args.row.number ≤ newest r.kept.log c.args.row.client = rw (h.sound.kept.newest c.args.row.client) at (rw c.newest.ensures at c.if-newest-row.false) in
+    let old : c.args.row.number ≤ newest r.kept.log c.args.row.client =
+    rw (h.sound.kept.newest c.args.row.client) at (rw c.newest.ensures at c.if-newest-row.false) in
     follows_as m start f me r c.answer_again.result _ _ (on_request-old f me (site_of r acks cell) c.args.row e p old)
     (c.answer_again.ensures start acks cell h)

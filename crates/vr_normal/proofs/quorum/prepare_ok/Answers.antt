@@ -44,5 +44,6 @@ returns-clause-step g c = λ choose start acks cell right h.
     let r = c.args.running.now in
     let e : is_normal r.status ≡ true = sym c.runs_normally.ensures ∙ c.if-not-runs_normally.false in
     let p : (primary f r.view == me) ≡ true = eq-eqb _ _ (sym c.primary_of.ensures.site ∙ c.if-primary_of-config.false) in
-    follows_as g.M.Machine start f me c.acknowledge.new.running c.acknowledge.result _ _ (on_prepare_ok-mine f me (site_of r acks cell) choose c.args.from c.args.msg e c.if-msg-running.false p)
+    follows_as g.M.Machine start f me c.acknowledge.new.running c.acknowledge.result _ _
+    (on_prepare_ok-mine f me (site_of r acks cell) choose c.args.from c.args.msg e c.if-msg-running.false p)
     (c.acknowledge.ensures.step choose start acks cell right h)

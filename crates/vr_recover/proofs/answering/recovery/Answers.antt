@@ -37,7 +37,8 @@ returns-in_err-state_of_its_view-clause-step g c = λ start acks cell h.
     let is = c.get.ensures in
     let high = c.if-msg-get.false in
     let new : nat_lt c.args.msg.nonce (boot_of r.known c.args.from) ≡ false = grind (arith, nat_tests, is, high) in
-    err_follows g.M.Machine start f me _ c.from_residual.result _ c.from_residual.ensures.0 (ap (λ s. s.ending) (on_recovery-normal f me (site_of r acks cell) c.args.from c.args.msg e new))
+    err_follows g.M.Machine start f me _ c.from_residual.result _ c.from_residual.ensures.0
+    (ap (λ s. s.ending) (on_recovery-normal f me (site_of r acks cell) c.args.from c.args.msg e new))
 
 pub returns-clause-step : goal.returns-clause-step
 returns-clause-step g c = λ start acks cell h.

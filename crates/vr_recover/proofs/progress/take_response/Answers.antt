@@ -15,7 +15,8 @@ returns-then-nonce-boot-clause-step g c = λ choose acks right.
 pub returns-then-is_outdated-clause-step : goal.returns-then-is_outdated-clause-step
 returns-then-is_outdated-clause-step g c = λ choose acks right.
     let old = c.args.recovering.now in
-    response_outdated choose old.known old.responses.items acks c.args.boot c.args.nonce c.args.response c.if-nonce-boot.false (sym c.is_outdated.ensures ∙ c.if-is_outdated.true)
+    response_outdated choose old.known old.responses.items acks c.args.boot c.args.nonce c.args.response c.if-nonce-boot.false
+    (sym c.is_outdated.ensures ∙ c.if-is_outdated.true)
 
 pub returns-then-has_as_late-clause-step : goal.returns-then-has_as_late-clause-step
 returns-then-has_as_late-clause-step g c = λ choose acks right.
@@ -33,8 +34,10 @@ returns-in_err-keep-clause-step g c = λ choose acks right.
     let current : is_outdated old.known new.from new.known ≡ false = sym c.is_outdated.ensures ∙ c.if-is_outdated.false in
     let later : has_as_late (responses_of (left_with old.known old.responses.items new)) (response_of new) ≡ false =
     as_late-same old.known old.responses.items new current ∙ sym (rw c.as_slice.ensures.value at c.has_as_late.ensures) ∙ c.if-has_as_late.false in
-    err_progress (record { known = c.learn.new.recovering.known; responses = c.keep.new.kept }) acks c.args.boot c.from_residual.result _ c.from_residual.ensures.0
-    (ap (λ s. s.ending) (response_kept choose old.known old.responses.items acks c.args.boot c.args.nonce new c.if-nonce-boot.false current later) ∙ regains_handled _ _ _ _)
+    err_progress (record { known = c.learn.new.recovering.known; responses = c.keep.new.kept }) acks c.args.boot c.from_residual.result _
+    c.from_residual.ensures.0
+    (ap (λ s. s.ending) (response_kept choose old.known old.responses.items acks c.args.boot c.args.nonce new c.if-nonce-boot.false current later)
+    ∙ regains_handled _ _ _ _)
 
 pub regain_where_due-requires-clause-sound : goal.regain_where_due-requires-clause-sound
 regain_where_due-requires-clause-sound g c =
@@ -42,7 +45,9 @@ regain_where_due-requires-clause-sound g c =
     let new = c.args.response in
     let left = one_each_current c.learn.new.recovering.known old.responses.items c.requires.sound.one_each in
     record {
-      known = rw c.learn.ensures.known (greater_length old.known new.known (let a = c.requires.told in let b = c.requires.sound.known in omega arith) ∙ c.requires.sound.known);
+      known =
+          rw c.learn.ensures.known (greater_length old.known new.known (let a = c.requires.told in let b = c.requires.sound.known in omega arith)
+          ∙ c.requires.sound.known);
       one_each = subst IsOneEach (sym (c.in_ok-keep.ensures ∙ ap (λ kept. kept_with kept new) c.learn.ensures.current)) (one_each_with _ new left);
     }
 

@@ -22,7 +22,9 @@ loop-response-preserved g c =
     let view = ap (λ (r : ResponseOf g.row.C.Denot). r.view) same in
     omega arith in
     record {
-      above = λ k d low. below_more (λ n. (slice_index_or kept n d).view ≤ c.max-view.result) i (λ n before. (let h = c.loop-response.invariant.above n d before in omega arith)) (here d) k low;
+      above =
+          λ k d low. below_more (λ n. (slice_index_or kept n d).view ≤ c.max-view.result) i
+          (λ n before. (let h = c.loop-response.invariant.above n d before in omega arith)) (here d) k low;
       least = λ view all. (
           let h = c.loop-response.invariant.least view all in
           let k = all i item c.loop-response-test.true in

@@ -24,6 +24,13 @@ returns-clause-running g c =
     let summed : SumUp c.in_ok-acked.acked.items [] = zeros_summed c.in_ok-acked.acked.items (2 * c.args.config.f + 1) (search rules) in
     let sites : length c.in_ok-acked.acked.items ≡ 2 * c.args.config.f + 1 = search rules in
     record {
-      sound = record { kept = c.in_ok-execute.ensures.kept (g.M.Machine.start c.args.setup.now) c.in_ok-kept.ensures.kept; sites = sites; known = c.requires.known; up = refl; votes = none_one_each _ _ none };
+      sound =
+          record {
+            kept = c.in_ok-execute.ensures.kept (g.M.Machine.start c.args.setup.now) c.in_ok-kept.ensures.kept;
+            sites = sites;
+            known = c.requires.known;
+            up = refl;
+            votes = none_one_each _ _ none;
+          };
       summed = summed;
     }

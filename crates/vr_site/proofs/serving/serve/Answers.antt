@@ -36,7 +36,8 @@ returns-in-PrepareOk-clause-step g c = λ choose start acks cell right h.
     let r = c.args.running.now in
     let x = site_of r acks cell in
     follows_as g.M.Machine start f me c.prepare_ok.new.running c.prepare_ok.result _ _
-    (ap (λ msg. on_message choose f me x c.args.from msg) c.in-PrepareOk.is ∙ ap (λ s. on_prepare_ok choose f me x s c.in-PrepareOk.ok) (sym c.site_number-site.ensures))
+    (ap (λ msg. on_message choose f me x c.args.from msg) c.in-PrepareOk.is ∙ ap (λ s. on_prepare_ok choose f me x s c.in-PrepareOk.ok)
+    (sym c.site_number-site.ensures))
     (c.prepare_ok.ensures.step choose start acks cell right h)
 
 pub returns-in-Commit-clause-step : goal.returns-in-Commit-clause-step
@@ -56,7 +57,9 @@ returns-in-StartViewChange-clause-step g c = λ choose start acks cell right h.
     let r = c.args.running.now in
     let x = site_of r acks cell in
     follows_as g.M.Machine start f me c.start_view_change.new.running c.start_view_change.result _ _
-    (ap (λ msg. on_message choose f me x c.args.from msg) c.in-StartViewChange.is ∙ ap (λ s. on_start_view_change choose f me x c.in-StartViewChange.change.view (record { from = s; known = c.in-StartViewChange.change.known })) (sym c.site_number-site.ensures))
+    (ap (λ msg. on_message choose f me x c.args.from msg) c.in-StartViewChange.is ∙ ap
+    (λ s. on_start_view_change choose f me x c.in-StartViewChange.change.view (record { from = s; known = c.in-StartViewChange.change.known }))
+    (sym c.site_number-site.ensures))
     (c.start_view_change.ensures.step choose start acks cell right h)
 
 pub returns-in-DoViewChange-clause-step : goal.returns-in-DoViewChange-clause-step
@@ -66,7 +69,8 @@ returns-in-DoViewChange-clause-step g c = λ choose start acks cell right h.
     let r = c.args.running.now in
     let x = site_of r acks cell in
     follows_as g.M.Machine start f me c.do_view_change.new.running c.do_view_change.result _ _
-    (ap (λ msg. on_message choose f me x c.args.from msg) c.in-DoViewChange.is ∙ ap (λ s. on_do_view_change choose f me x c.in-DoViewChange.change.view (vote_of s c.in-DoViewChange.change)) (sym c.site_number-site.ensures))
+    (ap (λ msg. on_message choose f me x c.args.from msg) c.in-DoViewChange.is ∙ ap
+    (λ s. on_do_view_change choose f me x c.in-DoViewChange.change.view (vote_of s c.in-DoViewChange.change)) (sym c.site_number-site.ensures))
     (c.do_view_change.ensures.step choose start acks cell right h)
 
 pub returns-in-StartView-clause-step : goal.returns-in-StartView-clause-step
@@ -76,7 +80,8 @@ returns-in-StartView-clause-step g c = λ choose start acks cell right h.
     let r = c.args.running.now in
     let x = site_of r acks cell in
     follows_as g.M.Machine start f me c.start_view.new.running c.start_view.result _ _
-    (ap (λ msg. on_message choose f me x c.args.from msg) c.in-StartView.is ∙ ap (λ s. on_start_view choose f me x s c.in-StartView.opening) (sym c.site_number-site.ensures))
+    (ap (λ msg. on_message choose f me x c.args.from msg) c.in-StartView.is ∙ ap (λ s. on_start_view choose f me x s c.in-StartView.opening)
+    (sym c.site_number-site.ensures))
     (c.start_view.ensures.step choose start acks cell right h)
 
 pub returns-in-GetState-clause-step : goal.returns-in-GetState-clause-step
@@ -86,7 +91,8 @@ returns-in-GetState-clause-step g c = λ choose start acks cell right h.
     let r = c.args.running.now in
     let x = site_of r acks cell in
     follows_as g.M.Machine start f me r c.get_state.result _ _
-    (ap (λ msg. on_message choose f me x c.args.from msg) c.in-GetState.is ∙ ap (λ s. on_get_state f me x s c.in-GetState.wanted) (sym c.site_number-site.ensures))
+    (ap (λ msg. on_message choose f me x c.args.from msg) c.in-GetState.is ∙ ap (λ s. on_get_state f me x s c.in-GetState.wanted)
+    (sym c.site_number-site.ensures))
     (c.get_state.ensures start acks cell h)
 
 pub returns-in-NewState-clause-step : goal.returns-in-NewState-clause-step
@@ -96,7 +102,8 @@ returns-in-NewState-clause-step g c = λ choose start acks cell right h.
     let r = c.args.running.now in
     let x = site_of r acks cell in
     follows_as g.M.Machine start f me c.new_state.new.running c.new_state.result _ _
-    (ap (λ msg. on_message choose f me x c.args.from msg) c.in-NewState.is ∙ ap (λ s. on_new_state choose f me x s c.in-NewState.state) (sym c.site_number-site.ensures))
+    (ap (λ msg. on_message choose f me x c.args.from msg) c.in-NewState.is ∙ ap (λ s. on_new_state choose f me x s c.in-NewState.state)
+    (sym c.site_number-site.ensures))
     (c.new_state.ensures.step choose start acks cell right h)
 
 pub returns-in-Recovery-clause-step : goal.returns-in-Recovery-clause-step
@@ -106,7 +113,8 @@ returns-in-Recovery-clause-step g c = λ choose start acks cell right h.
     let r = c.args.running.now in
     let x = site_of r acks cell in
     follows_as g.M.Machine start f me c.recovery.new.running c.recovery.result _ _
-    (ap (λ msg. on_message choose f me x c.args.from msg) c.in-Recovery.is ∙ ap (λ s. on_recovery f me x s c.in-Recovery.recovery) (sym c.site_number-site.ensures))
+    (ap (λ msg. on_message choose f me x c.args.from msg) c.in-Recovery.is ∙ ap (λ s. on_recovery f me x s c.in-Recovery.recovery)
+    (sym c.site_number-site.ensures))
     (c.recovery.ensures.step start acks cell h)
 
 pub returns-in-RecoveryResponse-clause-step : goal.returns-in-RecoveryResponse-clause-step

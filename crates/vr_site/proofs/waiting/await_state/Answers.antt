@@ -16,7 +16,8 @@ returns-in-RecoveryResponse-clause-step g c = λ choose acks right.
     let x = recovering_site c.args.recovering.now acks c.args.boot in
     let r = c.in-RecoveryResponse in
     progress_as c.take_response.new.recovering acks c.args.boot c.take_response.result _ _
-    (ap (λ msg. on_message choose f me x c.args.from msg) r.is ∙ ap (λ s. on_recovery_response choose x r.msg.nonce (response_of s r.msg)) (sym c.site_number-site.ensures))
+    (ap (λ msg. on_message choose f me x c.args.from msg) r.is ∙ ap (λ s. on_recovery_response choose x r.msg.nonce (response_of s r.msg))
+    (sym c.site_number-site.ensures))
     (c.take_response.ensures.step choose acks right)
 
 pub returns-in-Prepare-clause-sound : goal.returns-in-Prepare-clause-sound
@@ -41,7 +42,8 @@ returns-in-Commit-clause-step g c = λ choose acks right.
     let kept = c.args.recovering.now in
     let x = recovering_site kept acks c.args.boot in
     ap (λ msg. on_message choose f me x c.args.from msg) c.in-Commit.is ∙ commit_drops f me kept acks c.args.boot _ c.in-Commit.msg
-    ∙ ap (drops x) (ap (λ s. if primary f c.in-Commit.msg.view == s then Status else NotPrimary) (sym c.site_number-site.ensures) ∙ sym c.why_of-in-Commit.ensures)
+    ∙ ap (drops x) (ap (λ s. if primary f c.in-Commit.msg.view == s then Status else NotPrimary) (sym c.site_number-site.ensures)
+    ∙ sym c.why_of-in-Commit.ensures)
 
 pub returns-in-StartView-clause-sound : goal.returns-in-StartView-clause-sound
 returns-in-StartView-clause-sound g c = c.requires.sound
@@ -53,7 +55,8 @@ returns-in-StartView-clause-step g c = λ choose acks right.
     let kept = c.args.recovering.now in
     let x = recovering_site kept acks c.args.boot in
     ap (λ msg. on_message choose f me x c.args.from msg) c.in-StartView.is ∙ start_view_drops f me kept acks c.args.boot choose _ c.in-StartView.msg
-    ∙ ap (drops x) (ap (λ s. if primary f c.in-StartView.msg.view == s then Status else NotPrimary) (sym c.site_number-site.ensures) ∙ sym c.why_of-in-StartView.ensures)
+    ∙ ap (drops x) (ap (λ s. if primary f c.in-StartView.msg.view == s then Status else NotPrimary) (sym c.site_number-site.ensures)
+    ∙ sym c.why_of-in-StartView.ensures)
 
 pub returns-in-NewState-clause-sound : goal.returns-in-NewState-clause-sound
 returns-in-NewState-clause-sound g c = c.requires.sound
@@ -65,7 +68,8 @@ returns-in-NewState-clause-step g c = λ choose acks right.
     let kept = c.args.recovering.now in
     let x = recovering_site kept acks c.args.boot in
     ap (λ msg. on_message choose f me x c.args.from msg) c.in-NewState.is ∙ new_state_drops f me kept acks c.args.boot choose _ c.in-NewState.msg
-    ∙ ap (drops x) (ap (λ s. if primary f c.in-NewState.msg.view == s then Status else NotPrimary) (sym c.site_number-site.ensures) ∙ sym c.why_of-in-NewState.ensures)
+    ∙ ap (drops x) (ap (λ s. if primary f c.in-NewState.msg.view == s then Status else NotPrimary) (sym c.site_number-site.ensures)
+    ∙ sym c.why_of-in-NewState.ensures)
 
 pub returns : goal.returns
 returns g c = record {

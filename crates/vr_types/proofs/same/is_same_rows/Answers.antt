@@ -19,5 +19,6 @@ returns g c =
     let b = c.args.b.now in
     let at = c.loop-at.at in
     let all_a : take at a ≡ a = take_all at a (omega (arith, c.len-at-end.ensures.length, c.loop-at-test.false)) in
-    let all_b : take at b ≡ b = take_all at b (omega (arith, c.len-at-end.ensures.length, c.loop-at-test.false, c.if-len.false, c.len.ensures.length, c.len-2.ensures.length)) in
+    let all_b : take at b ≡ b =
+    take_all at b (omega (arith, c.len-at-end.ensures.length, c.loop-at-test.false, c.if-len.false, c.len.ensures.length, c.len-2.ensures.length)) in
     (λ _. sym all_a ∙ c.loop-at.invariant ∙ all_b, λ _. refl)

@@ -24,7 +24,9 @@ is c = record {
   known = c.requires.known;
   small = c.requires.small;
   amount = c.requires.amount;
-  currency = read c.args.setup.now.currencies c.as_slice.result.now c.from.result c.args.c c.index-as_slice-from.result c.as_slice.ensures c.from.ensures c.index-as_slice-from.is;
+  currency =
+      read c.args.setup.now.currencies c.as_slice.result.now c.from.result c.args.c c.index-as_slice-from.result c.as_slice.ensures c.from.ensures
+      c.index-as_slice-from.is;
 }
 
 is-2 : (c : goal.After-standing) → IsPosting c.args.setup.now c.args.self.now c.args.c c.args.amt c.index-as_slice-from.result
@@ -34,7 +36,9 @@ is-2 c = record {
   known = c.requires.known;
   small = c.requires.small;
   amount = c.requires.amount;
-  currency = read c.args.setup.now.currencies c.as_slice.result.now c.from.result c.args.c c.index-as_slice-from.result c.as_slice.ensures c.from.ensures c.index-as_slice-from.is;
+  currency =
+      read c.args.setup.now.currencies c.as_slice.result.now c.from.result c.args.c c.index-as_slice-from.result c.as_slice.ensures c.from.ensures
+      c.index-as_slice-from.is;
 }
 
 is-3 : (c : goal.After-shortage_of-2) → IsPosting c.args.setup.now c.args.self.now c.args.c c.args.amt c.index-as_slice-from.result
@@ -44,7 +48,9 @@ is-3 c = record {
   known = c.requires.known;
   small = c.requires.small;
   amount = c.requires.amount;
-  currency = read c.args.setup.now.currencies c.as_slice.result.now c.from.result c.args.c c.index-as_slice-from.result c.as_slice.ensures c.from.ensures c.index-as_slice-from.is;
+  currency =
+      read c.args.setup.now.currencies c.as_slice.result.now c.from.result c.args.c c.index-as_slice-from.result c.as_slice.ensures c.from.ensures
+      c.index-as_slice-from.is;
 }
 
 pub standing-requires-clause-fair : goal.standing-requires-clause-fair
@@ -66,7 +72,9 @@ is-4 c = record {
   known = c.requires.known;
   small = c.requires.small;
   amount = c.requires.amount;
-  currency = read c.args.setup.now.currencies c.as_slice.result.now c.from.result c.args.c c.index-as_slice-from.result c.as_slice.ensures c.from.ensures c.index-as_slice-from.is;
+  currency =
+      read c.args.setup.now.currencies c.as_slice.result.now c.from.result c.args.c c.index-as_slice-from.result c.as_slice.ensures c.from.ensures
+      c.index-as_slice-from.is;
 }
 
 is-5 : (c : goal.After-shortage_of) → IsPosting c.args.setup.now c.args.self.now c.args.c c.args.amt c.index-as_slice-from.result
@@ -76,11 +84,15 @@ is-5 c = record {
   known = c.requires.known;
   small = c.requires.small;
   amount = c.requires.amount;
-  currency = read c.args.setup.now.currencies c.as_slice.result.now c.from.result c.args.c c.index-as_slice-from.result c.as_slice.ensures c.from.ensures c.index-as_slice-from.is;
+  currency =
+      read c.args.setup.now.currencies c.as_slice.result.now c.from.result c.args.c c.index-as_slice-from.result c.as_slice.ensures c.from.ensures
+      c.index-as_slice-from.is;
 }
 
 pub overflow_add-result : goal.overflow_add-result
-overflow_add-result c = (value-more c.args.self.now.value c.standing.result c.standing-2.result (posting-value _ _ _ _ _ (is-4 c)) c.standing.ensures.small c.standing-2.ensures.small).0
+overflow_add-result c =
+    (value-more c.args.self.now.value c.standing.result c.standing-2.result (posting-value _ _ _ _ _ (is-4 c)) c.standing.ensures.small
+    c.standing-2.ensures.small).0
 
 pub overflow_sub-result-2 : goal.overflow_sub-result-2
 overflow_sub-result-2 c =
@@ -89,15 +101,20 @@ overflow_sub-result-2 c =
 
 pub overflow_add-result-2 : goal.overflow_add-result-2
 overflow_add-result-2 c =
-    posting-shortage-fits _ _ _ _ _ (is-3 c) _ c.shortage_of.result c.shortage_of-2.result (posting-after _ _ _ _ _ (is-3 c) c.from-2.result c.from-2.ensures).1 c.shortage_of-2.ensures
+    posting-shortage-fits _ _ _ _ _ (is-3 c) _ c.shortage_of.result c.shortage_of-2.result
+    (posting-after _ _ _ _ _ (is-3 c) c.from-2.result c.from-2.ensures).1 c.shortage_of-2.ensures
 
 pub returns : goal.returns
 returns c =
-    let values = (value-more c.args.self.now.value c.standing.result c.standing-2.result (posting-value _ _ _ _ _ (is-3 c)) c.standing.ensures.small c.standing-2.ensures.small).1 in
+    let values =
+    (value-more c.args.self.now.value c.standing.result c.standing-2.result (posting-value _ _ _ _ _ (is-3 c)) c.standing.ensures.small
+    c.standing-2.ensures.small).1 in
     let before = posting-read _ _ _ _ _ (is-3 c) c.from-2.result c.from-2.ensures in
     let after = (posting-after _ _ _ _ _ (is-3 c) c.from-2.result c.from-2.ensures).0 in
     (λ i. record {
-      balances = slice_set c.args.self.now.balances c.from-3.result (to_z w64 (of_z w64 (to_z w64 (of_z w64 (slice_index_or c.args.self.now.balances c.from-2.result (pos 0))) +ℤ to_z w64 (of_z w64 c.args.amt))));
+      balances =
+          slice_set c.args.self.now.balances c.from-3.result
+          (to_z w64 (of_z w64 (to_z w64 (of_z w64 (slice_index_or c.args.self.now.balances c.from-2.result (pos 0))) +ℤ to_z w64 (of_z w64 c.args.amt))));
       value = values i;
       shortage = c.args.self.now.shortage - c.shortage_of.result + c.shortage_of-2.result;
     })

@@ -16,7 +16,8 @@ pub overflow_add-self : goal.overflow_add-self
 overflow_add-self c =
     let orders = open_at c.args.self.now.table.now c.args.self.now.ccy in
     let within = slice_get_within orders c.args.self.now.given c.in_ok-order.order (sym c.open_at.ensures ∙ c.in_ok-order.was) in
-    let small : length orders < 2 ^ 63 = queue-small deque_items (λ q. let same = q.ok in let small = q.small in omega arith) c.args.self.now.table.now.outstanding c.args.self.now.ccy in
+    let small : length orders < 2 ^ 63 =
+    queue-small deque_items (λ q. let same = q.ok in let small = q.small in omega arith) c.args.self.now.table.now.outstanding c.args.self.now.ccy in
     omega arith
 
 pub returns-clause-steps : goal.returns-clause-steps

@@ -8,7 +8,8 @@ use Rattle.pvp_book.proofs.order_table.OrderTable.add.Goals as goal
 
 pub returns-in-Made : goal.returns-in-Made
 returns-in-Made c = λ entries are.
-    AreMade-made entries c.args.entry.now c.args.self.now c.make.new.self are c.in-Made.order (sym c.in-Made.ensures) (subst IsCounted (sym c.in-Made.ensures) c.requires.known)
+    AreMade-made entries c.args.entry.now c.args.self.now c.make.new.self are c.in-Made.order (sym c.in-Made.ensures)
+    (subst IsCounted (sym c.in-Made.ensures) c.requires.known)
     c.make.ensures.made (λ k n. ap (λ (set : _). list_any (λ x. (k == x.0) && (n == x.1)) set.keys) c.make.ensures.ended) c.make.ensures.counts
     c.make.ensures.places c.make.ensures.outstanding (subst (λ s. IsFresh s c.args.self.now) (sym c.in-Made.ensures) c.requires.fresh).1
 

@@ -9,7 +9,8 @@ use Rattle.pvp_book.proofs.order_table.OrderTable.end.Goals as goal
 
 pub returns-clause-ended : goal.returns-clause-ended
 returns-clause-ended c = λ k n.
-    (succeeded c.insert.result (c.insert.ensures.succeeds c.requires.room) c.insert.ensures.updates).0 (k, n) ∙ put ((c.args.ccy == k) && (c.args.out == n)) (has_ended c.args.self.now k n)
+    (succeeded c.insert.result (c.insert.ensures.succeeds c.requires.room) c.insert.ensures.updates).0 (k, n)
+    ∙ put ((c.args.ccy == k) && (c.args.out == n)) (has_ended c.args.self.now k n)
 
 pub take_out-requires : goal.take_out-requires
 take_out-requires c =
@@ -26,4 +27,5 @@ returns-clause-outstanding c =
     let places = c.requires.places in
     let known = c.requires.known in
     let within : c.from.result < length c.args.self.now.outstanding = omega arith in
-    queues-less deque_items c.args.self.now.outstanding c.from.result c.take_out.new.queue c.index-self-from.result within c.args.ccy c.args.out ccy c.take_out.ensures
+    queues-less deque_items c.args.self.now.outstanding c.from.result c.take_out.new.queue c.index-self-from.result within c.args.ccy
+    c.args.out ccy c.take_out.ensures

@@ -16,7 +16,9 @@ returns-in_ok-reserve-in-Made-clause-same c = λ entries are.
       places = are.places;
       counts = are.counts;
       queues = length-set c.args.self.now.outstanding c.from.result c.reserve-in-Made.new.self ∙ are.queues;
-      outstanding = λ k. queues-same deque_items c.args.self.now.outstanding c.from.result c.reserve-in-Made.new.self c.index-self-from.result within c.reserve-in-Made.ensures.items k ∙ are.outstanding k;
+      outstanding =
+          λ k. queues-same deque_items c.args.self.now.outstanding c.from.result c.reserve-in-Made.new.self c.index-self-from.result within
+          c.reserve-in-Made.ensures.items k ∙ are.outstanding k;
     }
 
 pub returns-in-Ended-clause-same : goal.returns-in-Ended-clause-same

@@ -30,7 +30,8 @@ returns-clause-ok c =
           let low = w.in-Some.ensures.variant.0 refl in
           let seen = slice_get_read firsts.items (length firsts.items) at w.in-Some.events.now refl (omega (arith, long, low)) w.in-Some.ensures.value in
           ap (λ (i : Inside). map (λ (v : Vec ℕ _). v.items) i.firsts.items) w.self-inside-is
-          ∙ put_more (λ (v : Vec ℕ _). v.items) firsts.items at w.in-Some.events.now w.push.new.self c.args.first seen w.in_ok-push.ensures.items ∙ ap put c.self.view_is)
+          ∙ put_more (λ (v : Vec ℕ _). v.items) firsts.items at w.in-Some.events.now w.push.new.self c.args.first seen w.in_ok-push.ensures.items
+          ∙ ap put c.self.view_is)
       | in_default w ↦ (
           let past : length firsts.items ≤ at = elim (cases_order at (length firsts.items)) [
             | inl e ↦ omega (arith, e)
@@ -40,5 +41,6 @@ returns-clause-ok c =
             ]
           ] in
           ap (λ (i : Inside). map (λ (v : Vec ℕ _). v.items) i.firsts.items) w.self-inside-is
-          ∙ put_past (λ (v : Vec ℕ _). v.items) firsts.items at (noted_of (map (λ (v : Vec ℕ _). v.items) firsts.items) at ++ c.args.first ∷ []) past ∙ ap put c.self.view_is)
+          ∙ put_past (λ (v : Vec ℕ _). v.items) firsts.items at (noted_of (map (λ (v : Vec ℕ _). v.items) firsts.items) at ++ c.args.first ∷ []) past
+          ∙ ap put c.self.view_is)
     ]

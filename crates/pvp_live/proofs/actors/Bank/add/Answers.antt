@@ -10,7 +10,9 @@ pub returns : goal.returns
 returns c =
     let cell = c.args.made.0 in
     let own = c.unwrap-own.result in
-    let last = fresh_last cell.seats cell.number c.args.made.1.items c.pop.new.self.items own c.requires.fresh (c.pop.ensures.items ∙ ap (λ o. c.pop.new.self.items ++ option_to_list o) c.unwrap-own.ensures) in
+    let last =
+    fresh_last cell.seats cell.number c.args.made.1.items c.pop.new.self.items own c.requires.fresh
+    (c.pop.ensures.items ∙ ap (λ o. c.pop.new.self.items ++ option_to_list o) c.unwrap-own.ensures) in
     subst (λ (l : List Place). AreNew l c.push-2.new.self.items) (sym c.in_ok-push.ensures.items)
     (subst (λ (l : List BankSeat). AreNew (c.args.self.now.cells.items ++ cell ∷ []) l) (sym c.in_ok-push-2.ensures.items)
     (new_more c.args.self.now.cells.items c.args.self.now.own.items cell own c.requires.new last.0 last.1))

@@ -18,7 +18,10 @@ returns-clause-posted g c =
           c.answer_to-answer.ensures.answers
           (ap (λ s. s.items) (c.hand_on.ensures.seats ∙ c.note.ensures.seats))
           c.answer_to-answer.ensures.refused
-          (c.hand_on.ensures.refused ∙ c.note.ensures.refused ∙ ap (λ a. refused_after mid.refused c.args.line.number (fault_of (line_effect a))) c.as_ref-told.ensures.value)
+          (c.hand_on.ensures.refused ∙ c.note.ensures.refused ∙ ap (λ a. refused_after mid.refused c.args.line.number (fault_of (line_effect a)))
+          c.as_ref-told.ensures.value)
           refl;
-      handed = subst (λ a. Hears g.O.Outbox.got c.args.out.now c.hand_on.new.out (handed_on c.args.post.actor a)) c.as_ref-told.ensures.value c.hand_on.ensures.handed;
+      handed =
+          subst (λ a. Hears g.O.Outbox.got c.args.out.now c.hand_on.new.out (handed_on c.args.post.actor a)) c.as_ref-told.ensures.value
+          c.hand_on.ensures.handed;
     }

@@ -8,6 +8,8 @@ loop-line-preserved g c = (
   c.line.ensures.cells ∙ c.loop-line.invariant.0,
   c.line.ensures.lines ∙ c.loop-line.invariant.1,
   playing_more g.O.Outbox.got c.args.self.now.cells.now c.args.self.now.lines.now c.loop-line.line-index _ c.loop-line.self.cells.now
-      (keeps c.args.self.now.seats.items c.args.self.now.refused) (keeps c.loop-line.self.seats.items c.loop-line.self.refused) (keeps c.line.new.self.seats.items c.line.new.self.refused)
-      c.args.out.now c.loop-line.out c.line.new.out c.loop-line-test.true (ap (λ s. s.now) c.loop-line.invariant.0) c.loop-line.invariant.2 c.line.ensures.posted,
+      (keeps c.args.self.now.seats.items c.args.self.now.refused) (keeps c.loop-line.self.seats.items c.loop-line.self.refused)
+      (keeps c.line.new.self.seats.items c.line.new.self.refused)
+      c.args.out.now c.loop-line.out c.line.new.out c.loop-line-test.true (ap (λ s. s.now) c.loop-line.invariant.0)
+      c.loop-line.invariant.2 c.line.ensures.posted,
 )

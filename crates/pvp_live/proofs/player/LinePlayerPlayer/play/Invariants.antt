@@ -6,4 +6,5 @@ use Rattle.pvp_live.proofs.player.LinePlayerPlayer.play.Given as goal
 abbrev pub invariant-loop-line : goal.invariant-loop-line
 invariant-loop-line g l =
     (l.self.cells ≡ l.fn.self.cells) × (l.self.lines ≡ l.fn.self.lines)
-    × IsPlaying l.fn.self.cells.now (take l.line-index l.line-items) (keeps l.fn.self.seats.items l.fn.self.refused) (keeps l.self.seats.items l.self.refused) g.O.Outbox.got l.fn.out l.out
+    × IsPlaying l.fn.self.cells.now (take l.line-index l.line-items) (keeps l.fn.self.seats.items l.fn.self.refused)
+    (keeps l.self.seats.items l.self.refused) g.O.Outbox.got l.fn.out l.out

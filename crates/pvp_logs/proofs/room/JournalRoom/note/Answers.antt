@@ -9,7 +9,17 @@ pub invariant_of-ahead : goal.invariant_of-ahead
 invariant_of-ahead g c =
     let m = g.A.Actor in
     let at = c.ahead.inside in
-    let held : Held g.row.A-Opening.Denot g.row.A.Denot g.row.A-Outcome.Denot g.row.L.Denot = record { number = at.number; opening = at.opening; actor = at.actor; clock = at.clock; log = at.log; sum = at.sum; batch = at.batch.items; waiting = at.waiting.items } in
+    let held : Held g.row.A-Opening.Denot g.row.A.Denot g.row.A-Outcome.Denot g.row.L.Denot =
+    record {
+      number = at.number;
+      opening = at.opening;
+      actor = at.actor;
+      clock = at.clock;
+      log = at.log;
+      sum = at.sum;
+      batch = at.batch.items;
+      waiting = at.waiting.items;
+    } in
     let kept = c.ahead.invariant in
     let P : Bool → m.State → Type 0 = λ can x. Follows m.comes m.after x c.args.event c.args.outcome (m.shows c.follow.new.self) can in (
       with_pending kept.0 (noted c.args.event c.in-Some.next c.args.outcome),
@@ -23,8 +33,28 @@ pub returns : goal.returns
 returns g c =
     let m = g.A.Actor in
     let at = c.ahead.inside in
-    let held : Held g.row.A-Opening.Denot g.row.A.Denot g.row.A-Outcome.Denot g.row.L.Denot = record { number = at.number; opening = at.opening; actor = at.actor; clock = at.clock; log = at.log; sum = at.sum; batch = at.batch.items; waiting = at.waiting.items } in
-    let new : Held g.row.A-Opening.Denot g.row.A.Denot g.row.A-Outcome.Denot g.row.L.Denot = record { number = at.number; opening = at.opening; actor = c.follow.new.self; clock = c.in-Some.next; log = at.log; sum = c.in_ok-ahead-inside.field-0; batch = c.write.new.out.items; waiting = c.push_reserved.new.self.items } in
+    let held : Held g.row.A-Opening.Denot g.row.A.Denot g.row.A-Outcome.Denot g.row.L.Denot =
+    record {
+      number = at.number;
+      opening = at.opening;
+      actor = at.actor;
+      clock = at.clock;
+      log = at.log;
+      sum = at.sum;
+      batch = at.batch.items;
+      waiting = at.waiting.items;
+    } in
+    let new : Held g.row.A-Opening.Denot g.row.A.Denot g.row.A-Outcome.Denot g.row.L.Denot =
+    record {
+      number = at.number;
+      opening = at.opening;
+      actor = c.follow.new.self;
+      clock = c.in-Some.next;
+      log = at.log;
+      sum = c.in_ok-ahead-inside.field-0;
+      batch = c.write.new.out.items;
+      waiting = c.push_reserved.new.self.items;
+    } in
     let P : Bool → m.State → Type 0 = λ can x. Follows m.comes m.after x c.args.event c.args.outcome (m.shows c.follow.new.self) can in
     let step : (x : m.State) → m.shows at.actor x → Takes m.comes m.after x c.args.event c.args.outcome (m.shows c.follow.new.self) =
     λ x shows. subst (λ can. P can x) c.if-not-branch.false (c.in_ok-follow.ensures.step x shows) in

@@ -9,7 +9,17 @@ use Rattle.pvp_logs.proofs.room.JournalRoom.step.Goals as goal
 pub invariant_of-room-2 : goal.invariant_of-room-2
 invariant_of-room-2 g c =
     let at = c.room.inside in
-    let held : Held g.row.A-Opening.Denot g.row.A.Denot g.row.A-Outcome.Denot g.row.L.Denot = record { number = at.number; opening = at.opening; actor = at.actor; clock = at.clock; log = at.log; sum = at.sum; batch = at.batch.items; waiting = at.waiting.items } in
+    let held : Held g.row.A-Opening.Denot g.row.A.Denot g.row.A-Outcome.Denot g.row.L.Denot =
+    record {
+      number = at.number;
+      opening = at.opening;
+      actor = at.actor;
+      clock = at.clock;
+      log = at.log;
+      sum = at.sum;
+      batch = at.batch.items;
+      waiting = at.waiting.items;
+    } in
     let kept = c.room.invariant in
     let outcome = c.in-Ok-take.copies.answered in (
       with_pending kept.0 (receipt c.args.input c.in-Some.clock outcome),
@@ -21,12 +31,33 @@ invariant_of-room-2 g c =
 pub returns-clause-ok : goal.returns-clause-ok
 returns-clause-ok g c = λ past keeps.
     let at = c.room.inside in
-    let held : Held g.row.A-Opening.Denot g.row.A.Denot g.row.A-Outcome.Denot g.row.L.Denot = record { number = at.number; opening = at.opening; actor = at.actor; clock = at.clock; log = at.log; sum = at.sum; batch = at.batch.items; waiting = at.waiting.items } in
-    let new : Held g.row.A-Opening.Denot g.row.A.Denot g.row.A-Outcome.Denot g.row.L.Denot = record { number = at.number; opening = at.opening; actor = c.take.new.self; clock = c.in-Some.clock; log = at.log; sum = c.in_ok-room-inside.field-0; batch = c.write.new.out.items; waiting = c.push_reserved.new.self.items } in
+    let held : Held g.row.A-Opening.Denot g.row.A.Denot g.row.A-Outcome.Denot g.row.L.Denot =
+    record {
+      number = at.number;
+      opening = at.opening;
+      actor = at.actor;
+      clock = at.clock;
+      log = at.log;
+      sum = at.sum;
+      batch = at.batch.items;
+      waiting = at.waiting.items;
+    } in
+    let new : Held g.row.A-Opening.Denot g.row.A.Denot g.row.A-Outcome.Denot g.row.L.Denot =
+    record {
+      number = at.number;
+      opening = at.opening;
+      actor = c.take.new.self;
+      clock = c.in-Some.clock;
+      log = at.log;
+      sum = c.in_ok-room-inside.field-0;
+      batch = c.write.new.out.items;
+      waiting = c.push_reserved.new.self.items;
+    } in
     let kept = subst (λ room. Keeps g.A.Actor g.A.Journaled.texts g.L.Log.seen room past) (sym c.room.view_is) keeps in
     let outcome = c.in-Ok-take.copies.answered in
     let r = receipt c.args.input c.in-Some.clock outcome in
-    let both : Took g.A.Actor c.args.input (shown held past) (shown new (with_pending past r)) c.in-Some.clock outcome × Keeps g.A.Actor g.A.Journaled.texts g.L.Log.seen new (with_pending past r) =
+    let both : Took g.A.Actor c.args.input (shown held past) (shown new (with_pending past r)) c.in-Some.clock outcome
+    × Keeps g.A.Actor g.A.Journaled.texts g.L.Log.seen new (with_pending past r) =
     rw (c.push_reserved.ensures.items, c.reserve.ensures.items, c.in_ok-room-inside.ensures.sum, c.in_ok-room-inside.ensures.written, c.in-Ok.ensures.copy)
     (taken g.A.Actor g.A.Journaled.texts g.L.Log.seen held c.take.new.self c.args.input c.in-Some.clock outcome past kept
     (record { step = c.in-Ok-take.ensures.step; opens = c.take.ensures.opens; told = c.in-Ok-take.ensures.told }) (sym c.in-Some.ensures)) in
@@ -36,7 +67,17 @@ returns-clause-ok g c = λ past keeps.
 pub returns-in_err-room-inside-clause-unfit : goal.returns-in_err-room-inside-clause-unfit
 returns-in_err-room-inside-clause-unfit g c = λ told.
     let at = c.room.inside in
-    let held : Held g.row.A-Opening.Denot g.row.A.Denot g.row.A-Outcome.Denot g.row.L.Denot = record { number = at.number; opening = at.opening; actor = at.actor; clock = at.clock; log = at.log; sum = at.sum; batch = at.batch.items; waiting = at.waiting.items } in
+    let held : Held g.row.A-Opening.Denot g.row.A.Denot g.row.A-Outcome.Denot g.row.L.Denot =
+    record {
+      number = at.number;
+      opening = at.opening;
+      actor = at.actor;
+      clock = at.clock;
+      log = at.log;
+      sum = at.sum;
+      batch = at.batch.items;
+      waiting = at.waiting.items;
+    } in
     let outcome = c.in-Ok-take.copies.answered in
     let clock = c.in-Some.clock in
     let p = err_from_is_err_and c.from_residual.result c.from_residual.ensures.1 in
@@ -47,5 +88,6 @@ returns-in_err-room-inside-clause-unfit g c = λ told.
       sym c.in-Some.ensures,
       λ x shows. (c.in-Ok-take.ensures.step x shows).0,
       λ fits. c.in_err-room-inside.ensures.unfit (ap Err is)
-          (subst (λ event. g.A.Journaled.fits at.number (record { event = event; stamp = c.args.input.stamp; clock = clock; outcome = outcome })) (sym c.in-Ok.ensures.copy) fits),
+          (subst (λ event. g.A.Journaled.fits at.number (record { event = event; stamp = c.args.input.stamp; clock = clock; outcome = outcome }))
+          (sym c.in-Ok.ensures.copy) fits),
     )

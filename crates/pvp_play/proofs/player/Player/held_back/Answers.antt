@@ -43,12 +43,14 @@ returns-in_err-push-clause-stopped g c =
 pub returns-clause-held : goal.returns-clause-held
 returns-clause-held g c =
     c.loop-place.invariant.held
-    ∙ held-all (is_held c.args.self.now.cut c.args.self.now.world.post) c.args.from c.loop-place.place c.args.self.now.cursor (by (cases_lt c.args.self.now.cursor c.args.from))
+    ∙ held-all (is_held c.args.self.now.cut c.args.self.now.world.post) c.args.from c.loop-place.place c.args.self.now.cursor
+    (by (cases_lt c.args.self.now.cursor c.args.from))
   where
     cursor : c.self.inside.cursor ≡ c.args.self.now.cursor
     cursor = ap (λ (p : Position g.row.C.Denot). p.cursor) c.self.view_is
 
-    by : (c.args.self.now.cursor < c.args.from) ⊎ (c.args.from ≤ c.args.self.now.cursor) → c.loop-place.place - c.args.from ≡ c.args.self.now.cursor - c.args.from
+    by : (c.args.self.now.cursor < c.args.from) ⊎ (c.args.from ≤ c.args.self.now.cursor)
+        → c.loop-place.place - c.args.from ≡ c.args.self.now.cursor - c.args.from
     by (inl none) = let here = c.loop-place.invariant.low none in let low = c.loop-place.auto.place in omega (arith, none, here, low)
     by (inr some) =
         let high = c.loop-place.auto.place-end (omega (arith, some, cursor)) in

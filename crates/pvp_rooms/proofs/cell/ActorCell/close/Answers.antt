@@ -10,4 +10,5 @@ returns-then-len-from-clause-in_order g c =
 pub returns-clause-room : goal.returns-clause-room
 returns-clause-room g c =
     let parts = c.into_parts-opening in
-    closes g.A.Actor c.into_inner.result parts.result.0 parts.result.1.items parts.result.2 parts.ensures.opening parts.ensures.history parts.ensures.actor parts.ensures.sound
+    closes g.A.Actor c.into_inner.result parts.result.0 parts.result.1.items parts.result.2 parts.ensures.opening parts.ensures.history
+    parts.ensures.actor parts.ensures.sound

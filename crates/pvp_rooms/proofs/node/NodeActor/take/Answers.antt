@@ -9,7 +9,8 @@ use Rattle.pvp_rooms.proofs.node.NodeActor.take.Goals as goal
 pub copies-requires-clause-room : goal.copies-requires-clause-room
 copies-requires-clause-room c =
     let v = c.args.self.now in
-    room_for (faults v.setup) (node_of v.ccy) c.in-Ok.sent.items c.in_ok-room.room (node_sends v c.handle.new.self c.args.event c.in-Ok.sent.items c.in-Ok.ensures.taken)
+    room_for (faults v.setup) (node_of v.ccy) c.in-Ok.sent.items c.in_ok-room.room
+    (node_sends v c.handle.new.self c.args.event c.in-Ok.sent.items c.in-Ok.ensures.taken)
     (subst (λ f. HasRoom (2 * f + 1) c.in_ok-room.room) (c.faults.ensures.faults ∙ ap faults c.setup.ensures.same) c.in_ok-room.ensures)
 
 pub copies-requires-clause-fixed : goal.copies-requires-clause-fixed

@@ -10,7 +10,8 @@ returns-in-Err-clause-step g c = λ x shows.
     let m = g.M.Machine in
     let k = g.C.BootCell in
     subst (λ came. Comes m x c.args.event came × Shows m k c.handle.new.self (after x c.args.event came)) (sym c.fell.ensures.answered)
-    (fell m k c.args.self.now c.handle.new.self x c.args.event shows c.handle.ensures.place c.in-Err.why c.in-Err.ensures.handles c.in_default.ensures c.boot.result c.boot.ensures)
+    (fell m k c.args.self.now c.handle.new.self x c.args.event shows c.handle.ensures.place c.in-Err.why c.in-Err.ensures.handles c.in_default.ensures
+    c.boot.result c.boot.ensures)
 
 pub returns-in-Ok-did-clause-step : goal.returns-in-Ok-did-clause-step
 returns-in-Ok-did-clause-step g c = λ x shows.
@@ -36,7 +37,8 @@ returns-in-Err-clause-told g c =
     let m = g.M.Machine in
     let k = g.C.BootCell in
     subst (Tells m k c.args.self.now c.handle.new.self c.args.event) (sym c.fell.ensures.answered)
-    (fell_by_cause m k c.args.self.now c.handle.new.self c.args.event c.in-Err.why (Err c.in-Err.why) refl c.handle.ensures.place c.in-Err.ensures.handles c.in_default.ensures c.in-Err.ensures.crash c.in-Err.ensures.cause c.in-Err.ensures.counted)
+    (fell_by_cause m k c.args.self.now c.handle.new.self c.args.event c.in-Err.why (Err c.in-Err.why) refl c.handle.ensures.place c.in-Err.ensures.handles
+    c.in_default.ensures c.in-Err.ensures.crash c.in-Err.ensures.cause c.in-Err.ensures.counted)
 
 pub returns-in-Ok-did-clause-told : goal.returns-in-Ok-did-clause-told
 returns-in-Ok-did-clause-told g c =

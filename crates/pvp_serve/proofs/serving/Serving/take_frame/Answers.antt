@@ -6,6 +6,8 @@ use Rattle.pvp_serve.proofs.serving.Serving.take_frame.Goals as goal
 
 pub returns-clause-near : goal.returns-clause-near
 returns-clause-near g c = λ near.
-    let same = ap (λ (e : PartyEvent). let i : Input PartyEvent = record { event = e; stamp = Some c.into_stamped-envelope.result.stamp } in i) c.deliver.ensures ∙ ap input_of c.into_stamped-envelope.ensures.is in
+    let same =
+    ap (λ (e : PartyEvent). let i : Input PartyEvent = record { event = e; stamp = Some c.into_stamped-envelope.result.stamp } in i) c.deliver.ensures
+    ∙ ap input_of c.into_stamped-envelope.ensures.is in
     let believed : c.counts-is_far.result ≡ false = c.counts-is_far.ensures.far ∙ rw c.into_stamped-envelope.ensures.is near in
     rw (same, c.counts-is_far.ensures.lost) at c.step_unless.ensures.takes believed

@@ -22,11 +22,13 @@ has_actor-delivery world e = by (id_of e.to)
     by (actor_id.Client k) = refl
 
 -- an envelope that was found makes the turn of its delivery
-delivered : (is_none : Bool) (found : Option Envelope) (e : Envelope) → Some e ≡ (if is_none then None else found) → (if is_none then None else option_map delivery found) ≡ Some (delivery e)
+delivered : (is_none : Bool) (found : Option Envelope) (e : Envelope) → Some e ≡ (if is_none then None else found)
+    → (if is_none then None else option_map delivery found) ≡ Some (delivery e)
 delivered true found e is = absurd (cc)
 delivered false found e is = ap (option_map delivery) (sym is)
 
-IsTurn-delivery : {B : Type 0} (world : Shown B) (number : ℕ) (e : Envelope) (is_there : Bool) → Some e ≡ (if number == 0 then None else slice_get world.post (number - 1)) → is_there ≡ has_number world e.to
+IsTurn-delivery : {B : Type 0} (world : Shown B) (number : ℕ) (e : Envelope) (is_there : Bool)
+    → Some e ≡ (if number == 0 then None else slice_get world.post (number - 1)) → is_there ≡ has_number world e.to
     → IsTurn world (Delivers number) is_there
 IsTurn-delivery world number e is_there is there = record {
   turn_is = delivery e;

@@ -13,40 +13,69 @@ fits len cap sent room few = omega arith
 pub put_in_room-requires : goal.put_in_room-requires
 put_in_room-requires g c =
     let w = c.self.inside in
-    let there = found w.clients.items c.args.client c.from.result c.index_mut.result.now c.from.ensures (subst (λ v. c.args.client < length v.clients) (sym c.self.view_is) c.requires.there) c.index_mut.ensures.value in
-    let is = subst (λ v. turn v.post c.args.step ≡ Some (OfClient c.args.client c.args.event)) (sym c.self.view_is) c.requires.turn ∙ ap (λ k. Some (OfClient k c.args.event)) (sym c.from.ensures) in
+    let there =
+    found w.clients.items c.args.client c.from.result c.index_mut.result.now c.from.ensures
+    (subst (λ v. c.args.client < length v.clients) (sym c.self.view_is) c.requires.there) c.index_mut.ensures.value in
+    let is =
+    subst (λ v. turn v.post c.args.step ≡ Some (OfClient c.args.client c.args.event)) (sym c.self.view_is) c.requires.turn
+    ∙ ap (λ k. Some (OfClient k c.args.event)) (sym c.from.ensures) in
     fits (vec_len c.make_room.new.post) (vec_capacity c.make_room.new.post) (length c.in-Ok-handle.sent.items) c.in-Ok.ensures.post_room
-    (client-fits g.C.BootCell.held w.setup w.opening.items w.sites.items w.nodes.items w.clients.items w.post.items w.trail.items c.self.invariant.1 c.args.step c.self.invariant.0 c.from.result c.args.event c.index_mut.result.now c.handle.new.self c.in-Ok-handle.sent.items there c.in-Ok-handle.ensures.taken)
+    (client-fits g.C.BootCell.held w.setup w.opening.items w.sites.items w.nodes.items w.clients.items w.post.items w.trail.items c.self.invariant.1 c.args.step
+    c.self.invariant.0 c.from.result c.args.event c.index_mut.result.now c.handle.new.self c.in-Ok-handle.sent.items there c.in-Ok-handle.ensures.taken)
 
 pub invariant_of-self-in-Ok-handle : goal.invariant_of-self-in-Ok-handle
 invariant_of-self-in-Ok-handle g c =
     let w = c.self.inside in
-    let there = found w.clients.items c.args.client c.from.result c.index_mut.result.now c.from.ensures (subst (λ v. c.args.client < length v.clients) (sym c.self.view_is) c.requires.there) c.index_mut.ensures.value in
-    let is = subst (λ v. turn v.post c.args.step ≡ Some (OfClient c.args.client c.args.event)) (sym c.self.view_is) c.requires.turn ∙ ap (λ k. Some (OfClient k c.args.event)) (sym c.from.ensures) in (
+    let there =
+    found w.clients.items c.args.client c.from.result c.index_mut.result.now c.from.ensures
+    (subst (λ v. c.args.client < length v.clients) (sym c.self.view_is) c.requires.there) c.index_mut.ensures.value in
+    let is =
+    subst (λ v. turn v.post c.args.step ≡ Some (OfClient c.args.client c.args.event)) (sym c.self.view_is) c.requires.turn
+    ∙ ap (λ k. Some (OfClient k c.args.event)) (sym c.from.ensures) in (
       c.self.invariant.0,
       moves-at g.C.BootCell.held w.setup w.opening.items w.sites.items w.nodes.items w.clients.items w.post.items w.trail.items _ _ _ _ _ (Takes c.args.step)
-          (client-taken g.C.BootCell.held w.setup w.opening.items w.sites.items w.nodes.items w.clients.items w.post.items w.trail.items c.self.invariant.1 c.args.step
-          c.from.result c.args.event c.index_mut.result.now c.handle.new.self c.in-Ok-handle.sent.items c.put_in_room.new.post.items c.note.new.trail.items c.put_in_room.result is there
-          c.in-Ok-handle.ensures.taken (c.put_in_room.ensures.posted ∙ ap (λ p. p ++ c.in-Ok-handle.sent.items) c.make_room.ensures.envelopes) (subst (λ p. IsReport p c.put_in_room.new.post.items None c.put_in_room.result) c.make_room.ensures.envelopes c.put_in_room.ensures.report) (c.note.ensures ∙ ap (λ t. t ++ Takes c.args.step ∷ []) c.make_room.ensures.moves)).moves,
+          (client-taken g.C.BootCell.held w.setup w.opening.items w.sites.items w.nodes.items w.clients.items w.post.items w.trail.items
+          c.self.invariant.1 c.args.step
+          c.from.result c.args.event c.index_mut.result.now c.handle.new.self c.in-Ok-handle.sent.items c.put_in_room.new.post.items c.note.new.trail.items
+          c.put_in_room.result is there
+          c.in-Ok-handle.ensures.taken (c.put_in_room.ensures.posted ∙ ap (λ p. p ++ c.in-Ok-handle.sent.items) c.make_room.ensures.envelopes)
+          (subst (λ p. IsReport p c.put_in_room.new.post.items None c.put_in_room.result) c.make_room.ensures.envelopes c.put_in_room.ensures.report)
+          (c.note.ensures ∙ ap (λ t. t ++ Takes c.args.step ∷ []) c.make_room.ensures.moves)).moves,
     )
 
 pub returns-in-Ok-handle-clause-applies : goal.returns-in-Ok-handle-clause-applies
 returns-in-Ok-handle-clause-applies g c =
     let w = c.self.inside in
-    let there = found w.clients.items c.args.client c.from.result c.index_mut.result.now c.from.ensures (subst (λ v. c.args.client < length v.clients) (sym c.self.view_is) c.requires.there) c.index_mut.ensures.value in
-    let is = subst (λ v. turn v.post c.args.step ≡ Some (OfClient c.args.client c.args.event)) (sym c.self.view_is) c.requires.turn ∙ ap (λ k. Some (OfClient k c.args.event)) (sym c.from.ensures) in
-    subst (λ v. IsTaken g.C.BootCell.held v (world_of w.setup w.opening.items w.sites.items w.nodes.items (slice_set w.clients.items c.from.result c.handle.new.self) c.put_in_room.new.post.items c.note.new.trail.items) c.args.step c.put_in_room.result) c.self.view_is
-    (client-taken g.C.BootCell.held w.setup w.opening.items w.sites.items w.nodes.items w.clients.items w.post.items w.trail.items c.self.invariant.1 c.args.step
-    c.from.result c.args.event c.index_mut.result.now c.handle.new.self c.in-Ok-handle.sent.items c.put_in_room.new.post.items c.note.new.trail.items c.put_in_room.result is there
-    c.in-Ok-handle.ensures.taken (c.put_in_room.ensures.posted ∙ ap (λ p. p ++ c.in-Ok-handle.sent.items) c.make_room.ensures.envelopes) (subst (λ p. IsReport p c.put_in_room.new.post.items None c.put_in_room.result) c.make_room.ensures.envelopes c.put_in_room.ensures.report) (c.note.ensures ∙ ap (λ t. t ++ Takes c.args.step ∷ []) c.make_room.ensures.moves))
+    let there =
+    found w.clients.items c.args.client c.from.result c.index_mut.result.now c.from.ensures
+    (subst (λ v. c.args.client < length v.clients) (sym c.self.view_is) c.requires.there) c.index_mut.ensures.value in
+    let is =
+    subst (λ v. turn v.post c.args.step ≡ Some (OfClient c.args.client c.args.event)) (sym c.self.view_is) c.requires.turn
+    ∙ ap (λ k. Some (OfClient k c.args.event)) (sym c.from.ensures) in
+    subst (λ v. IsTaken g.C.BootCell.held v (world_of w.setup w.opening.items w.sites.items w.nodes.items
+    (slice_set w.clients.items c.from.result c.handle.new.self) c.put_in_room.new.post.items c.note.new.trail.items) c.args.step c.put_in_room.result)
+    c.self.view_is
+    (client-taken g.C.BootCell.held w.setup w.opening.items w.sites.items w.nodes.items w.clients.items w.post.items w.trail.items
+    c.self.invariant.1 c.args.step
+    c.from.result c.args.event c.index_mut.result.now c.handle.new.self c.in-Ok-handle.sent.items c.put_in_room.new.post.items c.note.new.trail.items
+    c.put_in_room.result is there
+    c.in-Ok-handle.ensures.taken (c.put_in_room.ensures.posted ∙ ap (λ p. p ++ c.in-Ok-handle.sent.items) c.make_room.ensures.envelopes)
+    (subst (λ p. IsReport p c.put_in_room.new.post.items None c.put_in_room.result) c.make_room.ensures.envelopes c.put_in_room.ensures.report)
+    (c.note.ensures ∙ ap (λ t. t ++ Takes c.args.step ∷ []) c.make_room.ensures.moves))
 
 pub invariant_of-self-in-Err : goal.invariant_of-self-in-Err
 invariant_of-self-in-Err g c =
     let w = c.self.inside in
-    let there = found w.clients.items c.args.client c.from.result c.index_mut.result.now c.from.ensures (subst (λ v. c.args.client < length v.clients) (sym c.self.view_is) c.requires.there) c.index_mut.ensures.value in
-    let is = subst (λ v. turn v.post c.args.step ≡ Some (OfClient c.args.client c.args.event)) (sym c.self.view_is) c.requires.turn ∙ ap (λ k. Some (OfClient k c.args.event)) (sym c.from.ensures) in (
+    let there =
+    found w.clients.items c.args.client c.from.result c.index_mut.result.now c.from.ensures
+    (subst (λ v. c.args.client < length v.clients) (sym c.self.view_is) c.requires.there) c.index_mut.ensures.value in
+    let is =
+    subst (λ v. turn v.post c.args.step ≡ Some (OfClient c.args.client c.args.event)) (sym c.self.view_is) c.requires.turn
+    ∙ ap (λ k. Some (OfClient k c.args.event)) (sym c.from.ensures) in (
       c.self.invariant.0,
-      subst (λ v. IsAt g.C.BootCell.held v) (sym (client-stays g.C.BootCell.held w.setup w.opening.items w.sites.items w.nodes.items w.clients.items w.post.items w.trail.items c.self.invariant.1 c.args.step
+      subst (λ v. IsAt g.C.BootCell.held v)
+          (sym (client-stays g.C.BootCell.held w.setup w.opening.items w.sites.items w.nodes.items w.clients.items w.post.items w.trail.items
+          c.self.invariant.1 c.args.step
           c.from.result c.args.event c.index_mut.result.now c.handle.new.self c.make_room.new.post.items c.make_room.new.trail.items c.in-Err.fault there
           c.in-Err.ensures.refused c.make_room.ensures.envelopes c.make_room.ensures.moves)) c.self.invariant.1,
     )
@@ -54,10 +83,19 @@ invariant_of-self-in-Err g c =
 pub returns-in-Err-clause-applies : goal.returns-in-Err-clause-applies
 returns-in-Err-clause-applies g c =
     let w = c.self.inside in
-    let there = found w.clients.items c.args.client c.from.result c.index_mut.result.now c.from.ensures (subst (λ v. c.args.client < length v.clients) (sym c.self.view_is) c.requires.there) c.index_mut.ensures.value in
-    let is = subst (λ v. turn v.post c.args.step ≡ Some (OfClient c.args.client c.args.event)) (sym c.self.view_is) c.requires.turn ∙ ap (λ k. Some (OfClient k c.args.event)) (sym c.from.ensures) in
-    subst (λ told. IsRefused g.C.BootCell.held c.args.self.now (world_of w.setup w.opening.items w.sites.items w.nodes.items (slice_set w.clients.items c.from.result c.handle.new.self) c.make_room.new.post.items c.make_room.new.trail.items) c.args.step told) (sym c.told_as.ensures)
-    (subst (λ v. IsRefused g.C.BootCell.held v (world_of w.setup w.opening.items w.sites.items w.nodes.items (slice_set w.clients.items c.from.result c.handle.new.self) c.make_room.new.post.items c.make_room.new.trail.items) c.args.step (told_as c.in-Err.fault)) c.self.view_is
-    (client-refuses g.C.BootCell.held w.setup w.opening.items w.sites.items w.nodes.items w.clients.items w.post.items w.trail.items c.self.invariant.1 c.args.step
+    let there =
+    found w.clients.items c.args.client c.from.result c.index_mut.result.now c.from.ensures
+    (subst (λ v. c.args.client < length v.clients) (sym c.self.view_is) c.requires.there) c.index_mut.ensures.value in
+    let is =
+    subst (λ v. turn v.post c.args.step ≡ Some (OfClient c.args.client c.args.event)) (sym c.self.view_is) c.requires.turn
+    ∙ ap (λ k. Some (OfClient k c.args.event)) (sym c.from.ensures) in
+    subst (λ told. IsRefused g.C.BootCell.held c.args.self.now
+    (world_of w.setup w.opening.items w.sites.items w.nodes.items (slice_set w.clients.items c.from.result c.handle.new.self) c.make_room.new.post.items
+    c.make_room.new.trail.items) c.args.step told) (sym c.told_as.ensures)
+    (subst (λ v. IsRefused g.C.BootCell.held v (world_of w.setup w.opening.items w.sites.items w.nodes.items
+    (slice_set w.clients.items c.from.result c.handle.new.self) c.make_room.new.post.items c.make_room.new.trail.items) c.args.step
+    (told_as c.in-Err.fault)) c.self.view_is
+    (client-refuses g.C.BootCell.held w.setup w.opening.items w.sites.items w.nodes.items w.clients.items w.post.items w.trail.items
+    c.self.invariant.1 c.args.step
     c.from.result c.args.event c.index_mut.result.now c.handle.new.self c.make_room.new.post.items c.make_room.new.trail.items c.in-Err.fault is there
     c.in-Err.ensures.refused c.make_room.ensures.envelopes c.make_room.ensures.moves))

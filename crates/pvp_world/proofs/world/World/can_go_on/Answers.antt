@@ -13,4 +13,5 @@ returns-clause-exact g c =
 pub returns-clause-goes_on : goal.returns-clause-goes_on
 returns-clause-goes_on g c =
     subst (λ b. IsTrue b → GoesOn c.args.self.now) (sym c.has_needs.ensures)
-    (goes_on g.C.BootCell.held c.args.self.now (subst (λ v. IsAt g.C.BootCell.held v) c.self.view_is c.self.invariant.1) c.one_bank.ensures.right_choices c.progress.ensures)
+    (goes_on g.C.BootCell.held c.args.self.now (subst (λ v. IsAt g.C.BootCell.held v) c.self.view_is c.self.invariant.1)
+    c.one_bank.ensures.right_choices c.progress.ensures)

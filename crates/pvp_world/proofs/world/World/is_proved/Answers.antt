@@ -4,4 +4,6 @@ use Rattle.pvp_world.proofs.Proved.{proved}
 use Rattle.pvp_world.proofs.world.World.is_proved.Goals as goal
 
 pub returns : goal.returns
-returns g c = proved g.C.BootCell.held c.args.self.now (subst (λ v. IsAt g.C.BootCell.held v) c.self.view_is c.self.invariant.1) c.whole.ensures c.one_bank.ensures.right_choices
+returns g c =
+    proved g.C.BootCell.held c.args.self.now (subst (λ v. IsAt g.C.BootCell.held v) c.self.view_is c.self.invariant.1) c.whole.ensures
+    c.one_bank.ensures.right_choices

@@ -10,11 +10,13 @@ pub loop-node-preserved : goal.loop-node-preserved
 loop-node-preserved g c =
     let same = c.min-count.ensures in (
       omega (arith, same),
-      same ∙ one_more c.deref-node-items.result.now c.loop-node.node-index c.node-item.result c.loop-node.count c.unanswered.result 65536 c.loop-node-test.true c.node-item.is c.unanswered.ensures.count c.loop-node.invariant.1,
+      same ∙ one_more c.deref-node-items.result.now c.loop-node.node-index c.node-item.result c.loop-node.count c.unanswered.result 65536 c.loop-node-test.true
+          c.node-item.is c.unanswered.ensures.count c.loop-node.invariant.1,
     )
 
 pub returns : goal.returns
 returns g c =
     c.loop-node.invariant.1
-    ∙ (ap (λ (xs : List node.Shown). min (sum_by open_at xs) 65536) (take-whole c.deref-node-items.result.now c.loop-node.node-index c.loop-node-test.false ∙ c.deref-node-items.ensures.value)
+    ∙ (ap (λ (xs : List node.Shown). min (sum_by open_at xs) 65536)
+    (take-whole c.deref-node-items.result.now c.loop-node.node-index c.loop-node-test.false ∙ c.deref-node-items.ensures.value)
     ∙ ap (λ v. min (unanswered v) 65536) c.self.view_is)

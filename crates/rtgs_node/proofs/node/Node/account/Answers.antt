@@ -7,4 +7,5 @@ use Rattle.rtgs_node.proofs.node.Node.account.Goals as goal
 
 pub returns-clause-whole : goal.returns-clause-whole
 returns-clause-whole c =
-    subst (λ (s : Shown). all_accounts s.setup s.ccy s.node ≡ pos (all_deposits s.setup s.ccy)) c.self.view_is (kept-whole (shown c.self.inside) _ _ _ _ c.self.invariant)
+    subst (λ (s : Shown). all_accounts s.setup s.ccy s.node ≡ pos (all_deposits s.setup s.ccy)) c.self.view_is
+    (kept-whole (shown c.self.inside) _ _ _ _ c.self.invariant)

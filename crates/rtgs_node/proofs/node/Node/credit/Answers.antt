@@ -24,7 +24,8 @@ held a is member amt at value none read place =
 pub transfer-requires-clause-covered : goal.transfer-requires-clause-covered
 transfer-requires-clause-covered c =
     let none = subst (λ (s : Shown). Passes s c.args.member c.args.amt) (sym c.self.view_is) c.requires in
-    subst (λ (n : ℕ). c.args.amt ≤ n) (sym (held c.self.inside c.self.invariant c.args.member c.args.amt _ _ none c.index_mut.ensures.value c.from-place.ensures))
+    subst (λ (n : ℕ). c.args.amt ≤ n)
+    (sym (held c.self.inside c.self.invariant c.args.member c.args.amt _ _ none c.index_mut.ensures.value c.from-place.ensures))
     (paid_in-covered (shown c.self.inside) _ _ _ _ c.self.invariant (faults c.self.inside.setup) c.args.member c.args.amt none)
 
 pub transfer-requires-clause-fits : goal.transfer-requires-clause-fits

@@ -12,5 +12,6 @@ pub returns-in-Some-clause-err : goal.returns-in-Some-clause-err
 returns-in-Some-clause-err c =
     let low = ltb-true _ _ (sym c.in-Some.ensures.lookup.0) in
     let more = subst (λ l. c.args.answered < length l) c.deref.ensures.value low in
-    on_err c.to_sites.result (subst (λ (s : Shown). nat_lt 0 (length (notice_out (faults s.setup) s.ccy (record s.node { answered = c.args.answered }))) ≡ true) c.self.view_is
+    on_err c.to_sites.result (subst (λ (s : Shown). nat_lt 0 (length (notice_out (faults s.setup) s.ccy (record s.node { answered = c.args.answered }))) ≡ true)
+    c.self.view_is
     (notice-some (faults c.self.inside.setup) c.self.inside.ccy (record (shown c.self.inside).node { answered = c.args.answered }) more))

@@ -20,7 +20,8 @@ enough : (a : Inside) → IsHeld a → (amt : ℕ) → int_lt (account (shown a)
 enough a is amt covered = covers (came_in (shown a).node) (went_out (shown a).node) a.bank amt is.accounts.bank covered
 
 -- what the member's account holds
-held : (a : Inside) → IsHeld a → (order : PayOrder) (at value : ℕ) → Passes (shown a) order → value ≡ slice_index_or a.members.items (at - 1) value → at ≡ order.member
+held : (a : Inside) → IsHeld a → (order : PayOrder) (at value : ℕ) → Passes (shown a) order → value ≡ slice_index_or a.members.items (at - 1) value
+    → at ≡ order.member
     → value ≡ slice_index_or a.members.items (order.member - 1) 0
 held a is order at value none read place =
     let mine = order-known (shown a) _ _ _ _ is (faults a.setup) order none in
@@ -28,7 +29,8 @@ held a is order at value none read place =
 
 pub transfer-requires-clause-covered : goal.transfer-requires-clause-covered
 transfer-requires-clause-covered c =
-    enough c.self.inside c.self.invariant c.args.order.amt (subst (λ (s : Shown). int_lt (account s.node) (pos c.args.order.amt) ≡ false) (sym c.self.view_is) c.requires.covered)
+    enough c.self.inside c.self.invariant c.args.order.amt
+    (subst (λ (s : Shown). int_lt (account s.node) (pos c.args.order.amt) ≡ false) (sym c.self.view_is) c.requires.covered)
 
 pub transfer-requires-clause-fits : goal.transfer-requires-clause-fits
 transfer-requires-clause-fits c =
@@ -42,11 +44,14 @@ transfer-requires-clause-fits c =
 pub invariant_of-self-2 : goal.invariant_of-self-2
 invariant_of-self-2 c =
     let none = subst (λ (s : Shown). Passes s c.args.order) (sym c.self.view_is) c.requires.checked in
-    let covered = enough c.self.inside c.self.invariant c.args.order.amt (subst (λ (s : Shown). int_lt (account s.node) (pos c.args.order.amt) ≡ false) (sym c.self.view_is) c.requires.covered) in
+    let covered =
+    enough c.self.inside c.self.invariant c.args.order.amt
+    (subst (λ (s : Shown). int_lt (account s.node) (pos c.args.order.amt) ≡ false) (sym c.self.view_is) c.requires.covered) in
     let cmd = Paid c.self.inside.ccy c.args.order.out in
     let orders = c.put.ensures.items ∙ ap (λ l. l ++ c.args.order ∷ []) c.in_ok-make_room.ensures.payments in
     let notices = c.put-2.ensures.items ∙ ap (λ l. l ++ cmd ∷ []) c.in_ok-make_room.ensures.notices in
     let before = held c.self.inside c.self.invariant c.args.order _ _ none c.index_mut.ensures.value c.from-place.ensures in
     let more = c.transfer.ensures.to ∙ ap (λ n. n + c.args.order.amt) before in
     rw (orders, notices, c.transfer.ensures.from, more, c.from-place.ensures)
-    (IsKept-paid_out (shown c.self.inside) _ _ _ _ c.self.invariant (faults c.self.inside.setup) c.args.order none cmd c.know.new.known.keys c.in_ok-know.ensures.known covered)
+    (IsKept-paid_out (shown c.self.inside) _ _ _ _ c.self.invariant (faults c.self.inside.setup) c.args.order none cmd c.know.new.known.keys
+    c.in_ok-know.ensures.known covered)

@@ -15,7 +15,8 @@ invariant-loop-self g l =
       within : l.self.done ≤ max first.done (min l.upto (length first.log));
       ready : IsReady m l.self;
       kept : (start : g.row.M.Denot) → IsKept m start first → IsKept m start l.self;
-      answers : (start : g.row.M.Denot) → IsKept m start first → l.answers.items ≡ filter_map (answer_to m start first.log) (places_between first.done l.self.done);
+      answers : (start : g.row.M.Denot) → IsKept m start first
+          → l.answers.items ≡ filter_map (answer_to m start first.log) (places_between first.done l.self.done);
     }
 
 abbrev pub decreases-loop-self : goal.decreases-loop-self

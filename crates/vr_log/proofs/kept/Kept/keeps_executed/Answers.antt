@@ -12,8 +12,14 @@ returns-then-not-is_same_row-clause-same g c = λ f choose right.
     let at = c.loop-at.at in
     let row = c.row.result in
     let there : row ≡ get_or rows (at - base) row = sym (get_or_from_slice_get rows (at - base) row row c.row.ensures) in
-    begins_is choose.same right.same false done own (take base own ++ rows) c.requires.ready.within
-    ((λ e. absurd (true≢false (sym e))), (λ same. absurd (true≢false (sym (c.is_same_row.ensures.1 (one_there own rows base at done row c.row-in-loop-at.result c.requires.base (omega arith) (omega arith) there c.row-in-loop-at.ensures same)) ∙ c.if-not-is_same_row.true))))
+    begins_is choose.same right.same false done own (take base own ++ rows) c.requires.ready.within (
+      (λ e. absurd (true≢false (sym e))),
+      (λ same.
+          absurd
+          (true≢false
+          (sym (c.is_same_row.ensures.1 (one_there own rows base at done row c.row-in-loop-at.result c.requires.base (omega arith)
+          (omega arith) there c.row-in-loop-at.ensures same)) ∙ c.if-not-is_same_row.true))),
+    )
 
 pub loop-at-preserved : goal.loop-at-preserved
 loop-at-preserved g c =

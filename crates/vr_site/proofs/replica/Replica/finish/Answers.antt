@@ -13,5 +13,6 @@ returns-clause-handles g c = λ before event serves.
     let held = g.C.BootCell.held in
     let base = c.args.self.now in
     let view = c.self.view_is in
-    ran_on m g.C.BootCell base before c.args.running event _ c.in-Ok.out (ap (λ v. v.f) view, ap (λ v. v.me) view, ap (λ v. v.setup) view) refl (ap (λ v. v.cell) view)
+    ran_on m g.C.BootCell base before c.args.running event _ c.in-Ok.out (ap (λ v. v.f) view, ap (λ v. v.me) view, ap (λ v. v.setup) view)
+    refl (ap (λ v. v.cell) view)
     (subst (λ d. Serves m (m.start base.setup) base.f base.me (held base.cell) before c.args.running d event) c.in-Ok.is serves)

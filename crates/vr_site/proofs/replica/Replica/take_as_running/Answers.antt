@@ -13,7 +13,8 @@ finish-requires-clause-sound g c =
     let m = g.M.Machine in
     let now = c.args.self.now in
     on_ok_then c.serve-done.result _ _
-    (λ h. subst (λ v. IsSound m (m.start v.setup) v.f c.args.running → IsSound m (m.start v.setup) v.f c.serve-done.new.running) c.self.view_is (h (m.start c.self.inside.setup)) c.requires.sound)
+    (λ h. subst (λ v. IsSound m (m.start v.setup) v.f c.args.running → IsSound m (m.start v.setup) v.f c.serve-done.new.running) c.self.view_is
+    (h (m.start c.self.inside.setup)) c.requires.sound)
     c.serve-done.ensures.sound
 
 pub returns-clause-handles : goal.returns-clause-handles
@@ -29,7 +30,8 @@ returns-clause-handles g c =
       allowed = mine_is_taken now.f now.me (site_of r [] (held now.cell)) e (up_is_not_down r.status sound.up) c.requires.mine;
       follows = subst
           (λ v. (choose : Choice g.row.M-Cmd.Denot) (acks : List Ack) → IsRight v.f choose → IsRunning m (m.start v.setup) v.f r acks
-          → Follows m (m.start v.setup) v.f v.me c.serve-done.new.running c.serve-done.result (on_event choose v.f v.me (site_of r acks (held v.cell)) (Deliver e)))
+          → Follows m (m.start v.setup) v.f v.me c.serve-done.new.running c.serve-done.result
+          (on_event choose v.f v.me (site_of r acks (held v.cell)) (Deliver e)))
           c.self.view_is
           (λ choose acks right h. c.serve-done.ensures.step choose (m.start c.self.inside.setup) acks (held c.self.inside.cell) right h);
       saves = λ choose acks. (message_keeps now.f now.me (site_of r acks (held now.cell)) choose sound.up e.from e.msg).same;

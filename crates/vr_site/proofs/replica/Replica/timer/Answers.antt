@@ -19,8 +19,12 @@ returns-in-Recovering-clause-handles g c =
     let at = c.self.inside in
     let was : at.life ≡ Recovering c.in-Recovering.recovering = sym c.replace.ensures.value ∙ c.in-Recovering.is in
     let kept = c.in-Recovering.recovering in
-    subst (λ v. Handles m g.C.BootCell v c.proceed.new.self Timer c.proceed.result) (ap (shown at.config.f at.config.me at.setup at.cell) (sym was) ∙ c.self.view_is)
-    (c.proceed.ensures.handles kept Timer (record { allowed = refl; follows = λ choose acks right. timer_is at.config.f at.config.me kept acks (held at.cell) }))
+    subst (λ v. Handles m g.C.BootCell v c.proceed.new.self Timer c.proceed.result)
+    (ap (shown at.config.f at.config.me at.setup at.cell) (sym was) ∙ c.self.view_is)
+    (c.proceed.ensures.handles kept Timer (record {
+      allowed = refl;
+      follows = λ choose acks right. timer_is at.config.f at.config.me kept acks (held at.cell);
+    }))
 
 pub returns-then-running-clause-handles : goal.returns-then-running-clause-handles
 returns-then-running-clause-handles g c =

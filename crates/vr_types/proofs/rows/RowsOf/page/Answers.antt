@@ -31,5 +31,18 @@ pub returns-else-page-len-2 : goal.returns-else-page-len-2
 returns-else-page-len-2 g c =
     let pages = c.self.inside.full.items in
     let rest = c.self.inside.last.items in
-    let past : 64 * length pages + length rest ≤ 64 * c.args.page = elim c.else-page-len-2.branch [ else-page-len-2-via-then-page-len-2+else-not-is_empty w ↦ (let none : length rest ≡ 0 = grind (arith, nat_tests, w.if-not-is_empty.false, w.is_empty.ensures) in omega (arith, none, c.if-page-len.false, c.len.ensures)) | else-page-len-2-via-else-page-len-2 w ↦ omega (arith, c.if-page-len.false, c.len.ensures, w.if-page-len-2.false, c.len-else-page-len.ensures, c.self.invariant.last) ] in
+    let past : 64 * length pages + length rest ≤ 64 * c.args.page =
+    elim c.else-page-len-2.branch [
+      | else-page-len-2-via-then-page-len-2+else-not-is_empty w
+          ↦ (let none : length rest ≡ 0 = grind (arith, nat_tests, w.if-not-is_empty.false, w.is_empty.ensures) in
+          omega (arith, none, c.if-page-len.false, c.len.ensures))
+      | else-page-len-2-via-else-page-len-2 w ↦ omega (
+        arith,
+        c.if-page-len.false,
+        c.len.ensures,
+        w.if-page-len-2.false,
+        c.len-else-page-len.ensures,
+        c.self.invariant.last,
+      )
+    ] in
     sym (ap (λ rows. page_of rows c.args.page) (sym c.self.view_is) ∙ page_of-past on_page pages rest c.args.page c.self.invariant.full past)

@@ -18,12 +18,14 @@ returns-then-page-len g c =
     let page = c.args.at / 64 in
     let within = c.args.at % 64 in
     let there : page < length pages = omega (arith, c.if-page-len.true, c.len.ensures) in
-    let here : length (on_page c.index.result.now) ≡ 64 = ap (λ page. length (on_page page)) c.index.ensures ∙ full-page on_page pages page c.index.result.now c.self.invariant.full there in
+    let here : length (on_page c.index.result.now) ≡ 64 =
+    ap (λ page. length (on_page page)) c.index.ensures ∙ full-page on_page pages page c.index.result.now c.self.invariant.full there in
     ap (λ rows. slice_get rows c.args.at) (sym c.self.view_is)
     ∙ ap (slice_get _) (sym (div-add-mod c.args.at 64))
     ∙ row-on_page on_page pages last page within c.index.result.now c.self.invariant.full there (omega arith)
     ∙ ap (λ page. slice_get (on_page page) within) (sym c.index.ensures)
-    ∙ slice_get_read (on_page c.index.result.now) 64 within c.index-then-page-len.result.now (sym here) (omega arith) (c.index-then-page-len.ensures ∙ ap (λ (page : Vec _ Global). get_or page.items within c.index-then-page-len.result.now) c.deref-rows.ensures)
+    ∙ slice_get_read (on_page c.index.result.now) 64 within c.index-then-page-len.result.now (sym here) (omega arith)
+    (c.index-then-page-len.ensures ∙ ap (λ (page : Vec _ Global). get_or page.items within c.index-then-page-len.result.now) c.deref-rows.ensures)
 
 pub returns-else-page-len : goal.returns-else-page-len
 returns-else-page-len g c =

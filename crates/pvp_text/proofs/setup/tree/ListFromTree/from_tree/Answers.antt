@@ -11,7 +11,8 @@ returns-in_err-from_tree g c =
     let kind = g.T.FromTree.kind in
     let held : as_array (view c.args.tree.now) ≡ Some (items_view vs) = search rules in
     let p = err_from_is_err_and c.from_residual-in_err-from_tree.result c.from_residual-in_err-from_tree.ensures.1 in
-    rw (p.1, p.2, held) (ends c.in_err-from_tree.field-0.0 kind c.loop-item.list vs c.loop-item.item-index c.item-item.result c.loop-item-test.true c.item-item.is c.in_err-from_tree.ensures c.loop-item.invariant)
+    rw (p.1, p.2, held) (ends c.in_err-from_tree.field-0.0 kind c.loop-item.list vs c.loop-item.item-index c.item-item.result c.loop-item-test.true
+    c.item-item.is c.in_err-from_tree.ensures c.loop-item.invariant)
 
 pub returns-in_err-push : goal.returns-in_err-push
 returns-in_err-push g c =
@@ -19,13 +20,15 @@ returns-in_err-push g c =
     let kind = g.T.FromTree.kind in
     let held : as_array (view c.args.tree.now) ≡ Some (items_view vs) = search rules in
     let p = err_from_is_err_and c.from_residual-in_err-push.result c.from_residual-in_err-push.ensures.1 in
-    rw (p.1, p.2, held) (is_refused kind g.met.T.FromTree.steady c.loop-item.list vs c.loop-item.item-index c.item-item.result c.in_ok-from_tree.field-0 c.loop-item-test.true c.item-item.is c.in_ok-from_tree.ensures c.loop-item.invariant)
+    rw (p.1, p.2, held) (is_refused kind g.met.T.FromTree.steady c.loop-item.list vs c.loop-item.item-index c.item-item.result c.in_ok-from_tree.field-0
+    c.loop-item-test.true c.item-item.is c.in_ok-from_tree.ensures c.loop-item.invariant)
 
 pub loop-item-preserved : goal.loop-item-preserved
 loop-item-preserved g c =
     let vs = c.deref-item-items.result.now in
     let kind = g.T.FromTree.kind in
-    rw c.in_ok-push.ensures.ok (goes_on kind g.met.T.FromTree.steady c.loop-item.list vs c.loop-item.item-index c.item-item.result c.in_ok-from_tree.field-0 c.loop-item-test.true c.item-item.is c.in_ok-from_tree.ensures c.loop-item.invariant)
+    rw c.in_ok-push.ensures.ok (goes_on kind g.met.T.FromTree.steady c.loop-item.list vs c.loop-item.item-index c.item-item.result c.in_ok-from_tree.field-0
+    c.loop-item-test.true c.item-item.is c.in_ok-from_tree.ensures c.loop-item.invariant)
 
 pub returns : goal.returns
 returns g c =

@@ -12,7 +12,9 @@ returns-in_err-member-3 c =
     let d = view c.args.tree.now in
     let p = err_from_is_err_and c.from_residual-in_err-member-3.result c.from_residual-in_err-member-3.ensures.1 in
     rw (p.1, p.2) (at_third text_fault_is_memory c.in_err-member-3.field-0.0 c.in_ok-member.field-0 c.in_ok-member-2.field-0
-    (λ refused. member number (codes "sites") refused d) (λ refused. member (list currency) (codes "currencies") refused d) (λ refused. member (list bank_member) (codes "members") refused d)
+    (λ refused. member number (codes "sites") refused d)
+    (λ refused. member (list currency) (codes "currencies") refused d) (λ refused. member (list bank_member) (codes "members") refused d)
     (λ sites currencies members. record { sites = sites; currencies = currencies; members = members })
-    (steady-member number (codes "sites") steady-number d) c.in_ok-member.ensures (steady-member (list currency) (codes "currencies") (steady-list currency steady-currency) d) c.in_ok-member-2.ensures
+    (steady-member number (codes "sites") steady-number d) c.in_ok-member.ensures
+    (steady-member (list currency) (codes "currencies") (steady-list currency steady-currency) d) c.in_ok-member-2.ensures
     c.in_err-member-3.ensures)
