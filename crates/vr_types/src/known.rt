@@ -14,7 +14,7 @@ const PLACES: usize = MOST_SITES as usize;
 #[derive(Clone, Copy)]
 pub struct Known {
     boots: [u32; PLACES],
-    sites: usize,
+    sites: u16,
 }
 
 impl Model for Known {
@@ -59,7 +59,7 @@ impl Known {
     {
         Known {
             boots: [0; PLACES],
-            sites: usize::from(2 * f + 1),
+            sites: 2 * f + 1,
         }
     }
 
@@ -68,7 +68,7 @@ impl Known {
         ensures is { result ≡ length self.now }
         ensures most { result ≤ MOST_SITES }
     {
-        self.sites
+        usize::from(self.sites)
     }
 
     /// Whether it tells of no site.
@@ -89,7 +89,7 @@ impl Known {
     pub fn as_slice(&self) -> &[u32]
         ensures { result.now ≡ self.now }
     {
-        &self.boots[..self.sites]
+        &self.boots[..self.len()]
     }
 
     /// Tells of one site more.
@@ -97,7 +97,7 @@ impl Known {
         requires { length self.old < MOST_SITES }
         ensures { self.new ≡ self.old ++ boot ∷ [] }
     {
-        self.boots[self.sites] = boot;
+        self.boots[self.len()] = boot;
         self.sites += 1;
     }
 
