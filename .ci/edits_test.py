@@ -304,7 +304,7 @@ apart = 7
     "specs/Ways.antt": "infixl 10 ◌⊕◌\nabbrev pub ◌⊕◌ : ℕ → ℕ → ℕ\na ⊕ b = a + b\n",
     "src/lib.rt": """ghost use Rattle.far.specs.Counts.{doubled as twice};
 
-use crate::held::{spare, Holder as Keeper};
+use crate::held::{spare, Holder as Keeper, Veiled};
 
 pub mod held;
 
@@ -312,7 +312,7 @@ const LIMIT: [u8; 2] = [1, 2];
 
 const OTHER: u8 = 3;
 
-pub fn tried(keeper: &Keeper) -> u8
+pub fn tried(keeper: &Keeper, veiled: &Veiled) -> u8
     ensures { result ≡ twice 3 }
 {
     keeper.shown() + LIMIT[0]
@@ -327,6 +327,21 @@ pub struct Holder {
 }
 
 pub struct Lone;
+
+pub struct Veiled {
+    pub seen: Pair<u8, u8>,
+    veiled: u16,
+}
+
+impl Model for Veiled {
+    ghost Value = { ℕ };
+}
+
+pub fn look(veiled: &Veiled) -> u8
+    ensures { result ≡ 11 }
+{
+    11
+}
 
 impl Holder {
     pub fn shown(&self) -> u8
@@ -382,11 +397,12 @@ def wrong_reach(room):
     for file, text in FAR.items():
         write(f"{folder}/{file}", text)
     write(f"{folder}/wrong/it_shows_less.edit", "file: src/lib.rt\nold:     keeper.shown() + LIMIT[0]\nnew:     keeper.shown()\n")
+    write(f"{folder}/wrong/it_looks_away.edit", "file: src/held.rt\nold:     11\nnew:     12\n")
     crate = SimpleNamespace(name="far", folder=folder, below=lambda: [])
 
-    def key():
+    def key(name="it_shows_less"):
         reach.files_of.cache_clear()
-        return record.keys_of(crate, folder, edits_of(folder, functions_in(folder)))["far/it_shows_less.edit"]
+        return record.keys_of(crate, folder, edits_of(folder, functions_in(folder)))[f"far/{name}.edit"]
 
     before = key()
     for way, file, old, new, is_another in (
@@ -406,11 +422,17 @@ def wrong_reach(room):
         ("another constant", "src/lib.rt", "u8 = 3", "u8 = 4", False),
         ("a function that is imported and not called", "src/held.rt", "result ≡ 8", "8 ≡ result", False),
         ("a function over an array that is not called", "src/held.rt", "result ≡ 9", "9 ≡ result", False),
+        ("a public field of a type with a model", "src/held.rt", "Pair<u8, u8>", "Pair<u8, u16>", True),
+        ("a private field of a type with a model", "src/held.rt", "veiled: u16", "veiled: u32", False),
         ("what is no item", "src/held.rt", "made!(10)", "made!(11)", True),
     ):
         write(f"{folder}/{file}", FAR[file].replace(old, new))
         wrong += wrong_key(way, key() != before, is_another)
         write(f"{folder}/{file}", FAR[file])
+    before = key("it_looks_away")
+    write(f"{folder}/src/held.rt", FAR["src/held.rt"].replace("veiled: u16", "veiled: u32"))
+    wrong += wrong_key("a private field of a type with a model in its module", key("it_looks_away") != before, True)
+    write(f"{folder}/src/held.rt", FAR["src/held.rt"])
     write(f"{folder}/specs/Counts.antt", FAR["specs/Counts.antt"].replace("far.specs.Bases", "far.specs.Gone"))
     try:
         key()
