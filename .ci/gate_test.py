@@ -329,6 +329,7 @@ def sees_counts(seen):
             ("a code that is never printed", f"{room}/docs/operating.md", "| `fault E1` |", "| `fault E1`, E2 |", "the code E2 is in a table"),
             ("a file that the map lacks", f"{room}/docs/architecture.md", "`crates/headline/specs/Whole.antt`", "it", "its table lacks crates/headline/specs/Whole.antt"),
             ("a file that is not there", f"{room}/docs/architecture.md", "`crates/headline/specs/Whole.antt`", "`crates/headline/specs/Part.antt`", "which is not there"),
+            ("how long a clause may be", f"{room}/crates/pvp_world/src/world/falls.rt", "ensures headline {", f"ensures headline {{{' x →' * 25}", "falls.rt:"),
             ("a crate that the map lacks", f"{room}/crates.txt", "pvpsim:", "pvpsim_too:\npvpsim:", "it does not name the crate pvpsim_too"),
         ):
             was = without(path, old, new)
