@@ -3,15 +3,14 @@ use Rattle.std.specs.Prelude.{ℕ, List}
 use Rattle.pvp_rooms.specs.declared.cell.Closed.{Closed}
 use Rattle.pvp_audit.specs.declared.verdict.Why.{Why}
 use Rattle.pvp_audit.specs.declared.verdict.Why.TheVariants.{Stamped, Clock, Answered, End, Receipts, NoMemory}
-use Rattle.pvp_audit.specs.Together.{AreTogether}
-use Rattle.pvp_audit.specs.Verdicts.{IsAlone, FailsAlone, ReceiptsFail, ClockFails}
+use Rattle.pvp_audit.specs.Verdicts.{AreReceived, IsAlone, FailsAlone, ReceiptsFail, ClockFails}
 
 -- an actor alone fails a test at an event, and each before it passes both
 abbrev pub AloneNo : {A N E O : Type 0} → List (Closed A N E O) → ℕ → ℕ → Why → Type 0
 AloneNo closed actor event Receipts =
     FailsAlone IsAlone closed actor (λ c. ReceiptsFail c.history.items c.seats.items event)
 AloneNo closed actor event Clock =
-    FailsAlone IsAlone closed actor (λ c. AreTogether c.history.items c.seats.items × ClockFails c.history.items event)
+    FailsAlone IsAlone closed actor (λ c. AreReceived c.history.items c.seats.items × ClockFails c.history.items event)
 AloneNo closed actor event Stamped = ⊥
 AloneNo closed actor event Answered = ⊥
 AloneNo closed actor event End = ⊥

@@ -29,6 +29,14 @@ AreUsedUp seats at (event ∷ events) now =
 abbrev pub unused : {E O : Type 0} → List (Held E O) → List ℕ
 unused seats = replicate (length seats) 0
 
+-- The receipts of the seats, in each seat's order, are together the history: each event takes the next receipt of the
+-- lowest seat that has it there, and none is left over.
+pub record AreReceived {E O : Type 0} (history : List (Recorded E O)) (seats : List (Held E O)) : Type 0 where
+  pub together : AreTogether history seats
+  pub at : List ℕ
+  pub used : AreUsedUp seats (unused seats) history at
+  pub full : (k : ℕ) → k < length seats → slice_index at k ≡ length (receipts_of seats k)
+
 -- the event after the first `many` is no seat's next receipt
 pub record HasNoReceipt {E O : Type 0} (history : List (Recorded E O)) (seats : List (Held E O)) (many : ℕ)
     : Type 0 where
@@ -64,7 +72,7 @@ HasRisingClocks c = IsRising c.history.items 0
 
 -- the tests of an actor alone
 pub record IsAlone {A N E O : Type 0} (c : Closed A N E O) : Type 0 where
-  pub receipts : AreTogether c.history.items c.seats.items
+  pub receipts : AreReceived c.history.items c.seats.items
   pub clocks : HasRisingClocks c
 
 -- what holds of each actor before a place
@@ -146,7 +154,7 @@ pub record IsOneRun {A N E O L : Type 0} (m : Ghosts A N E O) (delivers : E → 
 -- like the replays.
 pub record IsSound {A N E O L : Type 0} (m : Ghosts A N E O) (delivers : E → Option L) (sent : O → List L)
     (is_for : A → E → Bool) (closed : List (Closed A N E O)) (start : ℕ → m.State) : Type 0 where
-  pub receipts : HoldOfAll closed (λ _ c. AreTogether c.history.items c.seats.items)
+  pub receipts : HoldOfAll closed (λ _ c. AreReceived c.history.items c.seats.items)
   pub run : IsOneRun m delivers sent is_for closed start
   pub ends : AreAlike m closed start (length closed)
 
@@ -155,7 +163,7 @@ abbrev pub MeansNo : {A N E O L : Type 0} → (m : Ghosts A N E O) → (E → Op
 MeansNo m delivers sent is_for closed start actor event Receipts =
     FailsAlone IsAlone closed actor (λ c. ReceiptsFail c.history.items c.seats.items event)
 MeansNo m delivers sent is_for closed start actor event Clock =
-    FailsAlone IsAlone closed actor (λ c. AreTogether c.history.items c.seats.items × ClockFails c.history.items event)
+    FailsAlone IsAlone closed actor (λ c. AreReceived c.history.items c.seats.items × ClockFails c.history.items event)
 MeansNo m delivers sent is_for closed start actor event Stamped =
     FailsMerged IsAlone closed actor (λ place. FailsAt m delivers sent is_for closed start place event
     (CannotArrive delivers sent is_for closed))
@@ -212,3 +220,8 @@ IsOfRun NoMemory = ⊥
 abbrev pub IsOfTest : Why → Type 0
 IsOfTest NoMemory = ⊥
 IsOfTest _ = Unit {0}
+
+-- a verdict of tests
+abbrev pub IsTested : Verdict → Type 0
+IsTested Yes = Unit {0}
+IsTested (No actor event why) = IsOfTest why

@@ -1,7 +1,7 @@
 ghost use Rattle.std.specs.Prelude.{◌≡◌, ◌≢◌, ℕ, ◌+◌, ◌<◌, ◌≤◌, ◌↔◌, IsTrue, IfOk, IfSome, IfNone, Option, Some, length, slice_get, slice_index, replicate};
 ghost use Rattle.pvp_rooms.specs.Seats.{Held};
-ghost use Rattle.pvp_audit.specs.Verdicts.{ReceiptsFail};
-ghost use Rattle.pvp_audit.specs.Together.{AreTogether, IsNext};
+ghost use Rattle.pvp_audit.specs.Verdicts.{AreReceived, ReceiptsFail};
+ghost use Rattle.pvp_audit.specs.Together.{IsNext};
 
 use crate::audited::Audited;
 use pvp_rooms::{Recorded, Seat};
@@ -15,7 +15,7 @@ pub fn unreceipted<A: Audited>(
     history: &[Recorded<A::Event, A::Outcome>],
     seats: &[Seat<A::Event, A::Outcome>],
 ) -> Result<Option<usize>, AllocError>
-    ensures none { IfOk result (λ found. IfNone found (AreTogether history.now seats.now)) }
+    ensures none { IfOk result (λ found. IfNone found (AreReceived history.now seats.now)) }
     ensures some { IfOk result (λ found.
         IfSome found (λ event. ReceiptsFail history.now seats.now event)) }
 {

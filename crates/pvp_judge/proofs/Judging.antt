@@ -19,7 +19,7 @@ module _ (closed : List Left) where
     pub passed_run : ClocksRise closed → IsProved held_by world → IsYesOfRun setup closed world
     passed_run clocks headline = record {
       run = λ start opens. record { clocks = clocks; legal = passed.legal start opens };
-      again = record { went = passed.went; replayed = passed.replayed; headline = headline };
+      of_run = record { went = passed.went; replayed = passed.replayed; headline = headline };
     }
 
     module _ (alone : HoldOfAll closed (λ _ c. IsAlone c)) where
@@ -30,7 +30,7 @@ module _ (closed : List Left) where
           run = record { clocks = λ j d is. (alone j d is).clocks; legal = passed.legal start opens };
           ends = λ j d is low. (passed.reads start opens j d is).1 (agree j d is);
         };
-        again = record { went = passed.went; replayed = passed.replayed; headline = headline };
+        of_run = record { went = passed.went; replayed = passed.replayed; headline = headline };
         ends = agree;
       }
 

@@ -19,7 +19,7 @@ use Rattle.pvp_audit.specs.declared.verdict.Verdict.{Verdict}
 use Rattle.pvp_audit.specs.declared.verdict.Verdict.TheVariants.{Yes as Passes, No as Fails}
 use Rattle.pvp_audit.specs.Runs.{AreOpenings}
 use Rattle.pvp_audit.specs.declared.verdict.Why.{Why}
-use Rattle.pvp_audit.specs.Verdicts.{Means, MeansRun}
+use Rattle.pvp_audit.specs.Verdicts.{Means, MeansRun, IsTested}
 use Rattle.pvp_parties.specs.Made.{memory}
 use Rattle.pvp_parties.specs.Parties.{Party}
 use Rattle.pvp_parties.specs.declared.party.PartyOf.TheVariants.{Site, Node, Client}
@@ -80,6 +80,19 @@ ShowsState world number (AtSite x) =
 ShowsState world number (AtNode x) = slice_get world.nodes (min (number - FIRST_NODE) 255) ≡ Some x
 ShowsState world number (AtClient x) = slice_get world.clients number ≡ Some x
 
+-- A VERDICT IS A FUNCTION OF WHAT IS TESTED: of the same actors, over the same states in which they opened, no two are
+-- right, but for one that memory was refused
+abbrev pub HasOneVerdict : List Left → Type 0
+HasOneVerdict closed =
+    (start : ℕ → PartyState) (a b : Verdict) → IsTested a → IsTested b → Means party delivers sent is_for closed start a
+    → Means party delivers sent is_for closed start b → a ≡ b
+
+-- and so of histories alone
+abbrev pub HasOneVerdictOfRun : List Left → Type 0
+HasOneVerdictOfRun closed =
+    (start : ℕ → PartyState) (a b : Verdict) → MeansRun party delivers sent is_for closed start a
+    → MeansRun party delivers sent is_for closed start b → a ≡ b
+
 -- THE WORLD'S ACTORS ARE WHERE THE HISTORIES LEAD, from where the actors opened, by right choices of the sites
 pub record AreReplayed (closed : List Left) (world : Shown MemCell) : Type 0 where
   pub start : ℕ → PartyState
@@ -87,9 +100,9 @@ pub record AreReplayed (closed : List Left) (world : Shown MemCell) : Type 0 whe
   pub shown : (k : ℕ) (c : Left) → slice_get closed k ≡ Some c
       → ShowsState world c.number (replay after c.history.items (start k))
 
--- THE RUN WAS TAKEN AGAIN: the world went through the merged list from a new one, over what the sites opened over; its
--- actors are where the histories lead; and the headline holds of it
-pub record IsTakenAgain (setup : Setup) (closed : List Left) (world : Shown MemCell) : Type 0 where
+-- THE RUN IS THIS WORLD'S: it went through the merged list from a new one, over what the sites opened over; its actors
+-- are where the histories lead; and the headline holds of it
+pub record IsWorldOfRun (setup : Setup) (closed : List Left) (world : Shown MemCell) : Type 0 where
   pub went : WentThrough setup (openings closed) closed world
   pub replayed : AreReplayed closed world
   pub headline : IsProved held_by world
@@ -107,20 +120,20 @@ ReadsWorld world number (Client p) =
 abbrev pub EndsAgree : List Left → Shown MemCell → Type 0
 EndsAgree closed world = (k : ℕ) (c : Left) → slice_get closed k ≡ Some c → ReadsWorld world c.number c.end
 
--- A YES: all tests pass; the run was taken again by this world; and each actor ended as the world's
+-- A YES: all tests pass; all events went through this world; and each actor ended as the world's
 pub record IsYes (setup : Setup) (closed : List Left) (world : Shown MemCell) : Type 0 where
   pub sound : AreSound closed
-  pub again : IsTakenAgain setup closed world
+  pub of_run : IsWorldOfRun setup closed world
   pub ends : EndsAgree closed world
 
 abbrev pub Judges : Setup → List Left → Judgement → Type 0
 Judges setup closed (Yes world) = IsYes setup closed world
 Judges setup closed (No actor event why) = IsRightVerdict closed (Fails actor event why)
 
--- A YES OF HISTORIES, whatever receipts and ends there are: they are one run, and it was taken again by this world
+-- A YES OF HISTORIES, whatever receipts and ends there are: they are one run, and this world's
 pub record IsYesOfRun (setup : Setup) (closed : List Left) (world : Shown MemCell) : Type 0 where
   pub run : AreOneRun closed
-  pub again : IsTakenAgain setup closed world
+  pub of_run : IsWorldOfRun setup closed world
 
 abbrev pub JudgesRun : Setup → List Left → Judgement → Type 0
 JudgesRun setup closed (Yes world) = IsYesOfRun setup closed world

@@ -5,6 +5,7 @@ mod asking;
 mod coming;
 mod fitting;
 pub mod judgement;
+pub mod laws;
 mod moves;
 mod numbers;
 mod pass;

@@ -1,4 +1,4 @@
-use Rattle.std.proofs.Common.{◌≡◌, ℕ, ◌<◌, ◌≤◌, ◌+◌, inl, inr, length, length-set, slice_index, arith, subst, sym, ap, refl, ◌∙◌}
+use Rattle.std.proofs.Common.{◌≡◌, ℕ, ◌<◌, ◌≤◌, ◌+◌, inl, inr, length, length-set, slice_index, take, arith, subst, sym, ap, refl, ◌∙◌}
 use Rattle.std.proofs.lemmas.List.{take_all}
 use Rattle.std.proofs.lemmas.Bool.{cases_order}
 use Rattle.std.proofs.lemmas.Option.{slice_get_read, get_or_from_slice_get}
@@ -86,6 +86,14 @@ returns-then-index-receipts-clause-some g c =
 pub returns-clause-none : goal.returns-clause-none
 returns-clause-none g c =
     let i = c.loop-done.invariant in
-    used_all c.args.history.now c.args.seats.now c.loop-done.at.items
-    (subst (λ l. AreUsed l c.args.seats.now c.loop-done.at.items) (take_all c.loop-done.done c.args.history.now (omega (arith, c.loop-done-test.false))) i.used)
-    (λ j h. c.loop-k.invariant j (omega (arith, h, c.loop-k-test.false)))
+    let history = c.args.history.now in
+    let at = c.loop-done.at.items in
+    let whole : take c.loop-done.done history ≡ history =
+    take_all c.loop-done.done history (omega (arith, c.loop-done-test.false)) in
+    let full = λ j h. c.loop-k.invariant j (omega (arith, h, c.loop-k-test.false)) in
+    record {
+      together = used_all history c.args.seats.now at (subst (λ l. AreUsed l c.args.seats.now at) whole i.used) full;
+      at = at;
+      used = subst (λ l. AreUsedUp c.args.seats.now (unused c.args.seats.now) l at) whole i.used_up;
+      full = full;
+    }

@@ -1,8 +1,7 @@
 use Rattle.std.proofs.Common.{◌+◌, IfSome, IfNone, length, refl, subst, arith}
 use Rattle.std.proofs.lemmas.Option.{slice_get_read, slice_get_within}
 use Rattle.pvp_rooms.specs.Histories.{IsRising}
-use Rattle.pvp_audit.specs.Together.{AreTogether}
-use Rattle.pvp_audit.specs.Verdicts.{IsAlone, ReceiptsFail, ClockFails}
+use Rattle.pvp_audit.specs.Verdicts.{AreReceived, IsAlone, ReceiptsFail, ClockFails}
 use Rattle.pvp_audit.proofs.Looks.{below_place}
 use Rattle.pvp_audit.proofs.verdict.first_alone.Goals as goal
 
@@ -39,9 +38,9 @@ returns-in-Err-rising-clause-some g c =
       is = record { is = is; number = refl };
       before = c.loop-k.invariant;
       fails = (
-        subst (λ h. AreTogether h one.seats.items) c.as_slice.ensures.value
-            (subst (λ s. AreTogether c.as_slice.result.now s) c.as_slice-in-loop-k.ensures.value
-            (subst (λ o. IfNone o (AreTogether c.as_slice.result.now c.as_slice-in-loop-k.result.now)) c.in-Ok-None.field-0-is c.in-Ok-None.ensures.none)),
+        subst (λ h. AreReceived h one.seats.items) c.as_slice.ensures.value
+            (subst (λ s. AreReceived c.as_slice.result.now s) c.as_slice-in-loop-k.ensures.value
+            (subst (λ o. IfNone o (AreReceived c.as_slice.result.now c.as_slice-in-loop-k.result.now)) c.in-Ok-None.field-0-is c.in-Ok-None.ensures.none)),
         subst (λ h. ClockFails h (c.in-Err-rising.at + 1)) c.as_slice-in-loop-k-2.ensures.value clock,
       );
     }
@@ -54,9 +53,9 @@ loop-k-preserved g c =
     let is = slice_get_read closed (length closed) k one refl c.loop-k-test.true c.index-closed-k.is in
     below_place (λ j d. IsAlone d) closed k one is c.loop-k.invariant (record {
       receipts =
-          subst (λ h. AreTogether h one.seats.items) c.as_slice.ensures.value
-          (subst (λ s. AreTogether c.as_slice.result.now s) c.as_slice-in-loop-k.ensures.value
-          (subst (λ o. IfNone o (AreTogether c.as_slice.result.now c.as_slice-in-loop-k.result.now)) c.in-Ok-None.field-0-is c.in-Ok-None.ensures.none));
+          subst (λ h. AreReceived h one.seats.items) c.as_slice.ensures.value
+          (subst (λ s. AreReceived c.as_slice.result.now s) c.as_slice-in-loop-k.ensures.value
+          (subst (λ o. IfNone o (AreReceived c.as_slice.result.now c.as_slice-in-loop-k.result.now)) c.in-Ok-None.field-0-is c.in-Ok-None.ensures.none));
       clocks = subst (λ h. IsRising h 0) c.as_slice-in-loop-k-2.ensures.value c.in_default.ensures.ok;
     })
 
