@@ -1,20 +1,18 @@
 -- At one event at most a merged list fails, by one test, and none of a legal one does.
-use Rattle.std.proofs.Common.{◌≡◌, ◌≢◌, ◌⊎◌, inl, inr, ℕ, zero, suc, ◌+◌, ◌<◌, ◌≤◌, ◌==◌, Bool, true, false, if◌then◌else◌, List, [], ◌∷◌, ◌++◌, length, take, Option, Some, None, slice_get, slice_index, refl, sym, ap, subst, ◌∙◌, arith, append-nil, length-append}
-use Rattle.std.proofs.lemmas.Bool.{cases_order, eqb-true, eqb-false, eq-eqb}
+use Rattle.std.proofs.Common.{◌≡◌, ◌⊎◌, inl, inr, ℕ, zero, suc, ◌+◌, ◌<◌, ◌≤◌, ◌==◌, Bool, true, false, if◌then◌else◌, List, [], ◌∷◌, ◌++◌, length, take, Option, Some, slice_get, slice_index, refl, sym, ap, subst, ◌∙◌, arith, append-nil, length-append}
+use Rattle.std.proofs.lemmas.Bool.{cases_order, eqb-true, eqb-false}
 use Rattle.std.proofs.lemmas.List.{take_all}
 use Rattle.std.proofs.lemmas.Option.{slice_get_within}
 use Rattle.pvp_rooms.specs.declared.message.Recorded.{Recorded}
 use Rattle.pvp_rooms.specs.declared.actor.Actor.{Ghosts}
 use Rattle.pvp_rooms.specs.declared.cell.Closed.{Closed}
-use Rattle.pvp_audit.specs.declared.verdict.Why.{Why}
-use Rattle.pvp_audit.specs.declared.verdict.Why.TheVariants.{Stamped, Clock, Answered, End, Receipts, NoMemory}
-use Rattle.pvp_audit.specs.Runs.{Tagged, own, history_in, history_of, number_in, number_at, AreInOrder, IsBefore, AreBefore, IsSorted, IsRun, IsLegal, IsReached, Arrives, CanCome}
-use Rattle.pvp_audit.specs.Verdicts.{ClocksRise, FailsAt, CannotArrive, CannotCome}
-use Rattle.pvp_audit.specs.Merging.{IsNextActor, HasFailed}
+use Rattle.pvp_audit.specs.Runs.{Tagged, own, history_in, history_of, AreInOrder, IsBefore, AreBefore, IsSorted, IsRun, IsLegal, IsReached, CanCome}
+use Rattle.pvp_audit.specs.Verdicts.{ClocksRise}
+use Rattle.pvp_audit.specs.Merging.{IsNextActor}
 use Rattle.pvp_audit.proofs.Together.{take_next}
 use Rattle.pvp_audit.proofs.Looks.{slice_get-first}
 use Rattle.pvp_audit.proofs.Order.{same_some, is_greater, is_after, is_after_own}
-use Rattle.pvp_audit.proofs.Endings.{own_in, before_in, never_both, ends_run}
+use Rattle.pvp_audit.proofs.Endings.{own_in, before_in, ends_run}
 
 -- LISTS
 

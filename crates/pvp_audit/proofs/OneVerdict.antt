@@ -1,5 +1,5 @@
 -- Of the same actors no two verdicts of tests are right.
-use Rattle.std.proofs.Common.{◌≡◌, ◌⊎◌, inl, inr, ℕ, ◌+◌, ◌<◌, Bool, List, length, Option, Some, slice_get, slice_index, refl, sym, ap, subst, ◌∙◌, arith}
+use Rattle.std.proofs.Common.{◌≡◌, ◌⊎◌, inl, inr, ℕ, ◌+◌, Bool, List, Option, slice_get, slice_index, refl, sym, ap, subst, ◌∙◌}
 use Rattle.std.proofs.lemmas.Bool.{cases_order}
 use Rattle.std.proofs.lemmas.Option.{slice_get_within}
 use Rattle.pvp_rooms.specs.declared.message.Recorded.{Recorded}
@@ -10,7 +10,7 @@ use Rattle.pvp_audit.specs.declared.verdict.Verdict.TheVariants.{Yes, No}
 use Rattle.pvp_audit.specs.declared.verdict.Why.{Why}
 use Rattle.pvp_audit.specs.declared.verdict.Why.TheVariants.{Stamped, Clock, Answered, End, Receipts, NoMemory}
 use Rattle.pvp_audit.specs.Runs.{Tagged, number_at, AreInOrder, IsLegal, Arrives, CanCome}
-use Rattle.pvp_audit.specs.Verdicts.{HoldOfAll, IsAlone, IsSound, IsOneRun, HasRisingClocks, ClocksRise, FailsAlone, FailsAt, FailsEnd, CannotArrive, CannotCome, ReceiptsFail, ClockFails, Means, MeansNo, MeansRun, MeansNoRun, IsOfTest, IsOfRun, IsTested}
+use Rattle.pvp_audit.specs.Verdicts.{HoldOfAll, IsAlone, IsSound, IsOneRun, HasRisingClocks, ClocksRise, FailsAlone, FailsAt, FailsEnd, CannotArrive, CannotCome, ClockFails, Means, MeansNo, MeansRun, MeansNoRun, IsOfTest, IsTested}
 use Rattle.pvp_audit.specs.Alone.{AloneNo}
 use Rattle.pvp_audit.specs.Merging.{HasFailed}
 use Rattle.pvp_audit.proofs.Order.{same_some}
@@ -108,7 +108,8 @@ module _ {A N E O L : Type 0} (m : Ghosts A N E O) (delivers : E → Option L) (
             | inr w ↦ elim w [
               | inl after
                   ↦ absurd
-                  (never_g (earlier_could m delivers sent is_for closed start order clocks q p g.who f.who g.is f.is g.what f.what g.past f.past g.at f.at g.next
+                  (never_g (earlier_could m delivers sent is_for closed start order clocks q p g.who f.who g.is f.is g.what f.what
+                  g.past f.past g.at f.at g.next
                   f.next g.reached f.reached after))
               | inr same ↦ together same.0 same.1 same.2
             ]
