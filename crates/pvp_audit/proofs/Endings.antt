@@ -1,47 +1,19 @@
 -- A merged list of some first events of each history ends any with more of them: what came in the one comes in the other.
-use Rattle.std.proofs.Common.{◌≡◌, ◌⊎◌, inl, inr, ℕ, zero, suc, ◌<◌, ◌≤◌, ◌==◌, Bool, true, false, nat_lt, if◌then◌else◌, List, [], ◌∷◌, ◌++◌, length, take, slice_get, Some, None, refl, sym, ap, subst, ◌∙◌, arith, append-nil}
+use Rattle.std.proofs.Common.{◌≡◌, ◌⊎◌, inl, inr, ℕ, zero, suc, ◌<◌, ◌≤◌, ◌==◌, Bool, true, false, nat_lt, if◌then◌else◌, List, [], ◌∷◌, ◌++◌, length, take, slice_get, Some, refl, sym, ap, subst, ◌∙◌, arith, append-nil}
 use Rattle.std.proofs.lemmas.Bool.{eqb-true, eq-eqb}
 use Rattle.std.proofs.lemmas.Bool.Decides.{nat_tests}
 use Rattle.std.proofs.lemmas.List.{take_all, take-append-le, append_cancel_right}
 use Rattle.pvp_rooms.specs.declared.message.Recorded.{Recorded}
 use Rattle.pvp_rooms.specs.declared.cell.Closed.{Closed}
 use Rattle.pvp_audit.specs.Runs.{Tagged, own, IsBefore, AreBefore, IsSorted}
+use Rattle.pvp_audit.proofs.Lists.{none_some, take_none, push_cases, push_last, push_keep, push_length}
 
 -- LISTS
-
-none-some : {X : Type 0} (x : X) → None ≡ Some x → ⊥
-none-some x e = cc
-
-some-same : {X : Type 0} (x y : X) → Some x ≡ Some y → x ≡ y
-some-same x y e = cc
-
-pub push_cases : {X : Type 0} (xs : List X) (y : X) (i : ℕ) (r : X) → slice_get (xs ++ y ∷ []) i ≡ Some r → (slice_get xs i ≡ Some r) ⊎ (y ≡ r)
-push_cases [] y zero r e = inr (some-same y r e)
-push_cases [] y (suc i) r e = absurd (none-some r e)
-push_cases (x ∷ xs) y zero r e = inl e
-push_cases (x ∷ xs) y (suc i) r e = push_cases xs y i r e
-
-pub push_last : {X : Type 0} (xs : List X) (y : X) → slice_get (xs ++ y ∷ []) (length xs) ≡ Some y
-push_last [] y = refl
-push_last (x ∷ xs) y = push_last xs y
-
-pub push_keep : {X : Type 0} (xs ys : List X) (i : ℕ) (r : X) → slice_get xs i ≡ Some r → slice_get (xs ++ ys) i ≡ Some r
-push_keep [] ys i r e = absurd (none-some r e)
-push_keep (x ∷ xs) ys zero r e = e
-push_keep (x ∷ xs) ys (suc i) r e = push_keep xs ys i r e
-
-pub push_length : {X : Type 0} (xs : List X) (y : X) → length (xs ++ y ∷ []) ≡ suc (length xs)
-push_length [] y = refl
-push_length (x ∷ xs) y = ap (λ n. suc n) (push_length xs y)
 
 there_is : {X : Type 0} (xs : List X) (i : ℕ) → i < length xs → (x : X) × (slice_get xs i ≡ Some x)
 there_is [] i low = absurd (omega arith)
 there_is (x ∷ xs) zero low = (x, refl)
 there_is (x ∷ xs) (suc i) low = there_is xs i (omega arith)
-
-take_none : {X : Type 0} (n : ℕ) → ◌≡◌ {A = List X} (take n []) []
-take_none zero = refl
-take_none (suc n) = refl
 
 module _ {A N E O : Type 0} (closed : List (Closed A N E O)) where
   -- EVENTS OF A RUN
@@ -56,7 +28,7 @@ module _ {A N E O : Type 0} (closed : List (Closed A N E O)) where
 
   -- what an actor took in a run is of the run
   pub own_in : (run : List (Tagged E O)) (k i : ℕ) (r : Recorded E O) → slice_get (own run k) i ≡ Some r → In run (record { by = k; what = r })
-  own_in [] k i r e = absurd (none-some r e)
+  own_in [] k i r e = absurd (none_some r e)
   own_in (t ∷ past) k i r e = go (own_in past k i r) (t.by == k) refl e
     where
       go : (slice_get (own past k) i ≡ Some r → In past (record { by = k; what = r })) → (b : Bool) → (t.by == k) ≡ b

@@ -12,17 +12,14 @@ use Rattle.pvp_audit.specs.Merging.{IsNextActor}
 use Rattle.pvp_audit.proofs.Together.{take_next}
 use Rattle.pvp_audit.proofs.Looks.{slice_get-first}
 use Rattle.pvp_audit.proofs.Order.{same_some, is_greater, is_after, is_after_own}
+use Rattle.pvp_audit.proofs.Lists.{take_none}
 use Rattle.pvp_audit.proofs.Endings.{own_in, before_in, ends_run}
 
 -- LISTS
 
-none_of : {X : Type 0} (n : ℕ) → ◌≡◌ {A = List X} (take n []) []
-none_of zero = refl
-none_of (suc n) = refl
-
 -- of the first so many the first so many others, where no item lies between
 take_within : {X : Type 0} (xs : List X) (n m : ℕ) → ((i : ℕ) (x : X) → i < n → slice_get xs i ≡ Some x → i < m) → take n xs ≡ take n (take m xs)
-take_within [] n m low = none_of n ∙ sym (ap (take n) (none_of m) ∙ none_of n)
+take_within [] n m low = take_none n ∙ sym (ap (take n) (take_none m) ∙ take_none n)
 take_within (x ∷ xs) zero m low = refl
 take_within (x ∷ xs) (suc n) zero low = let h = low 0 x (omega arith) refl in absurd (omega (arith, h))
 take_within (x ∷ xs) (suc n) (suc m) low =

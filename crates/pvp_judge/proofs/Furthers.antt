@@ -8,7 +8,7 @@ use Rattle.vr_types.specs.MemoryCell.{held_by}
 use Rattle.headline.proofs.Basics.{none-some, some-same}
 use Rattle.pvp_judge.specs.Judged.{Left, openings}
 use Rattle.pvp_judge.specs.Banked.{OpensInOrder, HasItsSites, AllAre}
-use Rattle.pvp_judge.proofs.Lists.{push_cases, push_last, push_length}
+use Rattle.pvp_audit.proofs.Lists.{push_cases, push_last, push_length}
 
 -- what one actor more opened over
 pub openings_next : (closed : List Left) (k : ℕ) (c : Left) → slice_get closed k ≡ Some c

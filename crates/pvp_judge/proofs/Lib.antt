@@ -2,8 +2,6 @@
 mod Telling
 -- what sites opened over, one actor further
 pub mod Furthers
--- lists with one item more
-mod Lists
 -- a bank that goes through the merged list beside the actors
 mod Agrees
 -- a world that goes through the merged list beside the actors
