@@ -90,7 +90,8 @@ returns-clause-none g c =
     let at = c.loop-done.at.items in
     let whole : take c.loop-done.done history ≡ history =
     take_all c.loop-done.done history (omega (arith, c.loop-done-test.false)) in
-    let full = λ j h. c.loop-k.invariant j (omega (arith, h, c.loop-k-test.false)) in
+    let full : (k : ℕ) → k < length c.args.seats.now → slice_index at k ≡ length (receipts_of c.args.seats.now k) =
+    λ j h. c.loop-k.invariant j (omega (arith, h, c.loop-k-test.false)) in
     record {
       together = used_all history c.args.seats.now at (subst (λ l. AreUsed l c.args.seats.now at) whole i.used) full;
       at = at;
