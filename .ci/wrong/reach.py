@@ -6,8 +6,8 @@ imports of definitions, and by all types, traits, constants, macros and free fun
 where the word is imported, stands behind `::`, or is of its own file. A method is reached by its name once its type is. A type reaches
 its blocks of the kit's traits and of those that one of the files reached has in scope, and a trait all that it asks. Of a struct that
 has a model, which is all that others know of it, the private fields are reached from the functions of its module and of those below
-it, and by definitions that import them. What no item has of a file of src/ is reached with each of its items. Where a name cannot be found in the file that an import names, all of that file is
-reached; an import of nothing stops all.
+it, and by definitions that import them. What no item has of a file of src/ is reached with each of its items. Where a name cannot be
+found in the file that an import names, all of that file is reached; an import of nothing stops all.
 """
 import functools
 import os
