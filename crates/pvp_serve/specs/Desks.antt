@@ -4,8 +4,6 @@ use Rattle.std.specs.Option.{option_map_or}
 use Rattle.vr_types.specs.Actors.{id_of, number_of}
 use Rattle.vr_types.specs.declared.actors.ActorId.{ActorId}
 use Rattle.vr_types.specs.declared.actors.ActorId.TheVariants.{Client, Node, Site}
-use Rattle.vr_types.specs.declared.event.Status.{Status}
-use Rattle.vr_types.specs.declared.event.Status.TheVariants.{Normal, Change, Recovering, Down}
 use Rattle.vr_types.specs.declared.message.MsgOf.{MsgOf}
 use Rattle.vr_types.specs.declared.message.MsgOf.TheVariants.{Prepare, Commit, StartView, NewState}
 use Rattle.pvp_types.specs.declared.setup.Setup.{Setup}
@@ -52,7 +50,6 @@ use Rattle.pvp_serve.specs.declared.desk.Told.TheVariants.{Nothing, Done, Refuse
 use Rattle.pvp_serve.specs.declared.desk.TheConstants.{TELLING_TICKS}
 use Rattle.pvp_serve.specs.declared.serving.Request.{Request}
 use Rattle.pvp_serve.specs.declared.serving.Standing.{Standing}
-use Rattle.pvp_serve.specs.declared.telling.Teller.{Teller}
 use Rattle.pvp_serve.specs.Patience.{up_to_most}
 use Rattle.pvp_serve.specs.Serving.{TakesIn, HasFlushed, IsRefused, has_orders_in, own_input, standing_in}
 
@@ -126,18 +123,6 @@ look_of has_orders sites me standing = record {
   done = standing.done;
   owes = has_orders || nat_lt standing.done standing.log;
 }
-
--- what a site of a bank has told that has told nothing
-abbrev pub fresh_teller : Setup → Teller
-fresh_teller setup =
-    record { setup = setup; stood = None; ended = None; away = 0; why = None; told = (0, 0); ticks = 0 }
-
--- the word for where a site stands
-abbrev pub status_word : Status → List ℕ
-status_word Normal = codes "normal"
-status_word Change = codes "change"
-status_word Recovering = codes "recovering"
-status_word Down = codes "down"
 
 -- A CLIENT WAITS for an answer, so that its terminal is asked for nothing more
 abbrev pub is_busy : Option Request → Bool → Bool

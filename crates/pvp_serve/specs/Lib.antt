@@ -3,4 +3,8 @@ pub mod Serving
 pub mod Doors
 pub mod Lanes
 pub mod Desks
+pub mod Terminals
+pub mod Sites
+pub mod Telling
+pub mod Attending
 pub mod Opening

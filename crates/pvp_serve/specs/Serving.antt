@@ -1,5 +1,5 @@
 -- What an actor that is served takes, and what leaves it.
-use Rattle.std.specs.Prelude.{◌≡◌, ◌≢◌, ◌⊎◌, ◌+◌, ◌-◌, ◌^◌, ◌&&◌, ◌||◌, Bool, false, not, min, nat_lt, ℕ, List, [], length, map, slice_get, Option, Some, None, IfSome, IsSome, is_some, Result, Ok, Err, if◌then◌else◌}
+use Rattle.std.specs.Prelude.{◌≡◌, ◌≢◌, ◌⊎◌, ◌+◌, ◌-◌, ◌^◌, ◌&&◌, ◌||◌, Bool, true, false, not, min, nat_lt, ℕ, List, [], length, map, slice_get, Option, Some, None, IfSome, IsSome, is_some, Result, Ok, Err, IfErr, IsOk, OnOk, if◌then◌else◌}
 use Rattle.std.specs.Global.{Vec}
 use Rattle.std.specs.List.{list_any}
 use Rattle.vr_types.specs.declared.cell.Boot.{Boot}
@@ -19,7 +19,6 @@ use Rattle.pvp_wire.specs.declared.stamped.Stamp.{Stamp}
 use Rattle.pvp_wire.specs.declared.stamped.Stamped.{Stamped}
 use Rattle.pvp_peers.specs.Puts.{Put}
 use Rattle.pvp_parties.specs.Parties.{delivered, sent}
-use Rattle.pvp_parties.specs.Alike.{SiteOf}
 use Rattle.pvp_parties.specs.declared.party.PartyOf.{PartyOf}
 use Rattle.pvp_parties.specs.declared.party.PartyOf.TheVariants as party
 use Rattle.pvp_parties.specs.declared.party.PartyEvent.{PartyEvent}
@@ -114,6 +113,15 @@ pub record TakesIn {N A E O L : Type 0} (m : Ghosts A N E O) (texts : ℕ → Te
   pub had : old ≡ Some before
   pub has : new ≡ Some after
   pub steps : Steps m texts seen input before after (Done clock)
+
+-- AN ENVELOPE COMES to the room, with its stamp: one of a clock that is not believed is lost, another is taken or
+-- refused
+pub record Comes {N A O L : Type 0} (m : Ghosts A N PartyEvent O) (texts : ℕ → Texts PartyEvent O)
+    (seen : L → Option (List ℕ)) (stamped : Stamped) (old new : Option (Held N A O L))
+    (result : Result (Unit {0}) ServeFault) : Type 0 where
+  pub far : is_far old stamped.stamp.clock ≡ true → IsOk result × (new ≡ old)
+  pub near : is_far old stamped.stamp.clock ≡ false → OnOk result (TakesIn m texts seen (input_of stamped) old new)
+  pub refused : IfErr result (λ fault. IsRefused (Some stamped.stamp) old new fault)
 
 -- THE BATCH IS WRITTEN: of each event in it this came, and its record stands in the log
 pub record HasFlushed {N A E O L : Type 0} (m : Ghosts A N E O) (texts : ℕ → Texts E O) (seen : L → Option (List ℕ))

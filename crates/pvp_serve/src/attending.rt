@@ -1,12 +1,18 @@
 //! What a loop does with what comes.
+ghost use Rattle.std.specs.Prelude.{◌≡◌};
+ghost use Rattle.pvp_logs.specs.Rooms.{bank_texts};
+ghost use Rattle.pvp_serve.specs.Attending.{DeskTakes};
 
 use crate::desk::TerminalDesk;
 use crate::host::Host;
 use crate::inbox::Inbox;
-use crate::opening::Process;
-use crate::serving::Standing;
+use crate::lanes::Lanes;
+use crate::serving::{Serving, Standing};
 use crate::site::SiteDesk;
+use pvp_logs::Log;
+use pvp_parties::PartyOf;
 use pvp_places::ServeFault;
+use pvp_rooms::Actor;
 use vr_types::BootCell;
 
 /// What decides of each item what becomes of it, by the kind of the actor.
@@ -19,12 +25,16 @@ pub enum Desk {
 
 impl Desk {
     /// Takes what came. `false` where the process is to end.
-    pub fn take<R: Host, C: BootCell>(
+    pub fn take<R: Host, C: BootCell, L: Log>(
         &mut self,
         rt: R,
-        serving: &mut Process<C>,
+        serving: &mut Serving<C, L, Lanes>,
         item: Inbox,
-    ) -> Result<bool, ServeFault> {
+    ) -> Result<bool, ServeFault>
+        ensures { DeskTakes ⟦<PartyOf<C> as Actor>⟧ bank_texts L.seen C.held serving.old.me
+            serving.old.out.all.items serving.old.unbelieved item self.old self.new
+            serving.old.room serving.new.room result }
+    {
         match self {
             Desk::Site(desk) => desk.take(rt, serving, item),
             Desk::Terminal(desk) => desk.take(rt, serving, item),

@@ -2,6 +2,7 @@
 ghost use Rattle.std.specs.Prelude.{
   ◌≡◌,
   ◌≢◌,
+  ◌⊎◌,
   true,
   ◌+◌,
   ◌++◌,
@@ -10,13 +11,22 @@ ghost use Rattle.std.specs.Prelude.{
   None,
   false,
   codes,
+  IfErr,
+  IfNone,
   IfOk,
+  IfSome,
   IsOk,
+  IsSome,
   IsTrue,
+  OnErr,
   OnOk,
 };
 ghost use Rattle.pvp_trace.specs.Names.{actor_text};
 ghost use Rattle.vr_types.specs.Actors.{id_of};
+ghost use Rattle.rtgs_node.specs.declared.event.NodeEvent.TheVariants as node_event;
+ghost use Rattle.headline.specs.declared.step.ClientEvent.TheVariants as client_event;
+ghost use Rattle.pvp_parties.specs.declared.party.PartyEvent.TheVariants.{OfClient, OfNode};
+ghost use Rattle.pvp_places.specs.declared.serving.ServeFault.TheVariants.{NoMemory};
 ghost use Rattle.pvp_serve.specs.Patience.{up_to_most};
 ghost use Rattle.pvp_logs.specs.Rooms.{bank_texts};
 ghost use Rattle.pvp_serve.specs.Desks.{
@@ -42,13 +52,33 @@ ghost use Rattle.pvp_serve.specs.Desks.{
   told_of,
   waits_told,
 };
+ghost use Rattle.pvp_serve.specs.Serving.{Comes, IsUnwritten, lost_with, request_in};
+ghost use Rattle.pvp_serve.specs.Terminals.{
+  AsksAll,
+  AsksUntil,
+  Beats,
+  Handles,
+  IsDone,
+  IsLineDone,
+  IsLineLost,
+  IsPutBehind,
+  IsTrouble,
+  IsUnbeaten,
+  IsUndone,
+  IsUnhandled,
+  IsUnsaid,
+  Pays,
+  TakesItem,
+  asked_next,
+  heard,
+};
 
 use crate::host::Host;
 use crate::inbox::Inbox;
 use crate::lanes::Lanes;
-use crate::opening::Process;
 use crate::serving::{Request, Serving};
 use headline::ClientEvent;
+use pvp_book::Book;
 use pvp_intake::Arrival;
 use pvp_logs::{Letter, Log};
 use pvp_parties::{PartyEvent, PartyOf, PartyOutcome};
@@ -60,7 +90,7 @@ use pvp_types::{Reply, Setup, Step};
 use rtgs_node::{NodeEvent, NodeFault};
 use std::alloc::{AllocError, Global};
 use std::collections::VecDeque;
-use vr_types::{ActorId, BootCell, MsgOf};
+use vr_types::{ActorId, BootCell, Envelope, MsgOf};
 
 /// At every which tick a client that waits says so.
 const TELLING_TICKS: u32 = 100;
@@ -131,17 +161,26 @@ impl TerminalDesk {
     }
 
     /// Takes an envelope. A client asks next the site that answered it; and a node may have something to say from now on.
-    fn take_frame<R: Host, C: BootCell>(
+    fn take_frame<R: Host, C: BootCell, L: Log>(
         &mut self,
         rt: R,
-        serving: &mut Process<C>,
+        serving: &mut Serving<C, L, Lanes>,
         arrival: Arrival,
-    ) -> Result<(), ServeFault> {
-        let site = arrival.peer();
-        let is_reply = matches!(arrival.stamped().envelope.msg, MsgOf::Reply(_));
-        if let (true, ActorId::Client(_)) = (is_reply, ActorId::of(serving.me())) {
-            serving.out_mut().favours(Some(site));
-        }
+    ) -> Result<(), ServeFault>
+        ensures comes { Comes ⟦<PartyOf<C> as Actor>⟧ bank_texts L.seen arrival.stamped
+            serving.old.room serving.new.room result }
+        ensures desk { self.new ≡ heard result (request_in serving.new.room) self.old }
+        ensures rest { serving.new ≡ record serving.old {
+          room = serving.new.room;
+          out = record serving.old.out {
+            favoured = asked_next (id_of serving.old.me) arrival.stamped.envelope
+                serving.old.out.favoured;
+          };
+          unbelieved = lost_with serving.old.room arrival.stamped.stamp.clock
+              serving.old.unbelieved;
+        } }
+    {
+        asks_next(serving, &arrival.stamped().envelope);
         serving.take_frame(rt.alloc(), arrival)?;
         self.hears(serving.request());
         Ok(())
@@ -177,19 +216,17 @@ impl TerminalDesk {
         rt: R,
         serving: &mut Serving<C, L, Lanes>,
     ) -> Result<(), ServeFault>
-        ensures idle { self.old.waits ≡ false →
-            IsOk result × (self.new ≡ self.old) × (serving.new ≡ serving.old) }
+        ensures beats { OnOk result (
+            Beats ⟦<PartyOf<C> as Actor>⟧ bank_texts L.seen (id_of serving.old.me)
+            (record { desk = self.old; room = serving.old.room })
+            (record { desk = self.new; room = serving.new.room })) }
+        ensures idle { self.old.waits ≡ false → IsOk result × (serving.new ≡ serving.old) }
         ensures early { IsTrue self.old.waits → is_node (id_of serving.old.me) ≡ false →
-            self.old.ticks ≡ 0 → IsOk result × (self.new ≡ record self.old { ticks = 1 })
-            × (serving.new ≡ serving.old) }
-        ensures node { IsTrue self.old.waits → is_node (id_of serving.old.me) ≡ true →
-            OnOk result (BeatsNode ⟦<PartyOf<C> as Actor>⟧ bank_texts L.seen
-            serving.old.room serving.new.room self.new.waits) }
-        ensures client { IsTrue self.old.waits → is_node (id_of serving.old.me) ≡ false →
-            self.old.ticks ≢ 0 → OnOk result (BeatsClient ⟦<PartyOf<C> as Actor>⟧ bank_texts L.seen
-            serving.old.room serving.new.room) }
-        ensures desk { self.new
-            ≡ record self.old { waits = self.new.waits; ticks = self.new.ticks } }
+            self.old.ticks ≡ 0 → IsOk result × (serving.new ≡ serving.old) }
+        ensures refused { IfErr result (λ fault.
+            IsUnbeaten ⟦<PartyOf<C> as Actor>⟧ bank_texts L.seen
+            (id_of serving.old.me) serving.old.room serving.new.room fault) }
+        ensures me { serving.new.me ≡ serving.old.me }
     {
         if !self.waits {
             return Ok(());
@@ -213,7 +250,10 @@ impl TerminalDesk {
     ) -> Result<(), ServeFault>
         ensures beats { OnOk result (BeatsNode ⟦<PartyOf<C> as Actor>⟧ bank_texts L.seen
             serving.old.room serving.new.room self.new.waits) }
+        ensures refused { IfErr result (λ fault. IsUndone ⟦<PartyOf<C> as Actor>⟧ bank_texts L.seen
+            (OfNode node_event.Beats) serving.old.room serving.new.room fault) }
         ensures desk { self.new ≡ record self.old { waits = self.new.waits } }
+        ensures me { serving.new.me ≡ serving.old.me }
     {
         serving.take_event(rt.alloc(), PartyEvent::OfNode(NodeEvent::Beats))?;
         let letters = serving.flush(&rt, rt.alloc(), false)?;
@@ -230,7 +270,13 @@ impl TerminalDesk {
         ensures beats { OnOk result (BeatsClient ⟦<PartyOf<C> as Actor>⟧ bank_texts L.seen
             serving.old.room serving.new.room) }
         ensures to_all { OnOk result (serving.new.out.favoured ≡ None) }
-        ensures desk { self.new ≡ record self.old { ticks = self.new.ticks } }
+        ensures refused { IfErr result (λ fault.
+            IsUnsaid ⟦<PartyOf<C> as Actor>⟧ bank_texts L.seen (OfClient client_event.Beats)
+            serving.old.room serving.new.room fault) }
+        ensures desk { OnOk result (self.new
+            ≡ record self.old { ticks = next_wait self.old.ticks }) }
+        ensures stays { OnErr result (self.new ≡ self.old) }
+        ensures me { serving.new.me ≡ serving.old.me }
     {
         let _letters = serving.flush(&rt, rt.alloc(), false)?;
         serving.out_mut().favours(None);
@@ -269,21 +315,42 @@ impl TerminalDesk {
     }
 
     /// Asks for what is next, one at a time.
-    fn ask<R: Host, C: BootCell>(
+    fn ask<R: Host, C: BootCell, L: Log>(
         &mut self,
         rt: R,
-        serving: &mut Process<C>,
-    ) -> Result<(), ServeFault> {
-        for _ in 0..u32::MAX {
-            if self.is_busy(serving.request()) {
-                break;
-            }
-            let Some(asked) = self.lines.pop_front() else {
+        serving: &mut Serving<C, L, Lanes>,
+    ) -> Result<(), ServeFault>
+        ensures asks { OnOk result (
+            AsksAll ⟦<PartyOf<C> as Actor>⟧ bank_texts L.seen serving.old.me
+            (record { desk = self.old; room = serving.old.room })
+            (record { desk = self.new; room = serving.new.room })) }
+        ensures refused { IfErr result (λ fault.
+            AsksUntil ⟦<PartyOf<C> as Actor>⟧ bank_texts L.seen serving.old.me
+            (record { desk = self.old; room = serving.old.room })
+            (record { desk = self.new; room = serving.new.room }) fault) }
+        ensures me { serving.new.me ≡ serving.old.me }
+    {
+        for _ in 0..self.lines.len() {
+            let Some(asked) = self.next_line(serving.request()) else {
                 break;
             };
             self.ask_one(rt, serving, &asked)?;
         }
         Ok(())
+    }
+
+    /// The line that is next; `None` where an answer is awaited or no line waits.
+    fn next_line(&mut self, request: Option<Request>) -> Option<Asked>
+        ensures next { IfSome result (λ asked. (is_busy request self.old.waits ≡ false)
+            × (self.old.lines.items ≡ asked ∷ self.new.lines.items)) }
+        ensures none { IfNone result ((self.new ≡ self.old)
+            × ((is_busy request self.old.waits ≡ true) ⊎ (self.old.lines.items ≡ []))) }
+        ensures rest { self.new ≡ record self.old { lines = self.new.lines } }
+    {
+        if self.is_busy(request) || self.lines.is_empty() {
+            return None;
+        }
+        self.lines.pop_front()
     }
 
     /// Whether a client waits for an answer.
@@ -294,14 +361,28 @@ impl TerminalDesk {
     }
 
     /// Does what a line asks for, or tells what is wrong with it.
-    fn ask_one<R: Host, C: BootCell>(
+    fn ask_one<R: Host, C: BootCell, L: Log>(
         &mut self,
         rt: R,
-        serving: &mut Process<C>,
+        serving: &mut Serving<C, L, Lanes>,
         asked: &Asked,
-    ) -> Result<(), ServeFault> {
+    ) -> Result<(), ServeFault>
+        ensures done { OnOk result (
+            IsLineDone ⟦<PartyOf<C> as Actor>⟧ bank_texts L.seen
+            (event_of self.old.setup serving.old.me asked.now.text.items)
+            serving.old.room serving.new.room self.old self.new) }
+        ensures refused { IfErr result (λ fault.
+            IsLineLost ⟦<PartyOf<C> as Actor>⟧ bank_texts L.seen
+            (event_of self.old.setup serving.old.me asked.now.text.items)
+            serving.old.room serving.new.room fault) }
+        ensures stays { OnErr result (self.new ≡ self.old) }
+        ensures me { serving.new.me ≡ serving.old.me }
+    {
         let alloc = rt.alloc();
-        match event_of(alloc, &self.setup, serving.me(), asked.text.as_slice())? {
+        let Ok(read) = event_of(alloc, &self.setup, serving.me(), asked.text.as_slice()) else {
+            return Err(ServeFault::NoMemory);
+        };
+        match read {
             Ok(None) => Ok(()),
             Ok(Some(event)) => self.do_asked(rt, serving, event),
             Err(code) => {
@@ -313,12 +394,21 @@ impl TerminalDesk {
     }
 
     /// Does what was asked for, and tells how it came out.
-    fn do_asked<R: Host, C: BootCell>(
+    fn do_asked<R: Host, C: BootCell, L: Log>(
         &mut self,
         rt: R,
-        serving: &mut Process<C>,
+        serving: &mut Serving<C, L, Lanes>,
         event: PartyEvent,
-    ) -> Result<(), ServeFault> {
+    ) -> Result<(), ServeFault>
+        ensures done { OnOk result (
+            IsDone ⟦<PartyOf<C> as Actor>⟧ bank_texts L.seen event
+            serving.old.room serving.new.room self.old self.new) }
+        ensures refused { IfErr result (λ fault.
+            IsUndone ⟦<PartyOf<C> as Actor>⟧ bank_texts L.seen event
+            serving.old.room serving.new.room fault) }
+        ensures stays { OnErr result (self.new ≡ self.old) }
+        ensures me { serving.new.me ≡ serving.old.me }
+    {
         serving.take_event(rt.alloc(), event)?;
         let letters = serving.flush(&rt, rt.alloc(), true)?;
         self.tell_answer(rt);
@@ -347,13 +437,20 @@ impl TerminalDesk {
     }
 
     /// Takes what came.
-    fn handle<R: Host, C: BootCell>(
+    fn handle<R: Host, C: BootCell, L: Log>(
         &mut self,
         rt: R,
-        serving: &mut Process<C>,
+        serving: &mut Serving<C, L, Lanes>,
         item: Inbox,
     ) -> Result<(), ServeFault>
-        ensures room { comes_to_actor item ≡ false → serving.new.room ≡ serving.old.room }
+        ensures handles { OnOk result (
+            Handles ⟦<PartyOf<C> as Actor>⟧ bank_texts L.seen serving.old.me item
+            (record { desk = self.old; room = serving.old.room })
+            (record { desk = self.new; room = serving.new.room })) }
+        ensures refused { IfErr result (λ fault.
+            IsUnhandled ⟦<PartyOf<C> as Actor>⟧ bank_texts L.seen serving.old.me item
+            serving.old.room serving.new.room fault) }
+        ensures me { serving.new.me ≡ serving.old.me }
         ensures streams { comes_to_actor item ≡ false → OnOk result (serving.new.out.all.items
             ≡ lanes_after item serving.old.out.all.items) }
     {
@@ -380,27 +477,34 @@ impl TerminalDesk {
 
     /// A line came, which waits for its turn.
     fn take_line(&mut self, text: Vec<u8>) -> Result<(), ServeFault>
-        ensures waits { OnOk result (self.new.lines.items ≡ self.old.lines.items
-            ++ (record { number = up_to_most (self.old.number + 1); text = text }) ∷ []) }
-        ensures rest { self.new ≡ record self.old {
-          lines = self.new.lines;
-          number = up_to_most (self.old.number + 1);
-        } }
+        ensures waits { OnOk result (IsPutBehind text self.old self.new) }
+        ensures refused { IfErr result (λ fault. fault ≡ NoMemory) }
     {
         self.number = self.number.saturating_add(1);
-        self.lines.push_back(Asked {
+        let asked = Asked {
             number: self.number,
             text,
-        })?;
-        Ok(())
+        };
+        match self.lines.push_back(asked) {
+            Ok(()) => Ok(()),
+            Err(_) => Err(ServeFault::NoMemory),
+        }
     }
 
     /// Tells the answer that is owed, once all that was taken is in the journal.
-    fn pay_answer<R: Host, C: BootCell>(
+    fn pay_answer<R: Host, C: BootCell, L: Log>(
         &mut self,
         rt: R,
-        serving: &mut Process<C>,
-    ) -> Result<(), ServeFault> {
+        serving: &mut Serving<C, L, Lanes>,
+    ) -> Result<(), ServeFault>
+        ensures pays { OnOk result (
+            Pays ⟦<PartyOf<C> as Actor>⟧ bank_texts L.seen self.old.owes
+            (record { desk = self.old; room = serving.old.room })
+            (record { desk = self.new; room = serving.new.room })) }
+        ensures refused { IfErr result (λ fault. IsSome self.old.owes
+            × IsUnwritten serving.old.room fault × (serving.new.room ≡ None)) }
+        ensures me { serving.new.me ≡ serving.old.me }
+    {
         if self.owes.is_some() {
             let _letters = serving.flush(&rt, rt.alloc(), true)?;
             self.tell_answer(rt);
@@ -409,16 +513,41 @@ impl TerminalDesk {
     }
 
     /// Takes what came. `false` where the process is to end.
-    pub fn take<R: Host, C: BootCell>(
+    pub fn take<R: Host, C: BootCell, L: Log>(
         &mut self,
         rt: R,
-        serving: &mut Process<C>,
+        serving: &mut Serving<C, L, Lanes>,
         item: Inbox,
-    ) -> Result<bool, ServeFault> {
+    ) -> Result<bool, ServeFault>
+        ensures takes { IfOk result (λ goes_on.
+            TakesItem ⟦<PartyOf<C> as Actor>⟧ bank_texts L.seen serving.old.me item
+            (record { desk = self.old; room = serving.old.room })
+            (record { desk = self.new; room = serving.new.room }) goes_on) }
+        ensures refused { IfErr result (λ fault.
+            IsTrouble ⟦<PartyOf<C> as Actor>⟧ bank_texts L.seen serving.old.me item
+            (record { desk = self.old; room = serving.old.room }) serving.new.room fault) }
+        ensures me { serving.new.me ≡ serving.old.me }
+    {
         self.handle(rt, serving, item)?;
         self.ask(rt, serving)?;
         self.pay_answer(rt, serving)?;
         Ok(!self.is_done(serving.request()))
+    }
+}
+
+/// A client asks next the site that answered it, and that alone.
+fn asks_next<C: BootCell, L: Log>(serving: &mut Serving<C, L, Lanes>, envelope: &Envelope<Book>)
+    ensures { serving.new ≡ record serving.old {
+      out = record serving.old.out {
+        favoured = asked_next (id_of serving.old.me) envelope.now serving.old.out.favoured;
+      };
+    } }
+{
+    let ActorId::Client(_) = ActorId::of(serving.me()) else {
+        return;
+    };
+    if let MsgOf::Reply(_) = &envelope.msg {
+        serving.out_mut().favours(Some(envelope.from));
     }
 }
 

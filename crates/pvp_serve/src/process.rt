@@ -50,6 +50,22 @@ struct Bank {
     ghost valid: { IsValid setup },
 }
 
+/// Which actor a process serves: of which bank, and how it was ordered to.
+#[derive(Clone, Copy)]
+struct Duty<'a, 'o> {
+    order: &'a Order<'o>,
+    bank: &'a Bank,
+    me: u16,
+}
+
+/// Where what comes to a site comes from, beside the sites that it dials.
+#[derive(Drop)]
+struct Sources<L> {
+    terminal: L,
+    keys: Option<Keys>,
+    listener: TcpListener,
+}
+
 /// Serves one actor of a bank until its terminal ends, or a fault.
 pub fn serve<R: Host, L: BufRead + Drop + Send + 'static>(
     rt: R,
@@ -79,9 +95,10 @@ fn serve_bank<R: Host, L: BufRead + Drop + Send + 'static>(
     let me = actor_of(&bank.setup, order.who)?;
     let keys = keys_of(rt, &bank.setup, order.keys)?;
     let _lock = take_folder(rt, order.data)?;
+    let duty = Duty { order, bank, me };
     match ActorId::of(me) {
-        ActorId::Site(site) => serve_site(rt, terminal, order, bank, keys, me, site),
-        _ => serve_other(rt, terminal, order, bank, keys, me),
+        ActorId::Site(site) => serve_site(rt, duty, site, terminal, keys),
+        _ => serve_other(rt, duty, terminal, keys),
     }
 }
 
@@ -127,16 +144,19 @@ fn keys_of<R: Host>(rt: R, setup: &Setup, name: Option<&str>) -> Result<Option<K
 /// Serves a site.
 fn serve_site<R: Host, L: BufRead + Drop + Send + 'static>(
     rt: R,
-    terminal: L,
-    order: &Order<'_>,
-    bank: &Bank,
-    keys: Option<Keys>,
-    me: u16,
+    duty: Duty<'_, '_>,
     site: u16,
+    terminal: L,
+    keys: Option<Keys>,
 ) -> Result<(), ServeFault> {
-    let listener = listener_of(rt, order, &bank.peers, site)?;
-    match site_of(rt, order, bank, me, site) {
-        Ok(serving) => keep_site(rt, terminal, order, bank, keys, me, site, listener, serving),
+    let listener = listener_of(rt, duty.order, &duty.bank.peers, site)?;
+    let sources = Sources {
+        terminal,
+        keys,
+        listener,
+    };
+    match site_of(rt, duty, site) {
+        Ok(serving) => keep_site(rt, duty, site, sources, serving),
         Err(fault) => Err(fault),
     }
 }
@@ -144,42 +164,25 @@ fn serve_site<R: Host, L: BufRead + Drop + Send + 'static>(
 /// Serves a site that was opened.
 fn keep_site<R: Host, L: BufRead + Drop + Send + 'static, C: BootCell>(
     rt: R,
-    terminal: L,
-    order: &Order<'_>,
-    bank: &Bank,
-    keys: Option<Keys>,
-    me: u16,
+    duty: Duty<'_, '_>,
     site: u16,
-    listener: TcpListener,
+    sources: Sources<L>,
     serving: Process<C>,
 ) -> Result<(), ServeFault> {
     let mut serving = serving;
-    host_site(
-        rt,
-        terminal,
-        order,
-        bank,
-        keys,
-        me,
-        site,
-        listener,
-        &mut serving,
-    )
+    host_site(rt, duty, site, sources, &mut serving)
 }
 
 /// Opens the streams of a site, and attends to it until it is done.
 fn host_site<R: Host, L: BufRead + Drop + Send + 'static, C: BootCell>(
     rt: R,
-    terminal: L,
-    order: &Order<'_>,
-    bank: &Bank,
-    keys: Option<Keys>,
-    me: u16,
+    duty: Duty<'_, '_>,
     site: u16,
-    listener: TcpListener,
+    sources: Sources<L>,
     serving: &mut Process<C>,
 ) -> Result<(), ServeFault> {
-    let inbox = open_streams(rt, terminal, order, bank, keys, me, site, listener)?;
+    let inbox = open_streams(rt, duty, site, sources)?;
+    let Duty { order, bank, .. } = duty;
     let sites = 2 * bank.setup.faults() + 1;
     let desk = SiteDesk::new(bank.setup.copy()?, sites, order.patience, order.stays);
     let mut desk = Desk::Site(desk);
@@ -189,22 +192,17 @@ fn host_site<R: Host, L: BufRead + Drop + Send + 'static, C: BootCell>(
 /// A site, as its folder has it.
 fn site_of<R: Host>(
     rt: R,
-    order: &Order<'_>,
-    bank: &Bank,
-    me: u16,
+    duty: Duty<'_, '_>,
     site: u16,
 ) -> Result<Process<SiteCell<R>>, ServeFault> {
+    let Duty { order, bank, me } = duty;
     let place = Place::new(&bank.setup, bank.id, me, order.data, order.syncs);
     process_of(rt, &place, open_site(rt, &place, site))
 }
 
 /// A node or a client, as its folder has it.
-fn other_of<R: Host>(
-    rt: R,
-    order: &Order<'_>,
-    bank: &Bank,
-    me: u16,
-) -> Result<Process<MemCell>, ServeFault> {
+fn other_of<R: Host>(rt: R, duty: Duty<'_, '_>) -> Result<Process<MemCell>, ServeFault> {
+    let Duty { order, bank, me } = duty;
     let place = Place::new(&bank.setup, bank.id, me, order.data, order.syncs);
     process_of(rt, &place, open_other(rt, &place))
 }
@@ -224,16 +222,12 @@ fn process_of<R: Host, C: BootCell>(
 /// Has threads dial the sites before a site, listen for others, and bring ticks and lines. Answers what they bring.
 fn open_streams<R: Host, L: BufRead + Drop + Send + 'static>(
     rt: R,
-    terminal: L,
-    order: &Order<'_>,
-    bank: &Bank,
-    keys: Option<Keys>,
-    me: u16,
+    duty: Duty<'_, '_>,
     site: u16,
-    listener: TcpListener,
+    sources: Sources<L>,
 ) -> Result<Receiver<Inbox>, ServeFault> {
     let (sender, inbox) = bounded(rt.alloc(), MOST_ITEMS)?;
-    match start_site(rt, terminal, order, bank, keys, me, site, listener, &sender) {
+    match start_site(rt, duty, site, sources, &sender) {
         Ok(()) => Ok(inbox),
         Err(fault) => Err(fault),
     }
@@ -242,18 +236,19 @@ fn open_streams<R: Host, L: BufRead + Drop + Send + 'static>(
 /// Starts what brings items to the loop of a site.
 fn start_site<R: Host, L: BufRead + Drop + Send + 'static>(
     rt: R,
-    terminal: L,
-    order: &Order<'_>,
-    bank: &Bank,
-    keys: Option<Keys>,
-    me: u16,
+    duty: Duty<'_, '_>,
     site: u16,
-    listener: TcpListener,
+    sources: Sources<L>,
     inbox: &Sender<Inbox>,
 ) -> Result<(), ServeFault> {
-    dial_sites(rt, bank, &keys, me, site, inbox)?;
-    listen(rt, listener, bank.id, keys, me, inbox)?;
-    start_ticking(rt, order.beat, terminal, inbox)
+    let Sources {
+        terminal,
+        keys,
+        listener,
+    } = sources;
+    dial_sites(rt, duty, &keys, site, inbox)?;
+    listen(rt, duty, listener, keys, inbox)?;
+    start_ticking(rt, duty.order.beat, terminal, inbox)
 }
 
 /// Attends to a site until it is done.
@@ -271,14 +266,12 @@ fn attend_site<R: Host, C: BootCell>(
 /// Serves a node or a client.
 fn serve_other<R: Host, L: BufRead + Drop + Send + 'static>(
     rt: R,
+    duty: Duty<'_, '_>,
     terminal: L,
-    order: &Order<'_>,
-    bank: &Bank,
     keys: Option<Keys>,
-    me: u16,
 ) -> Result<(), ServeFault> {
-    match other_of(rt, order, bank, me) {
-        Ok(serving) => keep_other(rt, terminal, order, bank, &keys, me, serving),
+    match other_of(rt, duty) {
+        Ok(serving) => keep_other(rt, duty, terminal, &keys, serving),
         Err(fault) => Err(fault),
     }
 }
@@ -286,30 +279,26 @@ fn serve_other<R: Host, L: BufRead + Drop + Send + 'static>(
 /// Serves a node or a client that was opened.
 fn keep_other<R: Host, L: BufRead + Drop + Send + 'static, C: BootCell>(
     rt: R,
+    duty: Duty<'_, '_>,
     terminal: L,
-    order: &Order<'_>,
-    bank: &Bank,
     keys: &Option<Keys>,
-    me: u16,
     serving: Process<C>,
 ) -> Result<(), ServeFault> {
     let mut serving = serving;
-    host_other(rt, terminal, order, bank, keys, me, &mut serving)
+    host_other(rt, duty, terminal, keys, &mut serving)
 }
 
 /// Opens the streams of a node or a client, and attends to it until it is done.
 fn host_other<R: Host, L: BufRead + Drop + Send + 'static, C: BootCell>(
     rt: R,
+    duty: Duty<'_, '_>,
     terminal: L,
-    order: &Order<'_>,
-    bank: &Bank,
     keys: &Option<Keys>,
-    me: u16,
     serving: &mut Process<C>,
 ) -> Result<(), ServeFault> {
-    let inbox = dial_all(rt, terminal, order, bank, keys, me)?;
-    let setup = bank.setup.copy()?;
-    let desk = TerminalDesk::new(rt, setup, order.stays, serving.request());
+    let inbox = dial_all(rt, duty, terminal, keys)?;
+    let setup = duty.bank.setup.copy()?;
+    let desk = TerminalDesk::new(rt, setup, duty.order.stays, serving.request());
     let mut desk = Desk::Terminal(desk);
     attend(rt, &inbox, &mut desk, serving)
 }
@@ -317,15 +306,13 @@ fn host_other<R: Host, L: BufRead + Drop + Send + 'static, C: BootCell>(
 /// Has threads dial all sites, and bring ticks and lines. Answers what they bring.
 fn dial_all<R: Host, L: BufRead + Drop + Send + 'static>(
     rt: R,
+    duty: Duty<'_, '_>,
     terminal: L,
-    order: &Order<'_>,
-    bank: &Bank,
     keys: &Option<Keys>,
-    me: u16,
 ) -> Result<Receiver<Inbox>, ServeFault> {
     let (sender, inbox) = bounded(rt.alloc(), MOST_ITEMS)?;
-    dial_sites(rt, bank, keys, me, 2 * bank.setup.faults() + 1, &sender)?;
-    start_ticking(rt, order.beat, terminal, &sender)?;
+    dial_sites(rt, duty, keys, 2 * duty.bank.setup.faults() + 1, &sender)?;
+    start_ticking(rt, duty.order.beat, terminal, &sender)?;
     Ok(inbox)
 }
 
@@ -375,12 +362,12 @@ fn take_batch<R: Host, C: BootCell>(
 /// Has a thread for each site before a place dial it.
 fn dial_sites<R: Wires>(
     rt: R,
-    bank: &Bank,
+    duty: Duty<'_, '_>,
     keys: &Option<Keys>,
-    me: u16,
     before: u16,
     inbox: &Sender<Inbox>,
 ) -> Result<(), ServeFault> {
+    let Duty { bank, me, .. } = duty;
     for place in bank.peers.places.as_slice() {
         if place.site >= before {
             continue;
@@ -467,15 +454,14 @@ fn listener_of<R: Wires>(
 /// Has a thread take the streams that others open.
 fn listen<R: Wires>(
     rt: R,
+    duty: Duty<'_, '_>,
     listener: TcpListener,
-    bank: [u8; 32],
     keys: Option<Keys>,
-    me: u16,
     inbox: &Sender<Inbox>,
 ) -> Result<(), ServeFault> {
     let door = Door {
-        me,
-        bank,
+        me: duty.me,
+        bank: duty.bank.id,
         keys,
         open: AtomicU64::new(0),
     };

@@ -22,6 +22,7 @@ ghost use Rattle.pvp_rooms.specs.Gates.{Hears};
 ghost use Rattle.pvp_logs.specs.Rooms.{bank_texts};
 ghost use Rattle.pvp_serve.specs.contracts.serving.Serving.{the_row};
 ghost use Rattle.pvp_serve.specs.Serving.{
+  Comes,
   HasFlushed,
   IsIdle,
   IsRefused,
@@ -29,7 +30,6 @@ ghost use Rattle.pvp_serve.specs.Serving.{
   OutlivesIn,
   TakesIn,
   has_orders_in,
-  input_of,
   is_far,
   leaves,
   lost_with,
@@ -206,13 +206,8 @@ impl<C: BootCell, L: Log, O: Outbox + Drop> Serving<C, L, O> {
 impl<C: BootCell, L: Log, O: Outbox + Drop> Serving<C, L, O> {
     /// Takes an envelope that came, with its stamp; one with a clock too far ahead is lost. What it sends waits for `flush`.
     pub fn take_frame(&mut self, alloc: Global, arrival: Arrival) -> Result<(), ServeFault>
-        ensures far { is_far self.old.room arrival.stamped.stamp.clock ≡ true →
-            IsOk result × (self.new.room ≡ self.old.room) }
-        ensures near { is_far self.old.room arrival.stamped.stamp.clock ≡ false → OnOk result (
-            TakesIn ⟦<PartyOf<C> as Actor>⟧ bank_texts L.seen (input_of arrival.stamped)
-            self.old.room self.new.room) }
-        ensures refused { IfErr result (λ fault.
-            IsRefused (Some arrival.stamped.stamp) self.old.room self.new.room fault) }
+        ensures comes { Comes ⟦<PartyOf<C> as Actor>⟧ bank_texts L.seen arrival.stamped
+            self.old.room self.new.room result }
         ensures rest { self.new ≡ record self.old {
           room = self.new.room;
           unbelieved = lost_with self.old.room arrival.stamped.stamp.clock self.old.unbelieved;

@@ -1,14 +1,12 @@
 //! A site that is served.
-ghost use Rattle.std.specs.Prelude.{◌≡◌, ◌<◌, ◌&&◌, ◌||◌, None, false, not, IfOk, IfErr, IfSome, IsOk, OnOk};
+ghost use Rattle.std.specs.Prelude.{◌≡◌, ◌<◌, ◌&&◌, ◌||◌, not, IfOk, IfErr, OnOk};
 ghost use Rattle.std.specs.List.{list_any};
 ghost use Rattle.pvp_logs.specs.Rooms.{bank_texts};
 ghost use Rattle.pvp_places.specs.declared.serving.ServeFault.TheVariants.{NoMemory};
 ghost use Rattle.pvp_serve.specs.Desks.{
   DoesOwn,
-  comes_to_actor,
   event_due,
   found_full,
-  fresh_teller,
   heard_from,
   is_end,
   is_full,
@@ -21,13 +19,22 @@ ghost use Rattle.pvp_serve.specs.Desks.{
   serves_view,
 };
 ghost use Rattle.pvp_serve.specs.Lanes.{is_stream, lanes_to_others, with_lane, without_lane};
-ghost use Rattle.pvp_serve.specs.Patience.{IsTicked, due, fresh_patience};
-ghost use Rattle.pvp_serve.specs.Serving.{standing_in};
+ghost use Rattle.pvp_serve.specs.Patience.{fresh_patience};
+ghost use Rattle.pvp_serve.specs.Serving.{Comes, lost_with, standing_in};
+ghost use Rattle.pvp_serve.specs.Sites.{
+  DoesDue,
+  IsTickedIf,
+  KnowsTime,
+  RoomTakes,
+  SiteTakes,
+  met,
+  teller_after,
+};
+ghost use Rattle.pvp_serve.specs.Telling.{fresh_teller, stood_after};
 
 use crate::host::Host;
 use crate::inbox::Inbox;
 use crate::lanes::{Lane, Lanes};
-use crate::opening::Process;
 use crate::patience::{Due, Look, Patience};
 use crate::serving::{Serving, Standing};
 use crate::telling::Teller;
@@ -69,12 +76,14 @@ impl SiteDesk {
 
     /// Takes an envelope, and tells its sender where it found no room. Only what serves the view counts as heard of the
     /// primary: one that asks for what it lost does not serve it.
-    fn take_frame<R: Host, C: BootCell>(
+    fn take_frame<R: Host, C: BootCell, L: Log>(
         &mut self,
         rt: R,
-        serving: &mut Process<C>,
+        serving: &mut Serving<C, L, Lanes>,
         arrival: Arrival,
     ) -> Result<(), ServeFault>
+        ensures comes { Comes ⟦<PartyOf<C> as Actor>⟧ bank_texts L.seen arrival.stamped
+            serving.old.room serving.new.room result }
         ensures heard { self.new ≡ record self.old {
           patience = heard_from
               (serves_view arrival.stamped.envelope.msg
@@ -84,7 +93,8 @@ impl SiteDesk {
         } }
         ensures rest { serving.new ≡ record serving.old {
           room = serving.new.room;
-          unbelieved = serving.new.unbelieved;
+          unbelieved = lost_with serving.old.room arrival.stamped.stamp.clock
+              serving.old.unbelieved;
         } }
     {
         self.attends(serving.standing(), &arrival.stamped().envelope);
@@ -122,7 +132,12 @@ impl SiteDesk {
     }
 
     /// A stream has ended.
-    fn loses<C: BootCell>(&mut self, serving: &mut Process<C>, peer: u16, stream: u64)
+    fn loses<C: BootCell, L: Log>(
+        &mut self,
+        serving: &mut Serving<C, L, Lanes>,
+        peer: u16,
+        stream: u64,
+    )
         ensures lanes { serving.new.out.all.items
             ≡ without_lane peer stream serving.old.out.all.items }
         ensures serving { serving.new ≡ record serving.old { out = serving.new.out } }
@@ -145,15 +160,11 @@ impl SiteDesk {
         rt: R,
         serving: &mut Serving<C, L, Lanes>,
     ) -> Result<(), ServeFault>
-        ensures gone { standing_in serving.old.room ≡ None →
-            IsOk result × (self.new ≡ self.old) × (serving.new ≡ serving.old) }
-        ensures ticks { IfSome
-            (look_in C.held self.old.sites serving.old.me serving.old.room)
-            (λ look. IsTicked look self.old.patience self.new.patience) }
-        ensures does { IfSome
-            (look_in C.held self.old.sites serving.old.me serving.old.room)
-            (λ look. DoesOwn ⟦<PartyOf<C> as Actor>⟧ bank_texts L.seen
-            (event_due (due self.old.patience look)) serving.old.room serving.new.room result) }
+        ensures ticks { IsTickedIf (look_in C.held self.old.sites serving.old.me serving.old.room)
+            self.old.patience self.new.patience }
+        ensures does { DoesDue ⟦<PartyOf<C> as Actor>⟧ bank_texts L.seen
+            (look_in C.held self.old.sites serving.old.me serving.old.room) self.old.patience
+            serving.old.room serving.new.room result }
         ensures desk { self.new ≡ record self.old { patience = self.new.patience } }
         ensures rest { serving.new ≡ record serving.old { room = serving.new.room } }
     {
@@ -168,17 +179,22 @@ impl SiteDesk {
     }
 
     /// Takes what came.
-    fn handle<R: Host, C: BootCell>(
+    fn handle<R: Host, C: BootCell, L: Log>(
         &mut self,
         rt: R,
-        serving: &mut Process<C>,
+        serving: &mut Serving<C, L, Lanes>,
         item: Inbox,
     ) -> Result<(), ServeFault>
-        ensures room { comes_to_actor item ≡ false → serving.new.room ≡ serving.old.room }
+        ensures room { RoomTakes ⟦<PartyOf<C> as Actor>⟧ bank_texts L.seen C.held self.old.sites
+            serving.old.me self.old.patience item serving.old.room serving.new.room result }
+        ensures time { KnowsTime C.held self.old.sites serving.old.me serving.old.room
+            serving.old.out.all.items item self.old.patience self.new.patience }
         ensures streams { OnOk result (serving.new.out.all.items
             ≡ lanes_after item serving.old.out.all.items) }
-        ensures desk { self.new
-            ≡ record self.old { patience = self.new.patience; teller = self.new.teller } }
+        ensures desk { self.new ≡ record self.old {
+          patience = self.new.patience;
+          teller = teller_after item serving.old.unbelieved self.old.teller;
+        } }
     {
         match item {
             Inbox::Frame(arrival) => self.take_frame(rt, serving, arrival),
@@ -209,7 +225,12 @@ impl SiteDesk {
     }
 
     /// A line came, which may ask where the site stands.
-    fn answers<R: Host, C: BootCell>(&self, rt: R, serving: &Process<C>, line: &[u8]) {
+    fn answers<R: Host, C: BootCell, L: Log>(
+        &self,
+        rt: R,
+        serving: &Serving<C, L, Lanes>,
+        line: &[u8],
+    ) {
         if line == b"status".as_slice() {
             self.teller
                 .answers(rt, serving.standing(), serving.out().all());
@@ -217,12 +238,16 @@ impl SiteDesk {
     }
 
     /// A stream stands.
-    fn meets<C: BootCell>(&mut self, serving: &mut Process<C>, lane: Lane) -> Result<(), ServeFault>
+    fn meets<C: BootCell, L: Log>(
+        &mut self,
+        serving: &mut Serving<C, L, Lanes>,
+        lane: Lane,
+    ) -> Result<(), ServeFault>
         ensures lanes { OnOk result (serving.new.out.all.items
             ≡ with_lane lane serving.old.out.all.items) }
         ensures refused { IfErr result (λ fault. (fault ≡ NoMemory) × (serving.new.out.all.items
             ≡ lanes_to_others lane.peer serving.old.out.all.items)) }
-        ensures patience { self.new ≡ record self.old { patience = self.new.patience } }
+        ensures patience { self.new ≡ record self.old { patience = met self.old.patience } }
         ensures serving { serving.new ≡ record serving.old { out = serving.new.out } }
     {
         self.patience.meets();
@@ -230,13 +255,17 @@ impl SiteDesk {
     }
 
     /// Takes what came. `false` where the process is to end.
-    pub fn take<R: Host, C: BootCell>(
+    pub fn take<R: Host, C: BootCell, L: Log>(
         &mut self,
         rt: R,
-        serving: &mut Process<C>,
+        serving: &mut Serving<C, L, Lanes>,
         item: Inbox,
     ) -> Result<bool, ServeFault>
-        ensures { IfOk result (λ goes_on. goes_on ≡ (self.old.stays || not (is_end item))) }
+        ensures takes { SiteTakes ⟦<PartyOf<C> as Actor>⟧ bank_texts L.seen C.held serving.old.me
+            serving.old.out.all.items serving.old.unbelieved item self.old self.new
+            serving.old.room serving.new.room result }
+        ensures streams { OnOk result (serving.new.out.all.items
+            ≡ lanes_after item serving.old.out.all.items) }
     {
         let goes_on = self.stays || !is_end(&item);
         self.handle(rt, serving, item)?;
@@ -244,7 +273,13 @@ impl SiteDesk {
     }
 
     /// Tells on standard error where the site stands, where that is new.
-    pub fn tell<R: Host>(&mut self, rt: R, standing: Option<Standing>) {
+    pub fn tell<R: Host>(&mut self, rt: R, standing: Option<Standing>)
+        ensures { self.new ≡ record self.old {
+          teller = record self.old.teller {
+            stood = stood_after standing self.old.teller.stood;
+          };
+        } }
+    {
         self.teller.stands(rt, standing);
     }
 }

@@ -1,6 +1,15 @@
 //! What a site tells its operator: on standard error where that is new, and on standard output where it is asked.
-ghost use Rattle.std.specs.Prelude.{◌≡◌, ◌+◌, ◌-◌, ◌^◌, is_some, min, if◌then◌else◌};
-ghost use Rattle.pvp_serve.specs.Desks.{fresh_teller, status_word};
+ghost use Rattle.std.specs.Prelude.{◌≡◌};
+ghost use Rattle.pvp_serve.specs.Telling.{
+  ended_after,
+  fresh_teller,
+  is_to_tell,
+  status_word,
+  stood_after,
+  stood_at,
+  told_after,
+  turned_away,
+};
 
 use crate::host::Host;
 use crate::lanes::Lane;
@@ -55,10 +64,7 @@ impl Teller {
 
     /// A stream was turned away that a stranger opened.
     pub fn turns_away(&mut self, why: Option<LinkFault>)
-        ensures { self.new ≡ record self.old {
-          away = min (self.old.away + 1) (2 ^ 64 - 1);
-          why = if is_some why then why else self.old.why;
-        } }
+        ensures { self.new ≡ turned_away why self.old }
     {
         self.away = self.away.saturating_add(1);
         if why.is_some() {
@@ -67,7 +73,9 @@ impl Teller {
     }
 
     /// A stream has ended: what was wrong with it is told, but not the same again and again.
-    pub fn ends<R: Host>(&mut self, rt: R, peer: u16, end: LinkEnd) {
+    pub fn ends<R: Host>(&mut self, rt: R, peer: u16, end: LinkEnd)
+        ensures { self.new ≡ record self.old { ended = ended_after peer end self.old.ended } }
+    {
         let LinkEnd::Wrong(why) = end else {
             return;
         };
@@ -82,15 +90,16 @@ impl Teller {
 
     /// A tick goes by: now and then it tells how many streams were turned away, and how many frames were lost since their
     /// clocks were too far ahead, where that is more than was told.
-    pub fn ticks<R: Host>(&mut self, rt: R, unbelieved: u64) {
-        self.ticks = self.ticks.saturating_add(1);
-        let now = (self.away, unbelieved);
-        if self.ticks < TELLING_TICKS || now == self.told {
+    pub fn ticks<R: Host>(&mut self, rt: R, unbelieved: u64)
+        ensures { self.new ≡ told_after self.old unbelieved }
+    {
+        let away = self.away;
+        if !self.is_to_tell(unbelieved) {
+            self.ticks = self.ticks.saturating_add(1);
             return;
         }
         self.ticks = 0;
-        self.told = now;
-        let away = self.away;
+        self.told = (away, unbelieved);
         let _told = eprintln!(rt;
             "turned away {away} streams, lost {unbelieved} frames of far clocks"
         );
@@ -99,29 +108,28 @@ impl Teller {
         }
     }
 
+    /// Whether it is time to tell how many streams were turned away and how many frames were lost.
+    fn is_to_tell(&self, unbelieved: u64) -> bool
+        ensures { result ≡ is_to_tell self.now unbelieved }
+    {
+        self.ticks.saturating_add(1) >= TELLING_TICKS
+            && !(self.away == self.told.0 && unbelieved == self.told.1)
+    }
+
     /// Tells where the site stands, where that is new.
-    pub fn stands<R: Host>(&mut self, rt: R, standing: Option<Standing>) {
-        let Some(
-            Standing {
-                status,
-                view,
-                log,
-                ..
-            },
-        ) = standing
-        else {
+    pub fn stands<R: Host>(&mut self, rt: R, standing: Option<Standing>)
+        ensures { self.new ≡ record self.old { stood = stood_after standing self.old.stood } }
+    {
+        let Some(standing) = standing else {
             return;
         };
-        let now = Stood {
-            status,
-            view,
-            is_full: log >= MAX_ROWS,
-        };
+        let now = stood_at(standing);
         if self.stood == Some(now) {
             return;
         }
         self.stood = Some(now);
-        let word = word_of(status);
+        let Standing { view, log, .. } = standing;
+        let word = word_of(standing.status);
         let full = if now.is_full { " full" } else { "" };
         let _told = eprintln!(rt; "{word} view {view} log {log}{full}");
     }
@@ -156,6 +164,17 @@ impl Teller {
             push_actor(&mut names, &self.setup, lane.peer)?;
         }
         Ok(names)
+    }
+}
+
+/// What is told of where a site stands.
+fn stood_at(standing: Standing) -> Stood
+    ensures { result ≡ stood_at standing }
+{
+    Stood {
+        status: standing.status,
+        view: standing.view,
+        is_full: standing.log >= MAX_ROWS,
     }
 }
 

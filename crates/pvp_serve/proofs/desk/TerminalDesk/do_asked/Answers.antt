@@ -1,0 +1,19 @@
+use Rattle.std.proofs.Common.{refl}
+use Rattle.std.proofs.lemmas.Result.{err_from_is_err_and}
+use Rattle.pvp_serve.proofs.Terminals.{unkept}
+use Rattle.pvp_serve.proofs.desk.TerminalDesk.do_asked.Goals as goal
+
+pub returns-in_err-letters-clause-refused : goal.returns-in_err-letters-clause-refused
+returns-in_err-letters-clause-refused g c =
+    let p = err_from_is_err_and c.from_residual-in_err-letters.result c.from_residual-in_err-letters.ensures.1 in
+    unkept _ _ _ c.args.event _ c.take_event.new.self.room _ c.in_err-letters.field-0.0 p.0 _ p.1 p.2
+    c.in_ok-take_event.ensures.takes c.in_err-letters.ensures.refused c.in_err-letters.ensures.gone
+
+pub returns-clause-done : goal.returns-clause-done
+returns-clause-done g c = record {
+  between = c.take_event.new.self.room;
+  letters = c.in_ok-letters.letters.items;
+  takes = c.in_ok-take_event.ensures.takes;
+  written = c.in_ok-letters.ensures.written;
+  left = rw (c.tell_outcome.ensures, c.tell_answer.ensures, c.request.ensures, c.last_told.ensures, c.as_slice.ensures.value) refl;
+}
