@@ -17,13 +17,6 @@ use Rattle.pvp_serve.specs.Terminals.{At, AreDone, IsLineDone, IsLineLost, IsNex
 
 module _ {N B L : Type 0} (m : Ghosts (PartyOf B) N PartyEvent PartyOutcome)
     (texts : ℕ → Texts PartyEvent PartyOutcome) (seen : L → Option (List ℕ)) where
-  -- what a line asks for leaves the lines behind it where they are
-  pub lines-stay : (asked : Result (Option PartyEvent) LineCode) (old new : RoomOf N B L) (desk after : TerminalDesk)
-      → IsLineDone m texts seen asked old new desk after → after.lines.items ≡ desk.lines.items
-  lines-stay (Ok (Some event)) old new desk after done = ap (λ (d : TerminalDesk). d.lines.items) done.left
-  lines-stay (Ok None) old new desk after same = ap (λ (d : TerminalDesk). d.lines.items) same.1
-  lines-stay (Err code) old new desk after same = ap (λ (d : TerminalDesk). d.lines.items) same.1
-
   -- an event was taken, and what waited is not written
   pub unkept : (event : PartyEvent) (old between new : RoomOf N B L) (fault told : ServeFault) (result : Result (Unit {0}) ServeFault)
       → result ≡ Err told → told ≡ fault → TakesIn m texts seen (own_input event) old between → IsUnwritten between fault → new ≡ None
@@ -38,17 +31,27 @@ module _ {N B L : Type 0} (m : Ghosts (PartyOf B) N PartyEvent PartyOutcome)
   unread (Ok None) old new same = (refl, same)
   unread (Err code) old new same = (refl, same)
 
+module _ {N B L : Type 0} (m : Ghosts (PartyOf B) N PartyEvent PartyOutcome)
+    (texts : ℕ → Texts PartyEvent PartyOutcome) (seen : L → Option (List ℕ))
+    (safe : RoomOf N B L → Type 0) where
+  -- what a line asks for leaves the lines behind it where they are
+  pub lines-stay : (asked : Result (Option PartyEvent) LineCode) (old new : RoomOf N B L) (desk after : TerminalDesk)
+      → IsLineDone m texts seen safe asked old new desk after → after.lines.items ≡ desk.lines.items
+  lines-stay (Ok (Some event)) old new desk after done = ap (λ (d : TerminalDesk). d.lines.items) done.left
+  lines-stay (Ok None) old new desk after same = ap (λ (d : TerminalDesk). d.lines.items) same.1
+  lines-stay (Err code) old new desk after same = ap (λ (d : TerminalDesk). d.lines.items) same.1
+
   -- a line is done for the same actor of the same bank
   pub done-of : (setup own : Setup) (actor me : ℕ) (text : List ℕ) (old new : RoomOf N B L) (desk after : TerminalDesk)
-      → setup ≡ own → actor ≡ me → IsLineDone m texts seen (event_of setup actor text) old new desk after
-      → IsLineDone m texts seen (event_of own me text) old new desk after
+      → setup ≡ own → actor ≡ me → IsLineDone m texts seen safe (event_of setup actor text) old new desk after
+      → IsLineDone m texts seen safe (event_of own me text) old new desk after
   done-of setup own actor me text old new desk after same is done =
-      subst (λ (s : Setup). IsLineDone m texts seen (event_of s me text) old new desk after) same
-      (subst (λ (n : ℕ). IsLineDone m texts seen (event_of setup n text) old new desk after) is done)
+      subst (λ (s : Setup). IsLineDone m texts seen safe (event_of s me text) old new desk after) same
+      (subst (λ (n : ℕ). IsLineDone m texts seen safe (event_of setup n text) old new desk after) is done)
 
-  pub one-more : (me : ℕ) (lines : List Asked) (asked : Asked) (from between to : At N B L) → AreDone m texts seen me lines from between
-      → IsNextDone m texts seen me asked between to → AreDone m texts seen me (lines ++ asked ∷ []) from to
+  pub one-more : (me : ℕ) (lines : List Asked) (asked : Asked) (from between to : At N B L) → AreDone m texts seen safe me lines from between
+      → IsNextDone m texts seen safe me asked between to → AreDone m texts seen safe me (lines ++ asked ∷ []) from to
   one-more me [] asked from between to none next =
-      (to, subst (λ (s : At N B L). IsNextDone m texts seen me asked s to) none next, refl)
+      (to, subst (λ (s : At N B L). IsNextDone m texts seen safe me asked s to) none next, refl)
   one-more me (first ∷ lines) asked from between to (second, done, rest) next =
       (second, done, one-more me lines asked second between to rest next)

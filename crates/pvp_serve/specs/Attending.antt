@@ -15,14 +15,15 @@ use Rattle.pvp_serve.specs.Sites.{SiteTakes}
 use Rattle.pvp_serve.specs.Terminals.{RoomOf, IsTrouble, TakesItem}
 
 module _ {N B L : Type 0} (m : Ghosts (PartyOf B) N PartyEvent PartyOutcome)
-    (texts : ℕ → Texts PartyEvent PartyOutcome) (seen : L → Option (List ℕ)) where
+    (texts : ℕ → Texts PartyEvent PartyOutcome) (seen : L → Option (List ℕ)) (safe : RoomOf N B L → Type 0) where
   -- A DESK TAKES AN ITEM as those of its kind do, while these streams stand and so many frames were lost
   abbrev pub DeskTakes : (B → Boot) → ℕ → List Lane → ℕ → Inbox → Desk → Desk → RoomOf N B L → RoomOf N B L
       → Result Bool ServeFault → Type 0
   DeskTakes held me lanes lost item (Site desk) (Site after) old new result =
       SiteTakes m texts seen held me lanes lost item desk after old new result
   DeskTakes held me lanes lost item (Terminal desk) (Terminal after) old new result =
-      IfOk result (TakesItem m texts seen me item (record { desk = desk; room = old })
+      IfOk result (TakesItem m texts seen safe me item (record { desk = desk; room = old })
       (record { desk = after; room = new }))
-      × IfErr result (IsTrouble m texts seen me item (record { desk = desk; room = old }) new)
+      × IfErr result (IsTrouble m texts seen safe me item (record { desk = desk; room = old })
+      (record { desk = after; room = new }))
   DeskTakes held me lanes lost item _ _ old new result = ⊥

@@ -51,7 +51,7 @@ use Rattle.pvp_serve.specs.declared.desk.TheConstants.{TELLING_TICKS}
 use Rattle.pvp_serve.specs.declared.serving.Request.{Request}
 use Rattle.pvp_serve.specs.declared.serving.Standing.{Standing}
 use Rattle.pvp_serve.specs.Patience.{up_to_most}
-use Rattle.pvp_serve.specs.Serving.{TakesIn, HasFlushed, IsRefused, has_orders_in, own_input, standing_in}
+use Rattle.pvp_serve.specs.Serving.{TakesIn, HasFlushed, IsRefused, has_orders_in, lost_with, own_input, standing_in}
 
 -- a line that is empty or begins with # asks for nothing
 abbrev pub says_nothing : List ℕ → Bool
@@ -200,6 +200,11 @@ abbrev pub lanes_after : Inbox → List Lane → List Lane
 lanes_after (Came lane) all = with_lane lane all
 lanes_after (Gone peer stream end) all = without_lane peer stream all
 lanes_after _ all = all
+
+-- HOW MANY FRAMES WERE LOST after an item: one whose clock is too far ahead is
+abbrev pub lost_after : {N A O L : Type 0} → Inbox → Option (Held N A O L) → ℕ → ℕ
+lost_after (Frame arrival) room lost = lost_with room arrival.stamped.stamp.clock lost
+lost_after _ room lost = lost
 
 -- the terminal has ended
 abbrev pub is_end : Inbox → Bool

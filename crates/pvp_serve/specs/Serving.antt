@@ -1,5 +1,5 @@
 -- What an actor that is served takes, and what leaves it.
-use Rattle.std.specs.Prelude.{◌≡◌, ◌≢◌, ◌⊎◌, ◌+◌, ◌-◌, ◌^◌, ◌&&◌, ◌||◌, Bool, true, false, not, min, nat_lt, ℕ, List, [], length, map, slice_get, Option, Some, None, IfSome, IsSome, is_some, Result, Ok, Err, IfErr, IsOk, OnOk, if◌then◌else◌}
+use Rattle.std.specs.Prelude.{◌≡◌, ◌≢◌, ◌⊎◌, ◌+◌, ◌-◌, ◌^◌, ◌&&◌, ◌||◌, Bool, true, false, not, min, nat_lt, ℕ, List, [], length, map, slice_get, Option, Some, None, IfSome, IsSome, is_some, Result, Ok, Err, IfErr, IsOk, IsTrue, OnOk, if◌then◌else◌}
 use Rattle.std.specs.Global.{Vec}
 use Rattle.std.specs.List.{list_any}
 use Rattle.vr_types.specs.declared.cell.Boot.{Boot}
@@ -154,6 +154,10 @@ IsUnwritten (Some room) told = (fault : LogFault) × (told ≡ log_told fault) �
 -- all of the log outlives a power cut
 abbrev pub OutlivesIn : {N A O L : Type 0} → (L → Option (List ℕ)) → (L → ℕ) → Option (Held N A O L) → Type 0
 OutlivesIn seen synced room = IfSome room (λ held. OutlivesAll (seen held.log) (synced held.log))
+
+-- WHERE SYNCS ARE ASKED FOR, all of the log outlives a power cut
+abbrev pub IsSafeIn : {N A O L : Type 0} → (L → Option (List ℕ)) → (L → ℕ) → Bool → Option (Held N A O L) → Type 0
+IsSafeIn seen synced syncs room = IsTrue syncs → OutlivesIn seen synced room
 
 -- an event sent something
 abbrev pub sends : Letter PartyOutcome → Bool

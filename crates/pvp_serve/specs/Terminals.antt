@@ -46,6 +46,11 @@ pub record IsPutBehind (text : Vec ℕ) (desk after : TerminalDesk) : Type 0 whe
       ≡ desk.lines.items ++ (record { number = up_to_most (desk.number + 1); text = text }) ∷ []
   pub rest : after ≡ record desk { lines = after.lines; number = up_to_most (desk.number + 1) }
 
+-- A DESK IS AS IT WAS, and the same lines wait at it
+pub record IsAsItWas (desk after : TerminalDesk) : Type 0 where
+  pub lines : after.lines.items ≡ desk.lines.items
+  pub rest : after ≡ record desk { lines = after.lines }
+
 -- what a terminal is owed once an envelope came, unless it was refused
 abbrev pub heard : Result (Unit {0}) ServeFault → Option Request → TerminalDesk → TerminalDesk
 heard (Ok done) request desk = after_hearing request desk
@@ -60,17 +65,14 @@ pub record At (N B L : Type 0) : Type 0 where
   pub desk : TerminalDesk
   pub room : RoomOf N B L
 
+-- A LINE IS NEXT: no answer is awaited, and of those that wait it is the first; these are left
+pub record IsNext {N B L : Type 0} (asked : Asked) (from : At N B L) (left : TerminalDesk) : Type 0 where
+  pub free : is_busy (request_in from.room) from.desk.waits ≡ false
+  pub first : from.desk.lines.items ≡ asked ∷ left.lines.items
+  pub rest : left ≡ record from.desk { lines = left.lines }
+
 module _ {N B L : Type 0} (m : Ghosts (PartyOf B) N PartyEvent PartyOutcome)
     (texts : ℕ → Texts PartyEvent PartyOutcome) (seen : L → Option (List ℕ)) where
-  -- AN EVENT IS DONE, and told with what was owed: it is taken, and all that waited is written with it
-  pub record IsDone (event : PartyEvent) (old new : RoomOf N B L) (desk after : TerminalDesk) : Type 0 where
-    pub between : RoomOf N B L
-    pub letters : List (Letter PartyOutcome)
-    pub takes : TakesIn m texts seen (own_input event) old between
-    pub written : HasFlushed m texts seen between new letters
-    pub left : after
-        ≡ record desk { owes = None; waits = waits_told (request_in new) (last_told letters) true }
-
   -- it was taken, and what waited is not written
   pub record IsUnkept (event : PartyEvent) (old new : RoomOf N B L) (fault : ServeFault) : Type 0 where
     pub between : RoomOf N B L
@@ -82,13 +84,6 @@ module _ {N B L : Type 0} (m : Ghosts (PartyOf B) N PartyEvent PartyOutcome)
   abbrev pub IsUndone : PartyEvent → RoomOf N B L → RoomOf N B L → ServeFault → Type 0
   IsUndone event old new fault = IsRefused None old new fault ⊎ IsUnkept event old new fault
 
-  -- A LINE IS DONE: what it asks for is, and one that asks for nothing or is at fault changes nothing
-  abbrev pub IsLineDone : Result (Option PartyEvent) LineCode → RoomOf N B L → RoomOf N B L → TerminalDesk
-      → TerminalDesk → Type 0
-  IsLineDone (Ok (Some event)) old new desk after = IsDone event old new desk after
-  IsLineDone (Ok None) old new desk after = (new ≡ old) × (after ≡ desk)
-  IsLineDone (Err code) old new desk after = (new ≡ old) × (after ≡ desk)
-
   -- WHY A LINE IS NOT DONE: memory to read it was refused, or what it asks for was not done
   abbrev pub IsLineLost : Result (Option PartyEvent) LineCode → RoomOf N B L → RoomOf N B L → ServeFault → Type 0
   IsLineLost (Ok (Some event)) old new fault =
@@ -96,46 +91,7 @@ module _ {N B L : Type 0} (m : Ghosts (PartyOf B) N PartyEvent PartyOutcome)
   IsLineLost (Ok None) old new fault = (fault ≡ NoMemory) × (new ≡ old)
   IsLineLost (Err code) old new fault = (fault ≡ NoMemory) × (new ≡ old)
 
-  -- A LINE IS NEXT: no answer is awaited, and of those that wait it is the first; these are left
-  pub record IsNext (asked : Asked) (from : At N B L) (left : TerminalDesk) : Type 0 where
-    pub free : is_busy (request_in from.room) from.desk.waits ≡ false
-    pub first : from.desk.lines.items ≡ asked ∷ left.lines.items
-    pub rest : left ≡ record from.desk { lines = left.lines }
-
-  -- THESE LINES OF AN ACTOR ARE DONE, one after another
-  pub record IsNextDone (me : ℕ) (asked : Asked) (from to : At N B L) : Type 0 where
-    pub left : TerminalDesk
-    pub next : IsNext asked from left
-    pub done : IsLineDone (event_of from.desk.setup me asked.text.items) from.room to.room left to.desk
-
-  abbrev pub AreDone : ℕ → List Asked → At N B L → At N B L → Type 0
-  AreDone me [] from to = to ≡ from
-  AreDone me (asked ∷ more) from to =
-      (between : At N B L) × IsNextDone me asked from between × AreDone me more between to
-
-  -- IT IS ASKED FOR WHAT IS NEXT, until an answer is awaited or no line waits
-  pub record AsksAll (me : ℕ) (from to : At N B L) : Type 0 where
-    pub done : List Asked
-    pub are_done : AreDone me done from to
-    pub stops : (is_busy (request_in to.room) to.desk.waits ≡ true) ⊎ (to.desk.lines.items ≡ [])
-
-  -- or until a line is not done
-  pub record AsksUntil (me : ℕ) (from to : At N B L) (fault : ServeFault) : Type 0 where
-    pub done : List Asked
-    pub between : At N B L
-    pub are_done : AreDone me done from between
-    pub asked : Asked
-    pub next : IsNext asked between to.desk
-    pub lost : IsLineLost (event_of between.desk.setup me asked.text.items) between.room to.room fault
-
-  -- THE ANSWER THAT IS OWED IS TOLD, once all that was taken is written
-  abbrev pub Pays : Option (ℕ × Answer) → At N B L → At N B L → Type 0
-  Pays None from to = to ≡ from
-  Pays (Some owed) from to = (letters : List (Letter PartyOutcome)) × HasFlushed m texts seen from.room to.room letters
-      × (to.desk ≡ record from.desk { owes = None })
-
-  -- A TICK GOES BY: an actor that waits for nothing does nothing, a node beats, and a client waits a tick and then
-  -- beats
+  -- A TICK GOES BY: an actor that waits for nothing does nothing, a node beats, a client waits a tick and then beats
   pub record Beats (who : ActorId) (from to : At N B L) : Type 0 where
     pub idle : from.desk.waits ≡ false → to ≡ from
     pub node : from.desk.waits ≡ true → is_node who ≡ true →
@@ -182,34 +138,86 @@ module _ {N B L : Type 0} (m : Ghosts (PartyOf B) N PartyEvent PartyOutcome)
   IsUnhandled me (Line text) old new fault = (fault ≡ NoMemory) × (new ≡ old)
   IsUnhandled me _ old new fault = ⊥
 
-  -- WHAT A TERMINAL TAKES: an item is handled, then it is asked for what is next, and then the answer that came is
-  -- told.
-  -- The process goes on unless nothing is left to be done
+module _ {N B L : Type 0} (m : Ghosts (PartyOf B) N PartyEvent PartyOutcome)
+    (texts : ℕ → Texts PartyEvent PartyOutcome) (seen : L → Option (List ℕ))
+    (safe : RoomOf N B L → Type 0) where
+  -- AN EVENT IS DONE, and told with what was owed: it is taken, and all that waited is written with it, safe where that
+  -- is asked for
+  pub record IsDone (event : PartyEvent) (old new : RoomOf N B L) (desk after : TerminalDesk) : Type 0 where
+    pub between : RoomOf N B L
+    pub letters : List (Letter PartyOutcome)
+    pub takes : TakesIn m texts seen (own_input event) old between
+    pub written : HasFlushed m texts seen between new letters
+    pub kept : letters ≢ [] → safe new
+    pub left : after
+        ≡ record desk { owes = None; waits = waits_told (request_in new) (last_told letters) true }
+
+  -- A LINE IS DONE: what it asks for is, and one that asks for nothing or is at fault changes nothing
+  abbrev pub IsLineDone : Result (Option PartyEvent) LineCode → RoomOf N B L → RoomOf N B L → TerminalDesk
+      → TerminalDesk → Type 0
+  IsLineDone (Ok (Some event)) old new desk after = IsDone event old new desk after
+  IsLineDone (Ok None) old new desk after = (new ≡ old) × (after ≡ desk)
+  IsLineDone (Err code) old new desk after = (new ≡ old) × (after ≡ desk)
+
+  -- THESE LINES OF AN ACTOR ARE DONE, one after another
+  pub record IsNextDone (me : ℕ) (asked : Asked) (from to : At N B L) : Type 0 where
+    pub left : TerminalDesk
+    pub next : IsNext asked from left
+    pub done : IsLineDone (event_of from.desk.setup me asked.text.items) from.room to.room left to.desk
+
+  abbrev pub AreDone : ℕ → List Asked → At N B L → At N B L → Type 0
+  AreDone me [] from to = to ≡ from
+  AreDone me (asked ∷ more) from to =
+      (between : At N B L) × IsNextDone me asked from between × AreDone me more between to
+
+  -- IT IS ASKED FOR WHAT IS NEXT, until an answer is awaited or no line waits
+  pub record AsksAll (me : ℕ) (from to : At N B L) : Type 0 where
+    pub done : List Asked
+    pub are_done : AreDone me done from to
+    pub stops : (is_busy (request_in to.room) to.desk.waits ≡ true) ⊎ (to.desk.lines.items ≡ [])
+
+  -- or until a line is not done
+  pub record AsksUntil (me : ℕ) (from to : At N B L) (fault : ServeFault) : Type 0 where
+    pub done : List Asked
+    pub between : At N B L
+    pub are_done : AreDone me done from between
+    pub asked : Asked
+    pub next : IsNext asked between to.desk
+    pub lost : IsLineLost m texts seen (event_of between.desk.setup me asked.text.items) between.room to.room fault
+
+  -- THE ANSWER THAT IS OWED IS TOLD, once all that was taken is written, safe where that is asked for
+  abbrev pub Pays : Option (ℕ × Answer) → At N B L → At N B L → Type 0
+  Pays None from to = to ≡ from
+  Pays (Some owed) from to = (letters : List (Letter PartyOutcome)) × HasFlushed m texts seen from.room to.room letters
+      × (letters ≢ [] → safe to.room) × (to.desk ≡ record from.desk { owes = None })
+
+  -- WHAT A TERMINAL TAKES: an item is handled, it is asked for what is next, and the answer that came is told. The
+  -- process goes on unless nothing is left to be done
   pub record TakesItem (me : ℕ) (item : Inbox) (from to : At N B L) (goes_on : Bool) : Type 0 where
     pub handled : At N B L
     pub asked : At N B L
-    pub handles : Handles me item from handled
+    pub handles : Handles m texts seen me item from handled
     pub asks : AsksAll me handled asked
     pub pays : Pays asked.desk.owes asked to
     pub goes : goes_on ≡ not (is_done (request_in to.room) to.desk)
 
-  -- WHY THE PROCESS ENDS at an item: it was not handled, or a line was not done behind it, or what came is not written
-  pub record IsUnasked (me : ℕ) (item : Inbox) (from : At N B L) (new : RoomOf N B L) (fault : ServeFault)
-      : Type 0 where
+  -- WHY THE PROCESS ENDS at an item, and what is left: the item was not handled and the desk is as it was, or a line
+  -- was not done behind it, or what came is not written and still owed
+  pub record IsUnasked (me : ℕ) (item : Inbox) (from to : At N B L) (fault : ServeFault) : Type 0 where
     pub handled : At N B L
-    pub left : TerminalDesk
-    pub handles : Handles me item from handled
-    pub asks : AsksUntil me handled (record { desk = left; room = new }) fault
+    pub handles : Handles m texts seen me item from handled
+    pub asks : AsksUntil me handled to fault
 
-  pub record IsUnpaid (me : ℕ) (item : Inbox) (from : At N B L) (new : RoomOf N B L) (fault : ServeFault) : Type 0 where
+  pub record IsUnpaid (me : ℕ) (item : Inbox) (from to : At N B L) (fault : ServeFault) : Type 0 where
     pub handled : At N B L
     pub asked : At N B L
-    pub handles : Handles me item from handled
+    pub handles : Handles m texts seen me item from handled
     pub asks : AsksAll me handled asked
     pub owes : IsSome asked.desk.owes
     pub unwritten : IsUnwritten asked.room fault
-    pub gone : new ≡ None
+    pub left : to ≡ record { desk = asked.desk; room = None }
 
-  abbrev pub IsTrouble : ℕ → Inbox → At N B L → RoomOf N B L → ServeFault → Type 0
-  IsTrouble me item from new fault = IsUnhandled me item from.room new fault ⊎ IsUnasked me item from new fault
-      ⊎ IsUnpaid me item from new fault
+  abbrev pub IsTrouble : ℕ → Inbox → At N B L → At N B L → ServeFault → Type 0
+  IsTrouble me item from to fault =
+      (IsUnhandled m texts seen me item from.room to.room fault × IsAsItWas from.desk to.desk)
+      ⊎ IsUnasked me item from to fault ⊎ IsUnpaid me item from to fault

@@ -2,6 +2,8 @@
 ghost use Rattle.std.specs.Prelude.{◌≡◌};
 ghost use Rattle.pvp_logs.specs.Rooms.{bank_texts};
 ghost use Rattle.pvp_serve.specs.Attending.{DeskTakes};
+ghost use Rattle.pvp_serve.specs.Desks.{lost_after};
+ghost use Rattle.pvp_serve.specs.Serving.{IsSafeIn};
 
 use crate::desk::TerminalDesk;
 use crate::host::Host;
@@ -31,9 +33,15 @@ impl Desk {
         serving: &mut Serving<C, L, Lanes>,
         item: Inbox,
     ) -> Result<bool, ServeFault>
-        ensures { DeskTakes ⟦<PartyOf<C> as Actor>⟧ bank_texts L.seen C.held serving.old.me
+        ensures takes { DeskTakes ⟦<PartyOf<C> as Actor>⟧ bank_texts L.seen
+            (IsSafeIn L.seen L.synced serving.old.syncs) C.held serving.old.me
             serving.old.out.all.items serving.old.unbelieved item self.old self.new
             serving.old.room serving.new.room result }
+        ensures rest { serving.new ≡ record serving.old {
+          room = serving.new.room;
+          out = serving.new.out;
+          unbelieved = lost_after item serving.old.room serving.old.unbelieved;
+        } }
     {
         match self {
             Desk::Site(desk) => desk.take(rt, serving, item),

@@ -45,6 +45,7 @@ ghost use Rattle.pvp_serve.specs.Desks.{
   lanes_after,
   last_may_say_more,
   last_told,
+  lost_after,
   may_say_more,
   next_wait,
   says_nothing,
@@ -52,12 +53,13 @@ ghost use Rattle.pvp_serve.specs.Desks.{
   told_of,
   waits_told,
 };
-ghost use Rattle.pvp_serve.specs.Serving.{Comes, IsUnwritten, lost_with, request_in};
+ghost use Rattle.pvp_serve.specs.Serving.{Comes, IsSafeIn, IsUnwritten, lost_with, request_in};
 ghost use Rattle.pvp_serve.specs.Terminals.{
   AsksAll,
   AsksUntil,
   Beats,
   Handles,
+  IsAsItWas,
   IsDone,
   IsLineDone,
   IsLineLost,
@@ -226,7 +228,11 @@ impl TerminalDesk {
         ensures refused { IfErr result (λ fault.
             IsUnbeaten ⟦<PartyOf<C> as Actor>⟧ bank_texts L.seen
             (id_of serving.old.me) serving.old.room serving.new.room fault) }
-        ensures me { serving.new.me ≡ serving.old.me }
+        ensures stays { OnErr result (self.new ≡ self.old) }
+        ensures rest { serving.new ≡ record serving.old {
+          room = serving.new.room;
+          out = serving.new.out;
+        } }
     {
         if !self.waits {
             return Ok(());
@@ -253,7 +259,11 @@ impl TerminalDesk {
         ensures refused { IfErr result (λ fault. IsUndone ⟦<PartyOf<C> as Actor>⟧ bank_texts L.seen
             (OfNode node_event.Beats) serving.old.room serving.new.room fault) }
         ensures desk { self.new ≡ record self.old { waits = self.new.waits } }
-        ensures me { serving.new.me ≡ serving.old.me }
+        ensures stays { OnErr result (self.new ≡ self.old) }
+        ensures rest { serving.new ≡ record serving.old {
+          room = serving.new.room;
+          out = serving.new.out;
+        } }
     {
         serving.take_event(rt.alloc(), PartyEvent::OfNode(NodeEvent::Beats))?;
         let letters = serving.flush(&rt, rt.alloc(), false)?;
@@ -276,7 +286,10 @@ impl TerminalDesk {
         ensures desk { OnOk result (self.new
             ≡ record self.old { ticks = next_wait self.old.ticks }) }
         ensures stays { OnErr result (self.new ≡ self.old) }
-        ensures me { serving.new.me ≡ serving.old.me }
+        ensures rest { serving.new ≡ record serving.old {
+          room = serving.new.room;
+          out = serving.new.out;
+        } }
     {
         let _letters = serving.flush(&rt, rt.alloc(), false)?;
         serving.out_mut().favours(None);
@@ -321,14 +334,19 @@ impl TerminalDesk {
         serving: &mut Serving<C, L, Lanes>,
     ) -> Result<(), ServeFault>
         ensures asks { OnOk result (
-            AsksAll ⟦<PartyOf<C> as Actor>⟧ bank_texts L.seen serving.old.me
+            AsksAll ⟦<PartyOf<C> as Actor>⟧ bank_texts L.seen
+            (IsSafeIn L.seen L.synced serving.old.syncs) serving.old.me
             (record { desk = self.old; room = serving.old.room })
             (record { desk = self.new; room = serving.new.room })) }
         ensures refused { IfErr result (λ fault.
-            AsksUntil ⟦<PartyOf<C> as Actor>⟧ bank_texts L.seen serving.old.me
+            AsksUntil ⟦<PartyOf<C> as Actor>⟧ bank_texts L.seen
+            (IsSafeIn L.seen L.synced serving.old.syncs) serving.old.me
             (record { desk = self.old; room = serving.old.room })
             (record { desk = self.new; room = serving.new.room }) fault) }
-        ensures me { serving.new.me ≡ serving.old.me }
+        ensures rest { serving.new ≡ record serving.old {
+          room = serving.new.room;
+          out = serving.new.out;
+        } }
     {
         for _ in 0..self.lines.len() {
             let Some(asked) = self.next_line(serving.request()) else {
@@ -369,6 +387,7 @@ impl TerminalDesk {
     ) -> Result<(), ServeFault>
         ensures done { OnOk result (
             IsLineDone ⟦<PartyOf<C> as Actor>⟧ bank_texts L.seen
+            (IsSafeIn L.seen L.synced serving.old.syncs)
             (event_of self.old.setup serving.old.me asked.now.text.items)
             serving.old.room serving.new.room self.old self.new) }
         ensures refused { IfErr result (λ fault.
@@ -376,7 +395,10 @@ impl TerminalDesk {
             (event_of self.old.setup serving.old.me asked.now.text.items)
             serving.old.room serving.new.room fault) }
         ensures stays { OnErr result (self.new ≡ self.old) }
-        ensures me { serving.new.me ≡ serving.old.me }
+        ensures rest { serving.new ≡ record serving.old {
+          room = serving.new.room;
+          out = serving.new.out;
+        } }
     {
         let alloc = rt.alloc();
         let Ok(read) = event_of(alloc, &self.setup, serving.me(), asked.text.as_slice()) else {
@@ -401,13 +423,17 @@ impl TerminalDesk {
         event: PartyEvent,
     ) -> Result<(), ServeFault>
         ensures done { OnOk result (
-            IsDone ⟦<PartyOf<C> as Actor>⟧ bank_texts L.seen event
+            IsDone ⟦<PartyOf<C> as Actor>⟧ bank_texts L.seen
+            (IsSafeIn L.seen L.synced serving.old.syncs) event
             serving.old.room serving.new.room self.old self.new) }
         ensures refused { IfErr result (λ fault.
             IsUndone ⟦<PartyOf<C> as Actor>⟧ bank_texts L.seen event
             serving.old.room serving.new.room fault) }
         ensures stays { OnErr result (self.new ≡ self.old) }
-        ensures me { serving.new.me ≡ serving.old.me }
+        ensures rest { serving.new ≡ record serving.old {
+          room = serving.new.room;
+          out = serving.new.out;
+        } }
     {
         serving.take_event(rt.alloc(), event)?;
         let letters = serving.flush(&rt, rt.alloc(), true)?;
@@ -450,7 +476,12 @@ impl TerminalDesk {
         ensures refused { IfErr result (λ fault.
             IsUnhandled ⟦<PartyOf<C> as Actor>⟧ bank_texts L.seen serving.old.me item
             serving.old.room serving.new.room fault) }
-        ensures me { serving.new.me ≡ serving.old.me }
+        ensures stays { OnErr result (IsAsItWas self.old self.new) }
+        ensures rest { serving.new ≡ record serving.old {
+          room = serving.new.room;
+          out = serving.new.out;
+          unbelieved = lost_after item serving.old.room serving.old.unbelieved;
+        } }
         ensures streams { comes_to_actor item ≡ false → OnOk result (serving.new.out.all.items
             ≡ lanes_after item serving.old.out.all.items) }
     {
@@ -479,16 +510,14 @@ impl TerminalDesk {
     fn take_line(&mut self, text: Vec<u8>) -> Result<(), ServeFault>
         ensures waits { OnOk result (IsPutBehind text self.old self.new) }
         ensures refused { IfErr result (λ fault. fault ≡ NoMemory) }
+        ensures stays { OnErr result (IsAsItWas self.old self.new) }
     {
-        self.number = self.number.saturating_add(1);
-        let asked = Asked {
-            number: self.number,
-            text,
+        let number = self.number.saturating_add(1);
+        let Ok(()) = self.lines.push_back(Asked { number, text }) else {
+            return Err(ServeFault::NoMemory);
         };
-        match self.lines.push_back(asked) {
-            Ok(()) => Ok(()),
-            Err(_) => Err(ServeFault::NoMemory),
-        }
+        self.number = number;
+        Ok(())
     }
 
     /// Tells the answer that is owed, once all that was taken is in the journal.
@@ -498,12 +527,17 @@ impl TerminalDesk {
         serving: &mut Serving<C, L, Lanes>,
     ) -> Result<(), ServeFault>
         ensures pays { OnOk result (
-            Pays ⟦<PartyOf<C> as Actor>⟧ bank_texts L.seen self.old.owes
+            Pays ⟦<PartyOf<C> as Actor>⟧ bank_texts L.seen
+            (IsSafeIn L.seen L.synced serving.old.syncs) self.old.owes
             (record { desk = self.old; room = serving.old.room })
             (record { desk = self.new; room = serving.new.room })) }
         ensures refused { IfErr result (λ fault. IsSome self.old.owes
             × IsUnwritten serving.old.room fault × (serving.new.room ≡ None)) }
-        ensures me { serving.new.me ≡ serving.old.me }
+        ensures stays { OnErr result (self.new ≡ self.old) }
+        ensures rest { serving.new ≡ record serving.old {
+          room = serving.new.room;
+          out = serving.new.out;
+        } }
     {
         if self.owes.is_some() {
             let _letters = serving.flush(&rt, rt.alloc(), true)?;
@@ -520,13 +554,20 @@ impl TerminalDesk {
         item: Inbox,
     ) -> Result<bool, ServeFault>
         ensures takes { IfOk result (λ goes_on.
-            TakesItem ⟦<PartyOf<C> as Actor>⟧ bank_texts L.seen serving.old.me item
+            TakesItem ⟦<PartyOf<C> as Actor>⟧ bank_texts L.seen
+            (IsSafeIn L.seen L.synced serving.old.syncs) serving.old.me item
             (record { desk = self.old; room = serving.old.room })
             (record { desk = self.new; room = serving.new.room }) goes_on) }
         ensures refused { IfErr result (λ fault.
-            IsTrouble ⟦<PartyOf<C> as Actor>⟧ bank_texts L.seen serving.old.me item
-            (record { desk = self.old; room = serving.old.room }) serving.new.room fault) }
-        ensures me { serving.new.me ≡ serving.old.me }
+            IsTrouble ⟦<PartyOf<C> as Actor>⟧ bank_texts L.seen
+            (IsSafeIn L.seen L.synced serving.old.syncs) serving.old.me item
+            (record { desk = self.old; room = serving.old.room })
+            (record { desk = self.new; room = serving.new.room }) fault) }
+        ensures rest { serving.new ≡ record serving.old {
+          room = serving.new.room;
+          out = serving.new.out;
+          unbelieved = lost_after item serving.old.room serving.old.unbelieved;
+        } }
     {
         self.handle(rt, serving, item)?;
         self.ask(rt, serving)?;

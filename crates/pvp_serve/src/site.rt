@@ -14,6 +14,7 @@ ghost use Rattle.pvp_serve.specs.Desks.{
   lanes_after,
   look_in,
   look_of,
+  lost_after,
   missed_by,
   primary_of,
   serves_view,
@@ -195,6 +196,11 @@ impl SiteDesk {
           patience = self.new.patience;
           teller = teller_after item serving.old.unbelieved self.old.teller;
         } }
+        ensures rest { serving.new ≡ record serving.old {
+          room = serving.new.room;
+          out = serving.new.out;
+          unbelieved = lost_after item serving.old.room serving.old.unbelieved;
+        } }
     {
         match item {
             Inbox::Frame(arrival) => self.take_frame(rt, serving, arrival),
@@ -266,6 +272,11 @@ impl SiteDesk {
             serving.old.room serving.new.room result }
         ensures streams { OnOk result (serving.new.out.all.items
             ≡ lanes_after item serving.old.out.all.items) }
+        ensures rest { serving.new ≡ record serving.old {
+          room = serving.new.room;
+          out = serving.new.out;
+          unbelieved = lost_after item serving.old.room serving.old.unbelieved;
+        } }
     {
         let goes_on = self.stays || !is_end(&item);
         self.handle(rt, serving, item)?;

@@ -1,4 +1,4 @@
-use Rattle.std.proofs.Common.{◌≡◌, ◌++◌, ◌∷◌, [], length, ap, ◌∙◌, arith}
+use Rattle.std.proofs.Common.{◌≡◌, ◌++◌, ◌∷◌, [], length, ap, refl, arith}
 use Rattle.std.proofs.lemmas.Result.{err_from_is_err_and}
 use Rattle.pvp_serve.specs.declared.desk.TerminalDesk.{TerminalDesk}
 use Rattle.pvp_serve.proofs.Terminals.{done-of, lines-stay, one-more}
@@ -18,22 +18,22 @@ returns-in_err-ask_one-clause-refused g c =
         first = c.in-Some.ensures.next.1;
         rest = c.next_line.ensures.rest;
       });
-      lost = rw (same, c.loop.invariant.me) at c.in_err-ask_one.ensures.refused;
+      lost = rw (same, c.loop.invariant.rest) at c.in_err-ask_one.ensures.refused;
     })
 
 pub loop-preserved : goal.loop-preserved
 loop-preserved g c =
     let stay : length c.ask_one.new.self.lines.items ≡ length c.next_line.new.self.lines.items =
-    ap length (lines-stay _ _ _ _ _ _ _ _ c.in_ok-ask_one.ensures.done) in
+    ap length (lines-stay _ _ _ _ _ _ _ _ _ c.in_ok-ask_one.ensures.done) in
     let one : length c.loop.self.lines.items ≡ length (c.in-Some.asked ∷ c.next_line.new.self.lines.items) =
     ap length c.in-Some.ensures.next.1 in
     let same = ap (λ (d : TerminalDesk). d.setup) c.next_line.ensures.rest in
     record {
-      me = c.in_ok-ask_one.ensures.me ∙ c.loop.invariant.me;
+      rest = rw (c.in_ok-ask_one.ensures.rest, c.loop.invariant.rest) refl;
       fits = omega (arith, stay, one, c.loop.invariant.fits);
       done = (
         c.loop.invariant.done.0 ++ c.in-Some.asked ∷ [],
-        one-more _ _ _ c.args.serving.now.me c.loop.invariant.done.0 c.in-Some.asked _ (record { desk = c.loop.self; room = c.loop.serving.room }) _
+        one-more _ _ _ _ c.args.serving.now.me c.loop.invariant.done.0 c.in-Some.asked _ (record { desk = c.loop.self; room = c.loop.serving.room }) _
             c.loop.invariant.done.1 (record {
               left = c.next_line.new.self;
               next = record {
@@ -41,9 +41,9 @@ loop-preserved g c =
                 first = c.in-Some.ensures.next.1;
                 rest = c.next_line.ensures.rest;
               };
-              done = done-of _ _ _ c.next_line.new.self.setup c.loop.self.setup c.loop.serving.me c.args.serving.now.me
+              done = done-of _ _ _ _ c.next_line.new.self.setup c.loop.self.setup c.args.serving.now.me c.args.serving.now.me
                   c.in-Some.asked.text.items c.loop.serving.room c.ask_one.new.serving.room c.next_line.new.self c.ask_one.new.self
-                  same c.loop.invariant.me c.in_ok-ask_one.ensures.done;
+                  same refl (rw c.loop.invariant.rest at c.in_ok-ask_one.ensures.done);
             }),
       );
     }

@@ -15,5 +15,6 @@ returns-clause-done g c = record {
   letters = c.in_ok-letters.letters.items;
   takes = c.in_ok-take_event.ensures.takes;
   written = c.in_ok-letters.ensures.written;
+  kept = λ any syncs. c.in_ok-letters.ensures.synced (rw c.take_event.ensures.rest syncs) any refl;
   left = rw (c.tell_outcome.ensures, c.tell_answer.ensures, c.request.ensures, c.last_told.ensures, c.as_slice.ensures.value) refl;
 }

@@ -7,9 +7,8 @@ returns-in_err-ask-clause-refused g c =
     let p = err_from_is_err_and c.from_residual-in_err-ask.result c.from_residual-in_err-ask.ensures.1 in
     rw (p.1, p.2) (inr (inl (record {
       handled = record { desk = c.handle.new.self; room = c.handle.new.serving.room };
-      left = c.ask.new.self;
       handles = c.in_ok-handle.ensures.handles;
-      asks = rw c.handle.ensures.me at c.in_err-ask.ensures.refused;
+      asks = rw c.handle.ensures.rest at c.in_err-ask.ensures.refused;
     })))
 
 pub returns-in_err-pay_answer-clause-refused : goal.returns-in_err-pay_answer-clause-refused
@@ -19,10 +18,10 @@ returns-in_err-pay_answer-clause-refused g c =
       handled = record { desk = c.handle.new.self; room = c.handle.new.serving.room };
       asked = record { desk = c.ask.new.self; room = c.ask.new.serving.room };
       handles = c.in_ok-handle.ensures.handles;
-      asks = rw c.handle.ensures.me at c.in_ok-ask.ensures.asks;
+      asks = rw c.handle.ensures.rest at c.in_ok-ask.ensures.asks;
       owes = c.in_err-pay_answer.ensures.refused.0;
       unwritten = c.in_err-pay_answer.ensures.refused.1;
-      gone = c.in_err-pay_answer.ensures.refused.2;
+      left = rw (c.in_err-pay_answer.ensures.stays, c.in_err-pay_answer.ensures.refused.2) refl;
     })))
 
 pub returns-clause-takes : goal.returns-clause-takes
@@ -30,7 +29,7 @@ returns-clause-takes g c = record {
   handled = record { desk = c.handle.new.self; room = c.handle.new.serving.room };
   asked = record { desk = c.ask.new.self; room = c.ask.new.serving.room };
   handles = c.in_ok-handle.ensures.handles;
-  asks = rw c.handle.ensures.me at c.in_ok-ask.ensures.asks;
-  pays = c.in_ok-pay_answer.ensures.pays;
+  asks = rw c.handle.ensures.rest at c.in_ok-ask.ensures.asks;
+  pays = rw (c.ask.ensures.rest, c.handle.ensures.rest) at c.in_ok-pay_answer.ensures.pays;
   goes = rw (c.is_done.ensures, c.request.ensures) refl;
 }
