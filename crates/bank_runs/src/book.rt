@@ -1,9 +1,15 @@
 //! What a book of the small bank shows of the commands that came: each of its calls once. What commands are answered, in which
 //! order their faults are told, and histories drawn at random: `.ci/texts`.
+use self::Asks::{Fund, Instruct, Paid, PayOut, Rescind, Returned, Settle};
+use self::Shown::{
+    Applied, At, Balance, Count, Entries, Figure, First, Open, OpenCount, Orders, PaidIn, Pair,
+    Queued, Sent, Sites, Value,
+};
+use self::Step::{Comes, Often, Shows};
+use self::long::{Many, come_often};
 use fixtures::setup::three_currencies;
 use pvp_book::{Book, PairState};
 use pvp_types::{Cmd, PayOrder, Reason, Reply};
-use std::alloc::{AllocError, Global};
 use std::process::Abort;
 use std::test::Fail;
 
@@ -25,61 +31,173 @@ const EUR: u8 = 0;
 
 const USD: u8 = 1;
 
-fn fund(ccy: u8, pay: u32, member: u16, amt: u64) -> Cmd {
-    Cmd::Fund {
-        ccy,
-        pay,
-        member,
-        amt,
+/// What a client asks of the book.
+#[derive(Clone, Copy)]
+enum Asks {
+    /// It tells a pay-in: the currency, the number, the member and the amount.
+    Fund(u8, u32, u16, u64),
+    /// It would exchange: the reference, the other member, and what it sells and buys, each a currency and an amount.
+    Instruct(u32, u16, (u8, u64), (u8, u64)),
+    /// It takes back its instruction of a reference.
+    Rescind(u32),
+    /// It has so many pairs settled at most.
+    Settle(u32),
+    /// It asks for a payment: the currency and the amount.
+    PayOut(u8, u64),
+    /// It has paid an order: the currency and the number.
+    Paid(u8, u32),
+    /// It returns an order: the currency and the number.
+    Returned(u8, u32),
+}
+
+/// The command itself.
+fn cmd_of(asks: Asks) -> Cmd {
+    match asks {
+        Fund(ccy, pay, member, amt) => Cmd::Fund {
+            ccy,
+            pay,
+            member,
+            amt,
+        },
+        Instruct(reference, other, (sell, sell_amt), (buy, buy_amt)) => Cmd::Instruct {
+            reference,
+            other,
+            sell,
+            sell_amt,
+            buy,
+            buy_amt,
+        },
+        Rescind(reference) => Cmd::Rescind { reference },
+        Settle(most) => Cmd::Settle { most },
+        PayOut(ccy, amt) => Cmd::PayOut { ccy, amt },
+        Paid(ccy, out) => Cmd::Paid { ccy, out },
+        Returned(ccy, out) => Cmd::Returned { ccy, out },
     }
 }
 
-fn instruct(reference: u32, other: u16, sell: (u8, u64), buy: (u8, u64)) -> Cmd {
-    Cmd::Instruct {
-        reference,
-        other,
-        sell: sell.0,
-        sell_amt: sell.1,
-        buy: buy.0,
-        buy_amt: buy.1,
+/// What a book shows.
+#[derive(Clone, Copy)]
+enum Shown {
+    /// How many commands came.
+    Applied(u32),
+    /// How many of them it accepted.
+    Entries(usize),
+    /// How many sites its setup has.
+    Sites(u64),
+    /// Whether a currency's pay-in of a number is in it.
+    PaidIn(u8, u32, bool),
+    /// What a member has in a currency.
+    Balance(u16, u8, i64),
+    /// The bank's figure in a currency.
+    Figure(u8, i64),
+    /// What the value test adds up of a member.
+    Value(u16, i128),
+    /// The open order behind so many others, and the node that has to pay it.
+    Open(usize, Option<(u16, PayOrder)>),
+    /// The same, where it is ALFA's order of a number for EUR 1.
+    Sent(usize, u32),
+    /// How many orders are open.
+    OpenCount(usize),
+    /// The first open order of a currency.
+    First(u8, Option<PayOrder>),
+    /// How many orders of a currency there were.
+    Orders(u8, u32),
+    /// How far the pair of a reference has come.
+    Pair(u32, Option<PairState>),
+    /// How many pairs have come so far.
+    Count(PairState, u32),
+    /// How many pairs wait.
+    Queued(usize),
+    /// The pair that waits at a place.
+    At(usize, Option<u32>),
+}
+
+/// ALFA's order of a number for EUR 1.
+fn euro_of(out: u32) -> PayOrder {
+    PayOrder {
+        ccy: EUR,
+        out,
+        member: ALFA,
+        amt: 1,
     }
 }
 
-fn rescind(reference: u32) -> Cmd {
-    Cmd::Rescind { reference }
+/// Whether a book shows this of its orders and pairs.
+fn shows_work(book: &Book, shown: Shown) -> bool {
+    match shown {
+        Open(before, order) => book.open(before) == order,
+        Sent(before, out) => book.open(before) == Some((EUR_NODE, euro_of(out))),
+        OpenCount(count) => book.open_count() == count,
+        First(ccy, order) => book.open_orders(ccy).next() == order,
+        Orders(ccy, count) => book.orders(ccy) == count,
+        Pair(reference, state) => book.pair(reference) == state,
+        Count(state, count) => book.pairs(state) == count,
+        Queued(count) => book.queued() == count,
+        At(place, reference) => book.queue_at(place) == reference,
+        _ => false,
+    }
 }
 
-fn settle(most: u32) -> Cmd {
-    Cmd::Settle { most }
+/// Whether a book shows this.
+fn shows(book: &Book, shown: Shown) -> bool {
+    match shown {
+        Applied(count) => book.applied() == count,
+        Entries(count) => book.entries().len() == count,
+        Sites(count) => book.setup().sites == count,
+        PaidIn(ccy, pay, is_in) => book.paid_in(ccy, pay) == is_in,
+        Balance(member, ccy, balance) => book.balance(member, ccy) == balance,
+        Figure(ccy, figure) => book.figure(ccy) == figure,
+        Value(member, value) => book.value(member) == value,
+        work => shows_work(book, work),
+    }
 }
 
-fn pay_out(ccy: u8, amt: u64) -> Cmd {
-    Cmd::PayOut { ccy, amt }
+/// What a book is given or asked, and what comes of it.
+#[derive(Clone, Copy)]
+enum Step {
+    /// A command of a client, and what it is answered.
+    Comes(u16, Asks, Reply),
+    /// Commands that come so often.
+    Often(Many, u32),
+    /// What it then shows.
+    Shows(Shown),
 }
 
-fn paid(ccy: u8, out: u32) -> Cmd {
-    Cmd::Paid { ccy, out }
+/// Gives a book a command, and compares its answer.
+fn comes(
+    rt: &impl Abort,
+    book: &mut Book,
+    client: u16,
+    asks: Asks,
+    reply: Reply,
+) -> Result<(), Fail> {
+    assert!(rt; book.applied() < 65_535);
+    assert_eq!(rt; book.apply(client, cmd_of(asks))?, reply);
+    Ok(())
 }
 
-fn returned(ccy: u8, out: u32) -> Cmd {
-    Cmd::Returned { ccy, out }
+/// A book goes a step.
+fn go_one(rt: &impl Abort, book: &mut Book, step: Step) -> Result<bool, Fail> {
+    match step {
+        Comes(client, asks, reply) => comes(rt, book, client, asks, reply)?,
+        Often(many, count) => come_often(rt, book, many, count)?,
+        Shows(shown) => return Ok(shows(book, shown)),
+    }
+    Ok(true)
 }
 
-/// A new book of the small bank.
-fn book(alloc: Global) -> Result<Book, AllocError> {
-    Ok(Book::fresh(alloc, &three_currencies(alloc)?)?)
-}
-
-/// A command, its sender and what it is answered.
-type Row = (u16, Cmd, Reply);
-
-/// Gives a book commands in turn, and compares their answers.
-fn run(rt: &impl Abort, book: &mut Book, rows: &[Row]) -> Result<(), Fail> {
-    for (client, cmd, reply) in rows {
-        assert!(rt; book.applied() < 65_535);
-        assert_eq!(rt; book.apply(*client, *cmd)?, *reply);
+/// A book goes steps in turn.
+fn go(rt: &impl Abort, book: &mut Book, steps: &[Step]) -> Result<(), Fail> {
+    for (at, step) in steps.iter().enumerate() {
+        assert!(rt; go_one(rt, book, *step)?, "step {at}");
     }
     Ok(())
+}
+
+/// A new book of the small bank goes these steps.
+fn run<R: Abort + AllocGlobal>(rt: &R, steps: &[Step]) -> Result<(), Fail> {
+    let setup = three_currencies(rt.alloc())?;
+    go(rt, &mut Book::fresh(rt.alloc(), &setup)?, steps)
 }
 
 /// ALFA's order for USD 200, the first.
@@ -90,171 +208,131 @@ const ORDER: PayOrder = PayOrder {
     amt: 200,
 };
 
-/// The open order behind so many others, and the node that has to pay it.
-fn has_open(rt: &impl Abort, book: &Book, before: usize, order: Option<(u16, PayOrder)>) {
-    assert_eq!(rt; book.open(before), order);
-}
-
-/// The first open order of a currency.
-fn first_open(book: &Book, ccy: u8) -> Option<PayOrder> {
-    book.open_orders(ccy).next()
-}
-
-/// How many orders are open, and how many of USD there were.
-fn has_orders(rt: &impl Abort, book: &Book, counts: (usize, u32)) {
-    assert_eq!(rt; (book.open_count(), book.orders(USD)), counts);
-}
-
-fn shows_the_order(rt: &impl Abort, book: &Book) {
-    has_open(rt, book, 0, Some((USD_NODE, ORDER)));
-    has_open(rt, book, 1, None);
-    has_orders(rt, book, (1, 1));
-    assert_eq!(rt; first_open(book, USD), Some(ORDER));
-}
-
-fn shows_no_open_order(rt: &impl Abort, book: &Book) {
-    has_open(rt, book, 0, None);
-    has_orders(rt, book, (0, 1));
-}
-
 #[test]
 fn keeps_a_pay_out_until_it_is_paid(rt: HostRuntime) -> Result<(), Fail> {
-    let mut book = book(rt.alloc())?;
-    let rows = [
-        (USD_NODE, fund(USD, 1, ALFA, 1200), Reply::Done),
-        (ALFA, pay_out(USD, 200), Reply::Order(1)),
+    const STEPS: &[Step] = &[
+        Comes(USD_NODE, Fund(USD, 1, ALFA, 1200), Reply::Done),
+        Comes(ALFA, PayOut(USD, 200), Reply::Order(1)),
+        Shows(Open(0, Some((USD_NODE, ORDER)))),
+        Shows(Open(1, None)),
+        Shows(OpenCount(1)),
+        Shows(Orders(USD, 1)),
+        Shows(First(USD, Some(ORDER))),
+        Comes(USD_NODE, Paid(USD, 1), Reply::Done),
+        Shows(Open(0, None)),
+        Shows(OpenCount(0)),
+        Shows(Orders(USD, 1)),
     ];
-    run(&rt, &mut book, &rows)?;
-    shows_the_order(&rt, &book);
-    run(&rt, &mut book, &[(USD_NODE, paid(USD, 1), Reply::Done)])?;
-    shows_no_open_order(&rt, &book);
-    Ok(())
-}
-
-fn shows_1200(rt: &impl Abort, book: &Book) {
-    assert_eq!(rt; book.balance(ALFA, USD), 1200);
-    assert_eq!(rt; book.figure(USD), 1200);
+    run(&rt, STEPS)
 }
 
 #[test]
 fn credits_a_returned_pay_out_once(rt: HostRuntime) -> Result<(), Fail> {
-    let mut book = book(rt.alloc())?;
-    let rows = [
-        (USD_NODE, fund(USD, 1, ALFA, 1200), Reply::Done),
-        (ALFA, pay_out(USD, 200), Reply::Order(1)),
-        (USD_NODE, returned(USD, 1), Reply::Done),
-        (USD_NODE, returned(USD, 1), Reply::No(Reason::Repeated)),
-        (USD_NODE, paid(USD, 1), Reply::No(Reason::Repeated)),
-        (
+    const STEPS: &[Step] = &[
+        Comes(USD_NODE, Fund(USD, 1, ALFA, 1200), Reply::Done),
+        Comes(ALFA, PayOut(USD, 200), Reply::Order(1)),
+        Comes(USD_NODE, Returned(USD, 1), Reply::Done),
+        Comes(USD_NODE, Returned(USD, 1), Reply::No(Reason::Repeated)),
+        Comes(USD_NODE, Paid(USD, 1), Reply::No(Reason::Repeated)),
+        Comes(
             USD_NODE,
-            returned(USD, 2),
+            Returned(USD, 2),
             Reply::No(Reason::UnknownReference),
         ),
+        Shows(Balance(ALFA, USD, 1200)),
+        Shows(Figure(USD, 1200)),
+        Shows(Open(0, None)),
+        Shows(OpenCount(0)),
+        Shows(Orders(USD, 1)),
     ];
-    run(&rt, &mut book, &rows)?;
-    shows_1200(&rt, &book);
-    shows_no_open_order(&rt, &book);
-    Ok(())
+    run(&rt, STEPS)
 }
 
-/// Two commands came, of which the second, the first again, was refused: it is counted, and is no entry.
-fn shows_what_came(rt: &impl Abort, book: &Book) {
-    assert_eq!(rt; (book.applied(), book.entries().len()), (2, 1));
-    assert_eq!(rt; book.setup().sites, 3);
-    assert_eq!(rt; (book.paid_in(USD, 1), book.paid_in(USD, 2)), (true, false));
-}
-
+/// Two commands come, of which the second, the first again, is refused: it is counted, and is no entry.
 #[test]
 fn counts_what_came(rt: HostRuntime) -> Result<(), Fail> {
-    let mut book = book(rt.alloc())?;
-    assert_eq!(rt; book.applied(), 0);
-    let rows = [
-        (USD_NODE, fund(USD, 1, ALFA, 1200), Reply::Done),
-        (
+    const STEPS: &[Step] = &[
+        Shows(Applied(0)),
+        Comes(USD_NODE, Fund(USD, 1, ALFA, 1200), Reply::Done),
+        Comes(
             USD_NODE,
-            fund(USD, 1, ALFA, 1200),
+            Fund(USD, 1, ALFA, 1200),
             Reply::No(Reason::Repeated),
         ),
+        Shows(Applied(2)),
+        Shows(Entries(1)),
+        Shows(Sites(3)),
+        Shows(PaidIn(USD, 1, true)),
+        Shows(PaidIn(USD, 2, false)),
+        Shows(Balance(ALFA, USD, 1200)),
+        Shows(Figure(USD, 1200)),
     ];
-    run(&rt, &mut book, &rows)?;
-    shows_what_came(&rt, &book);
-    shows_1200(&rt, &book);
-    Ok(())
+    run(&rt, STEPS)
 }
 
-/// One pair of each state.
-fn shows_the_pairs(rt: &impl Abort, book: &Book) {
-    assert_eq!(rt; book.pair(1), None);
-    assert_eq!(rt; book.pair(7), Some(PairState::Unmatched));
-    assert_eq!(rt; book.pair(3), Some(PairState::Settled));
-    assert_eq!(rt; book.pair(4), Some(PairState::Rescinded));
-    assert_eq!(rt; book.pair(5), Some(PairState::Matched));
-    assert_eq!(rt; book.pairs(PairState::Unmatched), 1);
-    assert_eq!(rt; book.pairs(PairState::Matched), 1);
-    assert_eq!(rt; book.pairs(PairState::Settled), 1);
-    assert_eq!(rt; book.pairs(PairState::Rescinded), 1);
-}
-
+/// In the end there is one pair of each state.
 #[test]
 fn knows_how_far_a_pair_has_come(rt: HostRuntime) -> Result<(), Fail> {
-    let mut book = book(rt.alloc())?;
-    let rows = [
-        (ALFA, instruct(7, BETA, (USD, 10), (EUR, 9)), Reply::Done),
-        (ALFA, instruct(3, BETA, (USD, 10), (EUR, 9)), Reply::Done),
-        (BETA, instruct(3, ALFA, (EUR, 9), (USD, 10)), Reply::Matched),
-        (ALFA, instruct(4, BETA, (USD, 1), (EUR, 1)), Reply::Done),
-        (ALFA, rescind(4), Reply::Done),
-        (USD_NODE, fund(USD, 1, ALFA, 10), Reply::Done),
-        (EUR_NODE, fund(EUR, 1, BETA, 9), Reply::Done),
-        (ALFA, instruct(5, BETA, (USD, 10), (EUR, 9)), Reply::Done),
-        (BETA, instruct(5, ALFA, (EUR, 9), (USD, 10)), Reply::Matched),
-        (OPERATOR, settle(1), Reply::Settled(1)),
+    const STEPS: &[Step] = &[
+        Comes(ALFA, Instruct(7, BETA, (USD, 10), (EUR, 9)), Reply::Done),
+        Comes(ALFA, Instruct(3, BETA, (USD, 10), (EUR, 9)), Reply::Done),
+        Comes(BETA, Instruct(3, ALFA, (EUR, 9), (USD, 10)), Reply::Matched),
+        Comes(ALFA, Instruct(4, BETA, (USD, 1), (EUR, 1)), Reply::Done),
+        Comes(ALFA, Rescind(4), Reply::Done),
+        Comes(USD_NODE, Fund(USD, 1, ALFA, 10), Reply::Done),
+        Comes(EUR_NODE, Fund(EUR, 1, BETA, 9), Reply::Done),
+        Comes(ALFA, Instruct(5, BETA, (USD, 10), (EUR, 9)), Reply::Done),
+        Comes(BETA, Instruct(5, ALFA, (EUR, 9), (USD, 10)), Reply::Matched),
+        Comes(OPERATOR, Settle(1), Reply::Settled(1)),
+        Shows(Pair(1, None)),
+        Shows(Pair(7, Some(PairState::Unmatched))),
+        Shows(Pair(3, Some(PairState::Settled))),
+        Shows(Pair(4, Some(PairState::Rescinded))),
+        Shows(Pair(5, Some(PairState::Matched))),
+        Shows(Count(PairState::Unmatched, 1)),
+        Shows(Count(PairState::Matched, 1)),
+        Shows(Count(PairState::Settled, 1)),
+        Shows(Count(PairState::Rescinded, 1)),
     ];
-    run(&rt, &mut book, &rows)?;
-    shows_the_pairs(&rt, &book);
-    Ok(())
+    run(&rt, STEPS)
 }
 
-/// What the value test adds up of ALFA and BETA, and which pairs wait, the first of them.
-fn has_values(rt: &impl Abort, book: &Book, values: [i128; 2], waiting: (usize, Option<u32>)) {
-    assert_eq!(rt; [book.value(ALFA), book.value(BETA)], values);
-    assert_eq!(rt; (book.queued(), book.queue_at(0)), waiting);
-}
+/// What ALFA asks: an exchange of its USD 1100 for EUR 1000 of BETA.
+const SELLS: Asks = Instruct(1, BETA, (USD, 1100), (EUR, 1000));
 
-/// USD 1200 of ALFA and EUR of BETA, an exchange of USD 1100 for EUR 1000 that is agreed, and a walk over it.
-fn exchange(rt: &impl Abort, book: &mut Book, euros: u64, settled: u32) -> Result<(), Fail> {
-    let rows = [
-        (USD_NODE, fund(USD, 1, ALFA, 1200), Reply::Done),
-        (EUR_NODE, fund(EUR, 1, BETA, euros), Reply::Done),
-        (
-            ALFA,
-            instruct(1, BETA, (USD, 1100), (EUR, 1000)),
-            Reply::Done,
-        ),
-        (
-            BETA,
-            instruct(1, ALFA, (EUR, 1000), (USD, 1100)),
-            Reply::Matched,
-        ),
-        (OPERATOR, settle(10), Reply::Settled(settled)),
-    ];
-    run(rt, book, &rows)
-}
+/// The other side of it.
+const BUYS: Asks = Instruct(1, ALFA, (EUR, 1000), (USD, 1100));
 
 /// BETA would have EUR -953, which weigh 1,100,715,000 with their haircut, against USD 1100, which weigh 1,100,000,000.
 #[test]
 fn keeps_a_pair_that_no_value_covers(rt: HostRuntime) -> Result<(), Fail> {
-    let mut book = book(rt.alloc())?;
-    exchange(&rt, &mut book, 47, 0)?;
-    has_values(&rt, &book, [1_200_000_000, 49_115_000], (1, Some(1)));
-    Ok(())
+    const STEPS: &[Step] = &[
+        Comes(USD_NODE, Fund(USD, 1, ALFA, 1200), Reply::Done),
+        Comes(EUR_NODE, Fund(EUR, 1, BETA, 47), Reply::Done),
+        Comes(ALFA, SELLS, Reply::Done),
+        Comes(BETA, BUYS, Reply::Matched),
+        Comes(OPERATOR, Settle(10), Reply::Settled(0)),
+        Shows(Value(ALFA, 1_200_000_000)),
+        Shows(Value(BETA, 49_115_000)),
+        Shows(Queued(1)),
+        Shows(At(0, Some(1))),
+    ];
+    run(&rt, STEPS)
 }
 
 /// With one euro more the pair settles: ALFA has USD 100 and EUR 1000, BETA EUR -952 and USD 1100.
 #[test]
 fn settles_a_pair_that_the_value_covers(rt: HostRuntime) -> Result<(), Fail> {
-    let mut book = book(rt.alloc())?;
-    exchange(&rt, &mut book, 48, 1)?;
-    has_values(&rt, &book, [1_145_000_000, 440_000], (0, None));
-    Ok(())
+    const STEPS: &[Step] = &[
+        Comes(USD_NODE, Fund(USD, 1, ALFA, 1200), Reply::Done),
+        Comes(EUR_NODE, Fund(EUR, 1, BETA, 48), Reply::Done),
+        Comes(ALFA, SELLS, Reply::Done),
+        Comes(BETA, BUYS, Reply::Matched),
+        Comes(OPERATOR, Settle(10), Reply::Settled(1)),
+        Shows(Value(ALFA, 1_145_000_000)),
+        Shows(Value(BETA, 440_000)),
+        Shows(Queued(0)),
+        Shows(At(0, None)),
+    ];
+    run(&rt, STEPS)
 }

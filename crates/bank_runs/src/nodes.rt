@@ -21,7 +21,7 @@ const ALFA: u16 = 1;
 const BETA: u16 = 2;
 
 /// What happens to a node.
-#[derive(Clone, Copy, Debug)]
+#[derive(Clone, Copy)]
 enum Does {
     PayIn(u16, u64),
     Close(u16),
@@ -32,8 +32,28 @@ enum Does {
     Beat,
 }
 
-/// An event, why the node refuses it or how many envelopes it sends, and what the bank's account and ALFA's then hold.
-type Row = (Does, Result<usize, NodeFault>, u64, u64);
+/// What a node is given or asked, and what comes of it.
+#[derive(Clone, Copy)]
+enum Step {
+    /// An event, why the node refuses it or how many envelopes it sends, and what the bank's account and ALFA's then hold.
+    Comes(Does, Result<usize, NodeFault>, u64, u64),
+    /// The event comes so often, and is not refused.
+    Often(Does, u32),
+    /// Orders of 1 for ALFA come that have each number from 1 up to so many, the seventh for BETA; none is refused.
+    Orders(u32),
+    /// A commit comes to it, which is refused.
+    RefusesCommit(NodeFault),
+    /// An order number 1 comes, sent to this actor: its currency, its member and its amount, and why it is refused.
+    Refuses(u16, u8, u16, u64, NodeFault),
+    /// Its next beat sends the request of this number, which asks so.
+    Tells(u32, Cmd),
+    /// How many orders it has paid, and how many returned.
+    Has(usize, usize),
+    /// The payments in that it made.
+    PayIns(&'static [PayIn]),
+    /// The payments out that it made.
+    PayOuts(&'static [PayOrder]),
+}
 
 /// The node of a currency of the small bank.
 fn node(alloc: Global, ccy: u8) -> Result<Node, Fail> {
@@ -92,208 +112,291 @@ fn alfas(rt: &impl Abort, node: &Node) -> u64 {
     node.member_account(ALFA)
 }
 
-/// Has these events happen to USD's node in turn, and compares what comes of them.
-fn run(rt: &impl Abort, usd: &mut Node, rows: &[Row]) {
-    for (event, outcome, account, alfas_account) in rows {
-        assert_eq!(rt; done(usd, USD, *event), *outcome);
-        assert_eq!(rt; (usd.account(), alfas(rt, usd)), (*account, *alfas_account));
+/// An event comes out so.
+fn comes(
+    rt: &impl Abort,
+    node: &mut Node,
+    ccy: u8,
+    event: Does,
+    outcome: Result<usize, NodeFault>,
+) {
+    assert_eq!(rt; done(node, ccy, event), outcome);
+}
+
+/// The bank's account and ALFA's hold so much.
+fn holds(rt: &impl Abort, node: &Node, account: u64, alfas_account: u64) {
+    assert_eq!(rt; (node.account(), alfas(rt, node)), (account, alfas_account));
+}
+
+/// The event comes so often.
+fn come_often(node: &mut Node, ccy: u8, event: Does, count: u32) -> Result<(), Fail> {
+    for _ in 0..count {
+        done(node, ccy, event)?;
     }
+    Ok(())
+}
+
+/// Orders of each number up to so many come, the seventh for BETA and each other for ALFA.
+fn order_up_to(node: &mut Node, ccy: u8, count: u32) -> Result<(), Fail> {
+    for out in 1..=count {
+        let member = if out == 7 { BETA } else { ALFA };
+        done(node, ccy, Does::Order(out, member, 1))?;
+    }
+    Ok(())
+}
+
+/// An envelope is refused.
+fn is_refused(rt: &impl Abort, node: &mut Node, envelope: Envelope<Book>, fault: NodeFault) {
+    assert_eq!(rt; node.take(envelope).err(), Some(fault));
+}
+
+/// A commit for a currency's node.
+fn commit_to(ccy: u8) -> Envelope<Book> {
+    to_node(node_of(ccy), MsgOf::Commit(Commit { view: 0, done: 0 }))
+}
+
+/// Whether an envelope is this request of USD's node, to this site.
+fn is_asked(envelope: &Envelope<Book>, site: u16, wanted: u32, notice: Cmd) -> bool {
+    match &envelope.msg {
+        MsgOf::Request(msg) => {
+            envelope.from == USD_NODE
+                && envelope.to == site
+                && msg.number == wanted
+                && msg.cmd == notice
+        }
+        _ => false,
+    }
+}
+
+/// Whether what was sent is this request of USD's node, to each of three sites.
+fn asks(sent: &[Envelope<Book>], wanted: u32, notice: Cmd) -> bool {
+    match sent {
+        [first, second, third] => {
+            is_asked(first, 200, wanted, notice)
+                && is_asked(second, 201, wanted, notice)
+                && is_asked(third, 202, wanted, notice)
+        }
+        _ => false,
+    }
+}
+
+/// The next beat asks so.
+fn tells(rt: &impl Abort, node: &Node, number: u32, notice: Cmd) -> Result<(), Fail> {
+    assert!(rt; asks(node.beat()?.as_slice(), number, notice));
+    Ok(())
+}
+
+/// A node shows this of its payments.
+fn shows(rt: &impl Abort, node: &Node, step: Step) {
+    match step {
+        Step::Has(paid, returned) => {
+            assert_eq!(rt; (node.pay_outs().len(), node.returned()), (paid, returned))
+        }
+        Step::PayIns(wanted) => assert_eq!(rt; node.pay_ins(), wanted),
+        Step::PayOuts(wanted) => assert_eq!(rt; node.pay_outs(), wanted),
+        _ => {}
+    }
+}
+
+/// A currency's node goes a step.
+fn go_one(rt: &impl Abort, node: &mut Node, ccy: u8, step: Step) -> Result<(), Fail> {
+    match step {
+        Step::Comes(event, outcome, account, alfas_account) => {
+            comes(rt, node, ccy, event, outcome);
+            holds(rt, node, account, alfas_account);
+        }
+        Step::Often(event, count) => come_often(node, ccy, event, count)?,
+        Step::Orders(count) => order_up_to(node, ccy, count)?,
+        Step::RefusesCommit(fault) => is_refused(rt, node, commit_to(ccy), fault),
+        Step::Refuses(to, of, member, amt, fault) => {
+            is_refused(rt, node, to_node(to, order_of(of, 1, member, amt)), fault)
+        }
+        Step::Tells(number, notice) => tells(rt, node, number, notice)?,
+        Step::Has(..) | Step::PayIns(_) | Step::PayOuts(_) => shows(rt, node, step),
+    }
+    Ok(())
+}
+
+/// A currency's node goes steps in turn.
+fn go(rt: &impl Abort, node: &mut Node, ccy: u8, steps: &[Step]) -> Result<(), Fail> {
+    for step in steps {
+        go_one(rt, node, ccy, *step)?;
+    }
+    Ok(())
+}
+
+/// A currency's new node goes these steps.
+fn run<R: Abort + AllocGlobal>(rt: &R, ccy: u8, steps: &[Step]) -> Result<(), Fail> {
+    go(rt, &mut node(rt.alloc(), ccy)?, ccy, steps)
 }
 
 #[test]
 fn pays_each_order_once(rt: HostRuntime) -> Result<(), Fail> {
-    let rows = [
-        (Does::PayIn(ALFA, 1200), Ok(3), 1200, 8800),
-        (Does::PayIn(ALFA, 8801), Err(NodeFault::Short), 1200, 8800),
-        (Does::PayIn(ALFA, 300), Ok(0), 1500, 8500),
-        (Does::Reply(1), Ok(3), 1500, 8500),
-        (Does::Reply(1), Ok(0), 1500, 8500),
-        (Does::Order(1, ALFA, 200), Ok(0), 1300, 8700),
-        (Does::Order(1, ALFA, 200), Ok(0), 1300, 8700),
-        (Does::Order(2, ALFA, 200), Ok(0), 1100, 8900),
-        (
+    const STEPS: &[Step] = &[
+        Step::Comes(Does::PayIn(ALFA, 1200), Ok(3), 1200, 8800),
+        Step::Comes(Does::PayIn(ALFA, 8801), Err(NodeFault::Short), 1200, 8800),
+        Step::Comes(Does::PayIn(ALFA, 300), Ok(0), 1500, 8500),
+        Step::Comes(Does::Reply(1), Ok(3), 1500, 8500),
+        Step::Comes(Does::Reply(1), Ok(0), 1500, 8500),
+        Step::Comes(Does::Order(1, ALFA, 200), Ok(0), 1300, 8700),
+        Step::Comes(Does::Order(1, ALFA, 200), Ok(0), 1300, 8700),
+        Step::Comes(Does::Order(2, ALFA, 200), Ok(0), 1100, 8900),
+        Step::Comes(
             Does::Order(3, ALFA, 1101),
             Err(NodeFault::Short),
             1100,
             8900,
         ),
-        (Does::Beat, Ok(3), 1100, 8900),
+        Step::Comes(Does::Beat, Ok(3), 1100, 8900),
     ];
-    run(&rt, &mut node(rt.alloc(), USD)?, &rows);
-    Ok(())
+    run(&rt, USD, STEPS)
 }
 
 #[test]
 fn returns_the_orders_of_a_closed_account_once(rt: HostRuntime) -> Result<(), Fail> {
-    let rows = [
-        (Does::PayIn(ALFA, 1200), Ok(3), 1200, 8800),
-        (Does::Order(1, ALFA, 200), Ok(0), 1000, 9000),
-        (Does::Close(3), Err(NodeFault::UnknownMember), 1000, 9000),
-        (Does::Close(ALFA), Ok(0), 1000, 9000),
-        (Does::Close(ALFA), Err(NodeFault::Closed), 1000, 9000),
-        (Does::PayIn(ALFA, 0), Err(NodeFault::BadAmount), 1000, 9000),
-        (Does::PayIn(ALFA, 5), Err(NodeFault::Closed), 1000, 9000),
-        (Does::Order(2, ALFA, 9999), Ok(0), 1000, 9000),
-        (Does::Order(2, ALFA, 9999), Ok(0), 1000, 9000),
-        (Does::Order(1, ALFA, 200), Ok(0), 1000, 9000),
-        (Does::Reply(1), Ok(3), 1000, 9000),
-        (Does::Reply(2), Ok(3), 1000, 9000),
-        (Does::Reply(3), Ok(0), 1000, 9000),
-        (Does::Beat, Ok(0), 1000, 9000),
+    const STEPS: &[Step] = &[
+        Step::Comes(Does::PayIn(ALFA, 1200), Ok(3), 1200, 8800),
+        Step::Comes(Does::Order(1, ALFA, 200), Ok(0), 1000, 9000),
+        Step::Comes(Does::Close(3), Err(NodeFault::UnknownMember), 1000, 9000),
+        Step::Comes(Does::Close(ALFA), Ok(0), 1000, 9000),
+        Step::Comes(Does::Close(ALFA), Err(NodeFault::Closed), 1000, 9000),
+        Step::Comes(Does::PayIn(ALFA, 0), Err(NodeFault::BadAmount), 1000, 9000),
+        Step::Comes(Does::PayIn(ALFA, 5), Err(NodeFault::Closed), 1000, 9000),
+        Step::Comes(Does::Order(2, ALFA, 9999), Ok(0), 1000, 9000),
+        Step::Comes(Does::Order(2, ALFA, 9999), Ok(0), 1000, 9000),
+        Step::Comes(Does::Order(1, ALFA, 200), Ok(0), 1000, 9000),
+        Step::Comes(Does::Reply(1), Ok(3), 1000, 9000),
+        Step::Comes(Does::Reply(2), Ok(3), 1000, 9000),
+        Step::Comes(Does::Reply(3), Ok(0), 1000, 9000),
+        Step::Comes(Does::Beat, Ok(0), 1000, 9000),
+        Step::Has(1, 1),
     ];
-    let mut usd = node(rt.alloc(), USD)?;
-    run(&rt, &mut usd, &rows);
-    let ends = (usd.pay_outs().len(), usd.returned());
-    assert_eq!(rt; ends, (1, 1));
-    Ok(())
+    run(&rt, USD, STEPS)
 }
 
 #[test]
 fn refuses_a_pay_in_in_order(rt: HostRuntime) -> Result<(), Fail> {
-    let most = 1_000_000_000_000;
-    let rows = [
-        (Does::Close(BETA), Ok(0), 0, 10_000),
-        (Does::PayIn(3, 0), Err(NodeFault::UnknownMember), 0, 10_000),
-        (Does::PayIn(0, 5), Err(NodeFault::UnknownMember), 0, 10_000),
-        (Does::PayIn(BETA, 0), Err(NodeFault::BadAmount), 0, 10_000),
-        (
-            Does::PayIn(BETA, most + 1),
+    const MOST: u64 = 1_000_000_000_000;
+    const STEPS: &[Step] = &[
+        Step::Comes(Does::Close(BETA), Ok(0), 0, 10_000),
+        Step::Comes(Does::PayIn(3, 0), Err(NodeFault::UnknownMember), 0, 10_000),
+        Step::Comes(Does::PayIn(0, 5), Err(NodeFault::UnknownMember), 0, 10_000),
+        Step::Comes(Does::PayIn(BETA, 0), Err(NodeFault::BadAmount), 0, 10_000),
+        Step::Comes(
+            Does::PayIn(BETA, MOST + 1),
             Err(NodeFault::BadAmount),
             0,
             10_000,
         ),
-        (Does::PayIn(BETA, most), Err(NodeFault::Closed), 0, 10_000),
-        (Does::PayIn(ALFA, 10_001), Err(NodeFault::Short), 0, 10_000),
-        (Does::PayIn(ALFA, 10_000), Ok(3), 10_000, 0),
+        Step::Comes(Does::PayIn(BETA, MOST), Err(NodeFault::Closed), 0, 10_000),
+        Step::Comes(Does::PayIn(ALFA, 10_001), Err(NodeFault::Short), 0, 10_000),
+        Step::Comes(Does::PayIn(ALFA, 10_000), Ok(3), 10_000, 0),
     ];
-    run(&rt, &mut node(rt.alloc(), USD)?, &rows);
-    Ok(())
-}
-
-fn refuse_in_order(rt: &impl Abort, usd: &mut Node) {
-    let commit = to_node(USD_NODE, MsgOf::Commit(Commit { view: 0, done: 0 }));
-    assert_eq!(rt; usd.take(commit).err(), Some(NodeFault::NotMine));
-    let refused = [
-        (JPY_NODE, JPY, ALFA, 5, NodeFault::NotMine),
-        (USD_NODE, JPY, 3, 0, NodeFault::NotMine),
-        (USD_NODE, USD, 3, 0, NodeFault::UnknownMember),
-        (USD_NODE, USD, ALFA, 0, NodeFault::BadAmount),
-        (USD_NODE, USD, ALFA, 1, NodeFault::Short),
-    ];
-    for (to, ccy, member, amt, fault) in refused.iter() {
-        let envelope = to_node(*to, order_of(*ccy, 1, *member, *amt));
-        assert_eq!(rt; usd.take(envelope).err(), Some(*fault));
-    }
+    run(&rt, USD, STEPS)
 }
 
 #[test]
 fn refuses_an_envelope_in_order(rt: HostRuntime) -> Result<(), Fail> {
-    refuse_in_order(&rt, &mut node(rt.alloc(), USD)?);
-    Ok(())
-}
-
-/// Whether what was sent is this request of USD's node, to each of three sites.
-fn asks(sent: &[Envelope<Book>], wanted: u32, notice: Cmd) -> bool {
-    sent.len() == 3
-        && sent.iter().zip([200, 201, 202].iter()).all(|(envelope, site)| {
-            envelope.from == USD_NODE
-                && envelope.to == *site
-                && match &envelope.msg {
-                    MsgOf::Request(msg) => msg.number == wanted && msg.cmd == notice,
-                    _ => false,
-                }
-        })
+    const STEPS: &[Step] = &[
+        Step::RefusesCommit(NodeFault::NotMine),
+        Step::Refuses(JPY_NODE, JPY, ALFA, 5, NodeFault::NotMine),
+        Step::Refuses(USD_NODE, JPY, 3, 0, NodeFault::NotMine),
+        Step::Refuses(USD_NODE, USD, 3, 0, NodeFault::UnknownMember),
+        Step::Refuses(USD_NODE, USD, ALFA, 0, NodeFault::BadAmount),
+        Step::Refuses(USD_NODE, USD, ALFA, 1, NodeFault::Short),
+    ];
+    run(&rt, USD, STEPS)
 }
 
 /// USD's node asks for each payment until it is answered.
-fn tell_of_each(rt: &impl Abort, usd: &mut Node) -> Result<(), Fail> {
-    let fund = Cmd::Fund {
+#[test]
+fn tells_the_bank_of_each_payment(rt: HostRuntime) -> Result<(), Fail> {
+    const FUND: Cmd = Cmd::Fund {
         ccy: USD,
         pay: 1,
         member: ALFA,
         amt: 1200,
     };
-    let paid = Cmd::Paid { ccy: USD, out: 1 };
-    let returned = Cmd::Returned { ccy: USD, out: 2 };
-    let out = [
-        (Does::PayIn(ALFA, 1200), 1, fund),
-        (Does::Order(1, ALFA, 200), 1, fund),
-        (Does::Reply(1), 2, paid),
-        (Does::Close(ALFA), 2, paid),
-        (Does::Order(2, ALFA, 200), 2, paid),
-        (Does::Reply(2), 3, returned),
+    const PAID: Cmd = Cmd::Paid { ccy: USD, out: 1 };
+    const RETURNED: Cmd = Cmd::Returned { ccy: USD, out: 2 };
+    const STEPS: &[Step] = &[
+        Step::Often(Does::PayIn(ALFA, 1200), 1),
+        Step::Tells(1, FUND),
+        Step::Often(Does::Order(1, ALFA, 200), 1),
+        Step::Tells(1, FUND),
+        Step::Often(Does::Reply(1), 1),
+        Step::Tells(2, PAID),
+        Step::Often(Does::Close(ALFA), 1),
+        Step::Tells(2, PAID),
+        Step::Often(Does::Order(2, ALFA, 200), 1),
+        Step::Tells(2, PAID),
+        Step::Often(Does::Reply(2), 1),
+        Step::Tells(3, RETURNED),
     ];
-    for (event, number, notice) in out.iter() {
-        done(usd, USD, *event)?;
-        assert!(rt; asks(usd.beat()?.as_slice(), *number, *notice));
-    }
-    Ok(())
+    run(&rt, USD, STEPS)
 }
 
 #[test]
-fn tells_the_bank_of_each_payment(rt: HostRuntime) -> Result<(), Fail> {
-    tell_of_each(&rt, &mut node(rt.alloc(), USD)?)
-}
-
-fn show_payments(rt: &impl Abort, usd: &mut Node) -> Result<(), Fail> {
-    done(usd, USD, Does::PayIn(BETA, 5))?;
-    done(usd, USD, Does::Order(1, ALFA, 4))?;
-    let pay_ins = [PayIn {
+fn shows_its_payments(rt: HostRuntime) -> Result<(), Fail> {
+    const PAY_INS: &[PayIn] = &[PayIn {
         member: BETA,
         amt: 5,
     }];
-    let pay_outs = [PayOrder {
+    const PAY_OUTS: &[PayOrder] = &[PayOrder {
         ccy: USD,
         out: 1,
         member: ALFA,
         amt: 4,
     }];
-    assert_eq!(rt; usd.pay_ins(), pay_ins.as_slice());
-    assert_eq!(rt; usd.pay_outs(), pay_outs.as_slice());
-    Ok(())
-}
-
-#[test]
-fn shows_its_payments(rt: HostRuntime) -> Result<(), Fail> {
-    show_payments(&rt, &mut node(rt.alloc(), USD)?)
+    const STEPS: &[Step] = &[
+        Step::Often(Does::PayIn(BETA, 5), 1),
+        Step::Often(Does::Order(1, ALFA, 4), 1),
+        Step::PayIns(PAY_INS),
+        Step::PayOuts(PAY_OUTS),
+    ];
+    run(&rt, USD, STEPS)
 }
 
 /// JPY's node pays in and out until its numbers are used up.
-fn use_all_numbers(rt: &impl Abort, jpy: &mut Node) -> Result<(), Fail> {
-    for _ in 0..65_535 {
-        done(jpy, JPY, Does::PayIn(ALFA, 2))?;
-    }
-    done(jpy, JPY, Does::Close(BETA))?;
-    for out in 1..65_536 {
-        let member = if out == 7 { BETA } else { ALFA };
-        done(jpy, JPY, Does::Order(out, member, 1))?;
-    }
-    for event in [Does::PayIn(ALFA, 2), Does::Order(65_536, ALFA, 1)] {
-        assert_eq!(rt; done(jpy, JPY, event), Err(NodeFault::Spent));
-    }
-    assert_eq!(rt; (jpy.account(), alfas(rt, jpy)), (65_536, 934_464));
-    assert_eq!(rt; (jpy.pay_outs().len(), jpy.returned()), (65_534, 1));
-    Ok(())
-}
-
 #[test]
 fn runs_out_of_numbers(rt: HostRuntime) -> Result<(), Fail> {
-    use_all_numbers(&rt, &mut node(rt.alloc(), JPY)?)
+    const STEPS: &[Step] = &[
+        Step::Often(Does::PayIn(ALFA, 2), 65_535),
+        Step::Often(Does::Close(BETA), 1),
+        Step::Orders(65_535),
+        Step::Comes(Does::PayIn(ALFA, 2), Err(NodeFault::Spent), 65_536, 934_464),
+        Step::Comes(
+            Does::Order(65_536, ALFA, 1),
+            Err(NodeFault::Spent),
+            65_536,
+            934_464,
+        ),
+        Step::Has(65_534, 1),
+    ];
+    run(&rt, JPY, STEPS)
+}
+
+/// The faults, as they are printed.
+const CODES: [(NodeFault, &str); 7] = [
+    (NodeFault::Short, "N1"),
+    (NodeFault::UnknownMember, "N2"),
+    (NodeFault::BadAmount, "N3"),
+    (NodeFault::NoMemory, "N4"),
+    (NodeFault::Spent, "N5"),
+    (NodeFault::NotMine, "N6"),
+    (NodeFault::Closed, "N7"),
+];
+
+/// A fault is printed so.
+fn is_printed<R: Abort + AllocGlobal>(rt: &R, fault: NodeFault, code: &str) -> Result<(), Fail> {
+    assert_eq!(rt; format!(in rt.alloc(); "{fault}")?.as_str(), code);
+    Ok(())
 }
 
 #[test]
 fn prints_its_faults(rt: HostRuntime) -> Result<(), Fail> {
-    let codes = [
-        (NodeFault::Short, "N1"),
-        (NodeFault::UnknownMember, "N2"),
-        (NodeFault::BadAmount, "N3"),
-        (NodeFault::NoMemory, "N4"),
-        (NodeFault::Spent, "N5"),
-        (NodeFault::NotMine, "N6"),
-        (NodeFault::Closed, "N7"),
-    ];
-    for (fault, code) in codes.iter() {
-        assert_eq!(rt; format!(in rt.alloc(); "{fault}")?.as_str(), *code);
+    for (fault, code) in CODES {
+        is_printed(&rt, fault, code)?;
     }
     Ok(())
 }

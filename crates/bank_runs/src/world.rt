@@ -44,44 +44,87 @@ const LOST_ONCE: [Step; 13] = [
 /// Site 1's timer is refused, as it is down.
 const REFUSED: [Step; 3] = [Step::Crash(1), Step::Timer(1), Step::Crash(2)];
 
+/// How many rows a site has executed.
+fn done_at(world: &World<MemCell>, site: u16) -> Option<usize> {
+    Some(world.site(site)?.done())
+}
+
+/// What a site's status is.
+fn status_at(world: &World<MemCell>, site: u16) -> Option<Status> {
+    Some(world.site(site)?.status())
+}
+
 /// How many steps were taken, how many envelopes sent, and how many rows site 0 has executed.
 fn stands(world: &World<MemCell>) -> (usize, usize, Option<usize>) {
-    let done = world.site(0).map(|site| site.done());
-    (world.trail().len(), world.post_len(), done)
+    (world.trail().len(), world.post_len(), done_at(world, 0))
+}
+
+/// A run of these steps ends so.
+fn run(
+    rt: &impl Abort,
+    alloc: Global,
+    world: &mut World<MemCell>,
+    steps: &[Step],
+    ends: Result<(), WorldFault>,
+) {
+    assert_eq!(rt; world.run(alloc, steps), ends);
+}
+
+/// How many steps were taken, how many envelopes sent, and that site 0 has executed one row.
+fn has(rt: &impl Abort, world: &World<MemCell>, taken: usize, sent: usize) {
+    assert_eq!(rt; stands(world), (taken, sent, Some(1)));
 }
 
 /// A run of which each step is taken, and one that stops at the second step, with the third not taken.
 fn runs(rt: &impl Abort, alloc: Global, world: &mut World<MemCell>) {
-    assert_eq!(rt; world.run(alloc, &PAID_IN), Ok(()));
-    assert_eq!(rt; stands(world), (4, 7, Some(1)));
+    run(rt, alloc, world, &PAID_IN, Ok(()));
+    has(rt, world, 4, 7);
     let fault = WorldFault::Site(SiteFault::NotUp);
-    assert_eq!(rt; world.run(alloc, &REFUSED), Err(fault));
-    assert_eq!(rt; stands(world), (5, 7, Some(1)));
+    run(rt, alloc, world, &REFUSED, Err(fault));
+    has(rt, world, 5, 7);
 }
 
 /// Two of three sites crash, and each is restarted before the next one goes: never are two down at once, but a site that
 /// recovers does not run.
 const TWO_RECOVER: [Step; 3] = [Step::Restart(2), Step::Crash(1), Step::Restart(1)];
 
+/// Whether the bank can go on.
+fn can_go_on(rt: &impl Abort, world: &World<MemCell>, can: bool) {
+    assert_eq!(rt; world.can_go_on(), can);
+}
+
 /// A bank can go on with one site of three down, and not with two that recover.
 fn goes_on(rt: &impl Abort, alloc: Global, world: &mut World<MemCell>) {
-    assert!(rt; world.can_go_on());
-    assert_eq!(rt; world.run(alloc, &[Step::Crash(2)]), Ok(()));
-    assert!(rt; world.can_go_on());
-    assert_eq!(rt; world.run(alloc, &TWO_RECOVER), Ok(()));
-    assert!(rt; !world.can_go_on());
+    can_go_on(rt, world, true);
+    run(rt, alloc, world, &[Step::Crash(2)], Ok(()));
+    can_go_on(rt, world, true);
+    run(rt, alloc, world, &TWO_RECOVER, Ok(()));
+    can_go_on(rt, world, false);
+}
+
+/// A fall at a site's beat, over a cell that counts so many restarts, is told so.
+fn fall(
+    rt: &impl Abort,
+    alloc: Global,
+    world: &mut World<MemCell>,
+    beat: u16,
+    boots: u32,
+    told: Result<(), FallFault>,
+) {
+    assert_eq!(rt; world.fall(alloc, Step::Beat(beat), Boot { boots }), told);
+}
+
+/// Site 0 is down, and two steps were taken.
+fn is_down_after_two(rt: &impl Abort, world: &World<MemCell>) {
+    assert_eq!(rt; status_at(world, 0), Some(Status::Down));
+    assert_eq!(rt; world.trail().len(), 2);
 }
 
 /// A fall at a beat leaves its site down. Over a value that the cell never holds it is told so, and that site is down too.
 fn falls(rt: &impl Abort, alloc: Global, world: &mut World<MemCell>) {
-    assert_eq!(rt;
-        world.fall(alloc, Step::Beat(200), Boot { boots: 0 }),
-        Ok(())
-    );
-    let other = world.fall(alloc, Step::Beat(201), Boot { boots: 4 });
-    assert_eq!(rt; other, Err(FallFault::Elsewhere));
-    assert_eq!(rt; world.site(0).map(|site| site.status()), Some(Status::Down));
-    assert_eq!(rt; world.trail().len(), 2);
+    fall(rt, alloc, world, 200, 0, Ok(()));
+    fall(rt, alloc, world, 201, 4, Err(FallFault::Elsewhere));
+    is_down_after_two(rt, world);
 }
 
 /// The bank's figure in USD, by the book of a site.
@@ -90,13 +133,18 @@ fn figure_at(world: &World<MemCell>, site: u16) -> Option<i64> {
     Some(book.figure(1))
 }
 
-/// After a loss each site has executed the one row, and its book has the 5.
-fn loses_once(rt: &impl Abort, alloc: Global, world: &mut World<MemCell>) {
-    assert_eq!(rt; world.run(alloc, &LOST_ONCE), Ok(()));
-    assert_eq!(rt; stands(world), (13, 13, Some(1)));
+/// The bank's figure in USD is 5 by the book of each site.
+fn has_5_at_each_site(rt: &impl Abort, world: &World<MemCell>) {
     for site in 0..3 {
         assert_eq!(rt; figure_at(world, site), Some(5), "site {site}");
     }
+}
+
+/// After a loss each site has executed the one row, and its book has the 5.
+fn loses_once(rt: &impl Abort, alloc: Global, world: &mut World<MemCell>) {
+    run(rt, alloc, world, &LOST_ONCE, Ok(()));
+    has(rt, world, 13, 13);
+    has_5_at_each_site(rt, world);
 }
 
 /// Three sites over new cells.

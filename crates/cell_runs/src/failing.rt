@@ -1,7 +1,7 @@
 //! A store in memory of which each call fails in turn.
 
-use crate::opened::{NEW, OLD, OPENING, count, store};
-use pvp_cell::{FileCell, MemStore, OpenFault};
+use crate::opened::{NEW, OLD, OPENING, has_count, store};
+use pvp_cell::{FileCell, MemStore, OpenFault, Store};
 use std::alloc::Global;
 use std::process::Abort;
 use std::test::Fail;
@@ -31,31 +31,46 @@ const TRIALS: [Trial; 16] = [
     (3, true, true, NEW, NEW),
 ];
 
-/// The store after the save, with what the cell held then, how many of its saves failed, and whether this one did.
-fn saved(
-    alloc: Global,
-    after: u64,
-    takes: bool,
-    lazy: bool,
-) -> Result<(MemStore, u32, u64, bool), OpenFault> {
+/// A store with the old count, of which a call fails after an opening and so many calls more.
+fn failing(after: u64, takes: bool, lazy: bool) -> MemStore {
     let mut store = store(lazy);
     store.fail_after(OPENING.saturating_add(after), takes);
-    let mut cell = FileCell::open(alloc, store)?;
-    let has_failed = cell.save(Boot { boots: NEW }).is_err();
-    let held = cell.load().boots;
-    let failures = cell.failures();
-    Ok((cell.into_store(), held, failures, has_failed))
+    store
 }
 
-fn comes_out<R: Abort + AllocGlobal>(rt: &R, trial: Trial) -> Result<(), OpenFault> {
-    let alloc = rt.alloc();
-    let (after, takes, lazy, read, kept) = trial;
-    let (store, held, failures, has_failed) = saved(alloc, after, takes, lazy)?;
-    assert_eq!(rt; (held, failures, has_failed), (NEW, 1, true));
-    assert_eq!(rt; count(alloc, store), Ok(read));
-    let (store, _, _, _) = saved(alloc, after, takes, lazy)?;
-    assert_eq!(rt; count(alloc, store.crash()), Ok(kept));
+/// Saves the new count: what the cell holds then, how many of its saves failed, and whether this one did.
+fn save_new<C: BootCell>(cell: &mut C) -> (u32, u64, bool) {
+    let has_failed = cell.save(Boot { boots: NEW }).is_err();
+    (cell.load().boots, cell.failures(), has_failed)
+}
+
+/// The store after that save, and what came of it.
+fn saved(alloc: Global, store: MemStore) -> Result<(MemStore, (u32, u64, bool)), OpenFault> {
+    let mut cell = FileCell::open(alloc, store)?;
+    let told = save_new(&mut cell);
+    Ok((cell.into_store(), told))
+}
+
+/// The save fails and the cell holds the new count; this count is read then.
+fn reads<R: Abort + AllocGlobal>(rt: &R, store: MemStore, read: u32) -> Result<(), OpenFault> {
+    let (left, told) = saved(rt.alloc(), store)?;
+    assert_eq!(rt; told, (NEW, 1, true));
+    has_count(rt, left, Ok(read));
     Ok(())
+}
+
+/// A crash after the save leaves this count.
+fn keeps<R: Abort + AllocGlobal>(rt: &R, store: MemStore, kept: u32) -> Result<(), OpenFault> {
+    let (left, _) = saved(rt.alloc(), store)?;
+    has_count(rt, left.crash(), Ok(kept));
+    Ok(())
+}
+
+/// A trial comes out as it says.
+fn comes_out<R: Abort + AllocGlobal>(rt: &R, trial: Trial) -> Result<(), OpenFault> {
+    let (after, takes, lazy, read, kept) = trial;
+    reads(rt, failing(after, takes, lazy), read)?;
+    keeps(rt, failing(after, takes, lazy), kept)
 }
 
 #[test]
@@ -68,14 +83,11 @@ fn each_call_fails_in_turn(rt: HostRuntime) -> Result<(), Fail> {
 
 /// Only that one fails: the next save is done, and a crash leaves it.
 fn goes_on_after<R: Abort + AllocGlobal>(rt: &R, after: u64) -> Result<(), OpenFault> {
-    let alloc = rt.alloc();
-    let mut store = store(true);
-    store.fail_after(OPENING.saturating_add(after), false);
-    let mut cell = FileCell::open(alloc, store)?;
+    let mut cell = FileCell::open(rt.alloc(), failing(after, false, true))?;
     assert!(rt; cell.save(Boot { boots: NEW }).is_err());
     assert!(rt; cell.save(Boot { boots: 9 }).is_ok());
     assert_eq!(rt; cell.failures(), 1);
-    assert_eq!(rt; count(alloc, cell.into_store().crash()), Ok(9));
+    has_count(rt, cell.into_store().crash(), Ok(9));
     Ok(())
 }
 
@@ -87,23 +99,26 @@ fn a_cell_goes_on_after_a_save_that_failed(rt: HostRuntime) -> Result<(), Fail> 
     Ok(())
 }
 
-/// An opening of which a call fails tells that of the store, and leaves the cell.
-fn opens_again<R: Abort + AllocGlobal>(rt: &R, after: u64) -> Result<(), OpenFault> {
-    let alloc = rt.alloc();
-    let mut store = store(true);
-    store.fail_after(after, true);
+/// An opening of which a call fails tells that of the store.
+fn is_not_opened<R: Abort + AllocGlobal, S: Store>(rt: &R, store: &mut S) {
     assert_eq!(rt;
-        pvp_cell::settle_cell(alloc, &mut store),
+        pvp_cell::settle_cell(rt.alloc(), store),
         Err(OpenFault::Store)
     );
-    assert_eq!(rt; count(alloc, store.crash()), Ok(OLD));
-    Ok(())
+}
+
+/// An opening of which a call fails leaves the cell.
+fn opens_again<R: Abort + AllocGlobal>(rt: &R, after: u64) {
+    let mut store = store(true);
+    store.fail_after(after, true);
+    is_not_opened(rt, &mut store);
+    has_count(rt, store.crash(), Ok(OLD));
 }
 
 #[test]
 fn each_call_of_an_opening_fails_in_turn(rt: HostRuntime) -> Result<(), Fail> {
     for after in 0..OPENING {
-        opens_again(&rt, after)?;
+        opens_again(&rt, after);
     }
     Ok(())
 }
@@ -116,15 +131,19 @@ fn is_raised<C: BootCell>(cell: &mut C) -> bool {
     }
 }
 
-#[test]
-fn a_store_that_does_not_fail_saves_all(rt: HostRuntime) -> Result<(), Fail> {
-    let alloc = rt.alloc();
-    let mut cell = FileCell::create(alloc, MemStore::new())?;
+/// A new cell of any kind saves each count to 9, and tells of no failure.
+fn saves_all<R: Abort, C: BootCell>(rt: &R, cell: &mut C) {
     assert_eq!(rt; cell.load(), Boot::new());
     for _ in 1..10 {
-        assert!(rt; is_raised(&mut cell));
+        assert!(rt; is_raised(cell));
     }
     assert_eq!(rt; cell.failures(), 0);
-    assert_eq!(rt; count(alloc, cell.into_store().crash()), Ok(9));
+}
+
+#[test]
+fn a_store_that_does_not_fail_saves_all(rt: HostRuntime) -> Result<(), Fail> {
+    let mut cell = FileCell::create(rt.alloc(), MemStore::new())?;
+    saves_all(&rt, &mut cell);
+    has_count(&rt, cell.into_store().crash(), Ok(9));
     Ok(())
 }

@@ -1,7 +1,8 @@
 //! A process that is killed after each call of a save in turn.
 
-use crate::opened::{NEW, OLD, count, store};
+use crate::opened::{NEW, OLD, has_count, store};
 use pvp_cell::{FileCell, OpenFault, killed_save, open_after_crash, open_after_kill};
+use std::alloc::Global;
 use std::process::Abort;
 use std::test::Fail;
 use vr_types::{Boot, BootCell};
@@ -21,6 +22,21 @@ const KILLS: [(u64, bool, u32, u32); 10] = [
     (4, true, NEW, NEW),
 ];
 
+/// The count that is read after a kill.
+fn read_after(alloc: Global, calls: u64, lazy: bool) -> Result<u32, OpenFault> {
+    let cell = FileCell::open(alloc, store(lazy))?;
+    let opened = open_after_kill(alloc, cell, Boot { boots: NEW }, calls)?;
+    Ok(opened.load().boots)
+}
+
+/// The count that is read after a kill and a crash of the machine.
+fn kept_after(alloc: Global, calls: u64, lazy: bool) -> Result<u32, OpenFault> {
+    let cell = FileCell::open(alloc, store(lazy))?;
+    let opened = open_after_crash(alloc, cell, Boot { boots: NEW }, calls)?;
+    Ok(opened.load().boots)
+}
+
+/// A save that is killed leaves these counts.
 fn leaves<R: Abort + AllocGlobal>(
     rt: &R,
     calls: u64,
@@ -28,18 +44,8 @@ fn leaves<R: Abort + AllocGlobal>(
     read: u32,
     kept: u32,
 ) -> Result<(), OpenFault> {
-    let alloc = rt.alloc();
-    let new = Boot { boots: NEW };
-    let cell = FileCell::open(alloc, store(lazy))?;
-    assert_eq!(rt;
-        open_after_kill(alloc, cell, new, calls)?.load().boots,
-        read
-    );
-    let cell = FileCell::open(alloc, store(lazy))?;
-    assert_eq!(rt;
-        open_after_crash(alloc, cell, new, calls)?.load().boots,
-        kept
-    );
+    assert_eq!(rt; read_after(rt.alloc(), calls, lazy)?, read);
+    assert_eq!(rt; kept_after(rt.alloc(), calls, lazy)?, kept);
     Ok(())
 }
 
@@ -59,6 +65,6 @@ fn what_was_opened_is_kept(rt: HostRuntime) -> Result<(), Fail> {
     let left = killed_save(cell, Boot { boots: NEW }, 3);
     let opened = FileCell::open(alloc, left)?;
     assert_eq!(rt; opened.load().boots, NEW);
-    assert_eq!(rt; count(alloc, opened.into_store().crash()), Ok(NEW));
+    has_count(&rt, opened.into_store().crash(), Ok(NEW));
     Ok(())
 }

@@ -1,7 +1,8 @@
-//! What the tests open.
+//! What the tests open, and what they look at.
 
 use pvp_cell::{FileCell, MemStore, OpenFault, Store, text_of};
 use std::alloc::Global;
+use std::process::Abort;
 use vr_types::{Boot, BootCell};
 
 /// The count that the cells of the tests have at first.
@@ -23,6 +24,16 @@ pub fn store(lazy: bool) -> MemStore {
 }
 
 /// The count of the cell of a store.
-pub fn count<S: Store>(alloc: Global, store: S) -> Result<u32, OpenFault> {
+fn count<S: Store>(alloc: Global, store: S) -> Result<u32, OpenFault> {
     Ok(FileCell::open(alloc, store)?.load().boots)
+}
+
+/// The cell of a store has this count, or is refused so.
+pub fn has_count<R: Abort + AllocGlobal, S: Store>(rt: &R, store: S, want: Result<u32, OpenFault>) {
+    assert_eq!(rt; count(rt.alloc(), store), want);
+}
+
+/// A cell is made in a store, or is refused with this fault.
+pub fn is_made<R: Abort + AllocGlobal, S: Store>(rt: &R, store: S, fault: Option<OpenFault>) {
+    assert_eq!(rt; FileCell::create(rt.alloc(), store).err(), fault);
 }

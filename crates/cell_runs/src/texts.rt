@@ -1,6 +1,7 @@
 //! Texts of cells.
 
 use pvp_cell::{OpenFault, StoreFault, boot_of, text_of};
+use std::alloc::AllocError;
 use std::process::Abort;
 use std::test::Fail;
 use vr_types::Boot;
@@ -35,43 +36,60 @@ const CODES: [(OpenFault, &str); 6] = [
     (OpenFault::NoMemory, "U6"),
 ];
 
-fn writes_and_reads<R: Abort>(rt: &R) {
-    for (boots, text) in TEXTS {
-        assert_eq!(rt; text_of(Boot { boots }), text);
-        assert_eq!(rt; boot_of(&text), Ok(Boot { boots }));
-    }
+/// A count is written as this text, and read from it.
+fn has_text<R: Abort>(rt: &R, boots: u32, text: [u8; 8]) {
+    assert_eq!(rt; text_of(Boot { boots }), text);
+    assert_eq!(rt; boot_of(&text), Ok(Boot { boots }));
 }
 
-fn refuses<R: Abort>(rt: &R) {
-    for (bytes, fault) in NO_TEXTS {
-        assert_eq!(rt; boot_of(bytes), Err(fault));
-    }
+/// Bytes are no text of a cell, for this reason.
+fn is_refused<R: Abort>(rt: &R, bytes: &[u8], why: OpenFault) {
+    assert_eq!(rt; boot_of(bytes), Err(why));
 }
 
 #[test]
 fn a_text_is_read_as_it_is_written(rt: HostRuntime) -> Result<(), Fail> {
-    writes_and_reads(&rt);
+    for (boots, text) in TEXTS {
+        has_text(&rt, boots, text);
+    }
     Ok(())
 }
 
 #[test]
 fn other_bytes_are_refused(rt: HostRuntime) -> Result<(), Fail> {
-    refuses(&rt);
+    for (bytes, why) in NO_TEXTS {
+        is_refused(&rt, bytes, why);
+    }
+    Ok(())
+}
+
+/// A fault is printed as this code.
+fn has_code<R: Abort + AllocGlobal>(
+    rt: &R,
+    fault: OpenFault,
+    code: &str,
+) -> Result<(), AllocError> {
+    let printed = format!(in rt.alloc(); "{fault}")?;
+    assert_eq!(rt; printed.as_str(), code);
     Ok(())
 }
 
 #[test]
 fn each_fault_has_its_code(rt: HostRuntime) -> Result<(), Fail> {
     for (fault, code) in CODES {
-        let printed = format!(in rt.alloc(); "{fault}")?;
-        assert_eq!(rt; printed.as_str(), code);
+        has_code(&rt, fault, code)?;
     }
     Ok(())
 }
 
+/// A fault of a store is this one of a cell.
+fn becomes<R: Abort>(rt: &R, fault: StoreFault, want: OpenFault) {
+    assert_eq!(rt; OpenFault::from(fault), want);
+}
+
 #[test]
 fn a_fault_of_a_store_is_one_of_a_cell(rt: HostRuntime) -> Result<(), Fail> {
-    assert_eq!(rt; OpenFault::from(StoreFault::Failed), OpenFault::Store);
-    assert_eq!(rt; OpenFault::from(StoreFault::NoMemory), OpenFault::NoMemory);
+    becomes(&rt, StoreFault::Failed, OpenFault::Store);
+    becomes(&rt, StoreFault::NoMemory, OpenFault::NoMemory);
     Ok(())
 }

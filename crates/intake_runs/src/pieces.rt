@@ -19,7 +19,7 @@ pub enum Heard {
 }
 
 /// What an intake finds next.
-pub fn next(intake: &mut Intake, alloc: Global, link: &Link) -> Heard {
+fn next(intake: &mut Intake, alloc: Global, link: &Link) -> Heard {
     match intake.next(alloc, link) {
         Ok(None) => Heard::Nothing,
         Ok(Some(Piece::Ping)) => Heard::Ping,
@@ -36,8 +36,25 @@ fn found_in(alloc: Global, front: &[u8], back: &[u8], link: &Link) -> Result<Hea
     Ok(next(&mut intake, alloc, link))
 }
 
+/// An intake finds this next.
+pub fn is_next<R: Abort + AllocGlobal>(rt: &R, intake: &mut Intake, link: &Link, want: Heard) {
+    assert_eq!(rt; next(intake, rt.alloc(), link), want);
+}
+
+/// At the front of two pieces of a stream, one after the other, this is found.
+fn is_found<R: Abort + AllocGlobal>(
+    rt: &R,
+    front: &[u8],
+    back: &[u8],
+    link: &Link,
+    want: Heard,
+) -> Result<(), Fail> {
+    assert_eq!(rt; found_in(rt.alloc(), front, back, link)?, want);
+    Ok(())
+}
+
 /// Fronts of a stream without a key, and what is found there.
-const FRONTS: [(&[u8], Heard); 10] = [
+const FRONTS: &[(&[u8], Heard)] = &[
     (&[], Heard::Nothing),
     (&[0, 0, 0], Heard::Nothing),
     (&PING, Heard::Ping),
@@ -54,13 +71,13 @@ const FRONTS: [(&[u8], Heard); 10] = [
 fn finds_each_front(rt: HostRuntime) -> Result<(), Fail> {
     let link = link(201, 200, None)?;
     for (bytes, want) in FRONTS {
-        assert_eq!(rt; found_in(rt.alloc(), bytes, &[], &link)?, want);
+        is_found(&rt, *bytes, &[], &link, *want)?;
     }
     Ok(())
 }
 
 /// A place of the COMMIT, the byte that is put there, and what is found then.
-const ALTERED: [(usize, u8, Heard); 7] = [
+const ALTERED: &[(usize, u8, Heard)] = &[
     (3, 23, Heard::Wrong(LinkFault::Wire(WireFault::Length))),
     (4, 3, Heard::Wrong(LinkFault::Wire(WireFault::Version))),
     (5, 0, Heard::Wrong(LinkFault::Wire(WireFault::Kind))),
@@ -70,45 +87,63 @@ const ALTERED: [(usize, u8, Heard); 7] = [
     (15, 6, Heard::Frame(6)),
 ];
 
+/// Of the COMMIT with this byte there, and this behind it, this is found.
+fn is_found_altered<R: Abort + AllocGlobal>(
+    rt: &R,
+    (at, byte): (usize, u8),
+    back: &[u8],
+    link: &Link,
+    want: Heard,
+) -> Result<(), Fail> {
+    let found = found_in(rt.alloc(), &altered(at, byte), back, link)?;
+    assert_eq!(rt; found, want, "{byte} at {at}");
+    Ok(())
+}
+
 #[test]
 fn tells_each_fault(rt: HostRuntime) -> Result<(), Fail> {
     let link = link(201, 200, None)?;
     for (at, byte, want) in ALTERED {
-        assert_eq!(rt;
-            found_in(rt.alloc(), &altered(at, byte), &[], &link)?,
-            want,
-            "{byte} at {at}"
-        );
+        is_found_altered(&rt, (*at, *byte), &[], &link, *want)?;
     }
     Ok(())
 }
+
+/// What is found where the tag is another.
+const ANOTHER_TAG: Heard = Heard::Wrong(LinkFault::Tag);
 
 /// The tag is looked at behind the length, and before anything is decoded: so whatever is altered is told as the tag.
 #[test]
 fn a_tag_comes_first(rt: HostRuntime) -> Result<(), Fail> {
     let link = link(201, 200, KEY)?;
     for (at, byte, _) in ALTERED {
-        let found = found_in(rt.alloc(), &altered(at, byte), &COMMIT_TAG, &link)?;
-        assert_eq!(rt; found, Heard::Wrong(LinkFault::Tag), "{byte} at {at}");
+        is_found_altered(&rt, (*at, *byte), &COMMIT_TAG, &link, ANOTHER_TAG)?;
     }
-    let found = found_in(rt.alloc(), &[0, 0, 0, 17], &COMMIT_TAG, &link)?;
-    assert_eq!(rt; found, Heard::Wrong(LinkFault::Length));
-    Ok(())
+    let length = Heard::Wrong(LinkFault::Length);
+    is_found(&rt, &[0, 0, 0, 17], &COMMIT_TAG, &link, length)
 }
 
 #[test]
 fn tagged_pieces_are_found(rt: HostRuntime) -> Result<(), Fail> {
-    let alloc = rt.alloc();
     let link = link(201, 200, KEY)?;
-    assert_eq!(rt; found_in(alloc, &PING, &PING_TAG, &link)?, Heard::Ping);
-    assert_eq!(rt;
-        found_in(alloc, &COMMIT, &COMMIT_TAG, &link)?,
-        Heard::Frame(5)
-    );
-    assert_eq!(rt;
-        found_in(alloc, &PING, &COMMIT_TAG, &link)?,
-        Heard::Wrong(LinkFault::Tag)
-    );
+    is_found(&rt, &PING, &PING_TAG, &link, Heard::Ping)?;
+    is_found(&rt, &COMMIT, &COMMIT_TAG, &link, Heard::Frame(5))?;
+    is_found(&rt, &PING, &COMMIT_TAG, &link, ANOTHER_TAG)
+}
+
+/// The tag of the COMMIT with one bit of one byte altered.
+fn altered_tag(at: usize) -> [u8; 16] {
+    let mut tag = COMMIT_TAG;
+    if at < 16 {
+        tag[at] ^= 1;
+    }
+    tag
+}
+
+/// A tag whose byte there is altered is found to be another.
+fn byte_counts<R: Abort + AllocGlobal>(rt: &R, link: &Link, at: usize) -> Result<(), Fail> {
+    let found = found_in(rt.alloc(), &COMMIT, &altered_tag(at), link)?;
+    assert_eq!(rt; found, ANOTHER_TAG, "at {at}");
     Ok(())
 }
 
@@ -117,56 +152,77 @@ fn tagged_pieces_are_found(rt: HostRuntime) -> Result<(), Fail> {
 fn each_byte_of_a_tag_counts(rt: HostRuntime) -> Result<(), Fail> {
     let link = link(201, 200, KEY)?;
     for at in 0..16 {
-        let mut tag = COMMIT_TAG;
-        tag[at] ^= 1;
-        let found = found_in(rt.alloc(), &COMMIT, &tag, &link)?;
-        assert_eq!(rt; found, Heard::Wrong(LinkFault::Tag), "at {at}");
+        byte_counts(&rt, &link, at)?;
     }
+    Ok(())
+}
+
+/// Of bytes that come one by one, nothing is found.
+fn are_waited_for<R: Abort + AllocGlobal>(
+    rt: &R,
+    intake: &mut Intake,
+    link: &Link,
+    bytes: &[u8],
+) -> Result<(), Fail> {
+    for byte in bytes {
+        intake.push(&[*byte])?;
+        is_next(rt, intake, link, Heard::Nothing);
+    }
+    Ok(())
+}
+
+/// The COMMIT and its tag come byte by byte.
+fn comes_cut<R: Abort + AllocGlobal>(rt: &R, intake: &mut Intake, link: &Link) -> Result<(), Fail> {
+    are_waited_for(rt, intake, link, &COMMIT)?;
+    are_waited_for(rt, intake, link, &COMMIT_TAG[..15])?;
+    intake.push(&COMMIT_TAG[15..])?;
+    is_next(rt, intake, link, Heard::Frame(5));
+    is_next(rt, intake, link, Heard::Nothing);
     Ok(())
 }
 
 /// A frame that comes byte by byte is found with its last one.
 #[test]
 fn a_cut_frame_is_waited_for(rt: HostRuntime) -> Result<(), Fail> {
-    let alloc = rt.alloc();
     let link = link(201, 200, KEY)?;
-    let mut intake = Intake::new(alloc);
-    for byte in COMMIT {
-        intake.push(&[byte])?;
-        assert_eq!(rt; next(&mut intake, alloc, &link), Heard::Nothing);
-    }
-    for byte in &COMMIT_TAG[..15] {
-        intake.push(&[*byte])?;
-        assert_eq!(rt; next(&mut intake, alloc, &link), Heard::Nothing);
-    }
-    intake.push(&COMMIT_TAG[15..])?;
-    assert_eq!(rt; next(&mut intake, alloc, &link), Heard::Frame(5));
-    assert_eq!(rt; next(&mut intake, alloc, &link), Heard::Nothing);
+    let mut intake = Intake::new(rt.alloc());
+    comes_cut(&rt, &mut intake, &link)
+}
+
+/// A COMMIT, a ping and a COMMIT come at once, and another when the first is found.
+fn come_at_once<R: Abort + AllocGlobal>(
+    rt: &R,
+    intake: &mut Intake,
+    link: &Link,
+) -> Result<(), Fail> {
+    intake.push(&COMMIT)?;
+    intake.push(&PING)?;
+    intake.push(&altered(15, 6))?;
+    is_next(rt, intake, link, Heard::Frame(5));
+    intake.push(&altered(15, 7))?;
+    is_next(rt, intake, link, Heard::Ping);
+    is_next(rt, intake, link, Heard::Frame(6));
+    is_next(rt, intake, link, Heard::Frame(7));
+    Ok(())
+}
+
+/// A wrong length comes, and is told twice.
+fn comes_wrong<R: Abort + AllocGlobal>(
+    rt: &R,
+    intake: &mut Intake,
+    link: &Link,
+) -> Result<(), Fail> {
+    intake.push(&[0, 0, 0, 1])?;
+    is_next(rt, intake, link, Heard::Wrong(LinkFault::Length));
+    is_next(rt, intake, link, Heard::Wrong(LinkFault::Length));
     Ok(())
 }
 
 /// Pieces that came at once are found one by one, also where more come in between; a fault is told again and again.
 #[test]
 fn pieces_are_found_in_order(rt: HostRuntime) -> Result<(), Fail> {
-    let alloc = rt.alloc();
     let link = link(201, 200, None)?;
-    let mut intake = Intake::new(alloc);
-    intake.push(&COMMIT)?;
-    intake.push(&PING)?;
-    intake.push(&altered(15, 6))?;
-    assert_eq!(rt; next(&mut intake, alloc, &link), Heard::Frame(5));
-    intake.push(&altered(15, 7))?;
-    assert_eq!(rt; next(&mut intake, alloc, &link), Heard::Ping);
-    assert_eq!(rt; next(&mut intake, alloc, &link), Heard::Frame(6));
-    assert_eq!(rt; next(&mut intake, alloc, &link), Heard::Frame(7));
-    intake.push(&[0, 0, 0, 1])?;
-    assert_eq!(rt;
-        next(&mut intake, alloc, &link),
-        Heard::Wrong(LinkFault::Length)
-    );
-    assert_eq!(rt;
-        next(&mut intake, alloc, &link),
-        Heard::Wrong(LinkFault::Length)
-    );
-    Ok(())
+    let mut intake = Intake::new(rt.alloc());
+    come_at_once(&rt, &mut intake, &link)?;
+    comes_wrong(&rt, &mut intake, &link)
 }

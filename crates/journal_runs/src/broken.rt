@@ -1,7 +1,7 @@
 //! A journal that was cut off at each byte, and one that was altered at each byte.
 
 use crate::kinds::{DELIVERED, TIMER};
-use crate::sealed::{Answer, HEAD, journal_of, told};
+use crate::sealed::{Answer, HEAD, journal_of, reads_as, told};
 use pvp_journal::{JournalWhy, Left};
 use std::process::Abort;
 use std::test::Fail;
@@ -45,19 +45,23 @@ fn told_of_front(size: usize) -> Answer {
     }
 }
 
+/// Of these bytes, which were altered or cut at this place, this is told.
+fn is_told<R: Abort + AllocGlobal>(rt: &R, bytes: &[u8], want: Answer, at: usize) {
+    assert_eq!(rt; told(rt.alloc(), bytes), want, "at {at}");
+}
+
+/// The journal in these bytes is told as it should be where it is cut off at each of them.
+fn is_told_at_each_cut<R: Abort + AllocGlobal>(rt: &R, bytes: &[u8]) {
+    for size in 0..=bytes.len() {
+        is_told(rt, &bytes[..size], told_of_front(size), size);
+    }
+}
+
 #[test]
 fn is_cut_at_each_byte(rt: HostRuntime) -> Result<(), Fail> {
-    let alloc = rt.alloc();
-    let bytes = journal_of(alloc, &BODIES)?;
-    let bytes = bytes.as_slice();
+    let bytes = journal_of(rt.alloc(), &BODIES)?;
     assert_eq!(rt; bytes.len(), SIZE);
-    for size in 0..=bytes.len() {
-        assert_eq!(rt;
-            told(alloc, &bytes[..size]),
-            told_of_front(size),
-            "at {size}"
-        );
-    }
+    is_told_at_each_cut(&rt, bytes.as_slice());
     Ok(())
 }
 
@@ -73,24 +77,21 @@ fn told_of_altered(at: usize) -> Answer {
     }
 }
 
-#[test]
-fn is_altered_at_each_byte(rt: HostRuntime) -> Result<(), Fail> {
-    let alloc = rt.alloc();
-    let mut bytes = journal_of(alloc, &BODIES)?;
+/// The journal in these bytes is told as it should be where each of them is altered.
+fn is_told_at_each_byte<R: Abort + AllocGlobal>(rt: &R, bytes: &mut [u8]) {
     for at in 0..bytes.len() {
         let byte = bytes[at];
         bytes[at] = byte ^ 128;
-        assert_eq!(rt;
-            told(alloc, bytes.as_slice()),
-            told_of_altered(at),
-            "at {at}"
-        );
+        is_told(rt, bytes, told_of_altered(at), at);
         bytes[at] = byte;
     }
-    assert_eq!(rt;
-        told(alloc, bytes.as_slice()),
-        Answer::Read(3, Left::Nothing)
-    );
+}
+
+#[test]
+fn is_altered_at_each_byte(rt: HostRuntime) -> Result<(), Fail> {
+    let mut bytes = journal_of(rt.alloc(), &BODIES)?;
+    is_told_at_each_byte(&rt, bytes.as_mut_slice());
+    reads_as(&rt, bytes.as_slice(), Answer::Read(3, Left::Nothing));
     Ok(())
 }
 
@@ -105,19 +106,19 @@ fn told_of_altered_end(at: usize) -> Answer {
     }
 }
 
-#[test]
-fn is_altered_at_its_end(rt: HostRuntime) -> Result<(), Fail> {
-    let alloc = rt.alloc();
-    let mut bytes = journal_of(alloc, &BODIES)?;
+/// The journal in these bytes is told as it should be where it ends with each of them, altered.
+fn is_told_at_each_end<R: Abort + AllocGlobal>(rt: &R, bytes: &mut [u8]) {
     for at in HEAD.len()..bytes.len() {
         let byte = bytes[at];
         bytes[at] = byte ^ 128;
-        assert_eq!(rt;
-            told(alloc, &bytes.as_slice()[..=at]),
-            told_of_altered_end(at),
-            "at {at}"
-        );
+        is_told(rt, &bytes[..=at], told_of_altered_end(at), at);
         bytes[at] = byte;
     }
+}
+
+#[test]
+fn is_altered_at_its_end(rt: HostRuntime) -> Result<(), Fail> {
+    let mut bytes = journal_of(rt.alloc(), &BODIES)?;
+    is_told_at_each_end(&rt, bytes.as_mut_slice());
     Ok(())
 }

@@ -1,7 +1,7 @@
 //! Bytes that are no journal, and events that have no record.
 
 use crate::kinds::TIMER;
-use crate::sealed::{Answer, HEAD, journal_of, seal, sum_of, told};
+use crate::sealed::{Answer, HEAD, journal_of, reads_as, seal, sum_of, told};
 use pvp_journal::{Entry, JournalWhy, Left, WriteFault, write_record};
 use pvp_parties::{PartyEvent, PartyOutcome};
 use pvp_wire::{Stamp, WireFault};
@@ -11,7 +11,7 @@ use std::test::Fail;
 use vr_types::EventOf;
 
 /// Bytes that begin with no head, and what is told of each.
-const NO_HEADS: [(&[u8], JournalWhy); 6] = [
+const NO_HEADS: &[(&[u8], JournalWhy)] = &[
     (&[], JournalWhy::Magic),
     (b"PVPK", JournalWhy::Magic),
     (b"PVPJ", JournalWhy::Version),
@@ -24,7 +24,7 @@ const NO_HEADS: [(&[u8], JournalWhy); 6] = [
 ];
 
 /// What a record says that says nothing, and what is wrong in it.
-const NO_ENTRIES: [(&[u8], WireFault); 8] = [
+const NO_ENTRIES: &[(&[u8], WireFault)] = &[
     // no clock
     (&[0, 0, 0, 0, 0, 0, 5], WireFault::Length),
     // no outcome
@@ -67,41 +67,53 @@ const NO_ENTRIES: [(&[u8], WireFault); 8] = [
     ),
 ];
 
+/// Of bytes that begin with no head this is told.
+fn is_no_head<R: Abort + AllocGlobal>(rt: &R, bytes: &[u8], why: JournalWhy) {
+    assert_eq!(rt; told(rt.alloc(), bytes), Answer::Fault(why, 0), "{bytes:?}");
+}
+
 #[test]
 fn tells_each_fault_of_a_head(rt: HostRuntime) -> Result<(), Fail> {
     for (bytes, why) in NO_HEADS {
-        assert_eq!(rt; told(rt.alloc(), bytes), Answer::Fault(why, 0), "{bytes:?}");
+        is_no_head(&rt, *bytes, *why);
     }
+    Ok(())
+}
+
+/// Of a second record that says these bytes this is told.
+fn is_no_entry<R: Abort + AllocGlobal>(rt: &R, body: &[u8], why: WireFault) -> Result<(), Fail> {
+    let bytes = journal_of(rt.alloc(), &[&TIMER, body])?;
+    let want = Answer::Fault(JournalWhy::Record(why), 75);
+    assert_eq!(rt; told(rt.alloc(), bytes.as_slice()), want, "{body:?}");
     Ok(())
 }
 
 #[test]
 fn tells_each_fault_of_a_record(rt: HostRuntime) -> Result<(), Fail> {
-    let alloc = rt.alloc();
     for (body, why) in NO_ENTRIES {
-        let bytes = journal_of(alloc, &[&TIMER, body])?;
-        let want = Answer::Fault(JournalWhy::Record(why), 75);
-        assert_eq!(rt; told(alloc, bytes.as_slice()), want, "{body:?}");
+        is_no_entry(&rt, *body, *why)?;
     }
+    Ok(())
+}
+
+/// Behind this head a record is read; another that goes on from another checksum is damaged.
+fn are_damaged<R: Abort + AllocGlobal>(rt: &R, bytes: &mut Vec<u8>) -> Result<(), Fail> {
+    let sum = seal(rt.alloc(), sum_of(0, &HEAD), &TIMER, bytes)?;
+    reads_as(rt, bytes.as_slice(), Answer::Read(1, Left::Nothing));
+    seal(rt.alloc(), sum ^ 1, &TIMER, bytes)?;
+    reads_as(
+        rt,
+        bytes.as_slice(),
+        Answer::Fault(JournalWhy::Checksum, 75),
+    );
     Ok(())
 }
 
 /// Two records, of which the second goes on from another checksum than the first one's.
 #[test]
 fn records_of_two_journals_are_damaged(rt: HostRuntime) -> Result<(), Fail> {
-    let alloc = rt.alloc();
-    let mut bytes = Vec::from_slice(alloc, &HEAD)?;
-    let sum = seal(alloc, sum_of(0, &HEAD), &TIMER, &mut bytes)?;
-    assert_eq!(rt;
-        told(alloc, bytes.as_slice()),
-        Answer::Read(1, Left::Nothing)
-    );
-    seal(alloc, sum ^ 1, &TIMER, &mut bytes)?;
-    assert_eq!(rt;
-        told(alloc, bytes.as_slice()),
-        Answer::Fault(JournalWhy::Checksum, 75)
-    );
-    Ok(())
+    let mut bytes = Vec::from_slice(rt.alloc(), &HEAD)?;
+    are_damaged(&rt, &mut bytes)
 }
 
 /// An event of a site with this stamp, which is a stray.
@@ -121,17 +133,24 @@ fn tells(alloc: Global, entry: &Entry) -> (Option<WriteFault>, usize) {
     (fault, bytes.len())
 }
 
+/// Writing the record of a timer with this stamp tells this, and then there are so many bytes.
+fn is_written<R: Abort + AllocGlobal>(
+    rt: &R,
+    stamp: Option<Stamp>,
+    want: (Option<WriteFault>, usize),
+) {
+    let entry = stray(PartyEvent::OfSite(EventOf::Timer), stamp);
+    assert_eq!(rt; tells(rt.alloc(), &entry), want);
+}
+
 #[test]
 fn only_a_delivery_has_a_stamp(rt: HostRuntime) -> Result<(), Fail> {
-    let alloc = rt.alloc();
     let stamp = Stamp {
         actor: 200,
         clock: 4,
         index: 0,
     };
-    let with = stray(PartyEvent::OfSite(EventOf::Timer), Some(stamp));
-    assert_eq!(rt; tells(alloc, &with), (Some(WriteFault::Unfit), 0));
-    let without = stray(PartyEvent::OfSite(EventOf::Timer), None);
-    assert_eq!(rt; tells(alloc, &without), (None, 26));
+    is_written(&rt, Some(stamp), (Some(WriteFault::Unfit), 0));
+    is_written(&rt, None, (None, 26));
     Ok(())
 }

@@ -3,6 +3,7 @@
 use crate::sealed::{Answer, comes_back, journal_of, told};
 use pvp_journal::JournalWhy;
 use pvp_wire::WireFault;
+use std::alloc::Global;
 use std::process::Abort;
 use std::test::Fail;
 
@@ -93,15 +94,20 @@ fn dropped(number: u8) -> [u8; 15] {
     [0, 0, 0, 0, 0, 0, 0, 5, 3, 1, 0, 0, 0, 0, number]
 }
 
+/// Whether a journal of one record comes back, where what that says is known; or else is told of a field that has a value
+/// which it may not have.
+fn is_right(alloc: Global, bytes: &[u8], known: bool) -> Result<bool, Fail> {
+    if known {
+        comes_back(alloc, bytes, 1)
+    } else {
+        Ok(told(alloc, bytes) == Answer::Fault(JournalWhy::Record(WireFault::Field), 44))
+    }
+}
+
 /// A record that says these bytes comes back, or says nothing: a field has a value that it may not have.
 fn is_known<R: Abort + AllocGlobal>(rt: &R, body: &[u8], known: bool) -> Result<(), Fail> {
-    let alloc = rt.alloc();
-    let bytes = journal_of(alloc, &[body])?;
-    let is_right = if known {
-        comes_back(alloc, bytes.as_slice(), 1)?
-    } else {
-        told(alloc, bytes.as_slice()) == Answer::Fault(JournalWhy::Record(WireFault::Field), 44)
-    };
+    let bytes = journal_of(rt.alloc(), &[body])?;
+    let is_right = is_right(rt.alloc(), bytes.as_slice(), known)?;
     assert!(rt; is_right, "{body:?}");
     Ok(())
 }

@@ -5,6 +5,7 @@ use pvp_journal::{
 };
 use sha2::{Digest, Sha256};
 use std::alloc::Global;
+use std::process::Abort;
 use std::test::Fail;
 
 /// The head of site 0, opened over 3 boots, of a bank whose id is 32 sevens.
@@ -22,15 +23,21 @@ pub fn sum_of(before: u64, bytes: &[u8]) -> u64 {
     u64::from_be_bytes([a, b, c, d, e, f, g, h])
 }
 
-/// Puts a record that says these bytes at the end of others, and answers its checksum.
-pub fn seal(alloc: Global, before: u64, body: &[u8], out: &mut Vec<u8>) -> Result<u64, Fail> {
+/// Puts how many bytes a record says, the complement of that, and those bytes at the end of others.
+fn put_front(body: &[u8], out: &mut Vec<u8>) -> Result<(), Fail> {
     let Ok(length) = u32::try_from(body.len()) else {
         return Err(Fail::new("it is too long"));
     };
+    out.extend_from_slice(&length.to_be_bytes())?;
+    out.extend_from_slice(&(!length).to_be_bytes())?;
+    out.extend_from_slice(body)?;
+    Ok(())
+}
+
+/// Puts a record that says these bytes at the end of others, and answers its checksum.
+pub fn seal(alloc: Global, before: u64, body: &[u8], out: &mut Vec<u8>) -> Result<u64, Fail> {
     let mut front = Vec::new(alloc);
-    front.extend_from_slice(&length.to_be_bytes())?;
-    front.extend_from_slice(&(!length).to_be_bytes())?;
-    front.extend_from_slice(body)?;
+    put_front(body, &mut front)?;
     let sum = sum_of(before, front.as_slice());
     out.extend_from_slice(front.as_slice())?;
     out.extend_from_slice(&sum.to_be_bytes())?;
@@ -62,20 +69,35 @@ pub fn told(alloc: Global, bytes: &[u8]) -> Answer {
     }
 }
 
-/// A journal that was read, written again.
-pub fn written(alloc: Global, journal: &Journal) -> Result<Vec<u8>, Fail> {
-    let mut out = Vec::new(alloc);
-    let mut sum = write_head(alloc, &journal.head, &mut out)?;
+/// Of these bytes this is told.
+pub fn reads_as<R: Abort + AllocGlobal>(rt: &R, bytes: &[u8], want: Answer) {
+    assert_eq!(rt; told(rt.alloc(), bytes), want);
+}
+
+/// Writes a journal that was read at the end of other bytes, and answers the checksum that the next record goes on from.
+fn write_all(alloc: Global, journal: &Journal, out: &mut Vec<u8>) -> Result<u64, Fail> {
+    let mut sum = write_head(alloc, &journal.head, out)?;
     for entry in &journal.history {
-        match write_record(alloc, journal.head.actor, sum, entry, &mut out) {
+        match write_record(alloc, journal.head.actor, sum, entry, out) {
             Ok(next) => sum = next,
             Err(_) => return Err(Fail::new("it has no record")),
         }
     }
-    if sum != journal.sum {
+    Ok(sum)
+}
+
+/// A journal that was read, written again.
+fn written(alloc: Global, journal: &Journal) -> Result<Vec<u8>, Fail> {
+    let mut out = Vec::new(alloc);
+    if write_all(alloc, journal, &mut out)? != journal.sum {
         return Err(Fail::new("another checksum goes on"));
     }
     Ok(out)
+}
+
+/// Whether a journal is written again as these bytes.
+fn is_written(alloc: Global, journal: &Journal, bytes: &[u8]) -> Result<bool, Fail> {
+    Ok(written(alloc, journal)?.as_slice() == bytes)
 }
 
 /// Whether bytes are a journal of so many records with nothing left, which is written as it is read.
@@ -84,6 +106,5 @@ pub fn comes_back(alloc: Global, bytes: &[u8], count: usize) -> Result<bool, Fai
         return Ok(false);
     };
     let is_whole = journal.history.len() == count && journal.left == Left::Nothing;
-    let again = written(alloc, &journal)?;
-    Ok(is_whole && again.as_slice() == bytes)
+    Ok(is_written(alloc, &journal, bytes)? && is_whole)
 }

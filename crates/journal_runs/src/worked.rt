@@ -1,6 +1,6 @@
 //! Journals that were worked by hand from the format, byte by byte, with checksums of another program's SHA-256.
 
-use crate::sealed::{Answer, comes_back, told};
+use crate::sealed::{Answer, comes_back, reads_as};
 use pvp_journal::{Head, Left, read_journal, write_head};
 use std::alloc::Global;
 use std::process::Abort;
@@ -22,9 +22,8 @@ const OF_NODE: [u8; 40] = [
 
 #[test]
 fn a_record_is_spelled_so(rt: HostRuntime) -> Result<(), Fail> {
-    let alloc = rt.alloc();
-    assert!(rt; comes_back(alloc, &ONE_TIMER, 1)?);
-    assert_eq!(rt; told(alloc, &OF_NODE), Answer::Read(0, Left::Nothing));
+    assert!(rt; comes_back(rt.alloc(), &ONE_TIMER, 1)?);
+    reads_as(&rt, &OF_NODE, Answer::Read(0, Left::Nothing));
     Ok(())
 }
 
@@ -36,18 +35,33 @@ fn head_of(alloc: Global, bytes: &[u8]) -> Option<(Head, u64)> {
     }
 }
 
+/// Writing a head at the end of no bytes answers this checksum, and gives these.
+fn is_written<R: Abort + AllocGlobal>(
+    rt: &R,
+    head: &Head,
+    sum: u64,
+    bytes: &mut Vec<u8>,
+    want: &[u8],
+) {
+    assert_eq!(rt; write_head(rt.alloc(), head, bytes), Ok(sum));
+    assert_eq!(rt; bytes.as_slice(), want);
+}
+
+/// These bytes are read as a head with this checksum.
+fn is_read<R: Abort + AllocGlobal>(rt: &R, bytes: &[u8], head: Head, sum: u64) {
+    assert_eq!(rt; head_of(rt.alloc(), bytes), Some((head, sum)));
+}
+
 #[test]
 fn a_head_is_spelled_so(rt: HostRuntime) -> Result<(), Fail> {
-    let alloc = rt.alloc();
     let head = Head {
         actor: 200,
         opening: Some(Boot { boots: 3 }),
         bank: [7; 32],
     };
     let sum = u64::from_be_bytes([72, 33, 182, 97, 127, 46, 237, 91]);
-    let mut bytes = Vec::new(alloc);
-    assert_eq!(rt; write_head(alloc, &head, &mut bytes), Ok(sum));
-    assert_eq!(rt; bytes.as_slice(), &ONE_TIMER[..44]);
-    assert_eq!(rt; head_of(alloc, bytes.as_slice()), Some((head, sum)));
+    let mut bytes = Vec::new(rt.alloc());
+    is_written(&rt, &head, sum, &mut bytes, &ONE_TIMER[..44]);
+    is_read(&rt, bytes.as_slice(), head, sum);
     Ok(())
 }

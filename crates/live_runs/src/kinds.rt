@@ -1,13 +1,11 @@
 //! An envelope of each kind of message, put into an outbox and read from its receiver's stream.
 
-use crate::common::Open;
+use crate::common::{Open, alone, connected, serve};
 use crate::frames::{ANSWER, CHANGE, COMMIT, ORDER, REGAINED, REQUEST, VOTE};
 use pvp_book::Book;
 use pvp_peers::Outbox;
-use pvp_streams::{
-    Connected, Incoming, Peer, Player, Sending, Writer, Writers, connect_all, serve_streams,
-};
-use pvp_wire::{Stamp, decode};
+use pvp_streams::{Connected, Incoming, Peer, Player, Sending};
+use pvp_wire::{Stamp, Stamped, decode};
 use std::alloc::Global;
 use std::io::{self, Read, Write};
 use std::net::Net;
@@ -84,17 +82,36 @@ impl<R: Wait> Player for Hands<'_, R> {
     }
 }
 
-/// A writer for each actor over its streams.
-fn writers_of<S: Write + Drop>(
-    alloc: Global,
-    out: &mut Writers,
-    outgoing: Vec<Sending<S>>,
-) -> Result<Vec<Writer<S>>, Fail> {
-    let mut writers = Vec::new(alloc);
-    for Sending { actor, streams } in outgoing {
-        writers.push(out.add(alloc, actor, streams)?)?;
-    }
-    Ok(writers)
+/// The hands that put the only envelope of a frame.
+fn hands_of<'a, R>(rt: &'a R, alloc: Global, frame: &[u8]) -> Result<Hands<'a, R>, Fail> {
+    let (Stamped { envelope, stamp }, _) = decode(alloc, frame)?;
+    let sent = alone(alloc, envelope)?;
+    Ok(Hands {
+        rt,
+        alloc,
+        stamp,
+        sent,
+    })
+}
+
+/// The numbers of the two actors of a frame's envelope, from whom it goes and to whom.
+fn ends_of(alloc: Global, frame: &[u8]) -> Result<(u16, u16), Fail> {
+    let (Stamped { envelope, .. }, _) = decode(alloc, frame)?;
+    Ok((envelope.from, envelope.to))
+}
+
+/// No peers.
+type NoPeers<'a, S> = [Peer<'a, Replica<Book, MemCell>, S, Open>; 0];
+
+/// A frame's envelope is put into the outbox of these streams, which are then closed.
+fn put_out<R>(rt: &R, frame: &[u8], outgoing: Vec<Sending<R::Stream>>) -> Result<(), Fail>
+where
+    R: Threads + Wait + Net + Sync + AllocGlobal,
+    R::Stream: Read + Write + Send + Drop,
+{
+    let mut peers: NoPeers<'_, R::Stream> = [];
+    let mut hands = hands_of(rt, rt.alloc(), frame)?;
+    serve(rt, &mut peers, outgoing, &mut hands)
 }
 
 /// What a stream has, to its end.
@@ -111,62 +128,73 @@ fn read_whole<S: Read>(alloc: Global, stream: &mut S) -> io::Result<Vec<u8>> {
     Ok(all)
 }
 
+/// A stream has these bytes and no more.
+fn has<R: Abort, S: Read>(rt: &R, alloc: Global, stream: &mut S, bytes: &[u8]) -> Result<(), Fail> {
+    let found = read_whole(alloc, stream)?;
+    assert!(rt; found.as_slice() == bytes, "{bytes:?}");
+    Ok(())
+}
+
 /// The stream to this actor has these bytes, and each other has none.
-fn stand_there<R: Abort, S: Read + Drop>(
+fn stand_there<R: Abort, S: Read>(
     rt: &R,
     alloc: Global,
-    incoming: Vec<Incoming<S>>,
+    incoming: &mut [Incoming<S>],
     actor: u16,
     bytes: &[u8],
 ) -> Result<(), Fail> {
-    for mut end in incoming {
+    for end in incoming {
         let want = if end.to == actor { bytes } else { &[] };
-        let found = read_whole(alloc, &mut end.stream)?;
-        assert!(rt; found.as_slice() == want, "{bytes:?}");
+        has(rt, alloc, &mut end.stream, want)?;
     }
     Ok(())
 }
 
+/// The reading ends of the streams between two actors, of which the one has put this frame's envelope into the outbox.
+fn put_between<R>(rt: &R, actors: [u16; 2], frame: &[u8]) -> Result<Vec<Incoming<R::Stream>>, Fail>
+where
+    R: Threads + Wait + Net + Sync + AllocGlobal,
+    R::Stream: Read + Write + Send + Drop,
+{
+    let Connected { incoming, outgoing } = connected(rt, rt.alloc(), &actors)?;
+    put_out(rt, frame, outgoing)?;
+    Ok(incoming)
+}
+
 /// Connects the two actors of an envelope, puts it into the outbox, and finds its frame once.
+fn goes_through<R>(rt: &R, frame: &[u8]) -> Result<(), Fail>
+where
+    R: Abort + Threads + Wait + Net + Sync + AllocGlobal,
+    R::Stream: Read + Write + Send + Drop,
+{
+    let (from, to) = ends_of(rt.alloc(), frame)?;
+    let mut incoming = put_between(rt, [from.min(to), from.max(to)], frame)?;
+    stand_there(rt, rt.alloc(), incoming.as_mut_slice(), to, frame)
+}
+
+/// So it does as the first envelope of its step.
 fn comes_through<R>(rt: &R, frame: &[u8]) -> Result<(), Fail>
 where
     R: Abort + Threads + Wait + Net + Sync + AllocGlobal,
     R::Stream: Read + Write + Send + Drop,
 {
-    let alloc = rt.alloc();
-    let bytes = first_of_step(alloc, frame)?;
-    let (stamped, _) = decode(alloc, bytes.as_slice())?;
-    let (from, to) = (stamped.envelope.from, stamped.envelope.to);
-    let Ok(connected) = connect_all(rt, alloc, &[from.min(to), from.max(to)]) else {
-        return Err(Fail::new("the net"));
-    };
-    let Connected { incoming, outgoing } = connected;
-    let mut sent = Vec::new(alloc);
-    sent.push(stamped.envelope)?;
-    let mut hands = Hands {
-        rt,
-        alloc,
-        stamp: stamped.stamp,
-        sent,
-    };
-    let mut out = Writers::new(alloc);
-    let mut writers = writers_of(alloc, &mut out, outgoing)?;
-    let mut peers: Vec<Peer<'_, Replica<Book, MemCell>, R::Stream, Open>> = Vec::new(alloc);
-    serve_streams(
-        rt,
-        alloc,
-        peers.as_mut_slice(),
-        writers.as_mut_slice(),
-        &out,
-        &mut hands,
-    );
-    stand_there(rt, alloc, incoming, to, bytes.as_slice())
+    let bytes = first_of_step(rt.alloc(), frame)?;
+    goes_through(rt, bytes.as_slice())
+}
+
+/// So does each of these.
+fn come_through<R>(rt: &R, frames: &[&[u8]]) -> Result<(), Fail>
+where
+    R: Abort + Threads + Wait + Net + Sync + AllocGlobal,
+    R::Stream: Read + Write + Send + Drop,
+{
+    for frame in frames {
+        comes_through(rt, frame)?;
+    }
+    Ok(())
 }
 
 #[test]
 fn each_kind_of_message_comes_through(rt: HostRuntime) -> Result<(), Fail> {
-    for frame in KINDS {
-        comes_through(&rt, frame)?;
-    }
-    Ok(())
+    come_through(&rt, &KINDS)
 }

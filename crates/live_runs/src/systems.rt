@@ -1,20 +1,21 @@
 //! Sites at work at once.
 ghost use Rattle.std.specs.Prelude.{◌≡◌, []};
 
-use crate::common::{Open, site, site_over, sites};
+use crate::common::{Open, peer_of, serve, site, site_over, sites};
 use crate::frames::{COMMIT, Pieces, REQUEST, commit_with};
 use pvp_book::Book;
 use pvp_peers::{Outbox, PeerEnd, Served, Why};
 use pvp_rooms::{Actor, ActorCell, Answer, Gate, Input, Room, Seat, SiteCell, SiteSeat};
-use pvp_streams::{Outgoing, Peer, Player, Writers, serve_streams};
+use pvp_streams::{Peer, Player, Sending};
 use pvp_types::Cmd;
 use pvp_wire::{Stamp, Stamped, decode};
 use std::alloc::Global;
+use std::io::Read;
 use std::process::Abort;
 use std::sync::Wait;
 use std::sync::atomic::{AtomicU64, Ordering};
 use std::test::Fail;
-use std::thread;
+use std::thread::{self, Threads};
 use std::time::{Clock, Duration};
 use vr_site::Replica;
 use vr_types::{Boot, BootCell, Envelope, EventOf, MemCell, MsgOf, PrepareOf, Recovery, RequestOf};
@@ -76,53 +77,124 @@ impl<R: Clock> Gate for Held<'_, R> {
     fn leave<A: Actor>(&mut self, _actor: u16, _room: &Room<A>, _answer: &Answer<A::Outcome>) {}
 }
 
-/// The steps of two sites are each held until the other has come to its own.
-#[test]
-fn two_sites_at_once(rt: HostRuntime) -> Result<(), Fail> {
-    let alloc = rt.alloc();
-    let (first, first_seat) = site(alloc, 0)?;
-    let (second, second_seat) = site(alloc, 1)?;
-    let cells = [first, second];
-    let frames = [commit_with(20, &[0, 200]), COMMIT];
-    let gate = Both {
-        clock: &rt,
-        first: AtomicU64::new(0),
-        second: AtomicU64::new(0),
-        gave_up: AtomicU64::new(0),
-    };
-    let mut peers = Vec::new(alloc);
-    for ((cell, frame), seat) in cells.iter().zip(&frames).zip([first_seat, second_seat]) {
-        peers.push(Peer {
-            cell,
-            seat,
-            reader: Pieces::whole(frame),
-            gate: Held { both: &gate },
-            end: None,
+/// Writers for these actors, which write to no one.
+fn nowhere(alloc: Global, actors: &[u16]) -> Result<Vec<Sending<Vec<u8>>>, Fail> {
+    let mut outgoing = Vec::new(alloc);
+    for actor in actors {
+        outgoing.push(Sending {
+            actor: *actor,
+            streams: Vec::new(alloc),
         })?;
     }
-    let mut out = Writers::new(alloc);
-    let mut writers = [
-        out.add(alloc, 200, Vec::<Outgoing<Vec<u8>>>::new(alloc))?,
-        out.add(alloc, 201, Vec::new(alloc))?,
-    ];
-    serve_streams(
-        &rt,
-        alloc,
-        peers.as_mut_slice(),
-        &mut writers,
-        &out,
-        &mut Idle,
-    );
-    assert_eq!(&rt; gate.gave_up.load(Ordering::SeqCst), 0);
+    Ok(outgoing)
+}
+
+/// Peers of these actors are at work, and nobody else.
+fn serve_alone<A, S, G, R>(
+    rt: &R,
+    peers: &mut [Peer<'_, A, S, G>],
+    actors: &[u16],
+) -> Result<(), Fail>
+where
+    A: Served + Send,
+    A::Opening: Send,
+    A::Event: Send,
+    A::Outcome: Send,
+    S: Read + Send,
+    G: Gate + Send,
+    R: Threads + Wait + Sync + AllocGlobal,
+{
+    let outgoing = nowhere(rt.alloc(), actors)?;
+    serve(rt, peers, outgoing, &mut Idle)
+}
+
+/// A peer of each of two sites, at a stream of one frame, whose steps are held.
+fn at_gate<'a, A: Actor, R: Clock>(
+    alloc: Global,
+    first: &'a ActorCell<A>,
+    first_seat: Seat<A::Event, A::Outcome>,
+    second: &'a ActorCell<A>,
+    second_seat: Seat<A::Event, A::Outcome>,
+    frames: &'a [[u8; 28]; 2],
+    both: &'a Both<R>,
+) -> Result<Vec<Peer<'a, A, Pieces<'a>, Held<'a, R>>>, Fail> {
+    let (at_first, at_second) = (Held { both }, Held { both });
+    let (first_frame, second_frame) = (Pieces::whole(&frames[0]), Pieces::whole(&frames[1]));
+    let mut peers = Vec::new(alloc);
+    peers.push(peer_of(first, first_seat, first_frame, at_first))?;
+    peers.push(peer_of(second, second_seat, second_frame, at_second))?;
+    Ok(peers)
+}
+
+/// No step was let through though the other did not come.
+fn has_met<R>(rt: &impl Abort, both: &Both<R>) {
+    assert_eq!(rt; both.gave_up.load(Ordering::SeqCst), 0);
+}
+
+/// Each of these peers took its only frame.
+fn each_took_one<A: Actor, S, G>(rt: &impl Abort, peers: &[Peer<'_, A, S, G>]) {
     let want = PeerEnd {
         frames: 1,
         why: Why::End,
     };
     for peer in peers {
-        assert!(&rt; peer.end == Some(want));
-        assert_eq!(&rt; peer.seat.receipts().len(), 1);
+        assert!(rt; peer.end == Some(want));
+        assert_eq!(rt; peer.seat.receipts().len(), 1);
     }
+}
+
+/// Two sites, each with its seat, take a step each, which is held until the other has come to its own.
+fn meet<A, R>(
+    rt: &R,
+    first: &ActorCell<A>,
+    first_seat: Seat<A::Event, A::Outcome>,
+    second: &ActorCell<A>,
+    second_seat: Seat<A::Event, A::Outcome>,
+) -> Result<(), Fail>
+where
+    A: Served + Send,
+    A::Opening: Send,
+    A::Event: Send,
+    A::Outcome: Send,
+    R: Abort + Clock + Threads + Wait + Sync + AllocGlobal,
+{
+    let frames = [commit_with(20, &[0, 200]), COMMIT];
+    let both = Both {
+        clock: rt,
+        first: AtomicU64::new(0),
+        second: AtomicU64::new(0),
+        gave_up: AtomicU64::new(0),
+    };
+    let alloc = rt.alloc();
+    let mut peers = at_gate(
+        alloc,
+        first,
+        first_seat,
+        second,
+        second_seat,
+        &frames,
+        &both,
+    )?;
+    serve_alone(rt, peers.as_mut_slice(), &[200, 201])?;
+    has_met(rt, &both);
+    each_took_one(rt, peers.as_slice());
     Ok(())
+}
+
+/// The first two sites do so.
+fn sites_meet<R>(rt: &R) -> Result<(), Fail>
+where
+    R: Abort + Clock + Threads + Wait + Sync + AllocGlobal,
+{
+    let (first, first_seat) = site(rt.alloc(), 0)?;
+    let (second, second_seat) = site(rt.alloc(), 1)?;
+    meet(rt, &first, first_seat, &second, second_seat)
+}
+
+/// The steps of two sites are each held until the other has come to its own.
+#[test]
+fn two_sites_at_once(rt: HostRuntime) -> Result<(), Fail> {
+    sites_meet(&rt)
 }
 
 /// Counts the steps that come in while another is in.
@@ -155,40 +227,66 @@ impl<R: Clock> Gate for Door<'_, R> {
     }
 }
 
-/// Two streams of one site are posted at once, and its gate lets one step in at a time.
-#[test]
-fn one_site_takes_one_step_at_a_time(rt: HostRuntime) -> Result<(), Fail> {
-    let alloc = rt.alloc();
-    let (cell, seats) = sites(alloc, 0, 2)?;
+/// A peer of an actor from each of these seats, at a stream of this frame.
+fn at_door<'a, A: Actor, R: Clock>(
+    alloc: Global,
+    cell: &'a ActorCell<A>,
+    seats: Vec<Seat<A::Event, A::Outcome>>,
+    frame: &'a [u8],
+    alone: &'a Alone<R>,
+) -> Result<Vec<Peer<'a, A, Pieces<'a>, Door<'a, R>>>, Fail> {
+    let mut peers = Vec::new(alloc);
+    for seat in seats {
+        let gate = Door { alone };
+        peers.push(peer_of(cell, seat, Pieces::whole(frame), gate))?;
+    }
+    Ok(peers)
+}
+
+/// Each step was in alone, and has gone.
+fn none_met<R>(rt: &impl Abort, alone: &Alone<R>) {
+    assert_eq!(rt; alone.met.load(Ordering::SeqCst), 0);
+    assert_eq!(rt; alone.inside.load(Ordering::SeqCst), 0);
+}
+
+/// The first site takes a frame from each of its seats at once, and its gate lets one step in at a time.
+fn take_turns<A, R>(
+    rt: &R,
+    cell: &ActorCell<A>,
+    seats: Vec<Seat<A::Event, A::Outcome>>,
+) -> Result<(), Fail>
+where
+    A: Served + Send,
+    A::Opening: Send,
+    A::Event: Send,
+    A::Outcome: Send,
+    R: Abort + Clock + Threads + Wait + Sync + AllocGlobal,
+{
     let frame = commit_with(20, &[0, 200]);
-    let gate = Alone {
-        clock: &rt,
+    let alone = Alone {
+        clock: rt,
         inside: AtomicU64::new(0),
         met: AtomicU64::new(0),
     };
-    let mut peers = Vec::new(alloc);
-    for seat in seats {
-        peers.push(Peer {
-            cell: &cell,
-            seat,
-            reader: Pieces::whole(&frame),
-            gate: Door { alone: &gate },
-            end: None,
-        })?;
-    }
-    let mut out = Writers::new(alloc);
-    let mut writers = [out.add(alloc, 200, Vec::<Outgoing<Vec<u8>>>::new(alloc))?];
-    serve_streams(
-        &rt,
-        alloc,
-        peers.as_mut_slice(),
-        &mut writers,
-        &out,
-        &mut Idle,
-    );
-    assert_eq!(&rt; gate.met.load(Ordering::SeqCst), 0);
-    assert_eq!(&rt; gate.inside.load(Ordering::SeqCst), 0);
+    let mut peers = at_door(rt.alloc(), cell, seats, &frame, &alone)?;
+    serve_alone(rt, peers.as_mut_slice(), &[200])?;
+    none_met(rt, &alone);
     Ok(())
+}
+
+/// It has two seats.
+fn two_take_turns<R>(rt: &R) -> Result<(), Fail>
+where
+    R: Abort + Clock + Threads + Wait + Sync + AllocGlobal,
+{
+    let (cell, seats) = sites(rt.alloc(), 0, 2)?;
+    take_turns(rt, &cell, seats)
+}
+
+/// Two streams of one site are posted at once, and its gate lets one step in at a time.
+#[test]
+fn one_site_takes_one_step_at_a_time(rt: HostRuntime) -> Result<(), Fail> {
+    two_take_turns(&rt)
 }
 
 /// How an event comes out that an actor takes.
@@ -207,10 +305,8 @@ fn outcome_of<A: Actor, R: Wait + AllocGlobal>(
 
 /// The request in its frame.
 fn request(alloc: Global) -> Result<Stamped, Fail> {
-    match decode(alloc, &REQUEST) {
-        Ok((request, _)) => Ok(request),
-        Err(_) => Err(Fail::new("a frame")),
-    }
+    let (request, _) = decode(alloc, &REQUEST)?;
+    Ok(request)
 }
 
 /// What a request asks.
@@ -221,6 +317,12 @@ fn asked_in(envelope: &Envelope<Book>) -> Result<RequestOf<Cmd>, Fail> {
     }
 }
 
+/// It was taken, however it came out.
+fn is_taken<O: Drop>(came: Result<O, Fail>) -> Result<(), Fail> {
+    came?;
+    Ok(())
+}
+
 /// A request is taken.
 fn takes<R: Wait + AllocGlobal>(
     rt: &R,
@@ -229,8 +331,7 @@ fn takes<R: Wait + AllocGlobal>(
     request: Stamped,
 ) -> Result<(), Fail> {
     let Stamped { envelope, stamp } = request;
-    outcome_of(rt, cell, seat, EventOf::Deliver(envelope), Some(stamp))?;
-    Ok(())
+    is_taken(outcome_of(rt, cell, seat, EventOf::Deliver(envelope), Some(stamp)))
 }
 
 /// Two of these envelopes have a row for what a request asks.

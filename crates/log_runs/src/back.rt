@@ -17,6 +17,7 @@ use pvp_parties::{Party, PartyEvent, PartyOutcome};
 use pvp_rooms::{Actor, CameOf};
 use pvp_types::Cmd;
 use std::alloc::Global;
+use std::process::Abort;
 use std::test::Fail;
 use vr_types::{Boot, EnvelopeOf, EventOf, MemCell, MsgOf, SiteFault};
 
@@ -213,62 +214,65 @@ fn told_in(alloc: Global, history: &[Entry]) -> Result<Vec<Said>, Fail> {
     Ok(found)
 }
 
+/// A site whose own cell holds this and whose cell holds that comes back so; `None` where the two are not of one site.
+fn goes<R: Abort>(rt: &R, (known, held): (u32, u32), trusted: bool, want: Option<WayBack>) {
+    assert_eq!(rt; way_of(known, held, trusted), want);
+}
+
 #[test]
 fn a_way_back_goes_by_the_boots_and_by_trust(rt: HostRuntime) -> Result<(), Fail> {
-    assert_eq!(rt; way_of(3, 3, true), Some(WayBack::Again));
-    assert_eq!(rt; way_of(3, 3, false), Some(WayBack::Restarts));
-    assert_eq!(rt; way_of(3, 4, true), Some(WayBack::FellAndRestarts));
-    assert_eq!(rt; way_of(3, 4, false), Some(WayBack::FellAndRestarts));
-    assert_eq!(rt; (way_of(3, 5, true), way_of(3, 2, true)), (None, None));
-    assert_eq!(rt; way_of(u32::MAX, 0, false), None);
+    goes(&rt, (3, 3), true, Some(WayBack::Again));
+    goes(&rt, (3, 3), false, Some(WayBack::Restarts));
+    goes(&rt, (3, 4), true, Some(WayBack::FellAndRestarts));
+    goes(&rt, (3, 4), false, Some(WayBack::FellAndRestarts));
+    goes(&rt, (3, 5), true, None);
+    goes(&rt, (3, 2), true, None);
+    goes(&rt, (u32::MAX, 0), false, None);
+    Ok(())
+}
+
+/// A site that opened over so many boots comes back so over a cell, and its journal then says this.
+fn comes_so<R: Abort + AllocGlobal>(
+    rt: &R,
+    boots: u32,
+    cell: MemCell,
+    way: WayBack,
+    want: &[Said],
+) -> Result<(), Fail> {
+    let found = comes(rt.alloc(), site(rt.alloc(), boots)?, cell, way)?;
+    assert_eq!(rt; found.as_slice(), want);
     Ok(())
 }
 
 #[test]
 fn a_trusted_site_goes_on(rt: HostRuntime) -> Result<(), Fail> {
-    let alloc = rt.alloc();
-    let found = comes(alloc, site(alloc, 0)?, MemCell::new(), WayBack::Again)?;
-    assert_eq!(rt; found.as_slice(), [].as_slice());
-    Ok(())
+    comes_so(&rt, 0, MemCell::new(), WayBack::Again, &[])
 }
 
 #[test]
 fn a_site_crashes_and_restarts(rt: HostRuntime) -> Result<(), Fail> {
-    let alloc = rt.alloc();
-    let found = comes(alloc, site(alloc, 0)?, MemCell::new(), WayBack::Restarts)?;
-    assert_eq!(rt;
-        found.as_slice(),
-        [Said::Crashed, Said::Asked(1)].as_slice()
-    );
-    Ok(())
+    let says = [Said::Crashed, Said::Asked(1)];
+    comes_so(&rt, 0, MemCell::new(), WayBack::Restarts, &says)
 }
 
 #[test]
 fn a_restart_that_was_not_recorded_fell(rt: HostRuntime) -> Result<(), Fail> {
-    let alloc = rt.alloc();
     let cell = MemCell::of(Boot { boots: 1 });
-    let found = comes(alloc, site(alloc, 0)?, cell, WayBack::FellAndRestarts)?;
-    let asked = [Said::Crashed, Said::Fell(1), Said::Asked(2)];
-    assert_eq!(rt; found.as_slice(), asked.as_slice());
-    Ok(())
+    let says = [Said::Crashed, Said::Fell(1), Said::Asked(2)];
+    comes_so(&rt, 0, cell, WayBack::FellAndRestarts, &says)
 }
 
 #[test]
 fn a_site_that_is_down_only_restarts(rt: HostRuntime) -> Result<(), Fail> {
-    let alloc = rt.alloc();
     let cell = MemCell::of(Boot { boots: 5 });
-    let found = comes(alloc, site(alloc, 5)?, cell, WayBack::Restarts)?;
-    assert_eq!(rt; found.as_slice(), [Said::Asked(6)].as_slice());
-    Ok(())
+    comes_so(&rt, 5, cell, WayBack::Restarts, &[Said::Asked(6)])
 }
 
 #[test]
 fn a_save_that_fails_is_recorded(rt: HostRuntime) -> Result<(), Fail> {
-    let alloc = rt.alloc();
     let cell = MemCell::failing(1, false);
-    let found = comes(alloc, site(alloc, 0)?, cell, WayBack::Restarts)?;
-    assert_eq!(rt; found.as_slice(), [Said::Crashed, Said::Fell(0)].as_slice());
-    Ok(())
+    let says = [Said::Crashed, Said::Fell(0)];
+    comes_so(&rt, 0, cell, WayBack::Restarts, &says)
 }
 
 /// Why a room does not come back so; `None` where it does.
@@ -279,25 +283,31 @@ fn fault_of(alloc: Global, room: Operator, boots: u32, way: WayBack) -> Option<R
     }
 }
 
+/// A room does not come back so over a cell of so many boots, for this reason; `None` where it does.
+fn fails<R: Abort + AllocGlobal>(
+    rt: &R,
+    room: Operator,
+    boots: u32,
+    way: WayBack,
+    want: Option<RestartFault>,
+) {
+    assert_eq!(rt; fault_of(rt.alloc(), room, boots, way), want);
+}
+
 #[test]
 fn a_cell_of_another_site_is_refused(rt: HostRuntime) -> Result<(), Fail> {
-    let alloc = rt.alloc();
+    let misfit = Some(RestartFault::Misfit);
     for way in [WayBack::Again, WayBack::Restarts, WayBack::FellAndRestarts] {
-        let found = fault_of(alloc, site(alloc, 0)?, 2, way);
-        assert_eq!(rt; found, Some(RestartFault::Misfit));
+        fails(&rt, site(rt.alloc(), 0)?, 2, way, misfit);
     }
     Ok(())
 }
 
 #[test]
 fn a_client_never_restarts(rt: HostRuntime) -> Result<(), Fail> {
-    let alloc = rt.alloc();
-    let found = fault_of(alloc, operator(alloc, 0)?, 0, WayBack::Restarts);
-    assert_eq!(rt; found, Some(RestartFault::Misfit));
-    assert_eq!(rt;
-        fault_of(alloc, operator(alloc, 0)?, 9, WayBack::Again),
-        None
-    );
+    let misfit = Some(RestartFault::Misfit);
+    fails(&rt, operator(rt.alloc(), 0)?, 0, WayBack::Restarts, misfit);
+    fails(&rt, operator(rt.alloc(), 0)?, 9, WayBack::Again, None);
     Ok(())
 }
 
@@ -336,21 +346,29 @@ fn last_clock(alloc: Global, journal: &Journal) -> Result<u64, Fail> {
     Ok(clock_of(again(alloc, journal)?))
 }
 
-#[test]
-fn what_comes_back_goes_on(rt: HostRuntime) -> Result<(), Fail> {
-    let alloc = rt.alloc();
-    let bytes = worked_twice(alloc)?;
-    assert_eq!(rt; told_of(alloc, bytes.as_slice())?, (2, Left::Nothing, 2));
+/// In these bytes stand two records and nothing else, and the last clock of the history that they are is 2.
+fn has_two_records<R: Abort + AllocGlobal>(rt: &R, bytes: &[u8]) -> Result<(), Fail> {
+    assert_eq!(rt; told_of(rt.alloc(), bytes)?, (2, Left::Nothing, 2));
     Ok(())
 }
 
 #[test]
+fn what_comes_back_goes_on(rt: HostRuntime) -> Result<(), Fail> {
+    let bytes = worked_twice(rt.alloc())?;
+    has_two_records(&rt, bytes.as_slice())
+}
+
+/// What the site of a room holds.
+fn holds<R: Abort>(rt: &R, room: &Operator, want: Option<Boot>) {
+    assert_eq!(rt; room.actor().held(), want);
+}
+
+#[test]
 fn a_room_over_another_cell_goes_on(rt: HostRuntime) -> Result<(), Fail> {
-    let alloc = rt.alloc();
-    let bytes = worked_over_another(alloc)?;
-    assert_eq!(rt; told_of(alloc, bytes.as_slice())?, (2, Left::Nothing, 2));
-    let site = over_another(site(alloc, 4)?);
-    assert_eq!(rt; site.actor().held(), Some(Boot { boots: 4 }));
+    let bytes = worked_over_another(rt.alloc())?;
+    has_two_records(&rt, bytes.as_slice())?;
+    let site = over_another(site(rt.alloc(), 4)?);
+    holds(&rt, &site, Some(Boot { boots: 4 }));
     Ok(())
 }
 
@@ -379,11 +397,19 @@ fn clock_after<A: Audited + Journaled, L: Log>(
     }
 }
 
+/// A request of the operator that came out so is noted at this clock; `None` where it cannot have.
+fn is_noted<R: Abort + AllocGlobal>(
+    rt: &R,
+    outcome: PartyOutcome,
+    want: Option<u64>,
+) -> Result<(), Fail> {
+    assert_eq!(rt; clock_noted(rt.alloc(), outcome)?, want);
+    Ok(())
+}
+
 #[test]
 fn what_can_have_come_so_is_noted(rt: HostRuntime) -> Result<(), Fail> {
-    let alloc = rt.alloc();
     let refused = PartyOutcome::OfClient(Err(ClientFault::NoMemory));
-    assert_eq!(rt; clock_noted(alloc, refused)?, Some(1));
-    assert_eq!(rt; clock_noted(alloc, PartyOutcome::Stray)?, None);
-    Ok(())
+    is_noted(&rt, refused, Some(1))?;
+    is_noted(&rt, PartyOutcome::Stray, None)
 }

@@ -8,6 +8,7 @@ use pvp_judge::Judgement;
 use pvp_parties::{PartyEvent, PartyOutcome};
 use pvp_rooms::Recorded;
 use std::alloc::Global;
+use std::process::Abort;
 use std::test::Fail;
 use vr_types::{ActorId, Boot};
 
@@ -74,36 +75,47 @@ fn judged_with_a_stray(alloc: Global, clock: u64) -> Result<Option<Verdict>, Fai
     judged(alloc, histories)
 }
 
+/// The empty histories of these actors are judged so, or as no bank's.
+fn are_judged<R: Abort + AllocGlobal>(
+    rt: &R,
+    actors: &[ActorId],
+    want: Option<Verdict>,
+) -> Result<(), Fail> {
+    assert_eq!(rt; judged_at_rest(rt.alloc(), actors)?, want);
+    Ok(())
+}
+
 #[test]
 fn a_bank_that_did_nothing_is_one_run(rt: HostRuntime) -> Result<(), Fail> {
-    assert_eq!(rt; judged_at_rest(rt.alloc(), &ACTORS)?, Some(Verdict::Yes));
-    Ok(())
+    are_judged(&rt, &ACTORS, Some(Verdict::Yes))
 }
 
 #[test]
 fn an_actor_is_missing(rt: HostRuntime) -> Result<(), Fail> {
-    assert_eq!(rt; judged_at_rest(rt.alloc(), &ACTORS[1..])?, None);
-    Ok(())
+    are_judged(&rt, &ACTORS[1..], None)
 }
 
 #[test]
 fn a_stranger_is_no_actor_of_the_bank(rt: HostRuntime) -> Result<(), Fail> {
-    assert_eq!(rt; judged_at_rest(rt.alloc(), &[ActorId::Site(3)])?, None);
-    assert_eq!(rt; judged_at_rest(rt.alloc(), &[ActorId::Node(3)])?, None);
-    assert_eq!(rt; judged_at_rest(rt.alloc(), &[ActorId::Client(3)])?, None);
+    are_judged(&rt, &[ActorId::Site(3)], None)?;
+    are_judged(&rt, &[ActorId::Node(3)], None)?;
+    are_judged(&rt, &[ActorId::Client(3)], None)
+}
+
+/// A bank at rest but for a stray of its first member at this clock is judged as no run, by this test.
+fn is_no_run<R: Abort + AllocGlobal>(rt: &R, clock: u64, why: Why) -> Result<(), Fail> {
+    let no = Verdict::No {
+        actor: 1,
+        event: 1,
+        why,
+    };
+    assert_eq!(rt; judged_with_a_stray(rt.alloc(), clock)?, Some(no));
     Ok(())
 }
 
 /// The first test that fails is told, of a clock that does not rise and of what cannot come out so.
 #[test]
 fn a_history_that_cannot_be_is_told(rt: HostRuntime) -> Result<(), Fail> {
-    for (clock, why) in [(0, Why::Clock), (1, Why::Answered)] {
-        let no = Verdict::No {
-            actor: 1,
-            event: 1,
-            why,
-        };
-        assert_eq!(rt; judged_with_a_stray(rt.alloc(), clock)?, Some(no));
-    }
-    Ok(())
+    is_no_run(&rt, 0, Why::Clock)?;
+    is_no_run(&rt, 1, Why::Answered)
 }

@@ -6,6 +6,7 @@ use pvp_journal::{Entry, read_journal};
 use pvp_logs::{Replayed, replay};
 use pvp_parties::{Party, PartyOutcome};
 use std::alloc::Global;
+use std::process::Abort;
 use std::test::Fail;
 
 /// The operator's room after two requests, the second of which is refused.
@@ -62,20 +63,28 @@ pub(crate) fn clock_of<A: Drop>(again: Replayed<A>) -> u64 {
     again.clock
 }
 
+/// The history of the operator, altered so, is taken again up to this clock; `None` where it cannot have come so.
+fn comes_to<R: Abort + AllocGlobal>(
+    rt: &R,
+    clocks: u64,
+    is_stray: bool,
+    want: Option<u64>,
+) -> Result<(), Fail> {
+    assert_eq!(rt; clock_after(rt.alloc(), clocks, is_stray)?, want);
+    Ok(())
+}
+
 #[test]
 fn a_history_is_taken_again(rt: HostRuntime) -> Result<(), Fail> {
-    assert_eq!(rt; clock_after(rt.alloc(), 2, false)?, Some(2));
-    Ok(())
+    comes_to(&rt, 2, false, Some(2))
 }
 
 #[test]
 fn an_altered_outcome_cannot_have_come_so(rt: HostRuntime) -> Result<(), Fail> {
-    assert_eq!(rt; clock_after(rt.alloc(), 2, true)?, None);
-    Ok(())
+    comes_to(&rt, 2, true, None)
 }
 
 #[test]
 fn clocks_that_stand_still_cannot_have_come_so(rt: HostRuntime) -> Result<(), Fail> {
-    assert_eq!(rt; clock_after(rt.alloc(), 1, false)?, None);
-    Ok(())
+    comes_to(&rt, 1, false, None)
 }

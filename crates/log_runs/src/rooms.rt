@@ -15,8 +15,8 @@ use std::test::Fail;
 /// The operator's room.
 pub(crate) type Operator = JournalRoom<Party, MemLog>;
 
-/// The operator's room, over a log of which the call of this number fails.
-pub(crate) fn operator(alloc: Global, failing: u64) -> Result<Operator, Fail> {
+/// A log with the head of the operator's journal, of which the call of this number fails, and the checksum of that.
+fn log_of_operator(alloc: Global, failing: u64) -> Result<(MemLog, u64), Fail> {
     let head = Head {
         actor: 0,
         opening: None,
@@ -24,7 +24,12 @@ pub(crate) fn operator(alloc: Global, failing: u64) -> Result<Operator, Fail> {
     };
     let mut bytes = Vec::new(alloc);
     let sum = write_head(alloc, &head, &mut bytes)?;
-    let log = MemLog::new(bytes, failing);
+    Ok((MemLog::new(bytes, failing), sum))
+}
+
+/// The operator's room, over a log of which the call of this number fails.
+pub(crate) fn operator(alloc: Global, failing: u64) -> Result<Operator, Fail> {
+    let (log, sum) = log_of_operator(alloc, failing)?;
     let actor = Party::client(&three_currencies(alloc)?, 0)?;
     Ok(JournalRoom::new(alloc, 0, None, actor, log, sum))
 }

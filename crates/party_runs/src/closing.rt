@@ -1,8 +1,8 @@
 //! Cells that are closed with a wrong list of seats.
 use self::Move::{AsideBack, OwnAside, StrangeIn, StrangeOut};
 use crate::common::{Place, close};
-use pvp_parties::{Party, PartyCell, PartyEvent, PartySeat};
-use pvp_rooms::{Actor, CloseFault, Closed};
+use pvp_parties::PartyEvent;
+use pvp_rooms::{Actor, ActorCell, CloseFault, Closed, Seat};
 use std::mem;
 use std::process::Abort;
 use std::sync::Wait;
@@ -52,7 +52,7 @@ fn move_last<S: Drop>(from: &mut Vec<S>, to: &mut Vec<S>) -> Result<(), Fail> {
 }
 
 /// These are seats of these actors, with these numbers.
-fn are_seats(rt: &impl Abort, seats: &[PartySeat], want: &[(u16, u16)]) {
+fn are_seats<E, O>(rt: &impl Abort, seats: &[Seat<E, O>], want: &[(u16, u16)]) {
     assert_eq!(rt; seats.len(), want.len());
     for (seat, named) in seats.iter().zip(want) {
         assert_eq!(rt; (seat.actor(), seat.number()), *named);
@@ -60,19 +60,19 @@ fn are_seats(rt: &impl Abort, seats: &[PartySeat], want: &[(u16, u16)]) {
 }
 
 /// What came back is the first site's cell with these seats, in order of their numbers.
-fn is_whole(rt: &impl Abort, back: &CloseFault<Party>, want: &[(u16, u16)]) {
+fn is_whole<A: Actor>(rt: &impl Abort, back: &CloseFault<A>, want: &[(u16, u16)]) {
     assert_eq!(rt; back.cell.number(), 200);
     are_seats(rt, back.seats.as_slice(), want);
 }
 
 /// After these moves a cell is not closed with its pile of seats, and comes back with just these.
-fn comes_back<R: Abort + AllocGlobal>(
+fn comes_back<A: Actor, R: Abort + AllocGlobal>(
     rt: &R,
-    cell: PartyCell,
-    piles: &mut Piles<PartySeat>,
+    cell: ActorCell<A>,
+    piles: &mut Piles<Seat<A::Event, A::Outcome>>,
     moves: &[Move],
     want: &[(u16, u16)],
-) -> Result<PartyCell, Fail> {
+) -> Result<ActorCell<A>, Fail> {
     piles.make_all(moves)?;
     match cell.close(mem::replace(&mut piles.own, Vec::new(rt.alloc()))) {
         Ok(_) => Err(Fail::new("E1")),
@@ -91,10 +91,10 @@ fn count_of<A: Actor>(closed: &Closed<A>) -> usize {
 }
 
 /// After these moves a cell is closed with its pile of seats, which are these, and left a record of one event.
-fn is_closed<R: Abort + AllocGlobal>(
+fn is_closed<A: Actor, R: Abort + AllocGlobal>(
     rt: &R,
-    cell: PartyCell,
-    piles: &mut Piles<PartySeat>,
+    cell: ActorCell<A>,
+    piles: &mut Piles<Seat<A::Event, A::Outcome>>,
     moves: &[Move],
     want: &[(u16, u16)],
 ) -> Result<(), Fail> {
@@ -107,10 +107,10 @@ fn is_closed<R: Abort + AllocGlobal>(
 }
 
 /// A seat is missing; there is one too many; another actor's stands in its place. With its own the cell is then closed.
-fn each_is_tried<R: Abort + AllocGlobal>(
+fn each_is_tried<A: Actor, R: Abort + AllocGlobal>(
     rt: &R,
-    cell: PartyCell,
-    piles: &mut Piles<PartySeat>,
+    cell: ActorCell<A>,
+    piles: &mut Piles<Seat<A::Event, A::Outcome>>,
 ) -> Result<(), Fail> {
     let want = [(200, 0), (200, 1), (201, 2)];
     let cell = comes_back(rt, cell, piles, &[OwnAside], &[(200, 0)])?;
@@ -126,21 +126,32 @@ fn each_is_tried<R: Abort + AllocGlobal>(
     )
 }
 
-/// The first site with its two seats, after a beat.
-fn beaten<R: Wait + AllocGlobal>(rt: &R) -> Result<(PartyCell, Vec<PartySeat>), Fail> {
-    let mut site = Place::site_with_seats(rt.alloc(), 0, 2)?;
-    site.take(rt, PartyEvent::OfSite(EventOf::Beat))?;
-    Ok(site.apart())
-}
-
-#[test]
-fn a_wrong_list_of_seats_comes_back(rt: HostRuntime) -> Result<(), Fail> {
-    let (_, strange) = Place::site_with_seats(rt.alloc(), 1, 3)?.apart();
-    let (cell, own) = beaten(&rt)?;
+/// Each is tried with an actor, once this had come to it, and another's seats.
+fn are_tried<A: Actor, R: Abort + AllocGlobal>(
+    rt: &R,
+    came: Result<(), Fail>,
+    place: Place<A>,
+    strange: Vec<Seat<A::Event, A::Outcome>>,
+) -> Result<(), Fail> {
+    came?;
+    let (cell, own) = place.apart();
     let mut piles = Piles {
         own,
         strange,
         aside: Vec::new(rt.alloc()),
     };
-    each_is_tried(&rt, cell, &mut piles)
+    each_is_tried(rt, cell, &mut piles)
+}
+
+/// The first site with its two seats, after a beat, and three seats of the second.
+fn sites_are_tried<R: Abort + Wait + AllocGlobal>(rt: &R) -> Result<(), Fail> {
+    let (_, strange) = Place::site_with_seats(rt.alloc(), 1, 3)?.apart();
+    let mut site = Place::site_with_seats(rt.alloc(), 0, 2)?;
+    let came = site.take(rt, PartyEvent::OfSite(EventOf::Beat));
+    are_tried(rt, came, site, strange)
+}
+
+#[test]
+fn a_wrong_list_of_seats_comes_back(rt: HostRuntime) -> Result<(), Fail> {
+    sites_are_tried(&rt)
 }

@@ -3,11 +3,9 @@ use fixtures::setup::three_currencies;
 use pvp_audit::Verdict;
 use pvp_book::Book;
 use pvp_judge::{Judgement, judge};
-use pvp_parties::{
-    Party, PartyCell, PartyEvent, PartyOutcome, PartySeat, client_cell, node_cell, site_cell,
-};
+use pvp_parties::{Party, client_cell, node_cell, site_cell};
 use pvp_peers::Served;
-use pvp_rooms::{Actor, Answer, CameOf, Closed, Gate, Input, Room};
+use pvp_rooms::{Actor, ActorCell, Answer, Closed, Gate, Input, Room, Seat};
 use pvp_wire::Stamp;
 use std::alloc::Global;
 use std::mem;
@@ -51,23 +49,23 @@ impl Gate for Open {
 
 /// An actor and its seats.
 #[derive(Drop)]
-pub struct Place {
-    cell: PartyCell,
-    seats: Vec<PartySeat>,
+pub struct Place<A: Actor> {
+    cell: ActorCell<A>,
+    seats: Vec<Seat<A::Event, A::Outcome>>,
 }
 
-impl Place {
+impl Place<Party> {
     /// A new actor with one seat.
     fn of(alloc: Global, actor: Who) -> Result<Self, Fail> {
         match actor {
-            Who::Client(number) => Place::client_of(alloc, number),
-            Who::Node(ccy) => Place::node_of(alloc, ccy),
-            Who::Site(me) => Place::site(alloc, me),
+            Who::Client(number) => Self::client_of(alloc, number),
+            Who::Node(ccy) => Self::node_of(alloc, ccy),
+            Who::Site(me) => Self::site(alloc, me),
         }
     }
 
     pub fn client(alloc: Global) -> Result<Self, Fail> {
-        Place::client_of(alloc, 0)
+        Self::client_of(alloc, 0)
     }
 
     fn client_of(alloc: Global, number: u16) -> Result<Self, Fail> {
@@ -80,7 +78,7 @@ impl Place {
     }
 
     pub fn node(alloc: Global) -> Result<Self, Fail> {
-        Place::node_of(alloc, 0)
+        Self::node_of(alloc, 0)
     }
 
     fn node_of(alloc: Global, ccy: u8) -> Result<Self, Fail> {
@@ -93,11 +91,11 @@ impl Place {
     }
 
     pub fn site(alloc: Global, me: u16) -> Result<Self, Fail> {
-        Place::site_with_seats(alloc, me, 1)
+        Self::site_with_seats(alloc, me, 1)
     }
 
     pub fn site_with_seats(alloc: Global, me: u16, seats: u16) -> Result<Self, Fail> {
-        Place::site_over(alloc, me, MemCell::new(), seats)
+        Self::site_over(alloc, me, MemCell::new(), seats)
     }
 
     pub fn site_over(alloc: Global, me: u16, held: MemCell, seats: u16) -> Result<Self, Fail> {
@@ -108,14 +106,16 @@ impl Place {
         let (cell, seats) = site_cell(alloc, &setup, me, held, seats)?;
         Ok(Place { cell, seats })
     }
+}
 
+impl<A: Actor> Place<A> {
     /// Posts an event from the first seat, and answers the clock at which it was taken and how it came out.
     pub fn post<R: Wait + AllocGlobal>(
         &mut self,
         rt: &R,
-        event: PartyEvent,
+        event: A::Event,
         stamp: Option<Stamp>,
-    ) -> Result<(u64, PartyOutcome), Fail> {
+    ) -> Result<(u64, A::Outcome), Fail> {
         self.post_from(rt, 0, event, stamp)
     }
 
@@ -124,9 +124,9 @@ impl Place {
         &mut self,
         rt: &R,
         seat: usize,
-        event: PartyEvent,
+        event: A::Event,
         stamp: Option<Stamp>,
-    ) -> Result<(u64, PartyOutcome), Fail> {
+    ) -> Result<(u64, A::Outcome), Fail> {
         let Some(seat) = self.seats.get_mut(seat) else {
             return Err(Fail::new("a seat"));
         };
@@ -135,17 +135,30 @@ impl Place {
     }
 
     /// Posts an event from the first seat, whatever comes of it.
-    pub fn take<R: Wait + AllocGlobal>(&mut self, rt: &R, event: PartyEvent) -> Result<(), Fail> {
+    pub fn take<R: Wait + AllocGlobal>(&mut self, rt: &R, event: A::Event) -> Result<(), Fail> {
         let_go(self.post(rt, event, None))
     }
 
+    /// Its cell and its seats.
+    pub fn apart(self) -> (ActorCell<A>, Vec<Seat<A::Event, A::Outcome>>) {
+        let Place { cell, seats } = self;
+        (cell, seats)
+    }
+
+    pub fn close(self) -> Result<Closed<A>, Fail> {
+        let Place { cell, seats } = self;
+        close(cell, seats)
+    }
+}
+
+impl<A: Served> Place<A> {
     /// Delivers the first envelope that an actor sent at a clock.
     pub fn deliver<R: Wait + AllocGlobal>(
         &mut self,
         rt: &R,
         actor: u16,
-        took: &(u64, PartyOutcome),
-    ) -> Result<(u64, PartyOutcome), Fail> {
+        took: Result<(u64, A::Outcome), Fail>,
+    ) -> Result<(u64, A::Outcome), Fail> {
         self.deliver_as(rt, actor, took, 0)
     }
 
@@ -154,40 +167,45 @@ impl Place {
         &mut self,
         rt: &R,
         actor: u16,
-        took: &(u64, PartyOutcome),
+        took: Result<(u64, A::Outcome), Fail>,
         index: u32,
-    ) -> Result<(u64, PartyOutcome), Fail> {
-        let envelope = first_letter(rt.alloc(), &took.1)?;
+    ) -> Result<(u64, A::Outcome), Fail> {
+        let (clock, outcome) = took?;
+        let envelope = first_letter::<A>(rt.alloc(), &outcome)?;
         let stamp = Stamp {
             actor,
-            clock: took.0,
+            clock,
             index,
         };
-        self.post(rt, Party::deliver(envelope), Some(stamp))
-    }
-
-    /// Its cell and its seats.
-    pub fn apart(self) -> (PartyCell, Vec<PartySeat>) {
-        let Place { cell, seats } = self;
-        (cell, seats)
-    }
-
-    pub fn close(self) -> Result<Closed<Party>, Fail> {
-        let Place { cell, seats } = self;
-        close(cell, seats)
+        self.post(rt, A::deliver(envelope), Some(stamp))
     }
 }
 
 /// What an actor left, with all its seats.
-pub fn close(cell: PartyCell, seats: Vec<PartySeat>) -> Result<Closed<Party>, Fail> {
+pub fn close<A: Actor>(
+    cell: ActorCell<A>,
+    seats: Vec<Seat<A::Event, A::Outcome>>,
+) -> Result<Closed<A>, Fail> {
     match cell.close(seats) {
         Ok(closed) => Ok(closed),
         Err(_) => Err(Fail::new("all seats")),
     }
 }
 
+/// What an actor left, once this had come to it.
+pub fn close_after<A: Actor>(came: Result<(), Fail>, place: Place<A>) -> Result<Closed<A>, Fail> {
+    came?;
+    place.close()
+}
+
+/// A value, once this had come to it.
+pub fn after<T: Drop>(came: Result<(), Fail>, value: T) -> Result<T, Fail> {
+    came?;
+    Ok(value)
+}
+
 /// At which clock an event was taken, and how it came out.
-fn taken<O>(answer: Answer<O>) -> Result<(u64, O), Fail> {
+fn taken<O: Drop>(answer: Answer<O>) -> Result<(u64, O), Fail> {
     match answer {
         Answer::Done { clock, outcome } => Ok((clock, outcome)),
         Answer::NoMemory => Err(Fail::new("memory")),
@@ -202,31 +220,47 @@ pub fn let_go<T: Drop>(came: Result<T, Fail>) -> Result<(), Fail> {
 }
 
 /// The first envelope that an outcome sent.
-pub fn first_letter(alloc: Global, outcome: &PartyOutcome) -> Result<Envelope<Book>, Fail> {
-    let found = match outcome {
-        PartyOutcome::OfSite(CameOf::Did { sent, .. }) => sent.get(0),
-        PartyOutcome::OfNode(Ok(sent)) => sent.get(0),
-        PartyOutcome::OfClient(Ok(sent)) => sent.get(0),
-        _ => None,
-    };
-    match found {
+pub fn first_letter<A: Served>(
+    alloc: Global,
+    outcome: &A::Outcome,
+) -> Result<Envelope<Book>, Fail> {
+    match A::sent(outcome).get(0) {
         Some(envelope) => Ok(envelope.copy(alloc)?),
         None => Err(Fail::new("an envelope")),
     }
 }
 
 /// What a whole bank leaves in which nothing happens but what these actors left, each in its place.
-pub fn bank_around(alloc: Global, some: Vec<Closed<Party>>) -> Result<Vec<Closed<Party>>, Fail> {
-    let mut closed = bank_at_rest(alloc)?;
-    put_in_places(closed.as_mut_slice(), some);
-    Ok(closed)
+pub fn bank_around(
+    alloc: Global,
+    some: Result<Vec<Closed<Party>>, Fail>,
+) -> Result<Vec<Closed<Party>>, Fail> {
+    let mut closed = Vec::new(alloc);
+    let came = put_around(alloc, &mut closed, some);
+    after(came, closed)
 }
 
-/// Puts what actors left in the places of what others of their numbers left.
-fn put_in_places<A: Actor>(closed: &mut [Closed<A>], some: Vec<Closed<A>>) {
+fn put_around(
+    alloc: Global,
+    closed: &mut Vec<Closed<Party>>,
+    some: Result<Vec<Closed<Party>>, Fail>,
+) -> Result<(), Fail> {
+    let some = some?;
+    let came = put_all_at_rest(alloc, closed);
+    put_in_places(came, closed.as_mut_slice(), some)
+}
+
+/// Puts what actors left in the places of what others of their numbers left, once those are there.
+fn put_in_places<A: Actor>(
+    came: Result<(), Fail>,
+    closed: &mut [Closed<A>],
+    some: Vec<Closed<A>>,
+) -> Result<(), Fail> {
+    came?;
     for one in some {
         put_in_place(closed, one);
     }
+    Ok(())
 }
 
 /// Puts what an actor left in the place of what another of its number left.
@@ -238,43 +272,43 @@ fn put_in_place<A: Actor>(closed: &mut [Closed<A>], mut one: Closed<A>) {
     }
 }
 
+/// A list gets one more, once that is made.
+pub fn add<T: Drop>(all: &mut Vec<T>, one: Result<T, Fail>) -> Result<(), Fail> {
+    all.push(one?)?;
+    Ok(())
+}
+
 /// A list of one.
-pub fn alone<T: Drop>(alloc: Global, one: T) -> Result<Vec<T>, Fail> {
+pub fn alone<T: Drop>(alloc: Global, one: Result<T, Fail>) -> Result<Vec<T>, Fail> {
     let mut all = Vec::new(alloc);
-    all.push(one)?;
+    add(&mut all, one)?;
     Ok(all)
 }
 
-/// A list of two.
-pub fn pair<T: Drop>(alloc: Global, one: T, other: T) -> Result<Vec<T>, Fail> {
-    let mut both = alone(alloc, one)?;
-    both.push(other)?;
-    Ok(both)
-}
-
-/// A list loses its last.
-pub fn remove_last<T: Drop>(all: &mut Vec<T>) {
+/// A list without its last.
+pub fn without_last<T: Drop>(all: Result<Vec<T>, Fail>) -> Result<Vec<T>, Fail> {
+    let mut all = all?;
     all.pop();
+    Ok(all)
 }
 
 /// What all actors of a bank leave to whom nothing happened: clients, nodes, sites.
-fn bank_at_rest(alloc: Global) -> Result<Vec<Closed<Party>>, Fail> {
-    let mut closed = Vec::new(alloc);
-    put_all_at_rest(alloc, &mut closed)?;
-    Ok(closed)
-}
-
 fn put_all_at_rest(alloc: Global, closed: &mut Vec<Closed<Party>>) -> Result<(), Fail> {
     for actor in ACTORS {
-        closed.push(Place::of(alloc, actor)?.close()?)?;
+        add(closed, at_rest(Place::of(alloc, actor)))?;
     }
     Ok(())
+}
+
+/// What an actor leaves to whom nothing happened.
+pub fn at_rest<A: Actor>(place: Result<Place<A>, Fail>) -> Result<Closed<A>, Fail> {
+    place?.close()
 }
 
 /// A judgement of the bank around what some actors left says this.
 pub fn are_judged<R: Abort + AllocGlobal>(
     rt: &R,
-    some: Vec<Closed<Party>>,
+    some: Result<Vec<Closed<Party>>, Fail>,
     verdict: Verdict,
 ) -> Result<(), Fail> {
     is_judged_whole(rt, bank_around(rt.alloc(), some)?.as_slice(), verdict)

@@ -3,7 +3,7 @@ use self::Came::{
     ClientRefused, ClientSent, Drops, Fell, NodeRefused, NodeSent, SiteRefused, SiteSent, Strays,
 };
 use self::Took::{Asks, Beats, Crashes, PaysIn, Restarts, SaysAgain};
-use crate::common::{Place, alone, are_judged};
+use crate::common::{Place, after, alone, are_judged, close_after};
 use headline::{ClientEvent, ClientFault};
 use pvp_audit::{Verdict, Why};
 use pvp_parties::{Party, PartyEvent, PartyOutcome};
@@ -126,7 +126,7 @@ fn put_receipt<A: Actor>(
 }
 
 /// A new actor of this number: the operator, EUR's node or the first site.
-fn opened(alloc: Global, actor: u16) -> Result<Place, Fail> {
+fn opened(alloc: Global, actor: u16) -> Result<Place<Party>, Fail> {
     match actor {
         0 => Place::client(alloc),
         101 => Place::node(alloc),
@@ -137,12 +137,16 @@ fn opened(alloc: Global, actor: u16) -> Result<Place, Fail> {
 /// What a new actor leaves that took these.
 fn left<R: Wait + AllocGlobal>(rt: &R, actor: u16, took: &[Took]) -> Result<Closed<Party>, Fail> {
     let mut place = opened(rt.alloc(), actor)?;
-    take_all(rt, &mut place, took)?;
-    place.close()
+    let came = take_all(rt, &mut place, took);
+    close_after(came, place)
 }
 
 /// An actor takes these one after another, whatever comes of them.
-fn take_all<R: Wait + AllocGlobal>(rt: &R, place: &mut Place, took: &[Took]) -> Result<(), Fail> {
+fn take_all<R: Wait + AllocGlobal>(
+    rt: &R,
+    place: &mut Place<Party>,
+    took: &[Took],
+) -> Result<(), Fail> {
     for one in took {
         place.take(rt, event_of(*one))?;
     }
@@ -167,9 +171,9 @@ fn row_is<R: Abort + Wait + AllocGlobal>(
     row: &Row,
     told: Verdict,
 ) -> Result<(), Fail> {
-    let mut some = alone(rt.alloc(), left(rt, actor, row.0)?)?;
-    put_last(rt.alloc(), some.as_mut_slice(), row)?;
-    are_judged(rt, some, told)
+    let mut some = alone(rt.alloc(), left(rt, actor, row.0))?;
+    let came = put_last(rt.alloc(), some.as_mut_slice(), row);
+    are_judged(rt, after(came, some), told)
 }
 
 /// The last record of each row is one that its actor can have.
@@ -290,6 +294,27 @@ fn again(alloc: Global, clocks: &[u64]) -> Result<Vec<Recorded<PartyEvent, Party
     Ok(all)
 }
 
+/// What an actor left becomes these records, with no seat.
+fn put_history<A: Actor>(
+    one: &mut Closed<A>,
+    history: Result<Vec<Recorded<A::Event, A::Outcome>>, Fail>,
+) -> Result<(), Fail> {
+    one.history = history?;
+    one.seats.clear();
+    Ok(())
+}
+
+/// One more seat, of a number, has these receipts.
+fn put_seat<A: Actor>(
+    one: &mut Closed<A>,
+    number: u16,
+    receipts: Result<Vec<Recorded<A::Event, A::Outcome>>, Fail>,
+) -> Result<(), Fail> {
+    let seat = Seat::holding(one.number, number, receipts?);
+    one.seats.push(seat)?;
+    Ok(())
+}
+
 /// What an actor left becomes records of these clocks, with receipts of these from two seats.
 fn retime(
     alloc: Global,
@@ -298,27 +323,34 @@ fn retime(
     seats: [&[u64]; 2],
 ) -> Result<(), Fail> {
     let [first, second] = seats;
-    one.history = again(alloc, history)?;
-    one.seats.clear();
-    one.seats
-        .push(Seat::holding(one.number, 0, again(alloc, first)?))?;
-    one.seats
-        .push(Seat::holding(one.number, 1, again(alloc, second)?))?;
+    put_history(one, again(alloc, history))?;
+    put_seat(one, 0, again(alloc, first))?;
+    put_seat(one, 1, again(alloc, second))
+}
+
+/// What each of these left becomes records of the clocks 1, 2 and 1, with receipts of 1, and of 1 and 2.
+fn retime_each(alloc: Global, some: &mut [Closed<Party>]) -> Result<(), Fail> {
+    for one in some {
+        retime(alloc, one, &[1, 2, 1], [&[1], &[1, 2]])?;
+    }
     Ok(())
+}
+
+/// What a client left of whom it is recorded so.
+fn retimed<R: Wait + AllocGlobal>(rt: &R) -> Result<Vec<Closed<Party>>, Fail> {
+    let mut some = alone(rt.alloc(), left(rt, 0, &[]))?;
+    let came = retime_each(rt.alloc(), some.as_mut_slice());
+    after(came, some)
 }
 
 /// Of two receipts of one record the first seat's goes first, though the other's would leave each its own: what then is no
 /// seat's next is told before the clock that stands still.
 #[test]
 fn a_receipt_is_missed_before_a_clock_is(rt: HostRuntime) -> Result<(), Fail> {
-    let mut some = alone(rt.alloc(), left(&rt, 0, &[])?)?;
-    for one in some.as_mut_slice() {
-        retime(rt.alloc(), one, &[1, 2, 1], [&[1], &[1, 2]])?;
-    }
     let told = Verdict::No {
         actor: 0,
         event: 2,
         why: Why::Receipts,
     };
-    are_judged(&rt, some, told)
+    are_judged(&rt, retimed(&rt), told)
 }

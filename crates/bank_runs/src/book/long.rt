@@ -1,128 +1,107 @@
 //! A run of 60,000 rows, with what they come to.
 use super::*;
 
-/// As often as told EUR 3 come to ALFA, which has EUR 1 of them paid out.
-fn pay_in_and_out(rt: &impl Abort, book: &mut Book, count: u32) -> Result<(), Fail> {
+/// Commands that come again and again, each time with the next number.
+#[derive(Clone, Copy)]
+pub(super) enum Many {
+    /// EUR 3 come to ALFA, which has EUR 1 of them paid out.
+    PayInAndOut,
+    /// The node pays the oldest order of an even number.
+    PayEven,
+    /// The node returns each second order down from one of a number.
+    ReturnDown(u32),
+    /// A pair is agreed: ALFA sells BETA EUR 1 for USD 1, which comes to BETA before.
+    Agree,
+    /// Both sides take the oldest pair of an even number back.
+    RescindEven,
+    /// A walk for one pair, which settles so many.
+    Walk(u32),
+}
+
+/// EUR 3 come to ALFA, which has EUR 1 of them paid out.
+fn pay_in_and_out(rt: &impl Abort, book: &mut Book, n: u32) -> Result<(), Fail> {
+    comes(rt, book, EUR_NODE, Fund(EUR, n, ALFA, 3), Reply::Done)?;
+    comes(rt, book, ALFA, PayOut(EUR, 1), Reply::Order(n))
+}
+
+/// ALFA sells BETA EUR 1 for USD 1, which comes to BETA before.
+fn agree(rt: &impl Abort, book: &mut Book, n: u32) -> Result<(), Fail> {
+    let sells = Instruct(n, BETA, (EUR, 1), (USD, 1));
+    let buys = Instruct(n, ALFA, (USD, 1), (EUR, 1));
+    comes(rt, book, USD_NODE, Fund(USD, n, BETA, 1), Reply::Done)?;
+    comes(rt, book, ALFA, sells, Reply::Done)?;
+    comes(rt, book, BETA, buys, Reply::Matched)
+}
+
+/// Both sides take a pair back.
+fn rescind(rt: &impl Abort, book: &mut Book, reference: u32) -> Result<(), Fail> {
+    comes(rt, book, ALFA, Rescind(reference), Reply::Done)?;
+    comes(rt, book, BETA, Rescind(reference), Reply::Done)
+}
+
+/// They come, the nth time.
+fn come(rt: &impl Abort, book: &mut Book, many: Many, n: u32) -> Result<(), Fail> {
+    let even = n.wrapping_mul(2);
+    match many {
+        Many::PayInAndOut => pay_in_and_out(rt, book, n),
+        Many::PayEven => comes(rt, book, EUR_NODE, Paid(EUR, even), Reply::Done),
+        Many::ReturnDown(from) => {
+            let out = from.wrapping_add(2).wrapping_sub(even);
+            comes(rt, book, EUR_NODE, Returned(EUR, out), Reply::Done)
+        }
+        Many::Agree => agree(rt, book, n),
+        Many::RescindEven => rescind(rt, book, even),
+        Many::Walk(settled) => comes(rt, book, OPERATOR, Settle(1), Reply::Settled(settled)),
+    }
+}
+
+/// They come so many times.
+pub(super) fn come_often(
+    rt: &impl Abort,
+    book: &mut Book,
+    many: Many,
+    count: u32,
+) -> Result<(), Fail> {
     for n in 1..=count {
-        let rows = [
-            (EUR_NODE, fund(EUR, n, ALFA, 3), Reply::Done),
-            (ALFA, pay_out(EUR, 1), Reply::Order(n)),
-        ];
-        run(rt, book, &rows)?;
+        come(rt, book, many, n)?;
     }
     Ok(())
-}
-
-/// The node pays so many orders of even numbers, the oldest first.
-fn pay_even(rt: &impl Abort, book: &mut Book, count: u32) -> Result<(), Fail> {
-    for n in 1..=count {
-        let out = n.wrapping_mul(2);
-        run(rt, book, &[(EUR_NODE, paid(EUR, out), Reply::Done)])?;
-    }
-    Ok(())
-}
-
-/// The node returns so many orders, each second one down from a number.
-fn return_down(rt: &impl Abort, book: &mut Book, from: u32, count: u32) -> Result<(), Fail> {
-    for n in 0..count {
-        let out = from.wrapping_sub(n.wrapping_mul(2));
-        run(rt, book, &[(EUR_NODE, returned(EUR, out), Reply::Done)])?;
-    }
-    Ok(())
-}
-
-/// So many pairs: ALFA sells BETA EUR 1 for USD 1, which comes to BETA before.
-fn agree(rt: &impl Abort, book: &mut Book, count: u32) -> Result<(), Fail> {
-    for n in 1..=count {
-        let rows = [
-            (USD_NODE, fund(USD, n, BETA, 1), Reply::Done),
-            (ALFA, instruct(n, BETA, (EUR, 1), (USD, 1)), Reply::Done),
-            (BETA, instruct(n, ALFA, (USD, 1), (EUR, 1)), Reply::Matched),
-        ];
-        run(rt, book, &rows)?;
-    }
-    Ok(())
-}
-
-/// Both sides take so many pairs of even numbers back.
-fn rescind_even(rt: &impl Abort, book: &mut Book, count: u32) -> Result<(), Fail> {
-    for n in 1..=count {
-        let reference = n.wrapping_mul(2);
-        let rows = [
-            (ALFA, rescind(reference), Reply::Done),
-            (BETA, rescind(reference), Reply::Done),
-        ];
-        run(rt, book, &rows)?;
-    }
-    Ok(())
-}
-
-/// So many walks for one pair each, of which each settles so many.
-fn walk(rt: &impl Abort, book: &mut Book, count: u32, settled: u32) -> Result<(), Fail> {
-    for _ in 0..count {
-        let rows = [(OPERATOR, settle(1), Reply::Settled(settled))];
-        run(rt, book, &rows)?;
-    }
-    Ok(())
-}
-
-/// ALFA's order for EUR 1 of a number, as it is sent to the node.
-fn sent(out: u32) -> Option<(u16, PayOrder)> {
-    let order = PayOrder {
-        ccy: EUR,
-        out,
-        member: ALFA,
-        amt: 1,
-    };
-    Some((EUR_NODE, order))
-}
-
-/// How many orders are open, and which are the first, the one at a place, and the one after it.
-fn has_open(rt: &impl Abort, book: &Book, count: usize, orders: [Option<(u16, PayOrder)>; 3]) {
-    assert_eq!(rt; book.open_count(), count);
-    let last = count.wrapping_sub(1);
-    assert_eq!(rt; [book.open(0), book.open(last), book.open(count)], orders);
-}
-
-/// How many pairs wait, which is the last of them, and how many are settled and rescinded.
-fn has_pairs(rt: &impl Abort, book: &Book, queued: usize, last: Option<u32>, ended: [u32; 2]) {
-    assert_eq!(rt; book.queued(), queued);
-    assert_eq!(rt; book.queue_at(queued.wrapping_sub(1)), last);
-    let states = [PairState::Settled, PairState::Rescinded];
-    assert_eq!(rt; states.map(|state| book.pairs(state)), ended);
-}
-
-/// What came to ALFA and BETA in the end, and to the bank.
-fn has_sums(rt: &impl Abort, book: &Book) {
-    let balances = [(ALFA, EUR), (BETA, EUR), (ALFA, USD), (BETA, USD)].map(|(
-        member,
-        ccy,
-    )| book.balance(member, ccy));
-    assert_eq!(rt; balances, [44_500, 500, 500, 500]);
-    assert_eq!(rt; book.figure(EUR), 45_000);
-    assert_eq!(rt; book.value(ALFA), 47_002_500_000);
 }
 
 /// 60,000 rows, and what the book has on the way and in the end.
-fn play(rt: &impl Abort, book: &mut Book) -> Result<(), Fail> {
-    pay_in_and_out(rt, book, 20_000)?;
-    has_open(rt, book, 20_000, [sent(1), sent(20_000), None]);
-    pay_even(rt, book, 10_000)?;
-    return_down(rt, book, 19_999, 5_000)?;
-    has_open(rt, book, 5_000, [sent(1), sent(9_999), None]);
-    agree(rt, book, 1_000)?;
-    rescind_even(rt, book, 500)?;
-    has_pairs(rt, book, 500, Some(999), [0, 500]);
-    walk(rt, book, 500, 1)?;
-    walk(rt, book, 500, 0)?;
-    assert_eq!(rt; book.applied(), 60_000);
-    has_pairs(rt, book, 0, None, [500, 500]);
-    has_sums(rt, book);
-    Ok(())
-}
-
 #[test]
 fn keeps_60_000_rows(rt: HostRuntime) -> Result<(), Fail> {
-    let mut book = book(rt.alloc())?;
-    play(&rt, &mut book)
+    const STEPS: &[Step] = &[
+        Often(Many::PayInAndOut, 20_000),
+        Shows(OpenCount(20_000)),
+        Shows(Sent(0, 1)),
+        Shows(Sent(19_999, 20_000)),
+        Shows(Open(20_000, None)),
+        Often(Many::PayEven, 10_000),
+        Often(Many::ReturnDown(19_999), 5_000),
+        Shows(OpenCount(5_000)),
+        Shows(Sent(0, 1)),
+        Shows(Sent(4_999, 9_999)),
+        Shows(Open(5_000, None)),
+        Often(Many::Agree, 1_000),
+        Often(Many::RescindEven, 500),
+        Shows(Queued(500)),
+        Shows(At(499, Some(999))),
+        Shows(Count(PairState::Settled, 0)),
+        Shows(Count(PairState::Rescinded, 500)),
+        Often(Many::Walk(1), 500),
+        Often(Many::Walk(0), 500),
+        Shows(Applied(60_000)),
+        Shows(Queued(0)),
+        Shows(At(usize::MAX, None)),
+        Shows(Count(PairState::Settled, 500)),
+        Shows(Count(PairState::Rescinded, 500)),
+        Shows(Balance(ALFA, EUR, 44_500)),
+        Shows(Balance(BETA, EUR, 500)),
+        Shows(Balance(ALFA, USD, 500)),
+        Shows(Balance(BETA, USD, 500)),
+        Shows(Figure(EUR, 45_000)),
+        Shows(Value(ALFA, 47_002_500_000)),
+    ];
+    run(&rt, STEPS)
 }
