@@ -345,6 +345,58 @@ def sees_counts(seen):
         seen.look("a false number is written anew", status == 0 and read(belief) == was, text)
 
 
+# --- Lines that are too long -----------------------------------------------------------------------------------------
+
+# of each part a text with lines that are too long, and what comes of it
+LONG = {
+    "src/lib.rt": (
+        """fn f(n: u8) -> u8
+    ensures one { result ≡ one_and_a_half_of n × another_thing_that_is_said_of_it n result × the_last_of_them n }
+{
+    a_line_of_code_that_is_no_clause(stays_as_long_as_it_is, "whatever it is, rt fmt has its own way with code, and so it stays")
+}
+""",
+        """fn f(n: u8) -> u8
+    ensures one { result ≡ one_and_a_half_of n × another_thing_that_is_said_of_it n result
+        × the_last_of_them n }
+{
+    a_line_of_code_that_is_no_clause(stays_as_long_as_it_is, "whatever it is, rt fmt has its own way with code, and so it stays")
+}
+""",
+    ),
+    "specs/One.antt": (
+        """-- A comment that goes on and on, until it has come to the end of the line that a definition may have, and then further on
+-- into the next line
+use Rattle.some.specs.Prelude.{an_import, is_apart, whatever_its_length, since_the_layout_of_the_kit_has_each_on_one_line, or_not}
+abbrev pub thing : List ℕ → List ℕ → Bool
+thing one other = if length one == length other then all_of_them_are_equal one other else none_of_them_is_equal one other
+""",
+        """-- A comment that goes on and on, until it has come to the end of the line that a definition may have, and then further
+-- on into the next line
+use Rattle.some.specs.Prelude.{an_import, is_apart, whatever_its_length, since_the_layout_of_the_kit_has_each_on_one_line, or_not}
+abbrev pub thing : List ℕ → List ℕ → Bool
+thing one other = if length one == length other then all_of_them_are_equal one other
+    else none_of_them_is_equal one other
+""",
+    ),
+    "proofs/Two.antt": ("two = refl\n", "two = refl\n"),
+}
+
+
+def sees_long_lines(seen):
+    with tempfile.TemporaryDirectory(prefix="gate-test-") as room:
+        parts = Parts(room, "exit 0")
+        for file, (text, _) in LONG.items():
+            write(f"{room}/crates/one/{file}", text)
+        is_red, text = parts.is_red(".ci/layout.py")
+        seen.look("lines that are too long", is_red and text.count("is too long") == 3, text)
+        status, text = parts.run(".ci/layout.py", "--write")
+        seen.look("lines that are broken", status == 0 and text == "", text)
+        for file, (_, wanted) in LONG.items():
+            found = read(f"{room}/crates/one/{file}")
+            seen.look(f"how {file} is broken", found == wanted, found)
+
+
 # --- Refused memory --------------------------------------------------------------------------------------------------
 
 
@@ -703,6 +755,7 @@ def main():
         sees_examples,
         sees_texts,
         sees_counts,
+        sees_long_lines,
         sees_memory,
         sees_memory_without,
         sees_live,

@@ -105,12 +105,21 @@ def shorter(lines, at, limit):
     return [head, mark + rest], 1
 
 
+def is_open(text):
+    """Whether the first brace of a text has not met its own."""
+    depth = 0
+    for it in re.finditer(r"[{}]", text):
+        depth += 1 if it[0] == "{" else -1
+        if depth == 0:
+            return False
+    return depth > 0
+
+
 def is_clause(lines, at):
     """Whether a line of code is of a clause: it begins one, or stands in the braces of one that began above it."""
     for begin in range(at, max(-1, at - 12), -1):
         if CLAUSE.match(lines[begin]):
-            text = "\n".join(lines[begin:at])
-            return begin == at or text.count("{") > text.count("}")
+            return begin == at or is_open("\n".join(lines[begin:at]))
     return False
 
 
