@@ -1,7 +1,7 @@
 #!/usr/bin/env python3
 """Tests .ci/edits over a small crate: what the prover lets through is told, alone and beside edits that are refused; functions as
 they stand are not refused in the way of an edit; an answer that does not fit refuses nothing by itself; and what stands in the record
-serves a later run for the same text alone, where a sample brings a false line to light."""
+serves a later run for the same text alone, where a sample brings a false line to light, also beside a function that calls itself."""
 import os
 import re
 import shutil
@@ -461,17 +461,65 @@ def wrong_race(room):
     return [] if is_right else [f"what changed while it was tried stands in the record, or is not told: {moved}"]
 
 
+def kit_line():
+    """The kit, as the record names it."""
+    with open(f"{os.path.dirname(os.path.realpath(shutil.which('rt')))}/../KIT-ID", encoding="utf-8") as it:
+        return " ".join(it.read().split()).replace(" ", "_")
+
+
 def wrong_false_record(room):
     """Whether a sample brings a false line of the record to light."""
     for name in EDITS:
         if name != "bound_is_said_otherwise":
             os.remove(f"{room}/crates/counter/wrong/{name}.edit")
-    key = keys(room)["counter/bound_is_said_otherwise.edit"]
-    with open(f"{os.path.dirname(os.path.realpath(shutil.which('rt')))}/../KIT-ID", encoding="utf-8") as it:
-        kit = " ".join(it.read().split()).replace(" ", "_")
+    key, kit = keys(room)["counter/bound_is_said_otherwise.edit"], kit_line()
     write(f"{room}/crates/counter/wrong/record", f"bound_is_said_otherwise.edit {key} {kit} refused by bound: `returns`\n")
     wrong = wrong_of(run(room, "--proved", f"{room}/proved"), "as the record has it", [], 0, 1)
     return wrong + wrong_of(run(room, "--draw", "a-word", "--proved", f"{room}/proved"), "of a sample", ["bound_is_said_otherwise"], 1)
+
+
+DOWN = """//! A counter that goes down, for the test of the edits.
+
+#![tactic(auto)]
+
+ghost use Rattle.std.specs.Prelude.{◌≡◌, ◌+◌, ◌<◌};
+
+/// Nothing, after as many calls.
+pub fn counted_down(n: u8) -> u8
+    ensures { result ≡ 0 }
+{
+    if n == 0 { 0 } else { counted_down(n - 1) }
+}
+
+/// One more.
+pub fn next(n: u8) -> u8
+    requires { n < 255 }
+    ensures { result ≡ n + 1 }
+{
+    n + 1
+}
+"""
+
+MEASURE = """use Rattle.down.proofs.+counted_down.Given as goal
+
+abbrev pub decreases-counted_down : goal.decreases-counted_down
+decreases-counted_down g l = l.n
+"""
+
+
+def wrong_cycle(room):
+    """Whether a function as it stands is tried with a sample, beside one that calls itself."""
+    write(f"{room}/crates.txt", "down:\n")
+    write(f"{room}/crates/down/src/lib.rt", DOWN)
+    write(f"{room}/crates/down/proofs/+counted_down/Invariants.antt", MEASURE)
+    write(f"{room}/crates/down/wrong/next_stays.edit", "file: src/lib.rt\nold:     n + 1\nnew:     n\n")
+    write(f"{room}/proved", "fn down::counted_down: proved\nfn down::next: proved\n")
+    crate, folder = SimpleNamespace(name="down", folder=f"{room}/crates/down", below=lambda: []), f"{room}/crates/down"
+    key = record.keys_of(crate, folder, edits_of(folder, functions_in(folder)))["down/next_stays.edit"]
+    write(f"{folder}/wrong/record", f"next_stays.edit {key} {kit_line()} refused by next: `returns`\n")
+    ran = run(room, "--draw", "a-word", "--proved", f"{room}/proved")
+    is_right = "down/next: it is not refused" in ran.stdout and ran.stdout.endswith("2 passed, 0 failed\n") and ran.returncode == 0
+    return [] if is_right else [f"beside a function that calls itself it said '{ran.stdout}'"]
 
 
 BRANCHES = """use Rattle.counter.proofs.counted.Goals as goal
@@ -534,9 +582,10 @@ def main():
         os.remove(f"{room}/crates/counter/wrong/record")
         wrong += wrong_race(room)
         wrong += wrong_false_record(room)
+        wrong += wrong_cycle(room)
     if wrong:
         print("\n".join(wrong))
-    print(f"{max(0, count + 36 - len(wrong))} passed, {len(wrong)} failed")
+    print(f"{max(0, count + 37 - len(wrong))} passed, {len(wrong)} failed")
     return 1 if wrong else 0
 
 
