@@ -1,0 +1,6 @@
+//! Rooms whose history stands in a journal, over a log in memory that fails, ways back, and histories that are judged.
+
+mod back;
+mod histories;
+mod resumed;
+mod rooms;

@@ -1,0 +1,3 @@
+//! Tags by the vectors of RFC 4231.
+
+mod vectors;

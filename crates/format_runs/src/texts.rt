@@ -1,0 +1,5 @@
+//! What setups and scripts of each kind are read as.
+
+mod book_lines;
+mod script;
+mod setups;
