@@ -1,6 +1,6 @@
 -- What is found in a line's words.
 use Rattle.std.proofs.Common.{◌≡◌, ℕ, List, [], ◌∷◌, Option, None, refl}
-use Rattle.pvp_codes.specs.declared.fields.Field.{Field}
+use Rattle.pvp_text.specs.declared.script.table.Field.{Field}
 use Rattle.pvp_codes.specs.declared.broken.Why.{Why}
 use Rattle.pvp_codes.specs.Broken.{first_broken}
 

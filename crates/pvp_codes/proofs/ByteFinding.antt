@@ -10,8 +10,8 @@ use Rattle.pvp_text.specs.declared.script.LineCode.TheVariants.{Byte, LineLength
 use Rattle.pvp_text.specs.Reading.{◌>>=◌}
 use Rattle.pvp_text.specs.ScriptWords.{words}
 use Rattle.pvp_text.specs.Script.{is_printable, is_skipped, statement_at, line_at}
-use Rattle.pvp_codes.specs.declared.fields.Field.{Field}
-use Rattle.pvp_codes.specs.Fields.{line_form}
+use Rattle.pvp_text.specs.declared.script.table.Field.{Field}
+use Rattle.pvp_text.specs.ScriptTable.{form_of, form_fields}
 use Rattle.pvp_codes.specs.Broken.{breaks, first_broken}
 use Rattle.pvp_codes.specs.Finding.{FindsAByte}
 use Rattle.pvp_codes.proofs.Finding.{not_so, statement_fine}
@@ -39,7 +39,7 @@ never : (kind : Kind) (setup : Setup) (said : List (List ℕ)) → statement_at 
 never kind setup [] fails = no_words kind setup fails
 never kind setup (first ∷ rest) fails =
     not_so Byte (statement_at kind setup (first ∷ rest))
-    (statement_fine Byte kind setup first rest (λ same. absurd cc) (none_breaks kind setup (line_form (first ∷ rest)) (first ∷ rest))) fails
+    (statement_fine Byte kind setup first rest (λ same. absurd cc) (none_breaks kind setup (form_fields (form_of (first ∷ rest))) (first ∷ rest))) fails
 
 not_kept : {A : Type 0} (read : Result A LineCode) → (read ≡ Err Byte → ⊥) → (read >>= λ x. Ok (Some x)) ≡ Err Byte → ⊥
 not_kept (Ok x) never fails = absurd cc

@@ -16,12 +16,12 @@ use Rattle.pvp_text.specs.declared.script.LineFault.{LineFault}
 use Rattle.pvp_text.specs.declared.script.LineCode.{LineCode}
 use Rattle.pvp_text.specs.declared.script.LineCode.TheVariants.{Byte, UnknownWord, WordCount, Number, UnknownName, LineLength, LineCount, NoMemory}
 use Rattle.pvp_codes.specs.Meanings.{text_meaning, line_meaning}
-use Rattle.pvp_codes.specs.Fields.{line_form}
+use Rattle.pvp_text.specs.ScriptTable.{form_of, form_fields}
 use Rattle.pvp_codes.specs.Broken.{breaks, first_broken, why_text}
 use Rattle.pvp_codes.specs.Tree.{Found, wrong_in, path_told, flaw_text}
 use Rattle.pvp_codes.specs.Parts.{currency_fault, member_fault, first_part, part_text}
 use Rattle.pvp_codes.specs.declared.parts.PartWhy.{PartWhy}
-use Rattle.pvp_codes.specs.declared.fields.Field.{Field}
+use Rattle.pvp_text.specs.declared.script.table.Field.{Field}
 use Rattle.pvp_codes.specs.declared.broken.Why.{Why}
 
 -- the byte that ends a line
@@ -72,7 +72,7 @@ count_told (field ∷ form) said = counted_told (length (field ∷ form)) said
 abbrev pub rule_told : LineCode → List (List ℕ) → List ℕ
 rule_told Byte said = line_meaning Byte
 rule_told UnknownWord said = line_meaning UnknownWord
-rule_told WordCount said = count_told (line_form said) said
+rule_told WordCount said = count_told (form_fields (form_of said)) said
 rule_told Number said = line_meaning Number
 rule_told UnknownName said = line_meaning UnknownName
 rule_told LineLength said = line_meaning LineLength
@@ -119,7 +119,7 @@ bytes_told code line = line_meaning code
 abbrev pub line_told : LineCode → Kind → Setup → List ℕ → List ℕ
 line_told code kind setup line =
     if is_of_words code && is_shown line
-    then found_told code line (first_broken (breaks code kind setup) (line_form (words line)) (words line))
+    then found_told code line (first_broken (breaks code kind setup) (form_fields (form_of (words line))) (words line))
     else bytes_told code line
 
 -- THE FAULT OF A SCRIPT in words: its line's number, and what is told of the line

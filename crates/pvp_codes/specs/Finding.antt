@@ -9,14 +9,14 @@ use Rattle.pvp_text.specs.Script.{statement_at, line_at}
 use Rattle.pvp_text.specs.SetupText.{setup_text, parts_where}
 use Rattle.pvp_text.specs.declared.setup.TextFault.TheVariants.{BadMember}
 use Rattle.pvp_codes.specs.declared.broken.Why.{Why}
-use Rattle.pvp_codes.specs.Fields.{line_form}
+use Rattle.pvp_text.specs.ScriptTable.{form_of, form_fields}
 use Rattle.pvp_codes.specs.Broken.{breaks, first_broken}
 use Rattle.pvp_codes.specs.Tree.{wrong_in}
 use Rattle.pvp_codes.specs.Explained.{first_unprinted}
 
 -- the word that is found for a code in the words of a line, and why
 abbrev pub found_in : LineCode → Kind → Setup → List (List ℕ) → Option (List ℕ × Why)
-found_in code kind setup said = first_broken (breaks code kind setup) (line_form said) said
+found_in code kind setup said = first_broken (breaks code kind setup) (form_fields (form_of said)) said
 
 -- it is one of them
 abbrev pub IsAWord : Type 0
@@ -33,7 +33,8 @@ FindsWhereItFails = (code : LineCode) (kind : Kind) (setup : Setup) (first : Lis
 -- WHERE IT FAILS by the count of words, there are more than the form has, or fewer
 abbrev pub CountsWhereItFails : Type 0
 CountsWhereItFails = (kind : Kind) (setup : Setup) (first : List ℕ) (rest : List (List ℕ))
-    → statement_at kind setup (first ∷ rest) ≡ Err WordCount → length (first ∷ rest) ≢ length (line_form (first ∷ rest))
+    → statement_at kind setup (first ∷ rest) ≡ Err WordCount
+    → length (first ∷ rest) ≢ length (form_fields (form_of (first ∷ rest)))
 
 -- WHERE IT FAILS by a byte that is no printed character, one is found
 abbrev pub FindsAByte : Type 0

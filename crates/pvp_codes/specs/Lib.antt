@@ -1,7 +1,5 @@
 pub mod Meanings
 pub mod Codes
-pub mod Fields
-pub mod Kinds
 pub mod Near
 pub mod Broken
 pub mod Parts

@@ -1,41 +1,8 @@
 -- The known word that is nearest to an unknown one.
-use Rattle.std.specs.Prelude.{ℕ, ◌+◌, ◌==◌, ◌&&◌, ◌||◌, Bool, false, not, List, [], ◌∷◌, drop, find, Option, codes, bytes_eq, if◌then◌else◌}
+use Rattle.std.specs.Prelude.{ℕ, ◌+◌, ◌==◌, ◌&&◌, ◌||◌, Bool, false, not, List, [], ◌∷◌, drop, find, Option, bytes_eq, if◌then◌else◌}
+use Rattle.pvp_text.specs.ScriptTable.{text_of}
 use Rattle.pvp_text.specs.ScriptWords.{is_empty}
-use Rattle.pvp_codes.specs.declared.near.Known.{Known}
-use Rattle.pvp_codes.specs.declared.near.Known.TheVariants.{Do, Print, PayIn, Close, Beat, Timer, Crash, Restart, Deliver, Drain, Skip, Cut, Heal, Chaos, Rest, Instruct, Rescind, Settle, Fund, PayOut, Paid, Returned}
-
-abbrev pub known_text : Known → List ℕ
-known_text Do = codes "do"
-known_text Print = codes "print"
-known_text PayIn = codes "payin"
-known_text Close = codes "close"
-known_text Beat = codes "beat"
-known_text Timer = codes "timer"
-known_text Crash = codes "crash"
-known_text Restart = codes "restart"
-known_text Deliver = codes "deliver"
-known_text Drain = codes "drain"
-known_text Skip = codes "skip"
-known_text Cut = codes "cut"
-known_text Heal = codes "heal"
-known_text Chaos = codes "chaos"
-known_text Rest = codes "rest"
-known_text Instruct = codes "instruct"
-known_text Rescind = codes "rescind"
-known_text Settle = codes "settle"
-known_text Fund = codes "fund"
-known_text PayOut = codes "payout"
-known_text Paid = codes "paid"
-known_text Returned = codes "returned"
-
--- the words that begin lines, and the commands
-abbrev pub first : List Known
-first =
-    Do ∷ Print ∷ PayIn ∷ Close ∷ Beat ∷ Timer ∷ Crash ∷ Restart ∷ Deliver ∷ Drain ∷ Skip ∷ Cut
-    ∷ Heal ∷ Chaos ∷ Rest ∷ []
-
-abbrev pub commands : List Known
-commands = Instruct ∷ Rescind ∷ Settle ∷ Fund ∷ PayOut ∷ Paid ∷ Returned ∷ []
+use Rattle.pvp_text.specs.declared.script.table.Word.{Word}
 
 -- how many bytes two words have in common at their fronts
 abbrev pub common : List ℕ → List ℕ → ℕ
@@ -60,5 +27,5 @@ abbrev pub is_slip : List ℕ → List ℕ → Bool
 is_slip word known = has_slip (drop (common word known) word) (drop (common word known) known)
 
 -- the first of some words that is one slip away
-abbrev pub nearest : List ℕ → List Known → Option Known
-nearest word known = find (λ one. is_slip word (known_text one)) known
+abbrev pub nearest : List ℕ → List Word → Option Word
+nearest word known = find (λ one. is_slip word (text_of one)) known

@@ -10,11 +10,10 @@ ghost use Rattle.pvp_codes.specs.Tree.{wrong_in};
 ghost use Rattle.pvp_codes.specs.Explained as spec;
 
 use crate::broken::{Why, first_broken};
-use crate::fields::{Field, line_form};
 use crate::meanings::{line_meaning, text_meaning};
 use crate::parts::{first_currency, first_member};
 use crate::tree::{Fault, Flaw, check_text};
-use pvp_text::{Kind, LineCode, LineFault, TextFault, cut, next_word, read_parts};
+use pvp_text::{Field, Form, Kind, LineCode, LineFault, TextFault, cut, next_word, read_parts};
 use pvp_types::{Setup, SetupFault};
 use std::alloc::{AllocError, Global};
 
@@ -216,7 +215,7 @@ fn push_line(
         ++ spec.line_told code kind setup.now line.now) }
 {
     if is_of_words(code) && is_shown(line) {
-        match first_broken(code, kind, setup, line_form(line), line) {
+        match first_broken(code, kind, setup, Form::of(line).fields(), line) {
             Some((word, why)) => push_broken(alloc, text, word, why),
             None => push_rule(alloc, text, code, line),
         }
@@ -325,7 +324,7 @@ fn push_rule(
         ++ codes ": " ++ line.now) }
 {
     match code {
-        LineCode::WordCount => push_count(alloc, text, line_form(line), line)?,
+        LineCode::WordCount => push_count(alloc, text, Form::of(line).fields(), line)?,
         _ => push(text, line_meaning(code))?,
     }
     text.extend_from_slice(b": ")?;

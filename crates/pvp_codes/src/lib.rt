@@ -4,8 +4,6 @@
 mod broken;
 pub mod code;
 pub mod explain;
-mod fields;
-mod kinds;
 pub mod laws;
 pub mod meanings;
 mod near;

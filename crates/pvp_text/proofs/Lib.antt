@@ -8,4 +8,5 @@ pub mod ScriptReading
 pub mod ScriptRows
 pub mod ScriptRowsOfActors
 pub mod ScriptSplitting
+pub mod ScriptValues
 pub mod BookTextLemmas

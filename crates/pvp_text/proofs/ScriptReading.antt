@@ -1,23 +1,14 @@
 -- Reading lines one after the other, as a loop does.
-use Rattle.std.proofs.Common.{◌≡◌, ℕ, ◌+◌, ◌≤◌, eqb, get_or, false, true, List, [], ◌∷◌, ◌++◌, length, Option, Some, None, Result, Ok, Err, refl, sym, ap, ◌∙◌, append_assoc, arith}
-use Rattle.std.specs.List.{list_all}
-use Rattle.std.proofs.lemmas.Bool.{le-ltb, ne_eqb, eq-eqb}
+use Rattle.std.proofs.Common.{◌≡◌, ℕ, ◌+◌, ◌≤◌, List, [], ◌∷◌, ◌++◌, Option, Some, None, Result, Ok, Err, refl, sym, ap, ◌∙◌, append_assoc, arith}
+use Rattle.std.proofs.lemmas.Bool.{ne_eqb, eq-eqb}
 use Rattle.std.proofs.lemmas.List.{append-nil}
 use Rattle.pvp_types.specs.declared.setup.Setup.{Setup}
 use Rattle.pvp_text.specs.declared.script.Kind.{Kind}
 use Rattle.pvp_text.specs.declared.script.Line.{Line}
 use Rattle.pvp_text.specs.declared.script.LineFault.{LineFault}
 use Rattle.pvp_text.specs.declared.script.Statement.{Statement}
-use Rattle.pvp_text.specs.Script.{is_printable, statement_at, line_at, of_line, line_of, kept_line, lines_at}
+use Rattle.pvp_text.specs.Script.{line_at, of_line, line_of, kept_line, lines_at}
 use Rattle.pvp_text.specs.Reading.{◌>>=◌}
-use Rattle.pvp_text.specs.ScriptWords.{words}
-
--- a line that is not skipped, not long and of printable bytes says what its words say
-pub line_says : (kind : Kind) (setup : Setup) (line first : List ℕ) (others : List (List ℕ)) → words line ≡ first ∷ others → eqb (get_or line 0 0) 35 ≡ false
-    → length line ≤ 256 → list_all is_printable line ≡ true
-    → line_at kind setup line ≡ (statement_at kind setup (first ∷ others) >>= λ statement. Ok (Some statement))
-unfolding line_at
-line_says kind setup line first others worded no_comment short printable = rw (no_comment, worded, le-ltb 256 (length line) short, printable) refl
 
 -- ---- the lines of a script
 

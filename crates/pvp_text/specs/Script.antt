@@ -1,13 +1,13 @@
 -- What a script says.
-use Rattle.std.specs.Prelude.{ℕ, ◌+◌, ◌^◌, ◌==◌, ◌&&◌, ◌||◌, Bool, true, false, not, List, [], ◌∷◌, ◌++◌, length, slice_index, Option, Some, None, option_map, option_to_list, Result, Ok, Err, codes, bytes_eq, nat_lt, nat_le, if◌then◌else◌}
+use Rattle.std.specs.Prelude.{ℕ, ◌+◌, ◌==◌, ◌&&◌, ◌||◌, Bool, true, false, not, List, [], ◌∷◌, ◌++◌, length, slice_index, slice_index_or, Option, Some, None, option_map, option_to_list, Result, Ok, Err, codes, nat_lt, nat_le, if◌then◌else◌}
 use Rattle.std.specs.Global.{Vec}
 use Rattle.std.specs.List.{list_all}
+use Rattle.pvp_types.specs.declared.command.Cmd.{Cmd}
 use Rattle.pvp_types.specs.declared.command.Cmd.TheVariants.{Instruct, Rescind, Fund, Settle, PayOut, Paid, Returned}
 use Rattle.pvp_types.specs.declared.setup.Setup.{Setup}
 use Rattle.pvp_types.specs.declared.step.Step.{Step}
 use Rattle.pvp_types.specs.declared.step.Step.TheVariants.{Deliver, PayIn, Close, Submit, Beat, Timer, Crash, Restart}
 use Rattle.pvp_text.specs.declared.script.Kind.{Kind}
-use Rattle.pvp_text.specs.declared.script.Kind.TheVariants.{Book, Play, Live}
 use Rattle.pvp_text.specs.declared.script.Line.{Line}
 use Rattle.pvp_text.specs.declared.script.LineCode.{LineCode}
 use Rattle.pvp_text.specs.declared.script.LineCode.TheVariants.{Byte, UnknownWord, WordCount, Number, UnknownName, LineLength, LineCount, NoMemory}
@@ -15,210 +15,79 @@ use Rattle.pvp_text.specs.declared.script.LineFault.{LineFault}
 use Rattle.pvp_text.specs.declared.script.Statement.{Statement}
 use Rattle.pvp_text.specs.declared.script.Statement.TheVariants.{Do, Print, Drain, Skip, Cut, Heal, Chaos, Rest}
 use Rattle.pvp_text.specs.Reading.{◌>>=◌}
-use Rattle.pvp_text.specs.ScriptFields.{number_at, reference_at, actor_at, site_at, client_of, sender_of, currency_of}
+use Rattle.pvp_text.specs.declared.script.fields.Value.{Value}
+use Rattle.pvp_text.specs.declared.script.fields.Value.TheVariants.{None as Nothing}
+use Rattle.pvp_text.specs.declared.script.table.Field.{Field}
+use Rattle.pvp_text.specs.declared.script.table.Form.{Form}
+use Rattle.pvp_text.specs.declared.script.table.Form.TheVariants.{Of, NoCommand, NoLine, TooFew}
+use Rattle.pvp_text.specs.declared.script.table.Word.{Word}
+use Rattle.pvp_text.specs.declared.script.table.Word.TheVariants as word
+use Rattle.pvp_text.specs.ScriptFields.{values_at, as_actor, as_currency, as_number, as_amount}
+use Rattle.pvp_text.specs.ScriptTable.{fields_of, kinds_of, has, form_of}
 use Rattle.pvp_text.specs.ScriptWords.{is_empty, lines, words}
 
--- Of each form a malformed number comes before an unknown name, so first each word is read, and then the
--- names are looked up.
+-- what the word at a place of a line says, where the first word's place is 0
+abbrev pub said_at : List Value → ℕ → Value
+said_at values place = slice_index_or values place Nothing
 
--- `do WHO instruct REF OTHER SELL AMT BUY AMT`
-unfoldable pub instruct_at : Kind → Setup → List ℕ → List (List ℕ) → Result Step LineCode
-instruct_at kind setup who (reference ∷ other ∷ sell ∷ sell_amt ∷ buy ∷ buy_amt ∷ []) = do
-  who ← reference_at (2 ^ 16) who
-  reference ← number_at (2 ^ 32) reference
-  other ← reference_at (2 ^ 16) other
-  sell ← reference_at (2 ^ 8) sell
-  sell_amt ← number_at (2 ^ 64) sell_amt
-  buy ← reference_at (2 ^ 8) buy
-  buy_amt ← number_at (2 ^ 64) buy_amt
-  client ← sender_of kind setup who
-  other ← client_of setup other
-  sell ← currency_of setup sell
-  buy ← currency_of setup buy
-  Ok (Submit client (Instruct reference other sell sell_amt buy buy_amt))
-instruct_at kind setup who _ = Err WordCount
+-- a command of the form of this word
+abbrev pub command_of : Word → List Value → Cmd
+command_of word.Rescind values = Rescind (as_number (said_at values 3))
+command_of word.Settle values = Settle (as_number (said_at values 3))
+command_of word.Fund values =
+    Fund (as_currency (said_at values 3)) (as_number (said_at values 4)) (as_actor (said_at values 5))
+    (as_amount (said_at values 6))
+command_of word.PayOut values = PayOut (as_currency (said_at values 3)) (as_amount (said_at values 4))
+command_of word.Paid values = Paid (as_currency (said_at values 3)) (as_number (said_at values 4))
+command_of word.Returned values = Returned (as_currency (said_at values 3)) (as_number (said_at values 4))
+command_of _ values =
+    Instruct (as_number (said_at values 3)) (as_actor (said_at values 4)) (as_currency (said_at values 5))
+    (as_amount (said_at values 6)) (as_currency (said_at values 7)) (as_amount (said_at values 8))
 
--- `do WHO rescind REF`
-unfoldable pub rescind_at : Kind → Setup → List ℕ → List (List ℕ) → Result Step LineCode
-rescind_at kind setup who (reference ∷ []) = do
-  who ← reference_at (2 ^ 16) who
-  reference ← number_at (2 ^ 32) reference
-  client ← sender_of kind setup who
-  Ok (Submit client (Rescind reference))
-rescind_at kind setup who _ = Err WordCount
+-- a step of the form of this word: what has none of its own tells a client's command
+abbrev pub step_of : Word → List Value → Step
+step_of word.Deliver values = Deliver (as_number (said_at values 1))
+step_of word.PayIn values =
+    PayIn (as_currency (said_at values 2)) (as_actor (said_at values 1)) (as_amount (said_at values 3))
+step_of word.Close values = Close (as_currency (said_at values 2)) (as_actor (said_at values 1))
+step_of word.Beat values = Beat (as_actor (said_at values 1))
+step_of word.Timer values = Timer (as_actor (said_at values 1))
+step_of word.Crash values = Crash (as_actor (said_at values 1))
+step_of word.Restart values = Restart (as_actor (said_at values 1))
+step_of word values = Submit (as_actor (said_at values 1)) (command_of word values)
 
--- `do WHO settle MOST`
-unfoldable pub settle_at : Kind → Setup → List ℕ → List (List ℕ) → Result Step LineCode
-settle_at kind setup who (most ∷ []) = do
-  who ← reference_at (2 ^ 16) who
-  most ← number_at (2 ^ 32) most
-  client ← sender_of kind setup who
-  Ok (Submit client (Settle most))
-settle_at kind setup who _ = Err WordCount
-
--- `do WHO fund CCY PAY MEMBER AMT`
-unfoldable pub fund_at : Kind → Setup → List ℕ → List (List ℕ) → Result Step LineCode
-fund_at kind setup who (ccy ∷ pay ∷ member ∷ amt ∷ []) = do
-  who ← reference_at (2 ^ 16) who
-  ccy ← reference_at (2 ^ 8) ccy
-  pay ← number_at (2 ^ 32) pay
-  member ← reference_at (2 ^ 16) member
-  amt ← number_at (2 ^ 64) amt
-  client ← sender_of kind setup who
-  ccy ← currency_of setup ccy
-  member ← client_of setup member
-  Ok (Submit client (Fund ccy pay member amt))
-fund_at kind setup who _ = Err WordCount
-
--- `do WHO payout CCY AMT`
-unfoldable pub payout_at : Kind → Setup → List ℕ → List (List ℕ) → Result Step LineCode
-payout_at kind setup who (ccy ∷ amt ∷ []) = do
-  who ← reference_at (2 ^ 16) who
-  ccy ← reference_at (2 ^ 8) ccy
-  amt ← number_at (2 ^ 64) amt
-  client ← sender_of kind setup who
-  ccy ← currency_of setup ccy
-  Ok (Submit client (PayOut ccy amt))
-payout_at kind setup who _ = Err WordCount
-
--- a client, a currency and the number of an order, as `WHO .. CCY OUT` tells them
-unfoldable pub order_at : Kind → Setup → List ℕ → List (List ℕ) → Result (ℕ × ℕ × ℕ) LineCode
-order_at kind setup who (ccy ∷ out ∷ []) = do
-  who ← reference_at (2 ^ 16) who
-  ccy ← reference_at (2 ^ 8) ccy
-  out ← number_at (2 ^ 32) out
-  client ← sender_of kind setup who
-  ccy ← currency_of setup ccy
-  Ok (client, ccy, out)
-order_at kind setup who _ = Err WordCount
-
--- `do WHO paid CCY OUT`
-unfoldable pub paid_at : Kind → Setup → List ℕ → List (List ℕ) → Result Step LineCode
-paid_at kind setup who fields = do
-  order ← order_at kind setup who fields
-  Ok (Submit order.0 (Paid order.1 order.2))
-
--- `do WHO returned CCY OUT`
-unfoldable pub returned_at : Kind → Setup → List ℕ → List (List ℕ) → Result Step LineCode
-returned_at kind setup who fields = do
-  order ← order_at kind setup who fields
-  Ok (Submit order.0 (Returned order.1 order.2))
-
--- `do WHO`, the command's word and its fields
-unfoldable pub do_at : Kind → Setup → List (List ℕ) → Result Step LineCode
-do_at kind setup (who ∷ command ∷ fields) =
-    if bytes_eq command (codes "instruct") then instruct_at kind setup who fields
-    else if bytes_eq command (codes "rescind") then rescind_at kind setup who fields
-    else if bytes_eq command (codes "settle") then settle_at kind setup who fields
-    else if bytes_eq command (codes "fund") then fund_at kind setup who fields
-    else if bytes_eq command (codes "payout") then payout_at kind setup who fields
-    else if bytes_eq command (codes "paid") then paid_at kind setup who fields
-    else if bytes_eq command (codes "returned") then returned_at kind setup who fields
-    else Err UnknownWord
-do_at kind setup _ = Err WordCount
-
--- `print`
-abbrev pub print_at : List (List ℕ) → Result Statement LineCode
-print_at [] = Ok Print
-print_at (_ ∷ _) = Err WordCount
-
--- the kinds that have `print`
-abbrev pub prints : Kind → Bool
-prints Book = true
-prints Play = true
-prints Live = false
-
--- ---- the lines of a bank of actors
-
--- one word, an actor
-unfoldable pub lone_actor_at : Setup → List (List ℕ) → Result ℕ LineCode
-lone_actor_at setup (actor ∷ []) = do
-  actor ← actor_at actor
-  client_of setup actor
-lone_actor_at setup _ = Err WordCount
-
--- one word, a site
-unfoldable pub lone_site_at : List (List ℕ) → Result ℕ LineCode
-lone_site_at (site ∷ []) = site_at site
-lone_site_at _ = Err WordCount
-
--- one word, a number of 32 bits
-unfoldable pub lone_number_at : List (List ℕ) → Result ℕ LineCode
-lone_number_at (n ∷ []) = number_at (2 ^ 32) n
-lone_number_at _ = Err WordCount
-
--- `payin MEMBER CCY AMT`
-unfoldable pub payin_at : Setup → List (List ℕ) → Result Step LineCode
-payin_at setup (member ∷ ccy ∷ amt ∷ []) = do
-  member ← reference_at (2 ^ 16) member
-  ccy ← reference_at (2 ^ 8) ccy
-  amt ← number_at (2 ^ 64) amt
-  member ← client_of setup member
-  ccy ← currency_of setup ccy
-  Ok (PayIn ccy member amt)
-payin_at setup _ = Err WordCount
-
--- `close MEMBER CCY`
-unfoldable pub close_at : Setup → List (List ℕ) → Result Step LineCode
-close_at setup (member ∷ ccy ∷ []) = do
-  member ← reference_at (2 ^ 16) member
-  ccy ← reference_at (2 ^ 8) ccy
-  member ← client_of setup member
-  ccy ← currency_of setup ccy
-  Ok (Close ccy member)
-close_at setup _ = Err WordCount
-
--- the step that a bank of actors is told, however its envelopes go
-unfoldable pub move_at : Setup → List ℕ → List (List ℕ) → Result Step LineCode
-move_at setup first fields =
-    if bytes_eq first (codes "payin") then payin_at setup fields
-    else if bytes_eq first (codes "close") then close_at setup fields
-    else if bytes_eq first (codes "beat") then (lone_actor_at setup fields >>= λ actor. Ok (Beat actor))
-    else if bytes_eq first (codes "timer") then (lone_site_at fields >>= λ site. Ok (Timer site))
-    else if bytes_eq first (codes "crash") then (lone_site_at fields >>= λ site. Ok (Crash site))
-    else if bytes_eq first (codes "restart") then (lone_site_at fields >>= λ site. Ok (Restart site))
-    else Err UnknownWord
-
--- `chaos SEED COUNT`, of a million turns at most
-unfoldable pub chaos_at : List (List ℕ) → Result Statement LineCode
-chaos_at (seed ∷ turns ∷ []) = do
-  seed ← number_at (2 ^ 64) seed
-  turns ← number_at 1000001 turns
-  Ok (Chaos seed turns)
-chaos_at _ = Err WordCount
-
--- what a play is told: there each envelope goes as the script says
-unfoldable pub play_at : Setup → List ℕ → List (List ℕ) → Result Statement LineCode
-play_at setup first fields =
-    if bytes_eq first (codes "deliver") then (lone_number_at fields >>= λ envelope. Ok (Do (Deliver envelope)))
-    else if bytes_eq first (codes "drain") then (lone_number_at fields >>= λ turns. Ok (Drain turns))
-    else if bytes_eq first (codes "skip") then (lone_number_at fields >>= λ envelopes. Ok (Skip envelopes))
-    else if bytes_eq first (codes "cut") then (lone_actor_at setup fields >>= λ actor. Ok (Cut actor))
-    else if bytes_eq first (codes "heal") then (lone_actor_at setup fields >>= λ actor. Ok (Heal actor))
-    else if bytes_eq first (codes "chaos") then chaos_at fields
-    else (move_at setup first fields >>= λ step. Ok (Do step))
-
--- what a bank that runs live is told: there envelopes go by themselves, and time passes
-unfoldable pub live_at : Setup → List ℕ → List (List ℕ) → Result Statement LineCode
-live_at setup first fields =
-    if bytes_eq first (codes "rest") then (lone_number_at fields >>= λ milliseconds. Ok (Rest milliseconds))
-    else (move_at setup first fields >>= λ step. Ok (Do step))
-
--- what is told by no command and no `print`; one book is told nothing else
-unfoldable pub told_at : Kind → Setup → List ℕ → List (List ℕ) → Result Statement LineCode
-told_at Book setup first fields = Err UnknownWord
-told_at Play setup first fields = play_at setup first fields
-told_at Live setup first fields = live_at setup first fields
+-- WHAT A LINE SAYS of the form of this word
+abbrev pub statement_of : Word → List Value → Statement
+statement_of word.Print values = Print
+statement_of word.Drain values = Drain (as_number (said_at values 1))
+statement_of word.Skip values = Skip (as_number (said_at values 1))
+statement_of word.Cut values = Cut (as_actor (said_at values 1))
+statement_of word.Heal values = Heal (as_actor (said_at values 1))
+statement_of word.Chaos values = Chaos (as_amount (said_at values 1)) (as_number (said_at values 2))
+statement_of word.Rest values = Rest (as_number (said_at values 1))
+statement_of word values = Do (step_of word values)
 
 -- ---- all lines
 
--- what the words of a line say
+-- the word that tells a form, where scripts of this kind have its lines
+abbrev pub known_in : Kind → Form → Result Word LineCode
+known_in kind (Of word) = if has (kinds_of word) kind then Ok word else Err UnknownWord
+known_in kind NoCommand = Err UnknownWord
+known_in kind NoLine = Err UnknownWord
+known_in kind TooFew = Err WordCount
+
+-- what the words of a line say, which are to be as many as these
+abbrev pub line_values : Kind → Setup → List Field → List (List ℕ) → Result (List Value) LineCode
+line_values kind setup fields said =
+    if length said == length fields then values_at kind setup fields said else Err WordCount
+
+-- WHAT THE WORDS OF A LINE SAY: first its form is told, then its words are counted, then their numbers are read and
+-- last their names looked up
 unfoldable pub statement_at : Kind → Setup → List (List ℕ) → Result Statement LineCode
-statement_at kind setup [] = Err UnknownWord
-statement_at kind setup (first ∷ rest) =
-    if bytes_eq first (codes "do") then (do_at kind setup rest >>= λ step. Ok (Do step))
-    else if prints kind && bytes_eq first (codes "print") then print_at rest
-    else told_at kind setup first rest
+statement_at kind setup said = do
+  word ← known_in kind (form_of said)
+  values ← line_values kind setup (fields_of word) said
+  Ok (statement_of word values)
 
 -- a comment, whose first byte is `#`, or a line without words
 abbrev pub is_skipped : List ℕ → Bool

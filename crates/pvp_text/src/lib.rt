@@ -6,5 +6,8 @@ pub mod script;
 pub mod setup;
 
 pub use book::{RunFault, run_book};
-pub use script::{Kind, Line, LineCode, LineFault, Statement, amount, cut, next_word, read_script};
+pub use script::{
+    Field, Form, Kind, Kinds, Line, LineCode, LineFault, Row, Statement, Value, Word, WordFault,
+    amount, commands, cut, firsts, next_word, read_script, value_of,
+};
 pub use setup::{TextFault, read_parts, read_setup};

@@ -4,6 +4,8 @@
 //! Lines are counted from 1. A line whose first byte is `#` and one without words are skipped, but
 //! counted. Words are parted by one or more spaces.
 //!
+//! The table of `Word` has each form of these:
+//!
 //! ```text
 //! do WHO instruct REF OTHER SELL AMT BUY AMT
 //! do WHO rescind REF
@@ -39,23 +41,26 @@
 //! SITE is `s` and a site's number up to 255. ACTOR is a client or a site, and `@` tells an actor by its
 //! number: that of a client is its own, and that of site K is 200 + K. What begins with `@`, or with `s`
 //! where a site may stand, is judged as a number: `@200` is no SITE, and as malformed as `s256`.
-ghost use Rattle.std.specs.Prelude.{◌≡◌, ◌≤◌, length};
-ghost use Rattle.pvp_text.specs.Script.{script_where, lines_at, of_line, prints, line_fault_is_memory, lines_in};
+ghost use Rattle.std.specs.Prelude.{◌≡◌, ◌≤◌, Some, length};
+ghost use Rattle.pvp_text.specs.Script.{script_where, lines_at, of_line, line_fault_is_memory, lines_in};
+ghost use Rattle.pvp_text.specs.ScriptTable.{prints, has_actors, kind_text};
 ghost use Rattle.pvp_text.specs.Reading.{Reads};
 ghost use Rattle.pvp_text.specs.ScriptWords.{lines};
 ghost use Rattle.pvp_text.specs.declared.script.LineCode.TheVariants.{NoMemory};
 
 mod fields;
-mod forms;
-mod moves;
+mod reading;
+mod statements;
+mod table;
 mod words;
 
-use crate::script::forms::read_line;
+use crate::script::reading::read_line;
 use crate::script::words::next_line;
-pub use fields::amount;
+pub use fields::{Value, WordFault, amount, value_of};
 use pvp_types::{Setup, Step};
 use std::alloc::{AllocFailed, Global};
 use std::fmt;
+pub use table::{Field, Form, Kinds, Row, Word, commands, firsts};
 pub use words::{cut, next_word};
 
 /// What a script is run on, which decides what lines it may have.
@@ -78,6 +83,29 @@ impl Kind {
             Kind::Book | Kind::Play => true,
             Kind::Live => false,
         }
+    }
+
+    /// Whether a script of this kind may have the lines that actors are told by.
+    fn has_actors(self) -> bool
+        ensures { result ≡ has_actors self }
+    {
+        match self {
+            Kind::Book => false,
+            Kind::Play | Kind::Live => true,
+        }
+    }
+}
+
+/// Says which kind it is.
+impl fmt::Display for Kind {
+    ghost output = { λ kind. Some (kind_text kind) };
+
+    fn fmt<W: fmt::Write>(&self, f: &mut fmt::Formatter<W>) -> fmt::Result {
+        f.write_str(match self {
+            Kind::Book => "a book",
+            Kind::Play => "a play",
+            Kind::Live => "a live run",
+        })
     }
 }
 

@@ -1,10 +1,7 @@
 //! The lines of a text, and the words of a line.
-ghost use Rattle.std.specs.Prelude.{◌≡◌, ℕ, ◌<◌, ◌==◌, List, [], ◌∷◌, length, position, bytes_eq, IfSome, IfNone, MatchResult};
+ghost use Rattle.std.specs.Prelude.{◌≡◌, ℕ, ◌<◌, ◌==◌, List, [], ◌∷◌, length, position, bytes_eq, IfSome, IfNone};
 ghost use Rattle.std.specs.List.{before_first, after_first};
 ghost use Rattle.pvp_text.specs.ScriptWords.{lines, words};
-ghost use Rattle.pvp_text.specs.declared.script.LineCode.TheVariants.{WordCount};
-
-use crate::script::LineCode;
 
 /// What stands before the first such byte, and what stands after it; all and nothing where there is
 /// none.
@@ -52,28 +49,6 @@ pub fn next_word(line: &[u8]) -> Option<(&[u8], &[u8])>
         rest = after;
     }
     None
-}
-
-/// The first word of a line that is to have one, and the line after it.
-pub fn word(line: &[u8]) -> Result<(&[u8], &[u8]), LineCode>
-    ensures { MatchResult result
-        (λ x. words line.now ≡ x.0.now ∷ words x.1.now)
-        (λ code. (code ≡ WordCount) × (words line.now ≡ [])) }
-{
-    next_word(line).ok_or(LineCode::WordCount)
-}
-
-/// That a line has no more words.
-pub fn end(line: &[u8]) -> Result<(), LineCode>
-    ensures { MatchResult result
-        (λ _. words line.now ≡ [])
-        (λ code. (code ≡ WordCount)
-        × (word : List ℕ) × (others : List (List ℕ)) × (words line.now ≡ word ∷ others)) }
-{
-    match next_word(line) {
-        None => Ok(()),
-        Some(_) => Err(LineCode::WordCount),
-    }
 }
 
 /// Whether a word is this text.

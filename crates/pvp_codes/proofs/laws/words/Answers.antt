@@ -1,13 +1,13 @@
-use Rattle.std.proofs.Common.{◌≡◌, ◌∷◌}
+use Rattle.std.proofs.Common.{◌∷◌}
 use Rattle.pvp_text.specs.Script.{statement_at}
 use Rattle.pvp_text.specs.declared.script.LineCode.TheVariants.{WordCount}
-use Rattle.pvp_codes.specs.Fields.{line_form}
+use Rattle.pvp_text.specs.ScriptTable.{form_of, form_fields}
 use Rattle.pvp_codes.specs.Broken.{breaks}
 use Rattle.pvp_codes.proofs.Finding.{not_so, statement_fine, counts_fine, is_word}
 use Rattle.pvp_codes.proofs.laws.words.Goals as goal
 
 pub returns-clause-word : goal.returns-clause-word
-returns-clause-word c = λ code kind setup said word why found. is_word (breaks code kind setup) (line_form said) said word why found
+returns-clause-word c = λ code kind setup said word why found. is_word (breaks code kind setup) (form_fields (form_of said)) said word why found
 
 pub returns-clause-finds : goal.returns-clause-finds
 returns-clause-finds c = λ code kind setup first rest other fails none.
