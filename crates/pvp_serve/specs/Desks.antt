@@ -45,6 +45,7 @@ use Rattle.pvp_serve.specs.declared.patience.Look.{Look}
 use Rattle.pvp_serve.specs.declared.patience.Patience.{Patience}
 use Rattle.pvp_serve.specs.declared.patience.TheConstants.{TICKS_LEFT}
 use Rattle.pvp_serve.specs.declared.desk.TerminalDesk.{TerminalDesk}
+use Rattle.pvp_serve.specs.declared.serving.Serving.{Serving}
 use Rattle.pvp_serve.specs.declared.desk.Told.{Told}
 use Rattle.pvp_serve.specs.declared.desk.Told.TheVariants.{Nothing, Done, Refused, Misplaced}
 use Rattle.pvp_serve.specs.declared.desk.TheConstants.{TELLING_TICKS}
@@ -205,6 +206,15 @@ lanes_after _ all = all
 abbrev pub lost_after : {N A O L : Type 0} → Inbox → Option (Held N A O L) → ℕ → ℕ
 lost_after (Frame arrival) room lost = lost_with room arrival.stamped.stamp.clock lost
 lost_after _ room lost = lost
+
+-- ALL ELSE STAYS of what is served: its room alone may change, and its streams
+abbrev pub IsElseAsItWas : {B L O : Type 0} → Serving B L O → Serving B L O → Type 0
+IsElseAsItWas old new = new ≡ record old { room = new.room; out = new.out }
+
+-- and after an item how many frames were lost
+abbrev pub IsElseAsAfter : {B L O : Type 0} → Inbox → Serving B L O → Serving B L O → Type 0
+IsElseAsAfter item old new =
+    new ≡ record old { room = new.room; out = new.out; unbelieved = lost_after item old.room old.unbelieved }
 
 -- the terminal has ended
 abbrev pub is_end : Inbox → Bool

@@ -2,7 +2,7 @@
 ghost use Rattle.std.specs.Prelude.{◌≡◌};
 ghost use Rattle.pvp_logs.specs.Rooms.{bank_texts};
 ghost use Rattle.pvp_serve.specs.Attending.{DeskTakes};
-ghost use Rattle.pvp_serve.specs.Desks.{lost_after};
+ghost use Rattle.pvp_serve.specs.Desks.{IsElseAsAfter};
 ghost use Rattle.pvp_serve.specs.Serving.{IsSafeIn};
 
 use crate::desk::TerminalDesk;
@@ -37,11 +37,7 @@ impl Desk {
             (IsSafeIn L.seen L.synced serving.old.syncs) C.held serving.old.me
             serving.old.out.all.items serving.old.unbelieved item self.old self.new
             serving.old.room serving.new.room result }
-        ensures rest { serving.new ≡ record serving.old {
-          room = serving.new.room;
-          out = serving.new.out;
-          unbelieved = lost_after item serving.old.room serving.old.unbelieved;
-        } }
+        ensures rest { IsElseAsAfter item serving.old serving.new }
     {
         match self {
             Desk::Site(desk) => desk.take(rt, serving, item),

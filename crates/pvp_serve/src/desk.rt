@@ -32,6 +32,8 @@ ghost use Rattle.pvp_logs.specs.Rooms.{bank_texts};
 ghost use Rattle.pvp_serve.specs.Desks.{
   BeatsClient,
   BeatsNode,
+  IsElseAsAfter,
+  IsElseAsItWas,
   after_hearing,
   asked_by,
   asked_of,
@@ -45,7 +47,6 @@ ghost use Rattle.pvp_serve.specs.Desks.{
   lanes_after,
   last_may_say_more,
   last_told,
-  lost_after,
   may_say_more,
   next_wait,
   says_nothing,
@@ -229,10 +230,7 @@ impl TerminalDesk {
             IsUnbeaten ⟦<PartyOf<C> as Actor>⟧ bank_texts L.seen
             (id_of serving.old.me) serving.old.room serving.new.room fault) }
         ensures stays { OnErr result (self.new ≡ self.old) }
-        ensures rest { serving.new ≡ record serving.old {
-          room = serving.new.room;
-          out = serving.new.out;
-        } }
+        ensures rest { IsElseAsItWas serving.old serving.new }
     {
         if !self.waits {
             return Ok(());
@@ -260,10 +258,7 @@ impl TerminalDesk {
             (OfNode node_event.Beats) serving.old.room serving.new.room fault) }
         ensures desk { self.new ≡ record self.old { waits = self.new.waits } }
         ensures stays { OnErr result (self.new ≡ self.old) }
-        ensures rest { serving.new ≡ record serving.old {
-          room = serving.new.room;
-          out = serving.new.out;
-        } }
+        ensures rest { IsElseAsItWas serving.old serving.new }
     {
         serving.take_event(rt.alloc(), PartyEvent::OfNode(NodeEvent::Beats))?;
         let letters = serving.flush(&rt, rt.alloc(), false)?;
@@ -286,10 +281,7 @@ impl TerminalDesk {
         ensures desk { OnOk result (self.new
             ≡ record self.old { ticks = next_wait self.old.ticks }) }
         ensures stays { OnErr result (self.new ≡ self.old) }
-        ensures rest { serving.new ≡ record serving.old {
-          room = serving.new.room;
-          out = serving.new.out;
-        } }
+        ensures rest { IsElseAsItWas serving.old serving.new }
     {
         let _letters = serving.flush(&rt, rt.alloc(), false)?;
         serving.out_mut().favours(None);
@@ -343,10 +335,7 @@ impl TerminalDesk {
             (IsSafeIn L.seen L.synced serving.old.syncs) serving.old.me
             (record { desk = self.old; room = serving.old.room })
             (record { desk = self.new; room = serving.new.room }) fault) }
-        ensures rest { serving.new ≡ record serving.old {
-          room = serving.new.room;
-          out = serving.new.out;
-        } }
+        ensures rest { IsElseAsItWas serving.old serving.new }
     {
         for _ in 0..self.lines.len() {
             let Some(asked) = self.next_line(serving.request()) else {
@@ -395,10 +384,7 @@ impl TerminalDesk {
             (event_of self.old.setup serving.old.me asked.now.text.items)
             serving.old.room serving.new.room fault) }
         ensures stays { OnErr result (self.new ≡ self.old) }
-        ensures rest { serving.new ≡ record serving.old {
-          room = serving.new.room;
-          out = serving.new.out;
-        } }
+        ensures rest { IsElseAsItWas serving.old serving.new }
     {
         let alloc = rt.alloc();
         let Ok(read) = event_of(alloc, &self.setup, serving.me(), asked.text.as_slice()) else {
@@ -430,10 +416,7 @@ impl TerminalDesk {
             IsUndone ⟦<PartyOf<C> as Actor>⟧ bank_texts L.seen event
             serving.old.room serving.new.room fault) }
         ensures stays { OnErr result (self.new ≡ self.old) }
-        ensures rest { serving.new ≡ record serving.old {
-          room = serving.new.room;
-          out = serving.new.out;
-        } }
+        ensures rest { IsElseAsItWas serving.old serving.new }
     {
         serving.take_event(rt.alloc(), event)?;
         let letters = serving.flush(&rt, rt.alloc(), true)?;
@@ -477,11 +460,7 @@ impl TerminalDesk {
             IsUnhandled ⟦<PartyOf<C> as Actor>⟧ bank_texts L.seen serving.old.me item
             serving.old.room serving.new.room fault) }
         ensures stays { OnErr result (IsAsItWas self.old self.new) }
-        ensures rest { serving.new ≡ record serving.old {
-          room = serving.new.room;
-          out = serving.new.out;
-          unbelieved = lost_after item serving.old.room serving.old.unbelieved;
-        } }
+        ensures rest { IsElseAsAfter item serving.old serving.new }
         ensures streams { comes_to_actor item ≡ false → OnOk result (serving.new.out.all.items
             ≡ lanes_after item serving.old.out.all.items) }
     {
@@ -534,10 +513,7 @@ impl TerminalDesk {
         ensures refused { IfErr result (λ fault. IsSome self.old.owes
             × IsUnwritten serving.old.room fault × (serving.new.room ≡ None)) }
         ensures stays { OnErr result (self.new ≡ self.old) }
-        ensures rest { serving.new ≡ record serving.old {
-          room = serving.new.room;
-          out = serving.new.out;
-        } }
+        ensures rest { IsElseAsItWas serving.old serving.new }
     {
         if self.owes.is_some() {
             let _letters = serving.flush(&rt, rt.alloc(), true)?;
@@ -563,11 +539,7 @@ impl TerminalDesk {
             (IsSafeIn L.seen L.synced serving.old.syncs) serving.old.me item
             (record { desk = self.old; room = serving.old.room })
             (record { desk = self.new; room = serving.new.room }) fault) }
-        ensures rest { serving.new ≡ record serving.old {
-          room = serving.new.room;
-          out = serving.new.out;
-          unbelieved = lost_after item serving.old.room serving.old.unbelieved;
-        } }
+        ensures rest { IsElseAsAfter item serving.old serving.new }
     {
         self.handle(rt, serving, item)?;
         self.ask(rt, serving)?;

@@ -5,6 +5,7 @@ ghost use Rattle.pvp_logs.specs.Rooms.{bank_texts};
 ghost use Rattle.pvp_places.specs.declared.serving.ServeFault.TheVariants.{NoMemory};
 ghost use Rattle.pvp_serve.specs.Desks.{
   DoesOwn,
+  IsElseAsAfter,
   event_due,
   found_full,
   heard_from,
@@ -14,7 +15,6 @@ ghost use Rattle.pvp_serve.specs.Desks.{
   lanes_after,
   look_in,
   look_of,
-  lost_after,
   missed_by,
   primary_of,
   serves_view,
@@ -196,11 +196,7 @@ impl SiteDesk {
           patience = self.new.patience;
           teller = teller_after item serving.old.unbelieved self.old.teller;
         } }
-        ensures rest { serving.new ≡ record serving.old {
-          room = serving.new.room;
-          out = serving.new.out;
-          unbelieved = lost_after item serving.old.room serving.old.unbelieved;
-        } }
+        ensures rest { IsElseAsAfter item serving.old serving.new }
     {
         match item {
             Inbox::Frame(arrival) => self.take_frame(rt, serving, arrival),
@@ -272,11 +268,7 @@ impl SiteDesk {
             serving.old.room serving.new.room result }
         ensures streams { OnOk result (serving.new.out.all.items
             ≡ lanes_after item serving.old.out.all.items) }
-        ensures rest { serving.new ≡ record serving.old {
-          room = serving.new.room;
-          out = serving.new.out;
-          unbelieved = lost_after item serving.old.room serving.old.unbelieved;
-        } }
+        ensures rest { IsElseAsAfter item serving.old serving.new }
     {
         let goes_on = self.stays || !is_end(&item);
         self.handle(rt, serving, item)?;
