@@ -1,5 +1,5 @@
 -- A rule that is taken in parts.
-use Rattle.std.specs.Prelude.{◌≡◌, ℕ, ◌||◌, Bool, not, nat_lt, List, [], if◌then◌else◌}
+use Rattle.std.specs.Prelude.{◌≡◌, ℕ, ◌||◌, Bool, false, not, nat_lt, List, [], length, if◌then◌else◌}
 use Rattle.vr_types.specs.declared.event.Why.TheVariants.{Stale}
 use Rattle.vr_types.specs.declared.machine.Machine.{Ghosts}
 use Rattle.vr_types.specs.declared.message.EnvelopeOf.{EnvelopeOf}
@@ -9,7 +9,7 @@ use Rattle.vr_types.specs.Choice.{Choice}
 use Rattle.vr_types.specs.Site.{Site, Start, Vote}
 use Rattle.vr_types.specs.Step.{Step, drops, learns, begins_with_executed}
 use Rattle.vr_log.specs.declared.running.Running.{Running}
-use Rattle.vr_log.specs.Running.{IsRunning, site_of}
+use Rattle.vr_log.specs.Running.{IsRunning, SumUp, site_of}
 use Rattle.vr_change.specs.Ballot.{with_starter, with_ballot}
 
 -- what runs shows the site in the middle of a rule, and these are the messages that it sends by then
@@ -26,6 +26,13 @@ abbrev pub opens_with : {C R O : Type 0} → Choice C → ℕ → ℕ → Site C
 opens_with choose f me x y sent log k =
     if not (begins_with_executed choose.same y log) then drops x Stale
     else opened_with f me log k (record { site = y; sent = sent })
+
+-- A view is opened by a ballot, at a site that learns what was told: with the log of the picked vote, and with as many
+-- rows executed as any vote says.
+abbrev pub opens_by : {C R O : Type 0} → Choice C → ℕ → ℕ → List ℕ → Site C → List (EnvelopeOf C R O) → List (Vote C)
+    → Step C R O
+opens_by choose f me told x sent ballot =
+    opens_with choose f me x (learns told x) sent (choose.pick ballot).log (choose.most_done ballot)
 
 -- a later view is started by a site that has learnt what was told
 abbrev pub starts_learnt : {C R O : Type 0} → ℕ → ℕ → ℕ → List ℕ → Site C → Part C R O
@@ -53,3 +60,20 @@ gathered votes me start x = record x {
     votes = if votes then with_ballot x.collected.votes (own_vote me x) else x.collected.votes;
   };
 }
+
+-- nothing is collected: no acknowledgement, no STARTVIEWCHANGE, no vote, and the site's own vote is not made
+pub record HasCollectedNothing {H C R O S : Type 0} (r : Running H C R O S) : Type 0 where
+  pub acked : SumUp r.acked.items []
+  pub starts : r.starts.items ≡ []
+  pub voted : r.voted ≡ false
+  pub votes : r.votes.items ≡ []
+
+-- what was collected in a view is given up, of as many sites, and all else stays
+pub record GivesUpCollected {H C R O S : Type 0} (old new : Running H C R O S) : Type 0 where
+  pub nothing : HasCollectedNothing new
+  pub sites : length new.acked.items ≡ length old.acked.items
+  pub status : new.status ≡ old.status
+  pub view : new.view ≡ old.view
+  pub last_normal : new.last_normal ≡ old.last_normal
+  pub kept : new.kept ≡ old.kept
+  pub known : new.known ≡ old.known

@@ -1,7 +1,6 @@
 //! The messages that a change of view collects, and what they decide. Where it says that a message is left, it is as the
 //! site learns what it was told: what decides is those that are left.
-
-ghost use Rattle.std.specs.Prelude.{◌≡◌, ℕ, ◌<◌, ◌==◌, ◌&&◌, ◌||◌, ◌++◌, ◌∷◌, [], List, not, nat_lt, nat_le, length, map, max, fold, count_by, slice_get, Some, None, IfSome, MatchOption};
+ghost use Rattle.std.specs.Prelude.{◌≡◌, ◌<◌, ◌==◌, ◌&&◌, ◌||◌, ◌++◌, ◌∷◌, [], not, nat_lt, nat_le, length, map, max, fold, count_by, slice_get, Some, None, IfSome, MatchOption};
 ghost use Rattle.vr_types.specs.Choice.{IsPick};
 ghost use Rattle.vr_types.specs.Group.{sites, others};
 ghost use Rattle.vr_types.specs.Site.{Vote, has_start, has_vote};

@@ -1,10 +1,11 @@
-ghost use Rattle.std.specs.Prelude.{◌≡◌, ◌+◌, ◌*◌, ◌<◌, ◌≤◌, ◌∷◌, [], false, IfOk, OnOk, List, length};
+ghost use Rattle.std.specs.Prelude.{◌≡◌, ◌+◌, ◌*◌, ◌<◌, ◌≤◌, ◌∷◌, [], false, IfOk, OnOk, List};
 ghost use Rattle.vr_types.specs.declared.cell.Boot.{Boot};
 ghost use Rattle.vr_types.specs.Change.{on_timer, beats_in_change, sends_vote};
 ghost use Rattle.vr_types.specs.Group.{mail, to_all};
 ghost use Rattle.vr_types.specs.Cell.{max_number};
 ghost use Rattle.vr_types.specs.Site.{Ack};
-ghost use Rattle.vr_log.specs.Running.{IsSound, IsRunning, Follows, SumUp, site_of};
+ghost use Rattle.vr_log.specs.Running.{site_of, StaysSound, FollowsRule};
+ghost use Rattle.vr_change.specs.Parts.{GivesUpCollected};
 
 use std::alloc::{AllocError, Global};
 use vr_log::Running;
@@ -20,13 +21,10 @@ pub fn timer<M: Machine>(
     running: &mut Running<M>,
 ) -> Result<Outcome<M>, AllocError>
     requires { running.old.view < max_number }
-    ensures sound { OnOk result ((start : M) → IsSound M.Machine start config.f running.old →
-        IsSound M.Machine start config.f running.new) }
+    ensures sound { OnOk result (StaysSound M.Machine config.f running.old running.new) }
     ensures later { running.old.view ≤ running.new.view }
-    ensures step { (start : M) (acks : List Ack) (cell : Boot) →
-        IsRunning M.Machine start config.f running.old acks →
-        Follows M.Machine start config.f config.me running.new result
-        (on_timer config.f config.me (site_of running.old acks cell)) }
+    ensures step { FollowsRule M.Machine config running.old running.new result
+        (λ site. on_timer config.f config.me site) }
 {
     let view = running.view + 1;
     start_change(running, view);
@@ -43,10 +41,8 @@ pub fn beat_in_change<M: Machine>(
     config: Config,
     running: &Running<M>,
 ) -> Result<Outcome<M>, AllocError>
-    ensures { (start : M) (acks : List Ack) (cell : Boot) →
-        IsRunning M.Machine start config.f running.now acks →
-        Follows M.Machine start config.f config.me running.now result
-        (beats_in_change config.f config.me (site_of running.now acks cell)) }
+    ensures { FollowsRule M.Machine config running.now running.now result
+        (λ site. beats_in_change config.f config.me site) }
 {
     let mut sent = tell_change(alloc, config, running)?;
     if running.voted && primary_of(config, running.view) != config.me {
@@ -95,16 +91,8 @@ pub fn tell_change<M: Machine>(
 
 /// The site takes part in the change to a view, and gives up what it collected.
 pub fn start_change<M: Machine>(running: &mut Running<M>, view: u32)
-    ensures status { running.new.status ≡ Status.Change }
-    ensures view { running.new.view ≡ view }
-    ensures last_normal { running.new.last_normal ≡ running.old.last_normal }
-    ensures kept { running.new.kept ≡ running.old.kept }
-    ensures known { running.new.known ≡ running.old.known }
-    ensures sites { length running.new.acked.items ≡ length running.old.acked.items }
-    ensures acked { SumUp running.new.acked.items [] }
-    ensures starts { running.new.starts.items ≡ [] }
-    ensures voted { running.new.voted ≡ false }
-    ensures votes { running.new.votes.items ≡ [] }
+    ensures { GivesUpCollected (record running.old { status = Status.Change; view = view })
+        running.new }
 {
     running.status = Status::Change;
     running.view = view;
@@ -113,16 +101,7 @@ pub fn start_change<M: Machine>(running: &mut Running<M>, view: u32)
 
 /// Gives up what was collected in the view.
 pub fn give_up_collected<M: Machine>(running: &mut Running<M>)
-    ensures status { running.new.status ≡ running.old.status }
-    ensures view { running.new.view ≡ running.old.view }
-    ensures last_normal { running.new.last_normal ≡ running.old.last_normal }
-    ensures kept { running.new.kept ≡ running.old.kept }
-    ensures known { running.new.known ≡ running.old.known }
-    ensures sites { length running.new.acked.items ≡ length running.old.acked.items }
-    ensures acked { SumUp running.new.acked.items [] }
-    ensures starts { running.new.starts.items ≡ [] }
-    ensures voted { running.new.voted ≡ false }
-    ensures votes { running.new.votes.items ≡ [] }
+    ensures { GivesUpCollected running.old running.new }
 {
     running.acked.fill(0);
     running.starts.clear();

@@ -2,7 +2,7 @@ ghost use Rattle.std.specs.Prelude.{◌≡◌, ℕ, ◌≤◌, List, length};
 ghost use Rattle.vr_types.specs.declared.cell.Boot.{Boot};
 ghost use Rattle.vr_types.specs.Site.{Ack};
 ghost use Rattle.vr_types.specs.Step.{greater, learns};
-ghost use Rattle.vr_log.specs.Running.{IsSound, IsRunning, site_of};
+ghost use Rattle.vr_log.specs.Running.{IsRunning, StaysSound, site_of};
 ghost use Rattle.vr_change.specs.Ballot.{is_left as stays};
 
 use vr_log::Running;
@@ -23,8 +23,7 @@ pub fn learn<M: Machine>(running: &mut Running<M>, told: &Known)
     ensures view { running.new.view ≡ running.old.view }
     ensures kept { running.new.kept ≡ running.old.kept }
     ensures known { running.new.known ≡ greater running.old.known told.now }
-    ensures sound { (start : M) (f : ℕ) → IsSound M.Machine start f running.old →
-        IsSound M.Machine start f running.new }
+    ensures sound { (f : ℕ) → StaysSound M.Machine f running.old running.new }
     ensures running { (start : M) (f : ℕ) (acks : List Ack) →
         IsRunning M.Machine start f running.old acks →
         IsRunning M.Machine start f running.new acks }

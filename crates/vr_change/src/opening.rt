@@ -1,16 +1,14 @@
 //! The opening of a view, with what the site was told by the message that came: its primary takes the log that goes before all others, tells all, and answers the clients.
-
 ghost use Rattle.std.specs.Prelude.{◌≡◌, ◌≢◌, ◌<◌, ◌≤◌, ◌*◌, ◌++◌, ◌∷◌, [], false, IfOk, OnOk, List, length, map, slice_get, Some};
 ghost use Rattle.vr_types.specs.declared.cell.Boot.{Boot};
 ghost use Rattle.vr_types.specs.Change.{opened_with, own_vote};
-ghost use Rattle.vr_types.specs.Choice.{Choice, IsRight};
 ghost use Rattle.vr_types.specs.Group.{mail, to_all};
 ghost use Rattle.vr_types.specs.Site.{Ack, Vote, has_vote};
 ghost use Rattle.vr_log.specs.Kept.{IsReady};
-ghost use Rattle.vr_log.specs.Running.{IsSound, IsRunning, Follows, site_of, vote_of};
+ghost use Rattle.vr_log.specs.Running.{IsRunning, IsSound, Follows, site_of, vote_of, StaysSound, FollowsChoice};
 ghost use Rattle.vr_types.specs.Step.{learns};
 ghost use Rattle.vr_change.specs.Ballot.{votes_left};
-ghost use Rattle.vr_change.specs.Parts.{opens_with};
+ghost use Rattle.vr_change.specs.Parts.{opens_with, opens_by};
 
 use crate::ballot::{Claim, best, best_before, most_done};
 use crate::taking::be_normal;
@@ -34,16 +32,11 @@ pub fn open_with_kept<M: Machine>(
     requires known { length told.now ≤ length running.old.known }
     requires some { votes_left running.old.known told.now (map vote_of running.old.votes.items)
         ≢ [] }
-    ensures sound { OnOk result ((start : M) → IsSound M.Machine start config.f running.old →
-        IsSound M.Machine start config.f running.new) }
+    ensures sound { OnOk result (StaysSound M.Machine config.f running.old running.new) }
     ensures later { running.old.view ≤ running.new.view }
-    ensures step { (choose : Choice M.Cmd) (start : M) (acks : List Ack) (cell : Boot) →
-        IsRight config.f choose → IsRunning M.Machine start config.f running.old acks →
-        Follows M.Machine start config.f config.me running.new result (
-        let x = site_of running.old acks cell in
-        let ballot = votes_left running.old.known told.now (map vote_of running.old.votes.items) in
-        opens_with choose config.f config.me x (learns told.now x) sent.items
-        (choose.pick ballot).log (choose.most_done ballot)) }
+    ensures step { FollowsChoice M.Machine config running.old running.new result
+        (λ choose site. opens_by choose config.f config.me told.now site sent.items
+        (votes_left running.old.known told.now (map vote_of running.old.votes.items))) }
 {
     let done = most_done(running, told);
     match best(running, told) {
@@ -64,18 +57,12 @@ pub fn open_with_new<M: Machine>(
     requires known { length vote.known ≤ length running.old.known }
     requires new { has_vote (votes_left running.old.known vote.known
         (map vote_of running.old.votes.items)) vote.from ≡ false }
-    ensures sound { OnOk result ((start : M) → IsSound M.Machine start config.f running.old →
-        IsSound M.Machine start config.f running.new) }
+    ensures sound { OnOk result (StaysSound M.Machine config.f running.old running.new) }
     ensures later { running.old.view ≤ running.new.view }
-    ensures step { (choose : Choice M.Cmd) (start : M) (acks : List Ack) (cell : Boot) →
-        IsRight config.f choose → IsRunning M.Machine start config.f running.old acks →
-        Follows M.Machine start config.f config.me running.new result (
-        let x = site_of running.old acks cell in
-        let ballot =
-        votes_left running.old.known vote.known (map vote_of running.old.votes.items)
-        ++ vote_of vote ∷ [] in
-        opens_with choose config.f config.me x (learns vote.known x) sent.items
-        (choose.pick ballot).log (choose.most_done ballot)) }
+    ensures step { FollowsChoice M.Machine config running.old running.new result
+        (λ choose site. opens_by choose config.f config.me vote.known site sent.items
+        (votes_left running.old.known vote.known (map vote_of running.old.votes.items)
+        ++ vote_of vote ∷ [])) }
 {
     let new = Claim::of(&vote);
     let VoteOf {
@@ -104,19 +91,12 @@ pub fn open_with_own<M: Machine>(
     requires known { length told.now ≤ length running.old.known }
     requires new { has_vote (votes_left running.old.known told.now
         (map vote_of running.old.votes.items)) config.me ≡ false }
-    ensures sound { OnOk result ((start : M) → IsSound M.Machine start config.f running.old →
-        IsSound M.Machine start config.f running.new) }
+    ensures sound { OnOk result (StaysSound M.Machine config.f running.old running.new) }
     ensures later { running.old.view ≤ running.new.view }
-    ensures step { (choose : Choice M.Cmd) (start : M) (acks : List Ack) (cell : Boot) →
-        IsRight config.f choose → IsRunning M.Machine start config.f running.old acks →
-        Follows M.Machine start config.f config.me running.new result (
-        let x = site_of running.old acks cell in
-        let y = learns told.now x in
-        let ballot =
-        votes_left running.old.known told.now (map vote_of running.old.votes.items)
-        ++ own_vote config.me y ∷ [] in
-        opens_with choose config.f config.me x y sent.items (choose.pick ballot).log
-        (choose.most_done ballot)) }
+    ensures step { FollowsChoice M.Machine config running.old running.new result
+        (λ choose site. opens_by choose config.f config.me told.now site sent.items
+        (votes_left running.old.known told.now (map vote_of running.old.votes.items)
+        ++ own_vote config.me (learns told.now site) ∷ [])) }
 {
     let own = Claim {
         from: config.me,
@@ -143,16 +123,13 @@ pub fn open_with_vote<M: Machine>(
     requires ready { IsReady M.Machine running.old.kept }
     requires known { length told.now ≤ length running.old.known }
     requires at { at < length running.old.votes.items }
-    ensures sound { OnOk result ((start : M) → IsSound M.Machine start config.f running.old →
-        IsSound M.Machine start config.f running.new) }
+    ensures sound { OnOk result (StaysSound M.Machine config.f running.old running.new) }
     ensures later { running.old.view ≤ running.new.view }
-    ensures step { (choose : Choice M.Cmd) (start : M) (acks : List Ack) (cell : Boot)
-        (vote : Vote M.Cmd) → IsRight config.f choose →
-        IsRunning M.Machine start config.f running.old acks →
+    ensures step { (vote : Vote M.Cmd) →
         slice_get (map vote_of running.old.votes.items) at ≡ Some vote →
-        Follows M.Machine start config.f config.me running.new result (
-        let x = site_of running.old acks cell in
-        opens_with choose config.f config.me x (learns told.now x) sent.items vote.log done) }
+        FollowsChoice M.Machine config running.old running.new result
+        (λ choose site. opens_with choose config.f config.me site (learns told.now site) sent.items
+        vote.log done) }
 {
     if !running.kept.keeps_executed(0, &running.votes[at].log) {
         return Ok(dropped(alloc, Why::Stale));
@@ -175,14 +152,11 @@ pub fn open_with_rows<M: Machine>(
 ) -> Result<Outcome<M>, AllocError>
     requires ready { IsReady M.Machine running.old.kept }
     requires known { length told.now ≤ length running.old.known }
-    ensures sound { OnOk result ((start : M) → IsSound M.Machine start config.f running.old →
-        IsSound M.Machine start config.f running.new) }
+    ensures sound { OnOk result (StaysSound M.Machine config.f running.old running.new) }
     ensures later { running.old.view ≤ running.new.view }
-    ensures step { (choose : Choice M.Cmd) (start : M) (acks : List Ack) (cell : Boot) →
-        IsRight config.f choose → IsRunning M.Machine start config.f running.old acks →
-        Follows M.Machine start config.f config.me running.new result (
-        let x = site_of running.old acks cell in
-        opens_with choose config.f config.me x (learns told.now x) sent.items rows done) }
+    ensures step { FollowsChoice M.Machine config running.old running.new result
+        (λ choose site. opens_with choose config.f config.me site (learns told.now site) sent.items
+        rows done) }
 {
     if !running.kept.keeps_executed(0, &rows) {
         return Ok(dropped(alloc, Why::Stale));
@@ -192,8 +166,8 @@ pub fn open_with_rows<M: Machine>(
     open(alloc, config, running, told, done, sent)
 }
 
-/// Opens the view with the log that the site has: it learns what it was told, is normal in the view, executes what any voter had, and tells all; then
-/// the clients are answered.
+/// Opens the view with the log that the site has: it learns what it was told, is normal in the view, executes what any
+/// voter had, and tells all; then the clients are answered.
 pub fn open<M: Machine>(
     alloc: Global,
     config: Config,

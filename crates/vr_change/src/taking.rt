@@ -1,11 +1,10 @@
-ghost use Rattle.std.specs.Prelude.{◌≡◌, ◌+◌, ◌≤◌, ◌++◌, ◌==◌, ◌&&◌, [], false, OnOk, List, length, take};
-ghost use Rattle.vr_types.specs.declared.cell.Boot.{Boot};
+ghost use Rattle.std.specs.Prelude.{◌≡◌, ◌+◌, ◌≤◌, ◌++◌, ◌==◌, ◌&&◌, [], OnOk, length, take};
 ghost use Rattle.vr_types.specs.Change.{on_start_view};
-ghost use Rattle.vr_types.specs.Choice.{Choice, IsRight};
-ghost use Rattle.vr_types.specs.Site.{Ack, is_normal};
+ghost use Rattle.vr_types.specs.Site.{is_normal};
 ghost use Rattle.vr_types.specs.Step.{takes_log};
 ghost use Rattle.vr_log.specs.Kept.{IsReady};
-ghost use Rattle.vr_log.specs.Running.{IsSound, IsRunning, Follows, SumUp, site_of};
+ghost use Rattle.vr_log.specs.Running.{StaysSound, FollowsChoice};
+ghost use Rattle.vr_change.specs.Parts.{GivesUpCollected};
 
 use crate::change::give_up_collected;
 use std::alloc::{AllocError, Global};
@@ -22,13 +21,10 @@ pub fn start_view<M: Machine>(
     msg: StartViewOf<M::Cmd>,
 ) -> Result<Outcome<M>, AllocError>
     requires { IsReady M.Machine running.old.kept }
-    ensures sound { OnOk result ((start : M) → IsSound M.Machine start config.f running.old →
-        IsSound M.Machine start config.f running.new) }
+    ensures sound { OnOk result (StaysSound M.Machine config.f running.old running.new) }
     ensures later { running.old.view ≤ running.new.view }
-    ensures step { (choose : Choice M.Cmd) (start : M) (acks : List Ack) (cell : Boot) →
-        IsRight config.f choose → IsRunning M.Machine start config.f running.old acks →
-        Follows M.Machine start config.f config.me running.new result
-        (on_start_view choose config.f config.me (site_of running.old acks cell) from msg) }
+    ensures step { FollowsChoice M.Machine config running.old running.new result
+        (λ choose site. on_start_view choose config.f config.me site from msg) }
 {
     if primary_of(config, msg.view) != from {
         return Ok(dropped(alloc, Why::NotPrimary));
@@ -66,14 +62,11 @@ pub fn take_log<M: Machine>(
     requires base { base ≤ length running.old.kept.log }
     requires few { base + length rows ≤ MAX_ROWS }
     requires later { running.old.view ≤ view }
-    ensures sound { OnOk result ((start : M) → IsSound M.Machine start config.f running.old →
-        IsSound M.Machine start config.f running.new) }
+    ensures sound { OnOk result (StaysSound M.Machine config.f running.old running.new) }
     ensures later { running.old.view ≤ running.new.view }
-    ensures step { (choose : Choice M.Cmd) (start : M) (acks : List Ack) (cell : Boot) →
-        IsRight config.f choose → IsRunning M.Machine start config.f running.old acks →
-        Follows M.Machine start config.f config.me running.new result
-        (takes_log choose config.f config.me (site_of running.old acks cell) view done
-        (take base running.old.kept.log ++ rows)) }
+    ensures step { FollowsChoice M.Machine config running.old running.new result
+        (λ choose site. takes_log choose config.f config.me site view done (take base
+        running.old.kept.log ++ rows)) }
 {
     if !running.kept.keeps_executed(base, &rows) {
         return Ok(dropped(alloc, Why::Stale));
@@ -91,16 +84,9 @@ pub fn take_log<M: Machine>(
 
 /// The site is normal in a view, and gives up what it collected.
 pub fn be_normal<M: Machine>(running: &mut Running<M>, view: u32)
-    ensures status { running.new.status ≡ Status.Normal }
-    ensures view { running.new.view ≡ view }
-    ensures last_normal { running.new.last_normal ≡ view }
-    ensures kept { running.new.kept ≡ running.old.kept }
-    ensures known { running.new.known ≡ running.old.known }
-    ensures sites { length running.new.acked.items ≡ length running.old.acked.items }
-    ensures acked { SumUp running.new.acked.items [] }
-    ensures starts { running.new.starts.items ≡ [] }
-    ensures voted { running.new.voted ≡ false }
-    ensures votes { running.new.votes.items ≡ [] }
+    ensures { GivesUpCollected
+        (record running.old { status = Status.Normal; view = view; last_normal = view })
+        running.new }
 {
     running.status = Status::Normal;
     running.view = view;

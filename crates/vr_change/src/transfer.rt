@@ -1,10 +1,9 @@
 ghost use Rattle.std.specs.Prelude.{◌≡◌, ◌+◌, ◌*◌, ◌≤◌, IsTrue, OnOk, List, length};
 ghost use Rattle.vr_types.specs.declared.cell.Boot.{Boot};
-ghost use Rattle.vr_types.specs.Choice.{Choice, IsRight};
 ghost use Rattle.vr_types.specs.Site.{Ack};
 ghost use Rattle.vr_types.specs.Transfer.{on_get_state, on_new_state};
 ghost use Rattle.vr_log.specs.Kept.{IsReady};
-ghost use Rattle.vr_log.specs.Running.{IsSound, IsRunning, Follows, site_of};
+ghost use Rattle.vr_log.specs.Running.{site_of, StaysSound, FollowsRule, FollowsChoice};
 ghost use Rattle.vr_change.specs.Fits.{rows_fit};
 
 use crate::taking::{is_normal_in, take_log};
@@ -22,10 +21,8 @@ pub fn get_state<M: Machine>(
     msg: GetState,
 ) -> Result<Outcome<M>, AllocError>
     requires { from ≤ 2 * config.f }
-    ensures { (start : M) (acks : List Ack) (cell : Boot) →
-        IsRunning M.Machine start config.f running.now acks →
-        Follows M.Machine start config.f config.me running.now result
-        (on_get_state config.f config.me (site_of running.now acks cell) from msg) }
+    ensures { FollowsRule M.Machine config running.now running.now result
+        (λ site. on_get_state config.f config.me site from msg) }
 {
     if !runs_normally(running.status) {
         return Ok(dropped(alloc, Why::Status));
@@ -57,13 +54,10 @@ pub fn new_state<M: Machine>(
     msg: NewStateOf<M::Cmd>,
 ) -> Result<Outcome<M>, AllocError>
     requires { IsReady M.Machine running.old.kept }
-    ensures sound { OnOk result ((start : M) → IsSound M.Machine start config.f running.old →
-        IsSound M.Machine start config.f running.new) }
+    ensures sound { OnOk result (StaysSound M.Machine config.f running.old running.new) }
     ensures later { running.old.view ≤ running.new.view }
-    ensures step { (choose : Choice M.Cmd) (start : M) (acks : List Ack) (cell : Boot) →
-        IsRight config.f choose → IsRunning M.Machine start config.f running.old acks →
-        Follows M.Machine start config.f config.me running.new result
-        (on_new_state choose config.f config.me (site_of running.old acks cell) from msg) }
+    ensures step { FollowsChoice M.Machine config running.old running.new result
+        (λ choose site. on_new_state choose config.f config.me site from msg) }
 {
     if primary_of(config, msg.view) != from {
         return Ok(dropped(alloc, Why::NotPrimary));

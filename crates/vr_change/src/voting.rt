@@ -1,13 +1,13 @@
 ghost use Rattle.std.specs.Prelude.{◌≡◌, ◌≢◌, ℕ, ◌<◌, ◌≤◌, ◌==◌, ◌&&◌, false, IfOk, OnOk, OnErr, List, length, map};
 ghost use Rattle.vr_types.specs.declared.cell.Boot.{Boot};
 ghost use Rattle.vr_types.specs.Change.{on_start_view_change, on_do_view_change, is_to_vote, with_start, with_vote, own_vote as vote_made};
-ghost use Rattle.vr_types.specs.Choice.{Choice, IsRight};
+ghost use Rattle.vr_types.specs.Choice.{Choice};
 ghost use Rattle.vr_types.specs.Group.{primary};
 ghost use Rattle.vr_types.specs.Site.{Ack, Start, is_normal};
 ghost use Rattle.vr_types.specs.Step.{does, learns};
 ghost use Rattle.vr_log.specs.Kept.{IsReady};
 ghost use Rattle.vr_log.specs.Outcomes.{Sends};
-ghost use Rattle.vr_log.specs.Running.{IsSound, IsRunning, Follows, site_of, start_of, vote_of};
+ghost use Rattle.vr_log.specs.Running.{IsRunning, site_of, start_of, vote_of, StaysSound, FollowsRule, FollowsChoice};
 ghost use Rattle.vr_change.specs.Ballot.{with_starter, with_ballot};
 ghost use Rattle.vr_change.specs.Parts.{IsPart, gathered, starts_learnt, start_goes_on, vote_goes_on};
 
@@ -34,14 +34,10 @@ pub fn start_view_change<M: Machine>(
 ) -> Result<Outcome<M>, AllocError>
     requires ready { IsReady M.Machine running.old.kept }
     requires known { length start.known ≤ length running.old.known }
-    ensures sound { OnOk result ((first : M) → IsSound M.Machine first config.f running.old →
-        IsSound M.Machine first config.f running.new) }
+    ensures sound { OnOk result (StaysSound M.Machine config.f running.old running.new) }
     ensures later { running.old.view ≤ running.new.view }
-    ensures step { (choose : Choice M.Cmd) (first : M) (acks : List Ack) (cell : Boot) →
-        IsRight config.f choose → IsRunning M.Machine first config.f running.old acks →
-        Follows M.Machine first config.f config.me running.new result
-        (on_start_view_change choose config.f config.me
-        (site_of running.old acks cell) view (start_of start)) }
+    ensures step { FollowsChoice M.Machine config running.old running.new result
+        (λ choose site. on_start_view_change choose config.f config.me site view (start_of start)) }
 {
     if view < running.view {
         return Ok(dropped(alloc, Why::View));
@@ -71,14 +67,10 @@ pub fn do_view_change<M: Machine>(
 ) -> Result<Outcome<M>, AllocError>
     requires ready { IsReady M.Machine running.old.kept }
     requires known { length vote.known ≤ length running.old.known }
-    ensures sound { OnOk result ((start : M) → IsSound M.Machine start config.f running.old →
-        IsSound M.Machine start config.f running.new) }
+    ensures sound { OnOk result (StaysSound M.Machine config.f running.old running.new) }
     ensures later { running.old.view ≤ running.new.view }
-    ensures step { (choose : Choice M.Cmd) (start : M) (acks : List Ack) (cell : Boot) →
-        IsRight config.f choose → IsRunning M.Machine start config.f running.old acks →
-        Follows M.Machine start config.f config.me running.new result
-        (on_do_view_change choose config.f config.me
-        (site_of running.old acks cell) view (vote_of vote)) }
+    ensures step { FollowsChoice M.Machine config running.old running.new result
+        (λ choose site. on_do_view_change choose config.f config.me site view (vote_of vote)) }
 {
     if view < running.view {
         return Ok(dropped(alloc, Why::View));
@@ -112,8 +104,7 @@ fn start_later<M: Machine>(
     ensures kept { running.new.kept ≡ running.old.kept }
     ensures known { length running.new.known ≡ length running.old.known }
     ensures change { is_normal running.new.status ≡ false }
-    ensures sound { (start : M) → IsSound M.Machine start config.f running.old →
-        IsSound M.Machine start config.f running.new }
+    ensures sound { StaysSound M.Machine config.f running.old running.new }
     ensures part { IfOk result (λ sent. (start : M) (acks : List Ack) (cell : Boot) →
         IsRunning M.Machine start config.f running.old acks →
         IsPart M.Machine start config.f running.new sent.items
@@ -137,14 +128,11 @@ fn follow<M: Machine>(
 ) -> Result<Outcome<M>, AllocError>
     requires known { length start.known ≤ length running.old.known }
     requires other { primary config.f running.old.view ≢ config.me }
-    ensures sound { OnOk result ((first : M) → IsSound M.Machine first config.f running.old →
-        IsSound M.Machine first config.f running.new) }
+    ensures sound { OnOk result (StaysSound M.Machine config.f running.old running.new) }
     ensures later { running.old.view ≤ running.new.view }
-    ensures step { (choose : Choice M.Cmd) (first : M) (acks : List Ack) (cell : Boot) →
-        IsRunning M.Machine first config.f running.old acks →
-        Follows M.Machine first config.f config.me running.new result (
-        start_goes_on choose config.f config.me (start_of start)
-        (site_of running.old acks cell) sent.items) }
+    ensures step { (choose : Choice M.Cmd) → FollowsRule M.Machine config running.old running.new
+        result
+        (λ site. start_goes_on choose config.f config.me (start_of start) site sent.items) }
 {
     let votes = is_due(config, running, &start.known, start.from);
     learn(running, &start.known);
@@ -169,14 +157,10 @@ fn lead<M: Machine>(
     requires known { length start.known ≤ length running.old.known }
     requires change { is_normal running.old.status ≡ false }
     requires mine { primary config.f running.old.view ≡ config.me }
-    ensures sound { OnOk result ((first : M) → IsSound M.Machine first config.f running.old →
-        IsSound M.Machine first config.f running.new) }
+    ensures sound { OnOk result (StaysSound M.Machine config.f running.old running.new) }
     ensures later { running.old.view ≤ running.new.view }
-    ensures step { (choose : Choice M.Cmd) (first : M) (acks : List Ack) (cell : Boot) →
-        IsRight config.f choose → IsRunning M.Machine first config.f running.old acks →
-        Follows M.Machine first config.f config.me running.new result (
-        start_goes_on choose config.f config.me (start_of start)
-        (site_of running.old acks cell) sent.items) }
+    ensures step { FollowsChoice M.Machine config running.old running.new result
+        (λ choose site. start_goes_on choose config.f config.me (start_of start) site sent.items) }
 {
     let told = &start.known;
     let votes = is_due(config, running, told, start.from);
@@ -205,14 +189,7 @@ fn is_due<M: Machine>(config: Config, running: &Running<M>, told: &Known, from: 
 
 /// Keeps a STARTVIEWCHANGE, once of each site. An `Err` leaves what runs as it was.
 fn keep_start<M: Machine>(running: &mut Running<M>, start: StartOf) -> Result<(), AllocError>
-    ensures status { running.new.status ≡ running.old.status }
-    ensures view { running.new.view ≡ running.old.view }
-    ensures last_normal { running.new.last_normal ≡ running.old.last_normal }
-    ensures kept { running.new.kept ≡ running.old.kept }
-    ensures known { running.new.known ≡ running.old.known }
-    ensures acked { running.new.acked ≡ running.old.acked }
-    ensures voted { running.new.voted ≡ running.old.voted }
-    ensures votes { running.new.votes ≡ running.old.votes }
+    ensures stays { running.new ≡ record running.old { starts = running.new.starts } }
     ensures starts { OnOk result (map start_of running.new.starts.items
         ≡ with_starter (map start_of running.old.starts.items) (start_of start)) }
 {
@@ -232,14 +209,11 @@ fn wait<M: Machine>(
     sent: Vec<Envelope<M>>,
 ) -> Result<Outcome<M>, AllocError>
     requires { length start.known ≤ length running.old.known }
-    ensures sound { OnOk result ((first : M) → IsSound M.Machine first config.f running.old →
-        IsSound M.Machine first config.f running.new) }
+    ensures sound { OnOk result (StaysSound M.Machine config.f running.old running.new) }
     ensures later { running.old.view ≤ running.new.view }
-    ensures step { (first : M) (acks : List Ack) (cell : Boot) →
-        IsRunning M.Machine first config.f running.old acks →
-        Follows M.Machine first config.f config.me running.new result (
-        does (gathered votes config.me (start_of start)
-        (learns start.known (site_of running.old acks cell))) sent.items) }
+    ensures step { FollowsRule M.Machine config running.old running.new result
+        (λ site. does (gathered votes config.me (start_of start) (learns start.known site))
+        sent.items) }
 {
     learn(running, &start.known);
     keep_start(running, start)?;
@@ -257,14 +231,7 @@ fn keep_own_vote<M: Machine>(
     config: Config,
     running: &mut Running<M>,
 ) -> Result<(), AllocError>
-    ensures status { running.new.status ≡ running.old.status }
-    ensures view { running.new.view ≡ running.old.view }
-    ensures last_normal { running.new.last_normal ≡ running.old.last_normal }
-    ensures kept { running.new.kept ≡ running.old.kept }
-    ensures known { running.new.known ≡ running.old.known }
-    ensures acked { running.new.acked ≡ running.old.acked }
-    ensures starts { running.new.starts ≡ running.old.starts }
-    ensures voted { running.new.voted ≡ running.old.voted }
+    ensures stays { running.new ≡ record running.old { votes = running.new.votes } }
     ensures votes { OnOk result ((acks : List Ack) (cell : Boot) →
         map vote_of running.new.votes.items ≡ with_ballot (map vote_of running.old.votes.items)
         (vote_made config.me (site_of running.old acks cell))) }
@@ -295,14 +262,10 @@ fn take_vote<M: Machine>(
     requires known { length vote.known ≤ length running.old.known }
     requires change { is_normal running.old.status ≡ false }
     requires mine { primary config.f running.old.view ≡ config.me }
-    ensures sound { OnOk result ((start : M) → IsSound M.Machine start config.f running.old →
-        IsSound M.Machine start config.f running.new) }
+    ensures sound { OnOk result (StaysSound M.Machine config.f running.old running.new) }
     ensures later { running.old.view ≤ running.new.view }
-    ensures step { (choose : Choice M.Cmd) (start : M) (acks : List Ack) (cell : Boot) →
-        IsRight config.f choose → IsRunning M.Machine start config.f running.old acks →
-        Follows M.Machine start config.f config.me running.new result (
-        vote_goes_on choose config.f config.me (vote_of vote)
-        (site_of running.old acks cell) sent.items) }
+    ensures step { FollowsChoice M.Machine config running.old running.new result
+        (λ choose site. vote_goes_on choose config.f config.me (vote_of vote) site sent.items) }
 {
     let told = &vote.known;
     if !votes_now(running, told, vote.from, config.me) {
@@ -325,14 +288,10 @@ fn keep_vote<M: Machine>(
     sent: Vec<Envelope<M>>,
 ) -> Result<Outcome<M>, AllocError>
     requires { length vote.known ≤ length running.old.known }
-    ensures sound { OnOk result ((start : M) (f : ℕ) → IsSound M.Machine start f running.old →
-        IsSound M.Machine start f running.new) }
+    ensures sound { OnOk result ((f : ℕ) → StaysSound M.Machine f running.old running.new) }
     ensures later { running.old.view ≤ running.new.view }
-    ensures step { (start : M) (f me : ℕ) (acks : List Ack) (cell : Boot) →
-        IsRunning M.Machine start f running.old acks →
-        Follows M.Machine start f me running.new result (
-        does (with_vote (vote_of vote) (learns vote.known (site_of running.old acks cell)))
-        sent.items) }
+    ensures step { (config : Config) → FollowsRule M.Machine config running.old running.new result
+        (λ site. does (with_vote (vote_of vote) (learns vote.known site)) sent.items) }
 {
     learn(running, &vote.known);
     if has_voted(running.votes.as_slice(), vote.from) {

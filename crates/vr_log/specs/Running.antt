@@ -2,10 +2,11 @@
 use Rattle.std.specs.Prelude.{◌≡◌, ℕ, ◌+◌, ◌*◌, true, List, [], length, map, nat_le, slice_index, Result, MatchResult}
 use Rattle.std.specs.declared.alloc.AllocError.{AllocError}
 use Rattle.vr_types.specs.declared.cell.Boot.{Boot}
+use Rattle.vr_types.specs.declared.config.Config.{Config}
 use Rattle.vr_types.specs.declared.event.OutcomeOf.{OutcomeOf}
 use Rattle.vr_types.specs.declared.machine.Machine.{Ghosts}
 use Rattle.vr_types.specs.Site.{Ack, Start, Vote, Site, is_running}
-use Rattle.vr_types.specs.Choice.{has_acknowledged, OneEach}
+use Rattle.vr_types.specs.Choice.{Choice, IsRight, has_acknowledged, OneEach}
 use Rattle.vr_types.specs.Step.{Step, Handled}
 use Rattle.vr_types.specs.Handling.{envelopes}
 use Rattle.vr_log.specs.declared.running.StartOf.{StartOf}
@@ -77,3 +78,23 @@ abbrev pub Follows : {H C R O S : Type 0} → Ghosts H C R O S → H → ℕ →
     → Result (OutcomeOf C R O) AllocError → Step C R O → Type 0
 Follows m start f me r result step =
     MatchResult result (λ out. Meets m start f me r out step) (λ _. step.ending ≡ Handled)
+
+-- what runs stays sound, from whatever start
+abbrev pub StaysSound : {H C R O S : Type 0} → Ghosts H C R O S → ℕ → Running H C R O S → Running H C R O S → Type 0
+StaysSound {H = H} m f old new = (start : H) → IsSound m start f old → IsSound m start f new
+
+-- A rule's contract: what was done is the step that the rule makes of the site, whatever the start, the
+-- acknowledgements that came, and the cell.
+abbrev pub FollowsRule : {H C R O S : Type 0} → Ghosts H C R O S → Config → Running H C R O S → Running H C R O S
+    → Result (OutcomeOf C R O) AllocError → (Site C → Step C R O) → Type 0
+FollowsRule {H = H} m config old new result rule =
+    (start : H) (acks : List Ack) (cell : Boot) → IsRunning m start config.f old acks
+    → Follows m start config.f config.me new result (rule (site_of old acks cell))
+
+-- the contract of a rule that takes what it chooses as given, whatever right choice that is
+abbrev pub FollowsChoice : {H C R O S : Type 0} → Ghosts H C R O S → Config → Running H C R O S → Running H C R O S
+    → Result (OutcomeOf C R O) AllocError → (Choice C → Site C → Step C R O) → Type 0
+FollowsChoice {H = H} {C = C} m config old new result rule =
+    (choose : Choice C) (start : H) (acks : List Ack) (cell : Boot) → IsRight config.f choose
+    → IsRunning m start config.f old acks
+    → Follows m start config.f config.me new result (rule choose (site_of old acks cell))

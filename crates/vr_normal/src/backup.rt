@@ -1,12 +1,11 @@
-ghost use Rattle.std.specs.Prelude.{◌≡◌, ◌+◌, ◌==◌, ◌||◌, ◌++◌, ◌∷◌, [], nat_lt, length, IfOk, OnOk, List, if◌then◌else◌};
-ghost use Rattle.vr_types.specs.Group.{primary, mail};
-ghost use Rattle.vr_types.specs.declared.cell.Boot.{Boot};
+ghost use Rattle.std.specs.Prelude.{◌≡◌, ◌+◌, ◌==◌, ◌||◌, ◌++◌, ◌∷◌, [], nat_lt, length, IfOk, OnOk, if◌then◌else◌};
+ghost use Rattle.vr_types.specs.Group.{primary};
 ghost use Rattle.vr_types.specs.Normal.{on_prepare, on_commit, prepares};
-ghost use Rattle.vr_types.specs.Site.{Ack, is_change};
+ghost use Rattle.vr_types.specs.Site.{is_change};
 ghost use Rattle.vr_types.specs.Step.{asks_state};
 ghost use Rattle.vr_log.specs.Kept.{IsKept, IsReady};
 ghost use Rattle.vr_log.specs.Outcomes.{Sends};
-ghost use Rattle.vr_log.specs.Running.{IsSound, IsRunning, Follows, site_of};
+ghost use Rattle.vr_log.specs.Running.{StaysSound, FollowsRule};
 
 use std::alloc::{AllocError, Global};
 use vr_log::send::{
@@ -26,14 +25,11 @@ pub fn prepare<M: Machine>(
     msg: PrepareOf<M::Cmd>,
 ) -> Result<Outcome<M>, AllocError>
     requires { IsReady M.Machine running.old.kept }
-    ensures sound { OnOk result ((start : M) → IsSound M.Machine start config.f running.old →
-        IsSound M.Machine start config.f running.new) }
+    ensures sound { OnOk result (StaysSound M.Machine config.f running.old running.new) }
     ensures status { running.new.status ≡ running.old.status }
     ensures view { running.new.view ≡ running.old.view }
-    ensures step { (start : M) (acks : List Ack) (cell : Boot) →
-        IsRunning M.Machine start config.f running.old acks →
-        Follows M.Machine start config.f config.me running.new result
-        (on_prepare config.f config.me (site_of running.old acks cell) from msg) }
+    ensures step { FollowsRule M.Machine config running.old running.new result
+        (λ site. on_prepare config.f config.me site from msg) }
 {
     if primary_of(config, msg.view) != from {
         return Ok(dropped(alloc, Why::NotPrimary));
@@ -56,14 +52,11 @@ pub fn commit<M: Machine>(
     msg: Commit,
 ) -> Result<Outcome<M>, AllocError>
     requires { IsReady M.Machine running.old.kept }
-    ensures sound { OnOk result ((start : M) → IsSound M.Machine start config.f running.old →
-        IsSound M.Machine start config.f running.new) }
+    ensures sound { OnOk result (StaysSound M.Machine config.f running.old running.new) }
     ensures status { running.new.status ≡ running.old.status }
     ensures view { running.new.view ≡ running.old.view }
-    ensures step { (start : M) (acks : List Ack) (cell : Boot) →
-        IsRunning M.Machine start config.f running.old acks →
-        Follows M.Machine start config.f config.me running.new result
-        (on_commit config.f config.me (site_of running.old acks cell) from msg) }
+    ensures step { FollowsRule M.Machine config running.old running.new result
+        (λ site. on_commit config.f config.me site from msg) }
 {
     if primary_of(config, msg.view) != from {
         return Ok(dropped(alloc, Why::NotPrimary));
@@ -92,14 +85,11 @@ fn take_row<M: Machine>(
     msg: PrepareOf<M::Cmd>,
 ) -> Result<Outcome<M>, AllocError>
     requires { IsReady M.Machine running.old.kept }
-    ensures sound { OnOk result ((start : M) → IsSound M.Machine start config.f running.old →
-        IsSound M.Machine start config.f running.new) }
+    ensures sound { OnOk result (StaysSound M.Machine config.f running.old running.new) }
     ensures status { running.new.status ≡ running.old.status }
     ensures view { running.new.view ≡ running.old.view }
-    ensures step { (start : M) (acks : List Ack) (cell : Boot) →
-        IsRunning M.Machine start config.f running.old acks →
-        Follows M.Machine start config.f config.me running.new result
-        (prepares config.f config.me (site_of running.old acks cell) msg) }
+    ensures step { FollowsRule M.Machine config running.old running.new result
+        (λ site. prepares config.f config.me site msg) }
 {
     let len = running.kept.log.len();
     append_next(&mut running.kept, msg.place, msg.row)?;

@@ -1,12 +1,11 @@
 ghost use Rattle.std.specs.Prelude.{◌≡◌, ◌++◌, OnOk, List, map, slice_get};
 ghost use Rattle.vr_types.specs.declared.cell.Boot.{Boot};
-ghost use Rattle.vr_types.specs.Group.{to_all};
 ghost use Rattle.vr_types.specs.Handling.{order_to};
 ghost use Rattle.vr_types.specs.Normal.{beats_normal, news as news_of};
 ghost use Rattle.vr_types.specs.Site.{Ack};
 ghost use Rattle.vr_log.specs.Kept.{IsReady};
 ghost use Rattle.vr_log.specs.News.{news_msg};
-ghost use Rattle.vr_log.specs.Running.{IsRunning, Follows, site_of};
+ghost use Rattle.vr_log.specs.Running.{site_of, FollowsRule};
 
 use std::alloc::{AllocError, Global};
 use vr_log::Running;
@@ -21,10 +20,8 @@ pub fn beat<M: Machine>(
     running: &Running<M>,
 ) -> Result<Outcome<M>, AllocError>
     requires { IsReady M.Machine running.now.kept }
-    ensures { (start : M) (acks : List Ack) (cell : Boot) →
-        IsRunning M.Machine start config.f running.now acks →
-        Follows M.Machine start config.f config.me running.now result
-        (beats_normal config.f config.me (site_of running.now acks cell)) }
+    ensures { FollowsRule M.Machine config running.now running.now result
+        (λ site. beats_normal config.f config.me site) }
 {
     if primary_of(config, running.view) != config.me {
         return Ok(silent(alloc));

@@ -1,10 +1,8 @@
-ghost use Rattle.std.specs.Prelude.{◌≡◌, OnOk, List, take};
-ghost use Rattle.vr_types.specs.declared.cell.Boot.{Boot};
+ghost use Rattle.std.specs.Prelude.{◌≡◌, OnOk, take};
 ghost use Rattle.vr_types.specs.Normal.{on_request, appends, answers_again};
 ghost use Rattle.vr_types.specs.Rows.{newest, last_of};
-ghost use Rattle.vr_types.specs.Site.{Ack};
 ghost use Rattle.vr_log.specs.Kept.{IsReady};
-ghost use Rattle.vr_log.specs.Running.{IsSound, IsRunning, Follows, site_of};
+ghost use Rattle.vr_log.specs.Running.{StaysSound, FollowsRule};
 
 use std::alloc::{AllocError, Global};
 use vr_log::Running;
@@ -21,14 +19,11 @@ pub fn request<M: Machine>(
     row: Row<M>,
 ) -> Result<Outcome<M>, AllocError>
     requires { IsReady M.Machine running.old.kept }
-    ensures sound { OnOk result ((start : M) → IsSound M.Machine start config.f running.old →
-        IsSound M.Machine start config.f running.new) }
+    ensures sound { OnOk result (StaysSound M.Machine config.f running.old running.new) }
     ensures status { running.new.status ≡ running.old.status }
     ensures view { running.new.view ≡ running.old.view }
-    ensures step { (start : M) (acks : List Ack) (cell : Boot) →
-        IsRunning M.Machine start config.f running.old acks →
-        Follows M.Machine start config.f config.me running.new result
-        (on_request config.f config.me (site_of running.old acks cell) row) }
+    ensures step { FollowsRule M.Machine config running.old running.new result
+        (λ site. on_request config.f config.me site row) }
 {
     if !runs_normally(running.status) {
         return Ok(dropped(alloc, Why::Status));
@@ -51,14 +46,11 @@ fn append<M: Machine>(
     row: Row<M>,
 ) -> Result<Outcome<M>, AllocError>
     requires { IsReady M.Machine running.old.kept }
-    ensures sound { OnOk result ((start : M) → IsSound M.Machine start config.f running.old →
-        IsSound M.Machine start config.f running.new) }
+    ensures sound { OnOk result (StaysSound M.Machine config.f running.old running.new) }
     ensures status { running.new.status ≡ running.old.status }
     ensures view { running.new.view ≡ running.old.view }
-    ensures step { (start : M) (acks : List Ack) (cell : Boot) →
-        IsRunning M.Machine start config.f running.old acks →
-        Follows M.Machine start config.f config.me running.new result
-        (appends config.f config.me (site_of running.old acks cell) row) }
+    ensures step { FollowsRule M.Machine config running.old running.new result
+        (λ site. appends config.f config.me site row) }
 {
     let place = running.kept.log.len();
     if place == MAX_ROWS {
@@ -86,12 +78,9 @@ fn answer_again<M: Machine>(
     client: u16,
     number: u32,
 ) -> Result<Outcome<M>, AllocError>
-    ensures { (start : M) (acks : List Ack) (cell : Boot) →
-        IsRunning M.Machine start config.f running.now acks →
-        Follows M.Machine start config.f config.me running.now result
-        (answers_again (site_of running.now acks cell) number
-        (newest running.now.kept.log client)
-        (last_of (take running.now.kept.done running.now.kept.log) client)) }
+    ensures { FollowsRule M.Machine config running.now running.now result
+        (λ site. answers_again site number (newest running.now.kept.log client) (last_of (take
+        running.now.kept.done running.now.kept.log) client)) }
 {
     let Some(last) = running.kept.clients.reply(client) else {
         return Ok(dropped(alloc, Why::Known));

@@ -1,11 +1,9 @@
-ghost use Rattle.std.specs.Prelude.{◌≡◌, ◌+◌, ◌*◌, ◌≤◌, IsTrue, IfOk, OnOk, List, length};
-ghost use Rattle.vr_types.specs.declared.cell.Boot.{Boot};
-ghost use Rattle.vr_types.specs.Choice.{Choice, IsRight, IsLargest};
+ghost use Rattle.std.specs.Prelude.{◌≡◌, ◌+◌, ◌*◌, ◌≤◌, IsTrue, OnOk, length};
+ghost use Rattle.vr_types.specs.Choice.{IsLargest};
 ghost use Rattle.vr_types.specs.Normal.{on_prepare_ok, with_ack};
-ghost use Rattle.vr_types.specs.Site.{Ack};
 ghost use Rattle.vr_types.specs.Step.{executes_and_answers};
 ghost use Rattle.vr_log.specs.Kept.{IsReady};
-ghost use Rattle.vr_log.specs.Running.{IsSound, IsRunning, Follows, site_of};
+ghost use Rattle.vr_log.specs.Running.{StaysSound, FollowsChoice};
 ghost use Rattle.vr_normal.specs.Support.{has_support};
 
 use std::alloc::{AllocError, Global};
@@ -24,14 +22,11 @@ pub fn prepare_ok<M: Machine>(
     requires ready { IsReady M.Machine running.old.kept }
     requires sites { length running.old.acked.items ≡ 2 * config.f + 1 }
     requires from { from ≤ 2 * config.f }
-    ensures sound { OnOk result ((start : M) → IsSound M.Machine start config.f running.old →
-        IsSound M.Machine start config.f running.new) }
+    ensures sound { OnOk result (StaysSound M.Machine config.f running.old running.new) }
     ensures status { running.new.status ≡ running.old.status }
     ensures view { running.new.view ≡ running.old.view }
-    ensures step { (choose : Choice M.Cmd) (start : M) (acks : List Ack) (cell : Boot) →
-        IsRight config.f choose → IsRunning M.Machine start config.f running.old acks →
-        Follows M.Machine start config.f config.me running.new result
-        (on_prepare_ok choose config.f config.me (site_of running.old acks cell) from msg) }
+    ensures step { FollowsChoice M.Machine config running.old running.new result
+        (λ choose site. on_prepare_ok choose config.f config.me site from msg) }
 {
     if !runs_normally(running.status) {
         return Ok(dropped(alloc, Why::Status));
@@ -56,15 +51,12 @@ fn acknowledge<M: Machine>(
     requires ready { IsReady M.Machine running.old.kept }
     requires sites { length running.old.acked.items ≡ 2 * config.f + 1 }
     requires from { from ≤ 2 * config.f }
-    ensures sound { OnOk result ((start : M) → IsSound M.Machine start config.f running.old →
-        IsSound M.Machine start config.f running.new) }
+    ensures sound { OnOk result (StaysSound M.Machine config.f running.old running.new) }
     ensures status { running.new.status ≡ running.old.status }
     ensures view { running.new.view ≡ running.old.view }
-    ensures step { (choose : Choice M.Cmd) (start : M) (acks : List Ack) (cell : Boot) →
-        IsRight config.f choose → IsRunning M.Machine start config.f running.old acks →
-        Follows M.Machine start config.f config.me running.new result (
-        let y = with_ack from place (site_of running.old acks cell) in
-        executes_and_answers (choose.commit_place config.me y.collected.acks) y) }
+    ensures step { FollowsChoice M.Machine config running.old running.new result
+        (λ choose site. let y = with_ack from place site in executes_and_answers
+        (choose.commit_place config.me y.collected.acks) y) }
 {
     let len = running.kept.log.len() as u16;
     let before = running.acked[from as usize];

@@ -4,7 +4,7 @@ ghost use Rattle.vr_types.specs.Group.{to_all};
 ghost use Rattle.vr_types.specs.Recovery.{on_recovery, state_of_view};
 ghost use Rattle.vr_types.specs.Site.{Ack};
 ghost use Rattle.vr_log.specs.Outcomes.{Sends};
-ghost use Rattle.vr_log.specs.Running.{IsSound, IsRunning, Follows, site_of};
+ghost use Rattle.vr_log.specs.Running.{site_of, StaysSound, FollowsRule};
 
 use std::alloc::{AllocError, Global};
 use vr_log::Running;
@@ -25,14 +25,11 @@ pub fn recovery<M: Machine>(
 ) -> Result<Outcome<M>, AllocError>
     requires from { from ≤ 2 * config.f }
     requires known { length running.old.known ≡ 2 * config.f + 1 }
-    ensures sound { OnOk result ((start : M) → IsSound M.Machine start config.f running.old →
-        IsSound M.Machine start config.f running.new) }
+    ensures sound { OnOk result (StaysSound M.Machine config.f running.old running.new) }
     ensures status { running.new.status ≡ running.old.status }
     ensures view { running.new.view ≡ running.old.view }
-    ensures step { (start : M) (acks : List Ack) (cell : Boot) →
-        IsRunning M.Machine start config.f running.old acks →
-        Follows M.Machine start config.f config.me running.new result
-        (on_recovery config.f config.me (site_of running.old acks cell) from msg) }
+    ensures step { FollowsRule M.Machine config running.old running.new result
+        (λ site. on_recovery config.f config.me site from msg) }
 {
     if !runs_normally(running.status) {
         return Ok(dropped(alloc, Why::Status));

@@ -1,4 +1,4 @@
-ghost use Rattle.std.specs.Prelude.{◌≡◌, ◌≢◌, ℕ, ◌+◌, ◌-◌, ◌==◌, ◌&&◌, not, ◌⊎◌, [], List, All, IfOk, OnOk, IfErr, OnErr, IsOk, IsErrOf, Some, None, true, length, slice_get, IsSome, IfSome, ◌↔◌, if◌then◌else◌};
+ghost use Rattle.std.specs.Prelude.{◌≡◌, ◌≢◌, ◌+◌, ◌-◌, ◌==◌, ◌&&◌, not, ◌⊎◌, [], List, All, IfOk, OnOk, IfErr, OnErr, IsOk, IsErrOf, Some, None, true, length, slice_get, IsSome, IfSome, ◌↔◌, if◌then◌else◌};
 ghost use Rattle.vr_types.specs.declared.cell.Boot.{Boot};
 ghost use Rattle.vr_types.specs.declared.event.EventOf.{EventOf as AnyEvent};
 ghost use Rattle.vr_types.specs.Choice.{Choice, IsRight};
@@ -55,7 +55,7 @@ impl<M: Machine, C: BootCell> Replica<M, C> {
     ghost use Rattle.vr_types.specs.Saved.{IsSavedFor};
     ghost use Rattle.vr_types.specs.Site.{opening_site};
     ghost use Rattle.vr_types.specs.Step.{Dropped};
-    ghost use Rattle.vr_site.specs.Replica.{site_shown, with_cell, KeepsPlace, Does, Falls, Handles, Serves, Awaits};
+    ghost use Rattle.vr_site.specs.Replica.{site_shown, with_cell, KeepsPlace, Falls, Handles, Serves, Awaits};
 
     /// A site over a cell: over a new one it is normal in view 0 with an empty log, over any other it is down.
     pub fn new(alloc: Global, config: Config, setup: M::Setup, cell: C) -> Result<Self, AllocError>

@@ -1,11 +1,8 @@
-ghost use Rattle.std.specs.Prelude.{◌≡◌, ◌+◌, ◌*◌, OnOk, List, length, true};
-ghost use Rattle.vr_types.specs.declared.cell.Boot.{Boot};
-ghost use Rattle.vr_types.specs.Choice.{Choice, IsRight};
+ghost use Rattle.std.specs.Prelude.{◌≡◌, ◌+◌, ◌*◌, OnOk, length, true};
 ghost use Rattle.vr_types.specs.Group.{may_send};
 ghost use Rattle.vr_types.specs.Handling.{on_message, on_beat};
-ghost use Rattle.vr_types.specs.Site.{Ack};
 ghost use Rattle.vr_log.specs.Kept.{IsReady};
-ghost use Rattle.vr_log.specs.Running.{IsSound, IsRunning, Follows, site_of};
+ghost use Rattle.vr_log.specs.Running.{StaysSound, FollowsRule, FollowsChoice};
 
 use crate::addressing::site_number;
 use std::alloc::{AllocError, Global};
@@ -25,12 +22,9 @@ pub(crate) fn serve<M: Machine>(
     requires sites { length running.old.acked.items ≡ 2 * config.f + 1 }
     requires known { length running.old.known ≡ 2 * config.f + 1 }
     requires may_come { may_send config.f config.me from msg ≡ true }
-    ensures sound { OnOk result ((start : M) → IsSound M.Machine start config.f running.old →
-        IsSound M.Machine start config.f running.new) }
-    ensures step { (choose : Choice M.Cmd) (start : M) (acks : List Ack) (cell : Boot) →
-        IsRight config.f choose → IsRunning M.Machine start config.f running.old acks →
-        Follows M.Machine start config.f config.me running.new result
-        (on_message choose config.f config.me (site_of running.old acks cell) from msg) }
+    ensures sound { OnOk result (StaysSound M.Machine config.f running.old running.new) }
+    ensures step { FollowsChoice M.Machine config running.old running.new result
+        (λ choose site. on_message choose config.f config.me site from msg) }
 {
     let site = site_number(from);
     match msg {
@@ -80,10 +74,8 @@ pub(crate) fn beat<M: Machine>(
     running: &Running<M>,
 ) -> Result<Outcome<M>, AllocError>
     requires { IsReady M.Machine running.now.kept }
-    ensures { (start : M) (acks : List Ack) (cell : Boot) →
-        IsRunning M.Machine start config.f running.now acks →
-        Follows M.Machine start config.f config.me running.now result
-        (on_beat config.f config.me (site_of running.now acks cell) running.now.status) }
+    ensures { FollowsRule M.Machine config running.now running.now result
+        (λ site. on_beat config.f config.me site running.now.status) }
 {
     if changes_view(running.status) {
         vr_change::beat_in_change(alloc, config, running)

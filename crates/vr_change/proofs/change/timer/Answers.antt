@@ -6,7 +6,7 @@ use Rattle.vr_log.specs.Kept.{IsKept}
 use Rattle.vr_log.specs.Running.{site_of}
 use Rattle.vr_log.proofs.OutcomeLemmas.{err_follows, meets_as, does_meets, running_is_here}
 use Rattle.vr_change.proofs.Cases.{on_timer-is}
-use Rattle.vr_change.proofs.Sites.{GaveUp, gave_up_sound, changed_site}
+use Rattle.vr_change.proofs.Sites.{gave_up_sound, changed_site}
 use Rattle.vr_change.proofs.change.timer.Goals as goal
 
 pub returns-in_err-sent-clause-step : goal.returns-in_err-sent-clause-step
@@ -24,7 +24,7 @@ returns-clause-sound g c = λ start s.
     let r = c.args.running.now in
     let n = c.start_change.new.running in
     let now = c.start_change.ensures in
-    let gave : GaveUp n = record { acked = now.acked; starts = now.starts; voted = now.voted; votes = now.votes } in
+    let gave = now.nothing in
     let kept : IsKept m start n.kept = subst (IsKept m start) (sym now.kept) s.kept in
     (gave_up_sound m start c.args.config.f r n gave (ap is_running now.status) now.sites (ap length now.known) kept s).sound
 
@@ -38,7 +38,7 @@ returns-clause-step g c = λ start acks cell h.
     let n = c.start_change.new.running in
     let now = c.start_change.ensures in
     let view = r.view + 1 in
-    let gave : GaveUp n = record { acked = now.acked; starts = now.starts; voted = now.voted; votes = now.votes } in
+    let gave = now.nothing in
     let up : is_running n.status ≡ true = ap is_running now.status in
     let told : to_all f me (StartViewChange (record { view = n.view; known = n.known }))
     ≡ to_all f me (StartViewChange (record { view = view; known = r.known })) =

@@ -33,7 +33,7 @@ votes g c =
     ∙ ap (λ known. filter (λ (vote : Vote _). not (is_outdated known vote.from vote.known)) (map vote_of c.args.running.now.votes.items)) c.learn.ensures
 
 pub returns-clause-sound : goal.returns-clause-sound
-returns-clause-sound g c = λ start f s.
+returns-clause-sound g c = λ f start s.
     let r = c.args.running.now in
     let told = c.args.told.now in
     record {
@@ -45,7 +45,7 @@ returns-clause-sound g c = λ start f s.
     }
 
 pub returns-clause-running : goal.returns-clause-running
-returns-clause-running g c = λ start f acks h. record { sound = returns-clause-sound g c start f h.sound; summed = h.summed }
+returns-clause-running g c = λ start f acks h. record { sound = returns-clause-sound g c f start h.sound; summed = h.summed }
 
 pub returns-clause-site : goal.returns-clause-site
 returns-clause-site g c = λ acks cell.

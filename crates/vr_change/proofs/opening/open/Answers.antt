@@ -7,7 +7,7 @@ use Rattle.vr_types.specs.Step.{greater, learns, places_between}
 use Rattle.vr_log.specs.Kept.{IsKept, answer_to, reply_mail}
 use Rattle.vr_log.specs.Running.{IsRunning, site_of}
 use Rattle.vr_change.proofs.Openings.{opened_meets, done_in_all}
-use Rattle.vr_change.proofs.Sites.{GaveUp, gave_up_sound, normal_site}
+use Rattle.vr_change.proofs.Sites.{gave_up_sound, normal_site}
 use Rattle.vr_change.proofs.Left.{greater_length}
 use Rattle.vr_change.proofs.opening.open.Goals as goal
 
@@ -25,7 +25,7 @@ returns-clause-step g c = λ start acks cell h.
     let now = c.be_normal.ensures in
     let d = done_in_all x c.args.done log in
     let long : length n.known ≡ length r.known = ap length (now.known ∙ c.learn.ensures) ∙ greater_length r.known told c.requires.known in
-    let gave : GaveUp n = record { acked = now.acked; starts = now.starts; voted = now.voted; votes = now.votes } in
+    let gave = now.nothing in
     let rows : n.kept.log ≡ log = ap (λ k. k.log) now.kept ∙ ran.log in
     let done : n.kept.done ≡ d = ap (λ k. k.done) now.kept ∙ ran.done in
     let kept : IsKept m start n.kept = subst (IsKept m start) (sym now.kept) (ran.kept start h.sound.kept) in
@@ -46,6 +46,6 @@ returns-clause-sound g c = λ start s.
     let now = c.be_normal.ensures in
     let told = c.args.told.now in
     let long : length n.known ≡ length r.known = ap length (now.known ∙ c.learn.ensures) ∙ greater_length r.known told c.requires.known in
-    let gave : GaveUp n = record { acked = now.acked; starts = now.starts; voted = now.voted; votes = now.votes } in
+    let gave = now.nothing in
     let kept : IsKept m start n.kept = subst (IsKept m start) (sym now.kept) (c.in_ok-answers.ensures.kept start s.kept) in
     (gave_up_sound m start c.args.config.f r n gave (ap is_running now.status) now.sites long kept s).sound

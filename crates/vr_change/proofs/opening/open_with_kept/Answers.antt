@@ -29,4 +29,4 @@ returns-clause-step g c = λ choose start acks cell right h.
     follows_as m start f me _ c.open_with_vote.result _ _
     (opens_picked choose f me x y sent left at.0 c.most_done-done.result right (one_each-left r.known told votes h.sound.votes) at.2
     c.most_done-done.ensures)
-    (c.open_with_vote.ensures.step choose start acks cell at.0 right h at.1)
+    (c.open_with_vote.ensures.step at.0 at.1 choose start acks cell right h)

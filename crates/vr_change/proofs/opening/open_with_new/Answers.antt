@@ -32,7 +32,7 @@ returns-in-Some-clause-step g c = λ choose start acks cell right h.
     let long = length-map r.votes.items vote_of in
     let at = there_is (IsPick ballot) votes c.in-Some.at (omega (arith, c.in-Some.ensures.within)) pick in
     follows_as m start f me _ c.open_with_vote.result _ _ (opens_picked choose f me x y sent ballot at.0 c.max-done.result right each at.2 done)
-    (c.open_with_vote.ensures.step choose start acks cell at.0 right h at.1)
+    (c.open_with_vote.ensures.step at.0 at.1 choose start acks cell right h)
 
 pub returns-in-None-clause-step : goal.returns-in-None-clause-step
 returns-in-None-clause-step g c = λ choose start acks cell right h.

@@ -10,7 +10,7 @@ use Rattle.vr_change.proofs.Sites.{no_votes_one_each}
 use Rattle.vr_change.proofs.opening.open_with_vote.Goals as goal
 
 pub returns-then-not-keeps_executed-clause-step : goal.returns-then-not-keeps_executed-clause-step
-returns-then-not-keeps_executed-clause-step g c = λ choose start acks cell vote right h e.
+returns-then-not-keeps_executed-clause-step g c = λ vote e choose start acks cell right h.
     let m = g.M.Machine in
     let f = c.args.config.f in
     let me = c.args.config.me in
@@ -28,7 +28,7 @@ returns-then-not-keeps_executed-clause-step g c = λ choose start acks cell vote
     (drops_meets m start f me r c.dropped.result acks cell _ c.dropped.ensures h)
 
 pub returns-in_err-take_rows-clause-step : goal.returns-in_err-take_rows-clause-step
-returns-in_err-take_rows-clause-step g c = λ choose start acks cell vote right h e.
+returns-in_err-take_rows-clause-step g c = λ vote e choose start acks cell right h.
     let m = g.M.Machine in
     let f = c.args.config.f in
     let me = c.args.config.me in
@@ -79,7 +79,7 @@ returns-clause-sound g c =
     })) c.open.ensures.sound
 
 pub returns-clause-step : goal.returns-clause-step
-returns-clause-step g c = λ choose start acks cell vote right h e.
+returns-clause-step g c = λ vote e choose start acks cell right h.
     let m = g.M.Machine in
     let f = c.args.config.f in
     let me = c.args.config.me in

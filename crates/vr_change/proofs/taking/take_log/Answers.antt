@@ -5,7 +5,7 @@ use Rattle.vr_log.specs.Kept.{IsKept}
 use Rattle.vr_log.specs.Running.{IsRunning, site_of}
 use Rattle.vr_log.proofs.OutcomeLemmas.{meets_as, follows_as, err_follows, drops_meets, does_meets, does_follows, on_ok}
 use Rattle.vr_change.proofs.Cases.{takes_log-stale, takes_log-is, takes_log-rest, takes_log-all}
-use Rattle.vr_change.proofs.Sites.{GaveUp, gave_up_sound, normal_site}
+use Rattle.vr_change.proofs.Sites.{gave_up_sound, normal_site}
 use Rattle.vr_change.proofs.taking.take_log.Goals as goal
 
 pub returns-then-not-keeps_executed-clause-step : goal.returns-then-not-keeps_executed-clause-step
@@ -61,7 +61,7 @@ returns-then-running-len-clause-step g c = λ choose start acks cell right h.
     let now = c.be_normal.ensures in
     let keeps = c.keeps_executed.ensures.keeps c.if-not-keeps_executed.false in
     let begins : begins_with_executed choose.same x log ≡ true = sym (c.keeps_executed.ensures.same f choose right) ∙ c.if-not-keeps_executed.false in
-    let gave : GaveUp n = record { acked = now.acked; starts = now.starts; voted = now.voted; votes = now.votes } in
+    let gave = now.nothing in
     let rows : n.kept.log ≡ log = ap (λ k. k.log) now.kept ∙ ran.log ∙ took.log in
     let count : length n.kept.log ≡ length log = ap (λ l. length l) rows in
     let done : n.kept.done ≡ max r.kept.done (min c.args.done (length log)) =
@@ -90,7 +90,7 @@ returns-else-running-len-clause-step g c = λ choose start acks cell right h.
     let now = c.be_normal.ensures in
     let keeps = c.keeps_executed.ensures.keeps c.if-not-keeps_executed.false in
     let begins : begins_with_executed choose.same x log ≡ true = sym (c.keeps_executed.ensures.same f choose right) ∙ c.if-not-keeps_executed.false in
-    let gave : GaveUp n = record { acked = now.acked; starts = now.starts; voted = now.voted; votes = now.votes } in
+    let gave = now.nothing in
     let rows : n.kept.log ≡ log = ap (λ k. k.log) now.kept ∙ ran.log ∙ took.log in
     let count : length n.kept.log ≡ length log = ap (λ l. length l) rows in
     let done : n.kept.done ≡ max r.kept.done (min c.args.done (length log)) =
@@ -113,7 +113,7 @@ returns-then-running-len-clause-sound g c =
     let n = c.be_normal.new.running in
     let now = c.be_normal.ensures in
     let keeps = c.keeps_executed.ensures.keeps c.if-not-keeps_executed.false in
-    let gave : GaveUp n = record { acked = now.acked; starts = now.starts; voted = now.voted; votes = now.votes } in
+    let gave = now.nothing in
     let kept : (start : _) → IsKept m start r.kept → IsKept m start n.kept =
     λ start was. subst (IsKept m start) (sym now.kept) (c.in_ok-execute.ensures.kept start (c.in_ok-take_rows.ensures.kept start keeps was)) in
     on_ok c.acknowledge_log.result _
@@ -127,7 +127,7 @@ returns-else-running-len-clause-sound g c =
     let n = c.be_normal.new.running in
     let now = c.be_normal.ensures in
     let keeps = c.keeps_executed.ensures.keeps c.if-not-keeps_executed.false in
-    let gave : GaveUp n = record { acked = now.acked; starts = now.starts; voted = now.voted; votes = now.votes } in
+    let gave = now.nothing in
     let kept : (start : _) → IsKept m start r.kept → IsKept m start n.kept =
     λ start was. subst (IsKept m start) (sym now.kept) (c.in_ok-execute.ensures.kept start (c.in_ok-take_rows.ensures.kept start keeps was)) in
     (λ start s. (gave_up_sound m start f r n gave (ap is_running now.status) now.sites (ap length now.known) (kept start s.kept) s).sound)

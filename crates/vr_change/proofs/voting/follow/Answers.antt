@@ -9,7 +9,7 @@ use Rattle.vr_types.specs.Step.{does, learns}
 use Rattle.vr_log.specs.Running.{site_of, start_of, vote_of}
 use Rattle.vr_log.proofs.OutcomeLemmas.{meets_as, err_follows, does_meets}
 use Rattle.vr_change.specs.Ballot.{with_starter}
-use Rattle.vr_change.proofs.Sites.{kept_sound, kept_running, collected_site}
+use Rattle.vr_change.proofs.Sites.{CollectsMore, kept_sound, kept_running, collected_site}
 use Rattle.vr_change.proofs.Votes.{started, follow-silent, follow-votes, follow-handled}
 use Rattle.vr_change.proofs.voting.follow.Goals as goal
 
@@ -49,11 +49,12 @@ returns-in_err-push-clause-step g c = λ choose start acks cell h.
 pub returns-then-not-votes-clause-sound : goal.returns-then-not-votes-clause-sound
 returns-then-not-votes-clause-sound g c = λ start s.
     let r = c.learn.new.running in
-    let t = c.learn.ensures.sound start c.args.config.f s in
+    let t = c.learn.ensures.sound c.args.config.f start s in
     let first = c.in_ok-keep_start.ensures in
     let k = c.keep_start.new.running in
-    kept_sound g.M.Machine start c.args.config.f r k first.status first.kept first.acked first.known
-    (subst (λ v. OneEach (λ (vote : Vote _). vote.from) (map vote_of v.items)) (sym first.votes) t.votes) t
+    let more : CollectsMore r k = λ i. record (first.stays i) { starts = k.starts; voted = k.voted; votes = k.votes } in
+    kept_sound g.M.Machine start c.args.config.f r k more
+    (subst (λ v. OneEach (λ (vote : Vote _). vote.from) (map vote_of v.items)) (λ i. (sym first.stays i).votes) t.votes) t
 
 pub returns-then-not-votes-clause-step : goal.returns-then-not-votes-clause-step
 returns-then-not-votes-clause-step g c = λ choose start acks cell h.
@@ -70,23 +71,25 @@ returns-then-not-votes-clause-step g c = λ choose start acks cell h.
     let p : (primary f x.view == me) ≡ false = ne_eqb _ _ c.requires.other in
     let first = c.in_ok-keep_start.ensures in
     let k = c.keep_start.new.running in
+    let more : CollectsMore r k = λ i. record (first.stays i) { starts = k.starts; voted = k.voted; votes = k.votes } in
     meets_as m start f me k _ _ _
     (follow-silent choose f me x y st sent (sym (c.is_due-votes.ensures st acks cell refl) ∙ c.if-not-votes.true) p ∙ ap (λ z. does (started st z) sent) learnt)
     (does_meets m start f me k c.handled.result _ sent c.handled.ensures
-    (kept_running m start f r k acks first.status first.kept first.acked first.known
-    (subst (λ v. OneEach (λ (vote : Vote _). vote.from) (map vote_of v.items)) (sym first.votes) t.sound.votes) t)
+    (kept_running m start f r k acks more
+    (subst (λ v. OneEach (λ (vote : Vote _). vote.from) (map vote_of v.items)) (λ i. (sym first.stays i).votes) t.sound.votes) t)
     (collected_site r k acks cell (with_starter (map start_of r.starts.items) st) r.voted
-    (map vote_of r.votes.items) first.status first.view first.last_normal first.kept first.known first.starts first.voted
-    (ap (λ v. map vote_of v.items) first.votes)))
+    (map vote_of r.votes.items) more first.starts (ap (λ v. v.voted) first.stays) (ap (λ v. map vote_of v.votes.items) first.stays)))
 
 pub returns-clause-sound : goal.returns-clause-sound
 returns-clause-sound g c = λ start s.
     let r = c.learn.new.running in
-    let t = c.learn.ensures.sound start c.args.config.f s in
+    let t = c.learn.ensures.sound c.args.config.f start s in
     let first = c.in_ok-keep_start.ensures in
     let k = c.keep_start.new.running in
-    kept_sound g.M.Machine start c.args.config.f r (record k { voted = true }) first.status first.kept first.acked first.known
-    (subst (λ v. OneEach (λ (vote : Vote _). vote.from) (map vote_of v.items)) (sym first.votes) t.votes) t
+    let n = record k { voted = true } in
+    let more : CollectsMore r n = λ i. record (first.stays i) { starts = k.starts; voted = true; votes = k.votes } in
+    kept_sound g.M.Machine start c.args.config.f r n more
+    (subst (λ v. OneEach (λ (vote : Vote _). vote.from) (map vote_of v.items)) (λ i. (sym first.stays i).votes) t.votes) t
 
 pub returns-clause-step : goal.returns-clause-step
 returns-clause-step g c = λ choose start acks cell h.
@@ -105,14 +108,15 @@ returns-clause-step g c = λ choose start acks cell h.
     let first = c.in_ok-keep_start.ensures in
     let k = c.keep_start.new.running in
     let n = record k { voted = true } in
+    let more : CollectsMore r n = λ i. record (first.stays i) { starts = k.starts; voted = true; votes = k.votes } in
     let same : sends_vote f me (site_of n acks cell) ≡ sends_vote f me z =
-    λ i. mail me (primary f (first.view i))
+    λ i. mail me (primary f (first.stays i).view)
     (DoViewChange (record {
-      view = first.view i;
-      last_normal = first.last_normal i;
-      done = (first.kept i).done;
-      rows = (first.kept i).log;
-      known = first.known i;
+      view = (first.stays i).view;
+      last_normal = (first.stays i).last_normal;
+      done = (first.stays i).kept.done;
+      rows = (first.stays i).kept.log;
+      known = (first.stays i).known;
     })) ∷ [] in
     let mails = c.in_ok-push.ensures.items ∙ ap (λ l. sent ++ l) (c.in_ok-own_vote.ensures acks cell ∙ same) in
     meets_as m start f me n _ _ _
@@ -120,8 +124,7 @@ returns-clause-step g c = λ choose start acks cell h.
     ∙ ap (λ z. does (with_voted (started st z)) (sent ++ sends_vote f me z)) learnt)
     (does_meets m start f me n c.handled-2.result _ (sent ++ sends_vote f me z)
     (record { mails = c.handled-2.ensures.mails ∙ mails; dropped = c.handled-2.ensures.dropped })
-    (kept_running m start f r n acks first.status first.kept first.acked first.known
-    (subst (λ v. OneEach (λ (vote : Vote _). vote.from) (map vote_of v.items)) (sym first.votes) t.sound.votes) t)
+    (kept_running m start f r n acks more
+    (subst (λ v. OneEach (λ (vote : Vote _). vote.from) (map vote_of v.items)) (λ i. (sym first.stays i).votes) t.sound.votes) t)
     (collected_site r n acks cell (with_starter (map start_of r.starts.items) st) true
-    (map vote_of r.votes.items) first.status first.view first.last_normal first.kept first.known first.starts refl
-    (ap (λ v. map vote_of v.items) first.votes)))
+    (map vote_of r.votes.items) more first.starts refl (ap (λ v. map vote_of v.votes.items) first.stays)))

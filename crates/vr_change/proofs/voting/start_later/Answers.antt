@@ -8,7 +8,7 @@ use Rattle.vr_log.specs.Kept.{IsKept}
 use Rattle.vr_log.specs.Running.{site_of}
 use Rattle.vr_change.specs.Parts.{IsPart}
 use Rattle.vr_change.proofs.Left.{greater_length}
-use Rattle.vr_change.proofs.Sites.{GaveUp, gave_up_sound, changed_site}
+use Rattle.vr_change.proofs.Sites.{gave_up_sound, changed_site}
 use Rattle.vr_change.proofs.Votes.{later_same, later_starts}
 use Rattle.vr_change.proofs.voting.start_later.Goals as goal
 
@@ -31,8 +31,8 @@ returns-clause-sound g c = λ start s.
     let k = c.learn.new.running in
     let n = c.start_change.new.running in
     let now = c.start_change.ensures in
-    let t = c.learn.ensures.sound start c.args.config.f s in
-    let gave : GaveUp n = record { acked = now.acked; starts = now.starts; voted = now.voted; votes = now.votes } in
+    let t = c.learn.ensures.sound c.args.config.f start s in
+    let gave = now.nothing in
     let kept : IsKept m start n.kept = subst (IsKept m start) (sym now.kept) t.kept in
     (gave_up_sound m start c.args.config.f k n gave (ap is_running now.status) now.sites (ap length now.known) kept t).sound
 
@@ -47,7 +47,7 @@ returns-clause-part g c = if_ok c.tell_change.result _ _ (λ sent told start ack
     let n = c.start_change.new.running in
     let now = c.start_change.ensures in
     let t = c.learn.ensures.running start f acks h in
-    let gave : GaveUp n = record { acked = now.acked; starts = now.starts; voted = now.voted; votes = now.votes } in
+    let gave = now.nothing in
     let kept : IsKept m start n.kept = subst (IsKept m start) (sym now.kept) t.sound.kept in
     let late : x.view ≤ w = c.requires.later in
     let other : w ≢ x.view = c.if-view-running.false in

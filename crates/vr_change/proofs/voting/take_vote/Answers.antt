@@ -11,11 +11,11 @@ use Rattle.vr_change.proofs.Votes.{voted, take-is, take-not, opens-col, opens-no
 use Rattle.vr_change.proofs.voting.take_vote.Goals as goal
 
 pub returns-then-not-votes_now-clause-sound : goal.returns-then-not-votes_now-clause-sound
-returns-then-not-votes_now-clause-sound g c = on_ok_then c.keep_vote.result _ _ (λ h start s. h start c.args.config.f s) c.keep_vote.ensures.sound
+returns-then-not-votes_now-clause-sound g c = on_ok_then c.keep_vote.result _ _ (λ h. h c.args.config.f) c.keep_vote.ensures.sound
 
 pub returns-then-not-enough_voted-clause-sound : goal.returns-then-not-enough_voted-clause-sound
 returns-then-not-enough_voted-clause-sound g c =
-    on_ok_then c.keep_vote-then-not-enough_voted.result _ _ (λ h start s. h start c.args.config.f s) c.keep_vote-then-not-enough_voted.ensures.sound
+    on_ok_then c.keep_vote-then-not-enough_voted.result _ _ (λ h. h c.args.config.f) c.keep_vote-then-not-enough_voted.ensures.sound
 
 pub returns-then-not-votes_now-clause-step : goal.returns-then-not-votes_now-clause-step
 returns-then-not-votes_now-clause-step g c = λ choose start acks cell right h.
@@ -32,7 +32,7 @@ returns-then-not-votes_now-clause-step g c = λ choose start acks cell right h.
     let z = voted vote y in
     let own : has_vote z.collected.votes me ≡ false = has_ballot vs vote me ∙ sym c.votes_now.ensures ∙ c.if-not-votes_now.true in
     follows_as m start f me _ c.keep_vote.result _ _ (take-not choose f me x y vote sent (not_open-own f me z own))
-    (c.keep_vote.ensures.step start f me acks cell h)
+    (c.keep_vote.ensures.step c.args.config start acks cell h)
 
 pub returns-then-not-enough_voted-clause-step : goal.returns-then-not-enough_voted-clause-step
 returns-then-not-enough_voted-clause-step g c = λ choose start acks cell right h.
@@ -50,7 +50,7 @@ returns-then-not-enough_voted-clause-step g c = λ choose start acks cell right 
     let count : nat_lt f (count_by (has_vote z.collected.votes) (sites f)) ≡ false =
     ap (nat_lt f) (count_ballot f vs vote) ∙ sym c.enough_voted.ensures ∙ c.if-not-enough_voted.true in
     follows_as m start f me _ c.keep_vote-then-not-enough_voted.result _ _ (take-not choose f me x y vote sent (not_open-few f me z count))
-    (c.keep_vote-then-not-enough_voted.ensures.step start f me acks cell h)
+    (c.keep_vote-then-not-enough_voted.ensures.step c.args.config start acks cell h)
 
 pub returns-then-has_vote_left-clause-step : goal.returns-then-has_vote_left-clause-step
 returns-then-has_vote_left-clause-step g c = λ choose start acks cell right h.
