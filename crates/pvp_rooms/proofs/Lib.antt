@@ -1,7 +1,5 @@
 -- histories and rooms that took one event more
 pub mod Growing
--- what is dropped sends nothing
-pub mod Silent
 -- a replica takes an event
 pub mod SiteSteps
 -- what a gate or an outbox hears

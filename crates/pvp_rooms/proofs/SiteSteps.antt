@@ -23,7 +23,7 @@ use Rattle.vr_site.specs.Life.{lost}
 use Rattle.vr_site.specs.Replica.{Shown, KeepsPlace, site_shown, Does, Falls, Handles}
 use Rattle.vr_site.proofs.Shows.{none_summed}
 use Rattle.headline.proofs.Basics.{none-some}
-use Rattle.pvp_rooms.proofs.Silent.{IsSilent, dropped-silent, crash-silent, silent-sends}
+use Rattle.pvp_world.proofs.Silent.{IsSilent, dropped-silent, crash-silent, silent-sends}
 use Rattle.pvp_rooms.specs.declared.site.CameOf.TheVariants.{Did, Fell}
 use Rattle.pvp_rooms.specs.Sites.{SiteState, step_in, Comes, after, IsSiteOf, Opens, Shows, IsHandled, HasCause}
 

@@ -3,7 +3,7 @@ mod Choosing
 -- the world before anything was done
 mod Openings
 -- what is dropped sends nothing
-mod Silent
+pub mod Silent
 -- what a replica's handling of an event is, of the site that it shows
 mod Sites
 -- what a node or a client sends at once
