@@ -7,6 +7,7 @@ pub mod ScriptNumbers
 pub mod ScriptReading
 pub mod ScriptRows
 pub mod ScriptRowsOfActors
+pub mod ScriptMeaning
 pub mod ScriptSplitting
 pub mod ScriptValues
 pub mod BookTextLemmas

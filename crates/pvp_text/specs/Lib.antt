@@ -5,4 +5,5 @@ pub mod ScriptWords
 pub mod ScriptTable
 pub mod ScriptFields
 pub mod Script
+pub mod ScriptSaid
 pub mod BookText
