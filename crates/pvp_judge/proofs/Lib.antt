@@ -27,3 +27,5 @@ mod Posted
 -- whether an event comes out at an actor as it is recorded
 mod Taking
 mod ByKind
+-- actors over cells of any kind, and how they are judged
+mod InMemory

@@ -5,3 +5,4 @@ pub mod Judged
 pub mod Coming
 pub mod Passed
 pub mod Banked
+pub mod Cells

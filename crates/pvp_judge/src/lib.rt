@@ -2,6 +2,7 @@
 #![tactic(auto)]
 
 mod asking;
+pub mod cells;
 mod coming;
 mod fitting;
 pub mod judgement;
@@ -12,5 +13,6 @@ mod pass;
 mod reading;
 mod setups;
 
+pub use cells::in_memory;
 pub use fitting::actor_count;
 pub use judgement::{Judgement, NotTheBank, judge, judge_run, judgement_of};

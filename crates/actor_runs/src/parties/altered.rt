@@ -1,15 +1,17 @@
 //! What one site left, altered in one place after the run, and where the judgement of its bank finds it.
 use self::Other::{Beaten, Crashed};
 use self::Swap::{Ends, Events, Seats};
-use crate::parties::common::{Place, add, after, alone, are_judged, at_rest, close_after, let_go};
+use crate::parties::common::{
+    Filed, Fresh, Place, add, after, alone, are_judged, at_rest, close_after, let_go,
+};
 use pvp_audit::{Verdict, Why};
-use pvp_parties::{Party, PartyEvent};
+use pvp_parties::{PartyEvent, PartyOf};
 use pvp_rooms::{Actor, Closed};
 use std::mem;
 use std::process::Abort;
 use std::sync::Wait;
 use std::test::Fail;
-use vr_types::EventOf;
+use vr_types::{EventOf, MemCell};
 
 /// What of two runs changes places.
 #[derive(Clone, Copy)]
@@ -23,16 +25,20 @@ enum Swap {
 }
 
 /// What a site with two seats left that took a beat from each of these seats.
-fn beaten<R: Wait + AllocGlobal>(rt: &R, me: u16, seats: &[usize]) -> Result<Closed<Party>, Fail> {
-    let mut place = Place::site_with_seats(rt.alloc(), me, 2)?;
+fn beaten<R: Wait + AllocGlobal, C: Fresh>(
+    rt: &R,
+    me: u16,
+    seats: &[usize],
+) -> Result<Closed<PartyOf<C>>, Fail> {
+    let mut place = Place::<PartyOf<C>>::site_with_seats(rt.alloc(), me, 2)?;
     let came = beats(rt, &mut place, seats);
     close_after(came, place)
 }
 
 /// A site takes a beat from each of these seats.
-fn beats<R: Wait + AllocGlobal>(
+fn beats<R: Wait + AllocGlobal, C: Fresh>(
     rt: &R,
-    place: &mut Place<Party>,
+    place: &mut Place<PartyOf<C>>,
     seats: &[usize],
 ) -> Result<(), Fail> {
     for seat in seats {
@@ -51,16 +57,16 @@ enum Other {
 }
 
 /// What the site of another run left.
-fn left<R: Wait + AllocGlobal>(rt: &R, other: Other) -> Result<Closed<Party>, Fail> {
+fn left<R: Wait + AllocGlobal, C: Fresh>(rt: &R, other: Other) -> Result<Closed<PartyOf<C>>, Fail> {
     match other {
         Beaten(me, seats) => beaten(rt, me, seats),
         Crashed => crashed(rt),
     }
 }
 
-fn put_beside<R: Wait + AllocGlobal>(
+fn put_beside<R: Wait + AllocGlobal, C: Fresh>(
     rt: &R,
-    both: &mut Vec<Closed<Party>>,
+    both: &mut Vec<Closed<PartyOf<C>>>,
     other: Other,
 ) -> Result<(), Fail> {
     add(both, beaten(rt, 0, &[0, 1]))?;
@@ -68,7 +74,10 @@ fn put_beside<R: Wait + AllocGlobal>(
 }
 
 /// What the first site left after a beat from each of its seats, and what another run of a site left.
-fn beside<R: Wait + AllocGlobal>(rt: &R, other: Other) -> Result<Vec<Closed<Party>>, Fail> {
+fn beside<R: Wait + AllocGlobal, C: Fresh>(
+    rt: &R,
+    other: Other,
+) -> Result<Vec<Closed<PartyOf<C>>>, Fail> {
     let mut both = Vec::new(rt.alloc());
     let came = put_beside(rt, &mut both, other);
     after(came, both)
@@ -122,7 +131,8 @@ fn site_fails<R: Abort + Wait + AllocGlobal>(
         event,
         why,
     };
-    are_judged(rt, swapped(beside(rt, other), swaps), told)
+    are_judged(rt, swapped(beside::<R, MemCell>(rt, other), swaps), told)?;
+    are_judged(rt, swapped(beside::<R, Filed>(rt, other), swaps), told)
 }
 
 /// The receipt of the second beat is that of another site's, which sent nothing.
@@ -144,8 +154,8 @@ fn missing_envelopes_are_told(rt: HostRuntime) -> Result<(), Fail> {
 }
 
 /// What the first site left that crashed.
-fn crashed<R: Wait + AllocGlobal>(rt: &R) -> Result<Closed<Party>, Fail> {
-    let mut place = Place::site(rt.alloc(), 0)?;
+fn crashed<R: Wait + AllocGlobal, C: Fresh>(rt: &R) -> Result<Closed<PartyOf<C>>, Fail> {
+    let mut place = Place::<PartyOf<C>>::site(rt.alloc(), 0)?;
     let came = place.take(rt, PartyEvent::OfSite(EventOf::Crash));
     close_after(came, place)
 }
@@ -157,16 +167,16 @@ fn another_end_is_told(rt: HostRuntime) -> Result<(), Fail> {
 }
 
 /// What a backup left that took a beat of a first site, sent at clock 5.
-fn reached<R: Wait + AllocGlobal>(rt: &R) -> Result<Closed<Party>, Fail> {
-    let mut backup = Place::site(rt.alloc(), 1)?;
-    let came = reach(rt, Place::site(rt.alloc(), 0), &mut backup);
+fn reached<R: Wait + AllocGlobal, C: Fresh>(rt: &R) -> Result<Closed<PartyOf<C>>, Fail> {
+    let mut backup = Place::<PartyOf<C>>::site(rt.alloc(), 1)?;
+    let came = reach(rt, Place::<PartyOf<C>>::site(rt.alloc(), 0), &mut backup);
     close_after(came, backup)
 }
 
-fn reach<R: Wait + AllocGlobal>(
+fn reach<R: Wait + AllocGlobal, C: Fresh>(
     rt: &R,
-    primary: Result<Place<Party>, Fail>,
-    backup: &mut Place<Party>,
+    primary: Result<Place<PartyOf<C>>, Fail>,
+    backup: &mut Place<PartyOf<C>>,
 ) -> Result<(), Fail> {
     let beat = primary?.post(rt, PartyEvent::OfSite(EventOf::Beat), None);
     let_go(backup.deliver(rt, 200, at_clock_5(beat)))
@@ -178,13 +188,16 @@ fn at_clock_5<O: Drop>(came: Result<(u64, O), Fail>) -> Result<(u64, O), Fail> {
     Ok((5, outcome))
 }
 
-fn put_strangers<R: Wait + AllocGlobal>(rt: &R, both: &mut Vec<Closed<Party>>) -> Result<(), Fail> {
-    add(both, at_rest(Place::site(rt.alloc(), 0)))?;
+fn put_strangers<R: Wait + AllocGlobal, C: Fresh>(
+    rt: &R,
+    both: &mut Vec<Closed<PartyOf<C>>>,
+) -> Result<(), Fail> {
+    add(both, at_rest(Place::<PartyOf<C>>::site(rt.alloc(), 0)))?;
     add(both, reached(rt))
 }
 
 /// What a first site left to which nothing happened, and a backup that took a beat of another first site.
-fn strangers<R: Wait + AllocGlobal>(rt: &R) -> Result<Vec<Closed<Party>>, Fail> {
+fn strangers<R: Wait + AllocGlobal, C: Fresh>(rt: &R) -> Result<Vec<Closed<PartyOf<C>>>, Fail> {
     let mut both = Vec::new(rt.alloc());
     let came = put_strangers(rt, &mut both);
     after(came, both)
@@ -198,7 +211,8 @@ fn a_stamp_of_no_event_is_told(rt: HostRuntime) -> Result<(), Fail> {
         event: 1,
         why: Why::Stamped,
     };
-    are_judged(&rt, strangers(&rt), told)
+    are_judged(&rt, strangers::<_, MemCell>(&rt), told)?;
+    are_judged(&rt, strangers::<_, Filed>(&rt), told)
 }
 
 /// What an actor left, but for what stands behind the first event of its history.
@@ -216,6 +230,8 @@ fn a_left_over_receipt_is_told(rt: HostRuntime) -> Result<(), Fail> {
         event: 0,
         why: Why::Receipts,
     };
-    let left = shortened(beaten(&rt, 0, &[0, 1]));
+    let left = shortened(beaten::<_, MemCell>(&rt, 0, &[0, 1]));
+    are_judged(&rt, alone(rt.alloc(), left), told)?;
+    let left = shortened(beaten::<_, Filed>(&rt, 0, &[0, 1]));
     are_judged(&rt, alone(rt.alloc(), left), told)
 }

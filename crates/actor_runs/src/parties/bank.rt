@@ -1,11 +1,11 @@
 //! A request that goes through two of three sites, audited; and events that stray.
 use crate::parties::common::{
-    Place, add, after, are_judged, close_after, first_letter, let_go, without_last,
+    Filed, Fresh, Place, add, after, are_judged, close_after, first_letter, let_go, without_last,
 };
 use headline::ClientEvent;
 use pvp_audit::{Verdict, Why};
 use pvp_book::Book;
-use pvp_parties::{Party, PartyEvent, PartyOutcome};
+use pvp_parties::{Party, PartyEvent, PartyOf, PartyOutcome};
 use pvp_peers::Served;
 use pvp_rooms::{Actor, Closed};
 use pvp_types::{Cmd, Reply};
@@ -15,7 +15,7 @@ use std::alloc::Global;
 use std::process::Abort;
 use std::sync::Wait;
 use std::test::Fail;
-use vr_types::{Envelope, EventOf, MsgOf};
+use vr_types::{Envelope, EventOf, MemCell, MsgOf};
 
 /// What an event of an actor leads to: the clock at which it was taken, and how it came out.
 type CameTo<A> = Result<(u64, <A as Actor>::Outcome), Fail>;
@@ -29,7 +29,7 @@ struct Three<A: Actor> {
 }
 
 /// The three of a new bank.
-fn open(alloc: Global) -> Result<Three<Party>, Fail> {
+fn open<C: Fresh>(alloc: Global) -> Result<Three<PartyOf<C>>, Fail> {
     Ok(Three {
         operator: Place::client(alloc)?,
         primary: Place::site(alloc, 0)?,
@@ -127,16 +127,18 @@ fn told(letter: &Envelope<Book>) -> Option<(u16, Reply)> {
 }
 
 /// The operator is told of a run that settled nothing.
-fn is_answered<R: Abort + Wait + AllocGlobal>(
+fn is_answered<R: Abort + Wait + AllocGlobal, C: Fresh>(
     rt: &R,
-    three: &mut Three<Party>,
+    three: &mut Three<PartyOf<C>>,
 ) -> Result<(), Fail> {
     assert_eq!(rt; three.answer(rt, asks())?, Some((0, Reply::Settled(0))));
     Ok(())
 }
 
 /// What the three leave of whom the operator was answered.
-fn answered<R: Abort + Wait + AllocGlobal>(rt: &R) -> Result<Vec<Closed<Party>>, Fail> {
+fn answered<R: Abort + Wait + AllocGlobal, C: Fresh>(
+    rt: &R,
+) -> Result<Vec<Closed<PartyOf<C>>>, Fail> {
     let mut three = open(rt.alloc())?;
     let came = is_answered(rt, &mut three);
     left_after(rt.alloc(), came, three)
@@ -144,7 +146,8 @@ fn answered<R: Abort + Wait + AllocGlobal>(rt: &R) -> Result<Vec<Closed<Party>>,
 
 #[test]
 fn a_run_is_audited(rt: HostRuntime) -> Result<(), Fail> {
-    are_judged(&rt, answered(&rt), Verdict::Yes)
+    are_judged(&rt, answered::<_, MemCell>(&rt), Verdict::Yes)?;
+    are_judged(&rt, answered::<_, Filed>(&rt), Verdict::Yes)
 }
 
 #[test]
@@ -154,17 +157,21 @@ fn a_missing_sender_is_told(rt: HostRuntime) -> Result<(), Fail> {
         event: 2,
         why: Why::Stamped,
     };
-    are_judged(&rt, without_last(answered(&rt)), told)
+    are_judged(&rt, without_last(answered::<_, MemCell>(&rt)), told)?;
+    are_judged(&rt, without_last(answered::<_, Filed>(&rt)), told)
 }
 
 /// The backup takes a beat of the primary under a stamp with a place that no envelope has.
-fn mistakes<R: Wait + AllocGlobal>(rt: &R, three: &mut Three<Party>) -> Result<(), Fail> {
+fn mistakes<R: Wait + AllocGlobal, C: Fresh>(
+    rt: &R,
+    three: &mut Three<PartyOf<C>>,
+) -> Result<(), Fail> {
     let beat = three.primary.post(rt, beat(), None);
     let_go(three.backup.deliver_as(rt, 200, beat, 9))
 }
 
 /// What the three leave of whom the backup did so.
-fn mistaken<R: Wait + AllocGlobal>(rt: &R) -> Result<Vec<Closed<Party>>, Fail> {
+fn mistaken<R: Wait + AllocGlobal, C: Fresh>(rt: &R) -> Result<Vec<Closed<PartyOf<C>>>, Fail> {
     let mut three = open(rt.alloc())?;
     let came = mistakes(rt, &mut three);
     left_after(rt.alloc(), came, three)
@@ -178,7 +185,8 @@ fn a_stamp_that_names_nothing_is_told(rt: HostRuntime) -> Result<(), Fail> {
         event: 1,
         why: Why::Stamped,
     };
-    are_judged(&rt, mistaken(&rt), told)
+    are_judged(&rt, mistaken::<_, MemCell>(&rt), told)?;
+    are_judged(&rt, mistaken::<_, Filed>(&rt), told)
 }
 
 /// It came out as a stray.
@@ -319,7 +327,7 @@ fn backup_takes_each<R: Wait + AllocGlobal>(rt: &R) -> Result<(), Fail> {
 
 /// A new operator takes a beat.
 fn operator_takes_each<R: Wait + AllocGlobal>(rt: &R) -> Result<(), Fail> {
-    Place::client(rt.alloc())?.take(rt, PartyEvent::OfClient(ClientEvent::Beats))
+    Place::<Party>::client(rt.alloc())?.take(rt, PartyEvent::OfClient(ClientEvent::Beats))
 }
 
 /// A beat, a timer, a crash and a restart at a site, and a beat of a client. Their envelopes and requests go in the runs above.

@@ -1,7 +1,7 @@
 //! Cells that are closed with a wrong list of seats.
 use self::Move::{AsideBack, OwnAside, StrangeIn, StrangeOut};
 use crate::parties::common::{Place, close};
-use pvp_parties::PartyEvent;
+use pvp_parties::{Party, PartyEvent};
 use pvp_rooms::{Actor, ActorCell, CloseFault, Closed, Seat};
 use std::mem;
 use std::process::Abort;
@@ -145,8 +145,8 @@ fn are_tried<A: Actor, R: Abort + AllocGlobal>(
 
 /// The first site with its two seats, after a beat, and three seats of the second.
 fn sites_are_tried<R: Abort + Wait + AllocGlobal>(rt: &R) -> Result<(), Fail> {
-    let (_, strange) = Place::site_with_seats(rt.alloc(), 1, 3)?.apart();
-    let mut site = Place::site_with_seats(rt.alloc(), 0, 2)?;
+    let (_, strange) = Place::<Party>::site_with_seats(rt.alloc(), 1, 3)?.apart();
+    let mut site = Place::<Party>::site_with_seats(rt.alloc(), 0, 2)?;
     let came = site.take(rt, PartyEvent::OfSite(EventOf::Beat));
     are_tried(rt, came, site, strange)
 }

@@ -2,8 +2,9 @@
 use fixtures::setup::three_currencies;
 use pvp_audit::Verdict;
 use pvp_book::Book;
-use pvp_judge::{Judgement, judge};
-use pvp_parties::{Party, client_cell, node_cell, site_cell};
+use pvp_cell::{FileCell, MemStore};
+use pvp_judge::{Judgement, in_memory, judge};
+use pvp_parties::{Party, PartyOf, client_cell, node_cell, site_cell};
 use pvp_peers::Served;
 use pvp_rooms::{Actor, ActorCell, Answer, Closed, Gate, Input, Room, Seat};
 use pvp_wire::Stamp;
@@ -12,7 +13,7 @@ use std::mem;
 use std::process::Abort;
 use std::sync::Wait;
 use std::test::Fail;
-use vr_types::{Envelope, MemCell};
+use vr_types::{BootCell, Envelope, MemCell};
 
 /// An actor, by its number among those of its kind.
 #[derive(Clone, Copy)]
@@ -54,7 +55,31 @@ pub struct Place<A: Actor> {
     seats: Vec<Seat<A::Event, A::Outcome>>,
 }
 
-impl Place<Party> {
+/// A boot cell that the tests can make anew.
+pub trait Fresh: BootCell + Drop {
+    /// One that was never saved.
+    fn fresh(alloc: Global) -> Result<Self, Fail>;
+}
+
+impl Fresh for MemCell {
+    fn fresh(_alloc: Global) -> Result<Self, Fail> {
+        Ok(MemCell::new())
+    }
+}
+
+/// A boot cell that is a file, on a disk in memory.
+pub type Filed = FileCell<MemStore>;
+
+impl Fresh for Filed {
+    fn fresh(alloc: Global) -> Result<Self, Fail> {
+        match FileCell::create(alloc, MemStore::new()) {
+            Ok(cell) => Ok(cell),
+            Err(_) => Err(Fail::new("a cell")),
+        }
+    }
+}
+
+impl<C: Fresh> Place<PartyOf<C>> {
     /// A new actor with one seat.
     fn of(alloc: Global, actor: Who) -> Result<Self, Fail> {
         match actor {
@@ -95,10 +120,10 @@ impl Place<Party> {
     }
 
     pub fn site_with_seats(alloc: Global, me: u16, seats: u16) -> Result<Self, Fail> {
-        Self::site_over(alloc, me, MemCell::new(), seats)
+        Self::site_over(alloc, me, C::fresh(alloc)?, seats)
     }
 
-    pub fn site_over(alloc: Global, me: u16, held: MemCell, seats: u16) -> Result<Self, Fail> {
+    pub fn site_over(alloc: Global, me: u16, held: C, seats: u16) -> Result<Self, Fail> {
         let setup = three_currencies(alloc)?;
         if me > 2 * setup.faults() {
             return Err(Fail::new("no such site"));
@@ -231,19 +256,19 @@ pub fn first_letter<A: Served>(
 }
 
 /// What a whole bank leaves in which nothing happens but what these actors left, each in its place.
-pub fn bank_around(
+pub fn bank_around<C: Fresh>(
     alloc: Global,
-    some: Result<Vec<Closed<Party>>, Fail>,
-) -> Result<Vec<Closed<Party>>, Fail> {
+    some: Result<Vec<Closed<PartyOf<C>>>, Fail>,
+) -> Result<Vec<Closed<PartyOf<C>>>, Fail> {
     let mut closed = Vec::new(alloc);
     let came = put_around(alloc, &mut closed, some);
     after(came, closed)
 }
 
-fn put_around(
+fn put_around<C: Fresh>(
     alloc: Global,
-    closed: &mut Vec<Closed<Party>>,
-    some: Result<Vec<Closed<Party>>, Fail>,
+    closed: &mut Vec<Closed<PartyOf<C>>>,
+    some: Result<Vec<Closed<PartyOf<C>>>, Fail>,
 ) -> Result<(), Fail> {
     let some = some?;
     let came = put_all_at_rest(alloc, closed);
@@ -293,9 +318,12 @@ pub fn without_last<T: Drop>(all: Result<Vec<T>, Fail>) -> Result<Vec<T>, Fail> 
 }
 
 /// What all actors of a bank leave to whom nothing happened: clients, nodes, sites.
-fn put_all_at_rest(alloc: Global, closed: &mut Vec<Closed<Party>>) -> Result<(), Fail> {
+fn put_all_at_rest<C: Fresh>(
+    alloc: Global,
+    closed: &mut Vec<Closed<PartyOf<C>>>,
+) -> Result<(), Fail> {
     for actor in ACTORS {
-        add(closed, at_rest(Place::of(alloc, actor)))?;
+        add(closed, at_rest(Place::<PartyOf<C>>::of(alloc, actor)))?;
     }
     Ok(())
 }
@@ -305,13 +333,14 @@ pub fn at_rest<A: Actor>(place: Result<Place<A>, Fail>) -> Result<Closed<A>, Fai
     place?.close()
 }
 
-/// A judgement of the bank around what some actors left says this.
-pub fn are_judged<R: Abort + AllocGlobal>(
+/// A judgement of the bank around what some actors left says this, whatever boot cells they have.
+pub fn are_judged<R: Abort + AllocGlobal, C: Fresh>(
     rt: &R,
-    some: Result<Vec<Closed<Party>>, Fail>,
+    some: Result<Vec<Closed<PartyOf<C>>>, Fail>,
     verdict: Verdict,
 ) -> Result<(), Fail> {
-    is_judged_whole(rt, bank_around(rt.alloc(), some)?.as_slice(), verdict)
+    let closed = in_memory(rt.alloc(), bank_around(rt.alloc(), some)?)?;
+    is_judged_whole(rt, closed.as_slice(), verdict)
 }
 
 /// A judgement of a whole bank says this.
