@@ -157,6 +157,6 @@ class Journals(Runs):
         self.ends([*words, "setup.json/x"], (1, "", "fault journals V7\n"))
         self.ends(
             [*words, "/proc/none", "--explain"],
-            (1, "", "fault journals V7\njournals: a journal or its folder could not be made or written\n"),
+            (1, "", "fault journals V7\nfolder: a file or its folder could not be made or written\n"),
         )
         self.ends([*words, "."], (1, "", "fault journals V8\n"))

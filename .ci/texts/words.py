@@ -7,7 +7,7 @@ from program import BOOK, PROGRAM, SETUP, Runs
 
 # all codes, in the order of `docs/formats.md`, with what each means
 CODES = """J1  the text is no JSON
-J2  a member of an object is missing or of another type; a number is digits alone, below 2^64
+J2  a field of an object is missing or of another type; a number is digits alone, below 2^64
 K1  the sites are not 3, 5 or 7
 K2  the currencies are not 1 to 8
 K3  a currency's code is not three letters A to Z, or stands twice
@@ -89,13 +89,13 @@ V2  the journal is of another life of the bank than one before it
 V3  the bank has no such actor, or it opened over what such an actor does not
 V4  a journal before it is the same actor's
 V5  no journal is the actor's
-V6  there is no room left for a journal
-V7  a journal or its folder could not be made or written
-V8  there are files already where journals are to be put
-Q1  a line is not two words with one space between them
+V6  there is no room left for a file
+V7  a file or its folder could not be made or written
+V8  there are files already where new ones are to be put
+Q1  a line is not two words with spaces between them
 Q2  the bank has no actor of this name that may stand here
 Q3  an address is not HOST:PORT with a port from 1 to 65535
-Q4  a key is not 64 digits of 0 to 9 and a to f
+Q4  a key is not 64 digits of 0 to 9, and a to f or A to F
 Q5  a name stands a second time
 Q6  the actor has no line, and needs one
 X1  the bank has no such actor

@@ -46,7 +46,7 @@ rule_meaning Limit = codes "a limit is not 0 to 1000000000000000000, or a deposi
 abbrev pub text_meaning : TextFault → List ℕ
 text_meaning text.NotJson = codes "the text is no JSON"
 text_meaning text.BadMember =
-    codes "a member of an object is missing or of another type; a number is digits alone, below 2^64"
+    codes "a field of an object is missing or of another type; a number is digits alone, below 2^64"
 text_meaning text.NoMemory = codes "memory was refused"
 text_meaning (text.BadSetup rule) = rule_meaning rule
 
@@ -125,16 +125,16 @@ evidence_meaning evidence.Twice = codes "a journal before it is the same actor's
 evidence_meaning evidence.Missing = codes "no journal is the actor's"
 
 abbrev pub shelf_meaning : ShelfFault → List ℕ
-shelf_meaning shelf.Full = codes "there is no room left for a journal"
-shelf_meaning shelf.Failed = codes "a journal or its folder could not be made or written"
-shelf_meaning shelf.Present = codes "there are files already where journals are to be put"
+shelf_meaning shelf.Full = codes "there is no room left for a file"
+shelf_meaning shelf.Failed = codes "a file or its folder could not be made or written"
+shelf_meaning shelf.Present = codes "there are files already where new ones are to be put"
 
 -- a line of a peers file or a keys file
 abbrev pub place_meaning : PlaceWhy → List ℕ
-place_meaning place.Form = codes "a line is not two words with one space between them"
+place_meaning place.Form = codes "a line is not two words with spaces between them"
 place_meaning place.Name = codes "the bank has no actor of this name that may stand here"
 place_meaning place.Address = codes "an address is not HOST:PORT with a port from 1 to 65535"
-place_meaning place.Key = codes "a key is not 64 digits of 0 to 9 and a to f"
+place_meaning place.Key = codes "a key is not 64 digits of 0 to 9, and a to f or A to F"
 place_meaning place.Twice = codes "a name stands a second time"
 place_meaning place.Missing = codes "the actor has no line, and needs one"
 

@@ -45,7 +45,7 @@ pub fn text_meaning(fault: TextFault) -> &'static str
     match fault {
         TextFault::NotJson => "the text is no JSON",
         TextFault::BadMember => {
-            "a member of an object is missing or of another type; a number is digits alone, below 2^64"
+            "a field of an object is missing or of another type; a number is digits alone, below 2^64"
         }
         TextFault::NoMemory => "memory was refused",
         TextFault::BadSetup(rule) => rule_meaning(rule),
@@ -190,9 +190,9 @@ pub fn shelf_meaning(fault: ShelfFault) -> &'static str
     ensures { result.now ≡ spec.shelf_meaning fault }
 {
     match fault {
-        ShelfFault::Full => "there is no room left for a journal",
-        ShelfFault::Failed => "a journal or its folder could not be made or written",
-        ShelfFault::Present => "there are files already where journals are to be put",
+        ShelfFault::Full => "there is no room left for a file",
+        ShelfFault::Failed => "a file or its folder could not be made or written",
+        ShelfFault::Present => "there are files already where new ones are to be put",
     }
 }
 
@@ -201,10 +201,10 @@ pub fn place_meaning(why: PlaceWhy) -> &'static str
     ensures { result.now ≡ spec.place_meaning why }
 {
     match why {
-        PlaceWhy::Form => "a line is not two words with one space between them",
+        PlaceWhy::Form => "a line is not two words with spaces between them",
         PlaceWhy::Name => "the bank has no actor of this name that may stand here",
         PlaceWhy::Address => "an address is not HOST:PORT with a port from 1 to 65535",
-        PlaceWhy::Key => "a key is not 64 digits of 0 to 9 and a to f",
+        PlaceWhy::Key => "a key is not 64 digits of 0 to 9, and a to f or A to F",
         PlaceWhy::Twice => "a name stands a second time",
         PlaceWhy::Missing => "the actor has no line, and needs one",
     }

@@ -43,7 +43,7 @@ abbrev pub actor_line : ℕ → List ℕ
 actor_line actor = codes "actor " ++ decimal actor ++ codes ": " ++ meaning (code.Evidence Missing) ++ codes "\n"
 
 abbrev pub folder_line : List ℕ → List ℕ
-folder_line why = codes "journals: " ++ why ++ codes "\n"
+folder_line why = codes "folder: " ++ why ++ codes "\n"
 
 -- that of the journal at a place, of which this is told
 abbrev pub line_of_journal : Names → ℕ → Code → Option (List ℕ)

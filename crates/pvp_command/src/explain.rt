@@ -143,7 +143,7 @@ fn folder_line(alloc: Global, meaning: &str) -> Result<Vec<u8>, Fault>
     ensures ok { IfOk result (λ line. line.items ≡ folder_line meaning.now) }
     ensures err { IfErr result (λ fault. fault ≡ NoMemory) }
 {
-    let told = format!(in alloc; "journals: {meaning}\n")?;
+    let told = format!(in alloc; "folder: {meaning}\n")?;
     Ok(told.into_bytes())
 }
 

@@ -26,7 +26,7 @@ pub enum ShelfFault {
     Full,
     /// V7: the folder or the file could not be made or written.
     Failed,
-    /// V8: there are files already where journals are to be put, and they stay as they are.
+    /// V8: there are files already where new ones are to be put, and they stay as they are.
     Present,
 }
 

@@ -8,13 +8,13 @@ use std::fmt;
 /// Why a line of a peers file or of a keys file is refused, or which line is missing.
 #[derive(Clone, Copy, Debug, PartialEq, Eq)]
 pub enum PlaceWhy {
-    /// Q1: a line is not two words with one space between them.
+    /// Q1: a line is not two words with spaces between them.
     Form,
     /// Q2: the bank has no actor of this name that could stand there.
     Name,
     /// Q3: an address is not `HOST:PORT`.
     Address,
-    /// Q4: a key is not 64 digits of 0 to 9 and a to f.
+    /// Q4: a key is not 64 digits of 0 to 9, and a to f or A to F.
     Key,
     /// Q5: a name stands a second time.
     Twice,
