@@ -21,7 +21,7 @@ HERE = os.path.dirname(os.path.abspath(__file__))
 ROOT = os.path.dirname(HERE)
 sys.path.insert(0, HERE)
 
-COMMANDS = "awk bash cat cc date dirname env find git grep mktemp nproc rm sed sort tail tar tee".split()
+COMMANDS = "awk bash cat cc date dirname env find git grep mktemp nice nproc rm sed sort tail tar tee".split()
 
 
 def read(*path):
@@ -81,7 +81,7 @@ FILES = {
     "refused memory and saves that fail": ".ci/memory",
     BODIES: ".ci/edits",
 }
-BESIDE = [name for name in FILES if name not in (APPLY, PROOFS, BODIES, TEXTS, "live runs", "banks of processes")]
+BESIDE = [name for name in FILES if name not in (APPLY, PROOFS, BODIES, TEXTS)]
 ALL = sum(least for least, name in PARTS if name != APPLY)
 
 KILLED = "kill -9 $$"
