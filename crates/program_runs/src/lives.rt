@@ -1,6 +1,9 @@
 //! Live runs: on a machine without a net, what is told while one runs, and as the script that one is told as. `.ci/live` runs
 //! the program.
+ghost use Rattle.std.specs.Prelude.{◌≡◌, length, IfOk};
+
 use crate::files::{SETUP, ends};
+use fixtures::{Filed, Fresh};
 use pvp_judge::Judgement;
 use pvp_live::{Lived, Refused, live, print_judgement, print_script};
 use pvp_play::play;
@@ -15,6 +18,7 @@ use std::sync::Wait;
 use std::test::Fail;
 use std::thread::Threads;
 use std::time::Clock;
+use vr_types::MemCell;
 
 /// Words of a live run, its script, and what is told of them without a net.
 const WITHOUT_A_NET: &[(&[&str], &str, &str)] = &[
@@ -65,49 +69,56 @@ beat s1\nrestart s0\nrest 8\nbeat s1\nrest 4\n";
 /// turns fell is another thing each time, so it is done some times.
 #[test]
 fn a_run_is_played_again(rt: HostRuntime) -> Result<(), Fail> {
-    are_played_again(&rt, LIVE, 3)
+    are_played_again::<_, MemCell>(&rt, LIVE, 3)
 }
 
-/// Forty runs with short rests are played again, in four parts, so that each ends in time where the machine has other work.
+/// So it is where the sites stand over cells that are files.
+#[test]
+fn a_run_over_files_is_played_again(rt: HostRuntime) -> Result<(), Fail> {
+    are_played_again::<_, Filed>(&rt, LIVE, 3)
+}
+
+/// Forty runs with short rests are played again, in four parts, so that each ends in time where the machine has other work:
+/// of each two parts one is over cells in memory, and one over cells that are files.
 #[test]
 fn hasty_runs_are_played_again(rt: HostRuntime) -> Result<(), Fail> {
-    are_played_again(&rt, HASTY, 10)
+    are_played_again::<_, MemCell>(&rt, HASTY, 10)
+}
+
+#[test]
+fn hasty_runs_over_files_are_played_again(rt: HostRuntime) -> Result<(), Fail> {
+    are_played_again::<_, Filed>(&rt, HASTY, 10)
 }
 
 #[test]
 fn more_hasty_runs_are_played_again(rt: HostRuntime) -> Result<(), Fail> {
-    are_played_again(&rt, HASTY, 10)
+    are_played_again::<_, MemCell>(&rt, HASTY, 10)
 }
 
 #[test]
-fn as_many_hasty_runs_are_played_again(rt: HostRuntime) -> Result<(), Fail> {
-    are_played_again(&rt, HASTY, 10)
-}
-
-#[test]
-fn the_last_hasty_runs_are_played_again(rt: HostRuntime) -> Result<(), Fail> {
-    are_played_again(&rt, HASTY, 10)
+fn more_hasty_runs_over_files_are_played_again(rt: HostRuntime) -> Result<(), Fail> {
+    are_played_again::<_, Filed>(&rt, HASTY, 10)
 }
 
 /// Runs the bank so many times, and plays the script of each run.
-fn are_played_again<R>(rt: &R, script: &str, times: u32) -> Result<(), Fail>
+fn are_played_again<R, C: Fresh + Send>(rt: &R, script: &str, times: u32) -> Result<(), Fail>
 where
     R: Abort + AllocGlobal + Threads + Wait + Clock + Net + Sync,
     R::Stream: Read + Write + Send + Drop,
 {
     for _ in 0..times {
-        played_again(rt, script)?;
+        played_again::<R, C>(rt, script)?;
     }
     Ok(())
 }
 
 /// Runs the bank, and plays the script of it.
-fn played_again<R>(rt: &R, script: &str) -> Result<(), Fail>
+fn played_again<R, C: Fresh + Send>(rt: &R, script: &str) -> Result<(), Fail>
 where
     R: Abort + AllocGlobal + Threads + Wait + Clock + Net + Sync,
     R::Stream: Read + Write + Send + Drop,
 {
-    let lived = ran(rt, script, &mut sink())?;
+    let lived = ran::<R, C, _>(rt, script, &mut sink())?;
     is_played_again(rt, &lived.judgement)
 }
 
@@ -124,7 +135,7 @@ fn is_played_again<R: Abort + AllocGlobal>(rt: &R, judgement: &Judgement) -> Res
 }
 
 /// What a live run of a script leaves; what goes on is told to `notes`.
-fn ran<R, N: Write>(rt: &R, script: &str, notes: &mut N) -> Result<Lived, Fail>
+fn ran<R, C: Fresh + Send, N: Write>(rt: &R, script: &str, notes: &mut N) -> Result<Lived, Fail>
 where
     R: AllocGlobal + Threads + Wait + Clock + Net + Sync,
     R::Stream: Read + Write + Send + Drop,
@@ -134,7 +145,23 @@ where
     let lines = read_lines(alloc, &setup, Kind::Live, script.as_bytes()).map_err(|_| Fail::new(
         "the lines",
     ))?;
-    live(rt, alloc, &setup, lines.as_slice(), notes).map_err(|_| Fail::new("the live run"))
+    let boots = new_boots::<C>(alloc, 2 * setup.faults() + 1)?;
+    live(rt, alloc, &setup, boots, lines.as_slice(), notes).map_err(|_| Fail::new("the live run"))
+}
+
+/// So many new boot cells.
+fn new_boots<C: Fresh>(alloc: Global, count: u16) -> Result<Vec<C>, Fail>
+    ensures { IfOk result (λ boots. length boots.items ≡ count) }
+{
+    let mut boots = Vec::new(alloc);
+    for _ in 0..count {
+        boots.push(C::fresh(alloc)?)?;
+    }
+    if boots.len() == usize::from(count) {
+        Ok(boots)
+    } else {
+        Err(Fail::new("the boot cells"))
+    }
 }
 
 /// What a play of a script prints, and a line that says yes.
@@ -197,7 +224,7 @@ fn tells_lines(rt: &impl Abort, told: &str) {
 #[test]
 fn tells_what_goes_on(rt: HostRuntime) -> Result<(), Fail> {
     let mut notes: Vec<u8> = Vec::new(rt.alloc());
-    let lived = ran(&rt, TOLD, &mut notes)?;
+    let lived = ran::<_, MemCell, _>(&rt, TOLD, &mut notes)?;
     assert!(rt; matches!(lived.judgement, Judgement::Yes(_)));
     tells_lines(&rt, std::str::from_utf8(notes.as_slice())?);
     tells_refused(&rt, lived.refused)

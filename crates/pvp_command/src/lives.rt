@@ -10,6 +10,7 @@ use pvp_evidence::{PutFault, Shelf, ShelfFault, bank_of, put_journals};
 use pvp_judge::Judgement;
 use pvp_live::{live as run_live, print_judgement, print_script};
 use pvp_parties::Party;
+use pvp_play::cells::new_cells;
 use pvp_rooms::Closed;
 use pvp_text::book::read_lines;
 use pvp_text::read_setup;
@@ -177,10 +178,11 @@ where
     ensures err { IfErr result (LifeStops out.old out.new) }
 {
     open_folder(shelf, told.journal)?;
+    let boots = new_cells(alloc, 2 * rules.setup.faults() + 1, &[])?;
     let lived = if told.verbose {
-        run_live(rt, alloc, rules.setup, lines, err)?
+        run_live(rt, alloc, rules.setup, boots, lines, err)?
     } else {
-        run_live(rt, alloc, rules.setup, lines, &mut sink())?
+        run_live(rt, alloc, rules.setup, boots, lines, &mut sink())?
     };
     keep(
         rt,

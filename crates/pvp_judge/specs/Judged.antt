@@ -3,6 +3,7 @@ use Rattle.std.specs.Prelude.{◌≡◌, ℕ, ◌-◌, min, List, [], ◌∷◌,
 use Rattle.pvp_types.specs.declared.setup.Setup.{Setup}
 use Rattle.vr_types.specs.declared.actors.TheConstants.{FIRST_NODE, FIRST_SITE}
 use Rattle.vr_types.specs.declared.cell.Boot.{Boot}
+use Rattle.vr_types.specs.declared.cell.BootCell.{Ghosts as Cell}
 use Rattle.vr_types.specs.declared.cell.MemCell.{MemCell}
 use Rattle.vr_types.specs.MemoryCell.{held_by}
 use Rattle.rtgs_node.specs.Shown as node
@@ -22,6 +23,7 @@ use Rattle.pvp_audit.specs.declared.verdict.Why.{Why}
 use Rattle.pvp_audit.specs.Verdicts.{Means, MeansRun, IsTested}
 use Rattle.pvp_parties.specs.Made.{memory}
 use Rattle.pvp_parties.specs.Parties.{Party}
+use Rattle.pvp_parties.specs.declared.party.PartyOf.{PartyOf}
 use Rattle.pvp_parties.specs.declared.party.PartyOf.TheVariants.{Site, Node, Client}
 use Rattle.pvp_parties.specs.declared.party.PartyEvent.{PartyEvent}
 use Rattle.pvp_parties.specs.declared.party.PartyOutcome.{PartyOutcome}
@@ -36,19 +38,23 @@ use Rattle.pvp_judge.specs.Retold.{WentThrough}
 abbrev pub Left : Type 0
 Left = Closed Party (Option Boot) PartyEvent PartyOutcome
 
--- the ghost members of an actor of the bank
-abbrev pub party : Ghosts Party (Option Boot) PartyEvent PartyOutcome
-party =
+-- the ghost members of an actor of the bank over such a boot cell, where it has one
+abbrev pub party_with : {B : Type 0} → Cell B → Ghosts (PartyOf B) (Option Boot) PartyEvent PartyOutcome
+party_with c =
     record {
       State = PartyState;
       opens = Opens;
-      shows = Shows memory;
+      shows = Shows c;
       comes = Comes;
       after = after;
-      reads = Reads memory;
-      tells = λ old new event told. Tells memory told old new event;
+      reads = Reads c;
+      tells = λ old new event told. Tells c told old new event;
       brings = Brings;
     }
+
+-- the same over a cell in memory
+abbrev pub party : Ghosts Party (Option Boot) PartyEvent PartyOutcome
+party = party_with memory
 
 -- what the sites opened over, in order
 abbrev pub openings : List Left → List Boot

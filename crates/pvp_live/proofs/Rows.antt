@@ -1,11 +1,7 @@
 -- Numbers one after another, and where sites stand one after another.
-use Rattle.std.proofs.Common.{◌≡◌, ℕ, ◌+◌, List, [], ◌∷◌, ◌++◌, Option, Some, None, drop, slice_get, option_to_list, codes, zero, suc, refl, sym, ap, ◌∙◌, append_assoc, arith}
+use Rattle.std.proofs.Common.{◌≡◌, ℕ, ◌+◌, [], ◌∷◌, ◌++◌, zero, suc, refl, ap, ◌∙◌, arith}
 use native.Mathlib.Numerals.{unary_clauses}
 use Rattle.std.specs.List.{range_with_len}
-use Rattle.pvp_types.specs.declared.setup.Setup.{Setup}
-use Rattle.pvp_live.specs.declared.standing.Standing.{Standing}
-use Rattle.pvp_live.specs.Notes.{standing_text}
-use Rattle.pvp_live.specs.Counts.{stands_text}
 
 pub range_more : (a n : ℕ) → range_with_len a (n + 1) ≡ range_with_len a n ++ (a + n) ∷ []
 range_more a zero = simp unary_clauses refl

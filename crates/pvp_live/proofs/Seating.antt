@@ -1,5 +1,5 @@
 -- The seats of a bank's cells, from their opening to their close.
-use Rattle.std.proofs.Common.{◌≡◌, ◌≢◌, ◌⊎◌, inl, inr, ℕ, ◌<◌, ◌==◌, Bool, true, false, zero, suc, List, [], ◌∷◌, ◌++◌, length, get_or, slice_get, slice_set, Option, Some, eqb-true, refl, sym, ap, ◌∙◌, subst, arith}
+use Rattle.std.proofs.Common.{◌≡◌, ◌⊎◌, inl, inr, ℕ, ◌<◌, ◌==◌, Bool, true, false, zero, suc, List, [], ◌∷◌, ◌++◌, length, get_or, slice_get, slice_set, Some, eqb-true, refl, sym, ap, ◌∙◌, subst, arith}
 use Rattle.std.specs.Prelude.{Contains, IsPermutation}
 use Rattle.std.specs.Global.{Vec}
 use Rattle.std.proofs.lemmas.Bool.{eqb-false}
@@ -7,10 +7,12 @@ use Rattle.std.proofs.lemmas.List.{length-append, length-set, get_or-set_same, g
 use Rattle.std.proofs.lemmas.List.Elements.{Contains-append_left, Contains-push, Contains-push_cases}
 use Rattle.std.proofs.lemmas.List.Sorted.{Contains-permutation}
 use Rattle.std.proofs.lemmas.Option.{slice_get_within, get_or_from_slice_get}
-use Rattle.vr_types.proofs.ChoosingPick.{Contains-none}
+use Rattle.vr_types.proofs.ChoosingPick.{Contains-none, Contains-here, Contains-there}
 use Rattle.pvp_rooms.specs.Closing.{fresh_seats}
 use Rattle.pvp_rooms.specs.Seats.{Place}
+use Rattle.vr_types.specs.declared.cell.BootCell.{Ghosts as Cell}
 use Rattle.pvp_judge.specs.Judged.{Left}
+use Rattle.pvp_judge.specs.Cells.{LeftOver, AreInMemory}
 use Rattle.pvp_live.specs.Seating.{BankSeat, AreNew, IsAmong, TakesBack, TakesOne, IsKept, Keeps}
 
 -- ---- new seats
@@ -116,10 +118,11 @@ module _ (old now new : List (Vec BankSeat)) (done : List BankSeat) (seat : Bank
 
 -- ---- cells that are closed
 
-pub keeps_none : (closed : List Left) → Keeps [] closed
+pub keeps_none : {B : Type 0} (closed : List (LeftOver B)) → Keeps [] closed
 keeps_none closed = λ seat there. absurd (Contains-none there.0 there.1)
 
-module _ (done : List (Vec BankSeat)) (closed : List Left) (own : Vec BankSeat) (one : Left) (same : IsPermutation own.items one.seats.items) where
+module _ {B : Type 0} (done : List (Vec BankSeat)) (closed : List (LeftOver B)) (own : Vec BankSeat) (one : LeftOver B)
+    (same : IsPermutation own.items one.seats.items) where
   keeps_case : Keeps done closed → (seat : BankSeat) (those : Vec BankSeat) → Contains those.items seat → Contains done those ⊎ (own ≡ those)
       → IsKept (closed ++ one ∷ []) seat
   keeps_case keeps seat those has (inl before) =
@@ -134,3 +137,22 @@ module _ (done : List (Vec BankSeat)) (closed : List Left) (own : Vec BankSeat) 
   -- one cell more
   pub keeps_more : Keeps done closed → Keeps (done ++ own ∷ []) (closed ++ one ∷ [])
   keeps_more keeps = λ seat there. keeps_case keeps seat there.0 there.2 (Contains-push_cases done own there.0 there.1)
+
+-- ---- cells that are read over cells in memory
+
+module _ {B : Type 0} (c : Cell B) where
+  -- what stands at a place was read there, with the same seats
+  read_at : (closed : List (LeftOver B)) (read : List Left) → AreInMemory c closed read → (one : LeftOver B) → Contains closed one
+      → (other : Left) × Contains read other × (other.seats ≡ one.seats)
+  read_at [] read all one in' = absurd (Contains-none one in')
+  read_at (first ∷ more) [] all one in' = absurd all
+  read_at (first ∷ more) (other ∷ others) all one (zero, within, is) = (other, Contains-here other others, ap (λ l. l.seats) all.0.is ∙ ap (λ l. l.seats) is)
+  read_at (first ∷ more) (other ∷ others) all one (suc at, within, is) =
+      let rest = read_at more others all.1 one (at, omega (arith, within), is) in (rest.0, Contains-there other rest.0 others rest.1, rest.2)
+
+  pub keeps_read : (seats : List (Vec BankSeat)) (closed : List (LeftOver B)) (read : List Left) → AreInMemory c closed read → Keeps seats closed
+      → Keeps seats read
+  keeps_read seats closed read all keeps = λ seat there.
+      let kept = keeps seat there in
+      let other = read_at closed read all kept.0 kept.1 in
+      (other.0, other.1, subst (λ (v : Vec BankSeat). Contains v.items seat) (sym other.2) kept.2)

@@ -4,7 +4,7 @@ use Rattle.std.specs.Global.{Vec}
 use Rattle.pvp_rooms.specs.Seats.{Place, Held}
 use Rattle.pvp_parties.specs.declared.party.PartyEvent.{PartyEvent}
 use Rattle.pvp_parties.specs.declared.party.PartyOutcome.{PartyOutcome}
-use Rattle.pvp_judge.specs.Judged.{Left}
+use Rattle.pvp_judge.specs.Cells.{LeftOver}
 
 -- a seat at an actor of the bank
 abbrev pub BankSeat : Type 0
@@ -28,10 +28,10 @@ TakesOne old given new = (seat : BankSeat) → IsAmong old seat ⊎ (given ≡ s
 abbrev pub TakesBack : List (Vec BankSeat) → List BankSeat → List (Vec BankSeat) → Type 0
 TakesBack old given new = (seat : BankSeat) → IsAmong old seat ⊎ Contains given seat → IsAmong new seat
 
--- a seat stands in what these actors left, as it is
-abbrev pub IsKept : List Left → BankSeat → Type 0
-IsKept closed seat = (one : Left) × Contains closed one × Contains one.seats.items seat
+-- a seat stands in what these actors left, as it is; B is the type of the sites' boot cells
+abbrev pub IsKept : {B : Type 0} → List (LeftOver B) → BankSeat → Type 0
+IsKept {B} closed seat = (one : LeftOver B) × Contains closed one × Contains one.seats.items seat
 
 -- and so does each of these
-abbrev pub Keeps : List (Vec BankSeat) → List Left → Type 0
+abbrev pub Keeps : {B : Type 0} → List (Vec BankSeat) → List (LeftOver B) → Type 0
 Keeps seats closed = (seat : BankSeat) → IsAmong seats seat → IsKept closed seat

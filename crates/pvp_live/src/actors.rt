@@ -1,32 +1,33 @@
 //! The actors of a bank, in order of their numbers.
-ghost use Rattle.std.specs.Prelude.{◌≡◌, ◌+◌, ◌≤◌, ◌++◌, IfOk, OnOk};
+ghost use Rattle.std.specs.Prelude.{◌≡◌, ◌+◌, ◌*◌, ◌≤◌, ◌++◌, length, IfOk, OnOk};
 ghost use Rattle.std.specs.List.{list_all, range_with_len};
-ghost use Rattle.pvp_types.specs.Setup.{IsValid};
+ghost use Rattle.pvp_types.specs.Setup.{IsValid, faults};
 ghost use Rattle.pvp_rooms.specs.Closing.{fresh_seats};
 ghost use Rattle.pvp_live.specs.Bank.{numbers_of, opened_new};
 ghost use Rattle.pvp_live.specs.Seating.{AreNew};
 
-use pvp_parties::{Party, PartyCell, PartySeat, client_cell, node_cell, site_cell};
+use pvp_parties::{Party, PartyCellOf, PartySeat, client_cell, node_cell, site_cell};
 use pvp_rooms::Closed;
 use pvp_types::Setup;
 use std::alloc::{AllocError, Global};
-use vr_types::{FIRST_NODE, FIRST_SITE, MemCell};
+use vr_types::{BootCell, FIRST_NODE, FIRST_SITE};
 
 /// The cells of a bank's actors, with a seat each for every other actor and one for the script.
 #[derive(Drop)]
-pub struct Bank {
+pub struct Bank<C: BootCell> {
     /// In order of their numbers.
-    pub cells: Vec<PartyCell>,
+    pub cells: Vec<PartyCellOf<C>>,
     /// The seats for the script, by cell.
     pub own: Vec<PartySeat>,
     /// The others, by cell.
     pub seats: Vec<Vec<PartySeat>>,
 }
 
-impl Bank {
-    /// The actors of a bank as they open, the sites over new boot cells. `Err` where memory is refused.
-    pub fn open(alloc: Global, setup: &Setup) -> Result<Self, AllocError>
-        requires { IsValid setup.now }
+impl<C: BootCell> Bank<C> {
+    /// The actors of a bank as they open, each site over one of these boot cells. `Err` where memory is refused.
+    pub fn open(alloc: Global, setup: &Setup, boots: Vec<C>) -> Result<Self, AllocError>
+        requires valid { IsValid setup.now }
+        requires sites { length boots.items ≡ 2 * faults setup.now + 1 }
         ensures { IfOk result (λ bank. AreNew bank.cells.items bank.own.items) }
     {
         let mut bank = Bank {
@@ -37,12 +38,12 @@ impl Bank {
         let seats = count_of(setup);
         bank.add_clients(alloc, setup, seats)?;
         bank.add_nodes(alloc, setup, seats)?;
-        bank.add_sites(alloc, setup, seats)?;
+        bank.add_sites(alloc, setup, boots, seats)?;
         Ok(bank)
     }
 
     /// Adds a cell with its seats, of which the last is for the script.
-    fn add(&mut self, made: (PartyCell, Vec<PartySeat>)) -> Result<(), AllocError>
+    fn add(&mut self, made: (PartyCellOf<C>, Vec<PartySeat>)) -> Result<(), AllocError>
         requires some { 1 ≤ made.0.seats }
         requires fresh { made.1.items ≡ fresh_seats made.0.seats made.0.number }
         requires new { AreNew self.old.cells.items self.old.own.items }
@@ -82,15 +83,22 @@ impl Bank {
         Ok(())
     }
 
-    /// Adds the sites.
-    fn add_sites(&mut self, alloc: Global, setup: &Setup, seats: u16) -> Result<(), AllocError>
+    /// Adds the sites, one over each of these boot cells.
+    fn add_sites(
+        &mut self,
+        alloc: Global,
+        setup: &Setup,
+        boots: Vec<C>,
+        seats: u16,
+    ) -> Result<(), AllocError>
         requires valid { IsValid setup.now }
+        requires sites { length boots.items ≡ 2 * faults setup.now + 1 }
         requires some { 1 ≤ seats }
         requires new { AreNew self.old.cells.items self.old.own.items }
         ensures { OnOk result (AreNew self.new.cells.items self.new.own.items) }
     {
-        for site in 0..2 * setup.faults() + 1 {
-            self.add(site_cell(alloc, setup, site, MemCell::new(), seats)?)?;
+        for (site, boot) in boots.into_iter().enumerate() {
+            self.add(site_cell(alloc, setup, site as u16, boot, seats)?)?;
         }
         Ok(())
     }

@@ -2,10 +2,11 @@
 ghost use Rattle.std.specs.Prelude.{◌≡◌, length, option_to_list};
 ghost use Rattle.pvp_live.specs.Counts.{broken, came_in_all, came_to, frames_at, frames_taken, is_broken, sent_by, sent_in_all};
 
-use pvp_parties::{Party, PartyEvent, PartyOutcome};
+use pvp_parties::{Party, PartyEvent, PartyOf, PartyOutcome};
 use pvp_peers::{PeerEnd, Served, Why};
 use pvp_rooms::{Closed, Recorded};
 use pvp_streams::Peer;
+use vr_types::BootCell;
 
 /// How many envelopes these actors sent in all.
 pub fn sent_in_all(closed: &[Closed<Party>]) -> usize
@@ -62,7 +63,7 @@ fn came_by(recorded: &Recorded<PartyEvent, PartyOutcome>) -> usize
 }
 
 /// How many frames were taken over all these streams.
-pub fn frames_taken<S, G>(peers: &[Peer<'_, Party, S, G>]) -> usize
+pub fn frames_taken<C: BootCell, S, G>(peers: &[Peer<'_, PartyOf<C>, S, G>]) -> usize
     ensures { result ≡ frames_taken peers.now }
 {
     let mut frames: usize = 0;
@@ -83,7 +84,7 @@ fn frames_at(end: Option<PeerEnd>) -> usize
 }
 
 /// How many of these streams ended before their end.
-pub fn broken<S, G>(peers: &[Peer<'_, Party, S, G>]) -> usize
+pub fn broken<C: BootCell, S, G>(peers: &[Peer<'_, PartyOf<C>, S, G>]) -> usize
     ensures { result ≡ broken peers.now }
 {
     peers.iter().filter(|peer| is_broken(peer.end)).count()

@@ -10,7 +10,7 @@ use crate::board::Frames;
 use crate::counts::{broken, came_in_all, frames_taken, sent_in_all};
 use crate::effects::{Effect, line_effect};
 use crate::standing::{Standing, standing_of};
-use pvp_parties::{Party, PartyOutcome};
+use pvp_parties::{Party, PartyOf, PartyOutcome};
 use pvp_rooms::{Answer, Closed};
 use pvp_streams::Peer;
 use pvp_trace::meanings::{meaning, reason};
@@ -19,7 +19,7 @@ use pvp_types::Setup;
 use pvp_world::WorldFault;
 use std::alloc::{AllocError, Global};
 use std::io::Write;
-use vr_types::Status;
+use vr_types::{BootCell, Status};
 
 /// Tells that all connections are made.
 pub fn tell_connected<N: Write>(notes: &mut N, actors: usize, streams: usize) {
@@ -70,7 +70,11 @@ pub fn tell_left<N: Write>(alloc: Global, notes: &mut N, setup: &Setup, closed: 
 }
 
 /// Tells how many frames were taken over all streams, and how many of these ended before their end.
-pub fn tell_ends<N: Write, S, G>(alloc: Global, notes: &mut N, peers: &[Peer<'_, Party, S, G>]) {
+pub fn tell_ends<N: Write, C: BootCell, S, G>(
+    alloc: Global,
+    notes: &mut N,
+    peers: &[Peer<'_, PartyOf<C>, S, G>],
+) {
     let mut text = String::new(alloc);
     if push_ended(&mut text, frames_taken(peers), broken(peers)).is_ok() {
         let _ = notes.write_all(text.as_str().as_bytes());

@@ -13,7 +13,7 @@ use crate::events::{Post, posted};
 use crate::notes::{tell_posted, tell_rest, tell_sites};
 use crate::refusals::{Refused, refused_after};
 use crate::standing::look_at_sites;
-use pvp_parties::{Party, PartyCell, PartyOutcome, PartySeat};
+use pvp_parties::{PartyCellOf, PartyOf, PartyOutcome, PartySeat};
 use pvp_peers::{Outbox, Served};
 use pvp_rooms::{Actor, Answer, Gate, Input, Room};
 use pvp_streams::Player;
@@ -24,7 +24,7 @@ use std::io::Write;
 use std::sync::Wait;
 use std::thread;
 use std::time::{Clock, Duration};
-use vr_types::is_site;
+use vr_types::{BootCell, is_site};
 
 /// A gate that is always open.
 #[derive(Drop)]
@@ -40,12 +40,12 @@ impl Gate for Open {
 
 /// Posts what the lines of a script say, one after another, and tells what came of each, and where the sites stand.
 #[derive(Drop)]
-pub struct LinePlayer<'a, R, N> {
+pub struct LinePlayer<'a, R, N, C: BootCell> {
     pub rt: &'a R,
     pub alloc: Global,
     pub setup: &'a Setup,
     pub notes: &'a mut N,
-    pub cells: &'a [PartyCell],
+    pub cells: &'a [PartyCellOf<C>],
     /// By cell.
     pub seats: Vec<PartySeat>,
     pub lines: &'a [Line],
@@ -55,7 +55,7 @@ pub struct LinePlayer<'a, R, N> {
     pub refused: Option<Refused>,
 }
 
-impl<R: Wait + Clock, N: Write> LinePlayer<'_, R, N> {
+impl<R: Wait + Clock, N: Write, C: BootCell> LinePlayer<'_, R, N, C> {
     /// Plays a line.
     fn line<O: Outbox>(&mut self, line: Line, out: &mut O)
         ensures posted { HandsOver self.old.cells.now line.number (events.posted line.statement)
@@ -140,7 +140,7 @@ impl<R: Wait + Clock, N: Write> LinePlayer<'_, R, N> {
     {
         match answer {
             Some(Answer::Done { clock, outcome }) => {
-                let sent = Party::sent(outcome);
+                let sent = PartyOf::<C>::sent(outcome);
                 out.put(self.rt, self.alloc, actor, *clock, sent);
             }
             Some(Answer::NoMemory | Answer::ClockSpent) | None => {}
@@ -167,7 +167,7 @@ impl<R: Wait + Clock, N: Write> LinePlayer<'_, R, N> {
     }
 }
 
-impl<R: Wait + Clock, N: Write> Player for LinePlayer<'_, R, N> {
+impl<R: Wait + Clock, N: Write, C: BootCell> Player for LinePlayer<'_, R, N, C> {
     ghost use Rattle.pvp_live.specs.Playing.{Plays, keeps};
 
     ghost plays = { λ old new puts. Plays old.cells.now old.lines.now
@@ -181,7 +181,7 @@ impl<R: Wait + Clock, N: Write> Player for LinePlayer<'_, R, N> {
 }
 
 /// The place of the actor of a number.
-pub fn place_of(cells: &[PartyCell], number: u16) -> Option<usize>
+pub fn place_of<C: BootCell>(cells: &[PartyCellOf<C>], number: u16) -> Option<usize>
     ensures { result ≡ place_of cells.now number }
 {
     cells.iter().position(|cell| cell.number() == number)

@@ -1,6 +1,6 @@
 //! A live run, from the first connection to the judgement.
-ghost use Rattle.std.specs.Prelude.{◌≡◌, IfErr, IfOk, IsPermutation, OnOk};
-ghost use Rattle.pvp_types.specs.Setup.{IsValid};
+ghost use Rattle.std.specs.Prelude.{◌≡◌, ◌+◌, ◌*◌, length, IfErr, IfOk, IsPermutation, OnOk};
+ghost use Rattle.pvp_types.specs.Setup.{IsValid, faults};
 ghost use Rattle.pvp_judge.specs.Banked.{IsTheBank};
 ghost use Rattle.pvp_live.specs.Bank.{BeganNew, numbers_of};
 ghost use Rattle.pvp_live.specs.Faults.{AreWanting, Ends, IsLate};
@@ -13,8 +13,8 @@ use crate::board::{Board, Counter};
 use crate::notes::{tell_connected, tell_ends, tell_left};
 use crate::player::{LinePlayer, place_of};
 use crate::refusals::Refused;
-use pvp_judge::{Judgement, NotTheBank, judge};
-use pvp_parties::{Party, PartyCell, PartySeat};
+use pvp_judge::{Judgement, NotTheBank, in_memory, judge};
+use pvp_parties::{Party, PartyCellOf, PartyOf, PartySeat};
 use pvp_rooms::Closed;
 use pvp_streams::{
     Connected, Incoming, NetFault, Peer, Sending, Writer, Writers, connect_all, serve_streams,
@@ -27,6 +27,7 @@ use std::net::Net;
 use std::sync::Wait;
 use std::thread::Threads;
 use std::time::Clock;
+use vr_types::BootCell;
 
 /// Why there is no judgement.
 #[derive(Clone, Copy, Debug, PartialEq, Eq)]
@@ -94,7 +95,7 @@ impl From<Misplaced> for LiveFault {
 /// What a live run leaves.
 #[derive(Drop)]
 pub struct Lived {
-    /// What its actors left.
+    /// What its actors left, each site read over a cell in memory that holds what its own does.
     pub closed: Vec<Closed<Party>>,
     /// How that was judged.
     pub judgement: Judgement,
@@ -102,21 +103,24 @@ pub struct Lived {
     pub refused: Option<Refused>,
 }
 
-/// Runs a bank by itself while a script is played, and judges what its actors did. Each actor has a lock of its own and a
-/// stream from each other that may send to it. At the script's end the writers stop, all workers end, and the actors are
-/// judged; a refused step of the script stands in the history, and which lines were refused is told beside the judgement. What
-/// goes on is told to `notes` while it runs.
-pub fn live<R, N: Write>(
+/// Runs a bank by itself while a script is played, and judges what its actors did. Each site stands over one of these boot
+/// cells, in their order, of which each has to be new. Each actor has a lock of its own and a stream from each other that
+/// may send to it. At the script's end the writers stop, all workers end, and the actors are judged; a refused step of the
+/// script stands in the history, and which lines were refused is told beside the judgement. What goes on is told to
+/// `notes` while it runs.
+pub fn live<R, C: BootCell + Send, N: Write>(
     rt: &R,
     alloc: Global,
     setup: &Setup,
+    boots: Vec<C>,
     lines: &[Line],
     notes: &mut N,
 ) -> Result<Lived, LiveFault>
 where
     R: Threads + Wait + Clock + Net + Sync,
     R::Stream: Read + Write + Send + Drop,
-    requires { IsValid setup.now }
+    requires valid { IsValid setup.now }
+    requires sites { length boots.items ≡ 2 * faults setup.now + 1 }
     ensures judged { IfOk result (λ lived. WasJudged setup.now lived.closed.items lived.judgement) }
     ensures tally { IfOk result (λ lived. WasTallied lines.now lived.closed.items lived.refused) }
     ensures fault { IfErr result (Ends R.Stream (numbers_of setup.now) notes.old notes.new) }
@@ -124,7 +128,29 @@ where
     let actors = numbers_of(alloc, setup)?;
     let connected = connect_all(rt, alloc, actors.as_slice())?;
     tell_connected(notes, actors.len(), connected.incoming.len());
-    let Bank { cells, own, seats } = Bank::open(alloc, setup)?;
+    live_connected(rt, alloc, setup, boots, connected, lines, notes)
+}
+
+/// Runs the bank over these connections.
+fn live_connected<R, C: BootCell + Send, N: Write>(
+    rt: &R,
+    alloc: Global,
+    setup: &Setup,
+    boots: Vec<C>,
+    connected: Connected<R::Stream>,
+    lines: &[Line],
+    notes: &mut N,
+) -> Result<Lived, LiveFault>
+where
+    R: Threads + Wait + Clock + Net + Sync,
+    R::Stream: Read + Write + Send + Drop,
+    requires valid { IsValid setup.now }
+    requires sites { length boots.items ≡ 2 * faults setup.now + 1 }
+    ensures judged { IfOk result (λ lived. WasJudged setup.now lived.closed.items lived.judgement) }
+    ensures tally { IfOk result (λ lived. WasTallied lines.now lived.closed.items lived.refused) }
+    ensures late { IfErr result IsLate }
+{
+    let Bank { cells, own, seats } = Bank::open(alloc, setup, boots)?;
     let script = Script {
         setup,
         lines,
@@ -139,7 +165,7 @@ where
         connected,
         script,
     )?;
-    let closed = close_all(alloc, cells, seats)?;
+    let closed = in_memory(alloc, close_all(alloc, cells, seats)?)?;
     tell_left(alloc, notes, setup, closed.as_slice());
     let judgement = judged(alloc, setup, closed.as_slice())?;
     Ok(Lived {
@@ -183,10 +209,10 @@ struct Played {
 }
 
 /// Plays the script from seats of the player's own while all workers are at work, and answers the seats of each cell.
-fn run<R, N: Write>(
+fn run<R, C: BootCell + Send, N: Write>(
     rt: &R,
     alloc: Global,
-    cells: &[PartyCell],
+    cells: &[PartyCellOf<C>],
     own: Vec<PartySeat>,
     mut seats: Vec<Vec<PartySeat>>,
     connected: Connected<R::Stream>,
@@ -256,13 +282,13 @@ fn writers_of<S: Write + Drop>(
 }
 
 /// A peer for each incoming stream, at the cell of its reader, with a seat of that cell.
-fn peers_of<'a, S: Drop>(
+fn peers_of<'a, S: Drop, C: BootCell>(
     alloc: Global,
-    cells: &'a [PartyCell],
+    cells: &'a [PartyCellOf<C>],
     seats: &mut [Vec<PartySeat>],
     incoming: Vec<Incoming<S>>,
     board: &'a Board<'a>,
-) -> Result<Vec<Peer<'a, Party, S, Counter<'a>>>, LiveFault>
+) -> Result<Vec<Peer<'a, PartyOf<C>, S, Counter<'a>>>, LiveFault>
     ensures { IfErr result IsLate }
 {
     let mut peers = Vec::with_capacity(alloc, incoming.len())?;
@@ -281,11 +307,11 @@ fn peers_of<'a, S: Drop>(
 }
 
 /// The cell of the actor of a number, and a seat there that is free.
-fn seat_at<'a>(
-    cells: &'a [PartyCell],
+fn seat_at<'a, C: BootCell>(
+    cells: &'a [PartyCellOf<C>],
     seats: &mut [Vec<PartySeat>],
     actor: u16,
-) -> Result<(&'a PartyCell, PartySeat), Misplaced> {
+) -> Result<(&'a PartyCellOf<C>, PartySeat), Misplaced> {
     let place = place_of(cells, actor).ok_or(Misplaced)?;
     let cell = cells.get(place).ok_or(Misplaced)?;
     let free = seats.get_mut(place).ok_or(Misplaced)?;
@@ -294,9 +320,9 @@ fn seat_at<'a>(
 }
 
 /// The seats of peers.
-fn seats_of<S: Drop>(
+fn seats_of<S: Drop, C: BootCell>(
     alloc: Global,
-    peers: Vec<Peer<'_, Party, S, Counter<'_>>>,
+    peers: Vec<Peer<'_, PartyOf<C>, S, Counter<'_>>>,
 ) -> Result<Vec<PartySeat>, AllocError> {
     let mut seats = Vec::with_capacity(alloc, peers.len())?;
     for peer in peers {
@@ -307,8 +333,8 @@ fn seats_of<S: Drop>(
 }
 
 /// Gives seats back, each to its cell.
-fn give_back(
-    cells: &[PartyCell],
+fn give_back<C: BootCell>(
+    cells: &[PartyCellOf<C>],
     seats: &mut Vec<Vec<PartySeat>>,
     given: Vec<PartySeat>,
 ) -> Result<(), LiveFault>
@@ -322,8 +348,8 @@ fn give_back(
 }
 
 /// Gives a seat back to its cell.
-fn put_back(
-    cells: &[PartyCell],
+fn put_back<C: BootCell>(
+    cells: &[PartyCellOf<C>],
     seats: &mut Vec<Vec<PartySeat>>,
     seat: PartySeat,
 ) -> Result<(), LiveFault>
@@ -339,11 +365,11 @@ fn put_back(
 }
 
 /// Closes each cell with its seats.
-fn close_all(
+fn close_all<C: BootCell>(
     alloc: Global,
-    cells: Vec<PartyCell>,
+    cells: Vec<PartyCellOf<C>>,
     seats: Vec<Vec<PartySeat>>,
-) -> Result<Vec<Closed<Party>>, LiveFault>
+) -> Result<Vec<Closed<PartyOf<C>>>, LiveFault>
     ensures kept { IfOk result (λ closed. Keeps seats.items closed.items) }
     ensures late { IfErr result IsLate }
 {
@@ -357,7 +383,10 @@ fn close_all(
 }
 
 /// Closes a cell with its seats. `Err` only where these are not all its seats, each once.
-fn close_one(cell: PartyCell, seats: Vec<PartySeat>) -> Result<Closed<Party>, Misplaced>
+fn close_one<C: BootCell>(
+    cell: PartyCellOf<C>,
+    seats: Vec<PartySeat>,
+) -> Result<Closed<PartyOf<C>>, Misplaced>
     ensures kept { IfOk result (λ closed. IsPermutation seats.items closed.seats.items) }
     ensures wanting { IfErr result (λ _. AreWanting cell seats.items) }
 {

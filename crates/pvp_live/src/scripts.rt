@@ -1,5 +1,6 @@
 //! A run that was judged, as the script of a play.
-ghost use Rattle.std.specs.Prelude.{◌≡◌, ◌⊎◌, ◌++◌, Err, OnOk, IfErr, string_bytes};
+ghost use Rattle.std.specs.Prelude.{◌≡◌, ◌⊎◌, ◌++◌, [], Err, OnOk, IfErr, false, slice_get, string_bytes};
+ghost use Rattle.std.specs.Option.{option_map_or};
 ghost use Rattle.std.specs.List.{flat_map, list_any};
 ghost use Rattle.std.specs.Io.KnownBytes.{Appends};
 ghost use Rattle.pvp_text.specs.declared.book.RunFault.TheVariants.{NoMemory, Output};
@@ -10,7 +11,7 @@ use pvp_judge::Judgement;
 use pvp_text::book::{RunFault, write_text};
 use pvp_trace::attempt::push_step;
 use pvp_types::Step;
-use pvp_world::{Move, World};
+use pvp_world::{Move, Trail, World};
 use std::alloc::{AllocError, Global};
 use std::io::Write;
 use vr_types::MemCell;
@@ -67,10 +68,25 @@ fn push_lines(text: &mut String, world: &World<MemCell>) -> Result<(), AllocErro
 }
 
 /// Whether a site fell.
-fn has_fall(trail: &[Move]) -> bool
-    ensures { result ≡ list_any is_fall trail.now }
+fn has_fall(trail: &Trail) -> bool
+    ensures { result ≡ list_any is_fall trail.now.items }
 {
-    trail.iter().any(|step| is_fall(*step))
+    let mut found = false;
+    for at in 0..trail.len() {
+        let falls = is_fall_at(trail, at);
+        found = found || falls;
+    }
+    found
+}
+
+/// Whether the move at a place, counted from 0, is a site's fall.
+fn is_fall_at(trail: &Trail, at: usize) -> bool
+    ensures { result ≡ option_map_or is_fall (slice_get trail.now.items at) false }
+{
+    match trail.get(at) {
+        Some(step) => is_fall(step),
+        None => false,
+    }
 }
 
 /// Whether it is a site's fall.
@@ -88,10 +104,21 @@ fn push_moves(text: &mut String, world: &World<MemCell>) -> Result<(), AllocErro
     ensures { OnOk result (string_bytes text.new ≡ string_bytes text.old
         ++ flat_map (line_text world.now.setup) world.now.trail) }
 {
-    for step in world.trail() {
-        push_line(text, world, *step)?;
+    for at in 0..world.trail().len() {
+        push_move(text, world, at)?;
     }
     Ok(())
+}
+
+/// Appends the line of the step at a place of the trail, counted from 0.
+fn push_move(text: &mut String, world: &World<MemCell>, at: usize) -> Result<(), AllocError>
+    ensures { OnOk result (string_bytes text.new ≡ string_bytes text.old
+        ++ option_map_or (line_text world.now.setup) (slice_get world.now.trail at) []) }
+{
+    match world.trail().get(at) {
+        Some(step) => push_line(text, world, step),
+        None => Ok(()),
+    }
 }
 
 /// Appends the line of a step.

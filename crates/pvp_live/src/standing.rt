@@ -2,11 +2,11 @@
 ghost use Rattle.std.specs.Prelude.{◌≡◌, IfOk};
 ghost use Rattle.pvp_live.specs.Standings.{AreLooks, IsLook, standing_of};
 
-use pvp_parties::{Party, PartyCell, PartyOf};
+use pvp_parties::{PartyCellOf, PartyOf};
 use pvp_rooms::Sight;
 use std::alloc::{AllocError, Global};
 use std::sync::Wait;
-use vr_types::{Status, is_site};
+use vr_types::{BootCell, Status, is_site};
 
 /// Where a site stands.
 #[derive(Clone, Copy, Debug, PartialEq, Eq)]
@@ -19,7 +19,7 @@ pub struct Standing {
 }
 
 /// Where an actor stands, if it is a site.
-pub fn standing_of(party: &Party) -> Option<Standing>
+pub fn standing_of<C: BootCell>(party: &PartyOf<C>) -> Option<Standing>
     ensures { result ≡ standing_of party.now }
 {
     let PartyOf::Site(site) = party else {
@@ -40,24 +40,24 @@ struct Look {
     standing: Option<Standing>,
 }
 
-impl Sight<Party> for Look {
+impl<C: BootCell> Sight<PartyOf<C>> for Look {
     ghost use Rattle.pvp_live.specs.Standings.{standing_of};
 
     ghost sees = { λ party look. look.standing ≡ standing_of party };
 
-    fn see(&mut self, actor: &Party) {
+    fn see(&mut self, actor: &PartyOf<C>) {
         self.standing = standing_of(actor);
     }
 }
 
 /// Where the sites of these actors stand, each looked at once, in order. Another step may come between two looks. `Err`
 /// where memory is refused.
-pub fn look_at_sites<R: Wait>(
+pub fn look_at_sites<R: Wait, C: BootCell>(
     rt: &R,
     alloc: Global,
-    cells: &[PartyCell],
+    cells: &[PartyCellOf<C>],
 ) -> Result<Vec<Option<Standing>>, AllocError>
-    ensures { IfOk result (λ looks. AreLooks cells.now looks.items) }
+    ensures { IfOk result (λ looks. AreLooks C.BootCell cells.now looks.items) }
 {
     let mut looks = Vec::new(alloc);
     for cell in cells {
@@ -69,8 +69,8 @@ pub fn look_at_sites<R: Wait>(
 }
 
 /// Where the actor of a cell stands at this moment, if it is a site. It takes no memory.
-fn look_at<R: Wait>(rt: &R, cell: &PartyCell) -> Option<Standing>
-    ensures { IsLook result }
+fn look_at<R: Wait, C: BootCell>(rt: &R, cell: &PartyCellOf<C>) -> Option<Standing>
+    ensures { IsLook C.BootCell result }
 {
     let mut look = Look { standing: None };
     cell.look(rt, &mut look);

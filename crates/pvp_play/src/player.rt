@@ -1,12 +1,13 @@
 //! A player of a world: what is tried there, which envelopes come next, and who is cut off.
-ghost use Rattle.std.specs.Prelude.{◌≡◌, ◌≢◌, [], None, Some, IfOk, OnOk, OnErr, is_some, option_map};
-ghost use Rattle.pvp_play.specs.Player.{healed};
+ghost use Rattle.std.specs.Prelude.{◌≡◌, ◌≢◌, [], None, Some, Err, IfOk, OnOk, OnErr, is_some, option_map};
+ghost use Rattle.pvp_play.specs.Player.{healed, refusal_in};
+ghost use Rattle.pvp_world.specs.declared.fault.WorldFault.TheVariants.{NoMemory};
 
 use crate::notes::{make_room, note};
 use pvp_book::Book;
 use pvp_trace::{Attempt, try_step};
 use pvp_types::Step;
-use pvp_world::{World, WorldFault};
+use pvp_world::{Report, World, WorldFault};
 use std::alloc::{AllocError, Global};
 use std::marker::Model;
 use vr_types::{BootCell, Envelope};
@@ -96,13 +97,12 @@ impl<C: BootCell> Player<C> {
         ensures tried { IfOk result (Tries C.BootCell self.old self.new step) }
         ensures wants { OnErr result (Wants self.old self.new step) }
     {
+        if self.noted.is_none() {
+            return refusal_in(self.world.apply(alloc, step));
+        }
         make_room(&mut self.noted)?;
         let attempt = try_step(alloc, &mut self.world, step);
-        let told = match attempt.result {
-            Ok(_) => None,
-            Err(WorldFault::NoMemory) => return Err(AllocError),
-            Err(fault) => Some(fault),
-        };
+        let told = refusal_in(attempt.result)?;
         note(&mut self.noted, attempt);
         Ok(told)
     }
@@ -220,6 +220,18 @@ impl<C: BootCell> Player<C> {
         }
         without(&mut self.cut, actor);
         None
+    }
+}
+
+/// Why a step was refused, if it was. `Err` where memory was.
+fn refusal_in(came: Result<Report, WorldFault>) -> Result<Option<WorldFault>, AllocError>
+    ensures told { IfOk result (λ told. (told ≡ refusal_in came) × (told ≢ Some NoMemory)) }
+    ensures wants { OnErr result (came ≡ Err NoMemory) }
+{
+    match came {
+        Ok(_) => Ok(None),
+        Err(WorldFault::NoMemory) => Err(AllocError),
+        Err(fault) => Ok(Some(fault)),
     }
 }
 

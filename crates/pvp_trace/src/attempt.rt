@@ -11,7 +11,7 @@ use crate::names::{push_actor, push_currency};
 use crate::stand::{Stand, push_changes, site_of, stand_at};
 use crate::words::{push_amount, push_command};
 use pvp_types::Step;
-use pvp_world::{Move, Report, World, WorldFault};
+use pvp_world::{Move, Report, Trail, World, WorldFault};
 use std::alloc::{AllocError, Global};
 use vr_types::{Boot, BootCell, SiteFault};
 
@@ -54,13 +54,11 @@ pub fn try_step<C: BootCell>(alloc: Global, world: &mut World<C>, step: Step) ->
 }
 
 /// What the cell holds of the site that fell by a step, where it ended as a fall.
-fn fell_by(came: Result<Report, WorldFault>, trail: &[Move]) -> Option<Boot>
-    ensures { result ≡ fell_by came trail.now }
+fn fell_by(came: Result<Report, WorldFault>, trail: &Trail) -> Option<Boot>
+    ensures { result ≡ fell_by came trail.now.items }
 {
     match came {
-        Err(WorldFault::Site(SiteFault::NoMemory | SiteFault::CellFault)) => cell_of(
-            trail.last().copied(),
-        ),
+        Err(WorldFault::Site(SiteFault::NoMemory | SiteFault::CellFault)) => cell_of(trail.last()),
         _ => None,
     }
 }

@@ -1,11 +1,13 @@
 -- right choices for the bank's commands
 mod Choosing
 -- the world before anything was done
-mod Openings
+pub mod Openings
 -- what is dropped sends nothing
 pub mod Silent
 -- what a replica's handling of an event is, of the site that it shows
 mod Sites
+-- a move more on a trail
+mod Trails
 -- what a node or a client sends at once
 pub mod Sent
 -- how a world moves

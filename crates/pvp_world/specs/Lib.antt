@@ -3,6 +3,7 @@ pub mod Fault
 pub mod Progress
 pub mod Serving
 pub mod Steps
+pub mod Trail
 pub mod World
 pub mod Falling
 pub mod Refusals

@@ -7,6 +7,7 @@ pub mod fault;
 mod opening;
 mod post;
 pub mod report;
+pub mod trail;
 mod turn;
 pub mod world;
 
@@ -14,4 +15,5 @@ pub use client::Client;
 pub use fault::{FallFault, WorldFault};
 pub use headline::Move;
 pub use report::Report;
+pub use trail::Trail;
 pub use world::World;

@@ -1,5 +1,5 @@
 //! The post: what was sent is put on it, and reported.
-ghost use Rattle.std.specs.Prelude.{◌≡◌, ◌≢◌, ◌+◌, ◌<◌, ◌≤◌, ◌∷◌, ◌++◌, [], None, length, IfOk, IsOk, OnOk, OnErr, IsErrOf, Err, vec_len, vec_capacity};
+ghost use Rattle.std.specs.Prelude.{◌≡◌, ◌≢◌, ◌+◌, ◌≤◌, ◌++◌, [], None, length, IfOk, IsOk, OnOk, OnErr, IsErrOf, Err, vec_len, vec_capacity};
 ghost use Rattle.vr_types.specs.declared.event.SiteFault.TheVariants.{CellFault};
 ghost use Rattle.vr_types.specs.Cell.{HasRisen};
 ghost use Rattle.pvp_types.specs.declared.setup.Setup.{Setup};
@@ -7,7 +7,6 @@ ghost use Rattle.pvp_world.specs.Steps.{IsReport, is_fall};
 ghost use Rattle.pvp_world.specs.Serving.{Serves};
 
 use crate::report::Report;
-use headline::Move;
 use pvp_book::Book;
 use std::alloc::{AllocError, Global};
 use vr_site::Replica;
@@ -86,12 +85,4 @@ pub fn put_in_room(post: &mut Vec<Envelope<Book>>, mut sent: Vec<Envelope<Book>>
         count,
         dropped: None,
     }
-}
-
-/// Puts a move at the trail's end, where there is room.
-pub fn note(trail: &mut Vec<Move>, made: Move)
-    requires { vec_len trail.old < vec_capacity trail.old }
-    ensures { trail.new.items ≡ trail.old.items ++ made ∷ [] }
-{
-    let _noted = trail.push(made);
 }

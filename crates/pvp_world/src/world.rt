@@ -7,8 +7,9 @@ mod falls;
 use crate::client::Client;
 use crate::fault::WorldFault;
 use crate::opening::{clients_of, held_by, nodes_of, sites_over};
-use crate::post::{MOST_SENT, is_fall, note, put_in_room, serve};
+use crate::post::{MOST_SENT, is_fall, put_in_room, serve};
 use crate::report::Report;
+use crate::trail::Trail;
 use crate::turn::{beat, delivery};
 use headline::{ClientEvent, ClientFault, Move, Turn};
 use pvp_book::Book;
@@ -32,7 +33,7 @@ pub struct World<C: BootCell> {
     /// The operator, then the members.
     clients: Vec<Client>,
     post: Vec<Envelope<Book>>,
-    trail: Vec<Move>,
+    trail: Trail,
 }
 
 impl<C: BootCell> Model for World<C> {
@@ -80,7 +81,7 @@ impl<C: BootCell> World<C> {
             nodes: nodes_of(alloc, setup)?,
             clients: clients_of(alloc, setup)?,
             post: Vec::new(alloc),
-            trail: Vec::new(alloc),
+            trail: Trail::new(alloc),
         };
         world.is_proved();
         Ok(world)
@@ -190,10 +191,10 @@ impl<C: BootCell> World<C> {
     }
 
     /// What was done: the steps that were taken, and the falls of sites.
-    pub fn trail(&self) -> &[Move]
-        ensures { result.now ≡ self.now.trail }
+    pub fn trail(&self) -> &Trail
+        ensures { result.now.items ≡ self.now.trail }
     {
-        self.trail.as_slice()
+        &self.trail
     }
 
     /// Whether most sites run, and each site has room.
@@ -323,19 +324,19 @@ impl<C: BootCell> World<C> {
         ensures applies { Applies C.held self.old self.new step result }
         ensures tells { TellsFailures C.BootCell self.old self.new step result }
     {
-        let Ok(()) = self.trail.reserve(1) else {
+        let Ok(()) = self.trail.reserve() else {
             return Err(WorldFault::NoMemory);
         };
         let site = &mut self.sites[usize::from(site)];
         match serve(alloc, site, event, &mut self.post) {
             Ok(report) => {
-                note(&mut self.trail, Move::Takes(step));
+                self.trail.push(Move::Takes(step));
                 Ok(report)
             }
             Err(fault) => {
                 if is_fall(fault) {
                     let cell = site.boot();
-                    note(&mut self.trail, Move::Falls(step, cell));
+                    self.trail.push(Move::Falls(step, cell));
                 }
                 Err(WorldFault::Site(fault))
             }
@@ -355,7 +356,7 @@ impl<C: BootCell> World<C> {
         };
         match self.nodes[usize::from(ccy)].handle(event) {
             Ok(sent) => {
-                note(&mut self.trail, Move::Takes(step));
+                self.trail.push(Move::Takes(step));
                 Ok(put_in_room(&mut self.post, sent))
             }
             Err(fault) => Err(WorldFault::Node(fault)),
@@ -381,7 +382,7 @@ impl<C: BootCell> World<C> {
         };
         match self.clients[usize::from(client)].handle(alloc, event) {
             Ok(sent) => {
-                note(&mut self.trail, Move::Takes(step));
+                self.trail.push(Move::Takes(step));
                 Ok(put_in_room(&mut self.post, sent))
             }
             Err(fault) => Err(told_as(fault)),
@@ -421,12 +422,12 @@ fn told_as(fault: ClientFault) -> WorldFault
 }
 
 /// Makes room for one move and for what a node or a client sends at once. `Err` where memory is refused.
-fn make_room(trail: &mut Vec<Move>, post: &mut Vec<Envelope<Book>>) -> Result<(), AllocError>
+fn make_room(trail: &mut Trail, post: &mut Vec<Envelope<Book>>) -> Result<(), AllocError>
     ensures moves { trail.new.items ≡ trail.old.items }
     ensures envelopes { post.new.items ≡ post.old.items }
-    ensures room { OnOk result (vec_len trail.new < vec_capacity trail.new) }
+    ensures room { OnOk result (0 < trail.new.room) }
     ensures post_room { OnOk result (vec_len post.new + 7 ≤ vec_capacity post.new) }
 {
-    trail.reserve(1)?;
+    trail.reserve()?;
     post.reserve(MOST_SENT)
 }

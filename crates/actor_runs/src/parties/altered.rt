@@ -1,9 +1,8 @@
 //! What one site left, altered in one place after the run, and where the judgement of its bank finds it.
 use self::Other::{Beaten, Crashed};
 use self::Swap::{Ends, Events, Seats};
-use crate::parties::common::{
-    Filed, Fresh, Place, add, after, alone, are_judged, at_rest, close_after, let_go,
-};
+use crate::parties::common::{Place, add, after, alone, are_judged, at_rest, close_after, let_go};
+use fixtures::{Filed, Fresh};
 use pvp_audit::{Verdict, Why};
 use pvp_parties::{PartyEvent, PartyOf};
 use pvp_rooms::{Actor, Closed};

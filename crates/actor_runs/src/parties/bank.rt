@@ -1,7 +1,8 @@
 //! A request that goes through two of three sites, audited; and events that stray.
 use crate::parties::common::{
-    Filed, Fresh, Place, add, after, are_judged, close_after, first_letter, let_go, without_last,
+    Place, add, after, are_judged, close_after, first_letter, let_go, without_last,
 };
+use fixtures::{Filed, Fresh};
 use headline::ClientEvent;
 use pvp_audit::{Verdict, Why};
 use pvp_book::Book;

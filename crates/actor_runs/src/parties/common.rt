@@ -1,8 +1,8 @@
 //! Actors of a bank with their seats, and what is judged of what they left.
+use fixtures::Fresh;
 use fixtures::setup::three_currencies;
 use pvp_audit::Verdict;
 use pvp_book::Book;
-use pvp_cell::{FileCell, MemStore};
 use pvp_judge::{Judgement, in_memory, judge};
 use pvp_parties::{Party, PartyOf, client_cell, node_cell, site_cell};
 use pvp_peers::Served;
@@ -13,7 +13,7 @@ use std::mem;
 use std::process::Abort;
 use std::sync::Wait;
 use std::test::Fail;
-use vr_types::{BootCell, Envelope, MemCell};
+use vr_types::Envelope;
 
 /// An actor, by its number among those of its kind.
 #[derive(Clone, Copy)]
@@ -53,30 +53,6 @@ impl Gate for Open {
 pub struct Place<A: Actor> {
     cell: ActorCell<A>,
     seats: Vec<Seat<A::Event, A::Outcome>>,
-}
-
-/// A boot cell that the tests can make anew.
-pub trait Fresh: BootCell + Drop {
-    /// One that was never saved.
-    fn fresh(alloc: Global) -> Result<Self, Fail>;
-}
-
-impl Fresh for MemCell {
-    fn fresh(_alloc: Global) -> Result<Self, Fail> {
-        Ok(MemCell::new())
-    }
-}
-
-/// A boot cell that is a file, on a disk in memory.
-pub type Filed = FileCell<MemStore>;
-
-impl Fresh for Filed {
-    fn fresh(alloc: Global) -> Result<Self, Fail> {
-        match FileCell::create(alloc, MemStore::new()) {
-            Ok(cell) => Ok(cell),
-            Err(_) => Err(Fail::new("a cell")),
-        }
-    }
 }
 
 impl<C: Fresh> Place<PartyOf<C>> {

@@ -9,7 +9,7 @@ ghost use Rattle.pvp_world.specs.declared.fault.WorldFault.TheVariants.{Site as 
 ghost use Rattle.pvp_world.specs.declared.fault.FallFault.TheVariants.{Step as OfStep, Elsewhere};
 
 use crate::fault::{FallFault, WorldFault};
-use crate::post::{is_fall, note};
+use crate::post::is_fall;
 use crate::world::World;
 use headline::{Move, Turn};
 use pvp_book::Book;
@@ -67,7 +67,7 @@ impl<C: BootCell> World<C> {
         ensures falls { FallsTo C.held self.old self.new step cell result }
         ensures reliable { KeepsReliable C.BootCell self.old self.new result }
     {
-        let Ok(()) = self.trail.reserve(1) else {
+        let Ok(()) = self.trail.reserve() else {
             return Err(FallFault::Step(WorldFault::NoMemory));
         };
         let site = &mut self.sites[usize::from(site)];
@@ -76,7 +76,7 @@ impl<C: BootCell> World<C> {
             Err(fault) => return Err(FallFault::Step(WorldFault::Site(fault))),
         };
         let held = site.boot();
-        note(&mut self.trail, Move::Falls(step, held));
+        self.trail.push(Move::Falls(step, held));
         if held != cell {
             return Err(missed);
         }

@@ -3,11 +3,14 @@ use Rattle.std.proofs.lemmas.List.{nil_from_length}
 use Rattle.std.specs.Vec.Iter.{into_iter_items}
 use Rattle.pvp_live.specs.Seating.{BankSeat}
 use Rattle.pvp_live.specs.Seating.{TakesBack}
-use Rattle.pvp_live.proofs.Seating.{taken_more}
+use Rattle.pvp_live.proofs.Seating.{taken_more, taken_none}
 use Rattle.pvp_live.proofs.running.give_back.Goals as goal
 
+pub loop-seat-init : goal.loop-seat-init
+loop-seat-init g c = (tt, tt, ([], search rules, taken_none c.args.seats.now.items))
+
 pub loop-seat-preserved : goal.loop-seat-preserved
-loop-seat-preserved c =
+loop-seat-preserved g c =
     let so_far = c.loop-seat.invariant.2 in
     let seat = c.in-Some.seat in (
       tt,
@@ -21,7 +24,7 @@ loop-seat-preserved c =
     )
 
 pub returns-clause-back : goal.returns-clause-back
-returns-clause-back c =
+returns-clause-back g c =
     let so_far = c.loop-seat.invariant.2 in
     let none = nil_from_length (into_iter_items c.loop-seat.seat-iterator) (search (rules, c.in-None.ensures.steps.0)) in
     let all = so_far.1 ∙ ap (λ (l : List BankSeat). so_far.0 ++ l) none ∙ append-nil so_far.0 in

@@ -4,7 +4,7 @@ use Rattle.pvp_live.proofs.Seating.{takes_one}
 use Rattle.pvp_live.proofs.running.put_back.Goals as goal
 
 pub returns-clause-back : goal.returns-clause-back
-returns-clause-back c =
+returns-clause-back g c =
     let now = c.args.seats.now.items in
     let at = c.in_ok-place.place in
     let own = c.index_mut.result.now in

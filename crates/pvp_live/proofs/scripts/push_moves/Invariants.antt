@@ -4,5 +4,5 @@ use Rattle.pvp_live.specs.Scripts.{line_text}
 use Rattle.pvp_live.proofs.scripts.push_moves.Given as goal
 
 -- the lines so far are written
-abbrev pub invariant-loop-step : goal.invariant-loop-step
-invariant-loop-step l = string_bytes l.text ≡ string_bytes l.fn.text ++ so_far (line_text l.world.setup) [] l.step-items l.step-index
+abbrev pub invariant-loop-at : goal.invariant-loop-at
+invariant-loop-at l = string_bytes l.text ≡ string_bytes l.fn.text ++ so_far (line_text l.world.setup) [] l.world.trail l.at

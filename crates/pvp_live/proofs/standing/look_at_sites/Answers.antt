@@ -13,8 +13,8 @@ loop-cell-preserved g c =
     let there = slice_get_read cells (length cells) i cell refl c.loop-cell-test.true c.cell-item.is in
     let told = ap is_site (sym c.number.ensures) ∙ sym c.is_site.ensures in
     elim c.if-is_site.branch [
-      | then-is_site+in_ok-push w ↦ looks-more cells c.loop-cell.looks.items c.if-is_site.looks.items i cell w.look_at.result there
+      | then-is_site+in_ok-push w ↦ looks-more g.C.BootCell cells c.loop-cell.looks.items c.if-is_site.looks.items i cell w.look_at.result there
           (told ∙ w.if-is_site.true) w.look_at.ensures (ap (λ v. v.items) w.looks-is ∙ w.in_ok-push.ensures.items) c.loop-cell.invariant
-      | else-is_site w ↦ looks-same cells c.loop-cell.looks.items c.if-is_site.looks.items i cell there (told ∙ w.if-is_site.false)
+      | else-is_site w ↦ looks-same g.C.BootCell cells c.loop-cell.looks.items c.if-is_site.looks.items i cell there (told ∙ w.if-is_site.false)
           (ap (λ v. v.items) w.looks-is) c.loop-cell.invariant
     ]

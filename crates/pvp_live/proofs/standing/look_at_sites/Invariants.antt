@@ -4,4 +4,4 @@ use Rattle.pvp_live.proofs.standing.look_at_sites.Given as goal
 
 -- the sites so far were looked at
 abbrev pub invariant-loop-cell : goal.invariant-loop-cell
-invariant-loop-cell g l = AreLooks (take l.cell-index l.cells) l.looks.items
+invariant-loop-cell g l = AreLooks g.C.BootCell (take l.cell-index l.cells) l.looks.items

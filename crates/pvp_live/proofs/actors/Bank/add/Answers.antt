@@ -1,5 +1,5 @@
 use Rattle.std.specs.Vec.{vec_len}
-use Rattle.std.proofs.Common.{◌≡◌, rules, arith, length, List, [], ◌∷◌, ◌++◌, option_to_list, refl, sym, ap, ◌∙◌, subst}
+use Rattle.std.proofs.Common.{◌≡◌, rules, arith, length, List, [], ◌∷◌, ◌++◌, option_to_list, sym, ap, ◌∙◌, subst}
 use Rattle.pvp_live.specs.Seating.{BankSeat}
 use Rattle.pvp_rooms.specs.Seats.{Place}
 use Rattle.pvp_live.specs.Seating.{AreNew}
@@ -7,7 +7,7 @@ use Rattle.pvp_live.proofs.Seating.{fresh_last, fresh_long, new_more}
 use Rattle.pvp_live.proofs.actors.Bank.add.Goals as goal
 
 pub returns : goal.returns
-returns c =
+returns g c =
     let cell = c.args.made.0 in
     let own = c.unwrap-own.result in
     let last =
@@ -18,7 +18,7 @@ returns c =
     (new_more c.args.self.now.cells.items c.args.self.now.own.items cell own c.requires.new last.0 last.1))
 
 pub unwrap-own-requires : goal.unwrap-own-requires
-unwrap-own-requires c =
+unwrap-own-requires g c =
     let long = ap length c.requires.fresh ∙ fresh_long c.args.made.0.seats c.args.made.0.number in
     let kept : vec_len c.args.made.1 ≡ length c.args.made.1.items = search rules in
     c.pop.ensures.variant.1 (omega (arith, kept, long, c.requires.some))

@@ -3,4 +3,4 @@ use Rattle.pvp_live.proofs.actors.Bank.add_clients.Given as goal
 
 -- those so far have new seats
 abbrev pub invariant-loop-client : goal.invariant-loop-client
-invariant-loop-client l = AreNew l.self.cells.items l.self.own.items
+invariant-loop-client g l = AreNew l.self.cells.items l.self.own.items

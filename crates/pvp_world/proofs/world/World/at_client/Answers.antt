@@ -36,11 +36,11 @@ invariant_of-self-in-Ok-handle g c =
       moves-at g.C.BootCell.held w.setup w.opening.items w.sites.items w.nodes.items w.clients.items w.post.items w.trail.items _ _ _ _ _ (Takes c.args.step)
           (client-taken g.C.BootCell.held w.setup w.opening.items w.sites.items w.nodes.items w.clients.items w.post.items w.trail.items
           c.self.invariant.1 c.args.step
-          c.from.result c.args.event c.index_mut.result.now c.handle.new.self c.in-Ok-handle.sent.items c.put_in_room.new.post.items c.note.new.trail.items
+          c.from.result c.args.event c.index_mut.result.now c.handle.new.self c.in-Ok-handle.sent.items c.put_in_room.new.post.items c.push.new.self.items
           c.put_in_room.result is there
           c.in-Ok-handle.ensures.taken (c.put_in_room.ensures.posted ∙ ap (λ p. p ++ c.in-Ok-handle.sent.items) c.make_room.ensures.envelopes)
           (subst (λ p. IsReport p c.put_in_room.new.post.items None c.put_in_room.result) c.make_room.ensures.envelopes c.put_in_room.ensures.report)
-          (c.note.ensures ∙ ap (λ t. t ++ Takes c.args.step ∷ []) c.make_room.ensures.moves)).moves,
+          (c.push.ensures ∙ ap (λ t. t ++ Takes c.args.step ∷ []) c.make_room.ensures.moves)).moves,
     )
 
 pub returns-in-Ok-handle-clause-applies : goal.returns-in-Ok-handle-clause-applies
@@ -53,15 +53,15 @@ returns-in-Ok-handle-clause-applies g c =
     subst (λ v. turn v.post c.args.step ≡ Some (OfClient c.args.client c.args.event)) (sym c.self.view_is) c.requires.turn
     ∙ ap (λ k. Some (OfClient k c.args.event)) (sym c.from.ensures) in
     subst (λ v. IsTaken g.C.BootCell.held v (world_of w.setup w.opening.items w.sites.items w.nodes.items
-    (slice_set w.clients.items c.from.result c.handle.new.self) c.put_in_room.new.post.items c.note.new.trail.items) c.args.step c.put_in_room.result)
+    (slice_set w.clients.items c.from.result c.handle.new.self) c.put_in_room.new.post.items c.push.new.self.items) c.args.step c.put_in_room.result)
     c.self.view_is
     (client-taken g.C.BootCell.held w.setup w.opening.items w.sites.items w.nodes.items w.clients.items w.post.items w.trail.items
     c.self.invariant.1 c.args.step
-    c.from.result c.args.event c.index_mut.result.now c.handle.new.self c.in-Ok-handle.sent.items c.put_in_room.new.post.items c.note.new.trail.items
+    c.from.result c.args.event c.index_mut.result.now c.handle.new.self c.in-Ok-handle.sent.items c.put_in_room.new.post.items c.push.new.self.items
     c.put_in_room.result is there
     c.in-Ok-handle.ensures.taken (c.put_in_room.ensures.posted ∙ ap (λ p. p ++ c.in-Ok-handle.sent.items) c.make_room.ensures.envelopes)
     (subst (λ p. IsReport p c.put_in_room.new.post.items None c.put_in_room.result) c.make_room.ensures.envelopes c.put_in_room.ensures.report)
-    (c.note.ensures ∙ ap (λ t. t ++ Takes c.args.step ∷ []) c.make_room.ensures.moves))
+    (c.push.ensures ∙ ap (λ t. t ++ Takes c.args.step ∷ []) c.make_room.ensures.moves))
 
 pub invariant_of-self-in-Err : goal.invariant_of-self-in-Err
 invariant_of-self-in-Err g c =

@@ -8,4 +8,4 @@ invariant_of-world g c =
     c.in_ok-nodes_of.field-0.items c.in_ok-clients_of.field-0.items c.new.result.items c.new-2.result.items c.requires.valid
     c.requires.sites c.in_ok-copy.ensures
     (c.in_ok-opening.ensures ∙ ap (λ (cells : List g.row.C.Denot). map g.C.BootCell.held cells) c.as_slice.ensures.value)
-    c.in_ok-sites_over.ensures.sites c.in_ok-nodes_of.ensures c.in_ok-clients_of.ensures c.new.ensures.items c.new-2.ensures.items
+    c.in_ok-sites_over.ensures.sites c.in_ok-nodes_of.ensures c.in_ok-clients_of.ensures c.new.ensures.items c.new-2.ensures

@@ -105,10 +105,10 @@ invariant_of-self-then-ne g c =
       moves-at g.C.BootCell.held w.setup w.opening.items w.sites.items w.nodes.items w.clients.items w.post.items w.trail.items _ _ _ _ _ _
           (site-down g.C.BootCell.held w.setup w.opening.items w.sites.items w.nodes.items w.clients.items w.post.items w.trail.items
           c.self.invariant.1 c.args.step
-          c.from.result c.args.event c.index_mut-site.result.now c.go_down.new.site w.post.items c.note.new.trail.items c.boot-held.result is
+          c.from.result c.args.event c.index_mut-site.result.now c.go_down.new.site w.post.items c.push.new.self.items c.boot-held.result is
           there c.boot-held.ensures
           (c.in-Ok-go_down.ensures.down w.setup c.from.result) refl
-          (c.note.ensures ∙ ap (λ t. t ++ Falls c.args.step c.boot-held.result ∷ []) c.reserve.ensures.items)),
+          (c.push.ensures ∙ ap (λ t. t ++ Falls c.args.step c.boot-held.result ∷ []) c.reserve.ensures.items)),
     )
 
 pub returns-then-ne-clause-falls : goal.returns-then-ne-clause-falls
@@ -123,23 +123,23 @@ returns-then-ne-clause-falls g c =
     let old = world_of w.setup w.opening.items w.sites.items w.nodes.items w.clients.items w.post.items w.trail.items in
     let new =
     world_of w.setup w.opening.items (slice_set w.sites.items c.from.result c.go_down.new.site) w.nodes.items w.clients.items w.post.items
-    c.note.new.trail.items in
+    c.push.new.self.items in
     let apart : c.boot-held.result ≢ c.args.cell = λ same. search rules in
     subst (λ v. FallsTo g.C.BootCell.held v new c.args.step c.args.cell (Err c.in-Ok-go_down.missed)) c.self.view_is
     (told-elsewhere g.C.BootCell.held old new c.args.step c.args.cell c.in-Ok-go_down.missed c.from.result c.args.event
     c.index_mut-site.result.now c.boot-held.result
     c.in-Ok-go_down.ensures.miss is there apart (λ same. c.boot-held.ensures ∙ c.go_down.ensures.holds same)
     (site-down g.C.BootCell.held w.setup w.opening.items w.sites.items w.nodes.items w.clients.items w.post.items w.trail.items c.self.invariant.1 c.args.step
-    c.from.result c.args.event c.index_mut-site.result.now c.go_down.new.site w.post.items c.note.new.trail.items c.boot-held.result is
+    c.from.result c.args.event c.index_mut-site.result.now c.go_down.new.site w.post.items c.push.new.self.items c.boot-held.result is
     there c.boot-held.ensures
     (c.in-Ok-go_down.ensures.down w.setup c.from.result) refl
-    (c.note.ensures ∙ ap (λ t. t ++ Falls c.args.step c.boot-held.result ∷ []) c.reserve.ensures.items))
+    (c.push.ensures ∙ ap (λ t. t ++ Falls c.args.step c.boot-held.result ∷ []) c.reserve.ensures.items))
     (λ told. down-saved g.C.BootCell.held w.setup w.opening.items w.sites.items w.nodes.items w.clients.items w.post.items w.trail.items
     c.self.invariant.1 c.args.step
-    c.from.result c.args.event c.index_mut-site.result.now c.go_down.new.site w.post.items c.note.new.trail.items c.boot-held.result is
+    c.from.result c.args.event c.index_mut-site.result.now c.go_down.new.site w.post.items c.push.new.self.items c.boot-held.result is
     there c.boot-held.ensures
     (c.in-Ok-go_down.ensures.down w.setup c.from.result) refl
-    (c.note.ensures ∙ ap (λ t. t ++ Falls c.args.step c.boot-held.result ∷ []) c.reserve.ensures.items)
+    (c.push.ensures ∙ ap (λ t. t ++ Falls c.args.step c.boot-held.result ∷ []) c.reserve.ensures.items)
     (c.go_down.ensures.saved (c.in-Ok-go_down.is ∙ ap (λ m. Ok m) told) (λ same. apart (c.boot-held.ensures ∙ same)) w.setup c.from.result)))
 
 pub returns-then-ne-clause-reliable : goal.returns-then-ne-clause-reliable
@@ -154,7 +154,7 @@ returns-then-ne-clause-reliable g c =
     let old = world_of w.setup w.opening.items w.sites.items w.nodes.items w.clients.items w.post.items w.trail.items in
     let new =
     world_of w.setup w.opening.items (slice_set w.sites.items c.from.result c.go_down.new.site) w.nodes.items w.clients.items w.post.items
-    c.note.new.trail.items in
+    c.push.new.self.items in
     subst (λ v. KeepsReliable g.C.BootCell v new (Err c.in-Ok-go_down.missed)) c.self.view_is
     (missed-reliable g.C.BootCell old new c.from.result c.index_mut-site.result.now c.go_down.new.site there refl c.go_down.result c.go_down.ensures.reliable
     c.in-Ok-go_down.missed c.in-Ok-go_down.is)
@@ -172,10 +172,10 @@ invariant_of-self-2 g c =
       moves-at g.C.BootCell.held w.setup w.opening.items w.sites.items w.nodes.items w.clients.items w.post.items w.trail.items _ _ _ _ _ _
           (site-down g.C.BootCell.held w.setup w.opening.items w.sites.items w.nodes.items w.clients.items w.post.items w.trail.items
           c.self.invariant.1 c.args.step
-          c.from.result c.args.event c.index_mut-site.result.now c.go_down.new.site w.post.items c.note.new.trail.items c.boot-held.result is
+          c.from.result c.args.event c.index_mut-site.result.now c.go_down.new.site w.post.items c.push.new.self.items c.boot-held.result is
           there c.boot-held.ensures
           (c.in-Ok-go_down.ensures.down w.setup c.from.result) refl
-          (c.note.ensures ∙ ap (λ t. t ++ Falls c.args.step c.boot-held.result ∷ []) c.reserve.ensures.items)),
+          (c.push.ensures ∙ ap (λ t. t ++ Falls c.args.step c.boot-held.result ∷ []) c.reserve.ensures.items)),
     )
 
 pub returns-clause-falls : goal.returns-clause-falls
@@ -190,14 +190,14 @@ returns-clause-falls g c =
     let old = world_of w.setup w.opening.items w.sites.items w.nodes.items w.clients.items w.post.items w.trail.items in
     let new =
     world_of w.setup w.opening.items (slice_set w.sites.items c.from.result c.go_down.new.site) w.nodes.items w.clients.items w.post.items
-    c.note.new.trail.items in
+    c.push.new.self.items in
     subst (λ v. Moves g.C.BootCell.held v new (Falls c.args.step c.args.cell)) c.self.view_is
     (subst (λ k. Moves g.C.BootCell.held old new (Falls c.args.step k)) (search rules)
     (site-down g.C.BootCell.held w.setup w.opening.items w.sites.items w.nodes.items w.clients.items w.post.items w.trail.items c.self.invariant.1 c.args.step
-    c.from.result c.args.event c.index_mut-site.result.now c.go_down.new.site w.post.items c.note.new.trail.items c.boot-held.result is
+    c.from.result c.args.event c.index_mut-site.result.now c.go_down.new.site w.post.items c.push.new.self.items c.boot-held.result is
     there c.boot-held.ensures
     (c.in-Ok-go_down.ensures.down w.setup c.from.result) refl
-    (c.note.ensures ∙ ap (λ t. t ++ Falls c.args.step c.boot-held.result ∷ []) c.reserve.ensures.items)))
+    (c.push.ensures ∙ ap (λ t. t ++ Falls c.args.step c.boot-held.result ∷ []) c.reserve.ensures.items)))
 
 pub returns-clause-reliable : goal.returns-clause-reliable
 returns-clause-reliable g c =
@@ -211,6 +211,6 @@ returns-clause-reliable g c =
     let old = world_of w.setup w.opening.items w.sites.items w.nodes.items w.clients.items w.post.items w.trail.items in
     let new =
     world_of w.setup w.opening.items (slice_set w.sites.items c.from.result c.go_down.new.site) w.nodes.items w.clients.items w.post.items
-    c.note.new.trail.items in
+    c.push.new.self.items in
     subst (λ v. KeepsReliable g.C.BootCell v new (Ok (tt {0}))) c.self.view_is
     (fallen-reliable g.C.BootCell old new c.from.result c.index_mut-site.result.now c.go_down.new.site there refl c.go_down.result c.go_down.ensures.reliable)
