@@ -223,11 +223,25 @@ fn tells_lines(rt: &impl Abort, told: &str) {
 
 #[test]
 fn tells_what_goes_on(rt: HostRuntime) -> Result<(), Fail> {
+    tells::<_, MemCell>(&rt)
+}
+
+#[test]
+fn tells_what_goes_on_over_files(rt: HostRuntime) -> Result<(), Fail> {
+    tells::<_, Filed>(&rt)
+}
+
+/// A run over such cells is judged yes, and tells what goes on and which lines were refused.
+fn tells<R, C: Fresh + Send>(rt: &R) -> Result<(), Fail>
+where
+    R: Abort + AllocGlobal + Threads + Wait + Clock + Net + Sync,
+    R::Stream: Read + Write + Send + Drop,
+{
     let mut notes: Vec<u8> = Vec::new(rt.alloc());
-    let lived = ran::<_, MemCell, _>(&rt, TOLD, &mut notes)?;
+    let lived = ran::<R, C, _>(rt, TOLD, &mut notes)?;
     assert!(rt; matches!(lived.judgement, Judgement::Yes(_)));
-    tells_lines(&rt, std::str::from_utf8(notes.as_slice())?);
-    tells_refused(&rt, lived.refused)
+    tells_lines(rt, std::str::from_utf8(notes.as_slice())?);
+    tells_refused(rt, lived.refused)
 }
 
 /// Lines 2, 6 and 7 were refused.
