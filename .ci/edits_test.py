@@ -334,7 +334,11 @@ pub struct Veiled {
 }
 
 impl Model for Veiled {
+    ghost use Rattle.far.specs.Bases.{unused};
+
     ghost Value = { ℕ };
+
+    ghost view = { λ v. v.veiled + unused };
 }
 
 pub fn look(veiled: &Veiled) -> u8
@@ -424,15 +428,22 @@ def wrong_reach(room):
         ("a function over an array that is not called", "src/held.rt", "result ≡ 9", "9 ≡ result", False),
         ("a public field of a type with a model", "src/held.rt", "Pair<u8, u8>", "Pair<u8, u16>", True),
         ("a private field of a type with a model", "src/held.rt", "veiled: u16", "veiled: u32", False),
+        ("the value of a model", "src/held.rt", "Value = { ℕ }", "Value = { List ℕ }", True),
+        ("the view of a model", "src/held.rt", "v.veiled + unused", "unused + v.veiled", False),
         ("what is no item", "src/held.rt", "made!(10)", "made!(11)", True),
     ):
         write(f"{folder}/{file}", FAR[file].replace(old, new))
         wrong += wrong_key(way, key() != before, is_another)
         write(f"{folder}/{file}", FAR[file])
     before = key("it_looks_away")
-    write(f"{folder}/src/held.rt", FAR["src/held.rt"].replace("veiled: u16", "veiled: u32"))
-    wrong += wrong_key("a private field of a type with a model in its module", key("it_looks_away") != before, True)
-    write(f"{folder}/src/held.rt", FAR["src/held.rt"])
+    for way, file, old, new in (
+        ("a private field of a type with a model in its module", "src/held.rt", "veiled: u16", "veiled: u32"),
+        ("the view of a model in its module", "src/held.rt", "v.veiled + unused", "unused + v.veiled"),
+        ("what the view of a model stands on, in its module", "specs/Bases.antt", "unused = 2", "unused = 3"),
+    ):
+        write(f"{folder}/{file}", FAR[file].replace(old, new))
+        wrong += wrong_key(way, key("it_looks_away") != before, True)
+        write(f"{folder}/{file}", FAR[file])
     write(f"{folder}/specs/Counts.antt", FAR["specs/Counts.antt"].replace("far.specs.Bases", "far.specs.Gone"))
     try:
         key()

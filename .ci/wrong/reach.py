@@ -5,9 +5,9 @@ A word of an item reaches what stands under that name: in specs/ by the file's i
 imports of definitions, and by all types, traits, constants, macros and free functions of that name in these crates, whichever is meant,
 where the word is imported, stands behind `::`, or is of its own file. A method is reached by its name once its type is. A type reaches
 its blocks of the kit's traits and of those that one of the files reached has in scope, and a trait all that it asks. Of a struct that
-has a model, which is all that others know of it, the private fields are reached from the functions of its module and of those below
-it, and by definitions that import them. What no item has of a file of src/ is reached with each of its items. Where a name cannot be
-found in the file that an import names, all of that file is reached; an import of nothing stops all.
+has a model others know its value alone: the private fields, the view of them and what holds of them are reached from the functions of
+its module and of those below it, and by definitions that import them. What no item has of a file of src/ is reached with each of its
+items. Where a name cannot be found in the file that an import names, all of that file is reached; an import of nothing stops all.
 """
 import functools
 import os
@@ -106,7 +106,7 @@ class Sources:
 
     def __init__(self, crate, file, text):
         self.crate, self.file, self.imports, self.text = crate, file, Imports(text), text
-        self.functions, self.types, self.blocks, self.inner = [], [], [], {}
+        self.functions, self.types, self.blocks, self.inner, self.within = [], [], [], {}, {}
         plain, of_file = blanked(text), functions_of(file, text)
         inside, bodies, taken = owners(plain), [(it.body, it.end) for it in of_file], [(it.head, it.end + 1) for it in of_file]
         self.heads = [(a, b, text[a : plain.find("{", a)]) for a, b, _, _ in inside]
@@ -119,7 +119,10 @@ class Sources:
         for begin, end, type_, trait in inside:
             taken += [(begin, end + 1)] if trait else [(begin, plain.find("{", begin) + 1), (end, end + 1)]
             if trait:
-                self.blocks.append(Item(crate, file, trait, self.bare(bodies, begin, end + 1), self.imports, type_))
+                part = self.bare(bodies, begin, end + 1)
+                if trait == "Model":
+                    part, self.within[type_] = model_parted(part)
+                self.blocks.append(Item(crate, file, trait, part, self.imports, type_))
         for it in DECLARED.finditer(plain):
             if not any(a <= it.start() <= b for a, b in bodies):
                 begin, end = max(plain.rfind(mark, 0, it.start()) for mark in "{};") + 1, end_of(plain, it.end(), it[1])
@@ -128,10 +131,10 @@ class Sources:
         self.rest = Item(crate, file, "", self.left(plain, taken), self.imports)
 
     def declare(self, name, text):
-        """Keeps a type, and of one that has a model the private fields apart."""
-        if any(it.name == "Model" and it.owner == name for it in self.blocks):
+        """Keeps a type, and of one that has a model apart what others do not see of it."""
+        if name in self.within:
             text, inner = parted(text)
-            self.inner[name] = Item(self.crate, self.file, f"{name} within", inner, self.imports)
+            self.inner[name] = Item(self.crate, self.file, f"{name} within", inner + self.within[name], self.imports)
         self.types.append(Item(self.crate, self.file, name, text, self.imports, is_type=True))
 
     def left(self, plain, taken):
@@ -179,6 +182,16 @@ def parted(text):
         fields = [*fields, ""] if it == "," and not depth else [*fields[:-1], fields[-1] + it]
     own = [it.strip() for it in fields if it.strip() and not re.match(r"\s*(#\[[^\]]*\]\s*)*pub\b", it)]
     return f"{head}{{{','.join(it.strip() for it in fields if it.strip() not in own)}}}", ",".join(own)
+
+
+def model_parted(text):
+    """The block of a model without its view and its invariant, and these; its imports are those of the file."""
+    text = re.sub(r"ghost use [^;]*; ?", "", text)
+    ends = [(it.start(), closing(text, it.end() - 1) + 2) for it in re.finditer(r"ghost (?:view|invariant) = \{", text)]
+    inner = "".join(text[begin:end] for begin, end in ends)
+    for begin, end in reversed(ends):
+        text = text[:begin] + text[end:]
+    return text, inner
 
 
 def is_within(module, outer):
