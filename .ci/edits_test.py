@@ -359,6 +359,12 @@ impl Holder {
     {
         4
     }
+
+    fn kept(&self) -> u8
+        ensures { result ≡ 12 }
+    {
+        12
+    }
 }
 
 impl Shows for Holder {
@@ -444,12 +450,46 @@ def wrong_reach(room):
         write(f"{folder}/{file}", FAR[file].replace(old, new))
         wrong += wrong_key(way, key("it_looks_away") != before, True)
         write(f"{folder}/{file}", FAR[file])
+    wrong += wrong_above(room, crate)
     write(f"{folder}/specs/Counts.antt", FAR["specs/Counts.antt"].replace("far.specs.Bases", "far.specs.Gone"))
     try:
         key()
         wrong.append("an import of nothing is let go")
     except LookupError:
         pass
+    return wrong
+
+
+ABOVE = """use far::held::Holder;
+
+pub fn told(holder: &Holder) -> u8
+    ensures { result ≡ 14 }
+{
+    let kept = holder.shown();
+    kept + 14
+}
+"""
+
+
+def wrong_above(room, below):
+    """Whether a key has what a crate below lets others call, and not what it keeps to itself."""
+    wrong, folder, file = [], f"{room}/above", f"{below.folder}/src/held.rt"
+    write(f"{folder}/src/lib.rt", ABOVE)
+    write(f"{folder}/wrong/it_tells_more.edit", "file: src/lib.rt\nold:     kept + 14\nnew:     kept + 15\n")
+    crate = SimpleNamespace(name="above", folder=folder, below=lambda: [below])
+
+    def key():
+        reach.files_of.cache_clear()
+        return record.keys_of(crate, folder, edits_of(folder, functions_in(folder)))["above/it_tells_more.edit"]
+
+    before = key()
+    for way, old, new, is_another in (
+        ("a method of a crate below", "result ≡ self.now.inner.count", "self.now.inner.count ≡ result", True),
+        ("a method that a crate below keeps to itself", "result ≡ 12", "12 ≡ result", False),
+    ):
+        write(file, FAR["src/held.rt"].replace(old, new))
+        wrong += wrong_key(way, key() != before, is_another)
+        write(file, FAR["src/held.rt"])
     return wrong
 
 

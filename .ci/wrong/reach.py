@@ -3,8 +3,8 @@
 An item is a definition of specs/, or a type, trait, constant, macro, block of a trait, or function of src/, the last without its body.
 A word of an item reaches what stands under that name: in specs/ by the file's imports, which name all that it uses, and in src/ by the
 imports of definitions, and by all types, traits, constants, macros and free functions of that name in these crates, whichever is meant,
-where the word is imported, stands behind `::`, or is of its own file. A method is reached by its name once its type is. A type reaches
-its blocks of the kit's traits and of those that one of the files reached has in scope, and a trait all that it asks. Of a struct that
+where the word is imported, stands behind `::`, or is of its own file. A method is reached by its name once its type is. What a crate
+below does not let others call is not reached by words. A type reaches its blocks of the kit's traits and of those that one of the files reached has in scope, and a trait all that it asks. Of a struct that
 has a model others know its value alone: the private fields, the view of them and what holds of them are reached from the functions of
 its module and of those below it, and by definitions that import them. What no item has of a file of src/ is reached with each of its
 items. Where a name cannot be found in the file that an import names, all of that file is reached; an import of nothing stops all.
@@ -30,8 +30,9 @@ def uncommented(text):
 class Item:
     """An item: where it stands, its names, its text, and the imports that its words go by."""
 
-    def __init__(self, crate, file, name, text, imports, owner=None, is_type=False):
-        self.crate, self.file, self.name, self.text, self.imports, self.owner, self.is_type = crate, file, name, text, imports, owner, is_type
+    def __init__(self, crate, file, name, text, imports, owner=None, is_type=False, is_open=True):
+        self.crate, self.file, self.name, self.text, self.imports, self.owner = crate, file, name, text, imports, owner
+        self.is_type, self.is_open = is_type, is_open
 
     @property
     def place(self):
@@ -113,9 +114,10 @@ class Sources:
         for it in of_file:
             if any(a < it.head < b for a, b in bodies) or (it.owner and it.owner[1]):
                 continue
-            whole = re.search(r"\bconst\b", uncommented(text[it.head : it.name_at]))
-            part = self.block_of(it.name_at) + text[it.head : it.end + 1 if whole else it.body]
-            self.functions.append(Item(crate, file, it.name, uncommented(part), self.imports, it.owner and it.owner[0]))
+            words = uncommented(text[it.head : it.name_at])
+            part = self.block_of(it.name_at) + text[it.head : it.end + 1 if re.search(r"\bconst\b", words) else it.body]
+            is_open = bool(re.search(r"\bpub\b(?! ?\()", words))
+            self.functions.append(Item(crate, file, it.name, uncommented(part), self.imports, it.owner and it.owner[0], is_open=is_open))
         for begin, end, type_, trait in inside:
             taken += [(begin, end + 1)] if trait else [(begin, plain.find("{", begin) + 1), (end, end + 1)]
             if trait:
@@ -191,7 +193,7 @@ def model_parted(text):
     inner = "".join(text[begin:end] for begin, end in ends)
     for begin, end in reversed(ends):
         text = text[:begin] + text[end:]
-    return text, inner
+    return re.sub(r"\s+", " ", text), inner
 
 
 def is_within(module, outer):
@@ -224,9 +226,10 @@ class House:
             self.sources |= {(crate, it): file for it, file in sources.items()}
         self.crate, self.crates = folders[-1][0], {crate for crate, _ in folders}
         for it in self.sources.values():
-            for item in [*it.types, *(of for of in it.functions if not of.owner)]:
+            called = [of for of in it.functions if of.is_open or of.crate == self.crate]
+            for item in [*it.types, *(of for of in called if not of.owner)]:
                 self.named.setdefault(item.name, []).append(item)
-            for item in it.functions:
+            for item in called:
                 if item.owner:
                     self.methods.setdefault(item.name, []).append(item)
             for item in it.blocks:
