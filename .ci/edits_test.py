@@ -292,15 +292,19 @@ FAR = {
 use Rattle.std.specs.Prelude.{ℕ}
 use Rattle.far.specs.Bases.{base as ground-floor, unused}
 use Rattle.far.specs.Ways.{◌⊕◌}
+use Rattle.far.specs.Sides.{left}
+use Rattle.far.specs.Others as other
 
 abbrev pub doubled : ℕ → ℕ
 doubled 0 = ground-floor
-doubled n = n ⊕ n
+doubled n = n ⊕ other.left
 
 abbrev pub apart : ℕ
 apart = 7
 """,
     "specs/Bases.antt": "abbrev pub base : ℕ\nbase = 1\n\nabbrev pub unused : ℕ\nunused = 2\n",
+    "specs/Sides.antt": "abbrev pub left : ℕ\nleft = 1\n",
+    "specs/Others.antt": "abbrev pub left : ℕ\nleft = 2\n",
     "specs/Ways.antt": "infixl 10 ◌⊕◌\nabbrev pub ◌⊕◌ : ℕ → ℕ → ℕ\na ⊕ b = a + b\n",
     "src/lib.rt": """ghost use Rattle.far.specs.Counts.{doubled as twice};
 
@@ -417,6 +421,8 @@ def wrong_reach(room):
     before = key()
     for way, file, old, new, is_another in (
         ("a definition under another name", "specs/Bases.antt", "base = 1", "base = 0", True),
+        ("a definition behind a module's name", "specs/Others.antt", "left = 2", "left = 3", True),
+        ("a definition of the same name in another module", "specs/Sides.antt", "left = 1", "left = 3", False),
         ("a definition that is imported and not used", "specs/Bases.antt", "unused = 2", "unused = 3", False),
         ("another definition of a file", "specs/Counts.antt", "apart = 7", "apart = 8", False),
         ("an operator", "specs/Ways.antt", "a ⊕ b = a + b", "a ⊕ b = b + a", True),

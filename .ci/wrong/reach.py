@@ -1,8 +1,8 @@
 """What a function's words reach: the items of its crate and of those below that its contract, its body and their meaning rest on.
 
 An item is a definition of specs/, or a type, trait, constant, macro, block of a trait, or function of src/, the last without its body.
-A word of an item reaches what stands under that name: in specs/ by the file's imports, which name all that it uses, and in src/ by the
-imports of definitions, and by all types, traits, constants, macros and free functions of that name in these crates, whichever is meant,
+A word of an item reaches what stands under that name: in specs/ by the file's imports, which name all that it uses (behind the name of
+a module it is only that module's), and in src/ by the imports of definitions, and by all types, traits, constants, macros and free functions of that name in these crates, whichever is meant,
 where the word is imported, stands behind `::`, or is of its own file. A method is reached by its name once its type is. What a crate
 below does not let others call is not reached by words. A type reaches its blocks of the kit's traits and of those that one of the files reached has in scope, and a trait all that it asks. Of a struct that
 has a model others know its value alone: the private fields, the view of them and what holds of them are reached from the functions of
@@ -266,15 +266,18 @@ class House:
 
     def of_words(self, item, text):
         """The items that the words of a text reach, by the imports of this item's file."""
-        imports, names, found = item.imports, set(NAME.findall(text)), []
+        imports, found, left = item.imports, [], text
+        for alias in sorted(set(NAME.findall(text)) & imports.aliases.keys()):
+            behind = rf"\b{alias}\.([^\s(){{}}\[\],;.:⟦⟧]+)"
+            for name in set(re.findall(behind, text)) or {""}:
+                found += [it for path in imports.aliases[alias] for it in self.imported(path, name)]
+            left = re.sub(behind, alias, left)
+        names = set(NAME.findall(left))
         for name in names & imports.names.keys():
             found += [it for path, of in imports.names[name] for it in self.imported(path, of)]
         for name, paths in imports.names.items():
             if "◌" in name:
                 found += [it for path, of in paths for it in self.imported(path, of)]
-        for alias in names & imports.aliases.keys():
-            for name in set(re.findall(rf"\b{alias}\.([^\s(){{}}\[\],;.:⟦⟧]+)", text)) or {""}:
-                found += [it for path in imports.aliases[alias] for it in self.imported(path, name)]
         if item.file.startswith("specs/"):
             file = self.specs[item.crate, module_of(item.file)]
             found += [it for name in names & file.items.keys() for it in file.items[name]]
