@@ -2,12 +2,13 @@
 
 An item is a definition of specs/, or a type, trait, constant, macro, block of a trait, or function of src/, the last without its body.
 A word of an item reaches what stands under that name: in specs/ by the file's imports, which name all that it uses (behind the name of
-a module it is only that module's), and in src/ by the imports of definitions, and by all types, traits, constants, macros and free functions of that name in these crates, whichever is meant,
-where the word is imported, stands behind `::`, or is of its own file. A method is reached by its name once its type is. What a crate
-below does not let others call is not reached by words. A type reaches its blocks of the kit's traits and of those that one of the files reached has in scope, and a trait all that it asks. Of a struct that
-has a model others know its value alone: the private fields, the view of them and what holds of them are reached from the functions of
-its module and of those below it, and by definitions that import them. What no item has of a file of src/ is reached with each of its
-items. Where a name cannot be found in the file that an import names, all of that file is reached; an import of nothing stops all.
+a module it is only that module's), and in src/ by the imports of definitions, and by all types, traits, constants, macros and free
+functions of that name in these crates, whichever is meant, where the word is imported, stands behind `::`, or is of its own file. A
+method is reached by its name once its type is. What a crate below does not let others call is not reached by words. A type reaches its
+blocks of the kit's traits and of those that one of the files reached has in scope, and a trait all that it asks. Of a struct that has
+a model the private fields, the view and the invariant count for all that reach it: a clause sees its value alone, but of a value that
+is its own a proof knows that it is the view of such fields. What no item has of a file of src/ is reached with each of its items. Where
+a name cannot be found in the file that an import names, all of that file is reached; an import of nothing stops all.
 """
 import functools
 import os
@@ -107,7 +108,7 @@ class Sources:
 
     def __init__(self, crate, file, text):
         self.crate, self.file, self.imports, self.text = crate, file, Imports(text), text
-        self.functions, self.types, self.blocks, self.inner, self.within = [], [], [], {}, {}
+        self.functions, self.types, self.blocks = [], [], []
         plain, of_file = blanked(text), functions_of(file, text)
         inside, bodies, taken = owners(plain), [(it.body, it.end) for it in of_file], [(it.head, it.end + 1) for it in of_file]
         self.heads = [(a, b, text[a : plain.find("{", a)]) for a, b, _, _ in inside]
@@ -121,23 +122,13 @@ class Sources:
         for begin, end, type_, trait in inside:
             taken += [(begin, end + 1)] if trait else [(begin, plain.find("{", begin) + 1), (end, end + 1)]
             if trait:
-                part = self.bare(bodies, begin, end + 1)
-                if trait == "Model":
-                    part, self.within[type_] = model_parted(part)
-                self.blocks.append(Item(crate, file, trait, part, self.imports, type_))
+                self.blocks.append(Item(crate, file, trait, self.bare(bodies, begin, end + 1), self.imports, type_))
         for it in DECLARED.finditer(plain):
             if not any(a <= it.start() <= b for a, b in bodies):
                 begin, end = max(plain.rfind(mark, 0, it.start()) for mark in "{};") + 1, end_of(plain, it.end(), it[1])
                 taken.append((begin, end))
-                self.declare(it[2], self.bare(bodies, begin, end))
+                self.types.append(Item(crate, file, it[2], self.bare(bodies, begin, end), self.imports, is_type=True))
         self.rest = Item(crate, file, "", self.left(plain, taken), self.imports)
-
-    def declare(self, name, text):
-        """Keeps a type, and of one that has a model apart what others do not see of it."""
-        if name in self.within:
-            text, inner = parted(text)
-            self.inner[name] = Item(self.crate, self.file, f"{name} within", inner + self.within[name], self.imports)
-        self.types.append(Item(self.crate, self.file, name, text, self.imports, is_type=True))
 
     def left(self, plain, taken):
         """What no item has, but for imports, the names of modules and attributes of the file."""
@@ -171,34 +162,6 @@ def end_of(plain, at, kind):
         if it[0] == ";" and not depth:
             return at + it.start() + 1
     return len(plain)
-
-
-def parted(text):
-    """A type's text without private fields, and these, where it is a struct with names for its fields; else the whole, and nothing."""
-    head, brace, body = text.partition("{")
-    if not brace or not re.search(r"\bstruct\b", head):
-        return text, ""
-    fields, depth = [""], 0
-    for it in re.findall(r"->|.", body[: body.rindex("}")], re.S):
-        depth += {"(": 1, "[": 1, "<": 1, "{": 1, ")": -1, "]": -1, ">": -1, "}": -1}.get(it, 0)
-        fields = [*fields, ""] if it == "," and not depth else [*fields[:-1], fields[-1] + it]
-    own = [it.strip() for it in fields if it.strip() and not re.match(r"\s*(#\[[^\]]*\]\s*)*pub\b", it)]
-    return f"{head}{{{','.join(it.strip() for it in fields if it.strip() not in own)}}}", ",".join(own)
-
-
-def model_parted(text):
-    """The block of a model without its view and its invariant, and these; its imports are those of the file."""
-    text = re.sub(r"ghost use [^;]*; ?", "", text)
-    ends = [(it.start(), closing(text, it.end() - 1) + 2) for it in re.finditer(r"ghost (?:view|invariant) = \{", text)]
-    inner = "".join(text[begin:end] for begin, end in ends)
-    for begin, end in reversed(ends):
-        text = text[:begin] + text[end:]
-    return re.sub(r"\s+", " ", text), inner
-
-
-def is_within(module, outer):
-    """Whether a module is this one, or one below it."""
-    return outer in ("lib", "main") or f"{module}.".startswith(f"{outer}.")
 
 
 @functools.cache
@@ -260,8 +223,7 @@ class House:
             if file:
                 names = [*modules[end:], name]
                 found = [item for it in names for item in file.types + file.functions if item.name == it]
-                found = found or [*file.types, *file.functions, *file.blocks]
-                return found + [file.inner[it.name] for it in found if it.is_type and it.name in file.inner]
+                return found or [*file.types, *file.functions, *file.blocks]
         raise LookupError(f"nothing is declared under {crate}: {modules} {name}")
 
     def of_words(self, item, text):
@@ -311,15 +273,6 @@ class House:
         file = self.sources.get((item.crate, module_of(item.file))) if item.file.startswith("src/") else None
         return {it.name for it in file.types} | file.imports.paths.keys() if file else set()
 
-    def inner(self, items, functions):
-        """The private fields of these types that functions of these modules see."""
-        modules, found = {module_of(it.file) for it in functions}, []
-        for it in items:
-            module = module_of(it.file)
-            if it.is_type and it.crate == self.crate and any(is_within(of, module) for of in modules):
-                found += filter(None, [self.sources[it.crate, module].inner.get(it.name)])
-        return found
-
     def reached(self, functions, words):
         """All that these functions and words of an edit reach."""
         start = [self.whole(it, words) for it in functions]
@@ -336,7 +289,6 @@ class House:
             new += [it for name in words & self.methods.keys() for it in self.methods[name] if it.owner in owned]
             called = lambda it: it.name not in self.mine or it.name in traits or it.name in types
             new += [it for name in owned & self.blocks.keys() for it in self.blocks[name] if called(it)]
-            new += self.inner(new, functions)
             fresh = {id(it): it for it in new if id(it) not in found}
             found |= fresh
             open_ = [(*self.kept(it), it) for it in fresh.values()]
