@@ -26,7 +26,7 @@ use Rattle.vr_log.proofs.OutcomeLemmas.{running_is_here}
 use Rattle.vr_log.specs.Running.{SumUp, Meets, site_of}
 use Rattle.vr_site.specs.declared.life.Life.{Life}
 use Rattle.vr_site.specs.declared.life.Life.TheVariants as life
-use Rattle.vr_site.specs.Life.{Volatile, lost, volatile_of, site_with, IsWell}
+use Rattle.vr_site.specs.Life.{Volatile, lost, running_volatile, volatile_of, site_with, IsWell}
 use Rattle.vr_site.specs.Replica.{Shown, site_shown, Does, Falls, Handles, Serves}
 
 -- no acknowledgement sums up no numbers
@@ -97,20 +97,20 @@ module _ {H C R O S B : Type 0} (m : Ghosts H C R O S) (c : Cell B) where
     -- a growth was refused while it ran
     pub ran_short : (done : Result (OutcomeOf C R O) AllocError) → ((out : OutcomeOf C R O) → done ≡ Ok out → ⊥) → base.volatile ≡ lost
         → Serves m (m.start base.setup) base.f base.me (c.held base.cell) r n done event
-        → Handles m c (record base { volatile = volatile_of (life.Up r) }) base event (Err NoMemory)
+        → Handles m c (record base { volatile = running_volatile r }) base event (Err NoMemory)
     ran_short (Ok out) not_ok volatile serves = absurd (not_ok out refl)
     ran_short (Err error) not_ok volatile serves =
-        fell_handles (record base { volatile = volatile_of (life.Up r) }) base event NoMemory serves.allowed
-        (λ choose acks right summed. down_falls base (volatile_of (life.Up r)) (site_of r acks (c.held base.cell)) _ volatile refl
+        fell_handles (record base { volatile = running_volatile r }) base event NoMemory serves.allowed
+        (λ choose acks right summed. down_falls base (running_volatile r) (site_of r acks (c.held base.cell)) _ volatile refl
         (serves.follows choose acks right (record { sound = serves.sound; summed = summed })))
 
     -- it runs on
     pub ran_on : (new : Shown C S B) (out : OutcomeOf C R O) → (new.f ≡ base.f) × (new.me ≡ base.me) × (new.setup ≡ base.setup)
-        → new.volatile ≡ volatile_of (life.Up n) → new.cell ≡ base.cell
+        → new.volatile ≡ running_volatile n → new.cell ≡ base.cell
         → Serves m (m.start base.setup) base.f base.me (c.held base.cell) r n (Ok out) event
-        → Handles m c (record base { volatile = volatile_of (life.Up r) }) new event (Ok out)
+        → Handles m c (record base { volatile = running_volatile r }) new event (Ok out)
     ran_on new out config volatile cell serves =
-        stepped_handles (record base { volatile = volatile_of (life.Up r) }) new event out serves.allowed (λ choose acks right summed.
+        stepped_handles (record base { volatile = running_volatile r }) new event out serves.allowed (λ choose acks right summed.
         let step = on_event choose base.f base.me (site_of r acks (c.held base.cell)) event in
         let meets : Meets m (m.start base.setup) base.f base.me n out step =
         serves.follows choose acks right (record { sound = serves.sound; summed = summed }) in
@@ -191,7 +191,7 @@ pub life_is_not_down : {H C R O S : Type 0} (m : Ghosts H C R O S) (start : H) (
     → is_down (volatile_of l).status ≡ false
 life_is_not_down m start f life.Down other well = absurd (other refl)
 life_is_not_down m start f (life.Recovering r) other well = refl
-life_is_not_down m start f (life.Up r) other well = up_is_not_down r.status well.up
+life_is_not_down m start f (life.Up r) other well = up_is_not_down r.value.status well.up
 
 -- over a new cell a site opens normal
 pub opened : {C : Type 0} (f : ℕ) (cell : Boot) → is_new cell ≡ true → opening_site {C = C} f cell ≡ record (over cell status.Normal) { known = no_boots f }

@@ -15,8 +15,7 @@ use Rattle.vr_recover.specs.declared.progress.Progress.{Progress}
 use Rattle.vr_recover.specs.declared.progress.Progress.TheVariants.{Dropped, Waits, Regained}
 use Rattle.vr_recover.specs.declared.recovering.RecoveringOf.{RecoveringOf}
 use Rattle.vr_recover.specs.Recovering.{recovering_site}
-use Rattle.vr_site.specs.declared.life.Life.TheVariants as life
-use Rattle.vr_site.specs.Life.{Volatile, lost, awaiting, volatile_of, site_with}
+use Rattle.vr_site.specs.Life.{Volatile, lost, awaiting, running_volatile, site_with}
 use Rattle.vr_site.specs.Replica.{Shown, Does, Handles, Awaits}
 use Rattle.vr_site.proofs.Shows.{stepped_handles, fell_handles, down_falls}
 
@@ -33,6 +32,14 @@ module _ {H C R O S B : Type 0} (m : Ghosts H C R O S) (c : Cell B) (base : Show
       fell_handles m c first base event NoMemory awaits.allowed
       (λ choose acks right summed. down_falls m c base first.volatile (recovering_site before acks (c.held base.cell)) _ volatile refl
       (awaits.follows choose acks right))
+
+  -- the state was regained, and there was no room for it
+  pub regained_short : (r : Running H C R O S) → base.volatile ≡ lost
+      → Awaits base.f base.me (c.held base.cell) before now (Ok (Regained r)) event → Handles m c first base event (Err NoMemory)
+  regained_short r volatile awaits =
+      fell_handles m c first base event NoMemory awaits.allowed
+      (λ choose acks right summed. down_falls m c base first.volatile (recovering_site before acks (c.held base.cell)) _ volatile refl
+      (ap (λ s. s.ending) (awaits.follows choose acks right)))
 
   module _ (new : Shown C S B) (config : (new.f ≡ base.f) × (new.me ≡ base.me) × (new.setup ≡ base.setup)) where
     -- the event was dropped
@@ -69,7 +76,7 @@ module _ {H C R O S B : Type 0} (m : Ghosts H C R O S) (c : Cell B) (base : Show
         }))
 
     -- the state was regained
-    pub regained_on : (out : OutcomeOf C R O) (r : Running H C R O S) → IsRunning m (m.start base.setup) base.f r [] → new.volatile ≡ volatile_of (life.Up r)
+    pub regained_on : (out : OutcomeOf C R O) (r : Running H C R O S) → IsRunning m (m.start base.setup) base.f r [] → new.volatile ≡ running_volatile r
         → new.cell ≡ base.cell → Sends out []
         → Awaits base.f base.me (c.held base.cell) before now (Ok (Regained r)) event → Handles m c first new event (Ok out)
     regained_on out r runs volatile cell s awaits = stepped_handles m c first new event out awaits.allowed (λ choose acks right summed.

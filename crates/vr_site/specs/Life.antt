@@ -6,6 +6,7 @@ use Rattle.vr_types.specs.declared.event.Status.TheVariants as status
 use Rattle.vr_types.specs.declared.machine.Machine.{Ghosts}
 use Rattle.vr_types.specs.declared.row.RowOf.{RowOf}
 use Rattle.vr_types.specs.Site.{Ack, Start, Vote, Response, Site}
+use Rattle.vr_log.specs.declared.running.Running.{Running}
 use Rattle.vr_log.specs.Running.{IsSound, start_of, vote_of}
 use Rattle.vr_recover.specs.declared.recovering.RecoveringOf.{RecoveringOf}
 use Rattle.vr_recover.specs.Recovering.{responses_of, IsSoundRecovering}
@@ -49,11 +50,9 @@ lost = resting status.Down [] []
 abbrev pub awaiting : {C : Type 0} → RecoveringOf C → Volatile C
 awaiting r = resting status.Recovering r.known (responses_of r.responses.items)
 
--- what is shown of it
-abbrev pub volatile_of : {H C R O S : Type 0} → Life H C R O S → Volatile C
-volatile_of Down = lost
-volatile_of (Recovering r) = awaiting r
-volatile_of (Up r) = record {
+-- of a site that is normal or in change
+abbrev pub running_volatile : {H C R O S : Type 0} → Running H C R O S → Volatile C
+running_volatile r = record {
   status = r.status;
   view = r.view;
   last_normal = r.last_normal;
@@ -66,6 +65,12 @@ volatile_of (Up r) = record {
   responses = [];
   known = r.known;
 }
+
+-- what is shown of it
+abbrev pub volatile_of : {H C R O S : Type 0} → Life H C R O S → Volatile C
+volatile_of Down = lost
+volatile_of (Recovering r) = awaiting r
+volatile_of (Up r) = running_volatile r.value
 
 -- the site that it is of, over this cell, where these acknowledgements came
 abbrev pub site_with : {C : Type 0} → Volatile C → List Ack → Boot → Site C
@@ -84,4 +89,4 @@ site_with v acks cell = record {
 abbrev pub IsWell : {H C R O S : Type 0} → Ghosts H C R O S → H → ℕ → Life H C R O S → Type 0
 IsWell m start f Down = Unit {0}
 IsWell m start f (Recovering r) = IsSoundRecovering f r
-IsWell m start f (Up r) = IsSound m start f r
+IsWell m start f (Up r) = IsSound m start f r.value

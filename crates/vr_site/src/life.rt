@@ -9,5 +9,5 @@ pub enum Life<M: Machine> {
     /// It came up again and asks for the state.
     Recovering(Recovering<M>),
     /// It is normal, or takes part in the change to its view.
-    Up(Running<M>),
+    Up(Box<Running<M>>),
 }

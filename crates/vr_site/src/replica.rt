@@ -11,7 +11,7 @@ ghost use Rattle.vr_log.specs.Running.{IsSound, IsRunning, SumUp, site_of};
 ghost use Rattle.vr_recover.specs.declared.recovering.RecoveringOf.{RecoveringOf};
 ghost use Rattle.vr_recover.specs.Progress.{IsSoundProgress};
 ghost use Rattle.vr_recover.specs.Recovering.{IsSoundRecovering};
-ghost use Rattle.vr_site.specs.Life.{lost, awaiting, volatile_of};
+ghost use Rattle.vr_site.specs.Life.{lost, awaiting, running_volatile};
 
 use crate::addressing::is_mine;
 use crate::life::Life;
@@ -74,7 +74,7 @@ impl<M: Machine, C: BootCell> Replica<M, C> {
                 life: Life::Down,
             });
         }
-        let running = first(alloc, config, &setup)?;
+        let running = Box::new(alloc, first(alloc, config, &setup)?)?;
         Ok(Replica {
             config,
             setup,
@@ -175,14 +175,14 @@ impl<M: Machine, C: BootCell> Replica<M, C> {
     fn take_as_running(
         &mut self,
         alloc: Global,
-        mut running: Running<M>,
+        mut running: Box<Running<M>>,
         envelope: Envelope<M>,
     ) -> Result<Outcome<M>, SiteFault>
         requires down { self.old.volatile ≡ lost }
-        requires sound { IsSound M.Machine (M.start self.old.setup) self.old.f running }
+        requires sound { IsSound M.Machine (M.start self.old.setup) self.old.f running.value }
         requires mine { is_addressed self.old.f self.old.me envelope ≡ true }
         ensures handles { Handles M.Machine C.BootCell
-            (record self.old { volatile = volatile_of (Life.Up running) }) self.new
+            (record self.old { volatile = running_volatile running.value }) self.new
             (EventOf.Deliver envelope) result }
         ensures place { KeepsPlace self.old self.new }
         ensures cell { self.new.cell ≡ self.old.cell }
@@ -191,7 +191,7 @@ impl<M: Machine, C: BootCell> Replica<M, C> {
         let done = serving::serve(
             alloc,
             self.config,
-            &mut running,
+            &mut *running,
             envelope.from,
             envelope.msg,
         );
@@ -246,7 +246,7 @@ impl<M: Machine, C: BootCell> Replica<M, C> {
                     self.life = Life::Up(running);
                     return Err(SiteFault::ViewsSpent);
                 }
-                let done = vr_change::timer(alloc, self.config, &mut running);
+                let done = vr_change::timer(alloc, self.config, &mut *running);
                 self.finish(running, done)
             }
         }
@@ -270,7 +270,7 @@ impl<M: Machine, C: BootCell> Replica<M, C> {
                 Ok(out)
             }
             Life::Up(running) => {
-                let done = serving::beat(alloc, self.config, &running);
+                let done = serving::beat(alloc, self.config, &*running);
                 self.finish(running, done)
             }
         }
@@ -363,17 +363,18 @@ impl<M: Machine, C: BootCell> Replica<M, C> {
     /// What runs goes on after what was done.
     fn finish(
         &mut self,
-        running: Running<M>,
+        running: Box<Running<M>>,
         done: Result<Outcome<M>, AllocError>,
     ) -> Result<Outcome<M>, SiteFault>
         requires down { self.old.volatile ≡ lost }
-        requires sound { OnOk done (IsSound M.Machine (M.start self.old.setup) self.old.f running) }
+        requires sound { OnOk done
+            (IsSound M.Machine (M.start self.old.setup) self.old.f running.value) }
         ensures handles { (before : AnyRunning M M.Cmd M.Reply M.Order M.Setup)
             (event : AnyEvent M.Cmd M.Reply M.Order) →
             Serves M.Machine (M.start self.old.setup) self.old.f self.old.me
-            (C.held self.old.cell) before running done event →
+            (C.held self.old.cell) before running.value done event →
             Handles M.Machine C.BootCell
-            (record self.old { volatile = volatile_of (Life.Up before) }) self.new event
+            (record self.old { volatile = running_volatile before }) self.new event
             result }
         ensures place { KeepsPlace self.old self.new }
         ensures cell { self.new.cell ≡ self.old.cell }
@@ -417,6 +418,9 @@ impl<M: Machine, C: BootCell> Replica<M, C> {
                 Ok(silent(alloc))
             }
             Progress::Regained(running) => {
+                let Ok(running) = Box::new(alloc, running) else {
+                    return Err(SiteFault::NoMemory);
+                };
                 self.life = Life::Up(running);
                 Ok(silent(alloc))
             }

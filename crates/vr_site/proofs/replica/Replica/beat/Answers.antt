@@ -4,10 +4,10 @@ use Rattle.vr_types.specs.declared.event.Status.TheVariants as status
 use Rattle.vr_types.specs.declared.message.MsgOf.TheVariants as msg
 use Rattle.vr_types.specs.Group.{to_all}
 use Rattle.vr_log.specs.Outcomes.{Sends}
-use Rattle.vr_log.specs.Running.{site_of}
+use Rattle.vr_log.specs.Running.{IsSound, site_of}
 use Rattle.vr_site.specs.declared.life.Life.TheVariants.{Recovering, Up}
 use Rattle.vr_site.specs.Life.{volatile_of, IsWell}
-use Rattle.vr_site.specs.Replica.{shown, Handles}
+use Rattle.vr_site.specs.Replica.{shown, Handles, Serves}
 use Rattle.vr_site.proofs.Cells.{beat_keeps}
 use Rattle.vr_site.proofs.Restarts.{asked_again, asked_nobody}
 use Rattle.vr_site.proofs.Shows.{beat_is_taken}
@@ -21,16 +21,18 @@ returns-in-Up-clause-handles g c =
     let f = at.config.f in
     let me = at.config.me in
     let cell = held at.cell in
-    let r = c.in-Up.running in
-    let was : at.life ≡ Up r = sym c.replace.ensures.value ∙ c.in-Up.is in
+    let r = c.in-Up.running.value in
+    let was : at.life ≡ Up c.in-Up.running = sym c.replace.ensures.value ∙ c.in-Up.is in
     let well = subst (λ l. IsWell m (m.start at.setup) f l) was c.self.invariant.1 in
+    let d = c.deref.result.now in
+    let sound = subst (IsSound m (m.start at.setup) f) (sym c.deref.ensures) well in
     subst (λ v. Handles m g.C.BootCell v c.finish.new.self Beat c.finish.result) (ap (shown f me at.setup at.cell) (sym was) ∙ c.self.view_is)
-    (c.finish.ensures.handles r Beat (record {
-      sound = well;
-      allowed = beat_is_taken g.row.M-Reply.Denot g.row.M-Order.Denot f me (site_of r [] cell) well.up;
+    (c.finish.ensures.handles r Beat (subst (λ x. Serves m (m.start at.setup) f me cell x x c.beat-done.result Beat) c.deref.ensures (record {
+      sound = sound;
+      allowed = beat_is_taken g.row.M-Reply.Denot g.row.M-Order.Denot f me (site_of d [] cell) sound.up;
       follows = λ choose acks right h. c.beat-done.ensures (m.start at.setup) acks cell h;
-      saves = λ choose acks. (beat_keeps f me (site_of r acks cell) r.status well.up).same;
-    }))
+      saves = λ choose acks. (beat_keeps f me (site_of d acks cell) d.status sound.up).same;
+    })))
 
 pub returns-in_default-clause-handles : goal.returns-in_default-clause-handles
 returns-in_default-clause-handles g c =

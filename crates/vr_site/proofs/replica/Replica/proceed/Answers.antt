@@ -1,8 +1,9 @@
 use Rattle.std.proofs.Common.{refl, ap, ◌∙◌, subst}
 use Rattle.std.specs.Prelude.{Ok, IfOk}
 use Rattle.vr_recover.specs.Progress.{IsSoundProgress}
+use Rattle.vr_site.specs.Life.{running_volatile}
 use Rattle.vr_site.specs.Replica.{Awaits}
-use Rattle.vr_site.proofs.Waits.{waited_short, waited_dropped, waited_on, regained_on}
+use Rattle.vr_site.proofs.Waits.{waited_short, regained_short, waited_dropped, waited_on, regained_on}
 use Rattle.vr_site.proofs.replica.Replica.proceed.Goals as goal
 
 pub returns-in_default-clause-handles : goal.returns-in_default-clause-handles
@@ -30,8 +31,15 @@ returns-in-Waits-clause-handles g c = λ before event awaits.
     c.silent.result refl (ap (λ v. v.cell) view) c.silent.ensures
     (subst (λ p. Awaits base.f base.me (held base.cell) before now p event) (c.in-Ok.is ∙ ap (λ p. Ok p) c.in-Waits.is) awaits)
 
-pub returns-in-Regained-clause-handles : goal.returns-in-Regained-clause-handles
-returns-in-Regained-clause-handles g c = λ before event awaits.
+pub returns-in_default-new-clause-handles : goal.returns-in_default-new-clause-handles
+returns-in_default-new-clause-handles g c = λ before event awaits.
+    let held = g.C.BootCell.held in
+    let base = c.args.self.now in
+    regained_short g.M.Machine g.C.BootCell base before c.args.recovering event c.in-Regained.running c.requires.down
+    (subst (λ p. Awaits base.f base.me (held base.cell) before c.args.recovering p event) (c.in-Ok.is ∙ ap (λ p. Ok p) c.in-Regained.is) awaits)
+
+pub returns-in-Ok-new-clause-handles : goal.returns-in-Ok-new-clause-handles
+returns-in-Ok-new-clause-handles g c = λ before event awaits.
     let m = g.M.Machine in
     let held = g.C.BootCell.held in
     let base = c.args.self.now in
@@ -39,5 +47,5 @@ returns-in-Regained-clause-handles g c = λ before event awaits.
     let view = c.self.view_is in
     regained_on m g.C.BootCell base before now event _ (ap (λ v. v.f) view, ap (λ v. v.me) view, ap (λ v. v.setup) view) _ c.in-Regained.running
     (subst (λ p. IfOk p (λ q. IsSoundProgress m (m.start base.setup) base.f now q)) (c.in-Ok.is ∙ ap (λ p. Ok p) c.in-Regained.is) c.requires.sound)
-    refl (ap (λ v. v.cell) view) c.silent-in-Regained.ensures
+    (ap running_volatile c.in-Ok-new.ensures.ok) (ap (λ v. v.cell) view) c.silent-in-Regained.ensures
     (subst (λ p. Awaits base.f base.me (held base.cell) before now p event) (c.in-Ok.is ∙ ap (λ p. Ok p) c.in-Regained.is) awaits)

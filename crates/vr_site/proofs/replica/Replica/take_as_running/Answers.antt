@@ -13,8 +13,10 @@ finish-requires-clause-sound g c =
     let m = g.M.Machine in
     let now = c.args.self.now in
     on_ok_then c.serve-done.result _ _
-    (λ h. subst (λ v. IsSound m (m.start v.setup) v.f c.args.running → IsSound m (m.start v.setup) v.f c.serve-done.new.running) c.self.view_is
-    (h (m.start c.self.inside.setup)) c.requires.sound)
+    (λ h. subst (λ v. IsSound m (m.start v.setup) v.f c.args.running.value → IsSound m (m.start v.setup) v.f c.serve-done.new.running) c.self.view_is
+    (subst (λ x. IsSound m (m.start c.self.inside.setup) c.self.inside.config.f x
+    → IsSound m (m.start c.self.inside.setup) c.self.inside.config.f c.serve-done.new.running)
+    c.deref_mut.ensures.value (h (m.start c.self.inside.setup))) c.requires.sound)
     c.serve-done.ensures.sound
 
 pub returns-clause-handles : goal.returns-clause-handles
@@ -22,7 +24,8 @@ returns-clause-handles g c =
     let m = g.M.Machine in
     let held = g.C.BootCell.held in
     let now = c.args.self.now in
-    let r = c.args.running in
+    let at = c.self.inside in
+    let r = c.args.running.value in
     let e = c.args.envelope in
     let sound = c.requires.sound in
     c.finish.ensures.handles r (Deliver e) (record {
@@ -33,6 +36,11 @@ returns-clause-handles g c =
           → Follows m (m.start v.setup) v.f v.me c.serve-done.new.running c.serve-done.result
           (on_event choose v.f v.me (site_of r acks (held v.cell)) (Deliver e)))
           c.self.view_is
-          (λ choose acks right h. c.serve-done.ensures.step choose (m.start c.self.inside.setup) acks (held c.self.inside.cell) right h);
+          (subst (λ x. (choose : Choice g.row.M-Cmd.Denot) (acks : List Ack) → IsRight at.config.f choose
+          → IsRunning m (m.start at.setup) at.config.f x acks
+          → Follows m (m.start at.setup) at.config.f at.config.me c.serve-done.new.running c.serve-done.result
+          (on_event choose at.config.f at.config.me (site_of x acks (held at.cell)) (Deliver e)))
+          c.deref_mut.ensures.value
+          (λ choose acks right h. c.serve-done.ensures.step choose (m.start at.setup) acks (held at.cell) right h));
       saves = λ choose acks. (message_keeps now.f now.me (site_of r acks (held now.cell)) choose sound.up e.from e.msg).same;
     })

@@ -2,8 +2,8 @@ use Rattle.std.proofs.Common.{◌≡◌, ◌≢◌, [], Some, refl, sym, ap, ◌
 use Rattle.vr_types.specs.declared.event.EventOf.TheVariants.{Timer}
 use Rattle.vr_types.specs.declared.event.SiteFault.TheVariants.{ViewsSpent}
 use Rattle.vr_types.specs.Cell.{max_number}
-use Rattle.vr_types.specs.Handling.{refusal}
-use Rattle.vr_log.specs.Running.{site_of}
+use Rattle.vr_types.specs.Handling.{refusal, on_event}
+use Rattle.vr_log.specs.Running.{IsSound, IsRunning, Follows, site_of}
 use Rattle.vr_site.specs.declared.life.Life.TheVariants.{Recovering, Up}
 use Rattle.vr_site.specs.Life.{IsWell}
 use Rattle.vr_site.specs.Replica.{shown, site_shown, Handles}
@@ -26,18 +26,19 @@ returns-in-Recovering-clause-handles g c =
       follows = λ choose acks right. timer_is at.config.f at.config.me kept acks (held at.cell);
     }))
 
-pub returns-then-running-clause-handles : goal.returns-then-running-clause-handles
-returns-then-running-clause-handles g c =
+pub returns-then-deref-clause-handles : goal.returns-then-deref-clause-handles
+returns-then-deref-clause-handles g c =
     let m = g.M.Machine in
     let held = g.C.BootCell.held in
     let at = c.self.inside in
     let f = at.config.f in
     let me = at.config.me in
-    let r = c.in-Up.running in
-    let was : at.life ≡ Up r = sym c.replace.ensures.value ∙ c.in-Up.is in
+    let r = c.in-Up.running.value in
+    let was : at.life ≡ Up c.in-Up.running = sym c.replace.ensures.value ∙ c.in-Up.is in
     let well = subst (λ l. IsWell m (m.start at.setup) f l) was c.self.invariant.1 in
     let same = ap (shown f me at.setup at.cell) (sym was) ∙ c.self.view_is in
-    let spent = spent_refuses_timer g.row.M-Reply.Denot g.row.M-Order.Denot f me (site_of r [] (held at.cell)) well.up c.if-running.true in
+    let spent = spent_refuses_timer g.row.M-Reply.Denot g.row.M-Order.Denot f me (site_of r [] (held at.cell)) well.up
+    (subst (λ x. x.view ≡ max_number) c.deref.ensures c.if-deref.true) in
     refused_handles m g.C.BootCell c.args.self.now _ Timer ViewsSpent same
     (subst (λ v. refusal {R = g.row.M-Reply.Denot} {O = g.row.M-Order.Denot} v.f v.me (site_shown held v []) Timer ≡ Some ViewsSpent) same spent)
 
@@ -47,24 +48,27 @@ finish-requires-clause-sound g c =
     let at = c.self.inside in
     let was : at.life ≡ Up c.in-Up.running = sym c.replace.ensures.value ∙ c.in-Up.is in
     let well = subst (λ l. IsWell m (m.start at.setup) at.config.f l) was c.self.invariant.1 in
-    on_ok_then c.timer-done.result _ _ (λ h. h (m.start at.setup) well) c.timer-done.ensures.sound
+    let sound = subst (IsSound m (m.start at.setup) at.config.f) (sym c.deref_mut.ensures.value) well in
+    on_ok_then c.timer-done.result _ _ (λ h. h (m.start at.setup) sound) c.timer-done.ensures.sound
 
-pub returns-else-running-clause-handles : goal.returns-else-running-clause-handles
-returns-else-running-clause-handles g c =
+pub returns-else-deref-clause-handles : goal.returns-else-deref-clause-handles
+returns-else-deref-clause-handles g c =
     let m = g.M.Machine in
     let held = g.C.BootCell.held in
     let at = c.self.inside in
     let f = at.config.f in
     let me = at.config.me in
     let cell = held at.cell in
-    let r = c.in-Up.running in
-    let was : at.life ≡ Up r = sym c.replace.ensures.value ∙ c.in-Up.is in
+    let r = c.in-Up.running.value in
+    let was : at.life ≡ Up c.in-Up.running = sym c.replace.ensures.value ∙ c.in-Up.is in
     let well = subst (λ l. IsWell m (m.start at.setup) f l) was c.self.invariant.1 in
-    let more : r.view ≢ max_number = c.if-running.false in
+    let more = subst (λ x. x.view ≢ max_number) c.deref.ensures c.if-deref.false in
     subst (λ v. Handles m g.C.BootCell v c.finish.new.self Timer c.finish.result) (ap (shown f me at.setup at.cell) (sym was) ∙ c.self.view_is)
     (c.finish.ensures.handles r Timer (record {
       sound = well;
       allowed = timer_is_taken g.row.M-Reply.Denot g.row.M-Order.Denot f me (site_of r [] cell) well.up more;
-      follows = λ choose acks right h. c.timer-done.ensures.step (m.start at.setup) acks cell h;
+      follows = λ choose acks right. subst (λ x. IsRunning m (m.start at.setup) f x acks
+          → Follows m (m.start at.setup) f me c.timer-done.new.running c.timer-done.result (on_event choose f me (site_of x acks cell) Timer))
+          c.deref_mut.ensures.value (λ h. c.timer-done.ensures.step (m.start at.setup) acks cell h);
       saves = λ choose acks. (timer_keeps f me (site_of r acks cell)).same;
     }))
