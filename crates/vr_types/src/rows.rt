@@ -1,37 +1,36 @@
-ghost use Rattle.std.specs.Prelude.{◌≡◌, ◌≢◌, ◌+◌, ◌-◌, ◌*◌, ◌==◌, ◌<◌, ◌≤◌, ◌%◌, ◌++◌, ◌∷◌, [], Some, slice_get, slice_range, IfOk, IsOk, OnOk, OnErr, length, take, drop, option_map, vec_capacity};
+ghost use Rattle.std.specs.Prelude.{◌≡◌, ◌≢◌, ◌+◌, ◌*◌, ◌==◌, ◌<◌, ◌≤◌, ◌%◌, ◌++◌, ◌∷◌, [], Some, slice_get, IfOk, IsOk, OnOk, OnErr, length, take, drop, option_map};
 ghost use Rattle.vr_types.specs.Pages.{page_of, page_rows};
 
-use crate::limits::{MAX_ROWS, PAGE_ROWS};
+use crate::limits::MAX_ROWS;
 use crate::machine::Machine;
+use crate::paged::PagedRows;
 use crate::row::RowOf;
 use std::alloc::{AllocError, Global};
 use std::marker::Model;
-use std::mem;
-use std::sync::Arc;
 
-/// Rows of a log, at most 65,535, as a site keeps them and as a message carries them. They lie on pages of 64, and the
-/// room of each page is made at once. All pages but the last are full; they never change, and copies share them. In
-/// clauses it is their list.
+/// Rows of a log, at most 65,535, as a site keeps them and as a message carries them. What they take of a message is a
+/// pointer: they lie on pages behind it, which copies share. In clauses it is their list.
 #[derive(Drop)]
 pub struct RowsOf<C> {
     alloc: Global,
-    full: Vec<Arc<Vec<RowOf<C>>>>,
-    last: Vec<RowOf<C>>,
+    /// The pages, where there ever was a row.
+    pages: Option<Box<PagedRows<C>>>,
 }
 
 /// Rows of a machine's log.
 pub type Rows<M> = RowsOf<<M as Machine>::Cmd>;
 
 impl<C> Model for RowsOf<C> {
-    ghost use Rattle.std.specs.Prelude.{List};
+    ghost use Rattle.std.specs.Prelude.{List, [], length, ◌≤◌};
+    ghost use Rattle.vr_types.specs.declared.limits.TheConstants.{MAX_ROWS};
     ghost use Rattle.vr_types.specs.declared.row.RowOf.{RowOf};
-    ghost use Rattle.vr_types.specs.Pages.{AreOnPages, rows_on};
+    ghost use Rattle.std.specs.Option.{option_map_or};
 
     ghost Value = { List (RowOf C) };
 
-    ghost view = { λ a. rows_on a.full.items a.last };
+    ghost view = { λ a. option_map_or (λ pages. pages.value) a.pages [] };
 
-    ghost invariant = { λ a. AreOnPages a.full.items a.last };
+    ghost invariant = { λ a. length (option_map_or (λ pages. pages.value) a.pages []) ≤ MAX_ROWS };
 }
 
 impl<C: Copy> RowsOf<C> {
@@ -39,11 +38,18 @@ impl<C: Copy> RowsOf<C> {
     pub fn new(alloc: Global) -> Self
         ensures { result ≡ [] }
     {
-        RowsOf {
+        RowsOf { alloc, pages: None }
+    }
+
+    /// The rows of these pages.
+    fn of(alloc: Global, pages: PagedRows<C>) -> Result<Self, AllocError>
+        ensures { IfOk result (λ rows. rows ≡ pages) }
+    {
+        let pages = Box::new(alloc, pages)?;
+        Ok(RowsOf {
             alloc,
-            full: Vec::new(alloc),
-            last: Vec::new(alloc),
-        }
+            pages: Some(pages),
+        })
     }
 
     /// How many rows there are.
@@ -51,24 +57,29 @@ impl<C: Copy> RowsOf<C> {
         ensures length { result ≡ length self.now }
         ensures few { result ≤ MAX_ROWS }
     {
-        self.full.len() * PAGE_ROWS + self.last.len()
+        match &self.pages {
+            None => 0,
+            Some(pages) => pages.len(),
+        }
     }
 
     /// Whether there is no row.
     pub fn is_empty(&self) -> bool
         ensures { result ≡ (length self.now == 0) }
     {
-        self.last.is_empty()
+        match &self.pages {
+            None => true,
+            Some(pages) => pages.is_empty(),
+        }
     }
 
     /// The row at an index, counted from 0.
     pub fn get(&self, at: usize) -> Option<RowOf<C>>
         ensures { result ≡ slice_get self.now at }
     {
-        if at < self.len() {
-            Some(self.row(at))
-        } else {
-            None
+        match &self.pages {
+            None => None,
+            Some(pages) => pages.get(at),
         }
     }
 
@@ -77,13 +88,9 @@ impl<C: Copy> RowsOf<C> {
         requires { at < length self.now }
         ensures { slice_get self.now at ≡ Some result }
     {
-        let page = at / PAGE_ROWS;
-        let within = at % PAGE_ROWS;
-        if page < self.full.len() {
-            let rows: &Vec<RowOf<C>> = &self.full[page];
-            rows[within]
-        } else {
-            self.last[within]
+        match &self.pages {
+            None => unreachable!(),
+            Some(pages) => pages.row(at),
         }
     }
 
@@ -92,13 +99,9 @@ impl<C: Copy> RowsOf<C> {
     pub fn page(&self, page: usize) -> Option<&[RowOf<C>]>
         ensures { option_map (λ lent. lent.now) result ≡ page_of self.now page }
     {
-        if page < self.full.len() {
-            let lent: &Vec<RowOf<C>> = &self.full[page];
-            Some(lent.as_slice())
-        } else if page == self.full.len() && !self.last.is_empty() {
-            Some(self.last.as_slice())
-        } else {
-            None
+        match &self.pages {
+            None => None,
+            Some(pages) => pages.page(page),
         }
     }
 
@@ -110,40 +113,15 @@ impl<C: Copy> RowsOf<C> {
         ensures err { OnErr result (self.new ≡ self.old) }
         ensures room { length self.old % page_rows ≢ 0 → IsOk result }
     {
-        if self.last.len() % PAGE_ROWS != 0 {
-            self.last.push(row)?;
-            return Ok(());
-        }
-        let mut page = Vec::with_capacity(self.alloc, PAGE_ROWS)?;
-        page.push(row)?;
-        self.full.reserve(1)?;
-        let before = mem::replace(&mut self.last, page);
-        if before.is_empty() {
-            return Ok(());
-        }
-        match Arc::new(self.alloc, before) {
-            Ok(shared) => {
-                self.full.push(shared)?;
+        match &mut self.pages {
+            Some(pages) => pages.push(row),
+            None => {
+                let mut pages = PagedRows::new(self.alloc);
+                pages.push(row)?;
+                self.pages = Some(Box::new(self.alloc, pages)?);
                 Ok(())
             }
-            Err(refused) => {
-                self.last = refused.value;
-                Err(AllocError)
-            }
         }
-    }
-
-    /// Puts the rows of others from an index up to another at the end. After an `Err` this may only be dropped.
-    fn append(&mut self, others: &RowsOf<C>, from: usize, to: usize) -> Result<(), AllocError>
-        requires order { from ≤ to }
-        requires there { to ≤ length others.now }
-        requires few { length self.old + (to - from) ≤ MAX_ROWS }
-        ensures { OnOk result (self.new ≡ self.old ++ slice_range others.now from to) }
-    {
-        for at in from..to {
-            self.push(others.row(at))?;
-        }
-        Ok(())
     }
 
     /// The first `base` rows stay, and these come after them. Where none stays, the rows are moved, not copied. An
@@ -158,57 +136,20 @@ impl<C: Copy> RowsOf<C> {
             *self = part;
             return Ok(());
         }
-        // the pages in front of the one with the last row that stays
-        let whole = (base - 1) / PAGE_ROWS;
-        let tail = self.joined(whole * PAGE_ROWS, base, part)?;
-        let RowsOf { mut full, last, .. } = tail;
-        self.full.reserve(full.len())?;
-        self.full.truncate(whole);
-        self.full.append(&mut full)?;
-        self.last = last;
-        Ok(())
-    }
-
-    /// The rows from an index up to another, and these behind them. Where the former are a page, the pages of the
-    /// latter are moved, not copied.
-    fn joined(&self, from: usize, to: usize, part: RowsOf<C>) -> Result<RowsOf<C>, AllocError>
-        requires order { from ≤ to }
-        requires there { to ≤ length self.now }
-        requires few { to - from + length part ≤ MAX_ROWS }
-        ensures { IfOk result (λ rows. rows ≡ slice_range self.now from to ++ part) }
-    {
-        let mut rows = RowsOf::new(self.alloc);
-        rows.append(self, from, to)?;
-        if rows.len() == PAGE_ROWS && !part.is_empty() {
-            return rows.in_front(part);
+        match &mut self.pages {
+            None => unreachable!(),
+            Some(pages) => pages.replace_from(base, part.into_pages()),
         }
-        rows.append(&part, 0, part.len())?;
-        Ok(rows)
     }
 
-    /// These rows, which are a page, and others behind them, whose pages are moved, not copied.
-    fn in_front(self, part: RowsOf<C>) -> Result<RowsOf<C>, AllocError>
-        requires page { length self ≡ page_rows }
-        requires some { 0 < length part }
-        requires few { page_rows + length part ≤ MAX_ROWS }
-        ensures { IfOk result (λ rows. rows ≡ self ++ part) }
+    /// Their pages.
+    fn into_pages(self) -> PagedRows<C>
+        ensures { result ≡ self }
     {
-        let RowsOf {
-            alloc,
-            last: page,
-            ..
-        } = self;
-        let RowsOf {
-            full: mut behind,
-            last,
-            ..
-        } = part;
-        let first = Arc::new(alloc, page)?;
-        let mut full = Vec::new(alloc);
-        full.reserve(behind.len())?;
-        full.push(first)?;
-        full.append(&mut behind)?;
-        Ok(RowsOf { alloc, full, last })
+        match self.pages {
+            None => PagedRows::new(self.alloc),
+            Some(pages) => Box::into_inner(pages),
+        }
     }
 
     /// The rows after the first `base`. Where these begin a page, all pages but the last are shared, not copied.
@@ -216,25 +157,10 @@ impl<C: Copy> RowsOf<C> {
         requires { base ≤ length self.now }
         ensures { IfOk result (λ rows. rows ≡ drop base self.now) }
     {
-        if base % PAGE_ROWS == 0 {
-            return self.pages_from(alloc, base / PAGE_ROWS);
+        match &self.pages {
+            None => Ok(RowsOf::new(alloc)),
+            Some(pages) => RowsOf::of(alloc, pages.copy_from(alloc, base)?),
         }
-        let mut rows = RowsOf::new(alloc);
-        rows.append(self, base, self.len())?;
-        Ok(rows)
-    }
-
-    /// The rows from a page on, counted from 0. All pages but the last are shared, not copied.
-    fn pages_from(&self, alloc: Global, page: usize) -> Result<RowsOf<C>, AllocError>
-        requires { page_rows * page ≤ length self.now }
-        ensures { IfOk result (λ rows. rows ≡ drop (page_rows * page) self.now) }
-    {
-        if page > self.full.len() {
-            return Ok(RowsOf::new(alloc));
-        }
-        let full = Vec::from_clones(alloc, &self.full[page..])?;
-        let last = copy_of_page(alloc, &self.last)?;
-        Ok(RowsOf { alloc, full, last })
     }
 
     /// The same rows once more. All pages but the last are shared, not copied.
@@ -243,17 +169,4 @@ impl<C: Copy> RowsOf<C> {
     {
         self.copy_from(alloc, 0)
     }
-}
-
-/// The rows of a page once more, with room for a whole page where there are rows.
-fn copy_of_page<C: Copy>(alloc: Global, page: &Vec<RowOf<C>>) -> Result<Vec<RowOf<C>>, AllocError>
-    ensures items { IfOk result (λ copy. copy.items ≡ page.now.items) }
-    ensures room { IfOk result (λ copy. 0 < length page.now.items → page_rows ≤ vec_capacity copy) }
-{
-    if page.is_empty() {
-        return Ok(Vec::new(alloc));
-    }
-    let mut copy = Vec::with_capacity(alloc, PAGE_ROWS)?;
-    copy.extend_from_slice(page.as_slice())?;
-    Ok(copy)
 }

@@ -6,7 +6,7 @@ use Rattle.std.proofs.lemmas.List.{take_all, drop_all, length-drop}
 use Rattle.vr_types.specs.declared.row.RowOf.{RowOf}
 use Rattle.vr_types.specs.Pages.{on_page, rows_on}
 use Rattle.vr_types.proofs.Pages.{length-pages, drop-pages, full-drop, shared-rows, shared-full}
-use Rattle.vr_types.proofs.rows.RowsOf.pages_from.Goals as goal
+use Rattle.vr_types.proofs.paged.PagedRows.pages_from.Goals as goal
 
 pub returns-then-page-len : goal.returns-then-page-len
 returns-then-page-len g c =

@@ -1,7 +1,7 @@
 use Rattle.std.proofs.Common.{ap, length, arith}
 use Rattle.vr_types.specs.Pages.{on_page}
 use Rattle.vr_types.proofs.Pages.{length-pages}
-use Rattle.vr_types.proofs.rows.RowsOf.len.Goals as goal
+use Rattle.vr_types.proofs.paged.PagedRows.len.Goals as goal
 
 pub overflow_mul-result : goal.overflow_mul-result
 overflow_mul-result g c = let long = length-pages on_page c.self.inside.full.items c.self.inside.last.items c.self.invariant.full in

@@ -5,7 +5,7 @@ use Rattle.std.specs.declared.sync.Arc.{Arc}
 use Rattle.vr_types.specs.declared.row.RowOf.{RowOf}
 use Rattle.vr_types.specs.Pages.{on_page, rows_on, AreOnPages}
 use Rattle.vr_types.proofs.Pages.{length-pages, length-slice_range, joined-pages, full-append, full-take}
-use Rattle.vr_types.proofs.rows.RowsOf.replace_from.Goals as goal
+use Rattle.vr_types.proofs.paged.PagedRows.replace_from.Goals as goal
 
 -- the rows that the pages then hold
 joined : {C : Type 0} (pages more all : List (Arc (Vec (RowOf C) Global) Global)) (last end : Vec (RowOf C) Global) (rows part tail : List (RowOf C)) (base : ℕ)
@@ -55,7 +55,7 @@ holds : (g : _) (c : goal.After-drop-full-2 g) → rows_on c.append.new.self.ite
 holds g c =
     joined c.self.inside.full.items c.tail.inside.full.items c.append.new.self.items c.self.inside.last c.tail.inside.last c.args.self.now c.args.part
     c.in_ok-tail.tail c.args.base
-    c.self.invariant c.self.view_is c.tail.view_is (omega (arith, c.if-base-eq0.false)) c.requires.base c.in_ok-tail.ensures (all_pages g c)
+    c.self.invariant c.self.view_is c.tail.view_is (c.requires.some) c.requires.base c.in_ok-tail.ensures (all_pages g c)
 
 pub invariant_of-self-2 : goal.invariant_of-self-2
 invariant_of-self-2 g c =
@@ -66,7 +66,7 @@ invariant_of-self-2 g c =
     length-slice_range c.args.self.now from c.args.base (omega arith) c.requires.base in
     on_pages c.self.inside.full.items c.tail.inside.full.items c.append.new.self.items c.self.inside.last c.tail.inside.last c.args.self.now c.args.part
     c.in_ok-tail.tail c.args.base ((c.args.base - 1) / 64)
-    c.self.invariant c.tail.invariant c.tail.view_is (omega (arith, cut, taken, c.if-base-eq0.false)) c.requires.base c.requires.few (all_pages g c) (holds g c)
+    c.self.invariant c.tail.invariant c.tail.view_is (omega (arith, cut, taken, c.requires.some)) c.requires.base c.requires.few (all_pages g c) (holds g c)
 
 pub returns-clause-ok : goal.returns-clause-ok
 returns-clause-ok g c = holds g c

@@ -1,7 +1,7 @@
 use Rattle.std.proofs.Common.{◌++◌, ◌∷◌, [], sym, ap, ◌∙◌, append_assoc}
 use Rattle.std.specs.List.{slice_range}
 use Rattle.vr_types.proofs.Pages.{slice_range-next}
-use Rattle.vr_types.proofs.rows.RowsOf.append.Goals as goal
+use Rattle.vr_types.proofs.paged.PagedRows.append.Goals as goal
 
 pub loop-at-preserved : goal.loop-at-preserved
 loop-at-preserved g c =

@@ -1,6 +1,6 @@
 use Rattle.std.proofs.Common.{◌≡◌, ◌++◌}
 use Rattle.std.specs.List.{slice_range}
-use Rattle.vr_types.proofs.rows.RowsOf.append.Given as goal
+use Rattle.vr_types.proofs.paged.PagedRows.append.Given as goal
 
 -- the rows so far
 abbrev pub invariant-loop-at : goal.invariant-loop-at

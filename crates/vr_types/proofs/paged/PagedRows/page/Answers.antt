@@ -2,8 +2,8 @@ use Rattle.std.proofs.Common.{◌≡◌, ◌+◌, ◌*◌, ◌≤◌, ◌<◌, a
 use Rattle.std.proofs.lemmas.Bool.Decides.{nat_tests}
 use Rattle.vr_types.specs.Pages.{on_page, page_of}
 use Rattle.vr_types.proofs.Pages.{page_of-full, page_of-last, page_of-past}
-use Rattle.vr_types.proofs.rows.RowsOf.page.Goals as goal
-use Rattle.vr_types.proofs.rows.RowsOf.page.Goals.{else-page-len-2-via-then-page-len-2+else-not-is_empty, else-page-len-2-via-else-page-len-2}
+use Rattle.vr_types.proofs.paged.PagedRows.page.Goals as goal
+use Rattle.vr_types.proofs.paged.PagedRows.page.Goals.{else-page-len-2-via-then-page-len-2+else-not-is_empty, else-page-len-2-via-else-page-len-2}
 
 pub returns-then-page-len : goal.returns-then-page-len
 returns-then-page-len g c =

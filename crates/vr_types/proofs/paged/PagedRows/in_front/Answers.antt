@@ -5,7 +5,7 @@ use Rattle.std.specs.declared.sync.Arc.{Arc}
 use Rattle.vr_types.specs.declared.row.RowOf.{RowOf}
 use Rattle.vr_types.specs.Pages.{on_page, rows_on, AreOnPages}
 use Rattle.vr_types.proofs.Pages.{length-pages, one-page}
-use Rattle.vr_types.proofs.rows.RowsOf.in_front.Goals as goal
+use Rattle.vr_types.proofs.paged.PagedRows.in_front.Goals as goal
 
 -- the page in front
 front : {C : Type 0} (full : List (Arc (Vec (RowOf C) Global) Global)) (page : Vec (RowOf C) Global) (rows : List (RowOf C))

@@ -3,7 +3,7 @@ use Rattle.std.proofs.lemmas.Option.{slice_get_read}
 use Rattle.std.proofs.Math.Nat.{div-add-mod}
 use Rattle.vr_types.specs.Pages.{on_page}
 use Rattle.vr_types.proofs.Pages.{length-pages, full-page, row-on_page, row-behind}
-use Rattle.vr_types.proofs.rows.RowsOf.row.Goals as goal
+use Rattle.vr_types.proofs.paged.PagedRows.row.Goals as goal
 
 pub index-requires-else-page-len : goal.index-requires-else-page-len
 index-requires-else-page-len g c =

@@ -1,7 +1,7 @@
 use Rattle.std.proofs.Common.{ap, sym, ◌∙◌, length, ◌%◌, arith}
 use Rattle.vr_types.specs.Pages.{on_page}
 use Rattle.vr_types.proofs.Pages.{whole-pages}
-use Rattle.vr_types.proofs.rows.RowsOf.push.Goals as goal
+use Rattle.vr_types.proofs.paged.PagedRows.push.Goals as goal
 
 pub returns-in_err-page-clause-room : goal.returns-in_err-page-clause-room
 returns-in_err-page-clause-room g c =
