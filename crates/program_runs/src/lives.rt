@@ -173,8 +173,9 @@ fn played(alloc: Global, script: &[u8]) -> Result<Vec<u8>, Fail> {
     Ok(printed)
 }
 
-/// A run in which up to line 5 no actor sends anything, so that all that is told of these lines is known. Lines 2, 6 and 7
-/// are refused: site 2 is down, there is no site 9, and 0 is no amount. The restart sends 2 RECOVERYs, and from then on it is for the threads what comes when.
+/// A run in which up to line 5 no actor sends anything, so that all that is told of these lines is known. Lines 2, 6
+/// and 7 are refused: site 2 is down, there is no site 9, and 0 is no amount. The restart sends 2 RECOVERYs, and from
+/// then on it is for the threads what comes when.
 const TOLD: &str = "crash s2\nbeat s2\nrest 1\nbeat s1\nrestart s2\ncrash s9\npayin ALFA USD 0\n\
 do ALFA payout USD 5\nbeat s0\nrest 30\ntimer s1\nrest 30\ncrash s0\n";
 

@@ -7,8 +7,8 @@ use Rattle.pvp_rooms.specs.declared.actor.Actor.{Ghosts}
 use Rattle.pvp_rooms.specs.declared.cell.Closed.{Closed}
 use Rattle.pvp_audit.specs.declared.verdict.Verdict.{Verdict}
 use Rattle.pvp_audit.specs.declared.verdict.Verdict.TheVariants.{Yes, No}
-use Rattle.pvp_audit.specs.declared.verdict.Why.{Why}
-use Rattle.pvp_audit.specs.declared.verdict.Why.TheVariants.{Stamped, Clock, Answered, End, Receipts, NoMemory}
+use Rattle.pvp_audit.specs.declared.verdict.AuditTest.{AuditTest}
+use Rattle.pvp_audit.specs.declared.verdict.AuditTest.TheVariants.{Stamped, Clock, Answered, End, Receipts, NoMemory}
 use Rattle.pvp_audit.specs.Runs.{Tagged, number_at, AreInOrder, IsLegal, Arrives, CanCome}
 use Rattle.pvp_audit.specs.Verdicts.{HoldOfAll, IsAlone, IsSound, IsOneRun, HasRisingClocks, ClocksRise, FailsAlone, FailsAt, FailsEnd, CannotArrive, CannotCome, ClockFails, Means, MeansNo, MeansRun, MeansNoRun, IsOfTest, IsTested}
 use Rattle.pvp_audit.specs.Alone.{AloneNo}
@@ -17,7 +17,7 @@ use Rattle.pvp_audit.proofs.Order.{same_some}
 use Rattle.pvp_audit.proofs.Receiving.{received_not_fails, one_unreceived, rising_not_fails, one_unrisen}
 use Rattle.pvp_audit.proofs.OneFailing.{one_end, legal_could, earlier_could, past_ends, in_order}
 
-no_is : (a b : ℕ) (e d : ℕ) (why other : Why) → a ≡ b → e ≡ d → why ≡ other → No a e why ≡ No b d other
+no_is : (a b : ℕ) (e d : ℕ) (why other : AuditTest) → a ≡ b → e ≡ d → why ≡ other → No a e why ≡ No b d other
 no_is a b e d why other p q r = λ i. No (p i) (q i) (r i)
 
 -- THE TESTS OF AN ACTOR ALONE
@@ -40,7 +40,7 @@ module _ {A N E O : Type 0} (closed : List (Closed A N E O)) (passes : Closed A 
   none_alone a F not_f all f = not_f f.who (all f.place f.who f.is.is) f.fails
 
 module _ {A N E O : Type 0} (closed : List (Closed A N E O)) where
-  alone_alone : (a b e d : ℕ) (why other : Why) → AloneNo closed a e why → AloneNo closed b d other → No a e why ≡ No b d other
+  alone_alone : (a b e d : ℕ) (why other : AuditTest) → AloneNo closed a e why → AloneNo closed b d other → No a e why ≡ No b d other
   alone_alone a b e d Receipts Receipts p q =
       let one = one_alone closed IsAlone a b _ _ (λ c r f. received_not_fails c.seats.items c.history.items e r.receipts f)
       (λ c r f. received_not_fails c.seats.items c.history.items d r.receipts f) p q in
@@ -70,7 +70,7 @@ module _ {A N E O : Type 0} (closed : List (Closed A N E O)) where
   alone_alone a b e d Clock End p q = absurd q
   alone_alone a b e d Clock NoMemory p q = absurd q
 
-  all_alone : (a e : ℕ) (why : Why) → HoldOfAll closed (λ _ c. IsAlone c) → AloneNo closed a e why → ⊥
+  all_alone : (a e : ℕ) (why : AuditTest) → HoldOfAll closed (λ _ c. IsAlone c) → AloneNo closed a e why → ⊥
   all_alone a e Receipts all p = none_alone closed IsAlone a _ (λ c r f. received_not_fails c.seats.items c.history.items e r.receipts f) all p
   all_alone a e Clock all p = none_alone closed IsAlone a _ (λ c r f. rising_not_fails c.history.items e r.clocks f.1) all p
   all_alone a e Stamped all p = p
@@ -147,7 +147,7 @@ module _ {A N E O L : Type 0} (m : Ghosts A N E O) (delivers : E → Option L) (
         (subst (λ (past : List (Tagged E O)). Arrives delivers sent is_for closed past g.who.end f.what) (sym same.3)
         (subst (λ (r : Recorded E O). Arrives delivers sent is_for closed g.past g.who.end r) (sym same.4) g.fails.0)))
 
-    failed_failed : (p q e d : ℕ) (why other : Why) → HasFailed m delivers sent is_for closed start p e why
+    failed_failed : (p q e d : ℕ) (why other : AuditTest) → HasFailed m delivers sent is_for closed start p e why
         → HasFailed m delivers sent is_for closed start q d other
         → No (number_at closed p) e why ≡ No (number_at closed q) d other
     failed_failed p q e d Stamped Stamped f g =
@@ -171,7 +171,7 @@ module _ {A N E O L : Type 0} (m : Ghosts A N E O) (delivers : E → Option L) (
     failed_failed p q e d Answered End f g = absurd g
     failed_failed p q e d Answered NoMemory f g = absurd g
 
-    legal_failed : (p e : ℕ) (why : Why) → IsLegal m delivers sent is_for closed start → HasFailed m delivers sent is_for closed start p e why → ⊥
+    legal_failed : (p e : ℕ) (why : AuditTest) → IsLegal m delivers sent is_for closed start → HasFailed m delivers sent is_for closed start p e why → ⊥
     legal_failed p e Stamped legal f =
         never_stamped p e f (legal_could m delivers sent is_for closed start order clocks p f.who f.is f.what f.past f.at f.next f.reached legal)
     legal_failed p e Answered legal f =
@@ -195,17 +195,17 @@ module _ {A N E O L : Type 0} (m : Ghosts A N E O) (delivers : E → Option L) (
   -- ALL TESTS
 
   -- a test of the merged list fails at an event of this actor
-  record Merged (passes : Closed A N E O → Type 0) (actor event : ℕ) (why : Why) : Type 0 where
+  record Merged (passes : Closed A N E O → Type 0) (actor event : ℕ) (why : AuditTest) : Type 0 where
     pub alone : HoldOfAll closed (λ _ c. passes c)
     pub place : ℕ
     pub number : number_at closed place ≡ actor
     pub failed : HasFailed m delivers sent is_for closed start place event why
 
-  abbrev Ended : ℕ → ℕ → Why → Type 0
+  abbrev Ended : ℕ → ℕ → AuditTest → Type 0
   Ended actor event why = (why ≡ End) × (event ≡ 0) × FailsEnd m delivers sent is_for closed start actor
 
   -- a No is of an actor alone, of the merged list or of the ends
-  kinds : (a e : ℕ) (why : Why) → IsOfTest why → MeansNo m delivers sent is_for closed start a e why
+  kinds : (a e : ℕ) (why : AuditTest) → IsOfTest why → MeansNo m delivers sent is_for closed start a e why
       → AloneNo closed a e why ⊎ (Merged IsAlone a e why ⊎ Ended a e why)
   kinds a e Receipts is f = inl f
   kinds a e Clock is f = inl f
@@ -214,13 +214,13 @@ module _ {A N E O L : Type 0} (m : Ghosts A N E O) (delivers : E → Option L) (
   kinds a e End is f = inr (inr (refl, f.0, f.1))
   kinds a e NoMemory is f = absurd is
 
-  merged_merged : (passes : Closed A N E O → Type 0) → (HoldOfAll closed (λ _ c. passes c) → ClocksRise closed) → (a b e d : ℕ) (why other : Why)
+  merged_merged : (passes : Closed A N E O → Type 0) → (HoldOfAll closed (λ _ c. passes c) → ClocksRise closed) → (a b e d : ℕ) (why other : AuditTest)
       → Merged passes a e why → Merged passes b d other → No a e why ≡ No b d other
   merged_merged passes clocks a b e d why other f g =
       let same = failed_failed (clocks f.alone) f.place g.place e d why other f.failed g.failed in
       no_is a (number_at closed f.place) e e why why (sym f.number) refl refl ∙ same ∙ no_is (number_at closed g.place) b d d other other g.number refl refl
 
-  no_no : (a b e d : ℕ) (why other : Why) → AloneNo closed a e why ⊎ (Merged IsAlone a e why ⊎ Ended a e why)
+  no_no : (a b e d : ℕ) (why other : AuditTest) → AloneNo closed a e why ⊎ (Merged IsAlone a e why ⊎ Ended a e why)
       → AloneNo closed b d other ⊎ (Merged IsAlone b d other ⊎ Ended b d other) → No a e why ≡ No b d other
   no_no a b e d why other (inl f) (inl g) = alone_alone closed a b e d why other f g
   no_no a b e d why other (inl f) (inr (inl g)) = absurd (all_alone closed a e why g.alone f)
@@ -235,7 +235,7 @@ module _ {A N E O L : Type 0} (m : Ghosts A N E O) (delivers : E → Option L) (
   all_of : IsSound m delivers sent is_for closed start → HoldOfAll closed (λ _ c. IsAlone c)
   all_of sound j c is = record { receipts = sound.receipts j c is; clocks = sound.run.clocks j c is }
 
-  yes_no : (a e : ℕ) (why : Why) → IsSound m delivers sent is_for closed start → AloneNo closed a e why ⊎ (Merged IsAlone a e why ⊎ Ended a e why) → ⊥
+  yes_no : (a e : ℕ) (why : AuditTest) → IsSound m delivers sent is_for closed start → AloneNo closed a e why ⊎ (Merged IsAlone a e why ⊎ Ended a e why) → ⊥
   yes_no a e why sound (inl f) = all_alone closed a e why (all_of sound) f
   yes_no a e why sound (inr (inl f)) = legal_failed sound.run.clocks f.place e why sound.run.legal f.failed
   yes_no a e why sound (inr (inr f)) =
@@ -251,7 +251,7 @@ module _ {A N E O L : Type 0} (m : Ghosts A N E O) (delivers : E → Option L) (
 
   -- OF HISTORIES ALONE
 
-  run_kinds : (a e : ℕ) (why : Why) → MeansNoRun m delivers sent is_for closed start a e why
+  run_kinds : (a e : ℕ) (why : AuditTest) → MeansNoRun m delivers sent is_for closed start a e why
       → ((why ≡ Clock) × FailsAlone HasRisingClocks closed a (λ c. ClockFails c.history.items e)) ⊎ Merged HasRisingClocks a e why
   run_kinds a e Clock f = inl (refl, f)
   run_kinds a e Stamped f = inr (record { alone = f.alone; place = f.place; number = f.number; failed = f.fails })
@@ -263,7 +263,7 @@ module _ {A N E O L : Type 0} (m : Ghosts A N E O) (delivers : E → Option L) (
   none_unrisen : (a e : ℕ) → ClocksRise closed → FailsAlone HasRisingClocks closed a (λ c. ClockFails c.history.items e) → ⊥
   none_unrisen a e clocks f = none_alone closed HasRisingClocks a _ (λ c r f. rising_not_fails c.history.items e r f) clocks f
 
-  run_no_no : (a b e d : ℕ) (why other : Why)
+  run_no_no : (a b e d : ℕ) (why other : AuditTest)
       → ((why ≡ Clock) × FailsAlone HasRisingClocks closed a (λ c. ClockFails c.history.items e)) ⊎ Merged HasRisingClocks a e why
       → ((other ≡ Clock) × FailsAlone HasRisingClocks closed b (λ c. ClockFails c.history.items d)) ⊎ Merged HasRisingClocks b d other
       → No a e why ≡ No b d other
@@ -276,7 +276,7 @@ module _ {A N E O L : Type 0} (m : Ghosts A N E O) (delivers : E → Option L) (
   run_no_no a b e d why other (inr f) (inl g) = absurd (none_unrisen b d f.alone g.1)
   run_no_no a b e d why other (inr f) (inr g) = merged_merged HasRisingClocks (λ all. all) a b e d why other f g
 
-  run_yes_no : (a e : ℕ) (why : Why) → IsOneRun m delivers sent is_for closed start
+  run_yes_no : (a e : ℕ) (why : AuditTest) → IsOneRun m delivers sent is_for closed start
       → ((why ≡ Clock) × FailsAlone HasRisingClocks closed a (λ c. ClockFails c.history.items e)) ⊎ Merged HasRisingClocks a e why → ⊥
   run_yes_no a e why run (inl f) = none_unrisen a e run.clocks f.1
   run_yes_no a e why run (inr f) = legal_failed run.clocks f.place e why run.legal f.failed

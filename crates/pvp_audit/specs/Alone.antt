@@ -1,12 +1,12 @@
 -- What the tests of actors alone say.
 use Rattle.std.specs.Prelude.{ℕ, List}
 use Rattle.pvp_rooms.specs.declared.cell.Closed.{Closed}
-use Rattle.pvp_audit.specs.declared.verdict.Why.{Why}
-use Rattle.pvp_audit.specs.declared.verdict.Why.TheVariants.{Stamped, Clock, Answered, End, Receipts, NoMemory}
+use Rattle.pvp_audit.specs.declared.verdict.AuditTest.{AuditTest}
+use Rattle.pvp_audit.specs.declared.verdict.AuditTest.TheVariants.{Stamped, Clock, Answered, End, Receipts, NoMemory}
 use Rattle.pvp_audit.specs.Verdicts.{AreReceived, IsAlone, FailsAlone, ReceiptsFail, ClockFails}
 
 -- an actor alone fails a test at an event, and each before it passes both
-abbrev pub AloneNo : {A N E O : Type 0} → List (Closed A N E O) → ℕ → ℕ → Why → Type 0
+abbrev pub AloneNo : {A N E O : Type 0} → List (Closed A N E O) → ℕ → ℕ → AuditTest → Type 0
 AloneNo closed actor event Receipts =
     FailsAlone IsAlone closed actor (λ c. ReceiptsFail c.history.items c.seats.items event)
 AloneNo closed actor event Clock =

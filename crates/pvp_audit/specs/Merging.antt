@@ -3,8 +3,8 @@ use Rattle.std.specs.Prelude.{◌≡◌, ℕ, ◌<◌, ◌≤◌, List, Bool, Op
 use Rattle.pvp_rooms.specs.declared.message.Recorded.{Recorded}
 use Rattle.pvp_rooms.specs.declared.actor.Actor.{Ghosts}
 use Rattle.pvp_rooms.specs.declared.cell.Closed.{Closed}
-use Rattle.pvp_audit.specs.declared.verdict.Why.{Why}
-use Rattle.pvp_audit.specs.declared.verdict.Why.TheVariants.{Stamped, Clock, Answered, End, Receipts, NoMemory}
+use Rattle.pvp_audit.specs.declared.verdict.AuditTest.{AuditTest}
+use Rattle.pvp_audit.specs.declared.verdict.AuditTest.TheVariants.{Stamped, Clock, Answered, End, Receipts, NoMemory}
 use Rattle.pvp_audit.specs.Runs.{Tagged, own, history_of, IsBefore, AreBefore, IsSorted, IsRun}
 use Rattle.pvp_audit.specs.Verdicts.{FailsAt, CannotArrive, CannotCome}
 
@@ -33,7 +33,7 @@ pub record IsProgress {A N E O L : Type 0} (m : Ghosts A N E O) (delivers : E �
 
 -- a test of the merged list fails at an event of the actor at a place
 abbrev pub HasFailed : {A N E O L : Type 0} → (m : Ghosts A N E O) → (E → Option L) → (O → List L) → (A → E → Bool)
-    → List (Closed A N E O) → (ℕ → m.State) → ℕ → ℕ → Why → Type 0
+    → List (Closed A N E O) → (ℕ → m.State) → ℕ → ℕ → AuditTest → Type 0
 HasFailed m delivers sent is_for closed start place event Stamped =
     FailsAt m delivers sent is_for closed start place event (CannotArrive delivers sent is_for closed)
 HasFailed m delivers sent is_for closed start place event Answered =

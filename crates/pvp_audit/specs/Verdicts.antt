@@ -7,8 +7,8 @@ use Rattle.pvp_rooms.specs.declared.cell.Closed.{Closed}
 use Rattle.pvp_rooms.specs.Seats.{Held}
 use Rattle.pvp_audit.specs.declared.verdict.Verdict.{Verdict}
 use Rattle.pvp_audit.specs.declared.verdict.Verdict.TheVariants.{Yes, No}
-use Rattle.pvp_audit.specs.declared.verdict.Why.{Why}
-use Rattle.pvp_audit.specs.declared.verdict.Why.TheVariants.{Stamped, Clock, Answered, End, Receipts, NoMemory}
+use Rattle.pvp_audit.specs.declared.verdict.AuditTest.{AuditTest}
+use Rattle.pvp_audit.specs.declared.verdict.AuditTest.TheVariants.{Stamped, Clock, Answered, End, Receipts, NoMemory}
 use Rattle.pvp_audit.specs.Together.{AreTogether, IsNext, receipts_of}
 use Rattle.pvp_audit.specs.Ends.{AreAlike, IsFirstUnlike}
 use Rattle.pvp_audit.specs.Runs.{Tagged, own, number_at, Arrives, IsLegal, IsReached}
@@ -159,7 +159,7 @@ pub record IsSound {A N E O L : Type 0} (m : Ghosts A N E O) (delivers : E → O
   pub ends : AreAlike m closed start (length closed)
 
 abbrev pub MeansNo : {A N E O L : Type 0} → (m : Ghosts A N E O) → (E → Option L) → (O → List L) → (A → E → Bool)
-    → List (Closed A N E O) → (ℕ → m.State) → ℕ → ℕ → Why → Type 0
+    → List (Closed A N E O) → (ℕ → m.State) → ℕ → ℕ → AuditTest → Type 0
 MeansNo m delivers sent is_for closed start actor event Receipts =
     FailsAlone IsAlone closed actor (λ c. ReceiptsFail c.history.items c.seats.items event)
 MeansNo m delivers sent is_for closed start actor event Clock =
@@ -184,7 +184,7 @@ Means m delivers sent is_for closed start (No actor event why) =
 -- ---- histories alone, whatever receipts and ends there are
 
 abbrev pub MeansNoRun : {A N E O L : Type 0} → (m : Ghosts A N E O) → (E → Option L) → (O → List L) → (A → E → Bool)
-    → List (Closed A N E O) → (ℕ → m.State) → ℕ → ℕ → Why → Type 0
+    → List (Closed A N E O) → (ℕ → m.State) → ℕ → ℕ → AuditTest → Type 0
 MeansNoRun m delivers sent is_for closed start actor event Clock =
     FailsAlone HasRisingClocks closed actor (λ c. ClockFails c.history.items event)
 MeansNoRun m delivers sent is_for closed start actor event Stamped =
@@ -208,7 +208,7 @@ MeansRun m delivers sent is_for closed start (No actor event why) =
 -- ---- which tests a verdict is of
 
 -- a test of the run alone: A1, A2 or A3
-abbrev pub IsOfRun : Why → Type 0
+abbrev pub IsOfRun : AuditTest → Type 0
 IsOfRun Stamped = Unit {0}
 IsOfRun Clock = Unit {0}
 IsOfRun Answered = Unit {0}
@@ -217,7 +217,7 @@ IsOfRun Receipts = ⊥
 IsOfRun NoMemory = ⊥
 
 -- a test, and not that memory was refused
-abbrev pub IsOfTest : Why → Type 0
+abbrev pub IsOfTest : AuditTest → Type 0
 IsOfTest NoMemory = ⊥
 IsOfTest _ = Unit {0}
 

@@ -9,4 +9,4 @@ pub mod sent;
 pub mod verdict;
 
 pub use audited::Audited;
-pub use verdict::{Verdict, Why, first_alone, first_clock};
+pub use verdict::{AuditTest, Verdict, first_alone, first_clock};

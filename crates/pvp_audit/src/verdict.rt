@@ -8,9 +8,9 @@ use crate::receipts::unreceipted;
 use pvp_rooms::Closed;
 use std::alloc::{AllocError, Global};
 
-/// Which test fails.
+/// Which test of an audit fails.
 #[derive(Clone, Copy, Debug, PartialEq, Eq)]
-pub enum Why {
+pub enum AuditTest {
     /// A1: what is delivered is not what its stamp names, or may not come to this actor.
     Stamped,
     /// A2: a clock is not above the one before it and above its stamp's.
@@ -31,7 +31,11 @@ pub enum Verdict {
     /// All that the actors left is one run.
     Yes,
     /// This test fails at this event of this actor, counted from 1, or at 0 where it is of no event.
-    No { actor: u16, event: usize, why: Why },
+    No {
+        actor: u16,
+        event: usize,
+        why: AuditTest,
+    },
 }
 
 /// The first actor, in order, whose clocks do not rise, and the event, counted from 1.
@@ -54,7 +58,7 @@ pub fn first_clock<A: Audited>(closed: &[Closed<A>]) -> Option<(u16, usize)>
 pub fn first_alone<A: Audited>(
     alloc: Global,
     closed: &[Closed<A>],
-) -> Result<Option<(u16, usize, Why)>, AllocError>
+) -> Result<Option<(u16, usize, AuditTest)>, AllocError>
     ensures some { IfOk result (λ found. IfSome found (λ no. AloneNo closed.now no.0 no.1 no.2)) }
     ensures none { IfOk result (λ found. IfNone found (HoldOfAll closed.now (λ _ c. IsAlone c))) }
 {
@@ -62,11 +66,11 @@ pub fn first_alone<A: Audited>(
         let one = &closed[k];
         match unreceipted::<A>(alloc, one.history.as_slice(), one.seats.as_slice()) {
             Err(refused) => return Err(refused),
-            Ok(Some(event)) => return Ok(Some((one.number, event, Why::Receipts))),
+            Ok(Some(event)) => return Ok(Some((one.number, event, AuditTest::Receipts))),
             Ok(None) => {}
         }
         if let Err(at) = rising(one.history.as_slice()) {
-            return Ok(Some((one.number, at + 1, Why::Clock)));
+            return Ok(Some((one.number, at + 1, AuditTest::Clock)));
         }
     }
     Ok(None)

@@ -7,7 +7,7 @@ use Rattle.pvp_text.specs.declared.script.LineCode.TheVariants as line
 use Rattle.vr_types.specs.declared.event.SiteFault.TheVariants as site
 use Rattle.rtgs_node.specs.declared.fault.NodeFault.TheVariants as node
 use Rattle.pvp_world.specs.declared.fault.WorldFault.TheVariants as world
-use Rattle.pvp_audit.specs.declared.verdict.Why.TheVariants as audit
+use Rattle.pvp_audit.specs.declared.verdict.AuditTest.TheVariants as audit
 use Rattle.pvp_wire.specs.declared.fault.WireFault.TheVariants as wire
 use Rattle.pvp_cell.specs.declared.fault.OpenFault.TheVariants as cell
 use Rattle.pvp_journal.specs.declared.fault.JournalWhy.TheVariants as journal

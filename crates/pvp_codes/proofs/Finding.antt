@@ -22,8 +22,8 @@ use Rattle.pvp_text.specs.declared.script.table.Word.TheVariants as forms
 use Rattle.pvp_text.specs.declared.script.fields.Value.{Value}
 use Rattle.pvp_text.specs.ScriptTable.{text_of, fields_of, kinds_of, has, firsts, commands, written, told_by_command, command_form, told_by_first, form_of, form_fields}
 use Rattle.pvp_codes.specs.Near.{nearest}
-use Rattle.pvp_codes.specs.declared.broken.Why.{Why}
-use Rattle.pvp_codes.specs.declared.broken.Why.TheVariants.{BeginsNoLine, NoCommand, Wrong}
+use Rattle.pvp_codes.specs.declared.broken.Breach.{Breach}
+use Rattle.pvp_codes.specs.declared.broken.Breach.TheVariants.{BeginsNoLine, NoCommand, Wrong}
 use Rattle.pvp_codes.specs.Broken.{number_fault, name_fault, other_kind, breaks, this_or, first_broken}
 
 -- ---- reading that does not fail so
@@ -46,11 +46,11 @@ not_so code (Err other) fine is = fine cc
 -- ---- what breaks no rule
 
 -- neither this word nor one behind it
-this_none : (word : List ℕ) (why : Option Why) (later : Option (List ℕ × Why)) → this_or word why later ≡ None → (why ≡ None) × (later ≡ None)
+this_none : (word : List ℕ) (why : Option Breach) (later : Option (List ℕ × Breach)) → this_or word why later ≡ None → (why ≡ None) × (later ≡ None)
 this_none word None later none = (refl, none)
 this_none word (Some why) later none = absurd cc
 
-parted : (breaks : Field → List ℕ → Option Why) (field : Field) (fields : List Field) (word : List ℕ) (said : List (List ℕ))
+parted : (breaks : Field → List ℕ → Option Breach) (field : Field) (fields : List Field) (word : List ℕ) (said : List (List ℕ))
     → first_broken breaks (field ∷ fields) (word ∷ said) ≡ None → (breaks field word ≡ None) × (first_broken breaks fields said ≡ None)
 parted breaks field fields word said none = this_none word (breaks field word) (first_broken breaks fields said) none
 
@@ -64,7 +64,7 @@ as_name code kind setup field word fine same = rw same at fine
 
 -- ---- what the words of a line say
 
-unknown_fine : (code : LineCode) (why : Why) (later : Result (List Value) LineCode) → (code ≡ line.UnknownName → Some why ≡ None) → Fine code later
+unknown_fine : (code : LineCode) (why : Breach) (later : Result (List Value) LineCode) → (code ≡ line.UnknownName → Some why ≡ None) → Fine code later
     → Fine code (unknown_before later)
 unknown_fine code why (Ok others) name fine = λ same. let bad = name (sym same) in absurd cc
 unknown_fine code why (Err other) name fine = fine
@@ -216,7 +216,7 @@ do_fine code kind setup first (who ∷ []) is count none = too_few code kind set
 do_fine code kind setup first (who ∷ command ∷ fields) is count none =
     command_fine code kind setup first who command fields (written command commands) refl is count none
 
-kind_has : (is : Bool) (why : Why) → (if is then None else Some why) ≡ None → is ≡ true
+kind_has : (is : Bool) (why : Breach) → (if is then None else Some why) ≡ None → is ≡ true
 kind_has true why none = refl
 kind_has false why none = absurd cc
 
@@ -258,17 +258,17 @@ counts_fine kind setup first rest count =
 
 -- ---- a word that is found
 
-same_word : (one other : List ℕ × Why) → Some one ≡ Some other → one.0 ≡ other.0
-same_word one other is = let same : one ≡ other = cc in ap (λ (found : List ℕ × Why). found.0) same
+same_word : (one other : List ℕ × Breach) → Some one ≡ Some other → one.0 ≡ other.0
+same_word one other is = let same : one ≡ other = cc in ap (λ (found : List ℕ × Breach). found.0) same
 
-here_or_later : (word other : List ℕ) (said : List (List ℕ)) (why : Why) (found : Option Why) (later : Option (List ℕ × Why))
+here_or_later : (word other : List ℕ) (said : List (List ℕ)) (why : Breach) (found : Option Breach) (later : Option (List ℕ × Breach))
     → (later ≡ Some (word, why) → is_among word said ≡ true) → this_or other found later ≡ Some (word, why) → (bytes_eq word other || is_among word said) ≡ true
 here_or_later word other said why (Some is) later among found =
     let same : word ≡ other = sym (same_word (other, is) (word, why) found) in
     rw ((bytes_eq-Decides word other).1 same) refl
 here_or_later word other said why None later among found = rw (among found) (or-true (bytes_eq word other))
 
-pub is_word : (breaks : Field → List ℕ → Option Why) (form : List Field) (said : List (List ℕ)) (word : List ℕ) (why : Why)
+pub is_word : (breaks : Field → List ℕ → Option Breach) (form : List Field) (said : List (List ℕ)) (word : List ℕ) (why : Breach)
     → first_broken breaks form said ≡ Some (word, why) → is_among word said ≡ true
 is_word breaks (field ∷ form) (other ∷ said) word why found =
     here_or_later word other said why (breaks field other) (first_broken breaks form said) (is_word breaks form said word why) found

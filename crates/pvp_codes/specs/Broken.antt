@@ -13,26 +13,26 @@ use Rattle.pvp_text.specs.declared.script.table.Kinds.{Kinds}
 use Rattle.pvp_text.specs.declared.script.table.Word.{Word}
 use Rattle.pvp_text.specs.ScriptTable.{text_of, kinds_of, has, firsts, commands, written, kind_text, kinds_text}
 use Rattle.pvp_codes.specs.Near.{nearest}
-use Rattle.pvp_codes.specs.declared.broken.Why.{Why}
-use Rattle.pvp_codes.specs.declared.broken.Why.TheVariants.{BeginsNoLine, OtherKind, NoCommand, Wrong}
+use Rattle.pvp_codes.specs.declared.broken.Breach.{Breach}
+use Rattle.pvp_codes.specs.declared.broken.Breach.TheVariants.{BeginsNoLine, OtherKind, NoCommand, Wrong}
 
 -- ---- a word that is unknown
 
 -- a word that begins lines, but of other kinds of script
-abbrev pub other_kind : Kinds → Kind → Option Why
+abbrev pub other_kind : Kinds → Kind → Option Breach
 other_kind kinds kind = if has kinds kind then None else Some (OtherKind kinds kind)
 
 -- a first word, given which begins lines and which may have been meant
-abbrev pub unknown_first : Kind → Option Word → Option Word → Option Why
+abbrev pub unknown_first : Kind → Option Word → Option Word → Option Breach
 unknown_first kind (Some known) near = other_kind (kinds_of known) kind
 unknown_first kind None near = Some (BeginsNoLine near)
 
 -- a command likewise
-abbrev pub unknown_command : Option Word → Option Word → Option Why
+abbrev pub unknown_command : Option Word → Option Word → Option Breach
 unknown_command (Some known) near = None
 unknown_command None near = Some (NoCommand near)
 
-abbrev pub unknown_word : Kind → Field → List ℕ → Option Why
+abbrev pub unknown_word : Kind → Field → List ℕ → Option Breach
 unknown_word kind First word = unknown_first kind (written word firsts) (nearest word firsts)
 unknown_word kind Command word = unknown_command (written word commands) (nearest word commands)
 unknown_word kind _ word = None
@@ -40,31 +40,31 @@ unknown_word kind _ word = None
 -- ---- a word that may not stand in its form
 
 -- a malformed number, or one too large
-abbrev pub number_fault : Result Value WordFault → Option Why
+abbrev pub number_fault : Result Value WordFault → Option Breach
 number_fault (Ok value) = None
 number_fault (Err fault) = if is_of_name fault then None else Some (Wrong fault)
 
 -- a name that nothing has which may stand there
-abbrev pub name_fault : Result Value WordFault → Option Why
+abbrev pub name_fault : Result Value WordFault → Option Breach
 name_fault (Ok value) = None
 name_fault (Err fault) = if is_of_name fault then Some (Wrong fault) else None
 
 -- ---- the first word that breaks the rule
 
 -- why a word breaks the rule of a code where it stands
-abbrev pub breaks : LineCode → Kind → Setup → Field → List ℕ → Option Why
+abbrev pub breaks : LineCode → Kind → Setup → Field → List ℕ → Option Breach
 breaks line.UnknownWord kind setup field word = unknown_word kind field word
 breaks line.Number kind setup field word = number_fault (value_at kind setup field word)
 breaks line.UnknownName kind setup field word = name_fault (value_at kind setup field word)
 breaks _ kind setup field word = None
 
 -- this word, or else what comes later
-abbrev pub this_or : List ℕ → Option Why → Option (List ℕ × Why) → Option (List ℕ × Why)
+abbrev pub this_or : List ℕ → Option Breach → Option (List ℕ × Breach) → Option (List ℕ × Breach)
 this_or word (Some why) later = Some (word, why)
 this_or word None later = later
 
 -- THE FIRST WORD from the left that breaks a rule, and why
-abbrev pub first_broken : (Field → List ℕ → Option Why) → List Field → List (List ℕ) → Option (List ℕ × Why)
+abbrev pub first_broken : (Field → List ℕ → Option Breach) → List Field → List (List ℕ) → Option (List ℕ × Breach)
 first_broken breaks (field ∷ fields) (word ∷ words) =
     this_or word (breaks field word) (first_broken breaks fields words)
 first_broken breaks _ _ = None
@@ -76,7 +76,7 @@ abbrev pub near_text : Option Word → List ℕ
 near_text None = []
 near_text (Some known) = codes ": did you mean " ++ text_of known ++ codes "?"
 
-abbrev pub why_text : Why → List ℕ
+abbrev pub why_text : Breach → List ℕ
 why_text (BeginsNoLine near) = codes "begins no line of such a script" ++ near_text near
 why_text (OtherKind kinds kind) = codes "is a line of " ++ kinds_text kinds ++ codes ", not of " ++ kind_text kind
 why_text (NoCommand near) = codes "is no command" ++ near_text near

@@ -18,8 +18,8 @@ use Rattle.pvp_world.specs.declared.fault.WorldFault.{WorldFault}
 use Rattle.pvp_world.specs.declared.fault.WorldFault.TheVariants as world
 use Rattle.pvp_world.specs.Fault.{fault_text}
 use Rattle.pvp_trace.specs.Meanings.{meaning as step_meaning}
-use Rattle.pvp_audit.specs.declared.verdict.Why.{Why}
-use Rattle.pvp_audit.specs.declared.verdict.Why.TheVariants as audit
+use Rattle.pvp_audit.specs.declared.verdict.AuditTest.{AuditTest}
+use Rattle.pvp_audit.specs.declared.verdict.AuditTest.TheVariants as audit
 use Rattle.pvp_wire.specs.declared.fault.WireFault.{WireFault}
 use Rattle.pvp_wire.specs.declared.fault.WireFault.TheVariants as wire
 use Rattle.pvp_wire.specs.Fault.{fault_code_text}
@@ -55,7 +55,7 @@ setup_code text.BadMember = codes "J2"
 setup_code text.NoMemory = codes "J3"
 setup_code (text.BadSetup rule) = rule_text rule
 
-abbrev pub audit_code : Why → List ℕ
+abbrev pub audit_code : AuditTest → List ℕ
 audit_code audit.Stamped = codes "A1"
 audit_code audit.Clock = codes "A2"
 audit_code audit.Answered = codes "A3"
@@ -121,7 +121,7 @@ abbrev pub node_faults : List NodeFault
 node_faults =
     node.Short ∷ node.UnknownMember ∷ node.BadAmount ∷ node.NoMemory ∷ node.Spent ∷ node.NotMine ∷ node.Closed ∷ []
 
-abbrev pub audit_tests : List Why
+abbrev pub audit_tests : List AuditTest
 audit_tests = audit.Stamped ∷ audit.Clock ∷ audit.Answered ∷ audit.End ∷ audit.Receipts ∷ audit.NoMemory ∷ []
 
 abbrev pub frame_faults : List WireFault

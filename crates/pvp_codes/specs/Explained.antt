@@ -22,7 +22,7 @@ use Rattle.pvp_codes.specs.Tree.{Found, wrong_in, path_told, flaw_text}
 use Rattle.pvp_codes.specs.Parts.{currency_fault, member_fault, first_part, part_text}
 use Rattle.pvp_codes.specs.declared.parts.PartWhy.{PartWhy}
 use Rattle.pvp_text.specs.declared.script.table.Field.{Field}
-use Rattle.pvp_codes.specs.declared.broken.Why.{Why}
+use Rattle.pvp_codes.specs.declared.broken.Breach.{Breach}
 
 -- the byte that ends a line
 abbrev pub is_end : ℕ → Bool
@@ -53,7 +53,7 @@ is_of_words LineCount = false
 is_of_words NoMemory = false
 
 -- a word that is quoted, and why it may not stand where it does
-abbrev pub broken_told : List ℕ × Why → List ℕ
+abbrev pub broken_told : List ℕ × Breach → List ℕ
 broken_told broken = codes "\"" ++ broken.0 ++ codes "\" " ++ why_text broken.1
 
 -- which it is of too many or too few words, where the form has so many
@@ -80,7 +80,7 @@ rule_told LineCount said = line_meaning LineCount
 rule_told NoMemory said = line_meaning NoMemory
 
 -- the word that broke the rule; where none is found, the rule and the line
-abbrev pub found_told : LineCode → List ℕ → Option (List ℕ × Why) → List ℕ
+abbrev pub found_told : LineCode → List ℕ → Option (List ℕ × Breach) → List ℕ
 found_told code line (Some broken) = broken_told broken
 found_told code line None = rule_told code (words line) ++ codes ": " ++ line
 

@@ -8,19 +8,19 @@ use Rattle.pvp_text.specs.declared.script.LineCode.TheVariants.{Byte, WordCount}
 use Rattle.pvp_text.specs.Script.{statement_at, line_at}
 use Rattle.pvp_text.specs.SetupText.{setup_text, parts_where}
 use Rattle.pvp_text.specs.declared.setup.TextFault.TheVariants.{BadMember}
-use Rattle.pvp_codes.specs.declared.broken.Why.{Why}
+use Rattle.pvp_codes.specs.declared.broken.Breach.{Breach}
 use Rattle.pvp_text.specs.ScriptTable.{form_of, form_fields}
 use Rattle.pvp_codes.specs.Broken.{breaks, first_broken}
 use Rattle.pvp_codes.specs.Tree.{wrong_in}
 use Rattle.pvp_codes.specs.Explained.{first_unprinted}
 
 -- the word that is found for a code in the words of a line, and why
-abbrev pub found_in : LineCode → Kind → Setup → List (List ℕ) → Option (List ℕ × Why)
+abbrev pub found_in : LineCode → Kind → Setup → List (List ℕ) → Option (List ℕ × Breach)
 found_in code kind setup said = first_broken (breaks code kind setup) (form_fields (form_of said)) said
 
 -- it is one of them
 abbrev pub IsAWord : Type 0
-IsAWord = (code : LineCode) (kind : Kind) (setup : Setup) (said : List (List ℕ)) (word : List ℕ) (why : Why)
+IsAWord = (code : LineCode) (kind : Kind) (setup : Setup) (said : List (List ℕ)) (word : List ℕ) (why : Breach)
     → found_in code kind setup said ≡ Some (word, why) → is_among word said ≡ true
 
 -- WHERE THE READER OF LINES FAILS at a word, one is found: of a line with words it answers no code, but that of their

@@ -9,8 +9,8 @@ use Rattle.pvp_text.specs.declared.setup.TextFault.{TextFault}
 use Rattle.pvp_text.specs.declared.setup.TextFault.TheVariants as text
 use Rattle.pvp_text.specs.declared.script.LineCode.{LineCode}
 use Rattle.pvp_text.specs.declared.script.LineCode.TheVariants as line
-use Rattle.pvp_audit.specs.declared.verdict.Why.{Why}
-use Rattle.pvp_audit.specs.declared.verdict.Why.TheVariants as audit
+use Rattle.pvp_audit.specs.declared.verdict.AuditTest.{AuditTest}
+use Rattle.pvp_audit.specs.declared.verdict.AuditTest.TheVariants as audit
 use Rattle.pvp_wire.specs.declared.fault.WireFault.{WireFault}
 use Rattle.pvp_wire.specs.declared.fault.WireFault.TheVariants as wire
 use Rattle.pvp_cell.specs.declared.fault.OpenFault.{OpenFault}
@@ -75,7 +75,7 @@ reason_meaning reason.Short = codes "the sender's balance is below the amount"
 reason_meaning reason.TestFails = codes "the sender would fail its tests once the amount is paid out"
 reason_meaning reason.BankShort = codes "the bank's figure is below the amount"
 
-abbrev pub audit_meaning : Why → List ℕ
+abbrev pub audit_meaning : AuditTest → List ℕ
 audit_meaning audit.Stamped = codes "what is delivered is not what its stamp names, or may not come to this actor"
 audit_meaning audit.Clock = codes "a clock is not above the one before it and above its stamp's"
 audit_meaning audit.Answered = codes "the event cannot come out as it is recorded"

@@ -15,7 +15,7 @@ use std::fmt;
 
 /// Why a word may not stand where it does.
 #[derive(Clone, Copy, Debug, PartialEq, Eq)]
-pub enum Why {
+pub enum Breach {
     /// It begins no line of any script; and which word does that is one slip away, where one is.
     BeginsNoLine(Option<Word>),
     /// It begins lines of these kinds of script, and this script is of another.
@@ -27,19 +27,19 @@ pub enum Why {
 }
 
 /// Says in words why the word may not stand there.
-impl fmt::Display for Why {
+impl fmt::Display for Breach {
     ghost output = { λ why. Some (spec.why_text why) };
 
     fn fmt<W: fmt::Write>(&self, f: &mut fmt::Formatter<W>) -> fmt::Result {
         match self {
-            Why::BeginsNoLine(None) => f.write_str("begins no line of such a script"),
-            Why::BeginsNoLine(Some(near)) => {
+            Breach::BeginsNoLine(None) => f.write_str("begins no line of such a script"),
+            Breach::BeginsNoLine(Some(near)) => {
                 write!(f, "begins no line of such a script: did you mean {near}?")
             }
-            Why::OtherKind(kinds, kind) => { write!(f, "is a line of {kinds}, not of {kind}") }
-            Why::NoCommand(None) => f.write_str("is no command"),
-            Why::NoCommand(Some(near)) => write!(f, "is no command: did you mean {near}?"),
-            Why::Wrong(fault) => write!(f, "{fault}"),
+            Breach::OtherKind(kinds, kind) => { write!(f, "is a line of {kinds}, not of {kind}") }
+            Breach::NoCommand(None) => f.write_str("is no command"),
+            Breach::NoCommand(Some(near)) => write!(f, "is no command: did you mean {near}?"),
+            Breach::Wrong(fault) => write!(f, "{fault}"),
         }
     }
 }
@@ -52,7 +52,7 @@ pub fn first_broken<'a>(
     setup: &Setup,
     form: &[Field],
     line: &'a [u8],
-) -> Option<(&'a [u8], Why)>
+) -> Option<(&'a [u8], Breach)>
     ensures none { IfNone result (spec.first_broken (spec.breaks code kind setup.now) form.now
         (words line.now) ≡ None) }
     ensures some { IfSome result (λ x. spec.first_broken (spec.breaks code kind setup.now) form.now
@@ -72,7 +72,7 @@ pub fn first_broken<'a>(
 }
 
 /// Why a word breaks the rule of a code where it stands.
-fn breaks(code: LineCode, kind: Kind, setup: &Setup, field: Field, word: &[u8]) -> Option<Why>
+fn breaks(code: LineCode, kind: Kind, setup: &Setup, field: Field, word: &[u8]) -> Option<Breach>
     ensures { result ≡ spec.breaks code kind setup.now field word.now }
 {
     match code {
@@ -88,7 +88,7 @@ fn breaks(code: LineCode, kind: Kind, setup: &Setup, field: Field, word: &[u8]) 
 }
 
 /// Why a word is unknown that is to tell a form.
-fn unknown_word(kind: Kind, field: Field, word: &[u8]) -> Option<Why>
+fn unknown_word(kind: Kind, field: Field, word: &[u8]) -> Option<Breach>
     ensures { result ≡ spec.unknown_word kind field word.now }
 {
     match field {
@@ -99,53 +99,53 @@ fn unknown_word(kind: Kind, field: Field, word: &[u8]) -> Option<Why>
 }
 
 /// Why a first word is unknown: it begins lines of other kinds of script, or of none.
-fn unknown_first(kind: Kind, word: &[u8]) -> Option<Why>
+fn unknown_first(kind: Kind, word: &[u8]) -> Option<Breach>
     ensures { result ≡ spec.unknown_first kind (table.written word.now table.firsts)
         (nearest word.now table.firsts) }
 {
     match Word::written(word, firsts()) {
         Some(known) => other_kind(known.row().kinds, kind),
-        None => Some(Why::BeginsNoLine(near_first(word))),
+        None => Some(Breach::BeginsNoLine(near_first(word))),
     }
 }
 
 /// Why a first word is unknown in a kind of script, given those that have its lines.
-fn other_kind(kinds: Kinds, kind: Kind) -> Option<Why>
+fn other_kind(kinds: Kinds, kind: Kind) -> Option<Breach>
     ensures { result ≡ spec.other_kind kinds kind }
 {
     if kinds.has(kind) {
         return None;
     }
-    Some(Why::OtherKind(kinds, kind))
+    Some(Breach::OtherKind(kinds, kind))
 }
 
 /// Why a command is unknown.
-fn unknown_command(word: &[u8]) -> Option<Why>
+fn unknown_command(word: &[u8]) -> Option<Breach>
     ensures { result ≡ spec.unknown_command (table.written word.now table.commands)
         (nearest word.now table.commands) }
 {
     match Word::written(word, commands()) {
         Some(_) => None,
-        None => Some(Why::NoCommand(near_command(word))),
+        None => Some(Breach::NoCommand(near_command(word))),
     }
 }
 
 /// Why a word is a malformed number, or one too large.
-fn number_fault(said: Result<Value, WordFault>) -> Option<Why>
+fn number_fault(said: Result<Value, WordFault>) -> Option<Breach>
     ensures { result ≡ spec.number_fault said }
 {
     match said {
-        Err(fault) if !fault.is_of_name() => Some(Why::Wrong(fault)),
+        Err(fault) if !fault.is_of_name() => Some(Breach::Wrong(fault)),
         _ => None,
     }
 }
 
 /// Why a word is a name that nothing has which may stand there.
-fn name_fault(said: Result<Value, WordFault>) -> Option<Why>
+fn name_fault(said: Result<Value, WordFault>) -> Option<Breach>
     ensures { result ≡ spec.name_fault said }
 {
     match said {
-        Err(fault) if fault.is_of_name() => Some(Why::Wrong(fault)),
+        Err(fault) if fault.is_of_name() => Some(Breach::Wrong(fault)),
         _ => None,
     }
 }

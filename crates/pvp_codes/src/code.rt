@@ -8,7 +8,7 @@ use crate::meanings::{
     place_meaning, reason_meaning, record_meaning, seats_meaning, shelf_meaning, text_meaning,
     wire_meaning,
 };
-use pvp_audit::Why;
+use pvp_audit::AuditTest;
 use pvp_cell::OpenFault;
 use pvp_evidence::{EvidenceWhy, ShelfFault};
 use pvp_journal::{JournalWhy, WriteFault};
@@ -32,7 +32,7 @@ pub enum Code {
     /// G1 to G5, S1 to S7, N1 to N7 and C1: of a step that is not taken.
     Step(WorldFault),
     /// A1 to A6: of a test of the audit.
-    Audit(Why),
+    Audit(AuditTest),
     /// F1 to F7: of bytes that are no frame.
     Frame(WireFault),
     /// E1: of a live run whose actors cannot be audited.
@@ -110,15 +110,15 @@ impl fmt::Display for Code {
 }
 
 /// The code of a test of the audit.
-fn audit_code(why: Why) -> &'static str
+fn audit_code(why: AuditTest) -> &'static str
     ensures { result.now ≡ code_of_test why }
 {
     match why {
-        Why::Stamped => "A1",
-        Why::Clock => "A2",
-        Why::Answered => "A3",
-        Why::End => "A4",
-        Why::Receipts => "A5",
-        Why::NoMemory => "A6",
+        AuditTest::Stamped => "A1",
+        AuditTest::Clock => "A2",
+        AuditTest::Answered => "A3",
+        AuditTest::End => "A4",
+        AuditTest::Receipts => "A5",
+        AuditTest::NoMemory => "A6",
     }
 }

@@ -9,7 +9,7 @@ ghost use Rattle.pvp_codes.specs.Parts.{currency_fault, member_fault, first_part
 ghost use Rattle.pvp_codes.specs.Tree.{wrong_in};
 ghost use Rattle.pvp_codes.specs.Explained as spec;
 
-use crate::broken::{Why, first_broken};
+use crate::broken::{Breach, first_broken};
 use crate::meanings::{line_meaning, text_meaning};
 use crate::parts::{first_currency, first_member};
 use crate::tree::{Fault, Flaw, check_text};
@@ -303,7 +303,12 @@ fn first_unprinted(line: &[u8]) -> Option<usize>
 }
 
 /// Appends a word that is quoted, and why it may not stand where it does.
-fn push_broken(alloc: Global, text: &mut Vec<u8>, word: &[u8], why: Why) -> Result<(), AllocError>
+fn push_broken(
+    alloc: Global,
+    text: &mut Vec<u8>,
+    word: &[u8],
+    why: Breach,
+) -> Result<(), AllocError>
     ensures { OnOk result (text.new.items ≡ text.old.items ++ spec.broken_told (word.now, why)) }
 {
     let reason = format!(in alloc; "{why}")?;

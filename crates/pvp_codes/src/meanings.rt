@@ -4,7 +4,7 @@
 ghost use Rattle.std.specs.Prelude.{◌≡◌};
 ghost use Rattle.pvp_codes.specs.Meanings as spec;
 
-use pvp_audit::Why;
+use pvp_audit::AuditTest;
 use pvp_cell::OpenFault;
 use pvp_evidence::{EvidenceWhy, ShelfFault};
 use pvp_journal::{JournalWhy, WriteFault};
@@ -94,18 +94,18 @@ pub fn reason_meaning(why: Reason) -> &'static str
 }
 
 /// What it means that a test of an audit fails.
-pub fn audit_meaning(why: Why) -> &'static str
+pub fn audit_meaning(why: AuditTest) -> &'static str
     ensures { result.now ≡ spec.audit_meaning why }
 {
     match why {
-        Why::Stamped => {
+        AuditTest::Stamped => {
             "what is delivered is not what its stamp names, or may not come to this actor"
         }
-        Why::Clock => "a clock is not above the one before it and above its stamp's",
-        Why::Answered => "the event cannot come out as it is recorded",
-        Why::End => "the end state does not read like the replay's",
-        Why::Receipts => "an event is no seat's next receipt, or a receipt is left over",
-        Why::NoMemory => "memory was refused",
+        AuditTest::Clock => "a clock is not above the one before it and above its stamp's",
+        AuditTest::Answered => "the event cannot come out as it is recorded",
+        AuditTest::End => "the end state does not read like the replay's",
+        AuditTest::Receipts => "an event is no seat's next receipt, or a receipt is left over",
+        AuditTest::NoMemory => "memory was refused",
     }
 }
 

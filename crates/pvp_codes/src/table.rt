@@ -7,7 +7,7 @@ ghost use Rattle.pvp_text.specs.declared.book.RunFault.TheVariants.{NoMemory, Ou
 ghost use Rattle.pvp_codes.specs.Codes.{code_line, codes_text};
 
 use crate::code::Code;
-use pvp_audit::Why;
+use pvp_audit::AuditTest;
 use pvp_cell::OpenFault;
 use pvp_evidence::{EvidenceWhy, ShelfFault};
 use pvp_journal::{JournalWhy, WriteFault};
@@ -73,12 +73,12 @@ const CODES: [Code; 99] = [
     Code::Step(WorldFault::Node(NodeFault::NotMine)),
     Code::Step(WorldFault::Node(NodeFault::Closed)),
     Code::Step(WorldFault::Spent),
-    Code::Audit(Why::Stamped),
-    Code::Audit(Why::Clock),
-    Code::Audit(Why::Answered),
-    Code::Audit(Why::End),
-    Code::Audit(Why::Receipts),
-    Code::Audit(Why::NoMemory),
+    Code::Audit(AuditTest::Stamped),
+    Code::Audit(AuditTest::Clock),
+    Code::Audit(AuditTest::Answered),
+    Code::Audit(AuditTest::End),
+    Code::Audit(AuditTest::Receipts),
+    Code::Audit(AuditTest::NoMemory),
     Code::Frame(WireFault::Short),
     Code::Frame(WireFault::TooLong),
     Code::Frame(WireFault::Version),

@@ -50,12 +50,12 @@ const FAULT: u8 = 1;
 /// The status of words that ask for nothing that the program does.
 const NO_FORM: u8 = 2;
 
-/// Does what the words ask for, and answers the status of the program: 0, or 1 for a fault, or 2
-/// for words of no form, for help and for the version, or 3 where an audit says no. Faults, and why words have
-/// no form, go to `err`, the journals of a live run and keys to `shelf`, all else to
-/// `out`. An actor is served by another call: words that ask for that are told as `fault net` here. Where the reader of `out` is gone, as that of
-/// a closed pipe is, nothing is told. At 0 and at 3 the whole text of a request is written, where the bytes of its files are
-/// known; that it is the request which the words ask for is not said here.
+/// Does what the words ask for, and answers the status of the program: 0, or 1 for a fault, or 2 for words of no form,
+/// for help and for the version, or 3 where an audit says no. Faults, and why words have no form, go to `err`, the
+/// journals of a live run and keys to `shelf`, all else to `out`. An actor is served by another call: words that ask
+/// for that are told as `fault net` here. Where the reader of `out` is gone, as that of a closed pipe is, nothing is
+/// told. At 0 and at 3 the whole text of a request is written, where the bytes of its files are known; that it is the
+/// request which the words ask for is not said here.
 pub fn command_on<R, S: AsStr, F: Files, K: Shelf, O: Write + Audience, E: Write>(
     rt: &R,
     alloc: Global,

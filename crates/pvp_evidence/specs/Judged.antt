@@ -1,8 +1,8 @@
 -- What the judgement of histories says.
 use Rattle.std.specs.Prelude.{◌≡◌, ◌⊎◌, List, [], ◌∷◌}
 use Rattle.pvp_types.specs.declared.setup.Setup.{Setup}
-use Rattle.pvp_audit.specs.declared.verdict.Why.{Why}
-use Rattle.pvp_audit.specs.declared.verdict.Why.TheVariants as why
+use Rattle.pvp_audit.specs.declared.verdict.AuditTest.{AuditTest}
+use Rattle.pvp_audit.specs.declared.verdict.AuditTest.TheVariants as why
 use Rattle.pvp_audit.specs.Verdicts.{IsOfRun}
 use Rattle.pvp_judge.specs.declared.judgement.Judgement.{Judgement}
 use Rattle.pvp_judge.specs.declared.judgement.Judgement.TheVariants.{No}
@@ -32,5 +32,5 @@ abbrev pub JudgesHistories : Setup → List History → Judgement → Type 0
 JudgesHistories setup histories judgement = (judgement ≡ No 0 0 why.NoMemory) ⊎ JudgesLeft setup histories judgement
 
 -- one of the tests of a run, A1 to A3, or A6
-abbrev pub IsOfHistories : Why → Type 0
+abbrev pub IsOfHistories : AuditTest → Type 0
 IsOfHistories it = IsOfRun it ⊎ (it ≡ why.NoMemory)

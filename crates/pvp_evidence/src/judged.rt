@@ -10,7 +10,7 @@ ghost use Rattle.pvp_evidence.specs.Judged.{JudgesHistories, JudgesLeft, AreLeft
 use crate::actors::are_of_the_bank;
 use crate::history::History;
 use crate::opened::closed_of;
-use pvp_audit::Why;
+use pvp_audit::AuditTest;
 use pvp_judge::{Judgement, NotTheBank, judge_run};
 use pvp_parties::Party;
 use pvp_rooms::Closed;
@@ -51,7 +51,7 @@ pub fn judge_gathered(alloc: Global, setup: &Setup, histories: Vec<History>) -> 
         Err(_) => Judgement::No {
             actor: 0,
             event: 0,
-            why: Why::NoMemory,
+            why: AuditTest::NoMemory,
         },
     }
 }

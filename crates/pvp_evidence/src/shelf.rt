@@ -189,9 +189,9 @@ impl<R: Files + Alloc + Clone + Drop> Shelf for DiskShelf<R> {
     }
 }
 
-/// Puts the journals of these actors of a bank into a folder that was opened, each in a file of the actor's name and `.journal`: their
-/// heads with this id of the bank, and all that they took. The first fault ends it: V6 to V8 as the shelf has just told it, M8
-/// where an event that one of them took has no text.
+/// Puts the journals of these actors of a bank into a folder that was opened, each in a file of the actor's name and
+/// `.journal`: their heads with this id of the bank, and all that they took. The first fault ends it: V6 to V8 as the
+/// shelf has just told it, M8 where an event that one of them took has no text.
 pub fn put_journals<S: Shelf>(
     alloc: Global,
     shelf: &mut S,

@@ -6,7 +6,7 @@ use Rattle.vr_types.specs.MemoryCell.{held_by}
 use Rattle.pvp_world.specs.World.{Shown, IsProved}
 use Rattle.pvp_audit.specs.Runs.{AreOpenings}
 use Rattle.pvp_audit.specs.Verdicts.{HoldOfAll, IsAlone, ClocksRise, MeansNo}
-use Rattle.pvp_audit.specs.declared.verdict.Why.{Why}
+use Rattle.pvp_audit.specs.declared.verdict.AuditTest.{AuditTest}
 use Rattle.pvp_parties.specs.Parties.{PartyState, delivers, sent, is_for}
 use Rattle.pvp_judge.specs.declared.judgement.Judgement.{Judgement}
 use Rattle.pvp_judge.specs.declared.judgement.Judgement.TheVariants.{Yes, No}
@@ -38,7 +38,7 @@ module _ (closed : List Left) where
       pub ended_means : (judgement : Judgement) → EndsSo closed world judgement → Judges setup closed judgement
       ended_means (Yes by) so = subst (λ (w : Shown MemCell). IsYes setup closed w) (sym so.0) (passed_all so.2 so.1)
       ended_means (No actor event why) so =
-          subst (λ (w : Why). (start : ℕ → PartyState) → AreOpenings party closed start
+          subst (λ (w : AuditTest). (start : ℕ → PartyState) → AreOpenings party closed start
           → MeansNo party delivers sent is_for closed start actor event w) (sym so.3)
           (λ start opens. (
           let d = so.4 in (

@@ -25,7 +25,7 @@ use Rattle.pvp_audit.specs.Runs.{own, history_in, history_of, AreInOrder, AreOpe
 use Rattle.pvp_audit.specs.Named.{IsNamed}
 use Rattle.pvp_audit.specs.Verdicts.{ClocksRise}
 use Rattle.pvp_audit.specs.Merging.{IsNextActor, IsProgress, HasFailed}
-use Rattle.pvp_audit.specs.declared.verdict.Why.TheVariants.{Stamped, Answered}
+use Rattle.pvp_audit.specs.declared.verdict.AuditTest.TheVariants.{Stamped, Answered}
 use Rattle.pvp_audit.proofs.Together.{IsStepped}
 use Rattle.pvp_audit.proofs.Grows.{merged_all, named_arrives, cannot_arrive, cannot_come}
 use Rattle.pvp_parties.specs.declared.party.PartyOf.TheVariants as party_of

@@ -1,7 +1,7 @@
 -- What the audit of a whole bank says.
-use Rattle.std.specs.Prelude.{◌≡◌, ℕ, ◌-◌, min, List, [], ◌∷◌, ◌++◌, slice_get, option_to_list, Option, Some}
+use Rattle.std.specs.Prelude.{◌≡◌, ℕ, ◌-◌, List, [], ◌∷◌, ◌++◌, slice_get, option_to_list, Option, Some}
 use Rattle.pvp_types.specs.declared.setup.Setup.{Setup}
-use Rattle.vr_types.specs.declared.actors.TheConstants.{FIRST_NODE, FIRST_SITE}
+use Rattle.vr_types.specs.declared.actors.TheConstants.{FIRST_SITE}
 use Rattle.vr_types.specs.declared.cell.Boot.{Boot}
 use Rattle.vr_types.specs.declared.cell.BootCell.{Ghosts as Cell}
 use Rattle.vr_types.specs.declared.cell.MemCell.{MemCell}
@@ -19,7 +19,7 @@ use Rattle.pvp_rooms.specs.Sites as sites
 use Rattle.pvp_audit.specs.declared.verdict.Verdict.{Verdict}
 use Rattle.pvp_audit.specs.declared.verdict.Verdict.TheVariants.{Yes as Passes, No as Fails}
 use Rattle.pvp_audit.specs.Runs.{AreOpenings}
-use Rattle.pvp_audit.specs.declared.verdict.Why.{Why}
+use Rattle.pvp_audit.specs.declared.verdict.AuditTest.{AuditTest}
 use Rattle.pvp_audit.specs.Verdicts.{Means, MeansRun, IsTested}
 use Rattle.pvp_parties.specs.Made.{memory}
 use Rattle.pvp_parties.specs.Parties.{Party}
@@ -32,6 +32,7 @@ use Rattle.pvp_parties.specs.Alike.{AreAlikeSites}
 use Rattle.pvp_parties.specs.Parties.{PartyState, AtSite, AtNode, AtClient, Opens, Shows, Comes, Reads, Tells, Brings, after, delivers, sent, is_for}
 use Rattle.pvp_judge.specs.declared.judgement.Judgement.{Judgement}
 use Rattle.pvp_judge.specs.declared.judgement.Judgement.TheVariants.{Yes, No}
+use Rattle.pvp_judge.specs.Moves.{currency_of}
 use Rattle.pvp_judge.specs.Retold.{WentThrough}
 
 -- what an actor of the bank left
@@ -83,7 +84,7 @@ AreOneRun closed = IsRightOfRun closed Passes
 abbrev pub ShowsState : Shown MemCell → ℕ → PartyState → Type 0
 ShowsState world number (AtSite x) =
     (v : alike.Site) × (slice_get world.sites (number - FIRST_SITE) ≡ Some v) × sites.Shows book memory v x
-ShowsState world number (AtNode x) = slice_get world.nodes (min (number - FIRST_NODE) 255) ≡ Some x
+ShowsState world number (AtNode x) = slice_get world.nodes (currency_of number) ≡ Some x
 ShowsState world number (AtClient x) = slice_get world.clients number ≡ Some x
 
 -- A VERDICT IS A FUNCTION OF WHAT IS TESTED: of the same actors, over the same states in which they opened, no two are
@@ -118,7 +119,7 @@ abbrev pub ReadsWorld : Shown MemCell → ℕ → Party → Type 0
 ReadsWorld world number (Site p) =
     (v : alike.Site) × (slice_get world.sites (number - FIRST_SITE) ≡ Some v) × AreAlikeSites p.now v
 ReadsWorld world number (Node p) =
-    (v : node.Shown) × (slice_get world.nodes (min (number - FIRST_NODE) 255) ≡ Some v) × nodes.Reads p.now v
+    (v : node.Shown) × (slice_get world.nodes (currency_of number) ≡ Some v) × nodes.Reads p.now v
 ReadsWorld world number (Client p) =
     (v : client.Shown) × (slice_get world.clients number ≡ Some v) × clients.Reads p.now v
 
@@ -146,6 +147,6 @@ JudgesRun setup closed (Yes world) = IsYesOfRun setup closed world
 JudgesRun setup closed (No actor event why) = IsRightOfRun closed (Fails actor event why)
 
 -- a No is of such a test
-abbrev pub TellsWhy : (Why → Type 0) → Judgement → Type 0
+abbrev pub TellsWhy : (AuditTest → Type 0) → Judgement → Type 0
 TellsWhy Is (Yes world) = Unit {0}
 TellsWhy Is (No actor event why) = Is why

@@ -6,8 +6,8 @@ use Rattle.vr_types.specs.MemoryCell.{held_by}
 use Rattle.pvp_world.specs.World.{Shown, IsProved}
 use Rattle.pvp_rooms.specs.Histories.{replay}
 use Rattle.pvp_audit.specs.Runs.{AreOpenings, IsLegal, number_at}
-use Rattle.pvp_audit.specs.declared.verdict.Why.{Why}
-use Rattle.pvp_audit.specs.declared.verdict.Why.TheVariants.{End}
+use Rattle.pvp_audit.specs.declared.verdict.AuditTest.{AuditTest}
+use Rattle.pvp_audit.specs.declared.verdict.AuditTest.TheVariants.{End}
 use Rattle.pvp_audit.specs.Verdicts.{HoldBelow, IsOfRun}
 use Rattle.pvp_audit.specs.Merging.{HasFailed}
 use Rattle.pvp_parties.specs.Made.{memory}
@@ -37,7 +37,7 @@ pub record HavePassed (setup : Setup) (closed : List Left) (world : Shown MemCel
   pub reads : OfOpenings closed (λ start. ReadAsReplays closed world start)
 
 -- AN EVENT OF AN ACTOR FAILED A TEST, and none before it
-pub record HasStopped (closed : List Left) (actor event : ℕ) (why : Why) : Type 0 where
+pub record HasStopped (closed : List Left) (actor event : ℕ) (why : AuditTest) : Type 0 where
   pub place : ℕ
   pub number : number_at closed place ≡ actor
   pub test : IsOfRun why

@@ -1,6 +1,7 @@
 //! Whether actors are those of a bank, and the cells over which its sites opened.
-ghost use Rattle.std.specs.Prelude.{◌≡◌, ◌+◌, ◌≤◌, ◌↔◌, IsTrue, IfOk, map};
+ghost use Rattle.std.specs.Prelude.{◌≡◌, ◌≤◌, ◌↔◌, IsTrue, IfOk, map};
 ghost use Rattle.pvp_types.specs.Setup.{IsValid};
+ghost use Rattle.vr_types.specs.Group.{actor_of};
 ghost use Rattle.vr_types.specs.MemoryCell.{held_by, IsReliable};
 ghost use Rattle.pvp_judge.specs.Judged.{openings};
 ghost use Rattle.pvp_judge.specs.Banked.{actor_count, AreOfBank, IsOfBank, OpenedOver, HasPlace, HasItsSites, AllAre, IsTheBank};
@@ -105,7 +106,7 @@ fn sites_are_numbered(setup: &Setup, closed: &[Closed<Party>]) -> bool
 
 /// Whether a number is this site's.
 fn is_site(number: u16, site: usize) -> bool
-    ensures { IsTrue result ↔ (number ≡ 200 + site) }
+    ensures { IsTrue result ↔ (number ≡ actor_of site) }
 {
     number >= FIRST_SITE && usize::from(number - FIRST_SITE) == site
 }

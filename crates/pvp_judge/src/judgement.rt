@@ -9,7 +9,7 @@ ghost use Rattle.pvp_judge.specs.Passed.{EndsSo, PassesSo};
 use crate::fitting::{cells_of, is_the_bank};
 use crate::pass::{Passed, pass};
 use crate::reading::first_unlike;
-use pvp_audit::{Why, first_alone, first_clock};
+use pvp_audit::{AuditTest, first_alone, first_clock};
 use pvp_parties::Party;
 use pvp_rooms::Closed;
 use pvp_types::Setup;
@@ -23,7 +23,11 @@ pub enum Judgement {
     /// It is one run. This world went through it, and is where the histories lead.
     Yes(World<MemCell>),
     /// This test fails at this event of this actor, counted from 1, or at 0 where it is of no event.
-    No { actor: u16, event: usize, why: Why },
+    No {
+        actor: u16,
+        event: usize,
+        why: AuditTest,
+    },
 }
 
 /// These are not the actors of the bank, each of its setup and once, in order of their numbers, the sites alone over what
@@ -31,10 +35,10 @@ pub enum Judgement {
 #[derive(Clone, Copy, Debug, PartialEq, Eq)]
 pub struct NotTheBank;
 
-/// Judges what all actors of a bank left, in order of their numbers: whether it is one run of them all, with a receipt of
-/// each event, or which test fails first (`pvp_audit` has their order). All events go through one new world, and of a run
-/// that world is handed out, of which the headline holds. `No` with `NoMemory` where `judgement_of` answers `Err`; and `Err` where
-/// these are not the bank's actors.
+/// Judges what all actors of a bank left, in order of their numbers: whether it is one run of them all, with a receipt
+/// of each event, or which test fails first (`pvp_audit` has their order). All events go through one new world, and of
+/// a run that world is handed out, of which the headline holds. `No` with `NoMemory` where `judgement_of` answers
+/// `Err`; and `Err` where these are not the bank's actors.
 pub fn judge(
     alloc: Global,
     setup: &Setup,
@@ -90,7 +94,7 @@ pub fn judge_run(
         return Ok(Judgement::No {
             actor,
             event,
-            why: Why::Clock,
+            why: AuditTest::Clock,
         });
     }
     match one_pass(alloc, setup, closed)? {
@@ -123,18 +127,18 @@ fn ended(closed: &[Closed<Party>], world: World<MemCell>) -> Judgement
         Some(place) => Judgement::No {
             actor: closed[place].number,
             event: 0,
-            why: Why::End,
+            why: AuditTest::End,
         },
     }
 }
 
 /// What is said where memory is refused.
 fn no_memory() -> Judgement
-    ensures { result ≡ Judgement.No 0 0 Why.NoMemory }
+    ensures { result ≡ Judgement.No 0 0 AuditTest.NoMemory }
 {
     Judgement::No {
         actor: 0,
         event: 0,
-        why: Why::NoMemory,
+        why: AuditTest::NoMemory,
     }
 }

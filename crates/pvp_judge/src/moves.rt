@@ -1,6 +1,6 @@
 //! Which move of a world an event of an actor was.
-ghost use Rattle.std.specs.Prelude.{◌≡◌, ◌-◌, min};
-ghost use Rattle.pvp_judge.specs.Moves.{move_of, site_step, node_step, client_step};
+ghost use Rattle.std.specs.Prelude.{◌≡◌};
+ghost use Rattle.pvp_judge.specs.Moves.{move_of, site_step, node_step, client_step, currency_of};
 
 use headline::{ClientEvent, Move};
 use pvp_book::Book;
@@ -88,7 +88,7 @@ pub fn client_step(actor: u16, event: &ClientEvent, number: usize) -> Step
 
 /// The currency of a node's number.
 pub fn currency_of(number: u16) -> u8
-    ensures { result ≡ min (number - 101) 255 }
+    ensures { result ≡ currency_of number }
 {
     u8::try_from(number.saturating_sub(FIRST_NODE)).unwrap_or(u8::MAX)
 }

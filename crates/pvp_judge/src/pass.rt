@@ -10,7 +10,7 @@ ghost use Rattle.pvp_judge.specs.Passed.{PassesSo};
 
 use crate::coming::comes_so;
 use crate::numbers::Numbers;
-use pvp_audit::Why;
+use pvp_audit::AuditTest;
 use pvp_audit::merge::next_actor;
 use pvp_audit::receipts::zeros;
 use pvp_audit::sent::is_named;
@@ -27,7 +27,11 @@ pub enum Passed {
     /// Each could come so; the world that went through them.
     All(World<MemCell>),
     /// This event of this actor could not, counted from 1.
-    Failed { actor: u16, event: usize, why: Why },
+    Failed {
+        actor: u16,
+        event: usize,
+        why: AuditTest,
+    },
 }
 
 /// Takes the events of all actors in one new world, by clock and then by actor number, up to the first that could not come
@@ -62,19 +66,19 @@ pub fn pass(
         let taken = &one.history.as_slice()[place];
         let event = place + 1;
         if !is_named(closed, at.as_slice(), &one.end, taken) {
-            return Ok(failed(one.number, event, Why::Stamped));
+            return Ok(failed(one.number, event, AuditTest::Stamped));
         }
         let number = numbers.find(closed, taken.stamp);
         numbers.note(k, world.post_len() + 1)?;
         if !comes_so(alloc, &mut world, one, taken, number)? {
-            return Ok(failed(one.number, event, Why::Answered));
+            return Ok(failed(one.number, event, AuditTest::Answered));
         }
         at[k] = event;
     }
 }
 
 /// What is said where an event of an actor fails a test.
-fn failed(actor: u16, event: usize, why: Why) -> Passed
+fn failed(actor: u16, event: usize, why: AuditTest) -> Passed
     ensures { result ≡ Passed.Failed actor event why }
 {
     Passed::Failed { actor, event, why }

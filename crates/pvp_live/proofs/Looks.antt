@@ -7,8 +7,8 @@ use Rattle.vr_types.proofs.Lists.{take_next}
 use Rattle.vr_types.specs.declared.cell.BootCell.{Ghosts as Cell}
 use Rattle.vr_types.specs.Actors.{is_site}
 use Rattle.pvp_rooms.specs.Seats.{Place}
-use Rattle.pvp_live.specs.declared.standing.Standing.{Standing}
-use Rattle.pvp_live.specs.Standings.{AreLooks, IsLook}
+use Rattle.pvp_live.specs.declared.sighting.Sighting.{Sighting}
+use Rattle.pvp_live.specs.Sightings.{AreLooks, IsLook}
 
 abbrev sites : List Place → List Place
 sites cells = filter (λ cell. is_site cell.number) cells
@@ -19,7 +19,7 @@ sites-more : (cells : List Place) (i : ℕ) (cell : Place) → slice_get cells i
 sites-more cells i cell there = ap sites (take_next cells i cell there) ∙ filter-append (λ cell. is_site cell.number) (take i cells) (cell ∷ [])
 
 -- which is a site that was looked at
-pub looks-more : {B : Type 0} (c : Cell B) (cells : List Place) (looks more : List (Option Standing)) (i : ℕ) (cell : Place) (look : Option Standing)
+pub looks-more : {B : Type 0} (c : Cell B) (cells : List Place) (looks more : List (Option Sighting)) (i : ℕ) (cell : Place) (look : Option Sighting)
     → slice_get cells i ≡ Some cell
     → is_site cell.number ≡ true → IsLook c look → more ≡ looks ++ look ∷ [] → AreLooks c (take i cells) looks → AreLooks c (take (i + 1) cells) more
 looks-more c cells looks more i cell look there site seen is before =
@@ -36,7 +36,7 @@ looks-more c cells looks more i cell look there site seen is before =
     }
 
 -- which is no site
-pub looks-same : {B : Type 0} (c : Cell B) (cells : List Place) (looks more : List (Option Standing)) (i : ℕ) (cell : Place) → slice_get cells i ≡ Some cell
+pub looks-same : {B : Type 0} (c : Cell B) (cells : List Place) (looks more : List (Option Sighting)) (i : ℕ) (cell : Place) → slice_get cells i ≡ Some cell
     → is_site cell.number ≡ false → more ≡ looks → AreLooks c (take i cells) looks → AreLooks c (take (i + 1) cells) more
 looks-same c cells looks more i cell there other is before =
     let same : sites (take (i + 1) cells) ≡ sites (take i cells) =

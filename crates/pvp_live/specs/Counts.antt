@@ -3,14 +3,14 @@ use Rattle.std.specs.Prelude.{ℕ, ◌+◌, ◌-◌, ◌^◌, min, Bool, true, f
 use Rattle.std.specs.List.{sum_by, count_by, flat_map}
 use Rattle.pvp_types.specs.declared.setup.Setup.{Setup}
 use Rattle.pvp_peers.specs.declared.peer.PeerEnd.{PeerEnd}
-use Rattle.pvp_peers.specs.declared.peer.Why.{Why}
-use Rattle.pvp_peers.specs.declared.peer.Why.TheVariants.{End}
+use Rattle.pvp_peers.specs.declared.peer.StreamEnd.{StreamEnd}
+use Rattle.pvp_peers.specs.declared.peer.StreamEnd.TheVariants.{End}
 use Rattle.pvp_streams.specs.declared.peer.Peer.{Peer}
 use Rattle.pvp_parties.specs.Parties.{sent}
 use Rattle.pvp_judge.specs.Judged.{Left}
-use Rattle.pvp_live.specs.declared.standing.Standing.{Standing}
-use Rattle.pvp_live.specs.Notes.{standing_text}
-use Rattle.pvp_live.specs.Standings.{standing_of}
+use Rattle.pvp_live.specs.declared.sighting.Sighting.{Sighting}
+use Rattle.pvp_live.specs.Notes.{sighting_text}
+use Rattle.pvp_live.specs.Sightings.{sighting_of}
 
 -- a sum as a counter holds it, which goes no further
 abbrev pub counted : ℕ → ℕ
@@ -35,8 +35,8 @@ lost_text all lost =
     decimal all ++ codes " envelopes were sent, and " ++ decimal lost ++ codes " of them did not come\n"
 
 -- where the sites among these actors stand
-abbrev pub standings : List Left → List Standing
-standings closed = flat_map (λ one. option_to_list (standing_of one.end)) closed
+abbrev pub sightings : List Left → List Sighting
+sightings closed = flat_map (λ one. option_to_list (sighting_of one.end)) closed
 
 -- what stands before one of them
 abbrev pub separator : Bool → List ℕ
@@ -44,23 +44,23 @@ separator true = []
 separator false = codes ", "
 
 -- one after another, from the first on or behind others
-abbrev pub stands_text : Setup → Bool → List Standing → List ℕ
+abbrev pub stands_text : Setup → Bool → List Sighting → List ℕ
 stands_text setup is_first [] = codes "\n"
-stands_text setup is_first (standing ∷ more) =
-    separator is_first ++ standing_text setup standing ++ stands_text setup false more
+stands_text setup is_first (sighting ∷ more) =
+    separator is_first ++ sighting_text setup sighting ++ stands_text setup false more
 
 -- what is lost is what was sent and did not come
 abbrev pub left_text : Setup → List Left → List ℕ
 left_text setup closed =
     lost_text (sent_in_all closed) (sent_in_all closed - came_in_all closed) ++ codes "at the end "
-    ++ stands_text setup true (standings closed)
+    ++ stands_text setup true (sightings closed)
 
 -- OVER STREAMS: how many frames were taken of one that ended so, and whether that was before its end
 abbrev pub frames_at : Option PeerEnd → ℕ
 frames_at (Some end) = end.frames
 frames_at None = 0
 
-abbrev pub is_end : Why → Bool
+abbrev pub is_end : StreamEnd → Bool
 is_end End = true
 is_end _ = false
 

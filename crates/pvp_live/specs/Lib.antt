@@ -4,7 +4,7 @@ pub mod Faults
 pub mod Events
 pub mod Told
 pub mod Scripts
-pub mod Standings
+pub mod Sightings
 pub mod Effects
 pub mod Refusals
 pub mod Notes

@@ -11,7 +11,7 @@ use Rattle.pvp_trace.specs.Names.{actor_text}
 use Rattle.pvp_live.specs.declared.board.Frames.{Frames}
 use Rattle.pvp_live.specs.declared.effects.Effect.{Effect}
 use Rattle.pvp_live.specs.declared.effects.Effect.TheVariants as did
-use Rattle.pvp_live.specs.declared.standing.Standing.{Standing}
+use Rattle.pvp_live.specs.declared.sighting.Sighting.{Sighting}
 
 -- WHERE THE SITES STAND
 
@@ -22,19 +22,19 @@ end_text Recovering view = codes "recovering"
 end_text Down view = codes "down"
 
 -- a site by its name
-abbrev pub standing_text : Setup → Standing → List ℕ
-standing_text setup standing = actor_text setup standing.actor ++ codes " " ++ end_text standing.status standing.view
+abbrev pub sighting_text : Setup → Sighting → List ℕ
+sighting_text setup sighting = actor_text setup sighting.actor ++ codes " " ++ end_text sighting.status sighting.view
 
 -- one of several looks: of an actor that is no site nothing is told
-abbrev pub look_text : Setup → Option Standing → List ℕ
-look_text setup (Some standing) = standing_text setup standing ++ codes ", "
+abbrev pub look_text : Setup → Option Sighting → List ℕ
+look_text setup (Some sighting) = sighting_text setup sighting ++ codes ", "
 look_text setup None = []
 
 abbrev pub frames_text : Frames → List ℕ
 frames_text frames = decimal frames.sent ++ codes " frames sent, " ++ decimal frames.came ++ codes " came\n"
 
 -- what is told behind a line
-abbrev pub sites_text : Setup → ℕ → List (Option Standing) → Frames → List ℕ
+abbrev pub sites_text : Setup → ℕ → List (Option Sighting) → Frames → List ℕ
 sites_text setup line looks frames =
     codes "line " ++ decimal line ++ codes ": " ++ flat_map (look_text setup) looks ++ frames_text frames
 

@@ -3,7 +3,7 @@ ghost use Rattle.std.specs.Prelude.{◌≡◌, length, option_to_list};
 ghost use Rattle.pvp_live.specs.Counts.{broken, came_in_all, came_to, frames_at, frames_taken, is_broken, sent_by, sent_in_all};
 
 use pvp_parties::{Party, PartyEvent, PartyOf, PartyOutcome};
-use pvp_peers::{PeerEnd, Served, Why};
+use pvp_peers::{PeerEnd, Served, StreamEnd};
 use pvp_rooms::{Closed, Recorded};
 use pvp_streams::Peer;
 use vr_types::BootCell;
@@ -95,7 +95,12 @@ fn is_broken(end: Option<PeerEnd>) -> bool
     ensures { result ≡ is_broken end }
 {
     match end {
-        Some(PeerEnd { why: Why::End, .. }) => false,
+        Some(
+            PeerEnd {
+                why: StreamEnd::End,
+                ..
+            },
+        ) => false,
         Some(_) | None => true,
     }
 }

@@ -12,7 +12,7 @@ mod player;
 mod refusals;
 pub mod running;
 pub mod scripts;
-mod standing;
+mod sighting;
 pub mod told;
 
 pub use refusals::Refused;

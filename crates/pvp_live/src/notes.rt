@@ -2,14 +2,14 @@
 
 ghost use Rattle.std.specs.Prelude.{◌≡◌, ◌++◌, true, OnOk, option_copied, string_bytes};
 ghost use Rattle.std.specs.List.{flat_map};
-ghost use Rattle.pvp_live.specs.Notes.{count_text, effect_text, end_text, frames_text, look_text, refusal_text, sites_text, standing_text};
-ghost use Rattle.pvp_live.specs.Counts.{ended_text, left_text, lost_text, separator, standings, stands_text};
+ghost use Rattle.pvp_live.specs.Notes.{count_text, effect_text, end_text, frames_text, look_text, refusal_text, sighting_text, sites_text};
+ghost use Rattle.pvp_live.specs.Counts.{ended_text, left_text, lost_text, separator, sightings, stands_text};
 ghost use Rattle.pvp_live.specs.Outcomes.{answer_text, clock_text, posted_text};
 
 use crate::board::Frames;
 use crate::counts::{broken, came_in_all, frames_taken, sent_in_all};
 use crate::effects::{Effect, line_effect};
-use crate::standing::{Standing, standing_of};
+use crate::sighting::{Sighting, sighting_of};
 use pvp_parties::{Party, PartyOf, PartyOutcome};
 use pvp_rooms::{Answer, Closed};
 use pvp_streams::Peer;
@@ -52,7 +52,7 @@ pub fn tell_sites<N: Write>(
     notes: &mut N,
     setup: &Setup,
     line: u32,
-    looks: &[Option<Standing>],
+    looks: &[Option<Sighting>],
     frames: Frames,
 ) {
     let mut text = String::new(alloc);
@@ -97,7 +97,7 @@ fn push_sites(
     text: &mut String,
     setup: &Setup,
     line: u32,
-    looks: &[Option<Standing>],
+    looks: &[Option<Sighting>],
     frames: Frames,
 ) -> Result<(), AllocError>
     ensures { OnOk result (string_bytes text.new
@@ -112,7 +112,7 @@ fn push_sites(
 fn push_looks(
     text: &mut String,
     setup: &Setup,
-    looks: &[Option<Standing>],
+    looks: &[Option<Sighting>],
 ) -> Result<(), AllocError>
     ensures { OnOk result (string_bytes text.new
         ≡ string_bytes text.old ++ flat_map (look_text setup.now) looks.now) }
@@ -124,25 +124,25 @@ fn push_looks(
 }
 
 /// Appends what one of several looks showed.
-fn push_look(text: &mut String, setup: &Setup, look: Option<Standing>) -> Result<(), AllocError>
+fn push_look(text: &mut String, setup: &Setup, look: Option<Sighting>) -> Result<(), AllocError>
     ensures { OnOk result (string_bytes text.new ≡ string_bytes text.old
         ++ look_text setup.now look) }
 {
-    let Some(standing) = look else {
+    let Some(sighting) = look else {
         return Ok(());
     };
-    push_standing(text, setup, standing)?;
+    push_sighting(text, setup, sighting)?;
     text.push_str(", ")
 }
 
 /// Appends where a site stands.
-fn push_standing(text: &mut String, setup: &Setup, standing: Standing) -> Result<(), AllocError>
+fn push_sighting(text: &mut String, setup: &Setup, sighting: Sighting) -> Result<(), AllocError>
     ensures { OnOk result (string_bytes text.new
-        ≡ string_bytes text.old ++ standing_text setup.now standing) }
+        ≡ string_bytes text.old ++ sighting_text setup.now sighting) }
 {
-    push_actor(text, setup, standing.actor)?;
+    push_actor(text, setup, sighting.actor)?;
     text.push_str(" ")?;
-    push_end(text, standing.status, standing.view)
+    push_end(text, sighting.status, sighting.view)
 }
 
 /// Appends how many frames went over the streams.
@@ -178,12 +178,12 @@ fn push_lost(text: &mut String, sent: usize, lost: usize) -> Result<(), AllocErr
 /// Appends where each site stands at the end.
 fn push_ends(text: &mut String, setup: &Setup, closed: &[Closed<Party>]) -> Result<(), AllocError>
     ensures { OnOk result (string_bytes text.new
-        ≡ string_bytes text.old ++ stands_text setup.now true (standings closed.now)) }
+        ≡ string_bytes text.old ++ stands_text setup.now true (sightings closed.now)) }
 {
     let mut is_first = true;
     for one in closed {
-        if let Some(standing) = standing_of(&one.end) {
-            push_next(text, setup, is_first, standing)?;
+        if let Some(sighting) = sighting_of(&one.end) {
+            push_next(text, setup, is_first, sighting)?;
             is_first = false;
         }
     }
@@ -195,15 +195,15 @@ fn push_next(
     text: &mut String,
     setup: &Setup,
     is_first: bool,
-    standing: Standing,
+    sighting: Sighting,
 ) -> Result<(), AllocError>
     ensures { OnOk result (string_bytes text.new
-        ≡ string_bytes text.old ++ separator is_first ++ standing_text setup.now standing) }
+        ≡ string_bytes text.old ++ separator is_first ++ sighting_text setup.now sighting) }
 {
     if !is_first {
         text.push_str(", ")?;
     }
-    push_standing(text, setup, standing)
+    push_sighting(text, setup, sighting)
 }
 
 /// Appends where a site of this status and view stands.

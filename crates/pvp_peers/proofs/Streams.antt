@@ -20,8 +20,8 @@ use Rattle.pvp_wire.specs.declared.fault.WireFault.TheVariants.{Short, TooLong, 
 use Rattle.pvp_wire.specs.Feeding.{Fed, FeedsAt, IsAt}
 use Rattle.pvp_wire.specs.Reading.{frame_at}
 use Rattle.pvp_wire.proofs.Frames.{frame-lasts, frame-again}
-use Rattle.pvp_peers.specs.declared.peer.Why.{Why}
-use Rattle.pvp_peers.specs.declared.peer.Why.TheVariants.{End, Cut, Read, Wire, Memory, Clock}
+use Rattle.pvp_peers.specs.declared.peer.StreamEnd.{StreamEnd}
+use Rattle.pvp_peers.specs.declared.peer.StreamEnd.TheVariants.{End, Cut, Read, Wire, Memory, Clock}
 use Rattle.pvp_rooms.specs.Gates.{Passing, Enters, Took, Hears}
 use Rattle.pvp_rooms.proofs.Hearing.{hears_none, hears_more}
 use Rattle.pvp_peers.specs.Puts.{Put, puts, passages, HandsOn, Passes, HasPosted, HasPassed, LastOf, LastRead}
@@ -161,11 +161,11 @@ module _ {E O G : Type 0} (heard : G → List Passing → Type 0) (actor : ℕ) 
   all_passed a b x y h = subst (λ (l : List Passing). Passes heard actor a b x y l) h.ends h.passes
 
   -- one was not taken
-  pub stopped_passes : (a b c : Held E O) (x y z : G) (why : Why) → Passes heard actor a b x y [] → HasPosted heard actor b c y z (Some why)
+  pub stopped_passes : (a b c : Held E O) (x y z : G) (why : StreamEnd) → Passes heard actor a b x y [] → HasPosted heard actor b c y z (Some why)
       → HasPassed heard actor a c x z why
   stopped_passes a b c x y z why h k = record { last = k.last; ends = as_read why k.last k.ends; passes = passes_more a b c x y z k.last h k.passes }
     where
-      as_read : (why : Why) (last : List Passing) → LastOf actor why last → LastRead actor why last
+      as_read : (why : StreamEnd) (last : List Passing) → LastOf actor why last → LastRead actor why last
       as_read Memory last is = inl is
       as_read Clock last is = is
       as_read End last is = absurd is
@@ -185,7 +185,7 @@ unread_last actor Length = refl
 
 module _ {E O : Type 0} (delivery : EnvelopeOf Cmd Reply PayOrder → E) (before a now : Option (List ℕ)) (old seat : Held E O) where
   -- a piece more, of which nothing was posted
-  pub unread : (held piece : List ℕ) (why : Why) → IsReading delivery before a old seat held → Consumes a now piece → EndsSo why now [] (held ++ piece)
+  pub unread : (held piece : List ℕ) (why : StreamEnd) → IsReading delivery before a old seat held → Consumes a now piece → EndsSo why now [] (held ++ piece)
       → HasRead delivery before now old seat why
   unread held piece why p read end = record {
     gained = p.gained;
@@ -222,7 +222,7 @@ module _ {E O : Type 0} (delivery : EnvelopeOf Cmd Reply PayOrder → E) (before
       }
 
   -- a piece more, of which some frame was not taken
-  pub stopped : (new : Held E O) (held piece rest : List ℕ) (whole : List Stamped) (why : Why) → IsReading delivery before a old seat held
+  pub stopped : (new : Held E O) (held piece rest : List ℕ) (whole : List Stamped) (why : StreamEnd) → IsReading delivery before a old seat held
       → Consumes a now piece → Splits (held ++ piece) whole rest → IsPosted delivery whole seat new (Some why) → HasRead delivery before now old new why
   stopped new held piece rest whole why p read splits q = record {
     gained = p.gained ++ q.gained;
@@ -239,12 +239,12 @@ module _ {E O : Type 0} (delivery : EnvelopeOf Cmd Reply PayOrder → E) (before
     end = ends why q.left rest q.all;
   }
     where
-      ends : (why : Why) (left : List Stamped) (rest : List ℕ) → ((why ≡ Memory) ⊎ (why ≡ Clock)) × (0 < length left) → EndsSo why now left rest
+      ends : (why : StreamEnd) (left : List Stamped) (rest : List ℕ) → ((why ≡ Memory) ⊎ (why ≡ Clock)) × (0 < length left) → EndsSo why now left rest
       ends why left rest h =
           elim h.0 [ inl e ↦ subst (λ w. EndsSo w now left rest) (sym e) (inl h.1) | inr e ↦ subst (λ w. EndsSo w now left rest) (sym e) h.1 ]
 
 -- at the end of the input
-pub ended : {E O : Type 0} (delivery : EnvelopeOf Cmd Reply PayOrder → E) (before a : Option (List ℕ)) (old seat : Held E O) (held : List ℕ) (why : Why)
+pub ended : {E O : Type 0} (delivery : EnvelopeOf Cmd Reply PayOrder → E) (before a : Option (List ℕ)) (old seat : Held E O) (held : List ℕ) (why : StreamEnd)
     → IsReading delivery before a old seat held → EndsSo why a [] held → HasRead delivery before a old seat why
 ended delivery before a old seat held why p end = record {
   gained = p.gained;

@@ -12,8 +12,8 @@ use Rattle.pvp_wire.specs.declared.fault.WireFault.{WireFault}
 use Rattle.pvp_wire.specs.declared.fault.WireFault.TheVariants.{Short, TooLong, Version, Kind, Field, Length, NoMemory}
 use Rattle.pvp_wire.specs.Feeding.{Splits}
 use Rattle.pvp_wire.specs.Reading.{frame_at}
-use Rattle.pvp_peers.specs.declared.peer.Why.{Why}
-use Rattle.pvp_peers.specs.declared.peer.Why.TheVariants.{End, Cut, Read, Wire, Memory, Clock}
+use Rattle.pvp_peers.specs.declared.peer.StreamEnd.{StreamEnd}
+use Rattle.pvp_peers.specs.declared.peer.StreamEnd.TheVariants.{End, Cut, Read, Wire, Memory, Clock}
 use Rattle.pvp_peers.specs.declared.peer.PeerEnd.{PeerEnd}
 
 -- the receipt is of this frame
@@ -31,13 +31,13 @@ AreReceiptsOf delivery (r ∷ rs) [] = ⊥
 AreReceiptsOf delivery (r ∷ rs) (frame ∷ frames) = IsReceiptOf delivery r frame × AreReceiptsOf delivery rs frames
 
 -- all frames were taken where there is no reason to stop; else the first that is left was not
-abbrev pub AllPosted : Option Why → List Stamped → Type 0
+abbrev pub AllPosted : Option StreamEnd → List Stamped → Type 0
 AllPosted None left = left ≡ []
 AllPosted (Some why) left = ((why ≡ Memory) ⊎ (why ≡ Clock)) × (0 < length left)
 
 -- the first of the frames were taken: the seat has a receipt more of each
 pub record IsPosted {E O : Type 0} (delivery : EnvelopeOf Cmd Reply PayOrder → E) (frames : List Stamped)
-    (old new : Held E O) (why : Option Why) : Type 0 where
+    (old new : Held E O) (why : Option StreamEnd) : Type 0 where
   pub gained : List (Recorded E O)
   pub seat : new ≡ record old { receipts = old.receipts ++ gained }
   pub posted : List Stamped
@@ -47,7 +47,7 @@ pub record IsPosted {E O : Type 0} (delivery : EnvelopeOf Cmd Reply PayOrder →
   pub all : AllPosted why left
 
 -- what the end says of the reader, of the frames that were not posted, and of the bytes behind them
-abbrev pub EndsSo : Why → Option (List ℕ) → List Stamped → List ℕ → Type 0
+abbrev pub EndsSo : StreamEnd → Option (List ℕ) → List Stamped → List ℕ → Type 0
 EndsSo End after left rest = IsAtEnd after × (left ≡ []) × (rest ≡ [])
 EndsSo (Cut n) after left rest = IsAtEnd after × (left ≡ []) × (n ≡ length rest) × (0 < n) × (frame_at rest ≡ Err Short)
 EndsSo Read after left rest = left ≡ []
@@ -58,7 +58,7 @@ EndsSo Clock after left rest = 0 < length left
 -- A STREAM WAS READ SO FAR: its bytes are frames and what is left, and the seat has a receipt more of each of the first
 -- of them, in order
 pub record HasRead {E O : Type 0} (delivery : EnvelopeOf Cmd Reply PayOrder → E) (before after : Option (List ℕ))
-    (old new : Held E O) (why : Why) : Type 0 where
+    (old new : Held E O) (why : StreamEnd) : Type 0 where
   pub gained : List (Recorded E O)
   pub seat : new ≡ record old { receipts = old.receipts ++ gained }
   pub read : List ℕ
@@ -97,7 +97,7 @@ pub record IsReading {E O : Type 0} (delivery : EnvelopeOf Cmd Reply PayOrder �
   pub receipts : AreReceiptsOf delivery gained posted
 
 -- why a stream is served no longer at a fault of its feeder
-abbrev pub why_of : WireFault → Why
+abbrev pub why_of : WireFault → StreamEnd
 why_of NoMemory = Memory
 why_of Short = Wire Short
 why_of TooLong = Wire TooLong

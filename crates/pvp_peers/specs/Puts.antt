@@ -7,8 +7,8 @@ use Rattle.vr_types.specs.declared.message.EnvelopeOf.{EnvelopeOf}
 use Rattle.pvp_rooms.specs.declared.message.Recorded.{Recorded}
 use Rattle.pvp_rooms.specs.Gates.{Passing, Enters, Took, Wanted, Spent, Hears}
 use Rattle.pvp_rooms.specs.Seats.{Held}
-use Rattle.pvp_peers.specs.declared.peer.Why.{Why}
-use Rattle.pvp_peers.specs.declared.peer.Why.TheVariants.{End, Cut, Read, Wire, Memory, Clock}
+use Rattle.pvp_peers.specs.declared.peer.StreamEnd.{StreamEnd}
+use Rattle.pvp_peers.specs.declared.peer.StreamEnd.TheVariants.{End, Cut, Read, Wire, Memory, Clock}
 
 -- what an actor sent in its step of a clock
 pub record Put : Type 0 where
@@ -34,7 +34,7 @@ abbrev pub spent : ℕ → List Passing
 spent actor = Enters actor ∷ Spent actor ∷ []
 
 -- how the last step was told by whose want of memory or of a clock posting ends
-abbrev pub LastOf : ℕ → Why → List Passing → Type 0
+abbrev pub LastOf : ℕ → StreamEnd → List Passing → Type 0
 LastOf actor Memory last = last ≡ refused actor
 LastOf actor Clock last = last ≡ spent actor
 LastOf actor End last = ⊥
@@ -42,13 +42,13 @@ LastOf actor (Cut n) last = ⊥
 LastOf actor Read last = ⊥
 LastOf actor (Wire fault) last = ⊥
 
-abbrev pub LastPosted : ℕ → Option Why → List Passing → Type 0
+abbrev pub LastPosted : ℕ → Option StreamEnd → List Passing → Type 0
 LastPosted actor None last = last ≡ []
 LastPosted actor (Some why) last = LastOf actor why last
 
 -- A clock is told as spent only where the actor's step said so, and memory where it did, or where none was asked: then
 -- it was refused to read.
-abbrev pub LastRead : ℕ → Why → List Passing → Type 0
+abbrev pub LastRead : ℕ → StreamEnd → List Passing → Type 0
 LastRead actor Memory last = (last ≡ refused actor) ⊎ (last ≡ [])
 LastRead actor Clock last = last ≡ spent actor
 LastRead actor End last = last ≡ []
@@ -74,13 +74,13 @@ pub record Passes {E O G : Type 0} (heard : G → List Passing → Type 0) (acto
 -- and how the last step ended, by why no more is posted, or read
 
 pub record HasPosted {E O G : Type 0} (heard : G → List Passing → Type 0) (actor : ℕ) (seat_old seat_new : Held E O)
-    (old new : G) (why : Option Why) : Type 0 where
+    (old new : G) (why : Option StreamEnd) : Type 0 where
   pub last : List Passing
   pub ends : LastPosted actor why last
   pub passes : Passes heard actor seat_old seat_new old new last
 
 pub record HasPassed {E O G : Type 0} (heard : G → List Passing → Type 0) (actor : ℕ) (seat_old seat_new : Held E O)
-    (old new : G) (why : Why) : Type 0 where
+    (old new : G) (why : StreamEnd) : Type 0 where
   pub last : List Passing
   pub ends : LastRead actor why last
   pub passes : Passes heard actor seat_old seat_new old new last

@@ -6,5 +6,5 @@ pub mod peer;
 pub mod served;
 
 pub use outbox::Outbox;
-pub use peer::{PeerEnd, Why, serve_peer};
+pub use peer::{PeerEnd, StreamEnd, serve_peer};
 pub use served::Served;

@@ -13,7 +13,7 @@ use std::sync::Wait;
 
 /// Why a stream is served no longer.
 #[derive(Clone, Copy, Debug, PartialEq, Eq)]
-pub enum Why {
+pub enum StreamEnd {
     /// The input ended behind a whole frame.
     End,
     /// The input ended with so many bytes left over, and no fault among them.
@@ -32,7 +32,7 @@ pub enum Why {
 #[derive(Clone, Copy, Debug, PartialEq, Eq)]
 pub struct PeerEnd {
     pub frames: usize,
-    pub why: Why,
+    pub why: StreamEnd,
 }
 
 /// Reads a stream to its end and posts each frame at the actor, with its stamp. The seat has a receipt of each that was
@@ -72,7 +72,7 @@ fn read_all<A: Served, R: Read, G: Gate, O: Outbox, T: Wait>(
     reader: &mut R,
     gate: &mut G,
     outbox: &mut O,
-) -> Why
+) -> StreamEnd
     ensures read { HasRead A.Served.delivery (R.remaining reader.old)
         (R.remaining reader.new) seat.old seat.new result }
     ensures handed { HandsOn O.got A.Served.sent cell.now.number seat.old
@@ -83,7 +83,7 @@ fn read_all<A: Served, R: Read, G: Gate, O: Outbox, T: Wait>(
     let mut buffer = [0u8; 4096];
     for _ in rt.forever() {
         let Ok(got) = reader.read(&mut buffer) else {
-            return Why::Read;
+            return StreamEnd::Read;
         };
         match feeder.feed(&buffer[..got]) {
             Err(fault) => return why_of(fault),
@@ -98,9 +98,9 @@ fn read_all<A: Served, R: Read, G: Gate, O: Outbox, T: Wait>(
         if got == 0 {
             let left = feeder.held();
             if left == 0 {
-                return Why::End;
+                return StreamEnd::End;
             }
-            return Why::Cut(left);
+            return StreamEnd::Cut(left);
         }
     }
     unreachable!()
@@ -115,7 +115,7 @@ fn post_all<A: Served, G: Gate, O: Outbox, T: Wait>(
     frames: Vec<Stamped>,
     gate: &mut G,
     outbox: &mut O,
-) -> Option<Why>
+) -> Option<StreamEnd>
     ensures posted { IsPosted A.Served.delivery frames.items seat.old seat.new result }
     ensures handed { HandsOn O.got A.Served.sent cell.now.number seat.old
         seat.new outbox.old outbox.new }
@@ -130,19 +130,19 @@ fn post_all<A: Served, G: Gate, O: Outbox, T: Wait>(
             Answer::Done { clock, outcome } => {
                 outbox.put(rt, alloc, cell.number(), clock, A::sent(&outcome));
             }
-            Answer::NoMemory => return Some(Why::Memory),
-            Answer::ClockSpent => return Some(Why::Clock),
+            Answer::NoMemory => return Some(StreamEnd::Memory),
+            Answer::ClockSpent => return Some(StreamEnd::Clock),
         }
     }
     None
 }
 
 /// Why a stream is served no longer at a fault of its feeder.
-fn why_of(fault: WireFault) -> Why
+fn why_of(fault: WireFault) -> StreamEnd
     ensures { result ≡ why_of fault }
 {
     match fault {
-        WireFault::NoMemory => Why::Memory,
-        fault => Why::Wire(fault),
+        WireFault::NoMemory => StreamEnd::Memory,
+        fault => StreamEnd::Wire(fault),
     }
 }

@@ -7,9 +7,9 @@ use Rattle.pvp_types.specs.declared.setup.Setup.{Setup}
 use Rattle.rtgs_node.specs.Node.{Envelope}
 use Rattle.pvp_trace.specs.declared.attempt.Attempt.{Attempt}
 use Rattle.pvp_picture.specs.declared.scene.Flight.{Flight}
-use Rattle.pvp_picture.specs.declared.scene.Standing.{Standing}
-use Rattle.pvp_picture.specs.declared.scene.Turn.{Turn}
-use Rattle.pvp_picture.specs.Scene.{IsTurn, AreTurns, IsFlight}
+use Rattle.pvp_picture.specs.declared.scene.ShownStep.{ShownStep}
+use Rattle.pvp_picture.specs.declared.scene.Snapshot.{Snapshot}
+use Rattle.pvp_picture.specs.Scene.{IsShownStep, AreShownSteps, IsFlight}
 
 -- what stands at a place of a list with one more at its end: that, or what stood there
 at-end : {X : Type 0} (xs : List X) (x : X) (i : ℕ) (y : X) → slice_get (xs ++ x ∷ []) i ≡ Some y → ((i ≡ length xs) × (x ≡ y)) ⊎ (slice_get xs i ≡ Some y)
@@ -22,26 +22,28 @@ at-end (z ∷ xs) x (suc i) y e = by (at-end xs x i y e)
     by (inl h) = inl (ap (λ n. suc n) h.0, h.1)
     by (inr h) = inr h
 
-module _ (setup : Setup) (post : List Envelope) (noted : List Attempt) (along : List (List Standing)) (first : ℕ) where
-  pub turns_none : (place : ℕ) (turns : List Turn) → turns ≡ [] → place ≡ first → AreTurns setup post noted along first (place - first) turns
-  turns_none place turns none is = record {
+module _ (setup : Setup) (post : List Envelope) (noted : List Attempt) (along : List (List Snapshot)) (first : ℕ) where
+  pub steps_none : (place : ℕ) (steps : List ShownStep) → steps ≡ [] → place ≡ first → AreShownSteps setup post noted along first (place - first) steps
+  steps_none place steps none is = record {
     count = ap length none ∙ omega arith;
-    each = λ i turn there. absurd (none-some turn (sym (ap (λ ts. slice_get ts i) none) ∙ there));
+    each = λ i step there. absurd (none-some step (sym (ap (λ ts. slice_get ts i) none) ∙ there));
   }
 
-  pub turns_more : (place : ℕ) (turns more : List Turn) (turn : Turn) → first ≤ place → more ≡ turns ++ turn ∷ []
-      → IsTurn setup post noted along place turn → AreTurns setup post noted along first (place - first) turns
-      → AreTurns setup post noted along first (place + 1 - first) more
-  turns_more place turns more turn within pushed is before = record {
-    count = let counted = before.count in ap length pushed ∙ length-append turns (turn ∷ []) ∙ ap (λ n. n + 1) counted ∙ omega arith;
-    each = λ i other there. by i other (at-end turns turn i other (sym (ap (λ ts. slice_get ts i) pushed) ∙ there));
+  pub steps_more : (place : ℕ) (steps more : List ShownStep) (step : ShownStep) → first ≤ place → more ≡ steps ++ step ∷ []
+      → IsShownStep setup post noted along place step → AreShownSteps setup post noted along first (place - first) steps
+      → AreShownSteps setup post noted along first (place + 1 - first) more
+  steps_more place steps more step within pushed is before = record {
+    count = let counted = before.count in ap length pushed ∙ length-append steps (step ∷ []) ∙ ap (λ n. n + 1) counted ∙ omega arith;
+    each = λ i other there. by i other (at-end steps step i other (sym (ap (λ ts. slice_get ts i) pushed) ∙ there));
   }
     where
-      here : (i : ℕ) → i ≡ length turns → place ≡ first + i
+      here : (i : ℕ) → i ≡ length steps → place ≡ first + i
       here i at = let counted = before.count in omega arith
 
-      by : (i : ℕ) (other : Turn) → ((i ≡ length turns) × (turn ≡ other)) ⊎ (slice_get turns i ≡ Some other) → IsTurn setup post noted along (first + i) other
-      by i other (inl h) = subst (λ t. IsTurn setup post noted along (first + i) t) h.1 (subst (λ k. IsTurn setup post noted along k turn) (here i h.0) is)
+      by : (i : ℕ) (other : ShownStep) → ((i ≡ length steps) × (step ≡ other)) ⊎ (slice_get steps i ≡ Some other)
+          → IsShownStep setup post noted along (first + i) other
+      by i other (inl h) =
+          subst (λ t. IsShownStep setup post noted along (first + i) t) h.1 (subst (λ k. IsShownStep setup post noted along k step) (here i h.0) is)
       by i other (inr h) = before.each i other h
 
 -- one more way of an envelope stands in a scene

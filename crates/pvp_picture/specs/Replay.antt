@@ -13,11 +13,11 @@ use Rattle.pvp_world.specs.World.{Shown as World}
 use Rattle.pvp_trace.specs.declared.attempt.Attempt.{Attempt}
 use Rattle.pvp_trace.specs.contracts.attempt.AttemptPartialEq.TheImpl.{ghosts as equal}
 use Rattle.pvp_trace.specs.Attempts.{Attempts}
-use Rattle.pvp_picture.specs.declared.scene.Standing.{Standing}
+use Rattle.pvp_picture.specs.declared.scene.Snapshot.{Snapshot}
 
 -- where a site stands: it leads where it is normal, in a view of which it is the primary
-abbrev pub standing_of : ℕ → ℕ → Replica Cmd Setup MemCell → Standing
-standing_of f number site = record {
+abbrev pub snapshot_of : ℕ → ℕ → Replica Cmd Setup MemCell → Snapshot
+snapshot_of f number site = record {
   status = site.volatile.status;
   view = site.volatile.view;
   leads = is_normal site.volatile.status && (primary f site.volatile.view == number);
@@ -26,12 +26,12 @@ standing_of f number site = record {
 }
 
 -- where a site of a world stands, if it is there
-abbrev pub standing_at : World MemCell → ℕ → Option Standing
-standing_at world number = option_map (standing_of (faults world.setup) number) (slice_get world.sites number)
+abbrev pub snapshot_at : World MemCell → ℕ → Option Snapshot
+snapshot_at world number = option_map (snapshot_of (faults world.setup) number) (slice_get world.sites number)
 
 -- where all sites of a world stand, in order
-abbrev pub standings_of : World MemCell → List Standing
-standings_of world = filter_map (standing_at world) (range_with_len 0 (2 * faults world.setup + 1))
+abbrev pub snapshots_of : World MemCell → List Snapshot
+snapshots_of world = filter_map (snapshot_at world) (range_with_len 0 (2 * faults world.setup + 1))
 
 -- a step that was noted was tried again, and came out the same, as `==` finds
 pub record ComesAgain (old new : World MemCell) (noted : Attempt) : Type 0 where
@@ -41,17 +41,17 @@ pub record ComesAgain (old new : World MemCell) (noted : Attempt) : Type 0 where
 
 -- the attempts one after another: each came out the same in the world that the one before it left; and where the sites
 -- stand after each
-abbrev pub Replays : World MemCell → List Attempt → World MemCell → List (List Standing) → Type 0
+abbrev pub Replays : World MemCell → List Attempt → World MemCell → List (List Snapshot) → Type 0
 Replays first [] last after = (last ≡ first) × (after ≡ [])
 Replays first (attempt ∷ attempts) last after =
     (next : World MemCell) × ComesAgain first next attempt
-    × (others : List (List Standing)) × (after ≡ standings_of next ∷ others) × Replays next attempts last others
+    × (others : List (List Snapshot)) × (after ≡ snapshots_of next ∷ others) × Replays next attempts last others
 
 -- before the first attempt, and after each up to this world
-abbrev pub StandUpTo : World MemCell → List Attempt → World MemCell → List (List Standing) → Type 0
+abbrev pub StandUpTo : World MemCell → List Attempt → World MemCell → List (List Snapshot) → Type 0
 StandUpTo first attempts last all =
-    (after : List (List Standing)) × (all ≡ standings_of first ∷ after) × Replays first attempts last after
+    (after : List (List Snapshot)) × (all ≡ snapshots_of first ∷ after) × Replays first attempts last after
 
 -- WHERE SITES STAND along a run of attempts from this world on
-abbrev pub StandAlong : World MemCell → List Attempt → List (List Standing) → Type 0
+abbrev pub StandAlong : World MemCell → List Attempt → List (List Snapshot) → Type 0
 StandAlong first attempts all = (last : World MemCell) × StandUpTo first attempts last all

@@ -12,8 +12,8 @@ use Rattle.pvp_picture.specs.declared.scene.Ending.{Ending}
 use Rattle.pvp_picture.specs.declared.scene.Ending.TheVariants.{Taken, Dropped, Refused}
 use Rattle.pvp_picture.specs.declared.scene.Flight.{Flight}
 use Rattle.pvp_picture.specs.declared.scene.Scene.{Scene}
-use Rattle.pvp_picture.specs.declared.scene.Standing.{Standing}
-use Rattle.pvp_picture.specs.declared.scene.Turn.{Turn}
+use Rattle.pvp_picture.specs.declared.scene.ShownStep.{ShownStep}
+use Rattle.pvp_picture.specs.declared.scene.Snapshot.{Snapshot}
 
 -- what came of a step
 
@@ -26,25 +26,26 @@ ending_of (Ok report) = dropped_for report.dropped
 ending_of (Err fault) = Refused fault
 
 -- where sites stood after so many steps
-abbrev pub standings_after : List (List Standing) → ℕ → List Standing
-standings_after along count = unwrap_or (slice_get along count) []
+abbrev pub snapshots_after : List (List Snapshot) → ℕ → List Snapshot
+snapshots_after along count = unwrap_or (slice_get along count) []
 
 -- A STEP AS A SCENE HAS IT: its number, counted from 1, its words as a trace has them but for the kind of a message,
 -- what came of it, and where the sites stood after it
-pub record IsTurn (setup : Setup) (post : List Envelope) (noted : List Attempt) (along : List (List Standing))
-    (place : ℕ) (turn : Turn) : Type 0 where
+pub record IsShownStep (setup : Setup) (post : List Envelope) (noted : List Attempt) (along : List (List Snapshot))
+    (place : ℕ) (step : ShownStep) : Type 0 where
   pub attempt : Attempt
   pub is_noted : slice_get noted place ≡ Some attempt
-  pub number : turn.number ≡ place + 1
-  pub words : string_bytes turn.words ≡ step_text setup post attempt.step
-  pub ending : turn.ending ≡ ending_of attempt.result
-  pub standings : turn.standings.items ≡ standings_after along (place + 1)
+  pub number : step.number ≡ place + 1
+  pub words : string_bytes step.words ≡ step_text setup post attempt.step
+  pub ending : step.ending ≡ ending_of attempt.result
+  pub snapshots : step.snapshots.items ≡ snapshots_after along (place + 1)
 
 -- so many steps from a place on
-pub record AreTurns (setup : Setup) (post : List Envelope) (noted : List Attempt) (along : List (List Standing))
-    (first size : ℕ) (turns : List Turn) : Type 0 where
-  pub count : length turns ≡ size
-  pub each : (i : ℕ) (turn : Turn) → slice_get turns i ≡ Some turn → IsTurn setup post noted along (first + i) turn
+pub record AreShownSteps (setup : Setup) (post : List Envelope) (noted : List Attempt) (along : List (List Snapshot))
+    (first size : ℕ) (steps : List ShownStep) : Type 0 where
+  pub count : length steps ≡ size
+  pub each : (i : ℕ) (step : ShownStep) → slice_get steps i ≡ Some step
+      → IsShownStep setup post noted along (first + i) step
 
 -- AN ENVELOPE AS A SCENE HAS IT: one of the post, by its number, between whom it goes, and its whole message as a trace
 -- has it
@@ -57,10 +58,11 @@ pub record IsFlight (setup : Setup) (post : List Envelope) (flight : Flight) : T
 
 -- A SCENE of the steps of a run that stand from `first` on and before `end`: all of them that there are, with how many
 -- stand before and after, and where the sites stood before
-pub record ShowsPart (setup : Setup) (post : List Envelope) (noted : List Attempt) (along : List (List Standing))
+pub record ShowsPart (setup : Setup) (post : List Envelope) (noted : List Attempt) (along : List (List Snapshot))
     (first end : ℕ) (scene : Scene) : Type 0 where
   pub earlier : scene.earlier ≡ min first (min end (length noted))
   pub later : scene.later ≡ length noted - min end (length noted)
-  pub turns : AreTurns setup post noted along scene.earlier (min end (length noted) - scene.earlier) scene.turns.items
-  pub opening : scene.opening.items ≡ standings_after along scene.earlier
+  pub steps : AreShownSteps setup post noted along scene.earlier
+      (min end (length noted) - scene.earlier) scene.steps.items
+  pub opening : scene.opening.items ≡ snapshots_after along scene.earlier
   pub flights : All (IsFlight setup post) scene.flights.items

@@ -3,20 +3,25 @@
 use crate::arrows::push_cross;
 use crate::labels::{Stack, why_name};
 use crate::layout::row_of;
-use crate::scene::{Ending, Scene, Turn};
+use crate::scene::{Ending, Scene, ShownStep};
 use std::alloc::AllocError;
 
 /// Writes a step that delivers nothing, where there is the actor whose turn it was.
-pub fn push_act(text: &mut String, scene: &Scene, x: usize, turn: &Turn) -> Result<(), AllocError> {
-    let Some(actor) = turn.actor else {
+pub fn push_act(
+    text: &mut String,
+    scene: &Scene,
+    x: usize,
+    step: &ShownStep,
+) -> Result<(), AllocError> {
+    let Some(actor) = step.actor else {
         return Ok(());
     };
-    if turn.delivers {
+    if step.delivers {
         return Ok(());
     }
     let y = row_of(scene.actors.as_slice(), actor);
     let mut stack = Stack::new(x, y, true);
-    match turn.ending {
+    match step.ending {
         Ending::Taken => push_dot(text, x, y),
         Ending::Dropped(why) => {
             push_cross(text, x, y)?;

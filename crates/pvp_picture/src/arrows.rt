@@ -35,7 +35,7 @@ fn push_flight(text: &mut String, scene: &Scene, flight: &Flight) -> Result<(), 
 
 /// The step among those that are shown by which an envelope came, if one did.
 fn shown_end(scene: &Scene, flight: &Flight) -> Option<usize> {
-    let last = scene.earlier.saturating_add(scene.turns.len());
+    let last = scene.earlier.saturating_add(scene.steps.len());
     match flight.came {
         Some(came) if came <= last => Some(came),
         _ => None,

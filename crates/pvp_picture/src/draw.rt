@@ -6,7 +6,7 @@ use crate::escape::{push_cut, push_escaped};
 use crate::layout::{Stroke, TOP, column, height, legend_top, width};
 use crate::legend::push_legend;
 use crate::lifeline::{push_all_news, push_cuts, push_lifelines, push_line};
-use crate::scene::{Scene, Turn};
+use crate::scene::{Scene, ShownStep};
 use std::alloc::{AllocError, Global};
 
 /// How many signs of a step are shown above it.
@@ -91,7 +91,7 @@ fn push_heading(text: &mut String, scene: &Scene) -> Result<(), AllocError> {
 
 /// Appends which steps are shown, and how many are not.
 fn push_which(text: &mut String, scene: &Scene) -> Result<(), AllocError> {
-    let shown = scene.turns.len();
+    let shown = scene.steps.len();
     let first = scene.earlier.saturating_add(1);
     let last = scene.earlier.saturating_add(shown);
     let total = last.saturating_add(scene.later);
@@ -116,7 +116,7 @@ fn push_more(text: &mut String, count: usize, side: &str) -> Result<(), AllocErr
 /// Writes a pale line below the name of each step, down to the last lifeline.
 fn push_guides(text: &mut String, scene: &Scene) -> Result<(), AllocError> {
     let low = legend_top(scene).saturating_sub(50);
-    for place in 0..scene.turns.len() {
+    for place in 0..scene.steps.len() {
         let x = column(place);
         push_line(
             text,
@@ -134,8 +134,8 @@ fn push_guides(text: &mut String, scene: &Scene) -> Result<(), AllocError> {
 
 /// Writes the names of steps, and crosses for those that were refused and delivered nothing.
 fn push_names(text: &mut String, scene: &Scene) -> Result<(), AllocError> {
-    for (place, turn) in scene.turns.iter().enumerate() {
-        push_name(text, scene, place, turn)?;
+    for (place, step) in scene.steps.iter().enumerate() {
+        push_name(text, scene, place, step)?;
     }
     Ok(())
 }
@@ -145,27 +145,27 @@ fn push_name(
     text: &mut String,
     scene: &Scene,
     place: usize,
-    turn: &Turn,
+    step: &ShownStep,
 ) -> Result<(), AllocError> {
     let x = column(place);
     let y = TOP.saturating_sub(NAMES).saturating_sub(6);
-    let number = turn.number;
+    let number = step.number;
     write!(
         text,
         "<g transform=\"translate({x} {y}) rotate(-60)\"><text>"
     )?;
-    push_turn_title(text, turn)?;
+    push_step_title(text, step)?;
     write!(text, "<tspan font-weight=\"bold\">{number}</tspan> ")?;
-    push_cut(text, turn.short.as_str(), MOST_SIGNS)?;
+    push_cut(text, step.short.as_str(), MOST_SIGNS)?;
     text.push_str("</text></g>\n")?;
-    push_act(text, scene, x, turn)
+    push_act(text, scene, x, step)
 }
 
 /// Writes what a browser shows of a step under the pointer.
-fn push_turn_title(text: &mut String, turn: &Turn) -> Result<(), AllocError> {
-    let number = turn.number;
+fn push_step_title(text: &mut String, step: &ShownStep) -> Result<(), AllocError> {
+    let number = step.number;
     write!(text, "<title>step {number}: ")?;
-    push_escaped(text, turn.words.as_str())?;
-    push_ending(text, turn.ending)?;
+    push_escaped(text, step.words.as_str())?;
+    push_ending(text, step.ending)?;
     text.push_str("</title>")
 }

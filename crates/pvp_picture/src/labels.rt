@@ -1,7 +1,7 @@
 //! The words and signs that stand at a point of a lifeline.
 
 use crate::escape::push_escaped;
-use crate::scene::Standing;
+use crate::scene::Snapshot;
 use pvp_world::WorldFault;
 use std::alloc::AllocError;
 use vr_types::{Status, Why};
@@ -121,13 +121,13 @@ pub fn push_words(
     text.push_str("</text>\n")
 }
 
-/// Writes what a standing has that the one before it had not: its rows, its saves, its status, its view, and
+/// Writes what a snapshot has that the one before it had not: its rows, its saves, its status, its view, and
 /// that it leads.
 pub fn push_news(
     text: &mut String,
     stack: &mut Stack,
-    old: Standing,
-    new: Standing,
+    old: Snapshot,
+    new: Snapshot,
 ) -> Result<(), AllocError> {
     if new.done > old.done {
         stack.push_span(text, "row", old.done.saturating_add(1), new.done)?;
@@ -141,34 +141,34 @@ pub fn push_news(
     Ok(())
 }
 
-/// Writes a standing's status, and where it runs its view, and whether it leads: from the top to the bottom.
+/// Writes a snapshot's status, and where it runs its view, and whether it leads: from the top to the bottom.
 pub fn push_status(
     text: &mut String,
     stack: &mut Stack,
-    standing: Standing,
+    snapshot: Snapshot,
 ) -> Result<(), AllocError> {
     if stack.above {
-        push_leads(text, stack, standing)?;
-        push_view(text, stack, standing)?;
-        stack.push(text, "status", status_name(standing.status))
+        push_leads(text, stack, snapshot)?;
+        push_view(text, stack, snapshot)?;
+        stack.push(text, "status", status_name(snapshot.status))
     } else {
-        stack.push(text, "status", status_name(standing.status))?;
-        push_view(text, stack, standing)?;
-        push_leads(text, stack, standing)
+        stack.push(text, "status", status_name(snapshot.status))?;
+        push_view(text, stack, snapshot)?;
+        push_leads(text, stack, snapshot)
     }
 }
 
-/// Writes a standing's view, where the site runs.
-fn push_view(text: &mut String, stack: &mut Stack, standing: Standing) -> Result<(), AllocError> {
-    if standing.status == Status::Normal || standing.status == Status::Change {
-        stack.push_number(text, "status", "view ", standing.view as usize)?;
+/// Writes a snapshot's view, where the site runs.
+fn push_view(text: &mut String, stack: &mut Stack, snapshot: Snapshot) -> Result<(), AllocError> {
+    if snapshot.status == Status::Normal || snapshot.status == Status::Change {
+        stack.push_number(text, "status", "view ", snapshot.view as usize)?;
     }
     Ok(())
 }
 
 /// Writes that a site leads, where it does.
-fn push_leads(text: &mut String, stack: &mut Stack, standing: Standing) -> Result<(), AllocError> {
-    if standing.leads {
+fn push_leads(text: &mut String, stack: &mut Stack, snapshot: Snapshot) -> Result<(), AllocError> {
+    if snapshot.leads {
         stack.push(text, "leads", "PRIMARY")?;
     }
     Ok(())

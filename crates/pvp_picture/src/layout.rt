@@ -62,7 +62,7 @@ pub fn behind(scene: &Scene, steps: usize) -> usize {
 
 /// How far from the left the lifelines end.
 pub fn lifeline_end(scene: &Scene) -> usize {
-    column(scene.turns.len()).saturating_add(TAIL.saturating_sub(STEP))
+    column(scene.steps.len()).saturating_add(TAIL.saturating_sub(STEP))
 }
 
 /// How far from the top the so many-th lifeline stands, counted from 0.

@@ -2,7 +2,7 @@
 
 use crate::labels::{ASIDE, Stack, push_news, push_status, push_words, status_name};
 use crate::layout::{LEFT, Stroke, behind, column, lifeline_end, row};
-use crate::scene::{Actor, Cut, Scene, Standing, Turn};
+use crate::scene::{Actor, Cut, Scene, ShownStep, Snapshot};
 use std::alloc::AllocError;
 
 /// How far from the left actors' names stand.
@@ -109,8 +109,8 @@ fn push_statuses(
 ) -> Result<(), AllocError> {
     let mut start = LEFT;
     let mut last = scene.opening.get(site).copied();
-    for (place, turn) in scene.turns.iter().enumerate() {
-        let next = turn.standings.get(site).copied();
+    for (place, step) in scene.steps.iter().enumerate() {
+        let next = step.snapshots.get(site).copied();
         if next != last {
             push_piece(text, last, start, column(place), y)?;
             start = column(place);
@@ -123,19 +123,19 @@ fn push_statuses(
 /// Writes a piece of a site's lifeline, along which the site stands so.
 fn push_piece(
     text: &mut String,
-    standing: Option<Standing>,
+    snapshot: Option<Snapshot>,
     start: usize,
     end: usize,
     y: usize,
 ) -> Result<(), AllocError> {
-    let Some(standing) = standing else {
+    let Some(snapshot) = snapshot else {
         return Ok(());
     };
-    if standing.leads {
+    if snapshot.leads {
         push_line(text, "lead", level(start, end, y.saturating_sub(6)))?;
         push_line(text, "lead", level(start, end, y.saturating_add(6)))?;
     }
-    push_line(text, status_name(standing.status), level(start, end, y))
+    push_line(text, status_name(snapshot.status), level(start, end, y))
 }
 
 /// Writes what is new at each site, at the steps where it is, and how the sites stood at first.
@@ -153,7 +153,7 @@ pub fn push_all_news(text: &mut String, scene: &Scene) -> Result<(), AllocError>
 fn push_opening(text: &mut String, scene: &Scene, site: usize, y: usize) -> Result<(), AllocError> {
     let mut stack = Stack::new(NAMES.saturating_sub(ASIDE), y, false);
     match scene.opening.get(site) {
-        Some(standing) => push_status(text, &mut stack, *standing),
+        Some(snapshot) => push_status(text, &mut stack, *snapshot),
         None => Ok(()),
     }
 }
@@ -161,10 +161,10 @@ fn push_opening(text: &mut String, scene: &Scene, site: usize, y: usize) -> Resu
 /// Writes what is new at a site, at the steps where it is.
 fn push_news_of(text: &mut String, scene: &Scene, site: usize, y: usize) -> Result<(), AllocError> {
     let mut last = scene.opening.get(site).copied();
-    for (place, turn) in scene.turns.iter().enumerate() {
-        let next = turn.standings.get(site).copied();
+    for (place, step) in scene.steps.iter().enumerate() {
+        let next = step.snapshots.get(site).copied();
         if let (Some(old), Some(new)) = (last, next) {
-            push_point(text, place, turn, (old, new), y)?;
+            push_point(text, place, step, (old, new), y)?;
         }
         last = next;
     }
@@ -175,11 +175,11 @@ fn push_news_of(text: &mut String, scene: &Scene, site: usize, y: usize) -> Resu
 fn push_point(
     text: &mut String,
     place: usize,
-    turn: &Turn,
-    standings: (Standing, Standing),
+    step: &ShownStep,
+    snapshots: (Snapshot, Snapshot),
     y: usize,
 ) -> Result<(), AllocError> {
-    let (old, new) = standings;
+    let (old, new) = snapshots;
     let x = column(place);
     if new.done > old.done {
         push_line(
@@ -191,7 +191,7 @@ fn push_point(
     if new.boots != old.boots {
         push_square(text, x.saturating_sub(5), y.saturating_sub(5))?;
     }
-    let mut stack = Stack::new(x, y, turn.from_below);
+    let mut stack = Stack::new(x, y, step.from_below);
     push_news(text, &mut stack, old, new)
 }
 

@@ -8,7 +8,7 @@ ghost use Rattle.pvp_picture.specs.Picture.{PictureEnds};
 
 use crate::draw::drawn;
 use crate::plays::{Play, new_world, played};
-use crate::replay::standings;
+use crate::replay::snapshots;
 use crate::scene::Scene;
 use crate::staging::{Run, stage};
 use pvp_play::Fail;
@@ -82,11 +82,11 @@ fn scene_of(
     requires { IsValid setup.now }
 {
     let Play { player, apart } = played(alloc, new_world(alloc, setup, fails)?, lines)?;
-    let standings = standings(alloc, new_world(alloc, setup, fails)?, player.notes())?;
+    let snapshots = snapshots(alloc, new_world(alloc, setup, fails)?, player.notes())?;
     let run = Run {
         world: player.world(),
         noted: player.notes(),
-        standings: standings.as_slice(),
+        snapshots: snapshots.as_slice(),
         apart: &apart,
     };
     stage(alloc, &run, steps.first(), steps.end())

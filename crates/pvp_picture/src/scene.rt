@@ -3,9 +3,9 @@
 use pvp_world::WorldFault;
 use vr_types::{Status, Why};
 
-/// Where a site stands after a step.
+/// How a site stands after a step, as far as it is drawn.
 #[derive(Clone, Copy, Debug, PartialEq, Eq)]
-pub struct Standing {
+pub struct Snapshot {
     pub status: Status,
     pub view: u32,
     /// Whether it is the primary of its view, and normal in it.
@@ -37,7 +37,7 @@ pub struct Actor {
 
 /// A step that is shown.
 #[derive(Debug, Drop)]
-pub struct Turn {
+pub struct ShownStep {
     /// Its number among all that were tried, from 1.
     pub number: usize,
     /// Whose turn it was, where there was one.
@@ -51,7 +51,7 @@ pub struct Turn {
     /// Whether it delivers an envelope of an actor whose lifeline stands below.
     pub from_below: bool,
     /// Where each site stands after it.
-    pub standings: Vec<Standing>,
+    pub snapshots: Vec<Snapshot>,
 }
 
 /// A stretch of a run in which an actor is cut off.
@@ -107,8 +107,8 @@ pub struct Scene {
     /// Clients and nodes that took part, then the sites.
     pub actors: Vec<Actor>,
     /// Where each site stands before the first step that is shown.
-    pub opening: Vec<Standing>,
-    pub turns: Vec<Turn>,
+    pub opening: Vec<Snapshot>,
+    pub steps: Vec<ShownStep>,
     pub flights: Vec<Flight>,
     pub cuts: Vec<Cut>,
     /// How many steps were tried before those that are shown, and how many after.

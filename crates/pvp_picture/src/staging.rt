@@ -1,10 +1,10 @@
 //! A scene, made of a run that was noted.
 
 ghost use Rattle.std.specs.Prelude.{◌≡◌, ◌<◌, ◌≤◌, ◌-◌, length, map, All, IfOk, OnOk};
-ghost use Rattle.pvp_picture.specs.Scene.{ending_of, standings_after, IsTurn, AreTurns, IsFlight, ShowsPart};
+ghost use Rattle.pvp_picture.specs.Scene.{ending_of, snapshots_after, IsShownStep, AreShownSteps, IsFlight, ShowsPart};
 
 use crate::apart::{Apart, Passing};
-use crate::scene::{Actor, Ending, Flight, Passed, Scene, Standing, Turn};
+use crate::scene::{Actor, Ending, Flight, Passed, Scene, ShownStep, Snapshot};
 use pvp_trace::Attempt;
 use pvp_trace::attempt::push_step;
 use pvp_trace::messages::{kind_name, push_envelope};
@@ -20,7 +20,7 @@ use vr_types::{ActorId, FIRST_SITE, MemCell};
 pub struct Run<'a> {
     pub world: &'a World<MemCell>,
     pub noted: &'a [Attempt],
-    pub standings: &'a [Vec<Standing>],
+    pub snapshots: &'a [Vec<Snapshot>],
     pub apart: &'a Apart,
 }
 
@@ -37,17 +37,17 @@ struct Routes {
 pub fn stage(alloc: Global, run: &Run, first: usize, end: usize) -> Result<Scene, AllocError>
     ensures { IfOk result (ShowsPart run.now.world.now.setup
         run.now.world.now.post run.now.noted.now
-        (map (λ standings. standings.items) run.now.standings.now) first end) }
+        (map (λ snapshots. snapshots.items) run.now.snapshots.now) first end) }
 {
     let total = run.noted.len();
     let end = end.min(total);
     let first = first.min(end);
-    let turns = turns_of(alloc, run, first, end)?;
+    let steps = shown_steps(alloc, run, first, end)?;
     let flights = flights_of(alloc, run, first, end)?;
     Ok(Scene {
-        actors: actors_of(alloc, run, turns.as_slice(), flights.as_slice())?,
-        opening: standings_at(alloc, run, first)?,
-        turns,
+        actors: actors_of(alloc, run, steps.as_slice(), flights.as_slice())?,
+        opening: snapshots_at(alloc, run, first)?,
+        steps,
         flights,
         cuts: Vec::from_slice(alloc, run.apart.cuts.as_slice())?,
         earlier: first,
@@ -56,44 +56,50 @@ pub fn stage(alloc: Global, run: &Run, first: usize, end: usize) -> Result<Scene
 }
 
 /// Where the sites stood after so many steps.
-fn standings_at(alloc: Global, run: &Run, count: usize) -> Result<Vec<Standing>, AllocError>
+fn snapshots_at(alloc: Global, run: &Run, count: usize) -> Result<Vec<Snapshot>, AllocError>
     ensures { IfOk result (λ all. all.items
-        ≡ standings_after (map (λ standings. standings.items) run.now.standings.now) count) }
+        ≡ snapshots_after (map (λ snapshots. snapshots.items) run.now.snapshots.now) count) }
 {
-    match run.standings.get(count) {
-        Some(standings) => Vec::from_slice(alloc, standings.as_slice()),
+    match run.snapshots.get(count) {
+        Some(snapshots) => Vec::from_slice(alloc, snapshots.as_slice()),
         None => Ok(Vec::new(alloc)),
     }
 }
 
 /// The steps that stand from `first` on and before `end`.
-fn turns_of(alloc: Global, run: &Run, first: usize, end: usize) -> Result<Vec<Turn>, AllocError>
+fn shown_steps(
+    alloc: Global,
+    run: &Run,
+    first: usize,
+    end: usize,
+) -> Result<Vec<ShownStep>, AllocError>
     requires order { first ≤ end }
     requires there { end ≤ length run.now.noted.now }
-    ensures { IfOk result (λ turns. AreTurns run.now.world.now.setup
+    ensures { IfOk result (λ steps. AreShownSteps run.now.world.now.setup
         run.now.world.now.post run.now.noted.now
-        (map (λ standings. standings.items) run.now.standings.now) first
-        (end - first) turns.items) }
+        (map (λ snapshots. snapshots.items) run.now.snapshots.now) first
+        (end - first) steps.items) }
 {
-    let mut turns = Vec::new(alloc);
+    let mut steps = Vec::new(alloc);
     for place in first..end {
-        turns.push(turn_of(alloc, run, place)?)?;
+        steps.push(shown_step(alloc, run, place)?)?;
     }
-    Ok(turns)
+    Ok(steps)
 }
 
 /// The step at a place.
-fn turn_of(alloc: Global, run: &Run, place: usize) -> Result<Turn, AllocError>
+fn shown_step(alloc: Global, run: &Run, place: usize) -> Result<ShownStep, AllocError>
     requires { place < length run.now.noted.now }
-    ensures { IfOk result (IsTurn run.now.world.now.setup run.now.world.now.post run.now.noted.now
-        (map (λ standings. standings.items) run.now.standings.now) place) }
+    ensures { IfOk result (IsShownStep run.now.world.now.setup
+        run.now.world.now.post run.now.noted.now
+        (map (λ snapshots. snapshots.items) run.now.snapshots.now) place) }
 {
     let attempt = run.noted[place];
     let mut words = String::new(alloc);
     push_step(&mut words, run.world, attempt.step)?;
     let mut short = String::new(alloc);
     push_short(&mut short, run.world, attempt.step)?;
-    Ok(Turn {
+    Ok(ShownStep {
         number: place + 1,
         actor: actor_of(run.world, attempt.step),
         short,
@@ -101,7 +107,7 @@ fn turn_of(alloc: Global, run: &Run, place: usize) -> Result<Turn, AllocError>
         ending: ending_of(attempt.result),
         delivers: matches!(attempt.step, Step::Deliver(_)),
         from_below: is_from_below(run.world, attempt.step),
-        standings: standings_at(alloc, run, place + 1)?,
+        snapshots: snapshots_at(alloc, run, place + 1)?,
     })
 }
 
@@ -348,11 +354,11 @@ fn push_flight(
 fn actors_of(
     alloc: Global,
     run: &Run,
-    turns: &[Turn],
+    steps: &[ShownStep],
     flights: &[Flight],
 ) -> Result<Vec<Actor>, AllocError> {
     let mut taking = no_marks(alloc)?;
-    mark_turns(taking.as_mut_slice(), turns);
+    mark_steps(taking.as_mut_slice(), steps);
     mark_flights(taking.as_mut_slice(), flights);
     let mut actors = Vec::new(alloc);
     push_others(alloc, &mut actors, run, taking.as_slice())?;
@@ -370,9 +376,9 @@ fn no_marks(alloc: Global) -> Result<Vec<bool>, AllocError> {
 }
 
 /// Marks whose turns steps were.
-fn mark_turns(taking: &mut [bool], turns: &[Turn]) {
-    for turn in turns {
-        if let Some(actor) = turn.actor {
+fn mark_steps(taking: &mut [bool], steps: &[ShownStep]) {
+    for step in steps {
+        if let Some(actor) = step.actor {
             mark(taking, actor);
         }
     }

@@ -48,14 +48,14 @@ pub record AllChanged {F X : Type 0} (g : Shared F (ℕ × (MutBor X × Unit {0}
     (f : F) (old new : List X) : Type 0 where
   pub each : ChangesEach g f old new
 
--- A PLAYER PLAYED: what its actors sent meanwhile was put into the outbox, once and in order
-pub record IsPlayed {P B : Type 0} (plays : P → P → List Put → Type 0) (got : B → List Put → Type 0) (old new : P)
+-- A DRIVER DROVE: what its actors sent meanwhile was put into the outbox, once and in order
+pub record IsDriven {P B : Type 0} (drives : P → P → List Put → Type 0) (got : B → List Put → Type 0) (old new : P)
     (before after : B) : Type 0 where
   pub puts : List Put
-  pub played : plays old new puts
+  pub driven : drives old new puts
   pub handed : Hears got before after puts
 
--- so some player played
-pub record HasPlayed {P : Type 0} (plays : P → P → List Put → Type 0) (old new : P) : Type 0 where
+-- so some driver drove
+pub record HasDriven {P : Type 0} (drives : P → P → List Put → Type 0) (old new : P) : Type 0 where
   pub puts : List Put
-  pub played : plays old new puts
+  pub driven : drives old new puts

@@ -1,9 +1,9 @@
 //! All workers of a system at once.
 ghost use Rattle.std.specs.Fork.{AcceptsEach};
-ghost use Rattle.pvp_streams.specs.Serving.{AllChanged, AreServed, AreHeard, IsPeerServed, IsPeerHeard, HasPlayed};
+ghost use Rattle.pvp_streams.specs.Serving.{AllChanged, AreServed, AreHeard, IsPeerServed, IsPeerHeard, HasDriven};
 
+use crate::driver::Driver;
 use crate::peer::Peer;
-use crate::player::Player;
 use crate::writer::Writer;
 use crate::writers::{Outlet, Writers};
 use pvp_peers::Served;
@@ -13,17 +13,17 @@ use std::io::{Read, Write};
 use std::sync::Wait;
 use std::thread::{self, Threads};
 
-/// Serves a whole system of actors: a worker for each incoming stream, one that writes for each actor, and the player, who
-/// runs on the calling thread. When the player has returned the writers are told to stop; they write what they were given
+/// Serves a whole system of actors: a worker for each incoming stream, one that writes for each actor, and the driver, who
+/// runs on the calling thread. When the driver has returned the writers are told to stop; they write what they were given
 /// before, and close their streams. It returns when all have ended. A worker for which no thread can be made runs later,
-/// on the thread that was to start it; a writer then comes before any reader, and the player before them all.
+/// on the thread that was to start it; a writer then comes before any reader, and the driver before them all.
 pub fn serve_streams<A, R, W, G, P, T>(
     rt: &T,
     alloc: Global,
     peers: &mut [Peer<'_, A, R, G>],
     writers: &mut [Writer<W>],
     out: &Writers,
-    player: &mut P,
+    driver: &mut P,
 )
 where
     A: Served + Send,
@@ -33,13 +33,13 @@ where
     R: Read + Send,
     W: Write + Send + Drop,
     G: Gate + Send,
-    P: Player,
+    P: Driver,
     T: Threads + Wait + Sync,
     ensures served { AreServed A.Served.delivery (λ r. R.remaining r) peers.old peers.new }
     ensures heard { AreHeard (λ x. G.heard x) peers.old peers.new }
-    ensures played { HasPlayed P.plays player.old player.new }
+    ensures driven { HasDriven P.drives driver.old driver.new }
 {
-    let write = &mut || write_all(rt, out, player, writers);
+    let write = &mut || write_all(rt, out, driver, writers);
     each_beside(
         rt,
         &|_, peer: &mut Peer<'_, A, R, G>|
@@ -79,18 +79,18 @@ fn each<X: Send, F: Fn(usize, &mut X) + Sync, T: Threads + Sync>(rt: &T, f: &F, 
     thread::for_each_mut(rt, items, threads, f);
 }
 
-/// Runs the player beside the writers, and then tells these to stop.
-fn write_all<W, P, T>(rt: &T, out: &Writers, player: &mut P, writers: &mut [Writer<W>])
+/// Runs the driver beside the writers, and then tells these to stop.
+fn write_all<W, P, T>(rt: &T, out: &Writers, driver: &mut P, writers: &mut [Writer<W>])
 where
     W: Write + Send + Drop,
-    P: Player,
+    P: Driver,
     T: Threads + Wait + Sync,
-    ensures { HasPlayed P.plays player.old player.new }
+    ensures { HasDriven P.drives driver.old driver.new }
 {
     thread::join_mut(
         rt,
         &mut || run_all(rt, out, writers),
-        &mut || play(rt, out, player),
+        &mut || drive(rt, out, driver),
     );
 }
 
@@ -104,11 +104,11 @@ where
     thread::for_each_mut(rt, writers, threads, &|_, writer| writer.run(rt, out));
 }
 
-/// Runs the player, and then tells the writers to stop.
-fn play<P: Player, T: Wait>(rt: &T, out: &Writers, player: &mut P)
-    ensures { HasPlayed P.plays player.old player.new }
+/// Runs the driver, and then tells the writers to stop.
+fn drive<P: Driver, T: Wait>(rt: &T, out: &Writers, driver: &mut P)
+    ensures { HasDriven P.drives driver.old driver.new }
 {
     let mut outlet = Outlet { writers: out };
-    player.play(&mut outlet);
+    driver.drive(&mut outlet);
     out.stop(rt);
 }

@@ -6,8 +6,8 @@ use pvp_types::Step;
 use std::alloc::{AllocError, Global};
 use std::marker::Model;
 
-/// The moves that were made in a world, in their order. Most are deliveries, and one of these takes a quarter of the memory of
-/// any other. In clauses it is their list, and for how many more there is room.
+/// The moves that were made in a world, in their order. Most are deliveries, and one of these takes a fifth of the
+/// memory of any other. In clauses it is their list, and for how many more there is room.
 #[derive(Drop)]
 pub struct Trail {
     entries: Vec<TrailEntry>,

@@ -5,7 +5,7 @@ use fixtures::setup::three_currencies;
 use pvp_book::Book;
 use pvp_peers::{Outbox, Served};
 use pvp_rooms::{Actor, ActorCell, Answer, Gate, Room, Seat, SiteCell, SiteSeat};
-use pvp_streams::{Connected, Peer, Player, Sending, Writer, Writers, connect_all, serve_streams};
+use pvp_streams::{Connected, Driver, Peer, Sending, Writer, Writers, connect_all, serve_streams};
 use std::alloc::Global;
 use std::io::{Read, Write};
 use std::net::Net;
@@ -91,12 +91,12 @@ pub fn peer_of<'a, A: Actor, S, G>(
     }
 }
 
-/// Peers are at work, with a writer for each actor over its streams, while a player plays.
+/// Peers are at work, with a writer for each actor over its streams, while a driver drives.
 pub fn serve<A, R, W, G, P, T>(
     rt: &T,
     peers: &mut [Peer<'_, A, R, G>],
     outgoing: Vec<Sending<W>>,
-    player: &mut P,
+    driver: &mut P,
 ) -> Result<(), Fail>
 where
     A: Served + Send,
@@ -106,12 +106,12 @@ where
     R: Read + Send,
     W: Write + Send + Drop,
     G: Gate + Send,
-    P: Player,
+    P: Driver,
     T: Threads + Wait + Sync + AllocGlobal,
 {
     let mut out = Writers::new(rt.alloc());
     let mut writers = writers_of(rt.alloc(), &mut out, outgoing)?;
-    serve_streams(rt, rt.alloc(), peers, writers.as_mut_slice(), &out, player);
+    serve_streams(rt, rt.alloc(), peers, writers.as_mut_slice(), &out, driver);
     Ok(())
 }
 

@@ -2,7 +2,7 @@
 use crate::live::common::{Lost, Open, sites};
 use crate::live::frames::{ANSWER, COMMIT, ORDER, Pieces, commit_with, ten_frames, whole_frames};
 use fixtures::setup::three_currencies;
-use pvp_peers::{PeerEnd, Served, Why, serve_peer};
+use pvp_peers::{PeerEnd, Served, StreamEnd, serve_peer};
 use pvp_rooms::{Actor, ActorCell, ClientCell, NodeCell, Recorded, Seat};
 use pvp_wire::{Stamp, WireFault, decode};
 use std::alloc::Global;
@@ -96,7 +96,7 @@ fn first_stamp(alloc: Global, bytes: &[u8]) -> Result<(Stamp, usize), WireFault>
 }
 
 /// Lists the stamps of the frames at the front of a stream, and says why there are no more.
-fn list(alloc: Global, bytes: &[u8], stamps: &mut Vec<Option<Stamp>>) -> Result<Why, Fail> {
+fn list(alloc: Global, bytes: &[u8], stamps: &mut Vec<Option<Stamp>>) -> Result<StreamEnd, Fail> {
     let mut rest = bytes;
     for _ in 0..bytes.len() {
         if rest.is_empty() {
@@ -107,15 +107,15 @@ fn list(alloc: Global, bytes: &[u8], stamps: &mut Vec<Option<Stamp>>) -> Result<
                 stamps.push(Some(stamp))?;
                 rest = rest.get(size..).unwrap_or(&[]);
             }
-            Err(WireFault::Short) => return Ok(Why::Cut(rest.len())),
-            Err(fault) => return Ok(Why::Wire(fault)),
+            Err(WireFault::Short) => return Ok(StreamEnd::Cut(rest.len())),
+            Err(fault) => return Ok(StreamEnd::Wire(fault)),
         }
     }
-    Ok(Why::End)
+    Ok(StreamEnd::End)
 }
 
 /// What is at the front of a stream: the stamps of its frames, and why there are no more.
-fn read(alloc: Global, bytes: &[u8]) -> Result<(Vec<Option<Stamp>>, Why), Fail> {
+fn read(alloc: Global, bytes: &[u8]) -> Result<(Vec<Option<Stamp>>, StreamEnd), Fail> {
     let mut stamps = Vec::new(alloc);
     let why = list(alloc, bytes, &mut stamps)?;
     Ok((stamps, why))
@@ -145,7 +145,7 @@ fn ends_short<R: Abort + Wait + AllocGlobal>(
     rt: &R,
     bytes: &[u8],
     frames: usize,
-    why: Why,
+    why: StreamEnd,
 ) -> Result<(), Fail> {
     ends_in_pieces(rt, bytes, &[4096, 28, 5, 1], PeerEnd { frames, why }, &[])
 }
@@ -162,11 +162,11 @@ fn end_as_worked<R: Abort + Wait + AllocGlobal>(rt: &R) -> Result<(), Fail> {
     let twice = commit_and(&COMMIT);
     let version = commit_and(&commit_with(4, &[9]));
     let spent = commit_with(8, &[255; 8]);
-    ends_short(rt, twice.get(..40).unwrap_or(&[]), 1, Why::Cut(12))?;
-    ends_short(rt, &twice, 2, Why::End)?;
-    ends_short(rt, &[], 0, Why::End)?;
-    ends_short(rt, &version, 1, Why::Wire(WireFault::Version))?;
-    ends_short(rt, &spent, 0, Why::Clock)
+    ends_short(rt, twice.get(..40).unwrap_or(&[]), 1, StreamEnd::Cut(12))?;
+    ends_short(rt, &twice, 2, StreamEnd::End)?;
+    ends_short(rt, &[], 0, StreamEnd::End)?;
+    ends_short(rt, &version, 1, StreamEnd::Wire(WireFault::Version))?;
+    ends_short(rt, &spent, 0, StreamEnd::Clock)
 }
 
 /// The rows of short streams: part of a second frame, nothing, a frame of another version, and a clock that has no
@@ -191,7 +191,7 @@ fn a_long_stream_is_read_to_its_end(rt: HostRuntime) -> Result<(), Fail> {
     let bytes = commits(rt.alloc(), 4_000)?;
     let want = PeerEnd {
         frames: 4_000,
-        why: Why::End,
+        why: StreamEnd::End,
     };
     ends(&rt, Pieces::whole(bytes.as_slice()), want, &[])
 }
@@ -216,7 +216,11 @@ fn is_cut<R: Abort + Wait + AllocGlobal>(
     stamps: &[Option<Stamp>],
 ) -> Result<(), Fail> {
     let (frames, left) = whole_frames(front.len());
-    let why = if left == 0 { Why::End } else { Why::Cut(left) };
+    let why = if left == 0 {
+        StreamEnd::End
+    } else {
+        StreamEnd::Cut(left)
+    };
     ends_in_pieces(rt, front, &[4096, 11, 1], PeerEnd { frames, why }, stamps)
 }
 
@@ -253,7 +257,7 @@ fn fails_after<R: Abort + Wait + AllocGlobal>(
     };
     let want = PeerEnd {
         frames,
-        why: Why::Read,
+        why: StreamEnd::Read,
     };
     ends(rt, stream, want, stamps)
 }
@@ -278,11 +282,11 @@ fn a_reader_fails_at_each_read(rt: HostRuntime) -> Result<(), Fail> {
 }
 
 /// Whether only bytes can lead to this end.
-fn is_of_bytes(why: Why) -> bool {
+fn is_of_bytes(why: StreamEnd) -> bool {
     match why {
-        Why::End | Why::Cut(_) => true,
-        Why::Wire(fault) => fault != WireFault::Short && fault != WireFault::NoMemory,
-        Why::Read | Why::Memory | Why::Clock => false,
+        StreamEnd::End | StreamEnd::Cut(_) => true,
+        StreamEnd::Wire(fault) => fault != WireFault::Short && fault != WireFault::NoMemory,
+        StreamEnd::Read | StreamEnd::Memory | StreamEnd::Clock => false,
     }
 }
 
@@ -348,7 +352,7 @@ fn takes_one<A: Served, R: Abort + Wait + AllocGlobal>(
 ) {
     let want = PeerEnd {
         frames: 1,
-        why: Why::End,
+        why: StreamEnd::End,
     };
     for mut seat in seats {
         let end = served_at(rt, cell, &mut seat, Pieces::whole(frame));

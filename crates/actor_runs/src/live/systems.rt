@@ -4,9 +4,9 @@ ghost use Rattle.std.specs.Prelude.{◌≡◌, []};
 use crate::live::common::{Open, peer_of, serve, site, site_over, sites};
 use crate::live::frames::{COMMIT, Pieces, REQUEST, commit_with};
 use pvp_book::Book;
-use pvp_peers::{Outbox, PeerEnd, Served, Why};
+use pvp_peers::{Outbox, PeerEnd, Served, StreamEnd};
 use pvp_rooms::{Actor, ActorCell, Answer, Gate, Input, Room, Seat, SiteCell, SiteSeat};
-use pvp_streams::{Peer, Player, Sending};
+use pvp_streams::{Driver, Peer, Sending};
 use pvp_types::Cmd;
 use pvp_wire::{Stamp, Stamped, decode};
 use std::alloc::Global;
@@ -20,14 +20,14 @@ use std::time::{Clock, Duration};
 use vr_site::Replica;
 use vr_types::{Boot, BootCell, Envelope, EventOf, MemCell, MsgOf, PrepareOf, Recovery, RequestOf};
 
-/// A player that does nothing.
+/// A driver that does nothing.
 #[derive(Drop)]
 struct Idle;
 
-impl Player for Idle {
-    ghost plays = { λ old new puts. puts ≡ [] };
+impl Driver for Idle {
+    ghost drives = { λ old new puts. puts ≡ [] };
 
-    fn play<O: Outbox>(&mut self, _out: &mut O) {}
+    fn drive<O: Outbox>(&mut self, _out: &mut O) {}
 }
 
 /// Holds the steps of sites 0 and 1 until both are in it.
@@ -135,7 +135,7 @@ fn has_met<R>(rt: &impl Abort, both: &Both<R>) {
 fn each_took_one<A: Actor, S, G>(rt: &impl Abort, peers: &[Peer<'_, A, S, G>]) {
     let want = PeerEnd {
         frames: 1,
-        why: Why::End,
+        why: StreamEnd::End,
     };
     for peer in peers {
         assert!(rt; peer.end == Some(want));

@@ -2,7 +2,7 @@
 
 use fixtures::setup::three_currencies;
 use headline::ClientEvent;
-use pvp_audit::{Verdict, Why};
+use pvp_audit::{AuditTest, Verdict};
 use pvp_evidence::{History, judge_histories};
 use pvp_judge::Judgement;
 use pvp_parties::{PartyEvent, PartyOutcome};
@@ -103,7 +103,7 @@ fn a_stranger_is_no_actor_of_the_bank(rt: HostRuntime) -> Result<(), Fail> {
 }
 
 /// A bank at rest but for a stray of its first member at this clock is judged as no run, by this test.
-fn is_no_run<R: Abort + AllocGlobal>(rt: &R, clock: u64, why: Why) -> Result<(), Fail> {
+fn is_no_run<R: Abort + AllocGlobal>(rt: &R, clock: u64, why: AuditTest) -> Result<(), Fail> {
     let no = Verdict::No {
         actor: 1,
         event: 1,
@@ -116,6 +116,6 @@ fn is_no_run<R: Abort + AllocGlobal>(rt: &R, clock: u64, why: Why) -> Result<(),
 /// The first test that fails is told, of a clock that does not rise and of what cannot come out so.
 #[test]
 fn a_history_that_cannot_be_is_told(rt: HostRuntime) -> Result<(), Fail> {
-    is_no_run(&rt, 0, Why::Clock)?;
-    is_no_run(&rt, 1, Why::Answered)
+    is_no_run(&rt, 0, AuditTest::Clock)?;
+    is_no_run(&rt, 1, AuditTest::Answered)
 }

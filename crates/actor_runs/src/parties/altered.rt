@@ -3,7 +3,7 @@ use self::Other::{Beaten, Crashed};
 use self::Swap::{Ends, Events, Seats};
 use crate::parties::common::{Place, add, after, alone, are_judged, at_rest, close_after, let_go};
 use fixtures::{Filed, Fresh};
-use pvp_audit::{Verdict, Why};
+use pvp_audit::{AuditTest, Verdict};
 use pvp_parties::{PartyEvent, PartyOf};
 use pvp_rooms::{Actor, Closed};
 use std::mem;
@@ -123,7 +123,7 @@ fn site_fails<R: Abort + Wait + AllocGlobal>(
     other: Other,
     swaps: &[Swap],
     event: usize,
-    why: Why,
+    why: AuditTest,
 ) -> Result<(), Fail> {
     let told = Verdict::No {
         actor: 200,
@@ -137,19 +137,25 @@ fn site_fails<R: Abort + Wait + AllocGlobal>(
 /// The receipt of the second beat is that of another site's, which sent nothing.
 #[test]
 fn another_receipt_is_told(rt: HostRuntime) -> Result<(), Fail> {
-    site_fails(&rt, Beaten(1, &[0, 1]), &[Seats], 2, Why::Receipts)
+    site_fails(&rt, Beaten(1, &[0, 1]), &[Seats], 2, AuditTest::Receipts)
 }
 
 /// The second beat has clock 1, as one that was the first of another run.
 #[test]
 fn a_clock_that_stands_still_is_told(rt: HostRuntime) -> Result<(), Fail> {
-    site_fails(&rt, Beaten(0, &[1]), &[Seats, Events], 2, Why::Clock)
+    site_fails(&rt, Beaten(0, &[1]), &[Seats, Events], 2, AuditTest::Clock)
 }
 
 /// The second beat sent nothing, as a backup's.
 #[test]
 fn missing_envelopes_are_told(rt: HostRuntime) -> Result<(), Fail> {
-    site_fails(&rt, Beaten(1, &[0, 1]), &[Seats, Events], 2, Why::Answered)
+    site_fails(
+        &rt,
+        Beaten(1, &[0, 1]),
+        &[Seats, Events],
+        2,
+        AuditTest::Answered,
+    )
 }
 
 /// What the first site left that crashed.
@@ -162,7 +168,7 @@ fn crashed<R: Wait + AllocGlobal, C: Fresh>(rt: &R) -> Result<Closed<PartyOf<C>>
 /// The end is that of the same site after a crash.
 #[test]
 fn another_end_is_told(rt: HostRuntime) -> Result<(), Fail> {
-    site_fails(&rt, Crashed, &[Ends], 0, Why::End)
+    site_fails(&rt, Crashed, &[Ends], 0, AuditTest::End)
 }
 
 /// What a backup left that took a beat of a first site, sent at clock 5.
@@ -208,7 +214,7 @@ fn a_stamp_of_no_event_is_told(rt: HostRuntime) -> Result<(), Fail> {
     let told = Verdict::No {
         actor: 201,
         event: 1,
-        why: Why::Stamped,
+        why: AuditTest::Stamped,
     };
     are_judged(&rt, strangers::<_, MemCell>(&rt), told)?;
     are_judged(&rt, strangers::<_, Filed>(&rt), told)
@@ -227,7 +233,7 @@ fn a_left_over_receipt_is_told(rt: HostRuntime) -> Result<(), Fail> {
     let told = Verdict::No {
         actor: 200,
         event: 0,
-        why: Why::Receipts,
+        why: AuditTest::Receipts,
     };
     let left = shortened(beaten::<_, MemCell>(&rt, 0, &[0, 1]));
     are_judged(&rt, alone(rt.alloc(), left), told)?;

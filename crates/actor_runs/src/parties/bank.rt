@@ -4,7 +4,7 @@ use crate::parties::common::{
 };
 use fixtures::{Filed, Fresh};
 use headline::ClientEvent;
-use pvp_audit::{Verdict, Why};
+use pvp_audit::{AuditTest, Verdict};
 use pvp_book::Book;
 use pvp_parties::{Party, PartyEvent, PartyOf, PartyOutcome};
 use pvp_peers::Served;
@@ -156,7 +156,7 @@ fn a_missing_sender_is_told(rt: HostRuntime) -> Result<(), Fail> {
     let told = Verdict::No {
         actor: 200,
         event: 2,
-        why: Why::Stamped,
+        why: AuditTest::Stamped,
     };
     are_judged(&rt, without_last(answered::<_, MemCell>(&rt)), told)?;
     are_judged(&rt, without_last(answered::<_, Filed>(&rt)), told)
@@ -184,7 +184,7 @@ fn a_stamp_that_names_nothing_is_told(rt: HostRuntime) -> Result<(), Fail> {
     let told = Verdict::No {
         actor: 201,
         event: 1,
-        why: Why::Stamped,
+        why: AuditTest::Stamped,
     };
     are_judged(&rt, mistaken::<_, MemCell>(&rt), told)?;
     are_judged(&rt, mistaken::<_, Filed>(&rt), told)
@@ -278,7 +278,7 @@ fn an_envelope_to_a_site_comes_to_no_client(rt: HostRuntime) -> Result<(), Fail>
     let told = Verdict::No {
         actor: 0,
         event: 1,
-        why: Why::Stamped,
+        why: AuditTest::Stamped,
     };
     are_judged(&rt, strayed(&rt), told)
 }

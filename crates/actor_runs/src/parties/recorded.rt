@@ -5,7 +5,7 @@ use self::Came::{
 use self::Took::{Asks, Beats, Crashes, PaysIn, Restarts, SaysAgain};
 use crate::parties::common::{Place, after, alone, are_judged, close_after};
 use headline::{ClientEvent, ClientFault};
-use pvp_audit::{Verdict, Why};
+use pvp_audit::{AuditTest, Verdict};
 use pvp_parties::{Party, PartyEvent, PartyOutcome};
 use pvp_rooms::{Actor, CameOf, Closed, Recorded, Seat};
 use pvp_types::Cmd;
@@ -14,7 +14,7 @@ use std::alloc::Global;
 use std::process::Abort;
 use std::sync::Wait;
 use std::test::Fail;
-use vr_types::{Boot, EventOf, SentOf, SiteFault, Why as Dropped};
+use vr_types::{Boot, EventOf, SentOf, SiteFault, Why};
 
 /// What happens to an actor.
 #[derive(Clone, Copy)]
@@ -41,7 +41,7 @@ enum Came {
     NodeSent,
     NodeRefused(NodeFault),
     SiteSent,
-    Drops(Dropped),
+    Drops(Why),
     SiteRefused(SiteFault),
     /// Over a cell that then counts so many restarts.
     Fell(SiteFault, u32),
@@ -190,7 +190,7 @@ fn are_wrong<R: Abort + Wait + AllocGlobal>(rt: &R, actor: u16, rows: &[Row]) ->
         let told = Verdict::No {
             actor,
             event: row.0.len() + 1,
-            why: Why::Answered,
+            why: AuditTest::Answered,
         };
         row_is(rt, actor, row, told)?;
     }
@@ -268,7 +268,7 @@ fn a_site_can_refuse_and_fall(rt: HostRuntime) -> Result<(), Fail> {
 fn a_site_cannot_have_done_so(rt: HostRuntime) -> Result<(), Fail> {
     const ROWS: &[Row] = &[
         Row(&[], Beats, SiteSent),
-        Row(&[], Crashes, Drops(Dropped::Known)),
+        Row(&[], Crashes, Drops(Why::Known)),
         Row(&[], Restarts, SiteSent),
         Row(&[Crashes], Beats, SiteSent),
         Row(&[], Beats, SiteRefused(SiteFault::NotUp)),
@@ -350,7 +350,7 @@ fn a_receipt_is_missed_before_a_clock_is(rt: HostRuntime) -> Result<(), Fail> {
     let told = Verdict::No {
         actor: 0,
         event: 2,
-        why: Why::Receipts,
+        why: AuditTest::Receipts,
     };
     are_judged(&rt, retimed(&rt), told)
 }

@@ -4,7 +4,7 @@ use Rattle.pvp_rooms.specs.Seats.{Held}
 use Rattle.pvp_wire.specs.Feeding.{IsFed}
 use Rattle.pvp_peers.specs.Peers.{HasRead, why_of}
 use Rattle.pvp_peers.specs.Puts.{LastRead}
-use Rattle.pvp_peers.specs.declared.peer.Why.TheVariants.{End, Cut}
+use Rattle.pvp_peers.specs.declared.peer.StreamEnd.TheVariants.{End, Cut}
 use Rattle.pvp_peers.proofs.Streams.{hands_none, hands_more, passes_none, passes_more, all_passed, unread_last, stopped_passes, memory_for, consumes_none, unread, reading_next, stopped, ended, feeds_ok, is_empty, told_at, ends_told, still_short}
 use Rattle.pvp_peers.proofs.peer.read_all.Goals as goal
 

@@ -1,7 +1,7 @@
 use Rattle.std.proofs.Common.{ap, ◌∙◌}
 use Rattle.pvp_live.specs.Playing.{keeps}
 use Rattle.pvp_live.proofs.PlayedLines.{playing_more}
-use Rattle.pvp_live.proofs.player.LinePlayerPlayer.play.Goals as goal
+use Rattle.pvp_live.proofs.player.LinePlayerDriver.drive.Goals as goal
 
 pub loop-line-preserved : goal.loop-line-preserved
 loop-line-preserved g c = (

@@ -9,20 +9,20 @@ use Rattle.pvp_rooms.specs.Seats.{Place}
 use Rattle.pvp_parties.specs.declared.party.PartyOf.TheVariants.{Site, Node, Client}
 use Rattle.pvp_parties.specs.declared.party.PartyOf.{PartyOf}
 use Rattle.pvp_judge.specs.Judged.{party_with}
-use Rattle.pvp_live.specs.declared.standing.Standing.{Standing}
+use Rattle.pvp_live.specs.declared.sighting.Sighting.{Sighting}
 
 -- WHERE AN ACTOR STANDS: a site as its reading calls show it, a node or a client nowhere
-abbrev pub standing_of : {B : Type 0} → PartyOf B → Option Standing
-standing_of (Site p) =
+abbrev pub sighting_of : {B : Type 0} → PartyOf B → Option Sighting
+sighting_of (Site p) =
     Some (record { actor = actor_of p.place; status = p.now.volatile.status; view = p.now.volatile.view })
-standing_of (Node p) = None
-standing_of (Client p) = None
+sighting_of (Node p) = None
+sighting_of (Client p) = None
 
 -- A LOOK: so stood an actor of the bank as a history of its own has left it
-abbrev pub IsLook : {B : Type 0} → Cell B → Option Standing → Type 0
-IsLook c look = IsSeen (party_with c) (λ actor seen. seen ≡ standing_of actor) look
+abbrev pub IsLook : {B : Type 0} → Cell B → Option Sighting → Type 0
+IsLook c look = IsSeen (party_with c) (λ actor seen. seen ≡ sighting_of actor) look
 
 -- one for each site of these actors
-pub record AreLooks {B : Type 0} (c : Cell B) (cells : List Place) (looks : List (Option Standing)) : Type 0 where
+pub record AreLooks {B : Type 0} (c : Cell B) (cells : List Place) (looks : List (Option Sighting)) : Type 0 where
   pub count : length looks ≡ length (filter (λ cell. is_site cell.number) cells)
   pub each : All (IsLook c) looks

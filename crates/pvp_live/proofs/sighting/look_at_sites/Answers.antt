@@ -2,8 +2,8 @@ use Rattle.std.proofs.Common.{sym, ◌∙◌, ap, refl, length}
 use Rattle.std.proofs.lemmas.Option.{slice_get_read}
 use Rattle.vr_types.specs.Actors.{is_site}
 use Rattle.pvp_live.proofs.Looks.{looks-more, looks-same}
-use Rattle.pvp_live.proofs.standing.look_at_sites.Goals as goal
-use Rattle.pvp_live.proofs.standing.look_at_sites.Goals.{then-is_site+in_ok-push, else-is_site}
+use Rattle.pvp_live.proofs.sighting.look_at_sites.Goals as goal
+use Rattle.pvp_live.proofs.sighting.look_at_sites.Goals.{then-is_site+in_ok-push, else-is_site}
 
 pub loop-cell-preserved : goal.loop-cell-preserved
 loop-cell-preserved g c =

@@ -1,17 +1,17 @@
 //! What happens while the workers are at work.
 ghost use Rattle.std.specs.Prelude.{List};
 ghost use Rattle.pvp_peers.specs.Puts.{Put};
-ghost use Rattle.pvp_streams.specs.Serving.{IsPlayed};
+ghost use Rattle.pvp_streams.specs.Serving.{IsDriven};
 
 use pvp_peers::Outbox;
 
 /// Posts at actors from seats of its own, and hands on what they send.
-pub trait Player {
-    /// Whether it may have played so, where what its actors sent meanwhile is this.
-    ghost plays: { Self → Self → List Put → Type 0 };
+pub trait Driver {
+    /// Whether it may have driven so, where what its actors sent meanwhile is this.
+    ghost drives: { Self → Self → List Put → Type 0 };
 
     /// It runs while the workers do; once it returns, the writers are stopped. What its actors send it puts into the
     /// outbox. A stream that it holds itself it lets go before it returns, since a worker reads it to its end.
-    fn play<O: Outbox>(&mut self, out: &mut O)
-        ensures { IsPlayed plays O.got self.old self.new out.old out.new };
+    fn drive<O: Outbox>(&mut self, out: &mut O)
+        ensures { IsDriven drives O.got self.old self.new out.old out.new };
 }

@@ -1,6 +1,6 @@
 use Rattle.std.proofs.Common.{take}
-use Rattle.pvp_live.specs.Standings.{AreLooks}
-use Rattle.pvp_live.proofs.standing.look_at_sites.Given as goal
+use Rattle.pvp_live.specs.Sightings.{AreLooks}
+use Rattle.pvp_live.proofs.sighting.look_at_sites.Given as goal
 
 -- the sites so far were looked at
 abbrev pub invariant-loop-cell : goal.invariant-loop-cell

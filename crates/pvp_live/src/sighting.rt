@@ -1,6 +1,6 @@
 //! Where the sites stand while a run goes on, as each is seen under its lock.
 ghost use Rattle.std.specs.Prelude.{◌≡◌, IfOk};
-ghost use Rattle.pvp_live.specs.Standings.{AreLooks, IsLook, standing_of};
+ghost use Rattle.pvp_live.specs.Sightings.{AreLooks, IsLook, sighting_of};
 
 use pvp_parties::{PartyCellOf, PartyOf};
 use pvp_rooms::Sight;
@@ -8,9 +8,9 @@ use std::alloc::{AllocError, Global};
 use std::sync::Wait;
 use vr_types::{BootCell, Status, is_site};
 
-/// Where a site stands.
+/// What is seen of a site: where it stands.
 #[derive(Clone, Copy, Debug, PartialEq, Eq)]
-pub struct Standing {
+pub struct Sighting {
     /// Its number as an actor.
     pub actor: u16,
     pub status: Status,
@@ -19,14 +19,14 @@ pub struct Standing {
 }
 
 /// Where an actor stands, if it is a site.
-pub fn standing_of<C: BootCell>(party: &PartyOf<C>) -> Option<Standing>
-    ensures { result ≡ standing_of party.now }
+pub fn sighting_of<C: BootCell>(party: &PartyOf<C>) -> Option<Sighting>
+    ensures { result ≡ sighting_of party.now }
 {
     let PartyOf::Site(site) = party else {
         return None;
     };
     let replica = site.replica();
-    Some(Standing {
+    Some(Sighting {
         actor: site.number(),
         status: replica.status(),
         view: replica.view(),
@@ -37,16 +37,16 @@ pub fn standing_of<C: BootCell>(party: &PartyOf<C>) -> Option<Standing>
 #[derive(Drop)]
 struct Look {
     /// Where it stood, if it is a site.
-    standing: Option<Standing>,
+    sighting: Option<Sighting>,
 }
 
 impl<C: BootCell> Sight<PartyOf<C>> for Look {
-    ghost use Rattle.pvp_live.specs.Standings.{standing_of};
+    ghost use Rattle.pvp_live.specs.Sightings.{sighting_of};
 
-    ghost sees = { λ party look. look.standing ≡ standing_of party };
+    ghost sees = { λ party look. look.sighting ≡ sighting_of party };
 
     fn see(&mut self, actor: &PartyOf<C>) {
-        self.standing = standing_of(actor);
+        self.sighting = sighting_of(actor);
     }
 }
 
@@ -56,7 +56,7 @@ pub fn look_at_sites<R: Wait, C: BootCell>(
     rt: &R,
     alloc: Global,
     cells: &[PartyCellOf<C>],
-) -> Result<Vec<Option<Standing>>, AllocError>
+) -> Result<Vec<Option<Sighting>>, AllocError>
     ensures { IfOk result (λ looks. AreLooks C.BootCell cells.now looks.items) }
 {
     let mut looks = Vec::new(alloc);
@@ -69,10 +69,10 @@ pub fn look_at_sites<R: Wait, C: BootCell>(
 }
 
 /// Where the actor of a cell stands at this moment, if it is a site. It takes no memory.
-fn look_at<R: Wait, C: BootCell>(rt: &R, cell: &PartyCellOf<C>) -> Option<Standing>
+fn look_at<R: Wait, C: BootCell>(rt: &R, cell: &PartyCellOf<C>) -> Option<Sighting>
     ensures { IsLook C.BootCell result }
 {
-    let mut look = Look { standing: None };
+    let mut look = Look { sighting: None };
     cell.look(rt, &mut look);
-    look.standing
+    look.sighting
 }

@@ -1,6 +1,6 @@
 use Rattle.std.proofs.Common.{◌≡◌, take}
 use Rattle.pvp_live.specs.Playing.{IsPlaying, keeps}
-use Rattle.pvp_live.proofs.player.LinePlayerPlayer.play.Given as goal
+use Rattle.pvp_live.proofs.player.LinePlayerDriver.drive.Given as goal
 
 -- the lines so far were played
 abbrev pub invariant-loop-line : goal.invariant-loop-line

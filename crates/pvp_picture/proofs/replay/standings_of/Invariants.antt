@@ -1,8 +1,0 @@
-use Rattle.std.proofs.Common.{◌≡◌}
-use Rattle.std.specs.List.{filter_map, range_with_len}
-use Rattle.pvp_picture.specs.Replay.{standing_at}
-use Rattle.pvp_picture.proofs.replay.standings_of.Given as goal
-
--- where the sites so far stand
-abbrev pub invariant-loop-number : goal.invariant-loop-number
-invariant-loop-number l = l.all.items ≡ filter_map (standing_at l.world) (range_with_len 0 l.number)
