@@ -1,5 +1,5 @@
 -- What a book keeps beside its entries stays what the entries say.
-use Rattle.std.proofs.Common.{◌≡◌, ℕ, suc, zero, ◌+◌, ◌<◌, Bool, true, false, List, [], ◌∷◌, ◌++◌, ◌*◌, ◌≤◌, length, map, filter, count_by, arith, refl, ap, sym, subst, ◌∙◌, Option, Some, None, add-one, ℤ, pos, ◌+ℤ◌, ◌-ℤ◌, replicate, slice_index_or, ◌⊎◌, inl, inr}
+use Rattle.std.proofs.Common.{◌≡◌, ℕ, suc, zero, ◌+◌, ◌<◌, Bool, true, false, List, [], ◌∷◌, ◌++◌, ◌*◌, ◌≤◌, length, map, filter, count_by, arith, refl, ap, sym, subst, ◌∙◌, Option, Some, None, add-one, ℤ, pos, ◌+ℤ◌, ◌-ℤ◌, replicate, slice_get, slice_index_or, ◌⊎◌, inl, inr}
 use Rattle.std.specs.Prelude.{not, if◌then◌else◌, ◌&&◌, ◌||◌, ◌==◌}
 use Rattle.std.specs.List.{cons_option, AllByRecursion}
 use Rattle.std.proofs.lemmas.Int.{ints}
@@ -8,7 +8,7 @@ use Rattle.std.proofs.lemmas.List.{get_or-replicate, length-replicate}
 use Rattle.std.proofs.lemmas.List.Elements.{filter_map-append}
 use Rattle.pvp_types.specs.declared.setup.Setup.{Setup}
 use Rattle.pvp_types.specs.declared.command.Cmd.{Cmd}
-use Rattle.pvp_types.specs.declared.command.Cmd.TheVariants.{Instruct, Rescind, Fund, Settle, PayOut, Paid, Returned}
+use Rattle.pvp_types.specs.declared.command.Cmd.TheVariants.{Instruct, Settle, PayOut, Paid, Returned}
 use Rattle.pvp_types.specs.declared.command.Reply.{Reply}
 use Rattle.pvp_types.specs.declared.command.Reply.TheVariants.{Done, Matched, Settled, Order, No}
 use Rattle.pvp_types.specs.declared.command.Reason.TheVariants.{NotYours, UnknownMember, UnknownCurrency, BadAmount, UnknownReference, Repeated, Mismatch}
@@ -22,15 +22,18 @@ use Rattle.pvp_types.specs.declared.command.PayOrder.{PayOrder}
 use Rattle.pvp_types.proofs.SetupLemmas.{valid-currencies, valid-members}
 use Rattle.pvp_book.specs.declared.account.Account.{Account}
 use Rattle.pvp_book.specs.declared.account.Movement.{Movement}
-use Rattle.pvp_book.specs.Orders.{orders, order_of, has_end}
+use Rattle.pvp_book.specs.Orders.{orders, has_end}
 use Rattle.pvp_book.specs.Accounts.{balance_with}
 use Rattle.pvp_book.specs.Laws.{AreOrdered, IsCovered}
-use Rattle.pvp_book.specs.Ledger.{Ledger, opening, balance, figure, sum_of_balances, state_with, state_of, is_state}
+use Rattle.pvp_book.specs.Ledger.{Ledger, opening, queue, balance, figure, sum_of_balances, state_of, is_state, is_pay_in, has_pay_in}
 use Rattle.pvp_book.specs.Bounds.{IsLedger, total, most_total, IsWithin}
-use Rattle.pvp_book.specs.Kept.{Kept, IsKept, AreSettled, IsLine, CanPost, empty_account, no_account, IsAccount, AreAccounts, AreFigures, movement_with, movement_by, moved_to, accounts_after, figures_after}
-use Rattle.pvp_book.specs.Answer.{Row, book_of, has_member, answer, answer_to, after, with_entry, is_walk, is_refusal, is_mirror, on_mirror, on_instruct, is_member_number, has_currency, is_amount}
+use Rattle.pvp_book.specs.Kept.{Kept, IsKept, IsLine, CanPost, empty_account, no_account, IsAccount, AreAccounts, AreFigures, movement_with, movement_by, moved_to, accounts_after, figures_after}
+use Rattle.pvp_book.specs.PayIns.{ArePaidIn}
+use Rattle.pvp_book.specs.declared.pay_ins.PayIns.{PayIns}
+use Rattle.pvp_book.specs.Answer.{Row, end_checks, book_of, has_member, answer, answer_to, after, with_entry, is_walk, is_refusal, is_mirror, on_mirror, on_instruct, is_member_number, has_currency, is_amount}
 use Rattle.pvp_book.proofs.SettlementLemmas.{append-nil, settled-push, IsWithinMatched-nil}
-use Rattle.pvp_book.proofs.LedgerLemmas.{total-small, orders-few, pairs-few, IsSmall-ledger, IsLedger-accepted, sum_of_balances-more}
+use Rattle.pvp_book.proofs.LedgerLemmas.{total-small, pairs-few, IsSmall-ledger, IsLedger-accepted, sum_of_balances-more}
+use Rattle.pvp_book.proofs.Checks.{passed, is-so}
 use Rattle.pvp_book.proofs.Reached.{entry_of, reached, reached-more}
 use Rattle.pvp_book.proofs.OrderLemmas.{are-ordered, pay_out-order}
 use Rattle.pvp_book.proofs.FigureLemmas.{orders-of-members, is-covered}
@@ -40,21 +43,23 @@ use Rattle.pvp_book.proofs.WalkLemmas.{IsWalked-start, IsWalked-all}
 use Rattle.pvp_book.proofs.WalkingLemmas.{IsTradable, IsOffered, IsWalking, IsUnderWay, offered-tradable}
 use Rattle.pvp_book.proofs.CandidateLemmas.{line-of-candidates, line-more}
 use Rattle.pvp_book.specs.declared.order_table.OrderTable.{OrderTable}
-use Rattle.pvp_book.specs.OrderTable.{order_at, open_at, step_of, AreAscending, IsFresh, AreMade}
-use Rattle.std.proofs.lemmas.List.Elements.{All-from_get_or}
+use Rattle.pvp_book.specs.OrderTable.{order_at, open_at, step_of, AreAscending, IsNext, AreMade}
 use Rattle.std.proofs.lemmas.List.Kept.{AllPairs-filter}
-use Rattle.std.specs.Prelude.{All}
-use Rattle.pvp_book.proofs.OrderTableLemmas.{AreMade-still}
+use Rattle.pvp_book.proofs.OrderTableLemmas.{AreMade-still, order-kept}
 use Rattle.pvp_book.specs.declared.tally.Tally.{Tally}
 use Rattle.pvp_book.specs.declared.pair.PairState.{PairState}
-use Rattle.pvp_book.specs.Tally.{tallied, is_at, counted, named_by, state_named}
+use Rattle.pvp_book.specs.Tally.{tallied, is_at}
+use Rattle.std.specs.Option.{option_map}
+use Rattle.std.proofs.lemmas.List.Folds.{list_any-append}
+use Rattle.pvp_book.specs.declared.kept_pair.KeptPair.{KeptPair}
+use Rattle.pvp_book.specs.KeptPair.{pair_with, kept_pair, by_reference, just_opened, state_kept, named_by, pair_noted, pair_in, pair_put, is_waiting}
 use Rattle.pvp_book.proofs.PassLemmas.{AreDistinct, distinct-once}
-use Rattle.pvp_book.proofs.Counts.{count-push}
-use Rattle.pvp_book.proofs.TallyLemmas.{kept_as, named-same, found-at, entry-moved, tally-is, IsLookedUp, not-found, state-kept, says-none}
-use Rattle.pvp_book.specs.declared.seen.Seen.{Seen}
-use Rattle.pvp_book.specs.Seen.{HasSeen, has_settled, is_waiting, seen_pay_in, seen_matched, seen_asked}
-use Rattle.pvp_book.proofs.SeenLemmas.{HasSeen-more, still, waiting-same}
-use Rattle.pvp_book.proofs.MovementLemmas.{numbered-ascend, next-new, next-open, walk-moves-none, balance-moved, known-movement, sum-moved, sum-still}
+use Rattle.pvp_book.proofs.Counts.{count-push, or-false}
+use Rattle.pvp_book.proofs.TallyLemmas.{counted_in, counted-kept, found-counted, tally-put}
+use Rattle.pvp_book.proofs.RecordLemmas.{at_named, kept-other, not-found, IsPut, noted-put, found-kept, waiting-kept, none-noted}
+use Rattle.pvp_book.proofs.SoundLemmas.{sound}
+use Rattle.pvp_book.proofs.FreshLemmas.{new-kept}
+use Rattle.pvp_book.proofs.MovementLemmas.{numbered-ascend, walk-moves-none, balance-moved, known-movement, sum-moved, sum-still}
 
 -- with no entries each balance is 0
 none-held : (n c : ℕ) → sum_of_balances n [] [] c ≡ pos 0
@@ -72,20 +77,19 @@ zeros zero c = refl
 zeros (suc n) zero = refl
 zeros (suc n) (suc c) = zeros n c
 
-pub IsKept-opening : (setup : Setup) (shown : Seen) (table : OrderTable) (tally : Tally) → IsValid setup → HasSeen [] shown → AreMade [] table
+pub IsKept-opening : (setup : Setup) (paid : PayIns) (table : OrderTable) (tally : Tally) → IsValid setup → ArePaidIn [] paid → AreMade [] table
     → ((s : PairState) → tallied tally s ≡ 0)
     → IsKept (opening setup) (record {
       pairs = [];
-      references = [];
       line = [];
       members = replicate (length setup.members + 1) empty_account;
       totals = replicate 8 (pos 0);
-      shown = shown;
+      paid = paid;
       table = table;
       tally = tally;
     })
 unfolding settled settled_after
-IsKept-opening setup shown table tally valid has made none = record {
+IsKept-opening setup paid table tally valid paid_in made none = record {
   ledger = record { valid = valid; few = omega arith; small = omega arith; fewer = omega arith; within = IsWithinMatched-nil };
   history = [];
   reached = refl;
@@ -99,11 +103,10 @@ IsKept-opening setup shown table tally valid has made none = record {
     same = λ m c. by c (slice_index_or (replicate (length setup.members + 1) empty_account) m no_account) (empty-accounts (length setup.members + 1) m);
   };
   figures = record { places = refl; same = λ c. zeros 8 c ∙ sym (none-held (length setup.members) c) };
-  seen = has;
+  pay_ins = paid_in;
   orders = made;
   states = none;
-  done = λ r. refl;
-  line = refl;
+  line = record { waits = refl; known = tt };
   pairs = refl;
 }
   where
@@ -134,11 +137,7 @@ done-new setup entries client reference other sell sell_amt buy buy_amt e =
         else if not small then No BadAmount else if none then No UnknownReference else on_mirror setup entries client pair other sell sell_amt buy buy_amt)
         → pair ≡ None
     by true true true true false pair e = mirror pair e
-    by true true true true true pair e = absurd (cc e)
-    by true true true false none pair e = absurd (cc e)
-    by true true false small none pair e = absurd (cc e)
-    by true false currency small none pair e = absurd (cc e)
-    by false member currency small none pair e = absurd (cc e)
+    by _ _ _ _ _ pair e = absurd (cc e)
 
 -- so an entry opens a pair of a new reference
 pub opened-new : (setup : Setup) (entries : List Entry) (client : ℕ) (cmd : Cmd) (reply : Reply) (p : Pair)
@@ -147,11 +146,7 @@ unfolding answer
 opened-new setup entries client (Instruct reference other sell sell_amt buy buy_amt) Done p opened answered =
     let same : reference ≡ p.reference = cc in
     subst (λ r. pair_of entries r ≡ None) same (done-new setup entries client reference other sell sell_amt buy buy_amt answered)
-opened-new setup entries client (Instruct reference other sell sell_amt buy buy_amt) Matched p opened answered = absurd (cc opened)
-opened-new setup entries client (Instruct reference other sell sell_amt buy buy_amt) (Settled n) p opened answered = absurd (cc opened)
-opened-new setup entries client (Instruct reference other sell sell_amt buy buy_amt) (Order n) p opened answered = absurd (cc opened)
-opened-new setup entries client (Instruct reference other sell sell_amt buy buy_amt) (No reason) p opened answered = absurd (cc opened)
-opened-new setup entries client _ reply p opened answered = absurd (cc opened)
+opened-new setup entries client _ _ p opened answered = absurd (cc opened)
 
 -- an accepted command that is no walk settles nothing
 settles-none : (setup : Setup) (entries : List Entry) (done : List Pair) (client : ℕ) (cmd : Cmd)
@@ -308,11 +303,19 @@ pub pairs-distinct : (held : Ledger) → {kept : Kept} → IsKept held kept → 
 pairs-distinct held is =
     subst (λ es. AreDistinct (pairs es)) (sym is.reached) (distinct-once (pairs (book_of held.setup is.history)) (pairs-once held.setup is.history))
 
--- what a tally has of the pair that an entry names, and that no count is great
+-- what is kept of the pair that an entry names
+pub found-now : (held : Ledger) (kept : Kept) → IsKept held kept → (named : Option ℕ)
+    → pair_in kept.pairs named ≡ option_map (kept_pair held.setup held.entries) (at_named held.entries named)
+found-now held kept is named = ap (λ ps. pair_in ps named) is.pairs ∙ found-kept held.entries (settled held.setup held.entries) named
+
+-- what a tally has of it, and that no count is great
+tallied-kept : (held : Ledger) (kept : Kept) → IsKept held kept → (s : PairState) → tallied kept.tally s ≡ counted_in s kept.pairs
+tallied-kept held kept is s =
+    is.states s ∙ sym (counted-kept held.entries (settled held.setup held.entries) s (pairs held.entries)) ∙ ap (counted_in s) (sym is.pairs)
+
 pub tally-there : (held : Ledger) (kept : Kept) → IsKept held kept → (named : Option ℕ) (s : PairState)
-    → is_at (state_named kept.shown kept.references kept.pairs named) s ≤ tallied kept.tally s
-tally-there held kept is named s =
-    found-at held.entries kept.shown is.seen (settled held.setup held.entries) kept.references is.done kept.pairs is.pairs kept.tally is.states named s
+    → is_at (option_map state_kept (pair_in kept.pairs named)) s ≤ tallied kept.tally s
+tally-there held kept is named s = let all = tallied-kept held kept is s in let some = found-counted s kept.pairs named in omega arith
 
 pub tally-few : (held : Ledger) (kept : Kept) → IsKept held kept → (s : PairState) → tallied kept.tally s ≤ 65535
 tally-few held kept is s =
@@ -322,27 +325,25 @@ tally-few held kept is s =
     omega arith
 
 -- an entry that is no walk adds at most a pair, and moves what it moves
-pub IsKept-accepted : (held : Ledger) (entry : Entry) (kept : Kept) (later : Seen) (table : OrderTable) (tally : Tally)
-    → HasSeen (held.entries ++ entry ∷ []) later → AreMade (held.entries ++ entry ∷ []) table
-    → ((s : PairState) → tallied tally s + is_at (state_named kept.shown kept.references kept.pairs (named_by entry.cmd)) s
-    ≡ tallied kept.tally s + is_at
-    (state_named later kept.references (kept.pairs ++ map kept_as (cons_option (opened_by entry.client entry.cmd entry.reply) [])) (named_by entry.cmd)) s)
+pub IsKept-accepted : (held : Ledger) (entry : Entry) (kept : Kept) (paid : PayIns) (table : OrderTable) (tally : Tally)
+    → ArePaidIn (held.entries ++ entry ∷ []) paid → AreMade (held.entries ++ entry ∷ []) table
+    → ((s : PairState) → tallied tally s + is_at (option_map state_kept (pair_in kept.pairs (named_by entry.cmd))) s
+    ≡ tallied kept.tally s
+    + is_at (option_map state_kept (pair_noted entry.client entry.cmd entry.reply (pair_in kept.pairs (named_by entry.cmd)))) s)
     → IsKept held kept → held.applied < 65535
     → is_walk entry.client entry.cmd ≡ false → entry.reply ≡ answer_to held entry.client entry.cmd → is_refusal entry.reply ≡ false
     → IsKept (record { setup = held.setup; entries = held.entries ++ entry ∷ []; applied = held.applied + 1 }) (record {
-      pairs = kept.pairs ++ map kept_as (cons_option (opened_by entry.client entry.cmd entry.reply) []);
-      references = kept.references;
+      pairs = pair_put kept.pairs (pair_noted entry.client entry.cmd entry.reply (pair_in kept.pairs (named_by entry.cmd)));
       line = kept.line ++ cons_option (matched_by entry.client entry.cmd entry.reply) [];
       members = accounts_after held.setup.currencies (movement_by held.entries entry.client entry.cmd) kept.members;
       totals = figures_after (movement_by held.entries entry.client entry.cmd) kept.totals;
-      shown = later;
+      paid = paid;
       table = table;
       tally = tally;
     })
-IsKept-accepted held entry kept later table tally has made moves is room other answered accepted =
-    let new = cons_option (opened_by entry.client entry.cmd entry.reply) [] in
-    let more : pairs (held.entries ++ entry ∷ []) ≡ pairs held.entries ++ new =
-    filter_map-append (λ (x : Entry). opened_by x.client x.cmd x.reply) held.entries (entry ∷ []) in
+IsKept-accepted held entry kept paid table tally paid_in made moves is room other answered accepted =
+    let done = settled held.setup held.entries in
+    let longer = held.entries ++ entry ∷ [] in
     let taken = ap is_refusal (sym answered) ∙ accepted in
     let none = settles-none held.setup held.entries (settled held.setup held.entries) entry.client entry.cmd other taken in
     let with_none : settled held.setup (held.entries ++ entry ∷ []) ≡ settled held.setup held.entries ++ [] =
@@ -351,16 +352,23 @@ IsKept-accepted held entry kept later table tally has made moves is room other a
     let same : entry ≡ entry_of held.setup held.entries entry.client entry.cmd = λ i. record { client = entry.client; cmd = entry.cmd; reply = answered i } in
     let reached = is-reached held.setup held.entries is.history is.reached in
     let still_so = ap (λ e. settled held.setup (held.entries ++ e ∷ [])) (sym same) ∙ still in
-    let longer = ap (λ es. es ++ map kept_as new) is.pairs ∙ sym (map-append-kept (pairs held.entries) new) ∙ ap (map kept_as) (sym more) in
-    let before =
-    named-same held.entries kept.shown is.seen (settled held.setup held.entries) kept.references is.done kept.pairs is.pairs (named_by entry.cmd) in
-    let now =
-    named-same (held.entries ++ entry ∷ []) later has (settled held.setup held.entries) kept.references is.done
-    (kept.pairs ++ map kept_as new) longer (named_by entry.cmd) in
+    let history = is.history ++ record { client = entry.client; number = 0; cmd = entry.cmd } ∷ [] in
+    let reached_now = ap (λ e. held.entries ++ e ∷ []) same ∙ more-reached held.setup held.entries is.history entry.client entry.cmd is.reached taken in
+    let matched_known =
+    subst (λ es. AllByRecursion (λ p. pair_of es p.reference ≡ Some p) (matched es)) (sym reached_now) (sound held.setup history).known in
+    let new : (p : Pair) → opened_by entry.client entry.cmd entry.reply ≡ Some p
+    → (pair_of held.entries p.reference ≡ None) × (pair_with held.entries done p ≡ just_opened p) =
+    λ p opened.
+    let none = opened-new held.setup held.entries entry.client entry.cmd entry.reply p opened answered in
+    (none, new-kept held.setup held.entries is.history is.reached p none) in
+    let noted = subst (λ o. IsPut held.entries entry done (pair_noted entry.client entry.cmd entry.reply o)) (sym (found-now held kept is (named_by entry.cmd)))
+    (noted-put held.entries entry done (pairs-distinct held is) new) in
+    let pairs_now = ap (λ ps. pair_put ps (pair_noted entry.client entry.cmd entry.reply (pair_in kept.pairs (named_by entry.cmd)))) is.pairs ∙ noted.put
+    ∙ ap (λ ps. by_reference (pair_with longer ps) (pairs longer)) (sym still) in
     record {
       ledger = IsLedger-accepted held entry.client entry.cmd entry.reply is.ledger room answered accepted;
-      history = is.history ++ record { client = entry.client; number = 0; cmd = entry.cmd } ∷ [];
-      reached = ap (λ e. held.entries ++ e ∷ []) same ∙ more-reached held.setup held.entries is.history entry.client entry.cmd is.reached taken;
+      history = history;
+      reached = reached_now;
       accounts =
           subst (λ e. AreAccounts held.setup.currencies (length held.setup.members) (balance held.setup (held.entries ++ e ∷ []))
           (accounts_after held.setup.currencies (movement_by held.entries entry.client entry.cmd) kept.members))
@@ -368,21 +376,16 @@ IsKept-accepted held entry kept later table tally has made moves is room other a
       figures =
           subst (λ e. AreFigures (figure held.setup (held.entries ++ e ∷ [])) (figures_after (movement_by held.entries entry.client entry.cmd) kept.totals))
           (sym same) (kept-figures held entry.client entry.cmd kept.members kept.totals reached is.ledger.valid taken still_so is.figures);
-      seen = has;
+      pay_ins = paid_in;
       orders = made;
-      states = λ s. tally-is (is.states s) (ap (λ o. is_at o s) before) (moves s) (ap (λ o. is_at o s) now)
-          (entry-moved held.entries entry (settled held.setup held.entries) s (pairs-distinct held is)
-          (λ p opened. opened-new held.setup held.entries entry.client entry.cmd entry.reply p opened answered))
-          ∙ ap (λ done. counted (state_with (held.entries ++ entry ∷ []) done) s (pairs (held.entries ++ entry ∷ []))) (sym still);
-      done = subst (λ ps. AreSettled ps kept.references) (sym still) is.done;
-      line = subst (λ ps. IsLine (held.entries ++ entry ∷ []) ps (kept.line ++ cons_option (matched_by entry.client entry.cmd entry.reply) [])) (sym with_none)
-          (line-more held.entries entry (settled held.setup held.entries) [] kept.line is.line);
-      pairs = longer;
+      states = λ s.
+          tally-put s kept.pairs (named_by entry.cmd) (pair_noted entry.client entry.cmd entry.reply (pair_in kept.pairs (named_by entry.cmd)))
+          noted.own (none-noted entry.client entry.cmd entry.reply (pair_in kept.pairs (named_by entry.cmd))) (tallied-kept held kept is s) (moves s)
+          ∙ ap (counted_in s) pairs_now ∙ counted-kept longer (settled held.setup longer) s (pairs longer);
+      line = subst (λ ps. IsLine longer ps (kept.line ++ cons_option (matched_by entry.client entry.cmd entry.reply) [])) (sym with_none)
+          (line-more held.entries entry done [] kept.line matched_known is.line);
+      pairs = pairs_now;
     }
-  where
-    map-append-kept : (xs ys : List Pair) → map kept_as (xs ++ ys) ≡ map kept_as xs ++ map kept_as ys
-    map-append-kept [] ys = refl
-    map-append-kept (x ∷ xs) ys = ap (λ es. kept_as x ∷ es) (map-append-kept xs ys)
 
 -- the answer to the operator's word to settle
 pub answer-walk : (held : Ledger) (most : ℕ)
@@ -402,39 +405,45 @@ figure-walked setup entries history most c same accepted =
     let moves = walk-moves-none setup entries most c in
     after_it.difference ∙ (λ i. (pos (moves.0 i) -ℤ pos (moves.1 i)) +ℤ pos (moves.2 i)) ∙ sym before.difference
 
--- those of the line that wait, by what is seen, are what a walk is offered
-pub offered-is : (held : Ledger) (kept : Kept) → IsKept held kept
-    → filter (λ p. is_waiting kept.shown kept.references p) kept.line ≡ candidates held.entries (settled held.setup held.entries)
-offered-is held kept is =
-    waiting-same held.entries kept.shown is.seen (settled held.setup held.entries) kept.references is.done kept.line ∙ is.line
+-- those of the line that wait, by what is kept, are what a walk is offered
+pub offered-from : {held : Ledger} {kept : Kept} {line offered : List Pair} → IsKept held kept → line ≡ kept.line
+    → offered ≡ filter (λ p. is_waiting kept.pairs p) line → offered ≡ candidates held.entries (settled held.setup held.entries)
+offered-from {held} {kept} is same waits =
+    waits ∙ (λ i. filter (λ p. is_waiting (is.pairs i) p) (same i))
+    ∙ waiting-kept held.entries (settled held.setup held.entries) kept.line is.line.known ∙ is.line.waits
+
+-- so the waiting pair at a place is that of the queue
+pub queue-at : {held now : Ledger} {kept : Kept} {line : List Pair} {found : Option Pair} (at : ℕ) → IsKept held kept → held ≡ now → line ≡ kept.line
+    → found ≡ slice_get (filter (λ p. is_waiting kept.pairs p) line) at → found ≡ slice_get (queue now.setup now.entries) at
+queue-at at is view same read =
+    read ∙ ap (λ ps. slice_get ps at) (offered-from is same refl) ∙ ap (λ (l : Ledger). slice_get (queue l.setup l.entries) at) view
 
 -- what an entry moves, by the table of orders
 pub moved-same : (entries : List Entry) (table : OrderTable) → AreMade entries table → (client : ℕ) (cmd : Cmd)
     → movement_by entries client cmd ≡ movement_with (order_at table) client cmd
 moved-same entries table are client cmd = λ i. movement_with (λ c n. sym (are.made c n) i) client cmd
 
--- what was seen, and the table of orders, may be other values of which the same is so
-pub IsKept-same : (held : Ledger) (kept : Kept) (shown : Seen) (table : OrderTable) → IsKept held kept → HasSeen held.entries shown → AreMade held.entries table
+-- the pay-ins, and the table of orders, may be other values of which the same is so
+pub IsKept-same : (held : Ledger) (kept : Kept) (paid : PayIns) (table : OrderTable) → IsKept held kept → ArePaidIn held.entries paid
+    → AreMade held.entries table
     → IsKept held (record {
       pairs = kept.pairs;
-      references = kept.references;
       line = kept.line;
       members = kept.members;
       totals = kept.totals;
-      shown = shown;
+      paid = paid;
       table = table;
       tally = kept.tally;
     })
-IsKept-same held kept shown table is has made = record {
+IsKept-same held kept paid table is paid_in made = record {
   ledger = is.ledger;
   history = is.history;
   reached = is.reached;
   accounts = is.accounts;
   figures = is.figures;
-  seen = has;
+  pay_ins = paid_in;
   orders = made;
   states = is.states;
-  done = is.done;
   line = is.line;
   pairs = is.pairs;
 }
@@ -448,43 +457,29 @@ open-ascending held kept table is are c =
     (AllPairs-filter (λ (a b : PayOrder). a.out < b.out) (λ (o : PayOrder). not (has_end held.entries c o.out)) (orders held.entries c)
     (numbered-ascend 1 (orders held.entries c) ordered.numbered))
 
--- an order that is made is new
-fresh-order : (setup : Setup) (entries : List Entry) (client : ℕ) (cmd : Cmd) (reply : Reply) (table : OrderTable) → ((c : ℕ) → AreOrdered entries c)
-    → AreMade entries table
-    → reply ≡ answer setup entries client cmd → is_refusal (answer setup entries client cmd) ≡ false → IsFresh (step_of client cmd reply) table
+-- an order that is made has the next number, and one that ends is there
+next-step : (setup : Setup) (entries : List Entry) (client : ℕ) (cmd : Cmd) (reply : Reply) (table : OrderTable) → AreMade entries table
+    → reply ≡ answer setup entries client cmd → is_refusal (answer setup entries client cmd) ≡ false → IsNext (step_of client cmd reply) table
 unfolding answer
-fresh-order setup entries client (PayOut ccy amt) (Order out) table ordered are answered accepted =
-    let next : out ≡ length (orders entries ccy) + 1 = cc (answered ∙ pay_out-order setup entries client ccy amt accepted) in (
-      are.made ccy out ∙ ap (order_of entries ccy) next ∙ next-new entries ccy (ordered ccy),
-      are.ended ccy out ∙ ap (has_end entries ccy) next ∙ next-open entries ccy (ordered ccy),
-    )
-fresh-order setup entries client (PayOut ccy amt) Done table ordered are answered accepted = tt
-fresh-order setup entries client (PayOut ccy amt) Matched table ordered are answered accepted = tt
-fresh-order setup entries client (PayOut ccy amt) (Settled n) table ordered are answered accepted = tt
-fresh-order setup entries client (PayOut ccy amt) (No reason) table ordered are answered accepted = tt
-fresh-order setup entries client (Instruct reference other sell sell_amt buy buy_amt) reply table ordered are answered accepted = tt
-fresh-order setup entries client (Rescind reference) reply table ordered are answered accepted = tt
-fresh-order setup entries client (Fund ccy pay member amt) reply table ordered are answered accepted = tt
-fresh-order setup entries client (Settle most) reply table ordered are answered accepted = tt
-fresh-order setup entries client (Paid ccy out) reply table ordered are answered accepted = tt
-fresh-order setup entries client (Returned ccy out) reply table ordered are answered accepted = tt
+next-step setup entries client (PayOut ccy amt) (Order out) table are answered accepted =
+    let next : out ≡ length (orders entries ccy) + 1 = cc (answered ∙ pay_out-order setup entries client ccy amt accepted) in
+    next ∙ ap (λ n. n + 1) (sym (are.counts ccy))
+next-step setup entries client (PayOut ccy amt) _ table are answered accepted = tt
+next-step setup entries client (Paid ccy out) reply table are answered accepted =
+    order-kept entries table are ccy out (is-so _ (passed (end_checks setup entries client ccy out) Done accepted).1.1.0)
+next-step setup entries client (Returned ccy out) reply table are answered accepted =
+    order-kept entries table are ccy out (is-so _ (passed (end_checks setup entries client ccy out) Done accepted).1.1.0)
+next-step setup entries client _ reply table are answered accepted = tt
 
-pub fresh-step : (held : Ledger) (kept : Kept) (table : OrderTable) (client : ℕ) (cmd : Cmd) (reply : Reply) → IsKept held kept → AreMade held.entries table
-    → reply ≡ answer_to held client cmd → is_refusal reply ≡ false → IsFresh (step_of client cmd reply) table
-fresh-step held kept table client cmd reply is are answered accepted =
-    fresh-order held.setup held.entries client cmd reply table (is-reached held.setup held.entries is.history is.reached).ordered are answered
-    (ap is_refusal (sym answered) ∙ accepted)
+pub IsNext-accepted : (held : Ledger) (table : OrderTable) (client : ℕ) (cmd : Cmd) (reply : Reply) → IsLedger held
+    → AreMade held.entries table → reply ≡ answer_to held client cmd → is_refusal reply ≡ false → IsNext (step_of client cmd reply) table
+IsNext-accepted held table client cmd reply is are answered accepted =
+    next-step held.setup held.entries client cmd reply table are answered (ap is_refusal (sym answered) ∙ accepted)
 
--- there are few orders
-pub few-made : (held : Ledger) (table : OrderTable) → IsLedger held → held.applied < 65535 → AreMade held.entries table → All (λ n. n < 65535) table.counts
-few-made held table is room are =
-    All-from_get_or (λ n. n < 65535) table.counts 0
-    (λ c within. subst (λ n. n < 65535) (sym (are.counts c)) (let few = orders-few held is c in omega arith))
-
--- what a walk looks up
-pub looked-up : (held : Ledger) (kept : Kept) (es : List Entry) → IsKept held kept → es ≡ held.entries → IsLookedUp es kept.shown kept.pairs
-looked-up held kept es is same =
-    subst (λ x. IsLookedUp x kept.shown kept.pairs) (sym same) (record { has = is.seen; same = is.pairs; distinct = pairs-distinct held is })
+-- each matched pair is found by its reference
+matched-known : (held : Ledger) (kept : Kept) → IsKept held kept → AllByRecursion (λ p. pair_of held.entries p.reference ≡ Some p) (matched held.entries)
+matched-known held kept is =
+    subst (λ es. AllByRecursion (λ p. pair_of es p.reference ≡ Some p) (matched es)) (sym is.reached) (sound held.setup is.history).known
 
 -- what a walk starts with
 pub walk-offered : (held : Ledger) (kept : Kept) (es : List Entry) (offered : List Pair)
@@ -495,33 +490,46 @@ walk-offered held kept es offered is same given = record {
   tradable =
       subst (AllByRecursion (IsTradable held.setup)) (sym given)
       (offered-tradable held.setup held.entries (settled held.setup held.entries) is.history is.reached);
+  known =
+      subst (λ x. AllByRecursion (λ p. pair_of x p.reference ≡ Some p) offered) (sym same)
+      (subst (AllByRecursion (λ p. pair_of held.entries p.reference ≡ Some p)) (sym given)
+      (line-of-candidates held.entries (settled held.setup held.entries) (matched-known held kept is)).known);
+  distinct = subst (λ x. AreDistinct (pairs x)) (sym same) (pairs-distinct held is);
 }
 
-pub walk-start : (held : Ledger) (kept : Kept) (es : List Entry) (offered : List Pair) (references : List ℕ) (most : ℕ)
+pub walk-start : (held : Ledger) (kept : Kept) (es : List Entry) (offered : List Pair) (most : ℕ)
     → IsKept held kept → es ≡ held.entries → offered ≡ candidates held.entries (settled held.setup held.entries)
-    → ((r : ℕ) → has_settled references r ≡ has_settled kept.references r)
-    → IsUnderWay held.setup es (settled held.setup es) offered most 0 0 references kept.members kept.tally
-walk-start held kept es offered references most is same given reserved =
+    → IsUnderWay held.setup es (settled held.setup es) offered most 0 0 kept.pairs kept.members kept.tally
+walk-start held kept es offered most is same given =
     let posted = settled held.setup held.entries in
     let start : IsWalking held.setup held.entries posted (candidates held.entries posted) most 0 0 posted kept.members = record {
       walked = IsWalked-start held.setup held.entries posted (candidates held.entries posted) (matched held.entries) most is.ledger.within;
       accounts = is.accounts;
       counted = omega arith;
     } in
-    let under_way : IsUnderWay held.setup held.entries posted (candidates held.entries posted) most 0 0 references kept.members kept.tally = record {
+    let under_way : IsUnderWay held.setup held.entries posted (candidates held.entries posted) most 0 0 kept.pairs kept.members kept.tally = record {
       now = posted;
       walking = start;
-      done = λ r. reserved r ∙ is.done r;
-      tallied = is.states;
+      pairs_kept = is.pairs;
+      tallied = tallied-kept held kept is;
     } in
-    subst (λ x. IsUnderWay held.setup x (settled held.setup x) offered most 0 0 references kept.members kept.tally) (sym same)
-    (subst (λ ps. IsUnderWay held.setup held.entries posted ps most 0 0 references kept.members kept.tally) (sym given) under_way)
+    subst (λ x. IsUnderWay held.setup x (settled held.setup x) offered most 0 0 kept.pairs kept.members kept.tally) (sym same)
+    (subst (λ ps. IsUnderWay held.setup held.entries posted ps most 0 0 kept.pairs kept.members kept.tally) (sym given) under_way)
 
 -- and what it ends with
-module _ (held : Ledger) (most i count : ℕ) (kept : Kept) (references : List ℕ) (later : List Account) (tally : Tally)
-    (is : IsKept held kept) (all : length (candidates held.entries (settled held.setup held.entries)) ≤ i)
-    (under_way : IsUnderWay held.setup held.entries (settled held.setup held.entries)
-    (candidates held.entries (settled held.setup held.entries)) most i count references later tally) where
+module _ {held : Ledger} {most i count : ℕ} {kept : Kept} {later_pairs : List (ℕ × KeptPair)} {later : List Account} {tally : Tally} {es : List Entry}
+    {offered : List Pair} (is : IsKept held kept) (same : es ≡ held.entries) (given : offered ≡ candidates held.entries (settled held.setup held.entries))
+    (past : length offered ≤ i) (read : IsUnderWay held.setup es (settled held.setup es) offered most i count later_pairs later tally) where
+  all : length (candidates held.entries (settled held.setup held.entries)) ≤ i
+  all = subst (λ ps. length ps ≤ i) given past
+
+  under_way : IsUnderWay held.setup held.entries (settled held.setup held.entries) (candidates held.entries (settled held.setup held.entries)) most i count
+      later_pairs later tally
+  under_way =
+      subst (λ x. IsUnderWay held.setup x (settled held.setup x) (candidates held.entries (settled held.setup held.entries)) most i
+      count later_pairs later tally)
+      same (subst (λ ps. IsUnderWay held.setup es (settled held.setup es) ps most i count later_pairs later tally) given read)
+
   ended : (under_way.now ≡ settled held.setup held.entries ++ pass held.setup held.entries (settled held.setup held.entries) most
       (candidates held.entries (settled held.setup held.entries)))
       × (count ≡ length (pass held.setup held.entries (settled held.setup held.entries) most (candidates held.entries (settled held.setup held.entries))))
@@ -538,12 +546,11 @@ module _ (held : Ledger) (most i count : ℕ) (kept : Kept) (references : List �
         entries = held.entries ++ record { client = 0; cmd = Settle most; reply = Settled count } ∷ [];
         applied = held.applied + 1;
       }) (record {
-        pairs = kept.pairs;
-        references = references;
+        pairs = later_pairs;
         line = candidates held.entries (settled held.setup held.entries);
         members = later;
         totals = kept.totals;
-        shown = kept.shown;
+        paid = kept.paid;
         table = kept.table;
         tally = tally;
       })
@@ -557,11 +564,16 @@ module _ (held : Ledger) (most i count : ℕ) (kept : Kept) (references : List �
       let same : entry ≡ entry_of held.setup held.entries 0 (Settle most) = λ i. record { client = 0; cmd = Settle most; reply = walk-answer i } in
       let accepted : is_refusal (answer held.setup held.entries 0 (Settle most)) ≡ false = ap is_refusal (answer-walk held most) in
       let reached = is-reached held.setup held.entries is.history is.reached in
+      let history = is.history ++ record { client = 0; number = 0; cmd = Settle most } ∷ [] in
+      let reached_now = ap (λ e. held.entries ++ e ∷ []) same ∙ more-reached held.setup held.entries is.history 0 (Settle most) is.reached accepted in
       let settled_now : now ≡ settled held.setup (held.entries ++ entry ∷ []) = ended.0 ∙ sym (settled-push held.setup held.entries entry) in
+      let pairs_now = under_way.pairs_kept
+      ∙ (λ i. map (λ p. (p.reference, kept-other held.entries entry now p (λ same. cc same) i)) (sym (more ∙ append-nil (pairs held.entries)) i))
+      ∙ ap (λ done. by_reference (pair_with (held.entries ++ entry ∷ []) done) (pairs (held.entries ++ entry ∷ []))) settled_now in
       record {
         ledger = IsLedger-accepted held 0 (Settle most) (Settled count) is.ledger room walk-answer refl;
-        history = is.history ++ record { client = 0; number = 0; cmd = Settle most } ∷ [];
-        reached = ap (λ e. held.entries ++ e ∷ []) same ∙ more-reached held.setup held.entries is.history 0 (Settle most) is.reached accepted;
+        history = history;
+        reached = reached_now;
         accounts =
             AreAccounts-same held.setup.currencies (length held.setup.members) (balance_with held.entries now)
             (balance held.setup (held.entries ++ entry ∷ [])) later
@@ -574,24 +586,19 @@ module _ (held : Ledger) (most i count : ℕ) (kept : Kept) (references : List �
               λ c. is.figures.same c ∙ sym (ap (λ e. figure held.setup (held.entries ++ e ∷ []) c) same
               ∙ figure-walked held.setup held.entries is.history most c is.reached accepted);
         };
-        seen = HasSeen-more held.entries entry kept.shown kept.shown
-            (record {
-              pay_ins = λ c k. still (seen_pay_in kept.shown c k);
-              matched = λ r. still (seen_matched kept.shown r);
-              asked = λ m r. still (seen_asked kept.shown m r);
-            }) is.seen;
+        pay_ins = λ c k.
+            is.pay_ins c k ∙ sym (list_any-append (λ (x : Entry). is_pay_in c k x.cmd) held.entries (entry ∷ [])
+            ∙ or-false (has_pay_in held.entries c k));
         orders = AreMade-still held.entries entry kept.table refl is.orders;
-        states = λ s. under_way.tallied s
-            ∙ (λ i. length (filter (λ p. is_state (state-kept held.entries entry now p (λ m. says-none (Settle most) (Settled count) 0 p.reference m refl) i) s)
-            (sym (more ∙ append-nil (pairs held.entries)) i)))
-            ∙ ap (λ done. counted (state_with (held.entries ++ entry ∷ []) done) s (pairs (held.entries ++ entry ∷ []))) settled_now;
-        done = subst (λ ps. AreSettled ps references) settled_now under_way.done;
+        states = λ s. under_way.tallied s ∙ ap (counted_in s) pairs_now
+            ∙ counted-kept (held.entries ++ entry ∷ []) (settled held.setup (held.entries ++ entry ∷ [])) s (pairs (held.entries ++ entry ∷ []));
         line = subst (λ ps. IsLine (held.entries ++ entry ∷ []) ps (candidates held.entries posted)) (sym (settled-push held.setup held.entries entry))
             (subst (IsLine (held.entries ++ entry ∷ []) (posted ++ pass held.setup held.entries posted most (candidates held.entries posted)))
             (append-nil (candidates held.entries posted))
             (line-more held.entries entry posted (pass held.setup held.entries posted most (candidates held.entries posted)) (candidates held.entries posted)
-            (line-of-candidates held.entries posted)));
-        pairs = is.pairs ∙ ap (map kept_as) (sym (more ∙ append-nil (pairs held.entries)));
+            (subst (λ es. AllByRecursion (λ p. pair_of es p.reference ≡ Some p) (matched es)) (sym reached_now) (sound held.setup history).known)
+            (line-of-candidates held.entries posted (matched-known held kept is))));
+        pairs = pairs_now;
       }
     where
       none : (b : ℤ) → b ≡ b +ℤ pos 0

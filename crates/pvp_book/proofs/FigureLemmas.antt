@@ -12,7 +12,7 @@ use Rattle.pvp_types.specs.declared.command.Cmd.{Cmd}
 use Rattle.pvp_types.specs.declared.command.Cmd.TheVariants.{Fund, PayOut}
 use Rattle.pvp_types.specs.declared.command.PayOrder.{PayOrder}
 use Rattle.pvp_types.specs.declared.command.Reply.{Reply}
-use Rattle.pvp_types.specs.declared.command.Reply.TheVariants.{Done, Matched, Settled, Order, No}
+use Rattle.pvp_types.specs.declared.command.Reply.TheVariants.{Done, Order}
 use Rattle.pvp_book.specs.declared.entry.Entry.{Entry}
 use Rattle.pvp_book.specs.declared.pair.Pair.{Pair}
 use Rattle.pvp_book.specs.Accounts.{paid_in_to, paid_out_of, pay_ins, pay_outs, returned, bought, sold, received, given, balance_with}
@@ -26,7 +26,7 @@ use Rattle.pvp_book.proofs.Reached.{entry_of, reached}
 use Rattle.pvp_book.proofs.Checks.{passed, is-so}
 use Rattle.pvp_book.proofs.Counts.{each-append}
 use Rattle.pvp_book.proofs.Members.{upto, upto-add, upto-none, upto-sum, pick, is-member}
-use Rattle.pvp_book.proofs.StandingLemmas.{IsSound, IsSound-push, sound, each-settled}
+use Rattle.pvp_book.proofs.SoundLemmas.{IsSound, IsSound-push, sound, each-settled}
 
 legs-append : (xs ys : List Leg) → sum_of_legs (xs ++ ys) ≡ sum_of_legs xs +ℤ sum_of_legs ys
 legs-append xs ys =
@@ -247,12 +247,6 @@ of-member setup entries client (PayOut ccy amt) accepted c =
     (upto-none (length setup.members), pick client amt (ccy == c) (length setup.members) known.0 known.1)
 of-member setup entries client _ accepted c = (upto-none (length setup.members), upto-none (length setup.members))
 
-of-members : (setup : Setup) (history : List Row) → AllByRecursion (IsOfMember setup) (book_of setup history)
-of-members setup history =
-    reached setup (AllByRecursion (IsOfMember setup)) tt
-    (λ entries client cmd held accepted. each-append (IsOfMember setup) entries (entry_of setup entries client cmd ∷ []) held
-    (of-member setup entries client cmd accepted, tt)) history
-
 -- what a command pays out is covered by what is left
 covers : (setup : Setup) (entries : List Entry) (client : ℕ) (cmd : Cmd) (c : ℕ) → is_refusal (answer setup entries client cmd) ≡ false
     → ((d : ℕ) → figure setup entries d ≡ (pos (funds entries d) -ℤ pos (all_paid_out entries d)) +ℤ pos (all_returned entries d))
@@ -286,10 +280,7 @@ made-by setup c client ccy amt (Order out) known = by (ccy == c)
         (cons_option (if b then Some (record { ccy = ccy; out = out; member = client; amt = amt }) else None) [])
     by true = (known, tt)
     by false = tt
-made-by setup c client ccy amt Done known = tt
-made-by setup c client ccy amt Matched known = tt
-made-by setup c client ccy amt (Settled count) known = tt
-made-by setup c client ccy amt (No reason) known = tt
+made-by setup c client ccy amt _ known = tt
 
 made-new : (setup : Setup) (entries : List Entry) (client : ℕ) (cmd : Cmd) (c : ℕ) → is_refusal (answer setup entries client cmd) ≡ false
     → AllByRecursion (IsMembers setup) (cons_option (order_by c client cmd (answer setup entries client cmd)) [])

@@ -8,14 +8,12 @@ use Rattle.std.proofs.lemmas.Bool.{and_parts, leb-true, ltb-true}
 use Rattle.std.proofs.lemmas.List.Sums.{sum_by-cons, sum_by_push, length-filter, count_by-le-length, fold-append}
 use Rattle.std.proofs.lemmas.List.{length-map}
 use Rattle.std.proofs.lemmas.List.FromFn.{map-range_with_len_more}
-use Rattle.std.proofs.lemmas.Option.{slice_get-map, slice_get_within}
-use Rattle.std.specs.Option.{option_map}
 use Rattle.pvp_types.proofs.Lists.{flat_map-range_with_len_more}
 use Rattle.pvp_types.specs.declared.setup.Setup.{Setup}
 use Rattle.pvp_types.specs.declared.command.Cmd.{Cmd}
 use Rattle.pvp_types.specs.declared.command.PayOrder.{PayOrder}
 use Rattle.pvp_types.specs.declared.command.Reply.{Reply}
-use Rattle.pvp_types.specs.declared.command.Reply.TheVariants.{Done, Matched, Settled, Order, No}
+use Rattle.pvp_types.specs.declared.command.Reply.TheVariants.{Done, Matched, Order, No}
 use Rattle.pvp_types.specs.declared.command.Reason.TheVariants.{NotYours, UnknownMember, UnknownCurrency, BadAmount}
 use Rattle.pvp_types.specs.declared.command.Cmd.TheVariants.{Instruct, Fund, PayOut, Paid, Returned}
 use Rattle.pvp_book.specs.declared.entry.Entry.{Entry}
@@ -52,10 +50,6 @@ brought-le m c client (Instruct reference other sell sell_amt buy buy_amt) Match
     let first = at_most ((other == m) && (sell == c)) sell_amt in
     let second = at_most ((client == m) && (buy == c)) buy_amt in
     omega arith
-brought-le m c client (Instruct reference other sell sell_amt buy buy_amt) Done = omega arith
-brought-le m c client (Instruct reference other sell sell_amt buy buy_amt) (Settled n) = omega arith
-brought-le m c client (Instruct reference other sell sell_amt buy buy_amt) (Order n) = omega arith
-brought-le m c client (Instruct reference other sell sell_amt buy buy_amt) (No reason) = omega arith
 brought-le m c client (Fund ccy pay member amt) reply = let here = at_most ((member == m) && (ccy == c)) amt in omega arith
 brought-le m c client (PayOut ccy amt) (Order out) = by (ccy == c)
   where
@@ -63,11 +57,7 @@ brought-le m c client (PayOut ccy amt) (Order out) = by (ccy == c)
         → (0 + sum_by (ordered_by m) (cons_option (if b then Some (record { ccy = ccy; out = out; member = client; amt = amt }) else None) [])) + 0 ≤ amt
     by true = let here = at_most (client == m) amt in omega arith
     by false = omega arith
-brought-le m c client (PayOut ccy amt) Done = omega arith
-brought-le m c client (PayOut ccy amt) Matched = omega arith
-brought-le m c client (PayOut ccy amt) (Settled n) = omega arith
-brought-le m c client (PayOut ccy amt) (No reason) = omega arith
-brought-le m c client _ reply = omega arith
+brought-le m c client _ _ = omega arith
 
 taken-le : (m c client : ℕ) (cmd : Cmd) (reply : Reply)
     → paid_out_of m c client cmd + sum_by (sold m c) (cons_option (matched_by client cmd reply) []) ≤ amount_of cmd
@@ -75,12 +65,8 @@ taken-le m c client (Instruct reference other sell sell_amt buy buy_amt) Matched
     let first = at_most ((other == m) && (buy == c)) buy_amt in
     let second = at_most ((client == m) && (sell == c)) sell_amt in
     omega arith
-taken-le m c client (Instruct reference other sell sell_amt buy buy_amt) Done = omega arith
-taken-le m c client (Instruct reference other sell sell_amt buy buy_amt) (Settled n) = omega arith
-taken-le m c client (Instruct reference other sell sell_amt buy buy_amt) (Order n) = omega arith
-taken-le m c client (Instruct reference other sell sell_amt buy buy_amt) (No reason) = omega arith
 taken-le m c client (PayOut ccy amt) reply = let here = at_most ((client == m) && (ccy == c)) amt in omega arith
-taken-le m c client _ reply = omega arith
+taken-le m c client _ _ = omega arith
 
 -- all pay-ins, all orders and all matched pairs together bring a member no more than the entries name
 all-brought-le : (entries : List Entry) (m c : ℕ)
@@ -150,11 +136,7 @@ amount-by c client (PayOut ccy amt) (Order out) o is = by (ccy == c) is
     by : (b : Bool) → (if b then Some (record { ccy = ccy; out = out; member = client; amt = amt }) else None) ≡ Some o → o.amt ≤ amt
     by true is = let same : amt ≡ o.amt = cc in omega arith
     by false is = absurd (cc is)
-amount-by c client (PayOut ccy amt) Done o is = absurd (cc is)
-amount-by c client (PayOut ccy amt) Matched o is = absurd (cc is)
-amount-by c client (PayOut ccy amt) (Settled n) o is = absurd (cc is)
-amount-by c client (PayOut ccy amt) (No reason) o is = absurd (cc is)
-amount-by c client _ reply o is = absurd (cc is)
+amount-by c client _ _ o is = absurd (cc is)
 
 order-small : (entries : List Entry) (c n : ℕ) (o : PayOrder) → order_of entries c n ≡ Some o → o.amt ≤ total entries
 order-small [] c n o found = absurd (cc found)
@@ -230,10 +212,7 @@ instruct-small setup entries client reference other sell sell_amt buy buy_amt e 
         then No BadAmount else rest) ≡ false
         → small ≡ true
     cases true true true true rest e = refl
-    cases true true true false rest e = absurd (cc)
-    cases true true false small rest e = absurd (cc)
-    cases true false currency small rest e = absurd (cc)
-    cases false member currency small rest e = absurd (cc)
+    cases _ _ _ _ rest e = absurd (cc)
 
 -- a command that is not refused names no greater amounts
 pub accepted-small : (setup : Setup) (entries : List Entry) (client : ℕ) (cmd : Cmd)
@@ -258,10 +237,6 @@ counted-known setup entries client (PayOut ccy amt) (Order out) valid accepted =
     (is-so _ (passed (pay_out_checks setup entries client ccy amt) (Order (length (orders entries ccy) + 1)) accepted).1.1.0) in
     let few = (valid-currencies setup valid).1 in
     omega arith
-counted-known setup entries client (PayOut ccy amt) Done valid accepted = tt
-counted-known setup entries client (PayOut ccy amt) Matched valid accepted = tt
-counted-known setup entries client (PayOut ccy amt) (Settled n) valid accepted = tt
-counted-known setup entries client (PayOut ccy amt) (No reason) valid accepted = tt
 counted-known setup entries client (Paid ccy out) reply valid accepted =
     let known = ltb-true ccy (length setup.currencies) (is-so _ (passed (end_checks setup entries client ccy out) Done accepted).1.0) in
     let few = (valid-currencies setup valid).1 in
@@ -270,15 +245,7 @@ counted-known setup entries client (Returned ccy out) reply valid accepted =
     let known = ltb-true ccy (length setup.currencies) (is-so _ (passed (end_checks setup entries client ccy out) Done accepted).1.0) in
     let few = (valid-currencies setup valid).1 in
     omega arith
-counted-known setup entries client _ reply valid accepted = tt
-
--- a refusal keeps a ledger
-pub IsLedger-refused : (held : Ledger) → IsLedger held → held.applied < 65535
-    → IsLedger (record { setup = held.setup; entries = held.entries; applied = held.applied + 1 })
-IsLedger-refused held is room =
-    let small : total held.entries ≤ held.applied * 2000000000000 = is.small in
-    let fewer : length held.entries ≤ held.applied = is.fewer in
-    record { valid = is.valid; few = omega arith; small = omega arith; fewer = omega arith; within = is.within }
+counted-known setup entries client _ _ valid accepted = tt
 
 -- and so does an entry
 pub IsLedger-accepted : (held : Ledger) (client : ℕ) (cmd : Cmd) (reply : Reply) → IsLedger held → held.applied < 65535
@@ -332,15 +299,6 @@ module _ (orders : ℕ → List PayOrder) where
   -- those of one, each with the client number of its node
   abbrev with_node : ℕ → List (ℕ × PayOrder)
   with_node c = map (λ (o : PayOrder). (node_of c, o)) (orders c)
-
-  -- an order of the first of the currencies
-  pub outstanding-here : (c n at : ℕ) (order : PayOrder) → 0 < n → slice_get (orders c) at ≡ Some order
-      → slice_get (outstanding_at orders c n) at ≡ Some (node_of c, order)
-  outstanding-here c zero at order some found = absurd (omega arith)
-  outstanding-here c (suc n) at order some found =
-      let mapped = slice_get-map (λ (o : PayOrder). (node_of c, o)) (orders c) at ∙ ap (option_map (λ (o : PayOrder). (node_of c, o))) found in
-      let within = slice_get_within (with_node c) at (node_of c, order) mapped in
-      slice_get-left (with_node c) (outstanding_at orders (c + 1) n) at within ∙ mapped
 
   -- an order of a later one
   pub outstanding-later : (c n at : ℕ) → 0 < n → length (orders c) ≤ at

@@ -25,6 +25,7 @@ use Rattle.pvp_book.specs.OrderTable.{AreAscending}
 use Rattle.pvp_book.specs.Answer.{answer, is_refusal, has_order, has_member, has_currency, fund_checks, pay_out_checks, end_checks, on_pay_out}
 use Rattle.pvp_book.specs.Laws.{AreOrdered, funded, paid_out, funds, all_paid_out, all_returned}
 use Rattle.pvp_book.specs.Kept.{movement_by, moved_to, moved_in}
+use Rattle.pvp_book.proofs.Counts.{or-false}
 use Rattle.pvp_book.proofs.SettlementLemmas.{append-nil}
 use Rattle.pvp_book.proofs.Checks.{passed, is-so}
 use Rattle.pvp_book.proofs.OrderLemmas.{pay_out-order, end-known}
@@ -107,12 +108,7 @@ return-end (e ∷ es) c n is = by (is_return c n e.cmd) (is_end c n e.cmd) (one 
   where
     one : (cmd : Cmd) → is_return c n cmd ≡ true → is_end c n cmd ≡ true
     one (Returned ccy out) h = h
-    one (Paid ccy out) h = absurd (cc h)
-    one (Instruct reference other sell sell_amt buy buy_amt) h = absurd (cc h)
-    one (Rescind reference) h = absurd (cc h)
-    one (Fund ccy pay member amt) h = absurd (cc h)
-    one (Settle most) h = absurd (cc h)
-    one (PayOut ccy amt) h = absurd (cc h)
+    one _ h = absurd (cc h)
 
     by : (a b : Bool) → (a ≡ true → b ≡ true) → (a || has_return es c n) ≡ true → (has_return es c n ≡ true → has_end es c n ≡ true)
         → (b || has_end es c n) ≡ true
@@ -121,12 +117,8 @@ return-end (e ∷ es) c n is = by (is_return c n e.cmd) (is_end c n e.cmd) (one 
     by false true h is more = refl
     by false false h is more = more is
 
--- the next order is new
-pub next-new : (entries : List Entry) (c : ℕ) → AreOrdered entries c → order_of entries c (length (orders entries c) + 1) ≡ None
-next-new entries c are = none-above 1 (length (orders entries c) + 1) (orders entries c) are.numbered (omega arith)
-
--- so it is not returned
-pub next-open : (entries : List Entry) (c : ℕ) → AreOrdered entries c → has_end entries c (length (orders entries c) + 1) ≡ false
+-- the next order is new, so it is not returned
+next-open : (entries : List Entry) (c : ℕ) → AreOrdered entries c → has_end entries c (length (orders entries c) + 1) ≡ false
 next-open entries c are = by (has_end entries c (length (orders entries c) + 1)) refl
   where
     none : has_order entries c (length (orders entries c) + 1) ≡ false
@@ -144,10 +136,6 @@ next-kept entries c are = by (has_return entries c (length (orders entries c) + 
     by : (b : Bool) → has_return entries c (length (orders entries c) + 1) ≡ b → b ≡ false
     by false e = refl
     by true e = absurd (cc (return-end entries c (length (orders entries c) + 1) e, next-open entries c are))
-
-pub or-false : (b : Bool) → (b || false) ≡ b
-or-false true = refl
-or-false false = refl
 
 pub has_return-more : (entries : List Entry) (e : Entry) (c n : ℕ) → has_return (entries ++ e ∷ []) c n ≡ (has_return entries c n || is_return c n e.cmd)
 has_return-more entries e c n =
@@ -437,14 +425,11 @@ balance-moved setup entries done client cmd accepted ordered m c =
     by : (cmd : Cmd) (i r o b s : ℕ)
         → pos (((i + paid_in_to m c cmd) + (r + back_to entries m c cmd)) + b) -ℤ pos ((o + paid_out_of m c client cmd) + s)
         ≡ (pos ((i + r) + b) -ℤ pos (o + s)) +ℤ moved_to m c (movement_by entries client cmd)
-    by (Instruct reference other sell sell_amt buy buy_amt) i r o b s = nothing i r o b s
-    by (Rescind reference) i r o b s = nothing i r o b s
     by (Fund ccy pay member amt) i r o b s = came i r o b s amt ((member == m) && (ccy == c))
-    by (Settle most) i r o b s = nothing i r o b s
     by (PayOut ccy amt) i r o b s = went i r o b s amt ((client == m) && (ccy == c))
-    by (Paid ccy out) i r o b s = nothing i r o b s
     by (Returned ccy out) i r o b s =
         back i r o b s ccy out (order_of entries c out) (order_of entries ccy out) (λ is. ap (λ d. order_of entries d out) (sym is))
+    by _ i r o b s = nothing i r o b s
 
 -- what a command moves is on a member's account, in a currency of the setup
 pub record IsKnown (setup : Setup) (x : Movement) : Type 0 where
@@ -488,10 +473,7 @@ known-movement setup entries client (Returned ccy out) x accepted members is = b
           member = among (orders entries ccy) o found (members ccy);
           currency = is-so _ (passed (end_checks setup entries client ccy out) Done accepted).1.0;
         })
-known-movement setup entries client (Instruct reference other sell sell_amt buy buy_amt) x accepted members is = absurd (cc is)
-known-movement setup entries client (Rescind reference) x accepted members is = absurd (cc is)
-known-movement setup entries client (Settle most) x accepted members is = absurd (cc is)
-known-movement setup entries client (Paid ccy out) x accepted members is = absurd (cc is)
+known-movement setup entries client _ x accepted members is = absurd (cc is)
 
 -- and it changes the sum of the balances of the first members where its member is among them
 module _ (longer entries : List Entry) (later done : List Pair) (moved : Option Movement) (c : ℕ)

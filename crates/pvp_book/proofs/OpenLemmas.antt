@@ -1,6 +1,6 @@
 -- The open orders of a currency: what a search by number finds among them, and what an entry makes of them.
-use Rattle.std.proofs.Common.{◌≡◌, ℕ, suc, zero, ◌+◌, ◌<◌, ◌≤◌, Bool, true, false, cond, List, [], ◌∷◌, ◌++◌, length, filter, take, drop, get_or, slice_get, slice_index_or, slice_set, arith, refl, ap, sym, ◌∙◌, ◌^◌, Some, Ok, Err, ◌⊎◌, inl, inr}
-use Rattle.std.specs.Prelude.{not, ◌==◌, ◌&&◌, if◌then◌else◌}
+use Rattle.std.proofs.Common.{◌≡◌, ℕ, suc, zero, ◌+◌, ◌<◌, ◌≤◌, Bool, true, false, cond, List, [], ◌∷◌, ◌++◌, length, filter, take, drop, get_or, slice_get, slice_index_or, slice_set, arith, refl, ap, sym, subst, ◌∙◌, ◌^◌, Some, Ok, Err, ◌⊎◌, inl, inr}
+use Rattle.std.specs.Prelude.{not, ◌==◌, ◌&&◌}
 use Rattle.std.specs.Option.{option_map_or}
 use Rattle.std.specs.List.Sorted.{IsBinarySearchResult, IsNonDecreasingBy}
 use Rattle.std.specs.Ordering.{nat_cmp, ordering_index}
@@ -77,67 +77,41 @@ module _ {Q Y : Type 0} (f : Q → Y) (none : Y) where
   at-set-same (x ∷ qs) (suc k) q within = at-set-same qs k q (omega arith)
 
   at-set-other : (qs : List Q) (k c : ℕ) (q : Q) → (k ≡ c → ⊥) → option_map_or f (slice_get (slice_set qs k q) c) none ≡ option_map_or f (slice_get qs c) none
-  at-set-other [] k c q differs = refl
   at-set-other (x ∷ qs) zero zero q differs = absurd (differs refl)
-  at-set-other (x ∷ qs) zero (suc c) q differs = refl
-  at-set-other (x ∷ qs) (suc k) zero q differs = refl
   at-set-other (x ∷ qs) (suc k) (suc c) q differs = at-set-other qs k c q (λ e. differs (ap suc e))
+  at-set-other _ _ _ q differs = refl
 
-pub queue-here : {Q : Type 0} (items : Q → List PayOrder) (qs : List Q) (k : ℕ) (d : Q) → k < length qs → (c : ℕ) → k ≡ c
+pub queue-here : {Q X : Type 0} (items : Q → List X) (qs : List Q) (k : ℕ) (d : Q) → k < length qs → (c : ℕ) → k ≡ c
     → items (slice_index_or qs k d) ≡ option_map_or items (slice_get qs c) []
 queue-here items qs k d within c same = sym (at-place items [] qs k d within) ∙ ap (λ i. option_map_or items (slice_get qs i) []) same
 
--- the queues of open orders by currency, once that of one is another
-module _ {Q : Type 0} (items : Q → List PayOrder) (qs : List Q) (k : ℕ) (q d : Q) (within : k < length qs) where
-  abbrev before : ℕ → List PayOrder
-  before c = option_map_or items (slice_get qs c) []
+-- lists by currency, once that of one is another: what is so of its list before and after is so of each
+pub queues-put : {Q X : Type 0} (items : Q → List X) (R : Bool → List X → List X → Type 0) → ((xs : List X) → R false xs xs)
+    → (qs : List Q) (k : ℕ) (q d : Q) → k < length qs → (ccy : ℕ) → k ≡ ccy → R true (items (slice_index_or qs k d)) (items q)
+    → (c : ℕ) → R (ccy == c) (option_map_or items (slice_get qs c) []) (option_map_or items (slice_get (slice_set qs k q) c) [])
+queues-put {Q} {X} items R still qs k q d within ccy named here c = subst (λ n. R (n == c) (before c) (now c)) named (by (cases_eq k c))
+  where
+    before : ℕ → List X
+    before c = option_map_or items (slice_get qs c) []
 
-  abbrev now : ℕ → List PayOrder
-  now c = option_map_or items (slice_get (slice_set qs k q) c) []
+    now : ℕ → List X
+    now c = option_map_or items (slice_get (slice_set qs k q) c) []
 
-  now-here : (c : ℕ) → k ≡ c → now c ≡ items q
-  now-here c same = ap now (sym same) ∙ at-set-same items [] qs k q within
+    by : (k ≡ c) ⊎ (k ≡ c → ⊥) → R (k == c) (before c) (now c)
+    by (inl same) =
+        subst (λ b. R b (before c) (now c)) (sym (eq-eqb k c same))
+        (subst (λ xs. R true xs (now c)) (queue-here items qs k d within c same)
+        (subst (R true (items (slice_index_or qs k d))) (sym (ap now (sym same) ∙ at-set-same items [] qs k q within)) here))
+    by (inr other) =
+        subst (λ b. R b (before c) (now c)) (sym (ne_eqb k c other))
+        (subst (R false (before c)) (sym (at-set-other items [] qs k c q other)) (still (before c)))
 
-  before-here : (c : ℕ) → k ≡ c → items (slice_index_or qs k d) ≡ before c
-  before-here c same = queue-here items qs k d within c same
+-- the open orders of a currency but the one of a number
+abbrev pub AreLess : ℕ → Bool → List PayOrder → List PayOrder → Type 0
+AreLess out ends old new = new ≡ filter (λ (o : PayOrder). not (ends && (out == o.out))) old
 
-  -- it has the same orders
-  pub queues-same : items q ≡ items (slice_index_or qs k d) → (c : ℕ) → now c ≡ before c
-  queues-same is c = by (cases_eq k c)
-    where
-      by : (k ≡ c) ⊎ (k ≡ c → ⊥) → now c ≡ before c
-      by (inl same) = now-here c same ∙ is ∙ before-here c same
-      by (inr other) = at-set-other items [] qs k c q other
-
-  -- it has one more
-  pub queues-more : (order : PayOrder) → k ≡ order.ccy → items q ≡ items (slice_index_or qs k d) ++ order ∷ []
-      → (c : ℕ) → now c ≡ before c ++ (if order.ccy == c then order ∷ [] else [])
-  queues-more order named is c = by (cases_eq k c) ∙ ap (λ n. before c ++ (if n == c then order ∷ [] else [])) named
-    where
-      nil : (os : List PayOrder) → os ≡ os ++ []
-      nil [] = refl
-      nil (o ∷ os) = ap (λ rest. o ∷ rest) (nil os)
-
-      by : (k ≡ c) ⊎ (k ≡ c → ⊥) → now c ≡ before c ++ (if k == c then order ∷ [] else [])
-      by (inl same) =
-          now-here c same ∙ is ∙ ap (λ os. os ++ order ∷ []) (before-here c same)
-          ∙ ap (λ b. before c ++ (if b then order ∷ [] else [])) (sym (eq-eqb k c same))
-      by (inr other) =
-          at-set-other items [] qs k c q other ∙ nil (before c)
-          ∙ ap (λ b. before c ++ (if b then order ∷ [] else [])) (sym (ne_eqb k c other))
-
-  -- it has all but the one of a number
-  pub queues-less : (ccy out : ℕ) → k ≡ ccy → items q ≡ filter (λ (o : PayOrder). not (out == o.out)) (items (slice_index_or qs k d))
-      → (c : ℕ) → now c ≡ filter (λ (o : PayOrder). not ((ccy == c) && (out == o.out))) (before c)
-  queues-less ccy out named is c = by (cases_eq k c) ∙ ap (λ n. filter (λ (o : PayOrder). not ((n == c) && (out == o.out))) (before c)) named
-    where
-      by : (k ≡ c) ⊎ (k ≡ c → ⊥) → now c ≡ filter (λ (o : PayOrder). not ((k == c) && (out == o.out))) (before c)
-      by (inl same) =
-          now-here c same ∙ is ∙ ap (filter (λ (o : PayOrder). not (out == o.out))) (before-here c same)
-          ∙ ap (λ b. filter (λ (o : PayOrder). not (b && (out == o.out))) (before c)) (sym (eq-eqb k c same))
-      by (inr other) =
-          at-set-other items [] qs k c q other ∙ filter-all (λ o. true) (before c) (λ j o inside. refl)
-          ∙ ap (λ b. filter (λ (o : PayOrder). not (b && (out == o.out))) (before c)) (sym (ne_eqb k c other))
+pub none-less : (out : ℕ) (os : List PayOrder) → AreLess out false os os
+none-less out os = filter-all (λ o. true) os (λ j o inside. refl)
 
 -- what is left of a list from a place on
 pub drop-next : {X : Type 0} (xs : List X) (i : ℕ) (x : X) → slice_get xs i ≡ Some x → drop i xs ≡ x ∷ drop (i + 1) xs

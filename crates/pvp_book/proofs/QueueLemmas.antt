@@ -14,7 +14,7 @@ use Rattle.pvp_book.specs.Ledger.{Ledger, queue, state_of, is_state, pairs_in}
 use Rattle.pvp_book.specs.Kept.{Kept, IsKept}
 use Rattle.pvp_book.specs.Tally.{is_at, counted}
 use Rattle.pvp_book.proofs.SettlementLemmas.{same-self}
-use Rattle.pvp_book.proofs.StandingLemmas.{IsSound, sound}
+use Rattle.pvp_book.proofs.SoundLemmas.{IsSound, sound}
 use Rattle.pvp_book.proofs.PassLemmas.{AreDistinct, distinct-once}
 use Rattle.pvp_book.proofs.TallyLemmas.{length-kept, one-moved}
 use Rattle.pvp_book.proofs.BookLemmas.{pairs-distinct}

@@ -36,13 +36,6 @@ pub settled-push : (setup : Setup) (entries : List Entry) (e : Entry)
 unfolding settled
 settled-push setup entries e = settled_after-push setup [] [] entries e
 
--- which is none but for Settle
-pub taken_by-other : (setup : Setup) (entries : List Entry) (done : List Pair) (cmd : Cmd) → ((most : ℕ) → cmd ≡ Settle most → ⊥)
-    → taken_by setup entries done cmd ≡ []
-unfolding taken_by
-taken_by-other setup entries done (Settle most) other = absurd (other most refl)
-taken_by-other setup entries done _ h = refl
-
 sum-filter-cons : (f : Pair → ℕ) (q : Pair → Bool) (p : Pair) (ps : List Pair)
     → sum_by f (filter q (p ∷ ps)) ≡ (if q p then f p else 0) + sum_by f (filter q ps)
 sum-filter-cons f q p ps = by (q p)

@@ -1,5 +1,5 @@
 -- The walk, on the kept accounts.
-use Rattle.std.proofs.Common.{◌≡◌, ℕ, suc, zero, ◌+◌, ◌-◌, ◌≤◌, ◌<◌, Bool, true, false, cond, List, [], ◌∷◌, ◌++◌, length, arith, refl, ap, sym, subst, ◌∙◌, drop, get_or}
+use Rattle.std.proofs.Common.{◌≡◌, ℕ, suc, zero, ◌+◌, ◌-◌, ◌≤◌, ◌<◌, Bool, true, false, List, [], ◌∷◌, ◌++◌, length, arith, refl, ap, sym, subst, ◌∙◌, drop, get_or}
 use Rattle.std.specs.Prelude.{not, ◌&&◌, ◌==◌, if◌then◌else◌, nat_lt}
 use Rattle.std.specs.List.{cons_option, AllByRecursion}
 use Rattle.std.proofs.lemmas.Bool.{and_parts, and_left, and_right, le-ltb, ltb-true}
@@ -8,36 +8,38 @@ use Rattle.pvp_types.specs.declared.setup.Setup.{Setup}
 use Rattle.pvp_types.specs.declared.command.Cmd.{Cmd}
 use Rattle.pvp_types.specs.declared.command.Cmd.TheVariants.{Instruct}
 use Rattle.pvp_types.specs.declared.command.Reply.{Reply}
-use Rattle.pvp_types.specs.declared.command.Reply.TheVariants.{Done, Matched, Settled, Order, No}
+use Rattle.pvp_types.specs.declared.command.Reply.TheVariants.{Matched, No}
 use Rattle.pvp_types.specs.declared.command.Reason.TheVariants.{NotYours, UnknownMember, UnknownCurrency}
 use Rattle.pvp_types.specs.Setup.{IsValid}
 use Rattle.pvp_book.specs.declared.account.Account.{Account}
 use Rattle.pvp_book.specs.declared.entry.Entry.{Entry}
 use Rattle.pvp_book.specs.declared.pair.Pair.{Pair}
 use Rattle.pvp_book.specs.Accounts.{balance_with}
-use Rattle.pvp_book.specs.Pairs.{opened_by, pairs, matched_by, matched, has_reference, both_have_asked}
+use Rattle.pvp_book.specs.Pairs.{opened_by, pairs, pair_of, matched_by, matched, has_reference, both_have_asked}
 use Rattle.pvp_book.specs.Settlement.{both_pass, candidates}
 use Rattle.pvp_book.specs.Bounds.{total, most_total, IsSmall}
-use Rattle.pvp_book.specs.Kept.{AreSettled, AreAccounts, CanSettle, both_pass_with, accounts_with}
+use Rattle.pvp_book.specs.Kept.{AreAccounts, CanSettle, both_pass_with, accounts_with}
 use Rattle.pvp_book.specs.Answer.{Row, answer, on_instruct, is_member_number, has_member, has_currency, book_of}
 use Rattle.pvp_book.specs.Laws.{IsExchange}
 use Rattle.pvp_book.proofs.Counts.{each-append, each-both, each-filter}
 use Rattle.pvp_book.proofs.Reached.{entry_of, reached}
-use Rattle.pvp_book.proofs.StandingLemmas.{sound}
+use Rattle.pvp_book.proofs.SoundLemmas.{sound}
 use Rattle.pvp_book.proofs.Members.{is-member}
 use Rattle.pvp_book.proofs.LedgerLemmas.{IsSmall-within, length-filter_map-le}
 use Rattle.pvp_book.proofs.WalkLemmas.{IsWalked, IsWalked-taken, IsWalked-passed, IsSmall-more, offered-here}
 use Rattle.pvp_book.proofs.KeptLemmas.{small-account, small-pair, both-pass-kept, AreAccounts-settled}
-use Rattle.pvp_book.specs.Seen.{has_settled}
-use Rattle.std.proofs.Common.{Option, Some}
+use Rattle.std.proofs.Common.{Some}
+use Rattle.std.specs.Option.{option_map}
 use Rattle.std.proofs.lemmas.List.Sums.{length-filter, count_by-le-length}
-use Rattle.pvp_book.specs.declared.seen.Seen.{Seen}
+use Rattle.pvp_book.specs.declared.kept_pair.KeptPair.{KeptPair}
+use Rattle.pvp_book.specs.KeptPair.{pair_with, by_reference, state_kept, once_settled, pair_in, pair_put}
 use Rattle.pvp_book.specs.declared.tally.Tally.{Tally}
 use Rattle.pvp_book.specs.declared.pair.PairState.{PairState}
 use Rattle.pvp_book.specs.Ledger.{state_with, is_state}
-use Rattle.pvp_book.specs.Tally.{tallied, is_at, counted, state_named}
-use Rattle.pvp_book.proofs.TallyLemmas.{named-same, found-at, tally-is, IsLookedUp, settled-moved}
-use Rattle.pvp_book.proofs.CandidateLemmas.{settled-more}
+use Rattle.pvp_book.specs.Tally.{tallied, is_at}
+use Rattle.pvp_book.proofs.PassLemmas.{AreDistinct}
+use Rattle.pvp_book.proofs.TallyLemmas.{counted_in, counted-kept, found-counted, tally-put}
+use Rattle.pvp_book.proofs.RecordLemmas.{found-kept, kept-settled, put-settled}
 
 -- a pair of two members in two currencies of the setup
 pub record IsTradable (setup : Setup) (p : Pair) : Type 0 where
@@ -59,9 +61,7 @@ instruct-currencies setup entries client reference other sell sell_amt buy buy_a
         → (if not yours then No NotYours else if not member then No UnknownMember else if not currency then No UnknownCurrency else rest) ≡ Matched
         → currency ≡ true
     cases true true true rest e = refl
-    cases true true false rest e = absurd (cc e)
-    cases true false currency rest e = absurd (cc e)
-    cases false member currency rest e = absurd (cc e)
+    cases _ _ _ rest e = absurd (cc e)
 
 new-currencies : (setup : Setup) (entries : List Entry) (client : ℕ) (cmd : Cmd)
     → AllByRecursion (HasCurrencies setup) (cons_option (matched_by client cmd (answer setup entries client cmd)) [])
@@ -75,10 +75,7 @@ new-currencies setup entries client (Instruct reference other sell sell_amt buy 
     by Matched e =
         let both = and_parts _ _ (instruct-currencies setup entries client reference other sell sell_amt buy buy_amt e) in
         ((ltb-true _ _ (and_parts _ _ both.1).0, ltb-true _ _ both.0), tt)
-    by Done e = tt
-    by (Settled n) e = tt
-    by (Order n) e = tt
-    by (No reason) e = tt
+    by _ e = tt
 new-currencies setup entries client _ = tt
 
 known-currencies : (setup : Setup) (history : List Row) → AllByRecursion (HasCurrencies setup) (matched (book_of setup history))
@@ -102,11 +99,18 @@ offered-tradable setup entries done history same =
     (matched (book_of setup history))
     (λ p exchange known. record { exchange = exchange; sell = known.0; buy = known.1 }) (sound setup history).exchange (known-currencies setup history)))
 
+each-at : (P : Pair → Type 0) (ps : List Pair) (k : ℕ) (nothing : Pair) → k < length ps → AllByRecursion P ps → P (get_or ps k nothing)
+each-at P [] k nothing known all = absurd (omega arith)
+each-at P (p ∷ ps) zero nothing known all = all.0
+each-at P (p ∷ ps) (suc k) nothing known all = each-at P ps k nothing (omega arith) all.1
+
 -- what a walk is offered
 pub record IsOffered (setup : Setup) (entries : List Entry) (offered : List Pair) : Type 0 where
   pub valid : IsValid setup
   pub small : total entries ≤ most_total
   pub tradable : AllByRecursion (IsTradable setup) offered
+  pub known : AllByRecursion (λ p. pair_of entries p.reference ≡ Some p) offered
+  pub distinct : AreDistinct (pairs entries)
 
 -- The first i of the offered pairs were walked over, and the accounts are those with what it settled.
 pub record IsWalking (setup : Setup) (entries : List Entry) (start offered : List Pair) (most i count : ℕ) (now : List Pair) (members : List Account)
@@ -115,23 +119,18 @@ pub record IsWalking (setup : Setup) (entries : List Entry) (start offered : Lis
   pub accounts : AreAccounts setup.currencies (length setup.members) (balance_with entries now) members
   pub counted : count ≤ i
 
--- The same, with what is settled now known by its references.
-pub record IsUnderWay (setup : Setup) (entries : List Entry) (start offered : List Pair) (most i count : ℕ) (references : List ℕ) (members : List Account)
-    (tally : Tally) : Type 0 where
+-- The same, with what is settled now known by what is kept of each pair.
+pub record IsUnderWay (setup : Setup) (entries : List Entry) (start offered : List Pair) (most i count : ℕ) (kept : List (ℕ × KeptPair))
+    (members : List Account) (tally : Tally) : Type 0 where
   pub now : List Pair
   pub walking : IsWalking setup entries start offered most i count now members
-  pub done : AreSettled now references
-  pub tallied : (s : PairState) → tallied tally s ≡ counted (state_with entries now) s (pairs entries)
+  pub pairs_kept : kept ≡ by_reference (pair_with entries now) (pairs entries)
+  pub tallied : (s : PairState) → tallied tally s ≡ counted_in s kept
 
 module _ (setup : Setup) (entries : List Entry) (start offered : List Pair) (most i count : ℕ) (now : List Pair) (members : List Account) (nothing : Pair)
     (are : IsOffered setup entries offered) (within : i < length offered) (is : IsWalking setup entries start offered most i count now members) where
   tradable : IsTradable setup (get_or offered i nothing)
-  tradable = at offered i within are.tradable
-    where
-      at : (ps : List Pair) (k : ℕ) → k < length ps → AllByRecursion (IsTradable setup) ps → IsTradable setup (get_or ps k nothing)
-      at [] k known all = absurd (omega arith)
-      at (p ∷ ps) zero known all = all.0
-      at (p ∷ ps) (suc k) known all = at ps k (omega arith) all.1
+  tradable = each-at (IsTradable setup) offered i nothing within are.tradable
 
   small-with : IsSmall entries (now ++ get_or offered i nothing ∷ [])
   small-with = IsSmall-more setup entries start offered most i count now nothing within are.small is.walked
@@ -196,59 +195,75 @@ module _ (setup : Setup) (entries : List Entry) (start offered : List Pair) (mos
         counted = omega arith;
       }
 
--- the same steps, with the references
-module _ (setup : Setup) (entries : List Entry) (start offered : List Pair) (most i count : ℕ) (references : List ℕ) (members : List Account)
-    (tally : Tally) (nothing : Pair)
+-- the same steps, with what is kept of each pair
+module _ {setup : Setup} {entries : List Entry} {start offered : List Pair} {most i count : ℕ} {kept : List (ℕ × KeptPair)} {members : List Account}
+    {tally : Tally} (nothing : Pair)
     (are : IsOffered setup entries offered) (within : i < length offered)
-    (is : IsUnderWay setup entries start offered most i count references members tally) where
+    (is : IsUnderWay setup entries start offered most i count kept members tally) where
   pub can-settle-here : CanSettle setup members (get_or offered i nothing)
   can-settle-here = can-settle setup entries start offered most i count is.now members nothing are within is.walking
 
-  -- the pair is in the tally, and no count is great
-  pub tally-there-here : (seen : Seen) (kept : List (ℕ × Pair)) → IsLookedUp entries seen kept → (named : Option ℕ) (s : PairState)
-      → is_at (state_named seen references kept named) s ≤ tallied tally s
-  tally-there-here seen kept up named s = found-at entries seen up.has is.now references is.done kept up.same tally is.tallied named s
+  known-here : pair_of entries (get_or offered i nothing).reference ≡ Some (get_or offered i nothing)
+  known-here = each-at (λ p. pair_of entries p.reference ≡ Some p) offered i nothing within are.known
+
+  -- what is kept of the pair
+  pub found-here : pair_in kept (Some (get_or offered i nothing).reference) ≡ Some (pair_with entries is.now (get_or offered i nothing))
+  found-here =
+      let pair = get_or offered i nothing in
+      ap (λ k. pair_in k (Some pair.reference)) is.pairs_kept ∙ found-kept entries is.now (Some pair.reference)
+      ∙ ap (option_map (pair_with entries is.now)) known-here
+
+  -- it is in the tally, and no count is great
+  pub tally-there-here : (s : PairState)
+      → is_at (option_map state_kept (pair_in kept (Some (get_or offered i nothing).reference))) s ≤ tallied tally s
+  tally-there-here s =
+      let some = found-counted s kept (Some (get_or offered i nothing).reference) in
+      let all = is.tallied s in
+      omega arith
 
   pub tally-few-here : length entries ≤ 65535 → (s : PairState) → tallied tally s ≤ 65535
   tally-few-here few s =
       let part = length-filter_map-le (λ (e : Entry). opened_by e.client e.cmd e.reply) entries in
       let same = length-filter (λ p. is_state (state_with entries is.now p) s) (pairs entries) in
       let some = count_by-le-length (λ p. is_state (state_with entries is.now p) s) (pairs entries) in
-      let all = is.tallied s in
+      let all = is.tallied s ∙ ap (counted_in s) is.pairs_kept ∙ counted-kept entries is.now s (pairs entries) in
       omega arith
 
-  pub under-way-taken : (later : List ℕ) (next : Tally) (seen : Seen) (kept : List (ℕ × Pair)) → IsLookedUp entries seen kept
-      → ((s : PairState) → tallied next s + is_at (state_named seen references kept (Some (get_or offered i nothing).reference)) s
-      ≡ tallied tally s + is_at (state_named seen later kept (Some (get_or offered i nothing).reference)) s)
+  pub under-way-taken : (next : Tally)
+      → ((s : PairState) → tallied next s + is_at (option_map state_kept (pair_in kept (Some (get_or offered i nothing).reference))) s
+      ≡ tallied tally s + is_at (option_map state_kept (option_map once_settled (pair_in kept (Some (get_or offered i nothing).reference)))) s)
       → count < most → both_pass_with setup (get_or offered i nothing) members ≡ true
-      → ((r : ℕ) → has_settled later r ≡ cond ((get_or offered i nothing).reference == r) true (has_settled references r))
-      → IsUnderWay setup entries start offered most (i + 1) (count + 1) later (accounts_with setup.currencies (get_or offered i nothing) members) next
-  under-way-taken later next seen kept up moves room passed put_in = record {
-    now = is.now ++ get_or offered i nothing ∷ [];
-    walking = walking-taken setup entries start offered most i count is.now members nothing are within is.walking room passed;
-    done = settled-more is.now (get_or offered i nothing) references later is.done put_in;
-    tallied = λ s.
-        let pair = get_or offered i nothing in
-        let before = named-same entries seen up.has is.now references is.done kept up.same (Some pair.reference) in
-        let after =
-        named-same entries seen up.has (is.now ++ pair ∷ []) later (settled-more is.now pair references later is.done put_in) kept
-        up.same (Some pair.reference) in
-        tally-is (is.tallied s) (ap (λ o. is_at o s) before) (moves s) (ap (λ o. is_at o s) after) (settled-moved entries is.now pair s up.distinct);
-  }
+      → IsUnderWay setup entries start offered most (i + 1) (count + 1)
+      (pair_put kept (option_map once_settled (pair_in kept (Some (get_or offered i nothing).reference))))
+      (accounts_with setup.currencies (get_or offered i nothing) members) next
+  under-way-taken next moves room passed =
+      let pair = get_or offered i nothing in
+      let known = known-here in
+      let now_kept : option_map once_settled (pair_in kept (Some pair.reference)) ≡ Some (pair_with entries (is.now ++ pair ∷ []) pair) =
+      ap (option_map once_settled) found-here ∙ ap Some (kept-settled entries is.now pair) in
+      record {
+        now = is.now ++ pair ∷ [];
+        walking = walking-taken setup entries start offered most i count is.now members nothing are within is.walking room passed;
+        pairs_kept = (λ i. pair_put (is.pairs_kept i) (now_kept i)) ∙ put-settled entries is.now pair are.distinct known;
+        tallied = λ s.
+            tally-put s kept (Some pair.reference) (Some (pair_with entries (is.now ++ pair ∷ []) pair)) refl (λ e. absurd (cc e)) (is.tallied s)
+            (moves s ∙ ap (λ o. tallied tally s + is_at (option_map state_kept o) s) now_kept)
+            ∙ ap (λ o. counted_in s (pair_put kept o)) (sym now_kept);
+      }
 
   pub under-way-failed : both_pass_with setup (get_or offered i nothing) members ≡ false
-      → IsUnderWay setup entries start offered most (i + 1) count references members tally
+      → IsUnderWay setup entries start offered most (i + 1) count kept members tally
   under-way-failed failed = record {
     now = is.now;
     walking = walking-failed setup entries start offered most i count is.now members nothing are within is.walking failed;
-    done = is.done;
+    pairs_kept = is.pairs_kept;
     tallied = is.tallied;
   }
 
-  pub under-way-past : most ≤ count → IsUnderWay setup entries start offered most (i + 1) count references members tally
+  pub under-way-past : most ≤ count → IsUnderWay setup entries start offered most (i + 1) count kept members tally
   under-way-past enough = record {
     now = is.now;
     walking = walking-past setup entries start offered most i count is.now members nothing are within is.walking enough;
-    done = is.done;
+    pairs_kept = is.pairs_kept;
     tallied = is.tallied;
   }

@@ -1,6 +1,6 @@
 -- What a book keeps beside its entries, and what each kept value is by its definition.
-use Rattle.std.specs.Prelude.{◌≡◌, ℕ, ◌+◌, ◌<◌, ◌==◌, ◌&&◌, Bool, false, not, ◌-◌, ◌≤◌, slice_get, map, nat_le, if◌then◌else◌, List, [], length, sum_by, Option, Some, None, slice_set, slice_index_or, replicate, All, ◌*◌, ℤ, pos, neg_ℤ, ◌+ℤ◌, int_lt, filter}
-use Rattle.std.specs.List.{zip}
+use Rattle.std.specs.Prelude.{◌≡◌, ℕ, ◌+◌, ◌<◌, ◌==◌, ◌&&◌, Bool, false, not, ◌-◌, ◌≤◌, slice_get, nat_le, if◌then◌else◌, List, [], length, sum_by, Option, Some, None, slice_set, slice_index_or, replicate, All, ◌*◌, ℤ, pos, neg_ℤ, ◌+ℤ◌, int_lt, filter}
+use Rattle.std.specs.List.{zip, AllByRecursion}
 use Rattle.std.specs.Option.{option_map, option_map_or}
 use Rattle.pvp_types.specs.declared.setup.Setup.{Setup}
 use Rattle.pvp_types.specs.declared.command.Cmd.{Cmd}
@@ -9,17 +9,19 @@ use Rattle.pvp_types.specs.declared.command.PayOrder.{PayOrder}
 use Rattle.pvp_types.specs.declared.setup.Currency.{Currency}
 use Rattle.pvp_types.specs.declared.setup.Member.{Member}
 use Rattle.pvp_book.specs.declared.account.Account.{Account}
-use Rattle.pvp_book.specs.declared.seen.Seen.{Seen}
-use Rattle.pvp_book.specs.Seen.{HasSeen, has_settled}
+use Rattle.pvp_book.specs.declared.kept_pair.KeptPair.{KeptPair}
+use Rattle.pvp_book.specs.KeptPair.{kept_pair, by_reference}
 use Rattle.pvp_book.specs.declared.account.Movement.{Movement}
 use Rattle.pvp_book.specs.declared.entry.Entry.{Entry}
 use Rattle.pvp_book.specs.declared.pair.Pair.{Pair}
 use Rattle.pvp_book.specs.Orders.{order_of}
 use Rattle.pvp_book.specs.declared.order_table.OrderTable.{OrderTable}
 use Rattle.pvp_book.specs.OrderTable.{AreMade}
+use Rattle.pvp_book.specs.declared.pay_ins.PayIns.{PayIns}
+use Rattle.pvp_book.specs.PayIns.{ArePaidIn}
 use Rattle.pvp_book.specs.declared.tally.Tally.{Tally}
 use Rattle.pvp_book.specs.Tally.{AreTallied}
-use Rattle.pvp_book.specs.Pairs.{pairs, has_reference, both_have_asked}
+use Rattle.pvp_book.specs.Pairs.{pairs, pair_of, has_reference, both_have_asked}
 use Rattle.pvp_book.specs.Settlement.{candidates, settled}
 use Rattle.pvp_book.specs.Ledger.{Ledger, balance, figure}
 use Rattle.pvp_book.specs.Answer.{Row, book_of}
@@ -156,29 +158,24 @@ pub record CanSettle (setup : Setup) (kept : List Account) (p : Pair) : Type 0 w
   pub each : (m : ℕ) → m < length kept → IsAccount setup.currencies (account_at kept m)
   pub small : (m : ℕ) → All (IsWithin most_total) (account_at kept m).balances
 
--- the references of the settled pairs
-abbrev pub AreSettled : List Pair → List ℕ → Type 0
-AreSettled done references = (r : ℕ) → has_settled references r ≡ has_reference done r
-
 -- those of some matched pairs that wait: they are neither settled nor taken back by both sides
 abbrev pub waiting : List Entry → List Pair → List Pair → List Pair
 waiting entries settled some =
     filter (λ p. not (has_reference settled p.reference) && not (both_have_asked entries p)) some
 
 -- A line of matched pairs has those that wait, in their order. It may have others too, which the next walk drops.
-abbrev pub IsLine : List Entry → List Pair → List Pair → Type 0
-IsLine entries settled line = waiting entries settled line ≡ candidates entries settled
+pub record IsLine (entries : List Entry) (settled line : List Pair) : Type 0 where
+  pub waits : waiting entries settled line ≡ candidates entries settled
+  pub known : AllByRecursion (λ p. pair_of entries p.reference ≡ Some p) line
 
--- what a book keeps beside its entries: the pairs by reference, the references of the settled ones, the line of those
--- that wait, the accounts, the figures, which numbers came, the orders, and how many
--- pairs are in each state
+-- what a book keeps beside its entries: the pairs by reference, with what came of each, the line of those that wait,
+-- the accounts, the figures, the numbers of the pay-ins, the orders, and how many pairs are in each state
 pub record Kept : Type 0 where
-  pub pairs : List (ℕ × Pair)
-  pub references : List ℕ
+  pub pairs : List (ℕ × KeptPair)
   pub line : List Pair
   pub members : List Account
   pub totals : List ℤ
-  pub shown : Seen
+  pub paid : PayIns
   pub table : OrderTable
   pub tally : Tally
 
@@ -191,9 +188,8 @@ pub record IsKept (held : Ledger) (kept : Kept) : Type 0 where
   pub accounts : AreAccounts held.setup.currencies (length held.setup.members)
       (balance held.setup held.entries) kept.members
   pub figures : AreFigures (figure held.setup held.entries) kept.totals
-  pub seen : HasSeen held.entries kept.shown
+  pub pay_ins : ArePaidIn held.entries kept.paid
   pub orders : AreMade held.entries kept.table
   pub states : AreTallied held.setup held.entries kept.tally
-  pub done : AreSettled (settled held.setup held.entries) kept.references
   pub line : IsLine held.entries (settled held.setup held.entries) kept.line
-  pub pairs : kept.pairs ≡ map (λ p. (p.reference, p)) (pairs held.entries)
+  pub pairs : kept.pairs ≡ by_reference (kept_pair held.setup held.entries) (pairs held.entries)

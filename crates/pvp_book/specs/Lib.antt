@@ -2,6 +2,7 @@ pub mod Accounts
 pub mod Answer
 pub mod Bounds
 pub mod Kept
+pub mod KeptPair
 pub mod Laws
 pub mod Ledger
 pub mod Limits
@@ -9,6 +10,6 @@ pub mod Open
 pub mod OrderTable
 pub mod Orders
 pub mod Pairs
-pub mod Seen
+pub mod PayIns
 pub mod Settlement
 pub mod Tally

@@ -1,18 +1,19 @@
-ghost use Rattle.std.specs.Prelude.{◌≡◌, ◌<◌, ◌≤◌, ◌+◌, ◌++◌, ◌∷◌, [], true, false, ◌||◌, length, slice_get, IfOk, OnOk};
+ghost use Rattle.std.specs.Prelude.{◌≡◌, ◌<◌, ◌≤◌, ◌+◌, ◌++◌, ◌∷◌, [], List, true, false, length, slice_get, IfOk, OnOk, IfSome};
+ghost use Rattle.pvp_book.specs.declared.entry.Entry.{Entry as Noted};
 ghost use Rattle.pvp_book.specs.Answer.{is_amount, is_refusal, is_mirror};
 
 use crate::account::{self, Accounts};
 use crate::entry::Entry;
+use crate::kept_pair::{self, KeptPair, state_of};
 use crate::open::{self, OpenOrders};
 use crate::order_table::OrderTable;
 use crate::pair::{self, Pair, PairState};
-use crate::seen::Seen;
+use crate::pay_ins::PayIns;
 use crate::tally::Tally;
 use crate::terms::{has_member, is_amount, node_of};
 use indexmap::IndexMap;
 use pvp_types::{Cmd, PayOrder, Reason, Reply, Setup};
 use std::alloc::{AllocError, Global};
-use std::collections::HashSet;
 use std::marker::Model;
 use vr_types::MOST_MEMBERS;
 
@@ -24,17 +25,15 @@ const OPERATOR: u16 = 0;
 pub struct Book {
     setup: Setup,
     entries: Vec<Entry>,
-    /// All pairs by reference, in the order in which they were first seen.
-    pairs: IndexMap<u32, Pair>,
-    /// The references of the settled pairs.
-    settled: HashSet<u32>,
+    /// All pairs by reference, in the order in which they were first seen, with what came of each.
+    pairs: IndexMap<u32, KeptPair>,
     /// The matched pairs that wait, in the order in which they were matched, and those that no longer
     /// do since the last walk.
     line: Vec<Pair>,
     /// What each member has, and the figures.
     accounts: Accounts,
-    /// Which numbers came.
-    seen: Seen,
+    /// The pay-ins that came, by currency and number.
+    pay_ins: PayIns,
     /// The orders by number.
     table: OrderTable,
     /// How many pairs are in each state.
@@ -58,11 +57,10 @@ impl Model for Book {
         IsKept (record { setup = b.setup; entries = b.entries.items; applied = b.applied })
         (record {
           pairs = b.pairs.entries;
-          references = b.settled.keys;
           line = b.line.items;
           members = b.accounts.members.items;
           totals = b.accounts.figures;
-          shown = b.seen;
+          paid = b.pay_ins;
           table = b.table;
           tally = b.tally;
         }) };
@@ -72,13 +70,14 @@ impl Book {
     ghost use Rattle.std.specs.Option.{option_map};
     ghost use Rattle.pvp_types.specs.Setup.{IsValid};
     ghost use Rattle.pvp_types.specs.declared.command.Cmd.TheVariants.{Settle};
-    ghost use Rattle.pvp_book.specs.Pairs.{pair_of, has_reference, is_rescinded};
+    ghost use Rattle.pvp_book.specs.Pairs.{pair_of};
+    ghost use Rattle.pvp_book.specs.KeptPair.{kept_pair};
     ghost use Rattle.pvp_book.specs.Limits.{passes};
     ghost use Rattle.pvp_book.specs.Settlement.{settled};
-    ghost use Rattle.pvp_book.specs.Ledger.{opening, balance, figure, value, queue, open_orders, has_pay_in, outstanding, state_of, pair_state, pairs_in};
+    ghost use Rattle.pvp_book.specs.Ledger.{opening, balance, figure, value, queue, open_orders, has_pay_in, outstanding, pair_state, pairs_in};
     ghost use Rattle.pvp_book.specs.Orders.{orders, has_end};
     ghost use Rattle.pvp_book.specs.Open.{orders_left};
-    ghost use Rattle.pvp_book.specs.Answer.{answer_to, after, is_walk, balances_less, is_side, on_instruct, on_mirror, on_rescind, on_pair, on_fund, on_pay_out, on_end, has_order, has_member, has_currency};
+    ghost use Rattle.pvp_book.specs.Answer.{answer_to, after, is_walk, balances_less, on_instruct, on_mirror, on_rescind, on_pair, on_fund, on_pay_out, on_end, has_order, has_member, has_currency};
 
     /// An empty book. `Err` where memory is refused.
     pub fn fresh(alloc: Global, setup: &Setup) -> Result<Self, AllocError>
@@ -89,10 +88,9 @@ impl Book {
             setup: setup.copy()?,
             entries: Vec::new(alloc),
             pairs: IndexMap::new(alloc),
-            settled: HashSet::new(alloc),
             line: Vec::new(alloc),
             accounts: Accounts::new(alloc, setup.member_count())?,
-            seen: Seen::new(alloc),
+            pay_ins: PayIns::new(alloc),
             table: OrderTable::new(alloc),
             tally: Tally::new(),
             applied: 0,
@@ -154,7 +152,7 @@ impl Book {
         ensures { result ≡ option_map (λ p. p.reference)
             (slice_get (queue self.now.setup self.now.entries) at) }
     {
-        let pair = pair::waiting_at(self.line.as_slice(), &self.seen, &self.settled, at)?;
+        let pair = kept_pair::waiting_at(self.line.as_slice(), &self.pairs, at)?;
         Some(pair.reference)
     }
 
@@ -185,15 +183,14 @@ impl Book {
         ensures count { result ≡ length (orders self.now.entries c) }
         ensures few { result ≤ 65535 }
     {
-        self.table.count(c)
+        self.table.count(c) as u32
     }
 
     /// How far the pair of a reference has come; `None` where there is none.
     pub fn pair(&self, reference: u32) -> Option<PairState>
         ensures { result ≡ pair_state self.now.setup self.now.entries reference }
     {
-        let pair = self.pair_of(reference)?;
-        Some(self.state_of(&pair))
+        Some(self.kept_pair_of(reference)?.state())
     }
 
     /// How many pairs have come so far and no further.
@@ -203,16 +200,13 @@ impl Book {
         self.tally.get(state)
     }
 
-    fn pair_of(&self, reference: u32) -> Option<Pair>
-        ensures { result ≡ pair_of self.now.entries reference }
+    /// What is kept of the pair of a reference; `None` where there is none.
+    fn kept_pair_of(&self, reference: u32) -> Option<KeptPair>
+        ensures pair { option_map (λ k. k.pair) result ≡ pair_of self.now.entries reference }
+        ensures same { IfSome result
+            (λ k. k ≡ kept_pair self.now.setup self.now.entries k.pair) }
     {
         self.pairs.get(&reference).copied()
-    }
-
-    fn state_of(&self, pair: &Pair) -> PairState
-        ensures { result ≡ state_of self.now.setup self.now.entries pair.now }
-    {
-        pair::state_of(&self.seen, &self.settled, pair)
     }
 
     /// What the bank was set up with.
@@ -235,7 +229,7 @@ impl Book {
     pub fn paid_in(&self, c: u8, k: u32) -> bool
         ensures { result ≡ has_pay_in self.now.entries c k }
     {
-        self.seen.has_pay_in(c, k)
+        self.pay_ins.has(c, k)
     }
 
     /// Walks over the matched pairs, at the operator's word.
@@ -245,18 +239,16 @@ impl Book {
         ensures after { OnOk result (self.new ≡ after self.old 0 (Settle most)) }
     {
         let alloc = *self.entries.allocator();
-        let offered = pair::waiting(alloc, self.line.as_slice(), &self.seen, &self.settled)?;
+        let offered = kept_pair::waiting(alloc, self.line.as_slice(), &self.pairs)?;
         self.entries.reserve(1)?;
-        self.settled.reserve(offered.len())?;
         let mut count = 0;
         for pair in &offered {
             if count < most {
                 if self.accounts.settle(&self.setup, pair) {
-                    let named = Some(pair.reference);
-                    let before = pair::state_named(&self.pairs, &self.seen, &self.settled, named);
-                    self.settled.insert(pair.reference)?;
-                    let after = pair::state_named(&self.pairs, &self.seen, &self.settled, named);
-                    self.tally = self.tally.moved(before, after);
+                    let before = kept_pair::find_pair(&self.pairs, Some(pair.reference));
+                    let after = kept_pair::settle_pair(before);
+                    kept_pair::put_pair(&mut self.pairs, after);
+                    self.tally = self.tally.moved(state_of(before), state_of(after));
                     count += 1;
                 }
             }
@@ -303,16 +295,16 @@ impl Book {
         self.entries.reserve(1)?;
         self.pairs.reserve(1)?;
         self.line.reserve(1)?;
+        self.pay_ins.reserve()?;
         self.table.reserve(&entry)?;
         let moved = account::movement_by(&self.table, &entry);
-        let named = pair::named_by(&entry);
-        let before = pair::state_named(&self.pairs, &self.seen, &self.settled, named);
-        self.seen.note(&entry)?;
-        self.table.add(&entry);
-        pair::open_pair(&mut self.pairs, &entry);
-        let after = pair::state_named(&self.pairs, &self.seen, &self.settled, named);
-        self.tally = self.tally.moved(before, after);
+        let before = kept_pair::find_pair(&self.pairs, kept_pair::named_by(&entry));
+        let after = kept_pair::note_pair(before, &entry);
+        kept_pair::put_pair(&mut self.pairs, after);
+        self.tally = self.tally.moved(state_of(before), state_of(after));
         pair::line_up(&mut self.line, &entry);
+        self.pay_ins.note(&entry);
+        self.table.add(&entry);
         self.entries.push(entry)?;
         self.accounts.post(&self.setup, moved);
         self.applied += 1;
@@ -381,21 +373,22 @@ impl Book {
         } else if asked.reference == 0 {
             Reply::No(Reason::UnknownReference)
         } else {
-            self.on_mirror(self.pair_of(asked.reference), asked)
+            self.on_mirror(asked)
         }
     }
 
     /// Answers an instruction under a reference that has a pair, or has none.
-    fn on_mirror(&self, pair: Option<Pair>, asked: &Pair) -> Reply
-        ensures { result ≡ on_mirror self.now.setup self.now.entries asked.now.first pair
-            asked.now.second asked.now.sell asked.now.sell_amt asked.now.buy asked.now.buy_amt }
+    fn on_mirror(&self, asked: &Pair) -> Reply
+        ensures { result ≡ on_mirror self.now.setup self.now.entries asked.now.first
+            (pair_of self.now.entries asked.now.reference) asked.now.second asked.now.sell
+            asked.now.sell_amt asked.now.buy asked.now.buy_amt }
     {
-        match pair {
+        match self.kept_pair_of(asked.reference) {
             None => Reply::Done,
-            Some(pair) => {
-                if asked.first == pair.first || !self.state_of(&pair).is(PairState::Unmatched) {
+            Some(kept) => {
+                if asked.first == kept.pair.first || !kept.state().is(PairState::Unmatched) {
                     Reply::No(Reason::Repeated)
-                } else if !is_mirror(&pair, asked) {
+                } else if !is_mirror(&kept.pair, asked) {
                     Reply::No(Reason::Mismatch)
                 } else {
                     Reply::Matched
@@ -412,41 +405,27 @@ impl Book {
         } else if !self.has_member(client) {
             Reply::No(Reason::UnknownMember)
         } else {
-            self.on_pair(client, self.pair_of(reference))
+            self.on_pair(client, reference)
         }
     }
 
     /// Answers a rescission of a reference that has a pair, or has none.
-    fn on_pair(&self, client: u16, pair: Option<Pair>) -> Reply
-        ensures { result ≡ on_pair self.now.setup self.now.entries client pair }
+    fn on_pair(&self, client: u16, reference: u32) -> Reply
+        ensures { result ≡ on_pair self.now.setup self.now.entries client
+            (pair_of self.now.entries reference) }
     {
-        match pair {
+        match self.kept_pair_of(reference) {
             None => Reply::No(Reason::UnknownReference),
-            Some(pair) => {
-                if !self.is_side(&pair, client) {
+            Some(kept) => {
+                if !kept.is_side(client) {
                     Reply::No(Reason::NotYours)
-                } else if self.is_late(&pair) {
+                } else if kept.settled || kept.is_back() {
                     Reply::No(Reason::Late)
                 } else {
                     Reply::Done
                 }
             }
         }
-    }
-
-    /// Whether a client is a side of a pair: the first, or where it is matched the second.
-    fn is_side(&self, pair: &Pair, client: u16) -> bool
-        ensures { result ≡ is_side self.now.entries pair.now client }
-    {
-        client == pair.first || (client == pair.second && self.seen.is_matched(pair.reference))
-    }
-
-    /// Whether a pair is settled or rescinded.
-    fn is_late(&self, pair: &Pair) -> bool
-        ensures { result ≡ (has_reference (settled self.now.setup self.now.entries)
-            pair.now.reference || is_rescinded self.now.entries pair.now) }
-    {
-        self.settled.contains(&pair.reference) || pair::is_rescinded(&self.seen, pair)
     }
 
     fn on_fund(&self, client: u16, c: u8, pay: u32, member: u16, amt: u64) -> Reply

@@ -2,7 +2,7 @@ use Rattle.std.proofs.Common.{sym, ◌∙◌, rules, tests}
 use Rattle.std.proofs.lemmas.Iterator.{YieldsList-from_slice}
 use Rattle.std.proofs.lemmas.Iterator.Consumers.{nth_from_yields_List, YieldsList-at, YieldsList-from_copied, YieldsList-from_filter}
 use Rattle.std.proofs.lemmas.Iterator.Adapters.{option_map_id}
-use Rattle.pvp_book.proofs.pair.waiting_at.Goals as goal
+use Rattle.pvp_book.proofs.kept_pair.waiting_at.Goals as goal
 
 pub returns : goal.returns
 returns c =

@@ -1,5 +1,5 @@
 -- What is settled was instructed by both sides, once, and is not taken back.
-use Rattle.std.proofs.Common.{◌≡◌, ℕ, ◌≤◌, Bool, true, false, List, [], ◌∷◌, ◌++◌, arith, refl, ap, sym, subst, ◌∙◌, Option, Some, None, count_by, find, eqb-true, append_assoc, ◌⊎◌, inl, inr}
+use Rattle.std.proofs.Common.{◌≡◌, ℕ, ◌≤◌, Bool, true, false, List, [], ◌∷◌, ◌++◌, arith, refl, ap, sym, subst, ◌∙◌, Option, Some, None, count_by, eqb-true, append_assoc, ◌⊎◌, inl, inr}
 use Rattle.std.specs.Prelude.{not, ◌&&◌, ◌||◌, ◌==◌, if◌then◌else◌, nat_lt, ◌-◌}
 use Rattle.std.specs.List.{cons_option, AllByRecursion}
 use Rattle.std.proofs.lemmas.Bool.{and_parts, not-true, eqb-false}
@@ -9,21 +9,21 @@ use Rattle.pvp_types.specs.declared.setup.Setup.{Setup}
 use Rattle.pvp_types.specs.declared.command.Cmd.{Cmd}
 use Rattle.pvp_types.specs.declared.command.Cmd.TheVariants.{Instruct, Rescind, Settle}
 use Rattle.pvp_types.specs.declared.command.Reply.{Reply}
-use Rattle.pvp_types.specs.declared.command.Reply.TheVariants.{Done, Matched, Settled, Order, No}
+use Rattle.pvp_types.specs.declared.command.Reply.TheVariants.{Done, Matched, No}
 use Rattle.pvp_types.specs.declared.command.Reason.TheVariants.{NotYours, UnknownMember, UnknownCurrency, BadAmount, UnknownReference, Repeated, Mismatch, Late}
 use Rattle.pvp_book.specs.declared.entry.Entry.{Entry}
 use Rattle.pvp_book.specs.declared.pair.Pair.{Pair}
 use Rattle.pvp_book.specs.declared.pair.PairState.TheVariants as state
-use Rattle.pvp_book.specs.Pairs.{opened_by, matched_by, pairs, matched, pair_of, has_reference, is_matched, is_rescission, has_asked, both_have_asked, is_rescinded}
+use Rattle.pvp_book.specs.Pairs.{matched_by, pairs, matched, pair_of, has_reference, is_matched, is_rescission, has_asked, both_have_asked, is_rescinded}
 use Rattle.pvp_book.specs.Settlement.{both_pass, candidates, pass, taken_by, settled_after, settled}
 use Rattle.pvp_book.specs.Ledger.{state_with, state_of, is_state}
 use Rattle.pvp_book.specs.Bounds.{IsWithinMatched}
 use Rattle.pvp_book.specs.Answer.{Row, answer, is_refusal, on_instruct, on_mirror, on_rescind, on_pair, is_mirror, is_side, has_member, has_currency, is_amount, is_member_number, book_of}
 use Rattle.pvp_book.specs.Laws.{IsExchange}
 use Rattle.pvp_book.proofs.SettlementLemmas.{append-nil, settled-push, IsWithinMatched-push, IsWithinMatched-nil, same-self}
-use Rattle.pvp_book.proofs.CandidateLemmas.{turned}
+use Rattle.pvp_book.proofs.CandidateLemmas.{turned, known-longer}
 use Rattle.pvp_book.proofs.Reached.{entry_of, reached}
-use Rattle.pvp_book.proofs.Counts.{each-append, each-left, each-weaker, each-both, each-filter, each-passes, each-false, count-push, find-append, find-passes}
+use Rattle.pvp_book.proofs.Counts.{each-append, each-left, each-weaker, each-both, each-filter, each-passes, each-false, count-push, find-passes}
 
 -- what a walk takes was offered
 pub each-pass : (P : Pair → Type 0) (setup : Setup) (entries : List Entry) (done : List Pair) (most : ℕ) (offered : List Pair)
@@ -99,10 +99,8 @@ mirrors setup entries client other sell sell_amt buy buy_amt (Some p) e =
   where
     by : (own waits mirror : Bool) → (if own || not waits then No Repeated else if not mirror then No Mismatch else Matched) ≡ Matched
         → (waits ≡ true) × (mirror ≡ true)
-    by true waits mirror e = absurd (cc e)
-    by false false mirror e = absurd (cc e)
-    by false true false e = absurd (cc e)
     by false true true e = (refl, refl)
+    by _ _ _ e = absurd (cc e)
 
 matches : (setup : Setup) (entries : List Entry) (client reference other sell sell_amt buy buy_amt : ℕ)
     → on_instruct setup entries client reference other sell sell_amt buy buy_amt ≡ Matched
@@ -119,16 +117,8 @@ matches setup entries client reference other sell sell_amt buy buy_amt e =
         → (if not yours then No NotYours else if not (a && (b && not c)) then No UnknownMember else if not (d && (f && not g)) then No UnknownCurrency
         else if not small then No BadAmount else if none then No UnknownReference else rest) ≡ Matched
         → (a ≡ true) × (b ≡ true) × (c ≡ false) × (g ≡ false) × (rest ≡ Matched)
-    by false a b c d f g small none rest e = absurd (cc e)
-    by true false b c d f g small none rest e = absurd (cc e)
-    by true true false c d f g small none rest e = absurd (cc e)
-    by true true true true d f g small none rest e = absurd (cc e)
-    by true true true false false f g small none rest e = absurd (cc e)
-    by true true true false true false g small none rest e = absurd (cc e)
-    by true true true false true true true small none rest e = absurd (cc e)
-    by true true true false true true false false none rest e = absurd (cc e)
-    by true true true false true true false true true rest e = absurd (cc e)
     by true true true false true true false true false rest e = (refl, refl, refl, refl, e)
+    by _ _ _ _ _ _ _ _ _ rest e = absurd (cc e)
 
 -- an unmatched pair is not among the matched
 unmatched : (entries : List Entry) (done : List Pair) (p : Pair) → is_state (state_with entries done p) state.Unmatched ≡ true → is_matched entries p ≡ false
@@ -136,10 +126,8 @@ unmatched entries done p waits = by (has_reference done p.reference) (is_rescind
   where
     by : (a b c : Bool)
         → is_state (if a then state.Settled else if b then state.Rescinded else if c then state.Matched else state.Unmatched) state.Unmatched ≡ true → c ≡ false
-    by true b c e = absurd (cc e)
-    by false true c e = absurd (cc e)
-    by false false true e = absurd (cc e)
     by false false false e = refl
+    by _ _ _ e = absurd (cc e)
 
 -- the pair that a matching instruction names is the one that waited
 same-pair : (p : Pair) (client reference other sell sell_amt buy buy_amt : ℕ) → (reference == p.reference) ≡ true
@@ -198,12 +186,9 @@ newly-matched setup entries client (Instruct reference other sell sell_amt buy b
     by : (r : Reply) → on_instruct setup entries client reference other sell sell_amt buy buy_amt ≡ r
         → (matched_by client (Instruct reference other sell sell_amt buy buy_amt) r ≡ None)
         ⊎ NewPair setup entries (matched_by client (Instruct reference other sell sell_amt buy buy_amt) r)
-    by Done e = inl refl
     by Matched e =
         inr (new-pair setup entries client reference other sell sell_amt buy buy_amt (matches setup entries client reference other sell sell_amt buy buy_amt e))
-    by (Settled n) e = inl refl
-    by (Order n) e = inl refl
-    by (No reason) e = inl refl
+    by _ e = inl refl
 newly-matched setup entries client _ = inl refl
 
 each-always : (P : Pair → Type 0) (ps : List Pair) → ((p : Pair) → P p) → AllByRecursion P ps
@@ -231,10 +216,8 @@ late-free setup entries client reference accepted =
     by : (yours member : Bool) (pair : Option Pair) → pair_of entries reference ≡ pair
         → is_refusal (if not yours then No NotYours else if not member then No UnknownMember else on_pair setup entries client pair) ≡ false
         → has_reference (settled setup entries) reference ≡ false
-    by false member pair is e = absurd (cc e)
-    by true false pair is e = absurd (cc e)
-    by true true None is e = absurd (cc e)
     by true true (Some p) is e = found p is e
+    by _ _ _ is e = absurd (cc e)
 
 -- so an accepted command takes no settled pair back
 none-taken-back : (setup : Setup) (entries : List Entry) (client : ℕ) (cmd : Cmd) → is_refusal (answer setup entries client cmd) ≡ false
@@ -278,11 +261,6 @@ pub record IsSound (setup : Setup) (entries : List Entry) : Type 0 where
   pub once : (r : ℕ) → count_by (λ p. p.reference == r) (matched entries) ≤ 1
   pub within : IsWithinMatched (settled setup entries) (candidates entries (settled setup entries)) (matched entries)
   pub kept : AllByRecursion (λ p. both_have_asked entries p ≡ false) (settled setup entries)
-
-known-longer : (entries : List Entry) (e : Entry) (p : Pair) → pair_of entries p.reference ≡ Some p → pair_of (entries ++ e ∷ []) p.reference ≡ Some p
-known-longer entries e p known =
-    ap (find (λ (q : Pair). p.reference == q.reference)) (filter_map-append (λ (x : Entry). opened_by x.client x.cmd x.reply) entries (e ∷ []))
-    ∙ find-append (λ (q : Pair). p.reference == q.reference) (pairs entries) (pairs (e ∷ [])) p known
 
 -- the matched pairs' part of a step
 record MatchedPart (setup : Setup) (entries longer : List Entry) (ps : List Pair) : Type 0 where

@@ -1,0 +1,96 @@
+-- What a book keeps of each pair, and what that is by the entries.
+use Rattle.std.specs.Prelude.{ℕ, ◌==◌, ◌&&◌, ◌||◌, Bool, true, false, not, if◌then◌else◌, List, map, Option, Some, None, nat_eq}
+use Rattle.std.specs.Option.{option_map, option_map_or}
+use Rattle.std.specs.Map.{lookup}
+use Rattle.indexmap.specs.IndexMap.{insert_entry}
+use Rattle.pvp_types.specs.declared.setup.Setup.{Setup}
+use Rattle.pvp_types.specs.declared.command.Cmd.{Cmd}
+use Rattle.pvp_types.specs.declared.command.Cmd.TheVariants.{Instruct, Rescind}
+use Rattle.pvp_types.specs.declared.command.Reply.{Reply}
+use Rattle.pvp_types.specs.declared.command.Reply.TheVariants.{Matched}
+use Rattle.pvp_book.specs.declared.entry.Entry.{Entry}
+use Rattle.pvp_book.specs.declared.pair.Pair.{Pair}
+use Rattle.pvp_book.specs.declared.pair.PairState.{PairState}
+use Rattle.pvp_book.specs.declared.pair.PairState.TheVariants as state
+use Rattle.pvp_book.specs.declared.kept_pair.KeptPair.{KeptPair}
+use Rattle.pvp_book.specs.Pairs.{opened_by, has_reference, is_matched, has_asked}
+use Rattle.pvp_book.specs.Settlement.{settled}
+
+-- what is kept of a pair, where some pairs are settled
+abbrev pub pair_with : List Entry → List Pair → Pair → KeptPair
+pair_with entries settled p = record {
+  pair = p;
+  matched = is_matched entries p;
+  settled = has_reference settled p.reference;
+  first_back = has_asked entries p.first p.reference;
+  second_back = has_asked entries p.second p.reference;
+}
+
+abbrev pub kept_pair : Setup → List Entry → Pair → KeptPair
+kept_pair setup entries p = pair_with entries (settled setup entries) p
+
+-- some pairs by reference, each with what is kept of it
+abbrev pub by_reference : (Pair → KeptPair) → List Pair → List (ℕ × KeptPair)
+by_reference kept some = map (λ p. (p.reference, kept p)) some
+
+-- a pair that one side has just opened
+abbrev pub just_opened : Pair → KeptPair
+just_opened p = record { pair = p; matched = false; settled = false; first_back = false; second_back = false }
+
+-- it was taken back: a matched one by both sides, an unmatched one by its first
+abbrev pub is_back : KeptPair → Bool
+is_back k = if k.matched then k.first_back && k.second_back else k.first_back
+
+-- a side of it: the first, or where it is matched the second
+abbrev pub is_side_kept : KeptPair → ℕ → Bool
+is_side_kept k client = (client == k.pair.first) || ((client == k.pair.second) && k.matched)
+
+-- how far it has come
+abbrev pub state_kept : KeptPair → PairState
+state_kept k =
+    if k.settled then state.Settled
+    else if is_back k then state.Rescinded
+    else if k.matched then state.Matched
+    else state.Unmatched
+
+-- it still waits, if it is matched: it is neither settled nor taken back by both sides
+abbrev pub still_waits : KeptPair → Bool
+still_waits k = not k.settled && not (k.first_back && k.second_back)
+
+-- the same once it is settled
+abbrev pub once_settled : KeptPair → KeptPair
+once_settled k = record k { settled = true }
+
+-- the same once an entry that names its reference is noted
+abbrev pub noted_by : ℕ → Cmd → Reply → KeptPair → KeptPair
+noted_by client (Instruct reference other sell sell_amt buy buy_amt) Matched k = record k { matched = true }
+noted_by client (Rescind reference) reply k = record k {
+  first_back = k.first_back || (client == k.pair.first);
+  second_back = k.second_back || (client == k.pair.second);
+}
+noted_by client _ _ k = k
+
+-- what is kept of a pair once an entry that names its reference is noted, which may open it
+abbrev pub pair_noted : ℕ → Cmd → Reply → Option KeptPair → Option KeptPair
+pair_noted client cmd reply None = option_map just_opened (opened_by client cmd reply)
+pair_noted client cmd reply (Some k) = Some (noted_by client cmd reply k)
+
+-- the reference that a command names
+abbrev pub named_by : Cmd → Option ℕ
+named_by (Instruct reference other sell sell_amt buy buy_amt) = Some reference
+named_by (Rescind reference) = Some reference
+named_by _ = None
+
+-- what is kept under a reference
+abbrev pub pair_in : List (ℕ × KeptPair) → Option ℕ → Option KeptPair
+pair_in kept None = None
+pair_in kept (Some r) = lookup (nat_eq r) kept
+
+-- a pair kept under its reference, in place of what was kept of it
+abbrev pub pair_put : List (ℕ × KeptPair) → Option KeptPair → List (ℕ × KeptPair)
+pair_put kept None = kept
+pair_put kept (Some k) = insert_entry nat_eq kept k.pair.reference k
+
+-- a matched pair waits, by what is kept of it
+abbrev pub is_waiting : List (ℕ × KeptPair) → Pair → Bool
+is_waiting kept p = option_map_or still_waits (lookup (nat_eq p.reference) kept) false

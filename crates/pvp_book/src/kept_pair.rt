@@ -1,0 +1,188 @@
+//! What a book keeps of each pair, to be looked up by reference.
+ghost use Rattle.std.specs.Prelude.{◌≡◌, ◌<◌, None, filter, nat_eq, slice_get, IfOk, IfSome};
+ghost use Rattle.std.specs.Map.{lookup};
+ghost use Rattle.std.specs.Option.{option_map};
+ghost use Rattle.indexmap.specs.IndexMap.{spare};
+ghost use Rattle.pvp_book.specs.KeptPair.{named_by, pair_in, pair_noted, pair_put, is_waiting};
+ghost use Rattle.pvp_book.specs.KeptPair.{state_kept, once_settled};
+
+use crate::entry::Entry;
+use crate::pair::{self, Pair, PairState};
+use indexmap::IndexMap;
+use pvp_types::{Cmd, Reply};
+use std::alloc::{AllocError, Global};
+
+/// A pair, with what came of it.
+#[derive(Clone, Copy, Debug, PartialEq, Eq)]
+pub struct KeptPair {
+    pub pair: Pair,
+    /// Whether its second side has instructed too.
+    pub matched: bool,
+    /// Whether both legs are posted.
+    pub settled: bool,
+    /// Whether its first side has taken it back.
+    pub first_back: bool,
+    /// Whether its second side has taken it back.
+    pub second_back: bool,
+}
+
+impl KeptPair {
+    ghost use Rattle.pvp_book.specs.KeptPair.{just_opened, is_back, is_side_kept, still_waits, noted_by};
+
+    /// A pair that one side has just opened.
+    fn new(pair: Pair) -> Self
+        ensures { result ≡ just_opened pair }
+    {
+        KeptPair {
+            pair,
+            matched: false,
+            settled: false,
+            first_back: false,
+            second_back: false,
+        }
+    }
+
+    /// Whether it was taken back: a matched one by both sides, an unmatched one by its first.
+    pub fn is_back(&self) -> bool
+        ensures { result ≡ is_back self.now }
+    {
+        self.first_back && (self.second_back || !self.matched)
+    }
+
+    /// How far it has come.
+    pub fn state(&self) -> PairState
+        ensures { result ≡ state_kept self.now }
+    {
+        if self.settled {
+            PairState::Settled
+        } else if self.is_back() {
+            PairState::Rescinded
+        } else if self.matched {
+            PairState::Matched
+        } else {
+            PairState::Unmatched
+        }
+    }
+
+    /// Whether a client is a side of it: the first, or where it is matched the second.
+    pub fn is_side(&self, client: u16) -> bool
+        ensures { result ≡ is_side_kept self.now client }
+    {
+        client == self.pair.first || (client == self.pair.second && self.matched)
+    }
+
+    /// Whether it waits, where it is matched: it is neither settled nor taken back by both sides.
+    fn still_waits(&self) -> bool
+        ensures { result ≡ still_waits self.now }
+    {
+        !self.settled && !(self.first_back && self.second_back)
+    }
+
+    /// The same once an entry that names its reference is noted.
+    fn with_noted(self, entry: &Entry) -> Self
+        ensures { result ≡ noted_by entry.now.client entry.now.cmd entry.now.reply self }
+    {
+        match (entry.cmd, entry.reply) {
+            (Cmd::Instruct { .. }, Reply::Matched) => KeptPair {
+                matched: true,
+                ..self
+            },
+            (Cmd::Rescind { .. }, _) => KeptPair {
+                first_back: self.first_back || entry.client == self.pair.first,
+                second_back: self.second_back || entry.client == self.pair.second,
+                ..self
+            },
+            _ => self,
+        }
+    }
+}
+
+/// The reference that a command names, of which alone it may move the pair.
+pub fn named_by(entry: &Entry) -> Option<u32>
+    ensures { result ≡ named_by entry.now.cmd }
+{
+    match entry.cmd {
+        Cmd::Instruct { reference, .. } | Cmd::Rescind { reference } => Some(reference),
+        _ => None,
+    }
+}
+
+/// The pair that is kept under a reference, if there is one.
+pub fn find_pair(pairs: &IndexMap<u32, KeptPair>, named: Option<u32>) -> Option<KeptPair>
+    ensures { result ≡ pair_in pairs.now.entries named }
+{
+    pairs.get(&named?).copied()
+}
+
+/// What is kept of a pair once an entry that names its reference is noted, which may open it.
+pub fn note_pair(before: Option<KeptPair>, entry: &Entry) -> Option<KeptPair>
+    ensures { result ≡ pair_noted entry.now.client entry.now.cmd entry.now.reply before }
+{
+    match before {
+        Some(kept) => Some(kept.with_noted(entry)),
+        None => Some(KeptPair::new(pair::opened_by(entry)?)),
+    }
+}
+
+/// What is kept of a pair once it is settled.
+pub fn settle_pair(before: Option<KeptPair>) -> Option<KeptPair>
+    ensures { result ≡ option_map once_settled before }
+{
+    Some(KeptPair {
+        settled: true,
+        ..before?
+    })
+}
+
+/// How far a pair has come; `None` where there is none.
+pub fn state_of(kept: Option<KeptPair>) -> Option<PairState>
+    ensures { result ≡ option_map state_kept kept }
+{
+    Some(kept?.state())
+}
+
+/// Keeps a pair under its reference, in place of what was kept of it.
+pub fn put_pair(pairs: &mut IndexMap<u32, KeptPair>, kept: Option<KeptPair>)
+    requires room { IfSome kept (λ k.
+        lookup (nat_eq k.pair.reference) pairs.old.entries ≡ None → 0 < spare pairs.old) }
+    ensures { pairs.new.entries ≡ pair_put pairs.old.entries kept }
+{
+    if let Some(kept) = kept {
+        let _ = pairs.insert(kept.pair.reference, kept);
+    }
+}
+
+/// Whether a matched pair waits, by what is kept of it.
+fn is_waiting(pairs: &IndexMap<u32, KeptPair>, pair: &Pair) -> bool
+    ensures { result ≡ is_waiting pairs.now.entries pair.now }
+{
+    match pairs.get(&pair.reference) {
+        Some(kept) => kept.still_waits(),
+        None => false,
+    }
+}
+
+/// Those of a line of matched pairs that wait, in their order.
+pub fn waiting(
+    alloc: Global,
+    line: &[Pair],
+    pairs: &IndexMap<u32, KeptPair>,
+) -> Result<Vec<Pair>, AllocError>
+    ensures { IfOk result (λ some. some.items ≡ filter
+        (λ p. is_waiting pairs.now.entries p) line.now) }
+{
+    line.iter()
+        .copied()
+        .filter(|p| is_waiting(pairs, p))
+        .collect(alloc)
+}
+
+/// The waiting pair at a place among those of a line that wait.
+pub fn waiting_at(line: &[Pair], pairs: &IndexMap<u32, KeptPair>, at: usize) -> Option<Pair>
+    ensures { result ≡ slice_get (filter (λ p. is_waiting pairs.now.entries p) line.now) at }
+{
+    line.iter()
+        .copied()
+        .filter(|p| is_waiting(pairs, p))
+        .nth(at)
+}
