@@ -30,7 +30,7 @@ use Rattle.agreement.proofs.Put.{put, put_cases, put_here}
 use Rattle.agreement.proofs.Moves.{IsGrown, grown_itself, grown-trans, Kept}
 use Rattle.agreement.proofs.Parts.{committed_fewer}
 use Rattle.agreement.proofs.Rises.{rising_none}
-use Rattle.agreement.proofs.Replies.{IsSound, step_sound}
+use Rattle.agreement.proofs.Replies.{IsSoundStep, step_sound}
 use Rattle.agreement.proofs.Events.{step_kept, fall_kept}
 use Rattle.agreement.proofs.Tests.{eq_of, normal_runs}
 
@@ -71,7 +71,7 @@ module _ {C R O : Type 0} (f : ℕ) where
       record { normal = a.normal; counted = a.counted; executed = a.executed; within = a.within; done = grown.commits _ _ a.done }
 
   -- what a step answers is committed
-  replied_answered : (g : History C R O) (s : ℕ → Site C) (i : ℕ) (step : Step C R O) → Holds f g (put s i step.site) → IsSound step → (reply : Replied C)
+  replied_answered : (g : History C R O) (s : ℕ → Site C) (i : ℕ) (step : Step C R O) → Holds f g (put s i step.site) → IsSoundStep step → (reply : Replied C)
       → Contains (replied i step) reply → IsAnswered f g reply
   replied_answered g s i step holds sound reply in' =
       let t = map-has (λ place. record { from = i; sender = step.site; place = place }) step.replies reply in' in
@@ -89,7 +89,7 @@ module _ {C R O : Type 0} (f : ℕ) where
       })
 
   -- open orders are sent by a normal site
-  ordered_normal : (i : ℕ) (step : Step C R O) → IsSound step → (order : Ordered C) → Contains (ordered i step) order → order.sender.status ≡ Normal
+  ordered_normal : (i : ℕ) (step : Step C R O) → IsSoundStep step → (order : Ordered C) → Contains (ordered i step) order → order.sender.status ≡ Normal
   ordered_normal i step sound order = by_test step.orders refl
     where
       by_place : step.orders ≡ true → (record { from = i; sender = step.site } ≡ order) ⊎ Contains [] order → order.sender.status ≡ Normal
@@ -101,7 +101,7 @@ module _ {C R O : Type 0} (f : ℕ) where
       by_test false e in' = absurd (Contains-none order in')
 
   after_step : (g : History C R O) (world : World C R O) (i : ℕ) (step : Step C R O) → HoldsAt f g world → i < length world.sites
-      → Kept f g (site_at world) i step → IsSound step → IsReached f g (stepped world i step)
+      → Kept f g (site_at world) i step → IsSoundStep step → IsReached f g (stepped world i step)
   after_step g world i step h small k sound = record {
     history = k.history;
     holds = record {

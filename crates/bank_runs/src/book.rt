@@ -1,7 +1,7 @@
 //! What a book of the small bank shows of the commands that came: each of its calls once. What commands are answered, in which
 //! order their faults are told, and histories drawn at random: `.ci/texts`.
 use self::Asks::{Fund, Instruct, Paid, PayOut, Rescind, Returned, Settle};
-use self::Shown::{
+use self::BookReading::{
     Applied, At, Balance, Count, Entries, Figure, First, Open, OpenCount, Orders, PaidIn, Pair,
     Queued, Sent, Sites, Value,
 };
@@ -9,7 +9,7 @@ use self::Step::{Comes, Often, Shows};
 use self::long::{Many, come_often};
 use fixtures::setup::three_currencies;
 use pvp_book::{Book, PairState};
-use pvp_types::{Cmd, PayOrder, Reason, Reply};
+use pvp_types::{Cmd, Instruction, PayOrder, Reason, Reply};
 use std::process::Abort;
 use std::test::Fail;
 
@@ -59,14 +59,16 @@ fn cmd_of(asks: Asks) -> Cmd {
             member,
             amt,
         },
-        Instruct(reference, other, (sell, sell_amt), (buy, buy_amt)) => Cmd::Instruct {
-            reference,
-            other,
-            sell,
-            sell_amt,
-            buy,
-            buy_amt,
-        },
+        Instruct(reference, other, (sell, sell_amt), (buy, buy_amt)) => Cmd::Instruct(
+            Instruction {
+                reference,
+                other,
+                sell,
+                sell_amt,
+                buy,
+                buy_amt,
+            },
+        ),
         Rescind(reference) => Cmd::Rescind { reference },
         Settle(most) => Cmd::Settle { most },
         PayOut(ccy, amt) => Cmd::PayOut { ccy, amt },
@@ -77,7 +79,7 @@ fn cmd_of(asks: Asks) -> Cmd {
 
 /// What a book shows.
 #[derive(Clone, Copy)]
-enum Shown {
+enum BookReading {
     /// How many commands came.
     Applied(u32),
     /// How many of them it accepted.
@@ -123,7 +125,7 @@ fn euro_of(out: u32) -> PayOrder {
 }
 
 /// Whether a book shows this of its orders and pairs.
-fn shows_work(book: &Book, shown: Shown) -> bool {
+fn shows_work(book: &Book, shown: BookReading) -> bool {
     match shown {
         Open(before, order) => book.open(before) == order,
         Sent(before, out) => book.open(before) == Some((EUR_NODE, euro_of(out))),
@@ -132,19 +134,19 @@ fn shows_work(book: &Book, shown: Shown) -> bool {
         Orders(ccy, count) => book.orders(ccy) == count,
         Pair(reference, state) => book.pair(reference) == state,
         Count(state, count) => book.pairs(state) == count,
-        Queued(count) => book.queued() == count,
+        Queued(count) => book.queue_length() == count,
         At(place, reference) => book.queue_at(place) == reference,
         _ => false,
     }
 }
 
 /// Whether a book shows this.
-fn shows(book: &Book, shown: Shown) -> bool {
+fn shows(book: &Book, shown: BookReading) -> bool {
     match shown {
         Applied(count) => book.applied() == count,
         Entries(count) => book.entries().len() == count,
         Sites(count) => book.setup().sites == count,
-        PaidIn(ccy, pay, is_in) => book.paid_in(ccy, pay) == is_in,
+        PaidIn(ccy, pay, is_in) => book.has_pay_in(ccy, pay) == is_in,
         Balance(member, ccy, balance) => book.balance(member, ccy) == balance,
         Figure(ccy, figure) => book.figure(ccy) == figure,
         Value(member, value) => book.value(member) == value,
@@ -160,7 +162,7 @@ enum Step {
     /// Commands that come so often.
     Often(Many, u32),
     /// What it then shows.
-    Shows(Shown),
+    Shows(BookReading),
 }
 
 /// Gives a book a command, and compares its answer.

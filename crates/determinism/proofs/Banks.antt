@@ -8,7 +8,7 @@ use Rattle.headline.specs.Bank.{Bank, opening_bank}
 use Rattle.headline.specs.Legal.{LegalList}
 use Rattle.headline.proofs.Runs.{leads-more}
 use Rattle.headline.proofs.Unique.{banks_once}
-use Rattle.pvp_world.specs.World.{Shown, IsAt}
+use Rattle.pvp_world.specs.World.{ShownWorld, IsAt}
 use Rattle.pvp_world.specs.Steps.{Moves}
 
 -- legal lists of one setup, one opening and the same moves lead to one bank
@@ -16,7 +16,7 @@ pub one-bank : (s t : Setup) → s ≡ t → (a : LegalList s (faults s)) (b : L
 one-bank s t e a =
     subst (λ (t : Setup). (b : LegalList t (faults t)) → a.cells ≡ b.cells → a.moves ≡ b.moves → a.bank ≡ b.bank) e (λ b. banks_once s (faults s) a b)
 
-module _ {B : Type 0} (held : B → Boot) (old new : Shown B) (move : Move) (m : Moves held old new move) where
+module _ {B : Type 0} (held : B → Boot) (old new : ShownWorld B) (move : Move) (m : Moves held old new move) where
   -- where a world was before a move
   abbrev pub was-at : IsAt held old
   was-at = record { list = m.list; cells = m.cells; moves = m.moves; shows = m.shows }

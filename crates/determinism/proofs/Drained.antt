@@ -11,7 +11,7 @@ use Rattle.vr_types.specs.declared.cell.BootCell.{Ghosts as Cell}
 use Rattle.rtgs_node.specs.Node.{Envelope}
 use Rattle.headline.specs.Bank.{delivery, turn}
 use Rattle.headline.proofs.Basics.{none-some, some-same}
-use Rattle.pvp_world.specs.World.{Shown as World, IsAt}
+use Rattle.pvp_world.specs.World.{ShownWorld, IsAt}
 use Rattle.pvp_world.specs.declared.fault.WorldFault.{WorldFault}
 use Rattle.pvp_world.specs.declared.fault.WorldFault.TheVariants as fault
 use Rattle.pvp_trace.specs.declared.attempt.Attempt.{Attempt}
@@ -126,8 +126,8 @@ module _ (cut : List ℕ) where
 
 -- DELIVERIES
 
-grow : {B : Type 0} (c : Cell B) (ns : List ℕ) (tries : List Attempt) (old new : World B) → AreDelivered c ns tries old new → Grows old.post new.post
-grow {B} c [] [] old new none = ([], ap (λ (w : World B). w.post) none ∙ sym (append-nil old.post))
+grow : {B : Type 0} (c : Cell B) (ns : List ℕ) (tries : List Attempt) (old new : ShownWorld B) → AreDelivered c ns tries old new → Grows old.post new.post
+grow {B} c [] [] old new none = ([], ap (λ (w : ShownWorld B). w.post) none ∙ sym (append-nil old.post))
 grow c [] (a ∷ tries) old new none = absurd none
 grow c (n ∷ ns) [] old new none = absurd none
 grow c (n ∷ ns) (a ∷ tries) old new (mid, tried, later) =
@@ -137,7 +137,7 @@ grow c (n ∷ ns) (a ∷ tries) old new (mid, tried, later) =
 
 module _ {B : Type 0} (c : Cell B) where
   -- what was never sent cannot be delivered
-  stuck : (ns : List ℕ) (tries : List Attempt) (old new : World B) → IsAt c.held old → AllAbove (length old.post) ns → AreDelivered c ns tries old new
+  stuck : (ns : List ℕ) (tries : List Attempt) (old new : ShownWorld B) → IsAt c.held old → AllAbove (length old.post) ns → AreDelivered c ns tries old new
       → AreFree tries → new ≡ old
   stuck [] [] old new at above none free = none
   stuck [] (a ∷ tries) old new at above none free = absurd none
@@ -146,7 +146,7 @@ module _ {B : Type 0} (c : Cell B) where
       let same = refused-stays c.held old mid (Deliver n) at a.result tried.attempts.applies free.0 fault.NoSuchEnvelope
       (refused-bank c.held old mid (Deliver n) at a.result tried.attempts.applies free.0
       ∙ ap (λ t. turn_refuses old.setup (faults old.setup) at.list.bank t) nothing) in
-      stuck ns tries old new at above.1 (subst (λ (w : World B). AreDelivered c ns tries w new) same later) free.1
+      stuck ns tries old new at above.1 (subst (λ (w : ShownWorld B). AreDelivered c ns tries w new) same later) free.1
     where
       absent : (es : List Envelope) → length es < n → (if n == 0 then None else option_map delivery (slice_get es (n - 1))) ≡ None
       absent es low =
@@ -157,7 +157,7 @@ module _ {B : Type 0} (c : Cell B) where
       nothing = ap (λ es. if n == 0 then None else option_map delivery (slice_get es (n - 1))) (sym at.shows.post) ∙ absent old.post above.0
 
   -- the next of those that are delivered was sent before
-  here : (cut : List ℕ) (cursor n : ℕ) (ns ms : List ℕ) (tries : List Attempt) (t : ℕ) (old new : World B) → IsAt c.held old
+  here : (cut : List ℕ) (cursor n : ℕ) (ns ms : List ℕ) (tries : List Attempt) (t : ℕ) (old new : ShownWorld B) → IsAt c.held old
       → AreDelivered c (n ∷ ns) tries old new → AreFree tries
       → open_after cut cursor new.post ≡ n ∷ ms → ns ≡ take t ms → n ≤ length old.post
   here cut cursor n ns ms tries t old new at done free all some = by (is_small n (length old.post))
@@ -180,7 +180,7 @@ module _ {B : Type 0} (c : Cell B) where
           subst (λ (l : List ℕ). AllAbove (length old.post) l) (sym some)
           (above-take (length old.post) t ms (above-less (length old.post) n ms (omega arith) beyond)) in
           let same = stuck (n ∷ ns) tries old new at (high, rest) done free in
-          subst (λ (w : World B). n ≤ length w.post) same is.high
+          subst (λ (w : ShownWorld B). n ≤ length w.post) same is.high
 
   -- of a list of which the first so many are these, the rest
   taken : (t : ℕ) (all : List ℕ) (n : ℕ) (ns : List ℕ) → n ∷ ns ≡ take (suc t) all → (ms : List ℕ) × (all ≡ n ∷ ms) × (ns ≡ take t ms)
@@ -188,12 +188,12 @@ module _ {B : Type 0} (c : Cell B) where
   taken t (m ∷ all) n ns e = (all, ap (λ k. k ∷ all) (sym (heads n m ns (take t all) e)), tails n m ns (take t all) e)
 
   -- what is delivered first is the next open envelope of the world in which that begins
-  record Begins (cut : List ℕ) (cursor n : ℕ) (ns : List ℕ) (t : ℕ) (old new : World B) : Type 0 where
+  record Begins (cut : List ℕ) (cursor n : ℕ) (ns : List ℕ) (t : ℕ) (old new : ShownWorld B) : Type 0 where
     later : List ℕ
     is_next : open_after cut cursor old.post ≡ n ∷ later
     rest : ns ≡ take t (open_after cut n new.post)
 
-  begins : (cut : List ℕ) (cursor n : ℕ) (ns : List ℕ) (tries : List Attempt) (t : ℕ) (old new : World B) → IsAt c.held old
+  begins : (cut : List ℕ) (cursor n : ℕ) (ns : List ℕ) (tries : List Attempt) (t : ℕ) (old new : ShownWorld B) → IsAt c.held old
       → AreDelivered c (n ∷ ns) tries old new → AreFree tries
       → n ∷ ns ≡ take (suc t) (open_after cut cursor new.post) → Begins cut cursor n ns t old new
   begins cut cursor n ns tries t old new at done free some =
@@ -205,30 +205,30 @@ module _ {B : Type 0} (c : Cell B) where
       record { later = early.0; is_next = early.1; rest = p.2 ∙ ap (take t) is.rest }
 
   -- THE SAME ENVELOPES come in both worlds, and the same comes of them
-  pub record OneDrain (ns ms : List ℕ) (tries others : List Attempt) (one other : World B) : Type 0 where
+  pub record OneDrain (ns ms : List ℕ) (tries others : List Attempt) (one other : ShownWorld B) : Type 0 where
     pub which : ns ≡ ms
     pub attempts : tries ≡ others
     pub twins : AreTwins c.held one other
 
-  pub drain-twins : (t : ℕ) (cut : List ℕ) (cursor : ℕ) (a b one other : World B) (ns ms : List ℕ) (tries others : List Attempt) → AreTwins c.held a b
+  pub drain-twins : (t : ℕ) (cut : List ℕ) (cursor : ℕ) (a b one other : ShownWorld B) (ns ms : List ℕ) (tries others : List Attempt) → AreTwins c.held a b
       → ns ≡ take t (open_after cut cursor one.post) → ms ≡ take t (open_after cut cursor other.post)
       → AreDelivered c ns tries a one → AreDelivered c ms others b other → AreFree tries → AreFree others → OneDrain ns ms tries others one other
   drain-twins t cut cursor a b one other [] [] [] [] twins some others_some done too free other_free = record {
     which = refl;
     attempts = refl;
-    twins = subst (λ (w : World B). AreTwins c.held w other) (sym done) (subst (λ (w : World B). AreTwins c.held a w) (sym too) twins);
+    twins = subst (λ (w : ShownWorld B). AreTwins c.held w other) (sym done) (subst (λ (w : ShownWorld B). AreTwins c.held a w) (sym too) twins);
   }
   drain-twins zero cut cursor a b one other (n ∷ ns) ms tries others twins some others_some done too free other_free = absurd (empty n ns (sym some))
   drain-twins zero cut cursor a b one other ns (m ∷ ms) tries others twins some others_some done too free other_free = absurd (empty m ms (sym others_some))
   drain-twins (suc t) cut cursor a b one other [] (m ∷ ms) [] others twins some others_some done too free other_free =
       let q = begins cut cursor m ms others t b other twins.other_at too other_free others_some in
       let all : open_after cut cursor one.post ≡ m ∷ q.later =
-      ap (λ (w : World B). open_after cut cursor w.post) done ∙ ap (open_after cut cursor) (twin-post c.held a b twins) ∙ q.is_next in
+      ap (λ (w : ShownWorld B). open_after cut cursor w.post) done ∙ ap (open_after cut cursor) (twin-post c.held a b twins) ∙ q.is_next in
       absurd (empty m (take t q.later) (some ∙ ap (take (suc t)) all))
   drain-twins (suc t) cut cursor a b one other (n ∷ ns) [] tries [] twins some others_some done too free other_free =
       let p = begins cut cursor n ns tries t a one twins.one_at done free some in
       let all : open_after cut cursor other.post ≡ n ∷ p.later =
-      ap (λ (w : World B). open_after cut cursor w.post) too ∙ ap (open_after cut cursor) (sym (twin-post c.held a b twins)) ∙ p.is_next in
+      ap (λ (w : ShownWorld B). open_after cut cursor w.post) too ∙ ap (open_after cut cursor) (sym (twin-post c.held a b twins)) ∙ p.is_next in
       absurd (empty n (take t p.later) (others_some ∙ ap (take (suc t)) all))
   drain-twins (suc t) cut cursor a b one other (n ∷ ns) (m ∷ ms) (x ∷ tries) (y ∷ others) twins some others_some done too free other_free =
       let p = begins cut cursor n ns (x ∷ tries) t a one twins.one_at done free some in

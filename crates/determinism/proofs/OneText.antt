@@ -10,7 +10,7 @@ use Rattle.pvp_text.specs.declared.script.Line.{Line}
 use Rattle.pvp_text.specs.declared.script.Statement.{Statement}
 use Rattle.pvp_text.specs.declared.script.Statement.TheVariants.{Do, Print, Drain, Skip, Cut, Heal, Chaos, Rest}
 use Rattle.pvp_world.specs.declared.fault.WorldFault.{WorldFault}
-use Rattle.pvp_world.specs.World.{Shown as World}
+use Rattle.pvp_world.specs.World.{ShownWorld}
 use Rattle.pvp_trace.specs.declared.attempt.Attempt.{Attempt}
 use Rattle.pvp_play.specs.declared.cells.Fail.{Fail}
 use Rattle.pvp_play.specs.declared.notes.Telling.{Telling}
@@ -19,8 +19,8 @@ use Rattle.pvp_play.specs.BooksText.{books_text}
 use Rattle.pvp_play.specs.Chaos.{words_of}
 use Rattle.pvp_play.specs.Lines.{Does, Plays, IsOpening, refused_text, print_text, steps_text, line_text, no_notes}
 use Rattle.pvp_play.specs.Notes.{notes, notes_text}
-use Rattle.pvp_play.specs.Passing.{passed, is_held, taken_text, skip_text, held_text, passing_text}
-use Rattle.pvp_play.specs.Player.{Position, beginning, skipped, cut_off, healed, with_cut}
+use Rattle.pvp_play.specs.Passing.{passed_numbers, is_held, taken_text, skip_text, held_text, passing_text}
+use Rattle.pvp_play.specs.Player.{Position, beginning, after_skip, cut_off, cut_without, with_cut}
 use Rattle.determinism.specs.Twins.{AreTwins, AreTwinPlayers}
 use Rattle.determinism.specs.Plays.{LineIsFree, PlaysFreely, FreePlay}
 use Rattle.determinism.proofs.Outcome.{twin-bank, twin-post}
@@ -42,14 +42,15 @@ module _ {B : Type 0} (c : Cell B) where
     does-too (Do step) x y free too = tries-too c p q twins p' q' step told other x y free too
     does-too Print x y free too = stays-too p q twins _ _ refl x.0 y.0 x.1 y.1
     does-too (Drain turns) x y free too = record { told = x.1 ∙ sym y.1; twins = drains-too c p q twins p' q' turns x.0 y.0 free too }
-    does-too (Skip envelopes) x y free too = stays-too (skipped p envelopes) (skipped q envelopes) (skips-too c p q twins envelopes) _ _ refl x.0 y.0 x.1 y.1
+    does-too (Skip envelopes) x y free too =
+        stays-too (after_skip p envelopes) (after_skip q envelopes) (skips-too c p q twins envelopes) _ _ refl x.0 y.0 x.1 y.1
     does-too (Cut actor) x y free too =
         stays-too (with_cut p actor (cut_off p.cut actor)) (with_cut q actor (cut_off q.cut actor))
         (cuts-too c p q twins actor (cut_off p.cut actor) (cut_off q.cut actor) (ap (λ cut. cut_off cut actor) twins.cut)) _ _
         (unknown-too c p q twins actor) x.0 y.0 x.1 y.1
     does-too (Heal actor) x y free too =
-        stays-too (with_cut p actor (healed p.cut actor)) (with_cut q actor (healed q.cut actor))
-        (cuts-too c p q twins actor (healed p.cut actor) (healed q.cut actor) (ap (λ cut. healed cut actor) twins.cut)) _ _
+        stays-too (with_cut p actor (cut_without p.cut actor)) (with_cut q actor (cut_without q.cut actor))
+        (cuts-too c p q twins actor (cut_without p.cut actor) (cut_without q.cut actor) (ap (λ cut. cut_without cut actor) twins.cut)) _ _
         (unknown-too c p q twins actor) x.0 y.0 x.1 y.1
     does-too (Chaos seed turns) x y free too = record {
       told = x.1 ∙ sym y.1;
@@ -58,14 +59,14 @@ module _ {B : Type 0} (c : Cell B) where
     does-too (Rest milliseconds) x y free too = stays-too p q twins _ _ refl x.0 y.0 x.1 y.1
 
   -- WHAT IT PRINTS
-  books-too : (a b : World B) (twins : AreTwins c.held a b) → books_text c.held a ≡ books_text c.held b
+  books-too : (a b : ShownWorld B) (twins : AreTwins c.held a b) → books_text c.held a ≡ books_text c.held b
   books-too a b twins =
       books-same c.held a twins.one_at.list.bank twins.one_at.shows
       ∙ ap (λ (s : Setup). bank_words s twins.one_at.list.bank) twins.setup
       ∙ ap (λ (k : Bank). bank_words b.setup k) (twin-bank c.held a b twins)
       ∙ sym (books-same c.held b twins.other_at.list.bank twins.other_at.shows)
 
-  print-too : (a b : World B) (twins : AreTwins c.held a b) (s : Statement) → print_text c.held s a ≡ print_text c.held s b
+  print-too : (a b : ShownWorld B) (twins : AreTwins c.held a b) (s : Statement) → print_text c.held s a ≡ print_text c.held s b
   print-too a b twins Print = books-too a b twins
   print-too a b twins _ = refl
 
@@ -75,9 +76,9 @@ module _ {B : Type 0} (c : Cell B) where
   passing-too (Heal actor) told from p q twins = ap (λ (s : Setup). taken_text s (codes "heal") actor told) twins.worlds.setup
   passing-too (Skip envelopes) told from p q twins = ap (λ (n : ℕ). skip_text from n) twins.cursor
   passing-too (Drain turns) told from p q twins =
-      ap (λ (n : ℕ). held_text (filter (is_held p.cut p.world.post) (passed from n))) twins.cursor
-      ∙ ap (λ (cut : List ℕ). held_text (filter (is_held cut p.world.post) (passed from q.cursor))) twins.cut
-      ∙ ap (λ (es : List Envelope). held_text (filter (is_held q.cut es) (passed from q.cursor))) (twin-post c.held p.world q.world twins.worlds)
+      ap (λ (n : ℕ). held_text (filter (is_held p.cut p.world.post) (passed_numbers from n))) twins.cursor
+      ∙ ap (λ (cut : List ℕ). held_text (filter (is_held cut p.world.post) (passed_numbers from q.cursor))) twins.cut
+      ∙ ap (λ (es : List Envelope). held_text (filter (is_held q.cut es) (passed_numbers from q.cursor))) (twin-post c.held p.world q.world twins.worlds)
   passing-too _ told from p q twins = refl
 
   text-too : (telling : Telling) (line : Line) (p q p' q' : Position B) (told other : Option WorldFault) → AreTwinPlayers c.held p q

@@ -10,14 +10,14 @@ use Rattle.vr_types.specs.declared.event.SiteFault.{SiteFault}
 use Rattle.vr_types.specs.declared.event.SiteFault.TheVariants as site
 use Rattle.vr_types.specs.declared.event.Why.{Why}
 use Rattle.vr_types.specs.Site.{Site}
-use Rattle.vr_site.specs.Replica as replica
+use Rattle.vr_site.specs.Replica.{ShownSite}
 use Rattle.rtgs_node.specs.Node.{Envelope}
 use Rattle.headline.specs.declared.step.Move.{Move}
 use Rattle.headline.specs.declared.step.Move.TheVariants.{Takes}
 use Rattle.headline.specs.Bank.{Bank, turn}
 use Rattle.headline.specs.Legal.{LegalList}
 use Rattle.headline.proofs.Basics.{none-some, some-same}
-use Rattle.pvp_world.specs.World.{Shown, ShowsBank, IsAt}
+use Rattle.pvp_world.specs.World.{ShownWorld, ShowsBank, IsAt}
 use Rattle.pvp_world.specs.Steps.{IsReport, Moves, IsTaken, IsRefused, Applies, dropped_in, is_fall, is_world_fall}
 use Rattle.pvp_world.specs.declared.fault.WorldFault.{WorldFault}
 use Rattle.pvp_world.specs.declared.fault.WorldFault.TheVariants as fault
@@ -35,7 +35,7 @@ use Rattle.pvp_world.proofs.Refused.{taken-none, why-told, fall-hinders, no-fall
 
 module _ {B : Type 0} (held : B → Boot) where
   -- the reason that is told is the bank's
-  pub refused-bank : (old new : Shown B) (step : Step) (at : IsAt held old) (result : Result Report WorldFault) → Applies held old new step result
+  pub refused-bank : (old new : ShownWorld B) (step : Step) (at : IsAt held old) (result : Result Report WorldFault) → Applies held old new step result
       → is_hindered result ≡ false
       → refused_as result ≡ bank_refuses old.setup (faults old.setup) at.list.bank step
   refused-bank old new step at (Ok report) taken free =
@@ -47,7 +47,7 @@ module _ {B : Type 0} (held : B → Boot) where
   refused-bank old new step at (Err why) refused free = sym (why-told held old at.list.bank at.shows step why free (refused.kept (no-fall why free)).1)
 
   -- where a move leads, the world is at
-  pub moved-at : (old new : Shown B) (move : Move) → Moves held old new move → IsAt held new
+  pub moved-at : (old new : ShownWorld B) (move : Move) → Moves held old new move → IsAt held new
   moved-at old new move m =
       let p =
       subst (λ (s : Setup). (list : LegalList s (faults s)) × (list.cells ≡ new.opening) × (list.moves ≡ new.trail) × ShowsBank held new list.bank)
@@ -56,20 +56,20 @@ module _ {B : Type 0} (held : B → Boot) where
       record { list = p.0; cells = p.1; moves = p.2; shows = p.3 }
 
   -- where a step that nothing hinders leaves it, the world is at
-  pub stays-at : (old new : Shown B) (step : Step) (result : Result Report WorldFault) → IsAt held old → Applies held old new step result
+  pub stays-at : (old new : ShownWorld B) (step : Step) (result : Result Report WorldFault) → IsAt held old → Applies held old new step result
       → is_hindered result ≡ false → IsAt held new
   stays-at old new step (Ok report) at taken free = moved-at old new (Takes step) taken.moves
-  stays-at old new step (Err why) at refused free = subst (λ (w : Shown B). IsAt held w) (sym (refused.kept (no-fall why free)).0) at
+  stays-at old new step (Err why) at refused free = subst (λ (w : ShownWorld B). IsAt held w) (sym (refused.kept (no-fall why free)).0) at
 
   -- where a reason is told, the world is as it was
-  pub refused-stays : (old new : Shown B) (step : Step) (at : IsAt held old) (result : Result Report WorldFault) → Applies held old new step result
+  pub refused-stays : (old new : ShownWorld B) (step : Step) (at : IsAt held old) (result : Result Report WorldFault) → Applies held old new step result
       → is_hindered result ≡ false
       → (why : WorldFault) → refused_as result ≡ Some why → new ≡ old
   refused-stays old new step at (Ok report) taken free why told = absurd (none-some why told)
   refused-stays old new step at (Err fault) refused free why told = (refused.kept (no-fall fault free)).0
 
   -- of two worlds that came the same way
-  module _ (a b : Shown B) (twins : AreTwins held a b) where
+  module _ (a b : ShownWorld B) (twins : AreTwins held a b) where
     pub twin-bank : twins.one_at.list.bank ≡ twins.other_at.list.bank
     twin-bank = let p = twins.one_at in let q = twins.other_at in
         one-bank a.setup b.setup twins.setup p.list q.list (p.cells ∙ twins.opening ∙ sym q.cells) (p.moves ∙ twins.trail ∙ sym q.moves)
@@ -77,7 +77,7 @@ module _ {B : Type 0} (held : B → Boot) where
     pub twin-post : a.post ≡ b.post
     twin-post = twins.one_at.shows.post ∙ ap (λ (k : Bank). k.post) twin-bank ∙ sym twins.other_at.shows.post
 
-    module _ (c d : Shown B) (step : Step) where
+    module _ (c d : ShownWorld B) (step : Step) where
       -- one reason is told
       pub told-once : (r s : Result Report WorldFault) → Applies held a c step r → Applies held b d step s → is_hindered r ≡ false → is_hindered s ≡ false
           → refused_as r ≡ refused_as s
@@ -100,8 +100,8 @@ module _ {B : Type 0} (held : B → Boot) where
       twins-go-on (Ok r) (Err s) p q free too = absurd (none-some s (told-once (Ok r) (Err s) p q free too))
       twins-go-on (Err r) (Ok s) p q free too = absurd (none-some r (sym (told-once (Err r) (Ok s) p q free too)))
       twins-go-on (Err r) (Err s) p q free too =
-          subst (λ (w : Shown B). AreTwins held w d) (sym (p.kept (no-fall r free)).0)
-          (subst (λ (w : Shown B). AreTwins held a w) (sym (q.kept (no-fall s too)).0) twins)
+          subst (λ (w : ShownWorld B). AreTwins held w d) (sym (p.kept (no-fall r free)).0)
+          (subst (λ (w : ShownWorld B). AreTwins held a w) (sym (q.kept (no-fall s too)).0) twins)
 
   -- ONE REPORT
   abbrev report_of : ℕ → ℕ → Option Why → Report
@@ -114,7 +114,7 @@ module _ {B : Type 0} (held : B → Boot) where
       ∙ ap (λ (n : ℕ). report_of s.first n r.dropped) count
       ∙ ap (λ (w : Option Why). report_of s.first s.count w) (p.dropped ∙ sym q.dropped)
 
-  pub result-once : (a b : Shown B) (twins : AreTwins held a b) (c d : Shown B) (step : Step) (r s : Result Report WorldFault)
+  pub result-once : (a b : ShownWorld B) (twins : AreTwins held a b) (c d : ShownWorld B) (step : Step) (r s : Result Report WorldFault)
       → Applies held a c step r → Applies held b d step s → is_hindered r ≡ false → is_hindered s ≡ false → r ≡ s
   result-once a b twins c d step (Ok r) (Ok s) p q free too =
       let next = twins-go-on a b twins c d step (Ok r) (Ok s) p q free too in
@@ -137,18 +137,18 @@ module _ {B : Type 0} (held : B → Boot) where
   bank_stand : ℕ → Site Cmd → Stand
   bank_stand i x = record { site = i; status = x.status; view = x.view; done = x.done }
 
-  stand-shown : (w : Shown B) (at : IsAt held w) (i : ℕ) → stand_at w i ≡ option_map (bank_stand i) (slice_get at.list.bank.sites i)
+  stand-shown : (w : ShownWorld B) (at : IsAt held w) (i : ℕ) → stand_at w i ≡ option_map (bank_stand i) (slice_get at.list.bank.sites i)
   unfolding bank_stand
   stand-shown w at i = by (slice_get w.sites i) (slice_get at.list.bank.sites i) refl refl
     where
-      by : (o : Option (replica.Shown Cmd Setup B)) (p : Option (Site Cmd)) → slice_get w.sites i ≡ o → slice_get at.list.bank.sites i ≡ p
+      by : (o : Option (ShownSite Cmd Setup B)) (p : Option (Site Cmd)) → slice_get w.sites i ≡ o → slice_get at.list.bank.sites i ≡ p
           → option_map (stand_of i) o ≡ option_map (bank_stand i) p
       by None None e d = refl
       by None (Some x) e d = let v = within at.list.bank.sites w.sites i x (sym at.shows.sites.count) d in absurd (none-some v.0 (sym e ∙ v.1))
       by (Some v) None e d = let x = within w.sites at.list.bank.sites i v at.shows.sites.count e in absurd (none-some x.0 (sym d ∙ x.1))
       by (Some v) (Some x) e d = ap (λ (y : Site Cmd). Some (bank_stand i y)) (sym (at.shows.sites.each i v x e d).site)
 
-  stands-too : (a b : Shown B) → AreTwins held a b → (number : Option ℕ) → option_and_then (stand_at a) number ≡ option_and_then (stand_at b) number
+  stands-too : (a b : ShownWorld B) → AreTwins held a b → (number : Option ℕ) → option_and_then (stand_at a) number ≡ option_and_then (stand_at b) number
   stands-too a b twins None = refl
   stands-too a b twins (Some i) =
       stand-shown a twins.one_at i
@@ -159,7 +159,7 @@ module _ {B : Type 0} (held : B → Boot) where
   abbrev attempt_of : Step → Result Report WorldFault → Option Boot → Option Stand → Option Stand → ℕ → ℕ → Attempt
   attempt_of step result fell was now before after = record { step = step; result = result; fell = fell; was = was; now = now; before = before; after = after }
 
-  pub attempt-once : (a b : Shown B) (twins : AreTwins held a b) (c d : Shown B) (step : Step) (x y : Attempt)
+  pub attempt-once : (a b : ShownWorld B) (twins : AreTwins held a b) (c d : ShownWorld B) (step : Step) (x y : Attempt)
       → Attempts held a c step x → Attempts held b d step y → is_hindered x.result ≡ false → is_hindered y.result ≡ false → (x ≡ y) × AreTwins held c d
   attempt-once a b twins c d step x y p q free too =
       let next = twins-go-on a b twins c d step x.result y.result p.applies q.applies free too in

@@ -10,18 +10,17 @@ use Rattle.vr_types.specs.declared.event.Status.{Status}
 use Rattle.vr_types.specs.declared.event.Status.TheVariants.{Normal, Change, Recovering, Down}
 use Rattle.vr_types.specs.Handling.{machine_of}
 use Rattle.vr_types.specs.Site.{Site, is_running}
-use Rattle.vr_site.specs.Replica as replica
-use Rattle.vr_site.specs.Replica.{site_shown}
+use Rattle.vr_site.specs.Replica.{ShownSite, site_shown}
 use Rattle.pvp_book.specs.Ledger.{Ledger, opening}
 use Rattle.rtgs_node.specs.Node.{Node}
-use Rattle.rtgs_node.specs.Shown as node
+use Rattle.rtgs_node.specs.Shown.{ShownNode}
 use Rattle.headline.specs.Machine.{book}
 use Rattle.headline.specs.Client.{Client}
 use Rattle.headline.specs.Bank.{Bank}
 use Rattle.headline.proofs.Basics.{none-some}
 use Rattle.pvp_text.specs.BookText.{block}
-use Rattle.pvp_world.specs.Client as client
-use Rattle.pvp_world.specs.World.{Shown, AreEach, IsSite, IsNode, IsClient, ShowsBank}
+use Rattle.pvp_world.specs.Client.{ShownClient}
+use Rattle.pvp_world.specs.World.{ShownWorld, AreEach, IsSite, IsNode, IsClient, ShowsBank}
 use Rattle.pvp_play.specs.BooksText.{site_text, node_line, figure_text, way_line, node_text, client_text, name_of, answer_text, books_text}
 
 -- two lists of which each element has the text of the one in its place
@@ -76,7 +75,7 @@ bank_words setup bank =
     ++ flat_map (client_words setup) (enumerate_from 0 bank.clients)
 
 module _ {B : Type 0} (held : B → Boot) where
-  status-same : (v : replica.Shown Cmd Setup B) (x : Site Cmd) (acks : _) → x ≡ site_shown held v acks → (s : Status)
+  status-same : (v : ShownSite Cmd Setup B) (x : Site Cmd) (acks : _) → x ≡ site_shown held v acks → (s : Status)
       → Rattle.pvp_play.specs.BooksText.status_text v.volatile s ≡ status_words x s
   unfolding status_words standing_words
   status-same v x acks e Normal = ap (λ (y : Site Cmd). codes "normal" ++ standing_words y) (sym e)
@@ -84,7 +83,7 @@ module _ {B : Type 0} (held : B → Boot) where
   status-same v x acks e Recovering = refl
   status-same v x acks e Down = refl
 
-  site-same : (setup : Setup) (i : ℕ) (v : replica.Shown Cmd Setup B) (x : Site Cmd) → IsSite held setup i v x → site_text held (i, v) ≡ site_words setup (i, x)
+  site-same : (setup : Setup) (i : ℕ) (v : ShownSite Cmd Setup B) (x : Site Cmd) → IsSite held setup i v x → site_text held (i, v) ≡ site_words setup (i, x)
   unfolding site_words book_words
   site-same setup i v x is =
       let e = is.site in
@@ -95,7 +94,7 @@ module _ {B : Type 0} (held : B → Boot) where
       ∙ ap (λ (y : Site Cmd). line (status_words x x.status) y.cell.boots ++ part v.setup y) (sym e)
       ∙ ap (λ (s : Setup). line (status_words x x.status) x.cell.boots ++ part s x) is.made_from
 
-  way-same : (setup : Setup) (c : ℕ) (n : Node) (i : ℕ) (v : replica.Shown Cmd Setup B) (x : Site Cmd) → IsSite held setup i v x
+  way-same : (setup : Setup) (c : ℕ) (n : Node) (i : ℕ) (v : ShownSite Cmd Setup B) (x : Site Cmd) → IsSite held setup i v x
       → way_line held c n (i, v) ≡ way_words setup c n (i, x)
   unfolding way_words book_words
   way-same setup c n i v x is =
@@ -103,19 +102,19 @@ module _ {B : Type 0} (held : B → Boot) where
       λ s y. if is_running y.status then codes "  site " ++ decimal i ++ figure_text c n (machine_of book (opening s) y) ++ codes "\n" else [] in
       ap (λ (y : Site Cmd). part v.setup y) (sym is.site) ∙ ap (λ (s : Setup). part s x) is.made_from
 
-  module _ (world : Shown B) (bank : Bank) (shows : ShowsBank held world bank) where
-    node-same : (c : ℕ) (v : node.Shown) (x : Node) → IsNode world.setup c v x → node_text held world (c, v) ≡ node_words world.setup bank (c, x)
+  module _ (world : ShownWorld B) (bank : Bank) (shows : ShowsBank held world bank) where
+    node-same : (c : ℕ) (v : ShownNode) (x : Node) → IsNode world.setup c v x → node_text held world (c, v) ≡ node_words world.setup bank (c, x)
     unfolding node_words
     node-same c v x is =
-        ap (λ (w : node.Shown). node_text held world (c, w)) is
+        ap (λ (w : ShownNode). node_text held world (c, w)) is
         ∙ ap (λ (t : List ℕ). node_line world.setup c x ++ t)
         (each-text (way_line held c x) (way_words world.setup c x) world.sites bank.sites 0 shows.sites.count
         (λ i k v y at one other. way-same world.setup c x k v y
         (subst (λ (j : ℕ). IsSite held world.setup j v y) (here i k at) (shows.sites.each i v y one other))))
 
-    client-same : (k : ℕ) (v : client.Shown) (x : Client) → IsClient world.setup k v x → client_text world.setup (k, v) ≡ client_words world.setup (k, x)
+    client-same : (k : ℕ) (v : ShownClient) (x : Client) → IsClient world.setup k v x → client_text world.setup (k, v) ≡ client_words world.setup (k, x)
     unfolding client_words
-    client-same k v x is = ap (λ (w : client.Shown). client_text world.setup (k, w)) is
+    client-same k v x is = ap (λ (w : ShownClient). client_text world.setup (k, w)) is
 
     -- THE BOOKS of a world are those of its bank
     pub books-same : books_text held world ≡ bank_words world.setup bank

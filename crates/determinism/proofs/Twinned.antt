@@ -11,7 +11,7 @@ use Rattle.vr_types.specs.declared.cell.Boot.{Boot}
 use Rattle.vr_types.specs.declared.cell.BootCell.{Ghosts as Cell}
 use Rattle.vr_types.specs.declared.event.EventOf.TheVariants.{Beat}
 use Rattle.vr_types.specs.Site.{Site, is_normal}
-use Rattle.vr_site.specs.Replica as replica
+use Rattle.vr_site.specs.Replica.{ShownSite}
 use Rattle.rtgs_node.specs.Node.{Envelope}
 use Rattle.rtgs_node.specs.declared.event.NodeEvent.TheVariants as node_event
 use Rattle.headline.specs.declared.step.ClientEvent.TheVariants as client_event
@@ -21,7 +21,7 @@ use Rattle.headline.specs.Bank.{Bank, turn_of}
 use Rattle.headline.proofs.Basics.{none-some}
 use Rattle.pvp_world.specs.declared.fault.WorldFault.{WorldFault}
 use Rattle.pvp_world.specs.declared.fault.WorldFault.TheVariants.{NoSuchActor}
-use Rattle.pvp_world.specs.World.{Shown as World, IsSite, IsAt}
+use Rattle.pvp_world.specs.World.{ShownWorld, IsSite, IsAt}
 use Rattle.pvp_world.specs.Steps.{has_actor, has_number}
 use Rattle.pvp_trace.specs.declared.attempt.Attempt.{Attempt}
 use Rattle.pvp_play.specs.declared.chaos.Act.{Act}
@@ -29,7 +29,7 @@ use Rattle.pvp_play.specs.declared.chaos.Act.TheVariants as act
 use Rattle.pvp_play.specs.Chaos as chaos
 use Rattle.pvp_play.specs.Chaos.{TakesTurn, next_act, act_of, table, are_normal, is_normal_at}
 use Rattle.pvp_play.specs.Notes.{with_notes}
-use Rattle.pvp_play.specs.Player.{Position, Tries, Drains, open_after, skipped, cursor_after, refusal_in, cut_off, healed, with_cut, unknown_actor}
+use Rattle.pvp_play.specs.Player.{Position, Tries, Drains, open_after, after_skip, cursor_after, refusal_in, cut_off, cut_without, with_cut, unknown_actor}
 use Rattle.pvp_play.specs.Turns.{Turns}
 use Rattle.rand_pcg.specs.Lcg.{Lcg}
 use Rattle.rand_pcg.specs.Pcg.{pcg32}
@@ -42,7 +42,7 @@ use Rattle.pvp_world.proofs.Refused.{within}
 
 module _ {B : Type 0} (c : Cell B) where
   -- WHAT THE TWO WORLDS HAVE ALIKE
-  module _ (a b : World B) (twins : AreTwins c.held a b) where
+  module _ (a b : ShownWorld B) (twins : AreTwins c.held a b) where
     site-count : length a.sites ≡ length b.sites
     site-count = twins.one_at.shows.sites.count ∙ ap (λ (k : Bank). length k.sites) (twin-bank c.held a b twins) ∙ sym twins.other_at.shows.sites.count
 
@@ -61,11 +61,11 @@ module _ {B : Type 0} (c : Cell B) where
     number-too actor = actor-too (turn_of actor Beat node_event.Beats client_event.Beats)
 
   -- whether a site is normal is the bank's
-  normal-shown : (w : World B) (at : IsAt c.held w) (i : ℕ)
+  normal-shown : (w : ShownWorld B) (at : IsAt c.held w) (i : ℕ)
       → is_normal_at w i ≡ option_map_or (λ (x : Site Cmd). is_normal x.status) (slice_get at.list.bank.sites i) false
   normal-shown w at i = by (slice_get w.sites i) (slice_get at.list.bank.sites i) refl refl
     where
-      by : (o : Option (replica.Shown Cmd Setup B)) (p : Option (Site Cmd)) → slice_get w.sites i ≡ o → slice_get at.list.bank.sites i ≡ p
+      by : (o : Option (ShownSite Cmd Setup B)) (p : Option (Site Cmd)) → slice_get w.sites i ≡ o → slice_get at.list.bank.sites i ≡ p
           → option_map_or (λ v. is_normal v.volatile.status) o false ≡ option_map_or (λ (x : Site Cmd). is_normal x.status) p false
       by None None e d = refl
       by None (Some x) e d = let v = within at.list.bank.sites w.sites i x (sym at.shows.sites.count) d in absurd (none-some v.0 (sym e ∙ v.1))
@@ -76,7 +76,7 @@ module _ {B : Type 0} (c : Cell B) where
   all-same f g [] same = refl
   all-same f g (n ∷ ns) same = ap (λ (o : Bool). o && list_all f ns) (same n) ∙ ap (λ (o : Bool). g n && o) (all-same f g ns same)
 
-  normal-too : (a b : World B) (twins : AreTwins c.held a b) → are_normal a ≡ are_normal b
+  normal-too : (a b : ShownWorld B) (twins : AreTwins c.held a b) → are_normal a ≡ are_normal b
   normal-too a b twins =
       all-same (is_normal_at a) (is_normal_at b) (range_with_len 0 a.setup.sites)
       (λ i. normal-shown a twins.one_at i ∙ ap (λ (k : Bank). option_map_or (λ (x : Site Cmd). is_normal x.status) (slice_get k.sites i) false)
@@ -100,7 +100,7 @@ module _ {B : Type 0} (c : Cell B) where
       ∷ act.Tries (steps.Restart (b % setup.sites))
       ∷ []
 
-  act-too : (a b : World B) (twins : AreTwins c.held a b) (words : Lcg) → next_act a words ≡ next_act b words
+  act-too : (a b : ShownWorld B) (twins : AreTwins c.held a b) (words : Lcg) → next_act a words ≡ next_act b words
   unfolding table_with
   act-too a b twins words =
       let first = (pcg32 words).0 in
@@ -151,7 +151,7 @@ module _ {B : Type 0} (c : Cell B) where
               (λ (n : Option (List Attempt)). with_notes n y.attempts) twins.noted ∙ sym y.noted;
         }
 
-    pub skips-too : (n : ℕ) → AreTwinPlayers c.held (skipped p n) (skipped q n)
+    pub skips-too : (n : ℕ) → AreTwinPlayers c.held (after_skip p n) (after_skip q n)
     skips-too n = record {
       worlds = twins.worlds;
       cursor =
@@ -177,7 +177,7 @@ module _ {B : Type 0} (c : Cell B) where
         → AreTwinPlayers c.held p' q'
     acts-too act.Drains p' q' x y free too = drains-too p' q' 1 x y free too
     acts-too act.Skips p' q' x y free too =
-        subst (λ r. AreTwinPlayers c.held r q') (sym x) (subst (λ r. AreTwinPlayers c.held (skipped p 1) r) (sym y) (skips-too 1))
+        subst (λ r. AreTwinPlayers c.held r q') (sym x) (subst (λ r. AreTwinPlayers c.held (after_skip p 1) r) (sym y) (skips-too 1))
     acts-too (act.Tries step) p' q' x y free too = (tries-too p' q' step x.0 y.0 x.1 y.1 free too).twins
     acts-too act.Rests p' q' x y free too = subst (λ r. AreTwinPlayers c.held r q') (sym x) (subst (λ r. AreTwinPlayers c.held p r) (sym y) twins)
 

@@ -7,7 +7,7 @@ ghost use Rattle.pvp_types.specs.declared.setup.Setup.{Setup};
 ghost use Rattle.pvp_types.specs.declared.step.Step.{Step};
 ghost use Rattle.pvp_types.specs.Setup.{faults};
 ghost use Rattle.pvp_text.specs.declared.script.Line.{Line};
-ghost use Rattle.pvp_world.specs.World.{Shown, IsAt};
+ghost use Rattle.pvp_world.specs.World.{ShownWorld, IsAt};
 ghost use Rattle.pvp_world.specs.Steps.{Applies};
 ghost use Rattle.pvp_world.specs.declared.fault.WorldFault.{WorldFault};
 ghost use Rattle.pvp_world.specs.declared.report.Report.{Report};
@@ -23,12 +23,12 @@ use vr_types::BootCell;
 /// A step that nothing hinders has one outcome: it is refused just where and why the bank refuses it, and of two worlds
 /// that came the same way it makes two that came the same way, with one report.
 pub fn one_outcome<C: BootCell>()
-    ensures refused { (old new : Shown C) (at : IsAt C.held old) (step : Step)
+    ensures refused { (old new : ShownWorld C) (at : IsAt C.held old) (step : Step)
         (result : Result Report WorldFault) →
         Applies C.held old new step result → is_hindered result ≡ false →
         refused_as result ≡ bank_refuses old.setup (faults old.setup) at.list.bank step }
-    ensures result { (a b : Shown C) → AreTwins C.held a b →
-        (c d : Shown C) (step : Step) (one other : Result Report WorldFault) →
+    ensures result { (a b : ShownWorld C) → AreTwins C.held a b →
+        (c d : ShownWorld C) (step : Step) (one other : Result Report WorldFault) →
         Applies C.held a c step one → Applies C.held b d step other → is_hindered one ≡ false →
         is_hindered other ≡ false →
         (one ≡ other) × AreTwins C.held c d }

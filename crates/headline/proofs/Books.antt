@@ -12,7 +12,7 @@ use Rattle.pvp_types.specs.declared.command.PayOrder.{PayOrder}
 use Rattle.vr_types.specs.Execution.{held_after}
 use Rattle.agreement.specs.Promises.{Begins}
 use Rattle.pvp_book.specs.declared.entry.Entry.{Entry}
-use Rattle.pvp_book.specs.Ledger.{Ledger, outstanding_in, outstanding}
+use Rattle.pvp_book.specs.Ledger.{Ledger, outstanding_in, outstanding_orders}
 use Rattle.pvp_book.specs.Orders.{order_by, orders, has_end}
 use Rattle.pvp_book.specs.Answer.{Row, after, after_rows, book_of}
 use Rattle.pvp_book.proofs.Reached.{begins}
@@ -48,7 +48,7 @@ orders-ccy entries c o in' =
     order-ccy c t.0.client t.0.cmd t.0.reply o t.2
 
 -- what is outstanding was ordered
-pub due-ordered : (setup : Setup) (entries : List Entry) (due : ℕ × PayOrder) → Contains (outstanding setup entries) due
+pub due-ordered : (setup : Setup) (entries : List Entry) (due : ℕ × PayOrder) → Contains (outstanding_orders setup entries) due
     → Contains (orders entries due.1.ccy) due.1
 due-ordered setup entries due in' =
     let t = flat_map-has (outstanding_in entries) (range_with_len 0 (length setup.currencies)) due in' in

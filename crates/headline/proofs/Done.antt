@@ -30,13 +30,13 @@ use Rattle.headline.specs.Headline.{IsDone as IsPaid, IsReturned}
 use Rattle.headline.specs.Legal.{LegalList, Moment, MomentOf}
 use Rattle.headline.specs.Way.{not_credited, not_done, not_ordered, way}
 use Rattle.agreement.specs.Progress.{runs_at, AreWorking, WorksIn}
-use Rattle.headline.specs.Progress.{IsGentle, CanGoOn, NothingOnTheWay, AllIsDone, SitesProgress, Rests, Progresses, unanswered}
+use Rattle.headline.specs.Progress.{IsGentle, CanGoOn, NothingOnTheWay, AllIsDone, SitesProgress, Rests, Progresses, unanswered_count}
 use Rattle.headline.specs.Progress as progress
 use Rattle.headline.proofs.Basics.{none-some, some-same, there, place_of, filter_map-has, filter_map-in}
 use Rattle.headline.proofs.Invariant.{Holds}
 use Rattle.headline.proofs.Laws as laws
 use Rattle.headline.proofs.Onward as onward
-use Rattle.headline.proofs.Runs.{run_append, longer, moment_longer}
+use Rattle.headline.proofs.Runs.{run_append, longer_list, moment_longer}
 use Rattle.headline.proofs.Stages.{Comes, stays, comes_then}
 use Rattle.headline.proofs.Resting.{RestsWith, rests_with, there_is}
 use Rattle.headline.proofs.Books.{ordered-more}
@@ -141,7 +141,7 @@ module _ (setup : Setup) (f : ℕ) (some : 1 ≤ f) (view : ℕ) where
           let one =
           order_done setup f some list view log are (omega arith) calm (ccy_of first.cmd) x at order
           (these first (ccy_of first.cmd) order (Contains-here first todo) made) in
-          let r = rest (longer list one.moves one.after one.run) one.holds.more one.holds.working one.holds.calm
+          let r = rest (longer_list list one.moves one.after one.run) one.holds.more one.holds.working one.holds.calm
           (λ e c o in' is. subst (λ (os : List PaymentOrder). Contains os o) (sym (one.holds.ordered c)) (these e c o (Contains-there first e todo in') is))
           (let g = one.holds.grows in omega arith) in
           comes_then list (IsDone setup f view log (ccy_of first.cmd) order.out list.bank) (AreDone setup f view log (first ∷ todo) list.bank) one
@@ -243,17 +243,18 @@ module _ (setup : Setup) (f : ℕ) (some : 1 ≤ f) (list : LegalList setup f) (
   sites_go = onward.sites_go_on setup f some list can
 
   list_sites : LegalList setup f
-  list_sites = longer list sites_go.moves sites_go.after sites_go.run
+  list_sites = longer_list list sites_go.moves sites_go.after sites_go.run
 
   -- the log, what waits, and the pay-outs that there may be, have room
-  room : (length sites_go.log + length sites_go.after.clients + unanswered sites_go.after ≤ MAX_ROWS)
-      × ((length sites_go.log + length sites_go.after.clients) + (length sites_go.log + length sites_go.after.clients + unanswered sites_go.after) ≤ MAX_ROWS)
+  room : (length sites_go.log + length sites_go.after.clients + unanswered_count sites_go.after ≤ MAX_ROWS)
+      × ((length sites_go.log + length sites_go.after.clients) + (length sites_go.log + length sites_go.after.clients + unanswered_count sites_go.after)
+      ≤ MAX_ROWS)
   room =
       let space = can.space sites_go.had.0 sites_go.had.1 in
       let log_is = ap (length {A = Row}) sites_go.had.2 in
       let same_clients = ap (length {A = Client}) sites_go.clients in
-      let same_notices : unanswered sites_go.after ≡ unanswered list.bank =
-      ap (λ (l : List Node). unanswered (record { sites = []; nodes = l; clients = []; post = [] })) sites_go.nodes in
+      let same_notices : unanswered_count sites_go.after ≡ unanswered_count list.bank =
+      ap (λ (l : List Node). unanswered_count (record { sites = []; nodes = l; clients = []; post = [] })) sites_go.nodes in
       (omega arith, omega arith)
 
   rest_all : RestsWith setup f some sites_go.view list_sites sites_go.log
@@ -264,7 +265,7 @@ module _ (setup : Setup) (f : ℕ) (some : 1 ≤ f) (list : LegalList setup f) (
   rest = rest_all.rests
 
   list_rest : LegalList setup f
-  list_rest = longer list_sites rest.moves rest.after rest.run
+  list_rest = longer_list list_sites rest.moves rest.after rest.run
 
   calm_rest : AreCalm list_rest.bank
   unfolding list_rest list_sites
@@ -282,7 +283,7 @@ module _ (setup : Setup) (f : ℕ) (some : 1 ≤ f) (list : LegalList setup f) (
       (let a = rest_all.pay_outs in let b = rest_all.grows in let d = room.1 in omega arith)
 
   list_done : LegalList setup f
-  list_done = longer list_rest all_done.moves all_done.after all_done.run
+  list_done = longer_list list_rest all_done.moves all_done.after all_done.run
 
   -- each order has its end
   ended_there : (c : ℕ) (n : Node) (order : PaymentOrder) → slice_get all_done.after.nodes c ≡ Some n

@@ -19,7 +19,7 @@ use Rattle.vr_types.proofs.ChoosingPick.{Contains-here, Contains-there, Contains
 use Rattle.agreement.specs.Promises.{Begins}
 use Rattle.agreement.proofs.Beginnings.{append_begins}
 use Rattle.pvp_book.specs.declared.entry.Entry.{Entry}
-use Rattle.pvp_book.specs.Ledger.{Ledger, opening, node_of, outstanding_in, outstanding}
+use Rattle.pvp_book.specs.Ledger.{Ledger, opening, node_of, outstanding_in, outstanding_orders}
 use Rattle.pvp_book.specs.Orders.{order_by, orders, is_end, has_end}
 use Rattle.pvp_book.specs.Answer.{Row, answer_to, after, after_rows, pay_out_checks, is_member_number, answer, is_refusal, with_entry, on_end, has_member, has_currency, has_order, is_amount, book_of}
 use Rattle.pvp_book.proofs.Checks.{passed, is-so}
@@ -222,7 +222,7 @@ filter_keeps {A} test (y ∷ xs) x in' passes = by_place (test y) refl (Contains
 -- an open order is outstanding
 pub is_due : (setup : Setup) (entries : List Entry) (c : ℕ) (order : PaymentOrder) → c < length setup.currencies → Contains (orders entries c) order
     → has_end entries c order.out ≡ false
-    → Contains (outstanding setup entries) (node_of c, order)
+    → Contains (outstanding_orders setup entries) (node_of c, order)
 is_due setup entries c order low in' open_still =
     flat_map_in (outstanding_in entries) (range_with_len 0 (length setup.currencies)) c (node_of c, order) (
       c,

@@ -29,7 +29,7 @@ use Rattle.agreement.specs.Promises.{Begins}
 use Rattle.agreement.proofs.Repeating.{has_last}
 use Rattle.agreement.proofs.Beginnings.{begins_itself, append_begins}
 use Rattle.pvp_book.specs.Answer.{Row, after_rows, book_of, has_member, is_amount}
-use Rattle.pvp_book.specs.Ledger.{Ledger, node_of, opening, outstanding}
+use Rattle.pvp_book.specs.Ledger.{Ledger, node_of, opening, outstanding_orders}
 use Rattle.pvp_book.specs.Orders.{orders, is_end, has_end}
 use Rattle.rtgs_node.specs.declared.event.NodeEvent.TheVariants as node
 use Rattle.rtgs_node.specs.declared.fault.NodeFault.TheVariants as fault
@@ -50,7 +50,7 @@ use Rattle.headline.proofs.Invariant.{notices_of, Holds}
 use Rattle.headline.proofs.Reached.{legal-holds}
 use Rattle.headline.proofs.Laws.{never-short}
 use Rattle.headline.proofs.Turns.{turn_of_node, turn_of_site}
-use Rattle.headline.proofs.Runs.{longer}
+use Rattle.headline.proofs.Runs.{longer_list}
 use Rattle.headline.proofs.Stages.{Comes, stays, comes_then}
 use Rattle.headline.proofs.Waits.{IsTold, notice_served, HasNumber, numbered, set-other, if_yes, if_no}
 use Rattle.headline.proofs.Known.{Knows, WasDue, legal_knows, same_number, end_says}
@@ -175,7 +175,7 @@ module _ (setup : Setup) (f : ℕ) (some : 1 ≤ f) (list : LegalList setup f) (
     }
 
     list_told : LegalList setup f
-    list_told = longer list (Takes (Beats (actor_of p)) ∷ []) beaten (beaten, beats, refl)
+    list_told = longer_list list (Takes (Beats (actor_of p)) ∷ []) beaten (beaten, beats, refl)
 
     same_sites : beaten.sites ≡ list.bank.sites
     unfolding beaten p s
@@ -185,12 +185,12 @@ module _ (setup : Setup) (f : ℕ) (some : 1 ≤ f) (list : LegalList setup f) (
     mail : Envelope
     mail = order_to p (node_of c, order)
 
-    outstanding_is : book.orders (machine_of book (opening setup) s) ≡ outstanding setup (book_of setup log)
+    outstanding_is : book.orders (machine_of book (opening setup) s) ≡ outstanding_orders setup (book_of setup log)
     unfolding s
     outstanding_is =
-        ap (λ (held : Ledger). outstanding held.setup held.entries) (held-is (opening setup) (executed_rows lead.site))
-        ∙ (ap (λ (rows : List Row). outstanding (after_rows (opening setup) rows).setup (book_of setup rows)) (works_rows view log lead.site lead.works)
-        ∙ ap (λ (st : Setup). outstanding st (book_of setup log)) (held-setup (opening setup) log))
+        ap (λ (held : Ledger). outstanding_orders held.setup held.entries) (held-is (opening setup) (executed_rows lead.site))
+        ∙ (ap (λ (rows : List Row). outstanding_orders (after_rows (opening setup) rows).setup (book_of setup rows)) (works_rows view log lead.site lead.works)
+        ∙ ap (λ (st : Setup). outstanding_orders st (book_of setup log)) (held-setup (opening setup) log))
 
     posted : Contains beaten.post mail
     unfolding beaten told mail
@@ -312,7 +312,7 @@ module _ (setup : Setup) (f : ℕ) (some : 1 ≤ f) (list : LegalList setup f) (
 
     list_noted : LegalList setup f
     unfolding list_told beaten
-    list_noted = longer list_told (Takes (Delivers number.number) ∷ []) noted (noted, takes, refl)
+    list_noted = longer_list list_told (Takes (Delivers number.number) ∷ []) noted (noted, takes, refl)
 
     noted_sites : noted.sites ≡ list.bank.sites
     unfolding noted

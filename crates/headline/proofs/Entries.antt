@@ -11,7 +11,7 @@ use Rattle.pvp_types.specs.declared.command.Reply.TheVariants.{Done, Order, No}
 use Rattle.pvp_types.specs.declared.command.Reason.TheVariants.{NotYours, UnknownMember, UnknownCurrency, BadAmount, UnknownReference, Repeated, Short, TestFails, BankShort}
 use Rattle.pvp_book.specs.declared.entry.Entry.{Entry}
 use Rattle.pvp_book.specs.Limits.{passes}
-use Rattle.pvp_book.specs.Settlement.{settled}
+use Rattle.pvp_book.specs.Settlement.{settled_pairs}
 use Rattle.pvp_book.specs.Ledger.{Ledger, opening, node_of, has_pay_in, balance, figure}
 use Rattle.pvp_book.specs.Orders.{orders, has_end}
 use Rattle.pvp_book.specs.Answer.{Row, answer, is_refusal, pay_out_checks, on_fund, on_pay_out, on_end, has_member, has_currency, has_order, is_amount, is_member_number, balances_less, answer_to, after, after_rows, book_of}
@@ -94,7 +94,7 @@ pay_out-accepted : (setup : Setup) (entries : List Entry) (client c amt : ℕ)
     → is_refusal (on_pay_out setup entries client c amt) ≡ false → on_pay_out setup entries client c amt ≡ Order (length (orders entries c) + 1)
 pay_out-accepted setup entries client c amt e =
     by (is_member_number client) (has_member setup client) (has_currency setup c) (is_amount amt) (int_lt (balance setup entries client c) (pos amt))
-    (passes setup client (balances_less setup entries (settled setup entries) client c amt)) (int_lt (figure setup entries c) (pos amt))
+    (passes setup client (balances_less setup entries (settled_pairs setup entries) client c amt)) (int_lt (figure setup entries c) (pos amt))
     (length (orders entries c) + 1) e
   where
     by : (yours member currency small short passing bare : Bool) (n : ℕ)

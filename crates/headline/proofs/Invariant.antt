@@ -57,7 +57,7 @@ IsSo c x (Returned d out) = (d ≡ c) × (has_returned x out ≡ true)
 IsSo c x _ = ⊤
 
 -- what a node has told the bank is so, no order is done twice, and none is both done and returned
-pub record IsSound (c : ℕ) (x : Node) : Type 0 where
+pub record IsSoundNode (c : ℕ) (x : Node) : Type 0 where
   pub notices : (i : ℕ) (cmd : Cmd) → slice_get x.notices i ≡ Some cmd → IsSo c x cmd
   pub once : (out : ℕ) → count_by (λ o. o.out == out) x.pay_outs ≤ 1
   pub apart : (out : ℕ) → has_done x out ≡ true → has_returned x out ≡ false
@@ -110,7 +110,7 @@ module _ (setup : Setup) (choose : Choice Cmd) (f : ℕ) (cells : List Boot) whe
     -- nodes and clients
     pub count : length bank.nodes ≡ length setup.currencies
     pub people : length bank.clients ≡ suc (length setup.members)
-    pub nodes : (c : ℕ) (x : Node) → slice_get bank.nodes c ≡ Some x → IsSound c x
+    pub nodes : (c : ℕ) (x : Node) → slice_get bank.nodes c ≡ Some x → IsSoundNode c x
     pub done : (c : ℕ) (x : Node) (order : PaymentOrder) → slice_get bank.nodes c ≡ Some x → Contains x.pay_outs order → IsOrder moves bank history c order
 
   -- it holds here, over a history that begins with this one, and in a world of sites that goes on from this one

@@ -41,12 +41,12 @@ use Rattle.headline.specs.Way.{not_credited, not_done, not_known, not_ordered, w
 use Rattle.headline.specs.Headline.{executed_book, IsPayIn, DoneWereOrdered, IsDone, IsReturned}
 use Rattle.headline.proofs.Basics.{none-some, some-same, place_of, at-append, filter-has}
 use Rattle.headline.proofs.Books.{ordered-more}
-use Rattle.headline.proofs.Invariant.{notices_of, notice_at, IsNotice, IsSo, IsSound, Holds, HoldsOn}
+use Rattle.headline.proofs.Invariant.{notices_of, notice_at, IsNotice, IsSo, IsSoundNode, Holds, HoldsOn}
 use Rattle.agreement.proofs.Beginnings.{begins_itself, begins-trans}
 use Rattle.headline.proofs.Reached.{run-keeps, legal-holds}
 use Rattle.headline.proofs.Entries.{IsAccepted, came_by, all-accepted, any-has}
 use Rattle.headline.proofs.Amounts.{Amount, total_in, total_out, Once, Match, total-parts, matched, all-in}
-use Rattle.headline.proofs.Payments.{taken, taken-once, taken-is, taken-all, taken-in, credits, credits-total, credits-once, credits-are, made, made-total, made-are, made-in, numbered-at, numbered-once, done-once, kept, kept-total, kept-once, way-credits, way-done, way-kept, way-ordered}
+use Rattle.headline.proofs.Payments.{taken_amounts, taken-once, taken-is, taken-all, taken-in, credits, credits-total, credits-once, credits-are, made_amounts, made-total, made-are, made-in, numbered-at, numbered-once, done-once, kept_orders, kept-total, kept-once, way-credits, way-done, way-kept, way-ordered}
 
 begins-has : (rows history : List Row) → Begins rows history → (row : Row) → Contains rows row → Contains history row
 begins-has rows history b row in' = subst (λ (l : List Row). Contains l row) b.is (Contains-append_left rows b.rest row in')
@@ -159,18 +159,18 @@ module _ {setup : Setup} {choose : Choice Cmd} {f : ℕ} {cells : List Boot} {mo
       record { node = n.0; is_there = n.2; returned = s.1 }
 
   module _ (c : ℕ) (x : Node) (is_there : slice_get bank.nodes c ≡ Some x) where
-    sound : IsSound c x
+    sound : IsSoundNode c x
     sound = h.nodes c x is_there
 
     -- what is credited was taken in
-    credit-taken : (a : Amount) → Contains (credits c entries) a → Contains (taken x) a
+    credit-taken : (a : Amount) → Contains (credits c entries) a → Contains (taken_amounts x) a
     credit-taken a in' =
         let t = credits-are c entries a in' in
         let p = paid_in t.0 c a.number t.2.0 a.amt t.1 t.2.1 in
         let same : p.node ≡ x = some-same p.node x (sym p.is_there ∙ is_there) in
         taken-in x a t.2.0 p.counted (subst (λ (n : Node). slice_get n.pay_ins (a.number - 1) ≡ Some (record { member = t.2.0; amt = a.amt })) same p.is)
 
-    credits-match : Match (credits c entries) (taken x)
+    credits-match : Match (credits c entries) (taken_amounts x)
     credits-match a z in_a in_z same =
         let p = taken-is x a (credit-taken a in_a) in
         let q = taken-is x z in_z in
@@ -183,13 +183,13 @@ module _ {setup : Setup} {choose : Choice Cmd} {f : ℕ} {cells : List Boot} {mo
     -- THE BANK'S ACCOUNT IS CREDITED with what the book has credited, and what it has not
     pub taken-in-all : came_in x ≡ funds entries c + not_credited c x entries
     taken-in-all =
-        let parts = total-parts (credits c entries) (taken x) in
-        let same = matched (credits c entries) (taken x) once (taken-once x) credits-match in
-        let whole = all-in (taken x) (credits c entries) credit-taken in
+        let parts = total-parts (credits c entries) (taken_amounts x) in
+        let same = matched (credits c entries) (taken_amounts x) once (taken-once x) credits-match in
+        let whole = all-in (taken_amounts x) (credits c entries) credit-taken in
         let sum = credits-total c entries in
         let all = taken-all x in
         let rest = way-credits c x entries in
-        sym all ∙ parts ∙ ap (λ n. n + total_out (credits c entries) (taken x)) (sym same ∙ whole ∙ sum) ∙ ap (λ n. funds entries c + n) (sym rest)
+        sym all ∙ parts ∙ ap (λ n. n + total_out (credits c entries) (taken_amounts x)) (sym same ∙ whole ∙ sum) ∙ ap (λ n. funds entries c + n) (sym rest)
 
     numbers_are : AreOrdered entries c
     numbers_are = are-ordered setup c rows
@@ -201,7 +201,7 @@ module _ {setup : Setup} {choose : Choice Cmd} {f : ℕ} {cells : List Boot} {mo
     done-history : (o : PaymentOrder) → Contains x.pay_outs o → Contains (orders (book_of setup h.history) c) o
     done-history o in' = (h.done c x o is_there in').ordered
 
-    kept-has : (o : PaymentOrder) → Contains (kept c entries) o → Contains (orders entries c) o
+    kept-has : (o : PaymentOrder) → Contains (kept_orders c entries) o → Contains (orders entries c) o
     kept-has o in' = filter-has (λ (p : PaymentOrder). not (has_return entries c p.out)) (orders entries c) o in'
 
     -- what the book has as returned is returned here, and so is not done
@@ -216,9 +216,9 @@ module _ {setup : Setup} {choose : Choice Cmd} {f : ℕ} {cells : List Boot} {mo
         by true is = absurd (true≢false (sym (returned-here o.out is) ∙ sound.apart o.out (done-there x.pay_outs o in')))
         by false is = refl
 
-    orders-match : Match (made (kept c entries)) (made x.pay_outs)
+    orders-match : Match (made_amounts (kept_orders c entries)) (made_amounts x.pay_outs)
     orders-match a z in_a in_z same =
-        let p = made-are (kept c entries) a in_a in
+        let p = made-are (kept_orders c entries) a in_a in
         let q = made-are x.pay_outs z in_z in
         let out : p.0.out ≡ q.0.out = ap (λ (i : Amount). i.number) p.2 ∙ same ∙ sym (ap (λ (i : Amount). i.number) q.2) in
         let one =
@@ -227,20 +227,22 @@ module _ {setup : Setup} {choose : Choice Cmd} {f : ℕ} {cells : List Boot} {mo
         sym (ap (λ (i : Amount). i.amt) p.2) ∙ ap (λ (o : PaymentOrder). o.amt) one ∙ ap (λ (i : Amount). i.amt) q.2
 
     abbrev both : ℕ
-    both = total_in (made x.pay_outs) (made (kept c entries))
+    both = total_in (made_amounts x.pay_outs) (made_amounts (kept_orders c entries))
 
     -- WHAT THE BOOK PAYS OUT is done, or on the way, or returned
     pub ordered-all : all_paid_out entries c ≡ (both + not_done c x entries) + all_returned entries c
     ordered-all =
         kept-total setup c entries (all-accepted setup rows)
-        ∙ ap (λ n. n + all_returned entries c) (total-parts (made x.pay_outs) (made (kept c entries)) ∙ ap (λ n. both + n) (sym (way-done c x entries)))
+        ∙ ap (λ n. n + all_returned entries c) (total-parts (made_amounts x.pay_outs) (made_amounts (kept_orders c entries))
+        ∙ ap (λ n. both + n) (sym (way-done c x entries)))
 
     -- WHAT THE NODE PAID OUT is in the book, or not yet
     pub done-all : went_out x ≡ both + not_ordered c x entries
     done-all =
-        sym (made-total x.pay_outs) ∙ total-parts (made (kept c entries)) (made x.pay_outs)
-        ∙ ap (λ n. n + total_out (made (kept c entries)) (made x.pay_outs))
-        (sym (matched (made (kept c entries)) (made x.pay_outs) (kept-once c entries (numbered-once (orders entries c) _ numbers_are.numbered))
+        sym (made-total x.pay_outs) ∙ total-parts (made_amounts (kept_orders c entries)) (made_amounts x.pay_outs)
+        ∙ ap (λ n. n + total_out (made_amounts (kept_orders c entries)) (made_amounts x.pay_outs))
+        (sym (matched (made_amounts (kept_orders c entries)) (made_amounts x.pay_outs)
+        (kept-once c entries (numbered-once (orders entries c) _ numbers_are.numbered))
         (done-once x sound.once) orders-match))
         ∙ ap (λ n. both + n) (sym (way-kept c x entries not-back))
 
@@ -283,10 +285,11 @@ module _ {setup : Setup} {choose : Choice Cmd} {f : ℕ} {cells : List Boot} {mo
 
   none-left : not_ordered c x history_book ≡ 0
   none-left =
-      let all = all-in (made (orders history_book c)) (made x.pay_outs) (λ a in'.
+      let all = all-in (made_amounts (orders history_book c)) (made_amounts x.pay_outs) (λ a in'.
       let t = made-are x.pay_outs a in' in
-      subst (λ (z : Amount). Contains (made (orders history_book c)) z) t.2 (made-in (orders history_book c) t.0 (h.done c x t.0 is_there t.1).ordered)) in
-      let parts = total-parts (made (orders history_book c)) (made x.pay_outs) in
+      subst (λ (z : Amount). Contains (made_amounts (orders history_book c)) z) t.2
+      (made-in (orders history_book c) t.0 (h.done c x t.0 is_there t.1).ordered)) in
+      let parts = total-parts (made_amounts (orders history_book c)) (made_amounts x.pay_outs) in
       let is = way-ordered c x history_book in
       omega arith
 

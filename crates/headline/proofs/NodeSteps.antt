@@ -24,7 +24,7 @@ use Rattle.rtgs_node.specs.declared.payment.PayIn.{PayIn}
 use Rattle.rtgs_node.specs.declared.fault.NodeFault.{NodeFault}
 use Rattle.rtgs_node.specs.declared.fault.NodeFault.TheVariants.{NotMine, UnknownMember, BadAmount, Spent, Short}
 use Rattle.headline.proofs.Basics.{or_left, or_right, not_false, at-append, at-push, at-end, push-has, map-has}
-use Rattle.headline.proofs.Invariant.{IsSo, IsSound}
+use Rattle.headline.proofs.Invariant.{IsSo, IsSoundNode}
 
 -- an envelope is the REQUEST for a notice
 pub record IsNoticeOf (c : ℕ) (x : Node) (e : Envelope) : Type 0 where
@@ -43,7 +43,7 @@ pub record IsOrdered (c : ℕ) (event : NodeEvent) (order : PaymentOrder) : Type
 
 pub record Keeps (c : ℕ) (event : NodeEvent) (x : Node) (step : NodeStep) : Type 0 where
   pub sent : (e : Envelope) → Contains step.sent e → IsNoticeOf c step.node e
-  pub sound : IsSound c x → IsSound c step.node
+  pub sound : IsSoundNode c x → IsSoundNode c step.node
   pub grows : (i : ℕ) (cmd : Cmd) → slice_get x.notices i ≡ Some cmd → slice_get step.node.notices i ≡ Some cmd
   pub done : (order : PaymentOrder) → Contains step.node.pay_outs order → Contains x.pay_outs order ⊎ IsOrdered c event order
 
@@ -100,8 +100,8 @@ module _ (f c : ℕ) (event : NodeEvent) (x y : Node) (cmd : Cmd) where
   notes-sent true e in' = notice_out-is f c noted e in'
   notes-sent false e in' = absurd (nothing e in')
 
-  noted-sound : y.notices ≡ x.notices → IsSound c x → Grows x y → IsSo c y cmd → ((out : ℕ) → count_by (λ (o : PaymentOrder). o.out == out) y.pay_outs ≤ 1)
-      → ((out : ℕ) → has_done y out ≡ true → has_returned y out ≡ false) → IsSound c noted
+  noted-sound : y.notices ≡ x.notices → IsSoundNode c x → Grows x y → IsSo c y cmd → ((out : ℕ) → count_by (λ (o : PaymentOrder). o.out == out) y.pay_outs ≤ 1)
+      → ((out : ℕ) → has_done y out ≡ true → has_returned y out ≡ false) → IsSoundNode c noted
   noted-sound same s grows so once apart = record { notices = notices; once = once; apart = apart }
     where
       notices : (i : ℕ) (d : Cmd) → slice_get (y.notices ++ cmd ∷ []) i ≡ Some d → IsSo c y d
@@ -111,7 +111,7 @@ module _ (f c : ℕ) (event : NodeEvent) (x y : Node) (cmd : Cmd) where
           by (inl old) = so-grows c x y grows d (s.notices i d (ap (λ (l : List Cmd). slice_get l i) (sym same) ∙ old))
           by (inr new) = subst (λ (k : Cmd). IsSo c y k) new.1 so
 
-  notes-keep : y.notices ≡ x.notices → (IsSound c x → IsSound c noted)
+  notes-keep : y.notices ≡ x.notices → (IsSoundNode c x → IsSoundNode c noted)
       → ((o : PaymentOrder) → Contains y.pay_outs o → Contains x.pay_outs o ⊎ IsOrdered c event o)
       → Keeps c event x (notes f c y cmd)
   notes-keep same sound done = record {
@@ -129,7 +129,7 @@ module _ (f c : ℕ) (event : NodeEvent) (member amt : ℕ) (x : Node) where
   abbrev credit : Cmd
   credit = Fund c (length x.pay_ins + 1) member amt
 
-  pay_in-sound : IsSound c x → IsSound c (noted f c event x paid_in credit)
+  pay_in-sound : IsSoundNode c x → IsSoundNode c (noted f c event x paid_in credit)
   pay_in-sound s =
       noted-sound f c event x paid_in credit refl s
       (record { pay_ins = λ i p is. at-append x.pay_ins (record { member = member; amt = amt } ∷ []) i p is; done = λ out is. is; returned = λ out is. is })
@@ -170,7 +170,7 @@ module _ (f c : ℕ) (event : NodeEvent) (o : PaymentOrder) (x : Node) (fresh : 
   abbrev paid_out : Node
   paid_out = record x { pay_outs = x.pay_outs ++ o ∷ [] }
 
-  pay_out-sound : IsSound c x → IsSound c (noted f c event x paid_out (Paid c o.out))
+  pay_out-sound : IsSoundNode c x → IsSoundNode c (noted f c event x paid_out (Paid c o.out))
   pay_out-sound s =
       noted-sound f c event x paid_out (Paid c o.out) refl s
       (record { pay_ins = λ i p is. is; done = λ out is. old-out x.pay_outs o out is; returned = λ out is. is })
@@ -187,7 +187,7 @@ module _ (f c : ℕ) (event : NodeEvent) (o : PaymentOrder) (x : Node) (fresh : 
   abbrev sent_back : Node
   sent_back = record x { returned = x.returned ++ o ∷ [] }
 
-  return-sound : IsSound c x → IsSound c (noted f c event x sent_back (Returned c o.out))
+  return-sound : IsSoundNode c x → IsSoundNode c (noted f c event x sent_back (Returned c o.out))
   return-sound s =
       noted-sound f c event x sent_back (Returned c o.out) refl s
       (record { pay_ins = λ i p is. is; done = λ out is. is; returned = λ out is. old-out x.returned o out is })

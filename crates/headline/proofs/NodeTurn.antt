@@ -22,7 +22,7 @@ use Rattle.headline.proofs.Basics.{none-some, some-same, set-here, set-at, set-l
 use Rattle.headline.proofs.Between.{is_between}
 use Rattle.headline.proofs.Runs.{legal-more}
 use Rattle.agreement.proofs.Beginnings.{begins_itself}
-use Rattle.headline.proofs.Invariant.{notices_of, notice_at, IsNotice, AsksAs, IsAsked, IsSound, IsOrder, IsReply, Holds, HoldsOn}
+use Rattle.headline.proofs.Invariant.{notices_of, notice_at, IsNotice, AsksAs, IsAsked, IsSoundNode, IsOrder, IsReply, Holds, HoldsOn}
 use Rattle.headline.proofs.NodeSteps.{IsNoticeOf, IsOrdered, Keeps, node-keeps}
 use Rattle.headline.proofs.SiteTurn.{order-more, reply-more}
 
@@ -96,11 +96,11 @@ module _ (setup : Setup) (choose : Choice Cmd) (f : ℕ) (cells : List Boot) (mo
         by (inl old) = order-stays o.ccy o (h.orders e o old is)
         by (inr new) = let same = sym (keeps.sent e new).msg ∙ is in absurd (cc)
 
-    nodes_too : (d : ℕ) (y : Node) → slice_get after.nodes d ≡ Some y → IsSound d y
+    nodes_too : (d : ℕ) (y : Node) → slice_get after.nodes d ≡ Some y → IsSoundNode d y
     nodes_too d y at = by (set-at bank.nodes c step.node d y at)
       where
-        by : ((c ≡ d) × (step.node ≡ y)) ⊎ (slice_get bank.nodes d ≡ Some y) → IsSound d y
-        by (inl here) = subst (λ k. IsSound k y) here.0 (subst (λ (z : Node). IsSound c z) here.1 (keeps.sound (h.nodes c x is_there)))
+        by : ((c ≡ d) × (step.node ≡ y)) ⊎ (slice_get bank.nodes d ≡ Some y) → IsSoundNode d y
+        by (inl here) = subst (λ k. IsSoundNode k y) here.0 (subst (λ (z : Node). IsSoundNode c z) here.1 (keeps.sound (h.nodes c x is_there)))
         by (inr old) = h.nodes d y old
 
     done_too : (d : ℕ) (y : Node) (o : PaymentOrder) → slice_get after.nodes d ≡ Some y → Contains y.pay_outs o

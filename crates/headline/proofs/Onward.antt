@@ -25,7 +25,7 @@ use Rattle.headline.specs.Machine.{book}
 use Rattle.headline.specs.Legal.{LegalList}
 use Rattle.headline.specs.Progress.{IsGentle, CanGoOn, KeepsExecuted, SitesProgress, Serves}
 use Rattle.headline.proofs.Invariant.{Holds, SitesWorld}
-use Rattle.headline.proofs.Runs.{longer, moment_longer}
+use Rattle.headline.proofs.Runs.{longer_list, moment_longer}
 use Rattle.headline.proofs.Reached.{legal-holds}
 use Rattle.headline.proofs.Settled.{once_whole}
 use Rattle.headline.proofs.Lifts.{Beside, OneLifted, Lifted, by_delivery, lift}
@@ -77,7 +77,7 @@ module _ (setup : Setup) (f : ℕ) (some : 1 ≤ f) (list : LegalList setup f) w
     -- the log is all that was ever executed
     kept : KeepsExecuted list goes.log
     kept m x in' =
-        begins-trans (before.begins x in') (once_whole setup f some (longer list lifted.moves lifted.end lifted.run) goes.view goes.log work.working room
+        begins-trans (before.begins x in') (once_whole setup f some (longer_list list lifted.moves lifted.end lifted.run) goes.view goes.log work.working room
         (moment_longer list lifted.moves lifted.end lifted.run m) before)
       where
         before : Holds setup list.choose f list.cells m.before m.then

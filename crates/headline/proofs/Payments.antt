@@ -12,7 +12,7 @@ use Rattle.pvp_book.specs.declared.entry.Entry.{Entry}
 use Rattle.pvp_book.specs.Ledger.{is_pay_in, has_pay_in}
 use Rattle.pvp_book.specs.Orders.{order_by, orders, has_return}
 use Rattle.pvp_book.specs.Answer.{has_order}
-use Rattle.pvp_book.specs.Laws.{funded, paid_out, funds, all_paid_out, all_returned}
+use Rattle.pvp_book.specs.Laws.{pay_in_amount, pay_out_amount, funds, all_paid_out, all_returned}
 use Rattle.pvp_book.proofs.Counts.{count-cons}
 use Rattle.vr_types.proofs.ChoosingPick.{Contains-here, Contains-there, Contains-cases, Contains-none}
 use Rattle.rtgs_node.specs.Node.{Node, came_in, has_done}
@@ -43,8 +43,8 @@ paid_in p = record { number = p.0; amt = p.1.amt }
 abbrev pub taken_from : ℕ → List PayIn → List Amount
 taken_from n ps = map paid_in (enumerate_from n ps)
 
-abbrev pub taken : Node → List Amount
-taken x = taken_from 1 x.pay_ins
+abbrev pub taken_amounts : Node → List Amount
+taken_amounts x = taken_from 1 x.pay_ins
 
 taken-total : (n : ℕ) (ps : List PayIn) → total (taken_from n ps) ≡ sum_by (λ p. p.amt) ps
 taken-total n [] = refl
@@ -78,7 +78,7 @@ taken-counts n (p ∷ ps) number = by (n == number) refl (taken-counts (n + 1) p
         let few = rest.0 in
         (omega arith, λ low. let none = rest.1 (omega arith) in omega arith)
 
-pub taken-once : (x : Node) → Once (taken x)
+pub taken-once : (x : Node) → Once (taken_amounts x)
 taken-once x number = (taken-counts 1 x.pay_ins number).0
 
 -- each number is the pay-in's place
@@ -100,7 +100,8 @@ taken-at n (q ∷ ps) a in' = by (Contains-cases (paid_in (n, q)) a (taken_from 
         let place : a.number - n ≡ suc (a.number - (n + 1)) = omega arith in
         (t.0, omega arith, ap (λ k. slice_get (q ∷ ps) k) place ∙ t.2, t.3)
 
-pub taken-is : (x : Node) (a : Amount) → Contains (taken x) a → (p : PayIn) × (1 ≤ a.number) × (slice_get x.pay_ins (a.number - 1) ≡ Some p) × (p.amt ≡ a.amt)
+pub taken-is : (x : Node) (a : Amount) → Contains (taken_amounts x) a
+    → (p : PayIn) × (1 ≤ a.number) × (slice_get x.pay_ins (a.number - 1) ≡ Some p) × (p.amt ≡ a.amt)
 taken-is x a in' = taken-at 1 x.pay_ins a in'
 
 taken-has : (n : ℕ) (ps : List PayIn) (i : ℕ) (p : PayIn) → slice_get ps i ≡ Some p → Contains (taken_from n ps) (record { number = n + i; amt = p.amt })
@@ -116,10 +117,10 @@ taken-has n (q ∷ ps) (suc i) p at =
     (Contains-there (paid_in (n, q)) (record { number = n + 1 + i; amt = p.amt }) (taken_from (n + 1) ps) (taken-has (n + 1) ps i p at))
 
 pub taken-in : (x : Node) (a : Amount) (member : ℕ) → 1 ≤ a.number → slice_get x.pay_ins (a.number - 1) ≡ Some (record { member = member; amt = a.amt })
-    → Contains (taken x) a
+    → Contains (taken_amounts x) a
 taken-in x a member low at =
     let number : 1 + (a.number - 1) ≡ a.number = omega arith in
-    subst (λ k. Contains (taken x) (record { number = k; amt = a.amt })) number
+    subst (λ k. Contains (taken_amounts x) (record { number = k; amt = a.amt })) number
     (taken-has 1 x.pay_ins (a.number - 1) (record { member = member; amt = a.amt }) at)
 
 -- WHAT A BOOK CREDITS
@@ -132,7 +133,7 @@ abbrev pub credits : ℕ → List Entry → List Amount
 credits c entries = filter_map (λ e. credit_of c e.cmd) entries
 
 credits-parts : (c : ℕ) (cmd : Cmd) (rest : List Amount) (number : ℕ)
-    → (total (cons_option (credit_of c cmd) rest) ≡ funded c cmd + total rest)
+    → (total (cons_option (credit_of c cmd) rest) ≡ pay_in_amount c cmd + total rest)
     × (has (cons_option (credit_of c cmd) rest) number ≡ (is_pay_in c number cmd || has rest number))
     × (count_by (λ (a : Amount). a.number == number) (cons_option (credit_of c cmd) rest)
     ≡ bit (is_pay_in c number cmd) + count_by (λ (a : Amount). a.number == number) rest)
@@ -154,8 +155,8 @@ credits-parts c _ rest number = (omega arith, refl, omega arith)
 pub credits-total : (c : ℕ) (entries : List Entry) → total (credits c entries) ≡ funds entries c
 credits-total c [] = refl
 credits-total c (e ∷ entries) =
-    (credits-parts c e.cmd (credits c entries) 0).0 ∙ ap (λ n. funded c e.cmd + n) (credits-total c entries)
-    ∙ sym (sum_by-cons (λ (d : Entry). funded c d.cmd) e entries)
+    (credits-parts c e.cmd (credits c entries) 0).0 ∙ ap (λ n. pay_in_amount c e.cmd + n) (credits-total c entries)
+    ∙ sym (sum_by-cons (λ (d : Entry). pay_in_amount c d.cmd) e entries)
 
 pub credits-has : (c : ℕ) (entries : List Entry) (number : ℕ) → has (credits c entries) number ≡ has_pay_in entries c number
 credits-has c [] number = refl
@@ -189,35 +190,35 @@ credits-are c entries a in' = let t = filter_map-has (λ (e : Entry). credit_of 
 
 -- ORDERS, of a book or done by a node
 
-abbrev ordered : PayOrder → Amount
-ordered o = record { number = o.out; amt = o.amt }
+abbrev ordered_amount : PayOrder → Amount
+ordered_amount o = record { number = o.out; amt = o.amt }
 
-abbrev pub made : List PayOrder → List Amount
-made os = map ordered os
+abbrev pub made_amounts : List PayOrder → List Amount
+made_amounts os = map ordered_amount os
 
-pub made-total : (os : List PayOrder) → total (made os) ≡ sum_by (λ o. o.amt) os
-made-total os = sum-map (λ (a : Amount). a.amt) ordered os
+pub made-total : (os : List PayOrder) → total (made_amounts os) ≡ sum_by (λ o. o.amt) os
+made-total os = sum-map (λ (a : Amount). a.amt) ordered_amount os
 
-pub made-has : (os : List PayOrder) (out : ℕ) → has (made os) out ≡ list_any (λ o. o.out == out) os
+pub made-has : (os : List PayOrder) (out : ℕ) → has (made_amounts os) out ≡ list_any (λ o. o.out == out) os
 made-has [] out = refl
 made-has (o ∷ os) out = ap (λ b. (o.out == out) || b) (made-has os out)
 
-pub made-count : (os : List PayOrder) (out : ℕ) → count_by (λ (a : Amount). a.number == out) (made os) ≡ count_by (λ (o : PayOrder). o.out == out) os
+pub made-count : (os : List PayOrder) (out : ℕ) → count_by (λ (a : Amount). a.number == out) (made_amounts os) ≡ count_by (λ (o : PayOrder). o.out == out) os
 made-count [] out = refl
 made-count (o ∷ os) out =
-    count-cons (λ (a : Amount). a.number == out) (ordered o) (made os) ∙ ap (λ n. bit (o.out == out) + n) (made-count os out)
+    count-cons (λ (a : Amount). a.number == out) (ordered_amount o) (made_amounts os) ∙ ap (λ n. bit (o.out == out) + n) (made-count os out)
     ∙ sym (count-cons (λ (p : PayOrder). p.out == out) o os)
 
-pub made-are : (os : List PayOrder) (a : Amount) → Contains (made os) a → (o : PayOrder) × Contains os o × (ordered o ≡ a)
-made-are os a in' = map-has ordered os a in'
+pub made-are : (os : List PayOrder) (a : Amount) → Contains (made_amounts os) a → (o : PayOrder) × Contains os o × (ordered_amount o ≡ a)
+made-are os a in' = map-has ordered_amount os a in'
 
-pub made-in : (os : List PayOrder) (o : PayOrder) → Contains os o → Contains (made os) (ordered o)
+pub made-in : (os : List PayOrder) (o : PayOrder) → Contains os o → Contains (made_amounts os) (ordered_amount o)
 made-in [] o in' = absurd (Contains-none o in')
 made-in (p ∷ os) o in' = by (Contains-cases p o os in') (made-in os o)
   where
-    by : (p ≡ o) ⊎ Contains os o → (Contains os o → Contains (made os) (ordered o)) → Contains (made (p ∷ os)) (ordered o)
-    by (inl same) rest = subst (λ (z : PayOrder). Contains (made (p ∷ os)) (ordered z)) same (Contains-here (ordered p) (made os))
-    by (inr later) rest = Contains-there (ordered p) (ordered o) (made os) (rest later)
+    by : (p ≡ o) ⊎ Contains os o → (Contains os o → Contains (made_amounts os) (ordered_amount o)) → Contains (made_amounts (p ∷ os)) (ordered_amount o)
+    by (inl same) rest = subst (λ (z : PayOrder). Contains (made_amounts (p ∷ os)) (ordered_amount z)) same (Contains-here (ordered_amount p) (made_amounts os))
+    by (inr later) rest = Contains-there (ordered_amount p) (ordered_amount o) (made_amounts os) (rest later)
 
 -- numbered orders: the number is the place
 pub numbered-at : (os : List PayOrder) (a n : ℕ) → map (λ (o : PayOrder). o.out) os ≡ range_with_len a n → (i : ℕ) (o : PayOrder) → slice_get os i ≡ Some o
@@ -257,19 +258,19 @@ numbered-counts (p ∷ os) a (suc n) is out =
         let few = rest.0 in
         (omega arith, λ low. let none = rest.1 (omega arith) in omega arith)
 
-pub numbered-once : (os : List PayOrder) (n : ℕ) → map (λ (o : PayOrder). o.out) os ≡ range_with_len 1 n → Once (made os)
+pub numbered-once : (os : List PayOrder) (n : ℕ) → map (λ (o : PayOrder). o.out) os ≡ range_with_len 1 n → Once (made_amounts os)
 numbered-once os n is out = let h = made-count os out in let k = (numbered-counts os 1 n is out).0 in omega arith
 
-pub done-once : (x : Node) → ((out : ℕ) → count_by (λ (o : PayOrder). o.out == out) x.pay_outs ≤ 1) → Once (made x.pay_outs)
+pub done-once : (x : Node) → ((out : ℕ) → count_by (λ (o : PayOrder). o.out == out) x.pay_outs ≤ 1) → Once (made_amounts x.pay_outs)
 done-once x once out = let h = made-count x.pay_outs out in let k = once out in omega arith
 
 -- what a book pays out it orders
 order-amount : (setup : Setup) (c client : ℕ) (cmd : Cmd) (reply : Reply) (rest : List PayOrder) → IsAccepted setup client cmd reply
-    → sum_by (λ (o : PayOrder). o.amt) (cons_option (order_by c client cmd reply) rest) ≡ paid_out c cmd + sum_by (λ (o : PayOrder). o.amt) rest
+    → sum_by (λ (o : PayOrder). o.amt) (cons_option (order_by c client cmd reply) rest) ≡ pay_out_amount c cmd + sum_by (λ (o : PayOrder). o.amt) rest
 order-amount setup c client (PayOut ccy amt) reply rest says =
     let t = says in
     subst (λ (r : Reply). sum_by (λ (o : PayOrder). o.amt) (cons_option (order_by c client (PayOut ccy amt) r) rest)
-    ≡ paid_out c (PayOut ccy amt) + sum_by (λ (o : PayOrder). o.amt) rest) (sym t.1)
+    ≡ pay_out_amount c (PayOut ccy amt) + sum_by (λ (o : PayOrder). o.amt) rest) (sym t.1)
     (by (ccy == c) t.0)
   where
     by : (b : Bool) (out : ℕ)
@@ -284,15 +285,15 @@ pub orders-total : (setup : Setup) (c : ℕ) (entries : List Entry) → ((e : En
 orders-total setup c [] all = refl
 orders-total setup c (e ∷ entries) all =
     order-amount setup c e.client e.cmd e.reply (orders entries c) (all e (Contains-here e entries))
-    ∙ ap (λ n. paid_out c e.cmd + n) (orders-total setup c entries (λ d in'. all d (Contains-there e d entries in')))
-    ∙ sym (sum_by-cons (λ (d : Entry). paid_out c d.cmd) e entries)
+    ∙ ap (λ n. pay_out_amount c e.cmd + n) (orders-total setup c entries (λ d in'. all d (Contains-there e d entries in')))
+    ∙ sym (sum_by-cons (λ (d : Entry). pay_out_amount c d.cmd) e entries)
 
 -- THE WAY, in numbered amounts
 
-pub taken-all : (x : Node) → total (taken x) ≡ came_in x
+pub taken-all : (x : Node) → total (taken_amounts x) ≡ came_in x
 taken-all x = taken-total 1 x.pay_ins
 
-pub way-credits : (c : ℕ) (x : Node) (entries : List Entry) → not_credited c x entries ≡ total_out (credits c entries) (taken x)
+pub way-credits : (c : ℕ) (x : Node) (entries : List Entry) → not_credited c x entries ≡ total_out (credits c entries) (taken_amounts x)
 way-credits c x entries =
     sum-same (λ (p : ℕ × PayIn). if has_pay_in entries c p.0 then 0 else p.1.amt) (λ (p : ℕ × PayIn). if has (credits c entries) p.0 then 0 else p.1.amt)
     (λ p. ap (λ b. if b then 0 else p.1.amt) (sym (credits-has c entries p.0))) (enumerate_from 1 x.pay_ins)
@@ -304,8 +305,8 @@ way-credits c x entries =
 abbrev kept_of : (ℕ → Bool) → List PayOrder → List PayOrder
 kept_of told os = filter (λ o. not (told o.out)) os
 
-abbrev pub kept : ℕ → List Entry → List PayOrder
-kept c entries = kept_of (has_return entries c) (orders entries c)
+abbrev pub kept_orders : ℕ → List Entry → List PayOrder
+kept_orders c entries = kept_of (has_return entries c) (orders entries c)
 
 kept-amounts : (told : ℕ → Bool) (os : List PayOrder)
     → sum_by (λ (o : PayOrder). o.amt) os ≡ sum_by (λ (o : PayOrder). o.amt) (kept_of told os) + sum_by (λ (o : PayOrder). if told o.out then o.amt else 0) os
@@ -325,10 +326,10 @@ kept-amounts told (o ∷ os) =
     by false all back rest whole part = let one = sum_by-cons (λ (p : PayOrder). p.amt) o (kept_of told os) in omega arith
 
 pub kept-total : (setup : Setup) (c : ℕ) (entries : List Entry) → ((e : Entry) → Contains entries e → IsAccepted setup e.client e.cmd e.reply)
-    → all_paid_out entries c ≡ total (made (kept c entries)) + all_returned entries c
+    → all_paid_out entries c ≡ total (made_amounts (kept_orders c entries)) + all_returned entries c
 kept-total setup c entries all =
     sym (orders-total setup c entries all) ∙ kept-amounts (has_return entries c) (orders entries c)
-    ∙ ap (λ n. n + all_returned entries c) (sym (made-total (kept c entries)))
+    ∙ ap (λ n. n + all_returned entries c) (sym (made-total (kept_orders c entries)))
 
 kept-count : (told : ℕ → Bool) (os : List PayOrder) (out : ℕ)
     → count_by (λ (o : PayOrder). o.out == out) (kept_of told os) ≤ count_by (λ (o : PayOrder). o.out == out) os
@@ -342,9 +343,9 @@ kept-count told (o ∷ os) out =
     by true all rest whole = omega arith
     by false all rest whole = let one = count-cons (λ (p : PayOrder). p.out == out) o (kept_of told os) in omega arith
 
-pub kept-once : (c : ℕ) (entries : List Entry) → Once (made (orders entries c)) → Once (made (kept c entries))
+pub kept-once : (c : ℕ) (entries : List Entry) → Once (made_amounts (orders entries c)) → Once (made_amounts (kept_orders c entries))
 kept-once c entries once out =
-    let h = made-count (kept c entries) out in
+    let h = made-count (kept_orders c entries) out in
     let k = made-count (orders entries c) out in
     let low = kept-count (has_return entries c) (orders entries c) out in
     let few = once out in
@@ -374,12 +375,13 @@ sum-on g h (x ∷ xs) same =
 
 -- where nothing that is done is returned in the book, what is left out of the kept orders is left out of all
 pub way-kept : (c : ℕ) (x : Node) (entries : List Entry) → ((o : PayOrder) → Contains x.pay_outs o → has_return entries c o.out ≡ false)
-    → not_ordered c x entries ≡ total_out (made (kept c entries)) (made x.pay_outs)
+    → not_ordered c x entries ≡ total_out (made_amounts (kept_orders c entries)) (made_amounts x.pay_outs)
 way-kept c x entries none =
     sum-on (λ (o : PayOrder). if has_order entries c o.out then 0 else o.amt)
-    (λ (o : PayOrder). if has (made (kept c entries)) o.out then 0 else o.amt) x.pay_outs
-    (λ o in'. ap (λ b. if b then 0 else o.amt) (kept-any (has_return entries c) (orders entries c) o.out (none o in') ∙ sym (made-has (kept c entries) o.out)))
-    ∙ sym (sum-map (λ (a : Amount). if has (made (kept c entries)) a.number then 0 else a.amt) ordered x.pay_outs)
+    (λ (o : PayOrder). if has (made_amounts (kept_orders c entries)) o.out then 0 else o.amt) x.pay_outs
+    (λ o in'. ap (λ b. if b then 0 else o.amt) (kept-any (has_return entries c) (orders entries c) o.out (none o in')
+    ∙ sym (made-has (kept_orders c entries) o.out)))
+    ∙ sym (sum-map (λ (a : Amount). if has (made_amounts (kept_orders c entries)) a.number then 0 else a.amt) ordered_amount x.pay_outs)
 
 kept-sum : (done told : ℕ → Bool) (os : List PayOrder)
     → sum_by (λ (o : PayOrder). if done o.out || told o.out then 0 else o.amt) os ≡ sum_by (λ (o : PayOrder). if done o.out then 0 else o.amt) (kept_of told os)
@@ -403,15 +405,16 @@ kept-sum done told (o ∷ os) =
         let here : (if done o.out then 0 else o.amt) ≡ o.amt = ap (λ b. if b then 0 else o.amt) is in
         omega arith
 
-pub way-done : (c : ℕ) (x : Node) (entries : List Entry) → not_done c x entries ≡ total_out (made x.pay_outs) (made (kept c entries))
+pub way-done : (c : ℕ) (x : Node) (entries : List Entry) → not_done c x entries ≡ total_out (made_amounts x.pay_outs) (made_amounts (kept_orders c entries))
 way-done c x entries =
     kept-sum (has_done x) (has_return entries c) (orders entries c)
-    ∙ sum-same (λ (o : PayOrder). if has_done x o.out then 0 else o.amt) (λ (o : PayOrder). if has (made x.pay_outs) o.out then 0 else o.amt)
-    (λ o. ap (λ b. if b then 0 else o.amt) (sym (made-has x.pay_outs o.out))) (kept c entries)
-    ∙ sym (sum-map (λ (a : Amount). if has (made x.pay_outs) a.number then 0 else a.amt) ordered (kept c entries))
+    ∙ sum-same (λ (o : PayOrder). if has_done x o.out then 0 else o.amt) (λ (o : PayOrder). if has (made_amounts x.pay_outs) o.out then 0 else o.amt)
+    (λ o. ap (λ b. if b then 0 else o.amt) (sym (made-has x.pay_outs o.out))) (kept_orders c entries)
+    ∙ sym (sum-map (λ (a : Amount). if has (made_amounts x.pay_outs) a.number then 0 else a.amt) ordered_amount (kept_orders c entries))
 
-pub way-ordered : (c : ℕ) (x : Node) (entries : List Entry) → not_ordered c x entries ≡ total_out (made (orders entries c)) (made x.pay_outs)
+pub way-ordered : (c : ℕ) (x : Node) (entries : List Entry) → not_ordered c x entries ≡ total_out (made_amounts (orders entries c)) (made_amounts x.pay_outs)
 way-ordered c x entries =
-    sum-same (λ (o : PayOrder). if has_order entries c o.out then 0 else o.amt) (λ (o : PayOrder). if has (made (orders entries c)) o.out then 0 else o.amt)
+    sum-same (λ (o : PayOrder). if has_order entries c o.out then 0 else o.amt)
+    (λ (o : PayOrder). if has (made_amounts (orders entries c)) o.out then 0 else o.amt)
     (λ o. ap (λ b. if b then 0 else o.amt) (sym (made-has (orders entries c) o.out))) x.pay_outs
-    ∙ sym (sum-map (λ (a : Amount). if has (made (orders entries c)) a.number then 0 else a.amt) ordered x.pay_outs)
+    ∙ sym (sum-map (λ (a : Amount). if has (made_amounts (orders entries c)) a.number then 0 else a.amt) ordered_amount x.pay_outs)

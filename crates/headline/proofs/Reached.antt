@@ -27,7 +27,7 @@ use Rattle.headline.specs.Bank.{Bank, opening_bank, turn_at, turn_of, delivery, 
 use Rattle.headline.specs.Legal.{Acts, FallsBy, Leads, IsRun}
 use Rattle.headline.proofs.Basics.{none-some, some-same, there, map-has}
 use Rattle.agreement.proofs.Beginnings.{begins_itself, begins-trans}
-use Rattle.headline.proofs.Invariant.{IsSound, Holds, HoldsOn}
+use Rattle.headline.proofs.Invariant.{IsSoundNode, Holds, HoldsOn}
 use Rattle.headline.proofs.Runs.{runs-join}
 use Rattle.headline.proofs.SiteTurn.{site_steps, site_falls}
 use Rattle.headline.proofs.NodeTurn.{node_steps}
@@ -42,7 +42,7 @@ map-length : {A B : Type 0} (h : A → B) (xs : List A) → length (map h xs) �
 map-length h [] = refl
 map-length h (x ∷ xs) = ap (λ n. suc n) (map-length h xs)
 
-opening-sound : (c : ℕ) → IsSound c opening_node
+opening-sound : (c : ℕ) → IsSoundNode c opening_node
 opening-sound c = record {
   notices = λ i cmd is. absurd (none-some _ is);
   once = λ out. omega arith;
@@ -81,7 +81,7 @@ module _ (setup : Setup) (choose : Choice Cmd) (f : ℕ) (cells : List Boot) (al
     replies = λ e said in'. absurd (none e in');
     count = map-length (λ currency. opening_node) setup.currencies;
     people = ap (λ n. suc n) (map-length (λ member. opening_client) setup.members);
-    nodes = λ c x at. subst (λ (y : Node). IsSound c y) (opening-node c x at) (opening-sound c);
+    nodes = λ c x at. subst (λ (y : Node). IsSoundNode c y) (opening-node c x at) (opening-sound c);
     done = λ c x o at in'. absurd (none o (subst (λ (y : Node). Contains y.pay_outs o) (sym (opening-node c x at)) in'));
   }
 

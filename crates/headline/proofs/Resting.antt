@@ -16,9 +16,9 @@ use Rattle.headline.specs.Bank.{Bank}
 use Rattle.headline.specs.Client.{Client}
 use Rattle.headline.specs.Legal.{LegalList}
 use Rattle.agreement.specs.Progress.{runs_at, AreWorking}
-use Rattle.headline.specs.Progress.{IsServed, IsHeard, Rests, unanswered}
+use Rattle.headline.specs.Progress.{IsServed, IsHeard, Rests, unanswered_count}
 use Rattle.headline.proofs.Basics.{none-some, some-same}
-use Rattle.headline.proofs.Runs.{longer}
+use Rattle.headline.proofs.Runs.{longer_list}
 use Rattle.headline.proofs.Stages.{Comes, stays, comes_then, due_here}
 use Rattle.headline.proofs.Endings.{pay_outs_in, few_pay_outs, node_makes_none}
 use Rattle.headline.proofs.Waits.{IsIdle, client_served, IsTold, notice_served}
@@ -104,7 +104,7 @@ module _ (setup : Setup) (f : ℕ) (some : 1 ≤ f) (view : ℕ) where
       by_waiting x at (Some cmd) waiting rest =
           let one = client_served setup f some list view log are (omega arith) m x cmd at waiting in
           let r =
-          rest (longer list one.moves one.after one.run) one.holds.more one.holds.working (long one.after one.holds) (let g = one.holds.grows in
+          rest (longer_list list one.moves one.after one.run) one.holds.more one.holds.working (long one.after one.holds) (let g = one.holds.grows in
           omega arith) in
           comes_then list (IsIdle f view m log x list.bank) (AreServed f view m (suc n) log list.bank) one
           (record { moves = r.moves; after = r.after; run = r.run; gentle = r.gentle; holds = after_one one.after r.after one.holds r.holds })
@@ -231,7 +231,7 @@ module _ (setup : Setup) (f : ℕ) (some : 1 ≤ f) (view : ℕ) where
       let t = there_is x.notices x.answered (omega arith) in
       let one = notice_served setup f some list view log are (omega arith) c x t.0 at t.1 in
       let r =
-      catch_up n c (longer list one.moves one.after one.run) one.holds.more (record x { answered = x.answered + 1 }) one.holds.working one.holds.here
+      catch_up n c (longer_list list one.moves one.after one.run) one.holds.more (record x { answered = x.answered + 1 }) one.holds.working one.holds.here
       (omega arith) (let g = one.holds.grows in omega arith) in
       comes_then list (IsTold f view c log x list.bank) (IsCaughtUp setup f view c (suc n) log x list.bank) one
       (record {
@@ -298,7 +298,7 @@ module _ (setup : Setup) (f : ℕ) (some : 1 ≤ f) (view : ℕ) where
           let one = catch_up (length x.notices - x.answered) m list log x are at (reach fits) (omega arith) in
           let same = left_same one.after.nodes list.bank.nodes (m + 1) n (λ c low. one.holds.others c (λ e. (let d = e in omega arith))) in
           let r =
-          rest (longer list one.moves one.after one.run) one.holds.more one.holds.working (long one.after one.holds) (let g = one.holds.grows in
+          rest (longer_list list one.moves one.after one.run) one.holds.more one.holds.working (long one.after one.holds) (let g = one.holds.grows in
           omega arith) in
           comes_then list (IsCaughtUp setup f view m (length x.notices - x.answered) log x list.bank) (AreHeard m (suc n) log list.bank) one
           (record {
@@ -369,17 +369,17 @@ module _ (setup : Setup) (f : ℕ) (some : 1 ≤ f) (view : ℕ) where
   pub record RestsWith (list : LegalList setup f) (log : List Row) : Type 0 where
     pub rests : Rests list view
     pub pay_outs : pay_outs_in (book_of setup rests.log) ≤ length log + length list.bank.clients
-    pub grows : length rests.log ≤ length log + length list.bank.clients + unanswered list.bank
+    pub grows : length rests.log ≤ length log + length list.bank.clients + unanswered_count list.bank
 
   pub rests_with : (list : LegalList setup f) (log : List Row) → AreWorking f view log list.bank.sites
-      → length log + length list.bank.clients + unanswered list.bank ≤ MAX_ROWS → RestsWith list log
+      → length log + length list.bank.clients + unanswered_count list.bank ≤ MAX_ROWS → RestsWith list log
   rests_with list log are room =
       let one = serve_clients setup f some view (length list.bank.clients) 0 list log are (omega arith) (omega arith) in
-      let same : unanswered list.bank ≡ unanswered one.after =
+      let same : unanswered_count list.bank ≡ unanswered_count one.after =
       ap (λ (l : List Node). sum_by (λ (n : Node). length n.notices - n.answered) l) (sym one.holds.nodes) in
       let left = left_sum one.after.nodes in
       let two =
-      hear_nodes (length one.after.nodes) 0 (longer list one.moves one.after one.run) one.holds.more one.holds.working (omega arith)
+      hear_nodes (length one.after.nodes) 0 (longer_list list one.moves one.after one.run) one.holds.more one.holds.working (omega arith)
       (let g = one.holds.grows in omega arith) in
       let both =
       comes_then list (AreServed f view 0 (length list.bank.clients) log list.bank)
@@ -403,5 +403,5 @@ module _ (setup : Setup) (f : ℕ) (some : 1 ≤ f) (view : ℕ) where
       }
 
   pub rests : (list : LegalList setup f) (log : List Row) → AreWorking f view log list.bank.sites
-      → length log + length list.bank.clients + unanswered list.bank ≤ MAX_ROWS → Rests list view
+      → length log + length list.bank.clients + unanswered_count list.bank ≤ MAX_ROWS → Rests list view
   rests list log are room = (rests_with list log are room).rests

@@ -30,7 +30,7 @@ use Rattle.agreement.specs.Promises.{Begins, WasAsked, request_of}
 use Rattle.agreement.proofs.Asked.{legal_rows}
 use Rattle.agreement.proofs.Beginnings.{begins_itself, begins-trans}
 use Rattle.agreement.proofs.Laws.{first_rows}
-use Rattle.pvp_book.specs.Ledger.{Ledger, opening, outstanding}
+use Rattle.pvp_book.specs.Ledger.{Ledger, opening, outstanding_orders}
 use Rattle.pvp_book.specs.Orders.{orders}
 use Rattle.pvp_book.specs.Answer.{Row, after_rows, book_of}
 use Rattle.headline.specs.Machine.{book}
@@ -220,7 +220,7 @@ module _ (setup : Setup) (choose : Choice Cmd) (f : ℕ) (cells : List Boot) (ri
         → Contains (orders (book_of setup (executed_rows step.site)) d.1.ccy) d.1
     due_orders d in' =
         due-ordered (after_rows (opening setup) (executed_rows step.site)).setup (book_of setup (executed_rows step.site)) d
-        (subst (λ (held : Ledger). Contains (outstanding held.setup held.entries) d) ledger in')
+        (subst (λ (held : Ledger). Contains (outstanding_orders held.setup held.entries) d) ledger in')
 
     abbrev machine_before : ℕ → Ledger
     machine_before place = held_after book (opening setup) (take (place - 1) step.site.log)

@@ -33,7 +33,7 @@ use Rattle.headline.specs.Legal.{IsRun, LegalList}
 use Rattle.headline.specs.Progress.{IsGentle, Serves}
 use Rattle.headline.proofs.Basics.{there}
 use Rattle.headline.proofs.Invariant.{Holds, SitesWorld}
-use Rattle.headline.proofs.Runs.{run_append, longer}
+use Rattle.headline.proofs.Runs.{run_append, longer_list}
 use Rattle.headline.proofs.Reached.{legal-holds}
 use Rattle.headline.proofs.Numbers.{IsDue, due, run_due, opening_due}
 use Rattle.headline.proofs.Lifts.{Beside, OneLifted, by_delivery}
@@ -50,7 +50,7 @@ pub record Comes {setup : Setup} {f : ℕ} (list : LegalList setup f) (P : Bank 
 pub stays : {setup : Setup} {f : ℕ} (list : LegalList setup f) (P : Bank → Type 0) → P list.bank → Comes list P
 stays list P p = record { moves = []; after = list.bank; run = refl; gentle = All-nil IsGentle; holds = p }
 
-pub comes_then : {setup : Setup} {f : ℕ} (list : LegalList setup f) (P Q : Bank → Type 0) (a : Comes list P) → Comes (longer list a.moves a.after a.run) Q
+pub comes_then : {setup : Setup} {f : ℕ} (list : LegalList setup f) (P Q : Bank → Type 0) (a : Comes list P) → Comes (longer_list list a.moves a.after a.run) Q
     → Comes list Q
 comes_then {setup} {f} list P Q a b = record {
   moves = a.moves ++ b.moves;

@@ -41,7 +41,7 @@ use Rattle.headline.proofs.Basics.{place_of, map-in, set-here}
 use Rattle.headline.proofs.Invariant.{Holds}
 use Rattle.headline.proofs.Reached.{legal-holds}
 use Rattle.headline.proofs.Numbers.{due, node_due, client_due}
-use Rattle.headline.proofs.Runs.{longer}
+use Rattle.headline.proofs.Runs.{longer_list}
 use Rattle.headline.proofs.Stages.{Comes, comes_then, IsAnswered, due_here, newest_due, answered}
 
 pub set-other : {A : Type 0} (xs : List A) (i : ℕ) (y : A) (j : ℕ) → j ≢ i → slice_get (slice_set xs i y) j ≡ slice_get xs j
@@ -161,7 +161,7 @@ module _ (setup : Setup) (f : ℕ) (some : 1 ≤ f) (list : LegalList setup f) (
     }
 
     abbrev next : LegalList setup f
-    next = longer list (Takes (Beats k) ∷ []) asked (asked, asks, refl)
+    next = longer_list list (Takes (Beats k) ∷ []) asked (asked, asks, refl)
 
     low : newest log k ≤ x.number
     low =
@@ -275,7 +275,7 @@ module _ (setup : Setup) (f : ℕ) (some : 1 ≤ f) (list : LegalList setup f) (
     }
 
     abbrev after_beat : LegalList setup f
-    after_beat = longer list (Takes (Beats (node_of c)) ∷ []) noted (noted, beats, refl)
+    after_beat = longer_list list (Takes (Beats (node_of c)) ∷ []) noted (noted, beats, refl)
 
     low_notice : newest log (node_of c) ≤ x.answered + 1
     low_notice =

@@ -19,7 +19,7 @@ use Rattle.vr_types.specs.Normal.{on_request, on_prepare, on_prepare_ok, on_comm
 use Rattle.vr_types.specs.Handling.{site_step, is_refused, envelopes}
 use Rattle.vr_types.proofs.Choosing.{choice_of}
 use Rattle.vr_types.proofs.ChoosingRight.{choice_of-right}
-use Rattle.pvp_book.specs.Settlement.{both_pass, pass, taken_by, settled_after, settled}
+use Rattle.pvp_book.specs.Settlement.{both_pass, pass, taken_by, settled_after, settled_pairs}
 use Rattle.pvp_book.specs.Ledger.{opening, figure}
 use Rattle.pvp_book.specs.Answer.{answer}
 use Rattle.headline.specs.Machine.{book}
@@ -190,23 +190,23 @@ module _ (same : Cmd → Cmd → Bool) (tells : (a b : Cmd) → IsTrue (same a b
 
   after_first : seen (played first) ≡ pos 1200 ∷ pos 0 ∷ pos 21 ∷ pos 1000 ∷ pos 1200 ∷ pos 1200 ∷ pos 200 ∷ pos 0 ∷ pos 0 ∷ []
   unfolding seen plays steps acts site_acts node_acts client_acts if_none worked member on_request on_prepare on_prepare_ok on_commit beats_normal answer
-      both_pass pass taken_by settled_after settled
+      both_pass pass taken_by settled_after settled_pairs
   after_first = refl
 
   after_second : seen (played second) ≡ pos 1000 ∷ pos 1 ∷ pos 29 ∷ pos 1000 ∷ pos 1000 ∷ pos 1000 ∷ pos 0 ∷ pos 0 ∷ pos 0 ∷ []
   unfolding seen plays steps acts site_acts node_acts client_acts if_none worked member on_request on_prepare on_prepare_ok on_commit beats_normal answer
-      both_pass pass taken_by settled_after settled
+      both_pass pass taken_by settled_after settled_pairs
   after_second = refl
 
   -- ALFA's account is closed before the order comes: the node returns it, and the amount is ALFA's again in each book
   closed_first : seen (played closing) ≡ pos 1200 ∷ pos 0 ∷ pos 21 ∷ pos 1000 ∷ pos 1200 ∷ pos 1200 ∷ pos 200 ∷ pos 0 ∷ pos 0 ∷ []
   unfolding seen plays steps acts site_acts node_acts client_acts if_none worked member on_request on_prepare on_prepare_ok on_commit beats_normal answer
-      both_pass pass taken_by settled_after settled
+      both_pass pass taken_by settled_after settled_pairs
   closed_first = refl
 
   closed_second : seen (played closed) ≡ pos 1200 ∷ pos 0 ∷ pos 31 ∷ pos 1200 ∷ pos 1200 ∷ pos 1200 ∷ pos 0 ∷ pos 0 ∷ pos 0 ∷ []
   unfolding seen plays steps acts site_acts node_acts client_acts if_none worked member on_request on_prepare on_prepare_ok on_commit beats_normal answer
-      both_pass pass taken_by settled_after settled
+      both_pass pass taken_by settled_after settled_pairs
   closed_second = refl
 
   -- the headline speaks of it

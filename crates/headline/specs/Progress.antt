@@ -41,15 +41,15 @@ IsGentle (Takes step) = IsGentleStep step
 IsGentle (Falls step cell) = ⊥
 
 -- how many notices of nodes are not answered
-abbrev pub unanswered : Bank → ℕ
-unanswered bank = sum_by (λ n. length n.notices - n.answered) bank.nodes
+abbrev pub unanswered_count : Bank → ℕ
+unanswered_count bank = sum_by (λ n. length n.notices - n.answered) bank.nodes
 
 -- The sites can go on, and each log has room for a request of each client, for each notice that is not answered, and
 -- for one notice for each row that may be an order.
 pub record CanGoOn (f : ℕ) (bank : Bank) : Type 0 where
   pub sites : SitesCanGoOn f bank.sites
   pub space : (x : Site Cmd) → Contains bank.sites x
-      → 2 * (length x.log + length bank.clients) + unanswered bank ≤ MAX_ROWS
+      → 2 * (length x.log + length bank.clients) + unanswered_count bank ≤ MAX_ROWS
 
 -- Nothing is on the way between a node and a book: each pay-in is credited, each pay-out is an order of the book, and
 -- the three amounts of which the way is made are 0; so the account is the figure.

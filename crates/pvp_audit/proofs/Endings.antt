@@ -5,7 +5,7 @@ use Rattle.std.proofs.lemmas.Bool.Decides.{nat_tests}
 use Rattle.std.proofs.lemmas.List.{take_all, take-append-le, append_cancel_right}
 use Rattle.pvp_rooms.specs.declared.message.Recorded.{Recorded}
 use Rattle.pvp_rooms.specs.declared.cell.Closed.{Closed}
-use Rattle.pvp_audit.specs.Runs.{Tagged, own, IsBefore, AreBefore, IsSorted}
+use Rattle.pvp_audit.specs.Runs.{Tagged, own_events, IsBefore, AreBefore, IsSorted}
 use Rattle.pvp_audit.proofs.Lists.{none_some, take_none, push_cases, push_last, push_keep, push_length}
 
 -- LISTS
@@ -27,30 +27,33 @@ module _ {A N E O : Type 0} (closed : List (Closed A N E O)) where
   tagged t k r b w = λ i. record { by = b i; what = w i }
 
   -- what an actor took in a run is of the run
-  pub own_in : (run : List (Tagged E O)) (k i : ℕ) (r : Recorded E O) → slice_get (own run k) i ≡ Some r → In run (record { by = k; what = r })
+  pub own_in : (run : List (Tagged E O)) (k i : ℕ) (r : Recorded E O) → slice_get (own_events run k) i ≡ Some r → In run (record { by = k; what = r })
   own_in [] k i r e = absurd (none_some r e)
   own_in (t ∷ past) k i r e = go (own_in past k i r) (t.by == k) refl e
     where
-      go : (slice_get (own past k) i ≡ Some r → In past (record { by = k; what = r })) → (b : Bool) → (t.by == k) ≡ b
-          → slice_get (own past k ++ (if b then t.what ∷ [] else [])) i ≡ Some r → In (t ∷ past) (record { by = k; what = r })
-      go before true is h = elim (push_cases (own past k) t.what i r h) [ inl g ↦ inr (before g) | inr g ↦ inl (tagged t k r (eqb-true t.by k is) g) ]
-      go before false is h = inr (before (subst (λ l. slice_get l i ≡ Some r) (append-nil (own past k)) h))
+      go : (slice_get (own_events past k) i ≡ Some r → In past (record { by = k; what = r })) → (b : Bool) → (t.by == k) ≡ b
+          → slice_get (own_events past k ++ (if b then t.what ∷ [] else [])) i ≡ Some r → In (t ∷ past) (record { by = k; what = r })
+      go before true is h = elim (push_cases (own_events past k) t.what i r h) [ inl g ↦ inr (before g) | inr g ↦ inl (tagged t k r (eqb-true t.by k is) g) ]
+      go before false is h = inr (before (subst (λ l. slice_get l i ≡ Some r) (append-nil (own_events past k)) h))
 
   -- the newest event is the last of its actor's
-  newest : (t : Tagged E O) (past : List (Tagged E O)) → slice_get (own (t ∷ past) t.by) (length (own past t.by)) ≡ Some t.what
+  newest : (t : Tagged E O) (past : List (Tagged E O)) → slice_get (own_events (t ∷ past) t.by) (length (own_events past t.by)) ≡ Some t.what
   newest t past =
-      ap (λ (b : Bool). slice_get (own past t.by ++ (if b then t.what ∷ [] else [])) (length (own past t.by))) (eq-eqb t.by t.by refl)
-      ∙ push_last (own past t.by) t.what
+      ap (λ (b : Bool). slice_get (own_events past t.by ++ (if b then t.what ∷ [] else [])) (length (own_events past t.by))) (eq-eqb t.by t.by refl)
+      ∙ push_last (own_events past t.by) t.what
 
-  in_own : (run : List (Tagged E O)) (t : Tagged E O) → In run t → (i : ℕ) × (slice_get (own run t.by) i ≡ Some t.what)
+  in_own : (run : List (Tagged E O)) (t : Tagged E O) → In run t → (i : ℕ) × (slice_get (own_events run t.by) i ≡ Some t.what)
   in_own [] t h = absurd h
-  in_own (s ∷ past) t (inl e) =
-      (length (own past t.by), subst (λ (u : Tagged E O). slice_get (own (u ∷ past) t.by) (length (own past t.by)) ≡ Some t.what) (sym e) (newest t past))
+  in_own (s ∷ past) t (inl e) = (
+    length (own_events past t.by),
+    subst (λ (u : Tagged E O). slice_get (own_events (u ∷ past) t.by) (length (own_events past t.by)) ≡ Some t.what) (sym e)
+        (newest t past),
+  )
   in_own (s ∷ past) t (inr h) = let rest = in_own past t h in
-      (rest.0, push_keep (own past t.by) (if s.by == t.by then s.what ∷ [] else []) rest.0 t.what rest.1)
+      (rest.0, push_keep (own_events past t.by) (if s.by == t.by then s.what ∷ [] else []) rest.0 t.what rest.1)
 
   -- runs in which each actor took the same
-  pub moved : (a b : List (Tagged E O)) → ((k : ℕ) → own a k ≡ own b k) → (t : Tagged E O) → In a t → In b t
+  pub moved : (a b : List (Tagged E O)) → ((k : ℕ) → own_events a k ≡ own_events b k) → (t : Tagged E O) → In a t → In b t
   moved a b same t h = let o = in_own a t h in own_in b t.by o.0 t.what (ap (λ l. slice_get l o.0) (sym (same t.by)) ∙ o.1)
 
   -- THEIR ORDER
@@ -67,7 +70,7 @@ module _ {A N E O : Type 0} (closed : List (Closed A N E O)) where
   never_both s t (inr a) (inr b) = let l = a.1 in let m = b.1 in omega (arith, l, m)
 
   -- in order, and each actor took the same: one run
-  one_order : (a b : List (Tagged E O)) → IsSorted closed a → IsSorted closed b → ((k : ℕ) → own a k ≡ own b k) → a ≡ b
+  one_order : (a b : List (Tagged E O)) → IsSorted closed a → IsSorted closed b → ((k : ℕ) → own_events a k ≡ own_events b k) → a ≡ b
   one_order [] [] p q same = refl
   one_order [] (t ∷ b) p q same = absurd (moved (t ∷ b) [] (λ k. sym (same k)) t (inl refl))
   one_order (t ∷ a) [] p q same = absurd (moved (t ∷ a) [] same t (inl refl))
@@ -82,39 +85,40 @@ module _ {A N E O : Type 0} (closed : List (Closed A N E O)) where
         ]
       ]
 
-      others : (k : ℕ) → own a k ≡ own b k
-      others k = append_cancel_right (own a k) (own b k) (if u.by == k then u.what ∷ [] else [])
-          (subst (λ (s : Tagged E O). own (s ∷ a) k ≡ own (u ∷ b) k) heads (same k))
+      others : (k : ℕ) → own_events a k ≡ own_events b k
+      others k = append_cancel_right (own_events a k) (own_events b k) (if u.by == k then u.what ∷ [] else [])
+          (subst (λ (s : Tagged E O). own_events (s ∷ a) k ≡ own_events (u ∷ b) k) heads (same k))
 
   -- so many first events of each actor of a run, in order, with all others after them: the run's end
-  pub ends_run : (all run : List (Tagged E O)) (n : ℕ → ℕ) → IsSorted closed all → IsSorted closed run → ((k : ℕ) → own run k ≡ take (n k) (own all k))
-      → ((k i : ℕ) (r : Recorded E O) → n k ≤ i → slice_get (own all k) i ≡ Some r → AreBefore closed run (record { by = k; what = r }))
+  pub ends_run : (all run : List (Tagged E O)) (n : ℕ → ℕ) → IsSorted closed all → IsSorted closed run
+      → ((k : ℕ) → own_events run k ≡ take (n k) (own_events all k))
+      → ((k i : ℕ) (r : Recorded E O) → n k ≤ i → slice_get (own_events all k) i ≡ Some r → AreBefore closed run (record { by = k; what = r }))
       → (more : List (Tagged E O)) × (all ≡ more ++ run)
   ends_run [] run n p q each ahead = ([], sym (one_order run [] q p (λ k. each k ∙ take_none (n k))))
-  ends_run (t ∷ past) run n p q each ahead = go (ends_run past run n p.0 q) (nat_lt (n t.by) (length (own (t ∷ past) t.by))) refl
+  ends_run (t ∷ past) run n p q each ahead = go (ends_run past run n p.0 q) (nat_lt (n t.by) (length (own_events (t ∷ past) t.by))) refl
     where
       all : List (Tagged E O)
       all = t ∷ past
 
-      shorter : (k : ℕ) (b : Bool) → (t.by == k) ≡ b → n t.by < length (own all t.by)
-          → take (n k) (own past k ++ (if b then t.what ∷ [] else [])) ≡ take (n k) (own past k)
+      shorter : (k : ℕ) (b : Bool) → (t.by == k) ≡ b → n t.by < length (own_events all t.by)
+          → take (n k) (own_events past k ++ (if b then t.what ∷ [] else [])) ≡ take (n k) (own_events past k)
       shorter k true is low =
           let is_k = eqb-true t.by k is in
-          let own_k : n k < length (own all k) = subst (λ j. n j < length (own all j)) is_k low in
-          let many : length (own all k) ≡ suc (length (own past k)) =
-          ap (λ (b : Bool). length (own past k ++ (if b then t.what ∷ [] else []))) is ∙ push_length (own past k) t.what in
-          take-append-le (n k) (own past k) (t.what ∷ []) (omega (arith, own_k, many))
-      shorter k false is low = ap (λ l. take (n k) l) (append-nil (own past k))
+          let own_k : n k < length (own_events all k) = subst (λ j. n j < length (own_events all j)) is_k low in
+          let many : length (own_events all k) ≡ suc (length (own_events past k)) =
+          ap (λ (b : Bool). length (own_events past k ++ (if b then t.what ∷ [] else []))) is ∙ push_length (own_events past k) t.what in
+          take-append-le (n k) (own_events past k) (t.what ∷ []) (omega (arith, own_k, many))
+      shorter k false is low = ap (λ l. take (n k) l) (append-nil (own_events past k))
 
-      high_in : length (own all t.by) ≤ n t.by → In run t
-      high_in high = own_in run t.by (length (own past t.by)) t.what
-          (ap (λ l. slice_get l (length (own past t.by))) (each t.by ∙ take_all (n t.by) (own all t.by) high) ∙ newest t past)
+      high_in : length (own_events all t.by) ≤ n t.by → In run t
+      high_in high = own_in run t.by (length (own_events past t.by)) t.what
+          (ap (λ l. slice_get l (length (own_events past t.by))) (each t.by ∙ take_all (n t.by) (own_events all t.by) high) ∙ newest t past)
 
-      full : length (own all t.by) ≤ n t.by → (k : ℕ) (b : Bool) → nat_lt (n k) (length (own all k)) ≡ b → length (own all k) ≤ n k
+      full : length (own_events all t.by) ≤ n t.by → (k : ℕ) (b : Bool) → nat_lt (n k) (length (own_events all k)) ≡ b → length (own_events all k) ≤ n k
       full high k false is = grind (arith, nat_tests)
       full high k true is =
-          let low : n k < length (own all k) = grind (arith, nat_tests) in
-          let r = there_is (own all k) (n k) low in
+          let low : n k < length (own_events all k) = grind (arith, nat_tests) in
+          let r = there_is (own_events all k) (n k) low in
           let late : Tagged E O = record { by = k; what = r.0 } in
           let after : IsBefore closed t late = before_in run t late (ahead k (n k) r.0 (omega arith) r.1) (high_in high) in
           elim (own_in all k (n k) r.0 r.1) [
@@ -124,15 +128,15 @@ module _ {A N E O : Type 0} (closed : List (Closed A N E O)) where
             | inr h ↦ absurd (never_both t late after (before_in past late t p.1 h))
           ]
 
-      go : (((k : ℕ) → own run k ≡ take (n k) (own past k))
-          → ((k i : ℕ) (r : Recorded E O) → n k ≤ i → slice_get (own past k) i ≡ Some r → AreBefore closed run (record { by = k; what = r }))
+      go : (((k : ℕ) → own_events run k ≡ take (n k) (own_events past k))
+          → ((k i : ℕ) (r : Recorded E O) → n k ≤ i → slice_get (own_events past k) i ≡ Some r → AreBefore closed run (record { by = k; what = r }))
           → (more : List (Tagged E O)) × (past ≡ more ++ run))
-          → (b : Bool) → nat_lt (n t.by) (length (own all t.by)) ≡ b → (more : List (Tagged E O)) × (all ≡ more ++ run)
+          → (b : Bool) → nat_lt (n t.by) (length (own_events all t.by)) ≡ b → (more : List (Tagged E O)) × (all ≡ more ++ run)
       go before true is =
-          let low : n t.by < length (own all t.by) = grind (arith, nat_tests) in
+          let low : n t.by < length (own_events all t.by) = grind (arith, nat_tests) in
           let rest = before (λ k. each k ∙ shorter k (t.by == k) refl low)
-          (λ k i r past_n there. ahead k i r past_n (push_keep (own past k) (if t.by == k then t.what ∷ [] else []) i r there)) in
+          (λ k i r past_n there. ahead k i r past_n (push_keep (own_events past k) (if t.by == k then t.what ∷ [] else []) i r there)) in
           (t ∷ rest.0, ap (λ l. t ∷ l) rest.1)
       go before false is =
-          let high : length (own all t.by) ≤ n t.by = grind (arith, nat_tests) in
-          ([], sym (one_order run all q p (λ k. each k ∙ take_all (n k) (own all k) (full high k (nat_lt (n k) (length (own all k))) refl))))
+          let high : length (own_events all t.by) ≤ n t.by = grind (arith, nat_tests) in
+          ([], sym (one_order run all q p (λ k. each k ∙ take_all (n k) (own_events all k) (full high k (nat_lt (n k) (length (own_events all k))) refl))))

@@ -8,7 +8,7 @@ use Rattle.pvp_rooms.specs.declared.message.Recorded.{Recorded}
 use Rattle.pvp_rooms.specs.declared.actor.Actor.{Ghosts}
 use Rattle.pvp_rooms.specs.Histories.{replay}
 use Rattle.pvp_rooms.specs.declared.cell.Closed.{Closed}
-use Rattle.pvp_audit.specs.Runs.{Tagged, own, history_in, history_of, number_in, AreInOrder, AreBefore, WasSent, Arrives, IsReached}
+use Rattle.pvp_audit.specs.Runs.{Tagged, own_events, history_in, history_of, number_in, AreInOrder, AreBefore, WasSent, Arrives, IsReached}
 use Rattle.pvp_audit.specs.Named.{IsSent, IsNamed}
 use Rattle.pvp_audit.specs.Verdicts.{ClocksRise, FailsAt, CannotArrive, CannotCome}
 use Rattle.pvp_audit.specs.Merging.{IsNextActor, IsMerged, IsProgress}
@@ -25,7 +25,7 @@ first_below (y ∷ xs) (suc n) zero x e = omega arith
 first_below (y ∷ xs) (suc n) (suc i) x e = let h = first_below xs n i x e in omega (arith, h)
 
 module _ {A N E O L : Type 0} (delivers : E → Option L) (sent : O → List L) (is_for : A → E → Bool) (closed : List (Closed A N E O)) (at : List ℕ)
-    (run : List (Tagged E O)) (each : (k : ℕ) → own run k ≡ take (slice_index at k) (history_of closed k)) where
+    (run : List (Tagged E O)) (each : (k : ℕ) → own_events run k ≡ take (slice_index at k) (history_of closed k)) where
   named_sent : (stamp : Stamp) (event : E) → IsSent delivers sent closed at stamp event → WasSent delivers sent closed run stamp event
   named_sent stamp event f = record {
     by = f.by;
@@ -65,12 +65,12 @@ module _ {A N E O L : Type 0} (delivers : E → Option L) (sent : O → List L) 
 module _ {A N E O : Type 0} (closed : List (Closed A N E O)) (order : AreInOrder closed) (clocks : ClocksRise closed) (at : List ℕ) (run : List (Tagged E O))
     (merged : IsMerged closed run at) where
   module _ (k : ℕ) (next : IsNextActor closed at k) (now : List ℕ) (stepped : IsStepped at now k) where
-    each_next : (j : ℕ) (b : Bool) → (k == j) ≡ b → own run j ++ (if b then next.what ∷ [] else []) ≡ take (slice_index now j) (history_of closed j)
+    each_next : (j : ℕ) (b : Bool) → (k == j) ≡ b → own_events run j ++ (if b then next.what ∷ [] else []) ≡ take (slice_index now j) (history_of closed j)
     each_next j true e =
-        let P : ℕ → Type 0 = λ n. own run n ++ next.what ∷ [] ≡ take (slice_index now n) (history_of closed n) in
+        let P : ℕ → Type 0 = λ n. own_events run n ++ next.what ∷ [] ≡ take (slice_index now n) (history_of closed n) in
         subst P (eqb-true k j e) (ap (λ l. l ++ next.what ∷ []) (merged.each k) ∙ sym (take_next (history_of closed k) (slice_index at k) next.what next.next)
         ∙ ap (λ n. take n (history_of closed k)) (sym stepped.here))
-    each_next j false e = append-nil (own run j) ∙ merged.each j ∙ ap (λ n. take n (history_of closed j)) (sym (stepped.others j (eqb-false k j e)))
+    each_next j false e = append-nil (own_events run j) ∙ merged.each j ∙ ap (λ n. take n (history_of closed j)) (sym (stepped.others j (eqb-false k j e)))
 
     ahead_next : (j i : ℕ) (r : Recorded E O) (b : Bool) → (k == j) ≡ b → slice_index now j ≤ i → slice_get (history_of closed j) i ≡ Some r
         → AreBefore closed (record { by = k; what = next.what } ∷ run) (record { by = j; what = r })
@@ -94,7 +94,7 @@ module _ {A N E O : Type 0} (closed : List (Closed A N E O)) (order : AreInOrder
     }
 
   -- at the end of all histories
-  pub merged_all : ((k : ℕ) → length (history_of closed k) ≤ slice_index at k) → (k : ℕ) → own run k ≡ history_of closed k
+  pub merged_all : ((k : ℕ) → length (history_of closed k) ≤ slice_index at k) → (k : ℕ) → own_events run k ≡ history_of closed k
   merged_all done k = merged.each k ∙ take_all (slice_index at k) (history_of closed k) (done k)
 
 -- at the beginning
@@ -121,7 +121,7 @@ module _ {A N E O L : Type 0} (m : Ghosts A N E O) (delivers : E → Option L) (
       next_is : slice_get c.history.items (slice_index at k) ≡ Some next.what
       next_is = ap (λ o. slice_get (history_in o) (slice_index at k)) (sym is) ∙ next.next
 
-      own_is : own p.run k ≡ take (slice_index at k) c.history.items
+      own_is : own_events p.run k ≡ take (slice_index at k) c.history.items
       own_is = p.merged.each k ∙ ap (λ o. take (slice_index at k) (history_in o)) is
 
       pub cannot_arrive : (event : ℕ) → event ≡ slice_index at k + 1 → ¬ IsNamed delivers sent is_for closed at c.end next.what
@@ -159,13 +159,13 @@ module _ {A N E O L : Type 0} (m : Ghosts A N E O) (delivers : E → Option L) (
       }
 
 -- how many events are left
-abbrev pub left : {A N E O : Type 0} → List (Closed A N E O) → List ℕ → ℕ
-left [] at = 0
-left (c ∷ cs) [] = length c.history.items + left cs []
-left (c ∷ cs) (n ∷ at) = (length c.history.items - n) + left cs at
+abbrev pub events_left : {A N E O : Type 0} → List (Closed A N E O) → List ℕ → ℕ
+events_left [] at = 0
+events_left (c ∷ cs) [] = length c.history.items + events_left cs []
+events_left (c ∷ cs) (n ∷ at) = (length c.history.items - n) + events_left cs at
 
 pub left_less : {A N E O : Type 0} (closed : List (Closed A N E O)) (at : List ℕ) (k v : ℕ) → k < length at → k < length closed → slice_index at k ≡ v
-    → v < length (history_of closed k) → left closed (slice_set at k (v + 1)) < left closed at
+    → v < length (history_of closed k) → events_left closed (slice_set at k (v + 1)) < events_left closed at
 left_less [] at k v h w is more = absurd (omega (arith, w))
 left_less (c ∷ cs) [] k v h w is more = absurd (omega (arith, h))
 left_less (c ∷ cs) (n ∷ at) zero v h w is more = omega (arith, is, more)

@@ -6,7 +6,7 @@ use Rattle.std.proofs.lemmas.Option.{slice_get_within}
 use Rattle.pvp_rooms.specs.declared.message.Recorded.{Recorded}
 use Rattle.pvp_rooms.specs.declared.actor.Actor.{Ghosts}
 use Rattle.pvp_rooms.specs.declared.cell.Closed.{Closed}
-use Rattle.pvp_audit.specs.Runs.{Tagged, own, history_in, history_of, AreInOrder, IsBefore, AreBefore, IsSorted, IsRun, IsLegal, IsReached, CanCome}
+use Rattle.pvp_audit.specs.Runs.{Tagged, own_events, history_in, history_of, AreInOrder, IsBefore, AreBefore, IsSorted, IsRun, IsLegal, IsReached, CanCome}
 use Rattle.pvp_audit.specs.Verdicts.{ClocksRise}
 use Rattle.pvp_audit.specs.Merging.{IsNextActor}
 use Rattle.pvp_audit.proofs.Together.{take_next}
@@ -54,11 +54,12 @@ module _ {A N E O : Type 0} (closed : List (Closed A N E O)) where
   -- THE FIRST EVENTS OF THE MERGED LIST, so many of each history
   record AreFirst (run : List (Tagged E O)) (n : ℕ → ℕ) : Type 0 where
     pub sorted : IsSorted closed run
-    pub each : (k : ℕ) → own run k ≡ take (n k) (history_of closed k)
+    pub each : (k : ℕ) → own_events run k ≡ take (n k) (history_of closed k)
     pub ahead : (k i : ℕ) (r : Recorded E O) → n k ≤ i → slice_get (history_of closed k) i ≡ Some r → AreBefore closed run (record { by = k; what = r })
 
   -- end every list in order that has these and perhaps others
-  first_end : (run all : List (Tagged E O)) (n m : ℕ → ℕ) → AreFirst run n → IsSorted closed all → ((k : ℕ) → own all k ≡ take (m k) (history_of closed k))
+  first_end : (run all : List (Tagged E O)) (n m : ℕ → ℕ) → AreFirst run n → IsSorted closed all
+      → ((k : ℕ) → own_events all k ≡ take (m k) (history_of closed k))
       → ((k i : ℕ) (r : Recorded E O) → i < n k → slice_get (history_of closed k) i ≡ Some r → i < m k)
       → (more : List (Tagged E O)) × (all ≡ more ++ run)
   first_end run all n m first sorted each covers =
@@ -131,12 +132,12 @@ module _ {A N E O L : Type 0} (m : Ghosts A N E O) (delivers : E → Option L) (
     }
       where
         each : (k : ℕ) (b : Bool) → (place == k) ≡ b
-            → own past k ++ (if b then what ∷ [] else []) ≡ take (slice_index at k + (if b then 1 else 0)) (history_of closed k)
+            → own_events past k ++ (if b then what ∷ [] else []) ≡ take (slice_index at k + (if b then 1 else 0)) (history_of closed k)
         each k true e =
             let there : slice_get (history_of closed k) (slice_index at k) ≡ Some what =
             subst (λ (j : ℕ). slice_get (history_of closed j) (slice_index at j) ≡ Some what) (eqb-true place k e) here in
             ap (λ l. l ++ what ∷ []) (reached.each k) ∙ sym (take_next (history_of closed k) (slice_index at k) what there)
-        each k false e = append-nil (own past k) ∙ reached.each k ∙ ap (λ n. take n (history_of closed k)) (zero_more (slice_index at k))
+        each k false e = append-nil (own_events past k) ∙ reached.each k ∙ ap (λ n. take n (history_of closed k)) (zero_more (slice_index at k))
           where
             zero_more : (n : ℕ) → n ≡ n + 0
             zero_more n = omega arith
@@ -156,7 +157,7 @@ module _ {A N E O L : Type 0} (m : Ghosts A N E O) (delivers : E → Option L) (
         )
 
     -- of a run that goes on it could come
-    could : (all : List (Tagged E O)) (most : ℕ → ℕ) → IsSorted closed all → ((k : ℕ) → own all k ≡ take (most k) (history_of closed k))
+    could : (all : List (Tagged E O)) (most : ℕ → ℕ) → IsSorted closed all → ((k : ℕ) → own_events all k ≡ take (most k) (history_of closed k))
         → ((k i : ℕ) (r : Recorded E O) → i < more_count k → slice_get (history_of closed k) i ≡ Some r → i < most k)
         → IsRun m delivers sent is_for closed start all → CanCome m delivers sent is_for closed start past this
     could all most sorted each covers run =

@@ -10,7 +10,7 @@ use Rattle.pvp_audit.specs.declared.verdict.Verdict.TheVariants.{Yes, No}
 use Rattle.pvp_audit.specs.declared.verdict.AuditTest.{AuditTest}
 use Rattle.pvp_audit.specs.declared.verdict.AuditTest.TheVariants.{Stamped, Clock, Answered, End, Receipts, NoMemory}
 use Rattle.pvp_audit.specs.Runs.{Tagged, number_at, AreInOrder, IsLegal, Arrives, CanCome}
-use Rattle.pvp_audit.specs.Verdicts.{HoldOfAll, IsAlone, IsSound, IsOneRun, HasRisingClocks, ClocksRise, FailsAlone, FailsAt, FailsEnd, CannotArrive, CannotCome, ClockFails, Means, MeansNo, MeansRun, MeansNoRun, IsOfTest, IsTested}
+use Rattle.pvp_audit.specs.Verdicts.{HoldOfAll, IsAlone, TestsPass, IsOneRun, HasRisingClocks, ClocksRise, FailsAlone, FailsAt, FailsEnd, CannotArrive, CannotCome, ClockFails, Means, MeansNo, MeansRun, MeansNoRun, IsOfTest, IsTested}
 use Rattle.pvp_audit.specs.Alone.{AloneNo}
 use Rattle.pvp_audit.specs.Merging.{HasFailed}
 use Rattle.pvp_audit.proofs.Order.{same_some}
@@ -232,10 +232,10 @@ module _ {A N E O L : Type 0} (m : Ghosts A N E O) (delivers : E → Option L) (
   no_no a b e d why other (inr (inr f)) (inr (inl g)) = absurd (legal_failed (clocks_of closed g.alone) g.place d other f.2.legal g.failed)
   no_no a b e d why other (inr (inr f)) (inr (inr g)) = no_is a b e d why other (one_end_fails a b f.2 g.2) (f.1 ∙ sym g.1) (f.0 ∙ sym g.0)
 
-  all_of : IsSound m delivers sent is_for closed start → HoldOfAll closed (λ _ c. IsAlone c)
+  all_of : TestsPass m delivers sent is_for closed start → HoldOfAll closed (λ _ c. IsAlone c)
   all_of sound j c is = record { receipts = sound.receipts j c is; clocks = sound.run.clocks j c is }
 
-  yes_no : (a e : ℕ) (why : AuditTest) → IsSound m delivers sent is_for closed start → AloneNo closed a e why ⊎ (Merged IsAlone a e why ⊎ Ended a e why) → ⊥
+  yes_no : (a e : ℕ) (why : AuditTest) → TestsPass m delivers sent is_for closed start → AloneNo closed a e why ⊎ (Merged IsAlone a e why ⊎ Ended a e why) → ⊥
   yes_no a e why sound (inl f) = all_alone closed a e why (all_of sound) f
   yes_no a e why sound (inr (inl f)) = legal_failed sound.run.clocks f.place e why sound.run.legal f.failed
   yes_no a e why sound (inr (inr f)) =

@@ -6,7 +6,7 @@ use Rattle.pvp_rooms.specs.declared.message.Recorded.{Recorded}
 use Rattle.pvp_rooms.specs.Seats.{Held}
 use Rattle.pvp_rooms.specs.Histories.{IsRising}
 use Rattle.pvp_audit.specs.Together.{IsNext, receipts_in, receipts_of}
-use Rattle.pvp_audit.specs.Verdicts.{IsLowest, AreUsedUp, AreReceived, HasNoReceipt, IsLeftOver, ReceiptsFail, ClockFails, unused}
+use Rattle.pvp_audit.specs.Verdicts.{IsLowest, AreUsedUp, AreReceived, HasNoReceipt, IsLeftOver, ReceiptsFail, ClockFails, first_places}
 use Rattle.pvp_audit.proofs.Looks.{slice_get-first}
 
 -- LISTS
@@ -51,10 +51,10 @@ module _ {E O : Type 0} (seats : List (Held E O)) where
       (rest.0, (p.0, p.1, rest.1), rest.2)
 
   -- an event whose receipt was used is not one that has none
-  no_lack : (history : List (Recorded E O)) (now : List ℕ) (many : ℕ) → AreUsedUp seats (unused seats) history now → HasNoReceipt history seats many → ⊥
+  no_lack : (history : List (Recorded E O)) (now : List ℕ) (many : ℕ) → AreUsedUp seats (first_places seats) history now → HasNoReceipt history seats many → ⊥
   no_lack history now many p q =
-      let before = used_before (unused seats) history now many q.event p q.is in
-      let same = one_use (unused seats) (take many history) q.at before.0 q.used before.1 in
+      let before = used_before (first_places seats) history now many q.event p q.is in
+      let same = one_use (first_places seats) (take many history) q.at before.0 q.used before.1 in
       q.none before.2.0 (subst (λ (l : List ℕ). IsNext seats l q.event before.2.0) (sym same) before.2.1)
 
   none_there : (o : Option (Held E O)) (k : ℕ) → slice_get seats k ≡ o → (length seats ≤ k) → receipts_in o ≡ []
@@ -64,7 +64,7 @@ module _ {E O : Type 0} (seats : List (Held E O)) where
   none_left : (history : List (Recorded E O)) → AreReceived history seats → IsLeftOver history seats → ⊥
   none_left history p q =
       let same : slice_index p.at q.seat ≡ slice_index q.at q.seat =
-      ap (λ (l : List ℕ). slice_index l q.seat) (one_use (unused seats) history p.at q.at p.used q.used) in
+      ap (λ (l : List ℕ). slice_index l q.seat) (one_use (first_places seats) history p.at q.at p.used q.used) in
       let left = q.left in
       elim (cases_order q.seat (length seats)) [
         | inl e ↦ absurd (beyond (omega (arith, e)))
@@ -88,7 +88,8 @@ module _ {E O : Type 0} (seats : List (Held E O)) where
         event = p.event;
         is = slice_get-first history more many less ∙ p.is;
         at = p.at;
-        used = subst (λ (l : List (Recorded E O)). AreUsedUp seats (unused seats) l p.at) (sym (take_less history many more (omega (arith, less)))) p.used;
+        used =
+            subst (λ (l : List (Recorded E O)). AreUsedUp seats (first_places seats) l p.at) (sym (take_less history many more (omega (arith, less)))) p.used;
         none = p.none;
       })
 

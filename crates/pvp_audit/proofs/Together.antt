@@ -5,22 +5,22 @@ use Rattle.std.proofs.lemmas.List.{take_more, take_all, get_or-set_same, get_or-
 use Rattle.std.proofs.lemmas.Option.{slice_get_within, get_or_from_slice_get, slice_get_read}
 use Rattle.pvp_rooms.specs.declared.message.Recorded.{Recorded}
 use Rattle.pvp_rooms.specs.Seats.{Held}
-use Rattle.pvp_audit.specs.Together.{picked, receipts_of, receipts_in, AreUsed, AreTogether, IsNext}
+use Rattle.pvp_audit.specs.Together.{picked_items, receipts_of, receipts_in, AreUsed, AreTogether, IsNext}
 
 pub take_next : {X : Type 0} (xs : List X) (n : ℕ) (x : X) → slice_get xs n ≡ Some x → take (n + 1) xs ≡ take n xs ++ x ∷ []
 take_next xs n x h = take_more xs n x (slice_get_within xs n x h) ∙ ap (λ y. take n xs ++ y ∷ []) (get_or_from_slice_get xs n x x h)
 
 -- one item more, from a source
 pub picked-push : {X : Type 0} (fs : List ℕ) (xs : List X) (f : ℕ) (x : X) (k : ℕ) → length fs ≡ length xs
-    → picked (fs ++ f ∷ []) (xs ++ x ∷ []) k ≡ picked fs xs k ++ (if f == k then x ∷ [] else [])
+    → picked_items (fs ++ f ∷ []) (xs ++ x ∷ []) k ≡ picked_items fs xs k ++ (if f == k then x ∷ [] else [])
 picked-push [] [] f x k e = refl
 picked-push [] (y ∷ ys) f x k e = absurd (omega arith)
 picked-push (g ∷ gs) [] f x k e = absurd (omega arith)
 picked-push (g ∷ gs) (y ∷ ys) f x k e = go (g == k) (picked-push gs ys f x k (omega arith))
   where
-    go : (b : Bool) → picked (gs ++ f ∷ []) (ys ++ x ∷ []) k ≡ picked gs ys k ++ (if f == k then x ∷ [] else [])
-        → (if b then y ∷ picked (gs ++ f ∷ []) (ys ++ x ∷ []) k else picked (gs ++ f ∷ []) (ys ++ x ∷ []) k)
-        ≡ (if b then y ∷ picked gs ys k else picked gs ys k) ++ (if f == k then x ∷ [] else [])
+    go : (b : Bool) → picked_items (gs ++ f ∷ []) (ys ++ x ∷ []) k ≡ picked_items gs ys k ++ (if f == k then x ∷ [] else [])
+        → (if b then y ∷ picked_items (gs ++ f ∷ []) (ys ++ x ∷ []) k else picked_items (gs ++ f ∷ []) (ys ++ x ∷ []) k)
+        ≡ (if b then y ∷ picked_items gs ys k else picked_items gs ys k) ++ (if f == k then x ∷ [] else [])
     go true more = ap (λ l. y ∷ l) more
     go false more = more
 
@@ -38,13 +38,13 @@ used_next taken seats at now r k used next stepped = record {
   few = λ j. few j (k == j) refl;
 }
   where
-    go : (j : ℕ) (b : Bool) → (k == j) ≡ b → picked used.from taken j ++ (if b then r ∷ [] else []) ≡ take (slice_index now j) (receipts_of seats j)
+    go : (j : ℕ) (b : Bool) → (k == j) ≡ b → picked_items used.from taken j ++ (if b then r ∷ [] else []) ≡ take (slice_index now j) (receipts_of seats j)
     go j true e =
         let is : k ≡ j = eqb-true k j e in
-        let P : ℕ → Type 0 = λ n. picked used.from taken n ++ r ∷ [] ≡ take (slice_index now n) (receipts_of seats n) in
+        let P : ℕ → Type 0 = λ n. picked_items used.from taken n ++ r ∷ [] ≡ take (slice_index now n) (receipts_of seats n) in
         subst P is (ap (λ l. l ++ r ∷ []) (used.own k) ∙ sym (take_next (receipts_of seats k) (slice_index at k) r next.next)
         ∙ ap (λ n. take n (receipts_of seats k)) (sym stepped.here))
-    go j false e = append-nil (picked used.from taken j) ∙ used.own j ∙ ap (λ n. take n (receipts_of seats j)) (sym (stepped.others j (eqb-false k j e)))
+    go j false e = append-nil (picked_items used.from taken j) ∙ used.own j ∙ ap (λ n. take n (receipts_of seats j)) (sym (stepped.others j (eqb-false k j e)))
 
     few : (j : ℕ) (b : Bool) → (k == j) ≡ b → slice_index now j ≤ length (taken ++ r ∷ [])
     few j true e =

@@ -5,7 +5,7 @@ use Rattle.pvp_rooms.specs.declared.actor.Actor.{Ghosts}
 use Rattle.pvp_rooms.specs.declared.cell.Closed.{Closed}
 use Rattle.pvp_audit.specs.declared.verdict.AuditTest.{AuditTest}
 use Rattle.pvp_audit.specs.declared.verdict.AuditTest.TheVariants.{Stamped, Clock, Answered, End, Receipts, NoMemory}
-use Rattle.pvp_audit.specs.Runs.{Tagged, own, history_of, IsBefore, AreBefore, IsSorted, IsRun}
+use Rattle.pvp_audit.specs.Runs.{Tagged, own_events, history_of, IsBefore, AreBefore, IsSorted, IsRun}
 use Rattle.pvp_audit.specs.Verdicts.{FailsAt, CannotArrive, CannotCome}
 
 -- No actor's next event comes before that of the one at this place.
@@ -20,7 +20,7 @@ pub record IsNextActor {A N E O : Type 0} (closed : List (Closed A N E O)) (at :
 pub record IsMerged {A N E O : Type 0} (closed : List (Closed A N E O)) (run : List (Tagged E O)) (at : List ℕ)
     : Type 0 where
   pub sorted : IsSorted closed run
-  pub each : (k : ℕ) → own run k ≡ take (slice_index at k) (history_of closed k)
+  pub each : (k : ℕ) → own_events run k ≡ take (slice_index at k) (history_of closed k)
   pub ahead : (k i : ℕ) (r : Recorded E O) → slice_index at k ≤ i → slice_get (history_of closed k) i ≡ Some r
       → AreBefore closed run (record { by = k; what = r })
 

@@ -27,9 +27,9 @@ pub record Tagged (E O : Type 0) : Type 0 where
   pub what : Recorded E O
 
 -- the events of one actor in a run, oldest first; a run has its newest event first
-abbrev pub own : {E O : Type 0} → List (Tagged E O) → ℕ → List (Recorded E O)
-own [] k = []
-own (t ∷ past) k = own past k ++ (if t.by == k then t.what ∷ [] else [])
+abbrev pub own_events : {E O : Type 0} → List (Tagged E O) → ℕ → List (Recorded E O)
+own_events [] k = []
+own_events (t ∷ past) k = own_events past k ++ (if t.by == k then t.what ∷ [] else [])
 
 abbrev pub history_in : {A N E O : Type 0} → Option (Closed A N E O) → List (Recorded E O)
 history_in None = []
@@ -73,7 +73,7 @@ pub record WasSent {A N E O L : Type 0} (delivers : E → Option L) (sent : O �
   pub by : ℕ
   pub place : ℕ
   pub what : Recorded E O
-  pub there : slice_get (own past by) place ≡ Some what
+  pub there : slice_get (own_events past by) place ≡ Some what
   pub number : number_at closed by ≡ stamp.actor
   pub clock : what.clock ≡ stamp.clock
   pub sends : Sends delivers sent event what.outcome stamp.index
@@ -92,7 +92,7 @@ pub record CanCome {A N E O L : Type 0} (m : Ghosts A N E O) (delivers : E → O
   pub who : Closed A N E O
   pub is : slice_get closed t.by ≡ Some who
   pub arrives : Arrives delivers sent is_for closed past who.end t.what
-  pub comes : m.comes (replay m.after (own past t.by) (start t.by)) t.what.event t.what.outcome
+  pub comes : m.comes (replay m.after (own_events past t.by) (start t.by)) t.what.event t.what.outcome
 
 -- each event can come after those before it
 abbrev pub IsRun : {A N E O L : Type 0} → (m : Ghosts A N E O) → (E → Option L) → (O → List L) → (A → E → Bool)
@@ -111,7 +111,7 @@ pub record IsLegal {A N E O L : Type 0} (m : Ghosts A N E O) (delivers : E → O
     (is_for : A → E → Bool) (closed : List (Closed A N E O)) (start : ℕ → m.State) : Type 0 where
   pub run : List (Tagged E O)
   pub sorted : IsSorted closed run
-  pub each : (k : ℕ) → own run k ≡ history_of closed k
+  pub each : (k : ℕ) → own_events run k ≡ history_of closed k
   pub legal : IsRun m delivers sent is_for closed start run
 
 -- An event of the merged list, where the events before it were a run: past has just the events that come before it, in
@@ -122,6 +122,6 @@ pub record IsReached {A N E O L : Type 0} (m : Ghosts A N E O) (delivers : E →
   pub sorted : IsSorted closed past
   pub legal : IsRun m delivers sent is_for closed start past
   pub before : AreBefore closed past t
-  pub each : (k : ℕ) → own past k ≡ take (slice_index at k) (history_of closed k)
+  pub each : (k : ℕ) → own_events past k ≡ take (slice_index at k) (history_of closed k)
   pub not_before : (k i : ℕ) (r : Recorded E O) → slice_index at k ≤ i → slice_get (history_of closed k) i ≡ Some r
       → ¬ IsBefore closed (record { by = k; what = r }) t

@@ -11,7 +11,7 @@ use Rattle.pvp_audit.specs.declared.verdict.AuditTest.{AuditTest}
 use Rattle.pvp_audit.specs.declared.verdict.AuditTest.TheVariants.{Stamped, Clock, Answered, End, Receipts, NoMemory}
 use Rattle.pvp_audit.specs.Together.{AreTogether, IsNext, receipts_of}
 use Rattle.pvp_audit.specs.Ends.{AreAlike, IsFirstUnlike}
-use Rattle.pvp_audit.specs.Runs.{Tagged, own, number_at, Arrives, IsLegal, IsReached}
+use Rattle.pvp_audit.specs.Runs.{Tagged, own_events, number_at, Arrives, IsLegal, IsReached}
 
 -- the lowest seat whose next receipt is this event
 pub record IsLowest {E O : Type 0} (seats : List (Held E O)) (at : List ℕ) (event : Recorded E O) (k : ℕ) : Type 0 where
@@ -26,15 +26,15 @@ AreUsedUp seats at (event ∷ events) now =
     (k : ℕ) × IsLowest seats at event k × AreUsedUp seats (slice_set at k (slice_index at k + 1)) events now
 
 -- none is used
-abbrev pub unused : {E O : Type 0} → List (Held E O) → List ℕ
-unused seats = replicate (length seats) 0
+abbrev pub first_places : {E O : Type 0} → List (Held E O) → List ℕ
+first_places seats = replicate (length seats) 0
 
 -- The receipts of the seats, in each seat's order, are together the history: each event takes the next receipt of the
 -- lowest seat that has it there, and none is left over.
 pub record AreReceived {E O : Type 0} (history : List (Recorded E O)) (seats : List (Held E O)) : Type 0 where
   pub together : AreTogether history seats
   pub at : List ℕ
-  pub used : AreUsedUp seats (unused seats) history at
+  pub used : AreUsedUp seats (first_places seats) history at
   pub full : (k : ℕ) → k < length seats → slice_index at k ≡ length (receipts_of seats k)
 
 -- the event after the first `many` is no seat's next receipt
@@ -43,13 +43,13 @@ pub record HasNoReceipt {E O : Type 0} (history : List (Recorded E O)) (seats : 
   pub event : Recorded E O
   pub is : slice_get history many ≡ Some event
   pub at : List ℕ
-  pub used : AreUsedUp seats (unused seats) (take many history) at
+  pub used : AreUsedUp seats (first_places seats) (take many history) at
   pub none : (k : ℕ) → ¬ IsNext seats at event k
 
 -- each event has its receipt, and a receipt is left over
 pub record IsLeftOver {E O : Type 0} (history : List (Recorded E O)) (seats : List (Held E O)) : Type 0 where
   pub at : List ℕ
-  pub used : AreUsedUp seats (unused seats) history at
+  pub used : AreUsedUp seats (first_places seats) history at
   pub seat : ℕ
   pub left : slice_index at seat < length (receipts_of seats seat)
 
@@ -125,7 +125,7 @@ abbrev pub CannotCome : {A N E O L : Type 0} → (m : Ghosts A N E O) → (E →
     → List (Closed A N E O) → (ℕ → m.State) → Closed A N E O → List (Tagged E O) → Tagged E O → Type 0
 CannotCome m delivers sent is_for closed start who past t =
     Arrives delivers sent is_for closed past who.end t.what
-    × ¬ m.comes (replay m.after (own past t.by) (start t.by)) t.what.event t.what.outcome
+    × ¬ m.comes (replay m.after (own_events past t.by) (start t.by)) t.what.event t.what.outcome
 
 -- Such a test fails, and each actor alone passes.
 pub record FailsMerged {A N E O : Type 0} (passes : Closed A N E O → Type 0) (closed : List (Closed A N E O))
@@ -152,7 +152,7 @@ pub record IsOneRun {A N E O L : Type 0} (m : Ghosts A N E O) (delivers : E → 
 
 -- Each test passes: of each actor the receipts are together its history, the histories are one run, and the ends read
 -- like the replays.
-pub record IsSound {A N E O L : Type 0} (m : Ghosts A N E O) (delivers : E → Option L) (sent : O → List L)
+pub record TestsPass {A N E O L : Type 0} (m : Ghosts A N E O) (delivers : E → Option L) (sent : O → List L)
     (is_for : A → E → Bool) (closed : List (Closed A N E O)) (start : ℕ → m.State) : Type 0 where
   pub receipts : HoldOfAll closed (λ _ c. AreReceived c.history.items c.seats.items)
   pub run : IsOneRun m delivers sent is_for closed start
@@ -177,7 +177,7 @@ MeansNo m delivers sent is_for closed start actor event NoMemory = (actor ≡ 0)
 -- WHAT AN AUDIT SAYS, both ways
 abbrev pub Means : {A N E O L : Type 0} → (m : Ghosts A N E O) → (E → Option L) → (O → List L) → (A → E → Bool)
     → List (Closed A N E O) → (ℕ → m.State) → Verdict → Type 0
-Means m delivers sent is_for closed start Yes = IsSound m delivers sent is_for closed start
+Means m delivers sent is_for closed start Yes = TestsPass m delivers sent is_for closed start
 Means m delivers sent is_for closed start (No actor event why) =
     MeansNo m delivers sent is_for closed start actor event why
 

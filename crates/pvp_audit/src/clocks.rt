@@ -5,7 +5,7 @@ use pvp_rooms::Recorded;
 use pvp_wire::Stamp;
 
 /// Tests that each clock is above the one before and above its stamp's. An `Err` is the place of the first that isn't.
-pub fn rising<E, O>(history: &[Recorded<E, O>]) -> Result<(), usize>
+pub fn check_clocks<E, O>(history: &[Recorded<E, O>]) -> Result<(), usize>
     ensures ok { OnOk result (IsRising history.now 0) }
     ensures err { IfErr result (λ at. (at < length history.now) × IsRising (take at history.now) 0
         × ¬ IsRising (take (at + 1) history.now) 0) }

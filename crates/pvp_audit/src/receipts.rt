@@ -10,7 +10,7 @@ use std::alloc::{AllocError, Global};
 
 /// Tests that the receipts of the seats, in each seat's order, are together the history.
 /// Otherwise it answers the number of the first event that is no seat's next receipt, or 0 where receipts are left over.
-pub fn unreceipted<A: Audited>(
+pub fn first_unreceipted<A: Audited>(
     alloc: Global,
     history: &[Recorded<A::Event, A::Outcome>],
     seats: &[Seat<A::Event, A::Outcome>],

@@ -3,8 +3,8 @@ ghost use Rattle.pvp_audit.specs.Alone.{AloneNo};
 ghost use Rattle.pvp_audit.specs.Verdicts.{HoldOfAll, IsAlone, HasRisingClocks, ClocksRise, ClockFails, FailsAlone};
 
 use crate::audited::Audited;
-use crate::clocks::rising;
-use crate::receipts::unreceipted;
+use crate::clocks::check_clocks;
+use crate::receipts::first_unreceipted;
 use pvp_rooms::Closed;
 use std::alloc::{AllocError, Global};
 
@@ -46,7 +46,7 @@ pub fn first_clock<A: Audited>(closed: &[Closed<A>]) -> Option<(u16, usize)>
 {
     for k in 0..closed.len() {
         let one = &closed[k];
-        if let Err(at) = rising(one.history.as_slice()) {
+        if let Err(at) = check_clocks(one.history.as_slice()) {
             return Some((one.number, at + 1));
         }
     }
@@ -64,12 +64,12 @@ pub fn first_alone<A: Audited>(
 {
     for k in 0..closed.len() {
         let one = &closed[k];
-        match unreceipted::<A>(alloc, one.history.as_slice(), one.seats.as_slice()) {
+        match first_unreceipted::<A>(alloc, one.history.as_slice(), one.seats.as_slice()) {
             Err(refused) => return Err(refused),
             Ok(Some(event)) => return Ok(Some((one.number, event, AuditTest::Receipts))),
             Ok(None) => {}
         }
-        if let Err(at) = rising(one.history.as_slice()) {
+        if let Err(at) = check_clocks(one.history.as_slice()) {
             return Ok(Some((one.number, at + 1, AuditTest::Clock)));
         }
     }

@@ -13,7 +13,7 @@ use Rattle.pvp_types.proofs.SetupLemmas.{valid-currencies}
 use Rattle.pvp_book.specs.declared.account.Account.{Account}
 use Rattle.pvp_book.specs.Limits.{worth_of, debt_of, standing_of, value_of, shortage_of}
 use Rattle.pvp_book.specs.Bounds.{most_total, most_standing, IsWithin}
-use Rattle.pvp_book.specs.Kept.{IsAccount, posted}
+use Rattle.pvp_book.specs.Kept.{IsAccount, after_posting}
 use Rattle.pvp_book.proofs.LimitsLemmas.{worth-within, debt-within, shortage-within, shortage-most, fair-at}
 
 -- what one currency adds to a sum over currencies is no more than the sum
@@ -171,7 +171,7 @@ module _ (setup : Setup) (a : Account) (c : ℕ) (amt : ℤ) (read : Currency) (
   pub posting-is : (at : ℕ) (after s t : ℤ) (x y : ℕ) → at ≡ c → after ≡ slice_index_or a.balances c (pos 0) +ℤ amt
       → s ≡ standing_of (read, slice_index_or a.balances c (pos 0)) → t ≡ standing_of (read, after)
       → x ≡ shortage_of (read, slice_index_or a.balances c (pos 0)) → y ≡ shortage_of (read, after)
-      → record { balances = slice_set a.balances at after; value = (a.value -ℤ s) +ℤ t; shortage = a.shortage - x + y } ≡ posted setup.currencies c amt a
+      → record { balances = slice_set a.balances at after; value = (a.value -ℤ s) +ℤ t; shortage = a.shortage - x + y } ≡ after_posting setup.currencies c amt a
   posting-is at after s t x y here is_after is_s is_t is_x is_y =
       let b = slice_index_or a.balances c (pos 0) in
       let values : (a.value -ℤ s) +ℤ t ≡ value_of setup.currencies (slice_set a.balances c (b +ℤ amt)) =

@@ -7,6 +7,7 @@ use Rattle.std.proofs.lemmas.Bool.{ltb-true, eqb-true}
 use Rattle.std.proofs.lemmas.List.{get_or-replicate, length-replicate}
 use Rattle.std.proofs.lemmas.List.Elements.{filter_map-append}
 use Rattle.pvp_types.specs.declared.setup.Setup.{Setup}
+use Rattle.pvp_types.specs.declared.command.Instruction.{Instruction}
 use Rattle.pvp_types.specs.declared.command.Cmd.{Cmd}
 use Rattle.pvp_types.specs.declared.command.Cmd.TheVariants.{Instruct, Settle, PayOut, Paid, Returned}
 use Rattle.pvp_types.specs.declared.command.Reply.{Reply}
@@ -16,8 +17,8 @@ use Rattle.pvp_types.specs.Setup.{IsValid}
 use Rattle.pvp_book.specs.declared.entry.Entry.{Entry}
 use Rattle.pvp_book.specs.declared.pair.Pair.{Pair}
 use Rattle.pvp_book.specs.declared.pair.PairState.TheVariants.{Unmatched}
-use Rattle.pvp_book.specs.Pairs.{opened_by, pairs, matched_by, matched, pair_of, has_reference}
-use Rattle.pvp_book.specs.Settlement.{candidates, pass, taken_by, settled_after, settled}
+use Rattle.pvp_book.specs.Pairs.{opened_by, pairs, matched_by, matched_pairs, pair_of, has_reference}
+use Rattle.pvp_book.specs.Settlement.{candidates, pass, taken_by, settled_after, settled_pairs}
 use Rattle.pvp_types.specs.declared.command.PayOrder.{PayOrder}
 use Rattle.pvp_types.proofs.SetupLemmas.{valid-currencies, valid-members}
 use Rattle.pvp_book.specs.declared.account.Account.{Account}
@@ -27,7 +28,7 @@ use Rattle.pvp_book.specs.Accounts.{balance_with}
 use Rattle.pvp_book.specs.Laws.{AreOrdered, IsCovered}
 use Rattle.pvp_book.specs.Ledger.{Ledger, opening, queue, balance, figure, sum_of_balances, state_of, is_state, is_pay_in, has_pay_in}
 use Rattle.pvp_book.specs.Bounds.{IsLedger, total, most_total, IsWithin}
-use Rattle.pvp_book.specs.Kept.{Kept, IsKept, IsLine, CanPost, empty_account, no_account, IsAccount, AreAccounts, AreFigures, movement_with, movement_by, moved_to, accounts_after, figures_after}
+use Rattle.pvp_book.specs.Kept.{Kept, KeepsLedger, IsLine, CanPost, empty_account, no_account, IsAccount, AreAccounts, AreFigures, movement_with, movement_by, moved_to, accounts_after, figures_after}
 use Rattle.pvp_book.specs.PayIns.{ArePaidIn}
 use Rattle.pvp_book.specs.declared.pay_ins.PayIns.{PayIns}
 use Rattle.pvp_book.specs.Answer.{Row, end_checks, book_of, has_member, answer, answer_to, after, with_entry, is_walk, is_refusal, is_mirror, on_mirror, on_instruct, is_member_number, has_currency, is_amount}
@@ -48,7 +49,7 @@ use Rattle.std.proofs.lemmas.List.Kept.{AllPairs-filter}
 use Rattle.pvp_book.proofs.OrderTableLemmas.{AreMade-still, order-kept}
 use Rattle.pvp_book.specs.declared.tally.Tally.{Tally}
 use Rattle.pvp_book.specs.declared.pair.PairState.{PairState}
-use Rattle.pvp_book.specs.Tally.{tallied, is_at}
+use Rattle.pvp_book.specs.Tally.{kept_count, is_at}
 use Rattle.std.specs.Option.{option_map}
 use Rattle.std.proofs.lemmas.List.Folds.{list_any-append}
 use Rattle.pvp_book.specs.declared.kept_pair.KeptPair.{KeptPair}
@@ -77,9 +78,9 @@ zeros zero c = refl
 zeros (suc n) zero = refl
 zeros (suc n) (suc c) = zeros n c
 
-pub IsKept-opening : (setup : Setup) (paid : PayIns) (table : OrderTable) (tally : Tally) → IsValid setup → ArePaidIn [] paid → AreMade [] table
-    → ((s : PairState) → tallied tally s ≡ 0)
-    → IsKept (opening setup) (record {
+pub KeepsLedger-opening : (setup : Setup) (paid : PayIns) (table : OrderTable) (tally : Tally) → IsValid setup → ArePaidIn [] paid → AreMade [] table
+    → ((s : PairState) → kept_count tally s ≡ 0)
+    → KeepsLedger (opening setup) (record {
       pairs = [];
       line = [];
       members = replicate (length setup.members + 1) empty_account;
@@ -88,8 +89,8 @@ pub IsKept-opening : (setup : Setup) (paid : PayIns) (table : OrderTable) (tally
       table = table;
       tally = tally;
     })
-unfolding settled settled_after
-IsKept-opening setup paid table tally valid paid_in made none = record {
+unfolding settled_pairs settled_after
+KeepsLedger-opening setup paid table tally valid paid_in made none = record {
   ledger = record { valid = valid; few = omega arith; small = omega arith; fewer = omega arith; within = IsWithinMatched-nil };
   history = [];
   reached = refl;
@@ -115,17 +116,18 @@ IsKept-opening setup paid table tally valid paid_in made none = record {
     by c account (inr same) = ap (λ (a : Account). slice_index_or a.balances c (pos 0)) same
 
 -- an instruction that is answered Done names a reference that has no pair
-done-new : (setup : Setup) (entries : List Entry) (client reference other sell sell_amt buy buy_amt : ℕ)
-    → Done ≡ on_instruct setup entries client reference other sell sell_amt buy buy_amt → pair_of entries reference ≡ None
-done-new setup entries client reference other sell sell_amt buy buy_amt e =
-    by (is_member_number client) (has_member setup client && (has_member setup other && not (other == client)))
-    (has_currency setup sell && (has_currency setup buy && not (sell == buy))) (is_amount sell_amt && is_amount buy_amt) (reference == 0)
-    (pair_of entries reference) e
+done-new : (setup : Setup) (entries : List Entry) (client : ℕ) (asked : Instruction)
+    → Done ≡ on_instruct setup entries client asked → pair_of entries asked.reference ≡ None
+done-new setup entries client asked e =
+    by (is_member_number client) (has_member setup client && (has_member setup asked.other && not (asked.other == client)))
+    (has_currency setup asked.sell && (has_currency setup asked.buy && not (asked.sell == asked.buy)))
+    (is_amount asked.sell_amt && is_amount asked.buy_amt) (asked.reference == 0)
+    (pair_of entries asked.reference) e
   where
-    mirror : (pair : Option Pair) → Done ≡ on_mirror setup entries client pair other sell sell_amt buy buy_amt → pair ≡ None
+    mirror : (pair : Option Pair) → Done ≡ on_mirror setup entries client pair asked → pair ≡ None
     mirror None e = refl
     mirror (Some p) e =
-        cases ((client == p.first) || not (is_state (state_of setup entries p) Unmatched)) (is_mirror p client other sell sell_amt buy buy_amt) e
+        cases ((client == p.first) || not (is_state (state_of setup entries p) Unmatched)) (is_mirror p client asked) e
       where
         cases : (a b : Bool) → Done ≡ (if a then No Repeated else if not b then No Mismatch else Matched) → Some p ≡ None
         cases true b e = absurd (cc e)
@@ -134,7 +136,7 @@ done-new setup entries client reference other sell sell_amt buy buy_amt e =
 
     by : (yours member currency small none : Bool) (pair : Option Pair)
         → Done ≡ (if not yours then No NotYours else if not member then No UnknownMember else if not currency then No UnknownCurrency
-        else if not small then No BadAmount else if none then No UnknownReference else on_mirror setup entries client pair other sell sell_amt buy buy_amt)
+        else if not small then No BadAmount else if none then No UnknownReference else on_mirror setup entries client pair asked)
         → pair ≡ None
     by true true true true false pair e = mirror pair e
     by _ _ _ _ _ pair e = absurd (cc e)
@@ -143,9 +145,9 @@ done-new setup entries client reference other sell sell_amt buy buy_amt e =
 pub opened-new : (setup : Setup) (entries : List Entry) (client : ℕ) (cmd : Cmd) (reply : Reply) (p : Pair)
     → opened_by client cmd reply ≡ Some p → reply ≡ answer setup entries client cmd → pair_of entries p.reference ≡ None
 unfolding answer
-opened-new setup entries client (Instruct reference other sell sell_amt buy buy_amt) Done p opened answered =
-    let same : reference ≡ p.reference = cc in
-    subst (λ r. pair_of entries r ≡ None) same (done-new setup entries client reference other sell sell_amt buy buy_amt answered)
+opened-new setup entries client (Instruct asked) Done p opened answered =
+    let same : asked.reference ≡ p.reference = cc in
+    subst (λ r. pair_of entries r ≡ None) same (done-new setup entries client asked answered)
 opened-new setup entries client _ _ p opened answered = absurd (cc opened)
 
 -- an accepted command that is no walk settles nothing
@@ -156,7 +158,7 @@ settles-none setup entries done client (Settle most) other accepted = by (client
   where
     by : (b : Bool) → b ≡ false
         → is_refusal (if not b then No NotYours
-        else Settled (length (pass setup entries (settled setup entries) most (candidates entries (settled setup entries))))) ≡ false
+        else Settled (length (pass setup entries (settled_pairs setup entries) most (candidates entries (settled_pairs setup entries))))) ≡ false
         → pass setup entries done most (candidates entries done) ≡ []
     by true other accepted = absurd (cc other)
     by false other accepted = absurd (cc accepted)
@@ -184,13 +186,13 @@ more-reached setup entries history client cmd same accepted =
 module _ (held : Ledger) (client : ℕ) (cmd : Cmd) (members : List Account) (totals : List ℤ) (reached : IsReached held.setup held.entries)
     (valid : IsValid held.setup)
     (accepted : is_refusal (answer held.setup held.entries client cmd) ≡ false)
-    (later : settled held.setup (held.entries ++ entry_of held.setup held.entries client cmd ∷ []) ≡ settled held.setup held.entries) where
+    (later : settled_pairs held.setup (held.entries ++ entry_of held.setup held.entries client cmd ∷ []) ≡ settled_pairs held.setup held.entries) where
   moved : (m c : ℕ)
       → balance held.setup (held.entries ++ entry_of held.setup held.entries client cmd ∷ []) m c
       ≡ balance held.setup held.entries m c +ℤ moved_to m c (movement_by held.entries client cmd)
   moved m c =
       ap (λ done. balance_with (held.entries ++ entry_of held.setup held.entries client cmd ∷ []) done m c) later
-      ∙ balance-moved held.setup held.entries (settled held.setup held.entries) client cmd accepted reached.ordered m c
+      ∙ balance-moved held.setup held.entries (settled_pairs held.setup held.entries) client cmd accepted reached.ordered m c
 
   pub kept-accounts : AreAccounts held.setup.currencies (length held.setup.members) (balance held.setup held.entries) members
       → AreAccounts held.setup.currencies (length held.setup.members) (balance held.setup (held.entries ++ entry_of held.setup held.entries client cmd ∷ []))
@@ -231,8 +233,8 @@ module _ (held : Ledger) (client : ℕ) (cmd : Cmd) (members : List Account) (to
         places = are.places;
         same =
             λ c. are.same c ∙ sym (sum-still (held.entries ++ entry_of held.setup held.entries client cmd ∷ []) held.entries
-            (settled held.setup (held.entries ++ entry_of held.setup held.entries client cmd ∷ []))
-            (settled held.setup held.entries) (movement_by held.entries client cmd) c (λ m. moved m c) (length held.setup.members) is);
+            (settled_pairs held.setup (held.entries ++ entry_of held.setup held.entries client cmd ∷ []))
+            (settled_pairs held.setup held.entries) (movement_by held.entries client cmd) c (λ m. moved m c) (length held.setup.members) is);
       }
       by (Some x) is =
           let known = known-movement held.setup held.entries client cmd x accepted reached.members is in
@@ -246,13 +248,13 @@ module _ (held : Ledger) (client : ℕ) (cmd : Cmd) (members : List Account) (to
                 λ c.
                 next.same c ∙ sym
                 ((sum-moved (held.entries ++ entry_of held.setup held.entries client cmd ∷ []) held.entries
-                (settled held.setup (held.entries ++ entry_of held.setup held.entries client cmd ∷ []))
-                (settled held.setup held.entries) (movement_by held.entries client cmd) c (λ m. moved m c) (length held.setup.members) x is member.0).1
+                (settled_pairs held.setup (held.entries ++ entry_of held.setup held.entries client cmd ∷ []))
+                (settled_pairs held.setup held.entries) (movement_by held.entries client cmd) c (λ m. moved m c) (length held.setup.members) x is member.0).1
                 member.1);
           }
 
 -- what an entry moves can be posted
-pub can-post : (held : Ledger) (client : ℕ) (cmd : Cmd) (kept : Kept) (x : Movement) → IsKept held kept
+pub can-post : (held : Ledger) (client : ℕ) (cmd : Cmd) (kept : Kept) (x : Movement) → KeepsLedger held kept
     → is_refusal (answer held.setup held.entries client cmd) ≡ false → movement_by held.entries client cmd ≡ Some x → IsWithin most_total x.amt
     → CanPost held.setup kept.members kept.totals x
 can-post held client cmd kept x is accepted moves amount =
@@ -269,12 +271,13 @@ can-post held client cmd kept x is accepted moves amount =
       currency = ltb-true x.ccy (length held.setup.currencies) known.currency;
       account = is.accounts.each x.member within;
       small =
-          small-account held.entries (settled held.setup held.entries) held.setup.currencies
+          small-account held.entries (settled_pairs held.setup held.entries) held.setup.currencies
           (length held.setup.members) kept.members small is.accounts x.member;
       amount = amount;
       places = is.figures.places;
       figure = subst (IsWithin (64 * most_total)) (sym (is.figures.same x.ccy))
-          (wider (figure held.setup held.entries x.ccy) few (small-sum held.entries (settled held.setup held.entries) x.ccy small (length held.setup.members)));
+          (wider (figure held.setup held.entries x.ccy) few
+          (small-sum held.entries (settled_pairs held.setup held.entries) x.ccy small (length held.setup.members)));
     }
   where
     wider : (z : ℤ) → length held.setup.members ≤ 64 → IsWithin (length held.setup.members * most_total) z → IsWithin (64 * most_total) z
@@ -299,40 +302,40 @@ pairs-once setup history r =
         (λ is. subst (λ k. has_reference (pairs entries) k ≡ false) (eqb-true p.reference r is)
         (not-found (pairs entries) p.reference (opened-new setup entries client cmd (answer setup entries client cmd) p opened refl)))
 
-pub pairs-distinct : (held : Ledger) → {kept : Kept} → IsKept held kept → AreDistinct (pairs held.entries)
+pub pairs-distinct : (held : Ledger) → {kept : Kept} → KeepsLedger held kept → AreDistinct (pairs held.entries)
 pairs-distinct held is =
     subst (λ es. AreDistinct (pairs es)) (sym is.reached) (distinct-once (pairs (book_of held.setup is.history)) (pairs-once held.setup is.history))
 
 -- what is kept of the pair that an entry names
-pub found-now : (held : Ledger) (kept : Kept) → IsKept held kept → (named : Option ℕ)
+pub found-now : (held : Ledger) (kept : Kept) → KeepsLedger held kept → (named : Option ℕ)
     → pair_in kept.pairs named ≡ option_map (kept_pair held.setup held.entries) (at_named held.entries named)
-found-now held kept is named = ap (λ ps. pair_in ps named) is.pairs ∙ found-kept held.entries (settled held.setup held.entries) named
+found-now held kept is named = ap (λ ps. pair_in ps named) is.pairs ∙ found-kept held.entries (settled_pairs held.setup held.entries) named
 
 -- what a tally has of it, and that no count is great
-tallied-kept : (held : Ledger) (kept : Kept) → IsKept held kept → (s : PairState) → tallied kept.tally s ≡ counted_in s kept.pairs
+tallied-kept : (held : Ledger) (kept : Kept) → KeepsLedger held kept → (s : PairState) → kept_count kept.tally s ≡ counted_in s kept.pairs
 tallied-kept held kept is s =
-    is.states s ∙ sym (counted-kept held.entries (settled held.setup held.entries) s (pairs held.entries)) ∙ ap (counted_in s) (sym is.pairs)
+    is.states s ∙ sym (counted-kept held.entries (settled_pairs held.setup held.entries) s (pairs held.entries)) ∙ ap (counted_in s) (sym is.pairs)
 
-pub tally-there : (held : Ledger) (kept : Kept) → IsKept held kept → (named : Option ℕ) (s : PairState)
-    → is_at (option_map state_kept (pair_in kept.pairs named)) s ≤ tallied kept.tally s
+pub tally-there : (held : Ledger) (kept : Kept) → KeepsLedger held kept → (named : Option ℕ) (s : PairState)
+    → is_at (option_map state_kept (pair_in kept.pairs named)) s ≤ kept_count kept.tally s
 tally-there held kept is named s = let all = tallied-kept held kept is s in let some = found-counted s kept.pairs named in omega arith
 
-pub tally-few : (held : Ledger) (kept : Kept) → IsKept held kept → (s : PairState) → tallied kept.tally s ≤ 65535
+pub tally-few : (held : Ledger) (kept : Kept) → KeepsLedger held kept → (s : PairState) → kept_count kept.tally s ≤ 65535
 tally-few held kept is s =
-    let few = pairs-few held is.ledger (settled held.setup held.entries) s in
+    let few = pairs-few held is.ledger (settled_pairs held.setup held.entries) s in
     let applied : held.applied ≤ 65535 = is.ledger.few in
     let same = is.states s in
     omega arith
 
 -- an entry that is no walk adds at most a pair, and moves what it moves
-pub IsKept-accepted : (held : Ledger) (entry : Entry) (kept : Kept) (paid : PayIns) (table : OrderTable) (tally : Tally)
+pub KeepsLedger-accepted : (held : Ledger) (entry : Entry) (kept : Kept) (paid : PayIns) (table : OrderTable) (tally : Tally)
     → ArePaidIn (held.entries ++ entry ∷ []) paid → AreMade (held.entries ++ entry ∷ []) table
-    → ((s : PairState) → tallied tally s + is_at (option_map state_kept (pair_in kept.pairs (named_by entry.cmd))) s
-    ≡ tallied kept.tally s
+    → ((s : PairState) → kept_count tally s + is_at (option_map state_kept (pair_in kept.pairs (named_by entry.cmd))) s
+    ≡ kept_count kept.tally s
     + is_at (option_map state_kept (pair_noted entry.client entry.cmd entry.reply (pair_in kept.pairs (named_by entry.cmd)))) s)
-    → IsKept held kept → held.applied < 65535
+    → KeepsLedger held kept → held.applied < 65535
     → is_walk entry.client entry.cmd ≡ false → entry.reply ≡ answer_to held entry.client entry.cmd → is_refusal entry.reply ≡ false
-    → IsKept (record { setup = held.setup; entries = held.entries ++ entry ∷ []; applied = held.applied + 1 }) (record {
+    → KeepsLedger (record { setup = held.setup; entries = held.entries ++ entry ∷ []; applied = held.applied + 1 }) (record {
       pairs = pair_put kept.pairs (pair_noted entry.client entry.cmd entry.reply (pair_in kept.pairs (named_by entry.cmd)));
       line = kept.line ++ cons_option (matched_by entry.client entry.cmd entry.reply) [];
       members = accounts_after held.setup.currencies (movement_by held.entries entry.client entry.cmd) kept.members;
@@ -341,21 +344,21 @@ pub IsKept-accepted : (held : Ledger) (entry : Entry) (kept : Kept) (paid : PayI
       table = table;
       tally = tally;
     })
-IsKept-accepted held entry kept paid table tally paid_in made moves is room other answered accepted =
-    let done = settled held.setup held.entries in
+KeepsLedger-accepted held entry kept paid table tally paid_in made moves is room other answered accepted =
+    let done = settled_pairs held.setup held.entries in
     let longer = held.entries ++ entry ∷ [] in
     let taken = ap is_refusal (sym answered) ∙ accepted in
-    let none = settles-none held.setup held.entries (settled held.setup held.entries) entry.client entry.cmd other taken in
-    let with_none : settled held.setup (held.entries ++ entry ∷ []) ≡ settled held.setup held.entries ++ [] =
-    settled-push held.setup held.entries entry ∙ ap (λ ps. settled held.setup held.entries ++ ps) none in
-    let still = with_none ∙ append-nil (settled held.setup held.entries) in
+    let none = settles-none held.setup held.entries (settled_pairs held.setup held.entries) entry.client entry.cmd other taken in
+    let with_none : settled_pairs held.setup (held.entries ++ entry ∷ []) ≡ settled_pairs held.setup held.entries ++ [] =
+    settled-push held.setup held.entries entry ∙ ap (λ ps. settled_pairs held.setup held.entries ++ ps) none in
+    let still = with_none ∙ append-nil (settled_pairs held.setup held.entries) in
     let same : entry ≡ entry_of held.setup held.entries entry.client entry.cmd = λ i. record { client = entry.client; cmd = entry.cmd; reply = answered i } in
     let reached = is-reached held.setup held.entries is.history is.reached in
-    let still_so = ap (λ e. settled held.setup (held.entries ++ e ∷ [])) (sym same) ∙ still in
+    let still_so = ap (λ e. settled_pairs held.setup (held.entries ++ e ∷ [])) (sym same) ∙ still in
     let history = is.history ++ record { client = entry.client; number = 0; cmd = entry.cmd } ∷ [] in
     let reached_now = ap (λ e. held.entries ++ e ∷ []) same ∙ more-reached held.setup held.entries is.history entry.client entry.cmd is.reached taken in
     let matched_known =
-    subst (λ es. AllByRecursion (λ p. pair_of es p.reference ≡ Some p) (matched es)) (sym reached_now) (sound held.setup history).known in
+    subst (λ es. AllByRecursion (λ p. pair_of es p.reference ≡ Some p) (matched_pairs es)) (sym reached_now) (sound held.setup history).known in
     let new : (p : Pair) → opened_by entry.client entry.cmd entry.reply ≡ Some p
     → (pair_of held.entries p.reference ≡ None) × (pair_with held.entries done p ≡ just_opened p) =
     λ p opened.
@@ -381,7 +384,7 @@ IsKept-accepted held entry kept paid table tally paid_in made moves is room othe
       states = λ s.
           tally-put s kept.pairs (named_by entry.cmd) (pair_noted entry.client entry.cmd entry.reply (pair_in kept.pairs (named_by entry.cmd)))
           noted.own (none-noted entry.client entry.cmd entry.reply (pair_in kept.pairs (named_by entry.cmd))) (tallied-kept held kept is s) (moves s)
-          ∙ ap (counted_in s) pairs_now ∙ counted-kept longer (settled held.setup longer) s (pairs longer);
+          ∙ ap (counted_in s) pairs_now ∙ counted-kept longer (settled_pairs held.setup longer) s (pairs longer);
       line = subst (λ ps. IsLine longer ps (kept.line ++ cons_option (matched_by entry.client entry.cmd entry.reply) [])) (sym with_none)
           (line-more held.entries entry done [] kept.line matched_known is.line);
       pairs = pairs_now;
@@ -390,7 +393,7 @@ IsKept-accepted held entry kept paid table tally paid_in made moves is room othe
 -- the answer to the operator's word to settle
 pub answer-walk : (held : Ledger) (most : ℕ)
     → answer_to held 0 (Settle most) ≡ Settled
-    (length (pass held.setup held.entries (settled held.setup held.entries) most (candidates held.entries (settled held.setup held.entries))))
+    (length (pass held.setup held.entries (settled_pairs held.setup held.entries) most (candidates held.entries (settled_pairs held.setup held.entries))))
 unfolding answer
 answer-walk held most = refl
 
@@ -406,14 +409,14 @@ figure-walked setup entries history most c same accepted =
     after_it.difference ∙ (λ i. (pos (moves.0 i) -ℤ pos (moves.1 i)) +ℤ pos (moves.2 i)) ∙ sym before.difference
 
 -- those of the line that wait, by what is kept, are what a walk is offered
-pub offered-from : {held : Ledger} {kept : Kept} {line offered : List Pair} → IsKept held kept → line ≡ kept.line
-    → offered ≡ filter (λ p. is_waiting kept.pairs p) line → offered ≡ candidates held.entries (settled held.setup held.entries)
+pub offered-from : {held : Ledger} {kept : Kept} {line offered : List Pair} → KeepsLedger held kept → line ≡ kept.line
+    → offered ≡ filter (λ p. is_waiting kept.pairs p) line → offered ≡ candidates held.entries (settled_pairs held.setup held.entries)
 offered-from {held} {kept} is same waits =
     waits ∙ (λ i. filter (λ p. is_waiting (is.pairs i) p) (same i))
-    ∙ waiting-kept held.entries (settled held.setup held.entries) kept.line is.line.known ∙ is.line.waits
+    ∙ waiting-kept held.entries (settled_pairs held.setup held.entries) kept.line is.line.known ∙ is.line.waits
 
 -- so the waiting pair at a place is that of the queue
-pub queue-at : {held now : Ledger} {kept : Kept} {line : List Pair} {found : Option Pair} (at : ℕ) → IsKept held kept → held ≡ now → line ≡ kept.line
+pub queue-at : {held now : Ledger} {kept : Kept} {line : List Pair} {found : Option Pair} (at : ℕ) → KeepsLedger held kept → held ≡ now → line ≡ kept.line
     → found ≡ slice_get (filter (λ p. is_waiting kept.pairs p) line) at → found ≡ slice_get (queue now.setup now.entries) at
 queue-at at is view same read =
     read ∙ ap (λ ps. slice_get ps at) (offered-from is same refl) ∙ ap (λ (l : Ledger). slice_get (queue l.setup l.entries) at) view
@@ -424,9 +427,9 @@ pub moved-same : (entries : List Entry) (table : OrderTable) → AreMade entries
 moved-same entries table are client cmd = λ i. movement_with (λ c n. sym (are.made c n) i) client cmd
 
 -- the pay-ins, and the table of orders, may be other values of which the same is so
-pub IsKept-same : (held : Ledger) (kept : Kept) (paid : PayIns) (table : OrderTable) → IsKept held kept → ArePaidIn held.entries paid
+pub KeepsLedger-same : (held : Ledger) (kept : Kept) (paid : PayIns) (table : OrderTable) → KeepsLedger held kept → ArePaidIn held.entries paid
     → AreMade held.entries table
-    → IsKept held (record {
+    → KeepsLedger held (record {
       pairs = kept.pairs;
       line = kept.line;
       members = kept.members;
@@ -435,7 +438,7 @@ pub IsKept-same : (held : Ledger) (kept : Kept) (paid : PayIns) (table : OrderTa
       table = table;
       tally = kept.tally;
     })
-IsKept-same held kept paid table is paid_in made = record {
+KeepsLedger-same held kept paid table is paid_in made = record {
   ledger = is.ledger;
   history = is.history;
   reached = is.reached;
@@ -449,7 +452,7 @@ IsKept-same held kept paid table is paid_in made = record {
 }
 
 -- the open orders of a currency ascend by number
-pub open-ascending : (held : Ledger) (kept : Kept) (table : OrderTable) → IsKept held kept → AreMade held.entries table → (c : ℕ)
+pub open-ascending : (held : Ledger) (kept : Kept) (table : OrderTable) → KeepsLedger held kept → AreMade held.entries table → (c : ℕ)
     → AreAscending (open_at table c)
 open-ascending held kept table is are c =
     let ordered = (is-reached held.setup held.entries is.history is.reached).ordered c in
@@ -477,33 +480,34 @@ IsNext-accepted held table client cmd reply is are answered accepted =
     next-step held.setup held.entries client cmd reply table are answered (ap is_refusal (sym answered) ∙ accepted)
 
 -- each matched pair is found by its reference
-matched-known : (held : Ledger) (kept : Kept) → IsKept held kept → AllByRecursion (λ p. pair_of held.entries p.reference ≡ Some p) (matched held.entries)
+matched-known : (held : Ledger) (kept : Kept) → KeepsLedger held kept
+    → AllByRecursion (λ p. pair_of held.entries p.reference ≡ Some p) (matched_pairs held.entries)
 matched-known held kept is =
-    subst (λ es. AllByRecursion (λ p. pair_of es p.reference ≡ Some p) (matched es)) (sym is.reached) (sound held.setup is.history).known
+    subst (λ es. AllByRecursion (λ p. pair_of es p.reference ≡ Some p) (matched_pairs es)) (sym is.reached) (sound held.setup is.history).known
 
 -- what a walk starts with
 pub walk-offered : (held : Ledger) (kept : Kept) (es : List Entry) (offered : List Pair)
-    → IsKept held kept → es ≡ held.entries → offered ≡ candidates held.entries (settled held.setup held.entries) → IsOffered held.setup es offered
+    → KeepsLedger held kept → es ≡ held.entries → offered ≡ candidates held.entries (settled_pairs held.setup held.entries) → IsOffered held.setup es offered
 walk-offered held kept es offered is same given = record {
   valid = is.ledger.valid;
   small = subst (λ x. total x ≤ most_total) (sym same) (total-small held is.ledger);
   tradable =
       subst (AllByRecursion (IsTradable held.setup)) (sym given)
-      (offered-tradable held.setup held.entries (settled held.setup held.entries) is.history is.reached);
+      (offered-tradable held.setup held.entries (settled_pairs held.setup held.entries) is.history is.reached);
   known =
       subst (λ x. AllByRecursion (λ p. pair_of x p.reference ≡ Some p) offered) (sym same)
       (subst (AllByRecursion (λ p. pair_of held.entries p.reference ≡ Some p)) (sym given)
-      (line-of-candidates held.entries (settled held.setup held.entries) (matched-known held kept is)).known);
+      (line-of-candidates held.entries (settled_pairs held.setup held.entries) (matched-known held kept is)).known);
   distinct = subst (λ x. AreDistinct (pairs x)) (sym same) (pairs-distinct held is);
 }
 
 pub walk-start : (held : Ledger) (kept : Kept) (es : List Entry) (offered : List Pair) (most : ℕ)
-    → IsKept held kept → es ≡ held.entries → offered ≡ candidates held.entries (settled held.setup held.entries)
-    → IsUnderWay held.setup es (settled held.setup es) offered most 0 0 kept.pairs kept.members kept.tally
+    → KeepsLedger held kept → es ≡ held.entries → offered ≡ candidates held.entries (settled_pairs held.setup held.entries)
+    → IsUnderWay held.setup es (settled_pairs held.setup es) offered most 0 0 kept.pairs kept.members kept.tally
 walk-start held kept es offered most is same given =
-    let posted = settled held.setup held.entries in
+    let posted = settled_pairs held.setup held.entries in
     let start : IsWalking held.setup held.entries posted (candidates held.entries posted) most 0 0 posted kept.members = record {
-      walked = IsWalked-start held.setup held.entries posted (candidates held.entries posted) (matched held.entries) most is.ledger.within;
+      walked = IsWalked-start held.setup held.entries posted (candidates held.entries posted) (matched_pairs held.entries) most is.ledger.within;
       accounts = is.accounts;
       counted = omega arith;
     } in
@@ -513,41 +517,44 @@ walk-start held kept es offered most is same given =
       pairs_kept = is.pairs;
       tallied = tallied-kept held kept is;
     } in
-    subst (λ x. IsUnderWay held.setup x (settled held.setup x) offered most 0 0 kept.pairs kept.members kept.tally) (sym same)
+    subst (λ x. IsUnderWay held.setup x (settled_pairs held.setup x) offered most 0 0 kept.pairs kept.members kept.tally) (sym same)
     (subst (λ ps. IsUnderWay held.setup held.entries posted ps most 0 0 kept.pairs kept.members kept.tally) (sym given) under_way)
 
 -- and what it ends with
 module _ {held : Ledger} {most i count : ℕ} {kept : Kept} {later_pairs : List (ℕ × KeptPair)} {later : List Account} {tally : Tally} {es : List Entry}
-    {offered : List Pair} (is : IsKept held kept) (same : es ≡ held.entries) (given : offered ≡ candidates held.entries (settled held.setup held.entries))
-    (past : length offered ≤ i) (read : IsUnderWay held.setup es (settled held.setup es) offered most i count later_pairs later tally) where
-  all : length (candidates held.entries (settled held.setup held.entries)) ≤ i
+    {offered : List Pair} (is : KeepsLedger held kept) (same : es ≡ held.entries)
+    (given : offered ≡ candidates held.entries (settled_pairs held.setup held.entries))
+    (past : length offered ≤ i) (read : IsUnderWay held.setup es (settled_pairs held.setup es) offered most i count later_pairs later tally) where
+  all : length (candidates held.entries (settled_pairs held.setup held.entries)) ≤ i
   all = subst (λ ps. length ps ≤ i) given past
 
-  under_way : IsUnderWay held.setup held.entries (settled held.setup held.entries) (candidates held.entries (settled held.setup held.entries)) most i count
+  under_way : IsUnderWay held.setup held.entries (settled_pairs held.setup held.entries)
+      (candidates held.entries (settled_pairs held.setup held.entries)) most i count
       later_pairs later tally
   under_way =
-      subst (λ x. IsUnderWay held.setup x (settled held.setup x) (candidates held.entries (settled held.setup held.entries)) most i
+      subst (λ x. IsUnderWay held.setup x (settled_pairs held.setup x) (candidates held.entries (settled_pairs held.setup held.entries)) most i
       count later_pairs later tally)
-      same (subst (λ ps. IsUnderWay held.setup es (settled held.setup es) ps most i count later_pairs later tally) given read)
+      same (subst (λ ps. IsUnderWay held.setup es (settled_pairs held.setup es) ps most i count later_pairs later tally) given read)
 
-  ended : (under_way.now ≡ settled held.setup held.entries ++ pass held.setup held.entries (settled held.setup held.entries) most
-      (candidates held.entries (settled held.setup held.entries)))
-      × (count ≡ length (pass held.setup held.entries (settled held.setup held.entries) most (candidates held.entries (settled held.setup held.entries))))
+  ended : (under_way.now ≡ settled_pairs held.setup held.entries ++ pass held.setup held.entries (settled_pairs held.setup held.entries) most
+      (candidates held.entries (settled_pairs held.setup held.entries)))
+      × (count ≡ length (pass held.setup held.entries (settled_pairs held.setup held.entries) most
+      (candidates held.entries (settled_pairs held.setup held.entries))))
   ended =
-      IsWalked-all held.setup held.entries (settled held.setup held.entries) (candidates held.entries (settled held.setup held.entries))
-      (matched held.entries) most i count under_way.now all under_way.walking.walked
+      IsWalked-all held.setup held.entries (settled_pairs held.setup held.entries) (candidates held.entries (settled_pairs held.setup held.entries))
+      (matched_pairs held.entries) most i count under_way.now all under_way.walking.walked
 
   pub walk-answer : Settled count ≡ answer_to held 0 (Settle most)
   walk-answer = ap Settled ended.1 ∙ sym (answer-walk held most)
 
-  pub IsKept-walked : held.applied < 65535
-      → IsKept (record {
+  pub KeepsLedger-walked : held.applied < 65535
+      → KeepsLedger (record {
         setup = held.setup;
         entries = held.entries ++ record { client = 0; cmd = Settle most; reply = Settled count } ∷ [];
         applied = held.applied + 1;
       }) (record {
         pairs = later_pairs;
-        line = candidates held.entries (settled held.setup held.entries);
+        line = candidates held.entries (settled_pairs held.setup held.entries);
         members = later;
         totals = kept.totals;
         paid = kept.paid;
@@ -555,9 +562,9 @@ module _ {held : Ledger} {most i count : ℕ} {kept : Kept} {later_pairs : List 
         tally = tally;
       })
   unfolding taken_by
-  IsKept-walked room =
+  KeepsLedger-walked room =
       let entry : Entry = record { client = 0; cmd = Settle most; reply = Settled count } in
-      let posted = settled held.setup held.entries in
+      let posted = settled_pairs held.setup held.entries in
       let now = under_way.now in
       let more : pairs (held.entries ++ entry ∷ []) ≡ pairs held.entries ++ [] =
       filter_map-append (λ (x : Entry). opened_by x.client x.cmd x.reply) held.entries (entry ∷ []) in
@@ -566,7 +573,7 @@ module _ {held : Ledger} {most i count : ℕ} {kept : Kept} {later_pairs : List 
       let reached = is-reached held.setup held.entries is.history is.reached in
       let history = is.history ++ record { client = 0; number = 0; cmd = Settle most } ∷ [] in
       let reached_now = ap (λ e. held.entries ++ e ∷ []) same ∙ more-reached held.setup held.entries is.history 0 (Settle most) is.reached accepted in
-      let settled_now : now ≡ settled held.setup (held.entries ++ entry ∷ []) = ended.0 ∙ sym (settled-push held.setup held.entries entry) in
+      let settled_now : now ≡ settled_pairs held.setup (held.entries ++ entry ∷ []) = ended.0 ∙ sym (settled-push held.setup held.entries entry) in
       let pairs_now = under_way.pairs_kept
       ∙ (λ i. map (λ p. (p.reference, kept-other held.entries entry now p (λ same. cc same) i)) (sym (more ∙ append-nil (pairs held.entries)) i))
       ∙ ap (λ done. by_reference (pair_with (held.entries ++ entry ∷ []) done) (pairs (held.entries ++ entry ∷ []))) settled_now in
@@ -591,12 +598,12 @@ module _ {held : Ledger} {most i count : ℕ} {kept : Kept} {later_pairs : List 
             ∙ or-false (has_pay_in held.entries c k));
         orders = AreMade-still held.entries entry kept.table refl is.orders;
         states = λ s. under_way.tallied s ∙ ap (counted_in s) pairs_now
-            ∙ counted-kept (held.entries ++ entry ∷ []) (settled held.setup (held.entries ++ entry ∷ [])) s (pairs (held.entries ++ entry ∷ []));
+            ∙ counted-kept (held.entries ++ entry ∷ []) (settled_pairs held.setup (held.entries ++ entry ∷ [])) s (pairs (held.entries ++ entry ∷ []));
         line = subst (λ ps. IsLine (held.entries ++ entry ∷ []) ps (candidates held.entries posted)) (sym (settled-push held.setup held.entries entry))
             (subst (IsLine (held.entries ++ entry ∷ []) (posted ++ pass held.setup held.entries posted most (candidates held.entries posted)))
             (append-nil (candidates held.entries posted))
             (line-more held.entries entry posted (pass held.setup held.entries posted most (candidates held.entries posted)) (candidates held.entries posted)
-            (subst (λ es. AllByRecursion (λ p. pair_of es p.reference ≡ Some p) (matched es)) (sym reached_now) (sound held.setup history).known)
+            (subst (λ es. AllByRecursion (λ p. pair_of es p.reference ≡ Some p) (matched_pairs es)) (sym reached_now) (sound held.setup history).known)
             (line-of-candidates held.entries posted (matched-known held kept is))));
         pairs = pairs_now;
       }

@@ -15,18 +15,18 @@ use Rattle.pvp_types.specs.declared.command.Reply.{Reply}
 use Rattle.pvp_types.specs.declared.command.Reply.TheVariants.{Done, Order}
 use Rattle.pvp_book.specs.declared.entry.Entry.{Entry}
 use Rattle.pvp_book.specs.declared.pair.Pair.{Pair}
-use Rattle.pvp_book.specs.Accounts.{paid_in_to, paid_out_of, pay_ins, pay_outs, returned, bought, sold, received, given, balance_with}
-use Rattle.pvp_book.specs.Settlement.{settled}
+use Rattle.pvp_book.specs.Accounts.{paid_in_to, paid_out_of, pay_ins, pay_outs, amount_returned, amount_bought, amount_sold, amount_received, amount_given, balance_with}
+use Rattle.pvp_book.specs.Settlement.{settled_pairs}
 use Rattle.pvp_book.specs.Ledger.{figure, sum_of_balances}
 use Rattle.pvp_book.specs.Orders.{order_by, orders, is_return, has_return}
 use Rattle.pvp_book.specs.Answer.{Row, answer, is_refusal, on_fund, on_pay_out, has_member, has_currency, fund_checks, pay_out_checks, book_of}
-use Rattle.pvp_book.specs.Laws.{Leg, legs, legs_at, sum_of_legs, IsExchange, IsEven, funded, paid_out, funds, all_paid_out, all_returned, IsCovered}
+use Rattle.pvp_book.specs.Laws.{Leg, legs, legs_at, sum_of_legs, IsExchange, IsEven, pay_in_amount, pay_out_amount, funds, all_paid_out, all_returned, IsCovered}
 use Rattle.pvp_book.proofs.LedgerLemmas.{sum-le, sum_of_balances-more}
 use Rattle.pvp_book.proofs.Reached.{entry_of, reached}
 use Rattle.pvp_book.proofs.Checks.{passed, is-so}
 use Rattle.pvp_book.proofs.Counts.{each-append}
 use Rattle.pvp_book.proofs.Members.{upto, upto-add, upto-none, upto-sum, pick, is-member}
-use Rattle.pvp_book.proofs.SoundLemmas.{IsSound, IsSound-push, sound, each-settled}
+use Rattle.pvp_book.proofs.SoundLemmas.{IsSoundBook, IsSoundBook-push, sound, each-settled}
 
 legs-append : (xs ys : List Leg) → sum_of_legs (xs ++ ys) ≡ sum_of_legs xs +ℤ sum_of_legs ys
 legs-append xs ys =
@@ -47,7 +47,7 @@ legs-append xs ys =
         omega (arith, ints)
 
 -- a pair's legs at a member and a currency are what the member buys there less what it sells
-legs-of-pair : (m c : ℕ) (p : Pair) → sum_of_legs (legs_at m c (legs p)) ≡ pos (bought m c p) -ℤ pos (sold m c p)
+legs-of-pair : (m c : ℕ) (p : Pair) → sum_of_legs (legs_at m c (legs p)) ≡ pos (amount_bought m c p) -ℤ pos (amount_sold m c p)
 legs-of-pair m c p = by (p.first == m) (p.second == m) (p.sell == c) (p.buy == c)
   where
     one : (b : Bool) (leg : Leg) (some : List Leg) → sum_of_legs (cond b (leg ∷ some) some) ≡ (if b then leg.amt else pos 0) +ℤ sum_of_legs some
@@ -91,20 +91,20 @@ legs-of-pair m c p = by (p.first == m) (p.second == m) (p.sell == c) (p.buy == c
 
 -- and so for all legs of some pairs
 pub legs-of-pairs : (m c : ℕ) (ps : List Pair)
-    → sum_of_legs (legs_at m c (flat_map legs ps)) ≡ pos (sum_by (bought m c) ps) -ℤ pos (sum_by (sold m c) ps)
+    → sum_of_legs (legs_at m c (flat_map legs ps)) ≡ pos (sum_by (amount_bought m c) ps) -ℤ pos (sum_by (amount_sold m c) ps)
 legs-of-pairs m c [] = omega (arith, ints)
 legs-of-pairs m c (p ∷ ps) =
     let split = filter-append (λ (leg : Leg). (leg.member == m) && (leg.ccy == c)) (legs p) (flat_map legs ps) in
     let both = ap sum_of_legs split ∙ legs-append (legs_at m c (legs p)) (legs_at m c (flat_map legs ps)) in
     let here = legs-of-pair m c p in
     let rest = legs-of-pairs m c ps in
-    let came = sum_by-cons (bought m c) p ps in
-    let went = sum_by-cons (sold m c) p ps in
+    let came = sum_by-cons (amount_bought m c) p ps in
+    let went = sum_by-cons (amount_sold m c) p ps in
     both ∙ omega (arith, ints, here, rest, came, went)
 
 -- what all members buy by a pair is what they sell
 even-pair : (setup : Setup) (c : ℕ) (p : Pair) → IsExchange setup p
-    → upto (λ m. bought m c p) (length setup.members) ≡ upto (λ m. sold m c p) (length setup.members)
+    → upto (λ m. amount_bought m c p) (length setup.members) ≡ upto (λ m. amount_sold m c p) (length setup.members)
 even-pair setup c p is =
     let n = length setup.members in
     let first = is-member setup p.first is.first in
@@ -118,24 +118,24 @@ even-pair setup c p is =
     omega arith
 
 even-pairs : (setup : Setup) (c : ℕ) (ps : List Pair) → AllByRecursion (IsExchange setup) ps
-    → upto (λ m. sum_by (bought m c) ps) (length setup.members) ≡ upto (λ m. sum_by (sold m c) ps) (length setup.members)
+    → upto (λ m. sum_by (amount_bought m c) ps) (length setup.members) ≡ upto (λ m. sum_by (amount_sold m c) ps) (length setup.members)
 even-pairs setup c ps all =
-    upto-sum (λ m p. bought m c p) ps (length setup.members) ∙ each ps all ∙ sym (upto-sum (λ m p. sold m c p) ps (length setup.members))
+    upto-sum (λ m p. amount_bought m c p) ps (length setup.members) ∙ each ps all ∙ sym (upto-sum (λ m p. amount_sold m c p) ps (length setup.members))
   where
     each : (qs : List Pair) → AllByRecursion (IsExchange setup) qs
-        → sum_by (λ p. upto (λ m. bought m c p) (length setup.members)) qs ≡ sum_by (λ p. upto (λ m. sold m c p) (length setup.members)) qs
+        → sum_by (λ p. upto (λ m. amount_bought m c p) (length setup.members)) qs ≡ sum_by (λ p. upto (λ m. amount_sold m c p) (length setup.members)) qs
     each [] all = refl
     each (q ∷ qs) all =
         let here = even-pair setup c q all.0 in
         let rest = each qs all.1 in
-        let left = sum_by-cons (λ p. upto (λ m. bought m c p) (length setup.members)) q qs in
-        let right = sum_by-cons (λ p. upto (λ m. sold m c p) (length setup.members)) q qs in
+        let left = sum_by-cons (λ p. upto (λ m. amount_bought m c p) (length setup.members)) q qs in
+        let right = sum_by-cons (λ p. upto (λ m. amount_sold m c p) (length setup.members)) q qs in
         omega arith
 
 -- a pay-in is for a member, and a pay-out is one's
 IsOfMember : Setup → Entry → Type 0
-IsOfMember setup e = (c : ℕ) → (upto (λ m. paid_in_to m c e.cmd) (length setup.members) ≡ funded c e.cmd)
-    × (upto (λ m. paid_out_of m c e.client e.cmd) (length setup.members) ≡ paid_out c e.cmd)
+IsOfMember setup e = (c : ℕ) → (upto (λ m. paid_in_to m c e.cmd) (length setup.members) ≡ pay_in_amount c e.cmd)
+    × (upto (λ m. paid_out_of m c e.client e.cmd) (length setup.members) ≡ pay_out_amount c e.cmd)
 
 all-funds : (setup : Setup) (c : ℕ) (entries : List Entry) → AllByRecursion (IsOfMember setup) entries
     → (upto (λ m. pay_ins entries m c) (length setup.members) ≡ funds entries c)
@@ -155,8 +155,8 @@ all-funds setup c entries all = (
         let rest = each es all.1 in
         let ins = sum_by-cons (λ (x : Entry). upto (λ m. paid_in_to m c x.cmd) (length setup.members)) e es in
         let outs = sum_by-cons (λ (x : Entry). upto (λ m. paid_out_of m c x.client x.cmd) (length setup.members)) e es in
-        let all_ins = sum_by-cons (λ (x : Entry). funded c x.cmd) e es in
-        let all_outs = sum_by-cons (λ (x : Entry). paid_out c x.cmd) e es in
+        let all_ins = sum_by-cons (λ (x : Entry). pay_in_amount c x.cmd) e es in
+        let all_outs = sum_by-cons (λ (x : Entry). pay_out_amount c x.cmd) e es in
         let first = here.0 in
         let second = here.1 in
         let rest_ins = rest.0 in
@@ -168,7 +168,7 @@ IsMembers : Setup → PayOrder → Type 0
 IsMembers setup o = has_member setup o.member ≡ true
 
 all-returns : (setup : Setup) (c : ℕ) (entries : List Entry) → AllByRecursion (IsMembers setup) (orders entries c)
-    → upto (λ m. returned entries m c) (length setup.members) ≡ all_returned entries c
+    → upto (λ m. amount_returned entries m c) (length setup.members) ≡ all_returned entries c
 unfolding IsMembers
 all-returns setup c entries all =
     upto-sum (λ m (o : PayOrder). if (o.member == m) && has_return entries c o.out then o.amt else 0) (orders entries c) (length setup.members)
@@ -188,39 +188,41 @@ all-returns setup c entries all =
 
 -- the balances of the first members, added up
 balances-upto : (entries : List Entry) (done : List Pair) (c n : ℕ)
-    → sum_of_balances n entries done c ≡ pos (upto (λ m. received entries done m c) n) -ℤ pos (upto (λ m. given entries done m c) n)
+    → sum_of_balances n entries done c ≡ pos (upto (λ m. amount_received entries done m c) n) -ℤ pos (upto (λ m. amount_given entries done m c) n)
 unfolding upto
 balances-upto entries done c zero = refl
 balances-upto entries done c (suc n) =
     let rest = balances-upto entries done c n in
     let more = sum_of_balances-more entries done n c in
     ap (λ k. sum_of_balances k entries done c) (sym (add-one n)) ∙ more ∙ ap (λ z. z +ℤ balance_with entries done (n + 1) c) rest
-    ∙ ap (λ k. (pos (upto (λ m. received entries done m c) n) -ℤ pos (upto (λ m. given entries done m c) n)) +ℤ balance_with entries done k c) (add-one n)
-    ∙ joined (upto (λ m. received entries done m c) n) (upto (λ m. given entries done m c) n) (received entries done (suc n) c) (given entries done (suc n) c)
+    ∙ ap (λ k. (pos (upto (λ m. amount_received entries done m c) n) -ℤ pos (upto (λ m. amount_given entries done m c) n)) +ℤ balance_with entries done k c)
+    (add-one n)
+    ∙ joined (upto (λ m. amount_received entries done m c) n) (upto (λ m. amount_given entries done m c) n) (amount_received entries done (suc n) c)
+    (amount_given entries done (suc n) c)
   where
     joined : (a b x y : ℕ) → (pos a -ℤ pos b) +ℤ (pos x -ℤ pos y) ≡ pos (a + x) -ℤ pos (b + y)
     joined a b x y = omega (arith, ints)
 
 -- the figure is what was paid in less what was paid out, with what was returned
-figure-is : (setup : Setup) (entries : List Entry) (c : ℕ) → AllByRecursion (IsExchange setup) (settled setup entries)
+figure-is : (setup : Setup) (entries : List Entry) (c : ℕ) → AllByRecursion (IsExchange setup) (settled_pairs setup entries)
     → AllByRecursion (IsOfMember setup) entries
     → AllByRecursion (IsMembers setup) (orders entries c)
     → figure setup entries c ≡ (pos (funds entries c) -ℤ pos (all_paid_out entries c)) +ℤ pos (all_returned entries c)
 figure-is setup entries c pairs_are all theirs =
     let n = length setup.members in
-    let done = settled setup entries in
+    let done = settled_pairs setup entries in
     let back = all-returns setup c entries theirs in
-    let came = upto-add (λ m. pay_ins entries m c) (λ m. returned entries m c) n in
-    let ins = upto-add (λ m. pay_ins entries m c + returned entries m c) (λ m. sum_by (bought m c) done) n in
-    let outs = upto-add (λ m. pay_outs entries m c) (λ m. sum_by (sold m c) done) n in
+    let came = upto-add (λ m. pay_ins entries m c) (λ m. amount_returned entries m c) n in
+    let ins = upto-add (λ m. pay_ins entries m c + amount_returned entries m c) (λ m. sum_by (amount_bought m c) done) n in
+    let outs = upto-add (λ m. pay_outs entries m c) (λ m. sum_by (amount_sold m c) done) n in
     let even = even-pairs setup c done pairs_are in
     let sums = all-funds setup c entries all in
     let funds_are = sums.0 in
     let outs_are = sums.1 in
     balances-upto entries done c n
-    ∙ difference (upto (λ m. received entries done m c) n) (upto (λ m. given entries done m c) n) (funds entries c)
+    ∙ difference (upto (λ m. amount_received entries done m c) n) (upto (λ m. amount_given entries done m c) n) (funds entries c)
     (all_returned entries c) (all_paid_out entries c)
-    (upto (λ m. sum_by (bought m c) done) n) (omega arith) (omega arith)
+    (upto (λ m. sum_by (amount_bought m c) done) n) (omega arith) (omega arith)
   where
     difference : (a b x r y z : ℕ) → a ≡ (x + r) + z → b ≡ y + z → pos a -ℤ pos b ≡ (pos x -ℤ pos y) +ℤ pos r
     difference a b x r y z left right = omega (arith, ints)
@@ -251,7 +253,7 @@ of-member setup entries client _ accepted c = (upto-none (length setup.members),
 covers : (setup : Setup) (entries : List Entry) (client : ℕ) (cmd : Cmd) (c : ℕ) → is_refusal (answer setup entries client cmd) ≡ false
     → ((d : ℕ) → figure setup entries d ≡ (pos (funds entries d) -ℤ pos (all_paid_out entries d)) +ℤ pos (all_returned entries d))
     → all_paid_out entries c ≤ funds entries c + all_returned entries c
-    → all_paid_out entries c + paid_out c cmd ≤ (funds entries c + funded c cmd) + all_returned entries c
+    → all_paid_out entries c + pay_out_amount c cmd ≤ (funds entries c + pay_in_amount c cmd) + all_returned entries c
 unfolding answer
 covers setup entries client (PayOut ccy amt) c accepted figures held = by (ccy == c) refl
   where
@@ -314,7 +316,7 @@ returns-more entries more c =
     by false b both amt e = omega arith
 
 record IsCoveredSoFar (setup : Setup) (entries : List Entry) : Type 0 where
-  sums : IsSound setup entries
+  sums : IsSoundBook setup entries
   members : AllByRecursion (IsOfMember setup) entries
   orders : (c : ℕ) → AllByRecursion (IsMembers setup) (orders entries c)
   covered : (c : ℕ) → all_paid_out entries c ≤ funds entries c + all_returned entries c
@@ -328,10 +330,10 @@ covered-step setup entries client cmd held accepted c =
     let here = covers setup entries client cmd c accepted
     (λ d. figure-is setup entries d (each-settled (IsExchange setup) setup entries held.sums.exchange) held.members (held.orders d)) (held.covered c) in
     let back = returns-more entries (e ∷ []) c in
-    let ins = sum_by-append (λ (x : Entry). funded c x.cmd) entries (e ∷ []) in
-    let outs = sum_by-append (λ (x : Entry). paid_out c x.cmd) entries (e ∷ []) in
-    let one_in = sum_by-cons (λ (x : Entry). funded c x.cmd) e [] in
-    let one_out = sum_by-cons (λ (x : Entry). paid_out c x.cmd) e [] in
+    let ins = sum_by-append (λ (x : Entry). pay_in_amount c x.cmd) entries (e ∷ []) in
+    let outs = sum_by-append (λ (x : Entry). pay_out_amount c x.cmd) entries (e ∷ []) in
+    let one_in = sum_by-cons (λ (x : Entry). pay_in_amount c x.cmd) e [] in
+    let one_out = sum_by-cons (λ (x : Entry). pay_out_amount c x.cmd) e [] in
     omega arith
 
 covered-so-far : (setup : Setup) (history : List Row) → IsCoveredSoFar setup (book_of setup history)
@@ -339,7 +341,7 @@ covered-so-far setup history =
     reached setup (IsCoveredSoFar setup)
     (record { sums = sound setup []; members = tt; orders = λ c. tt; covered = λ c. omega arith })
     (λ entries client cmd held accepted. record {
-      sums = IsSound-push setup entries client cmd held.sums accepted;
+      sums = IsSoundBook-push setup entries client cmd held.sums accepted;
       members = each-append (IsOfMember setup) entries (entry_of setup entries client cmd ∷ []) held.members (of-member setup entries client cmd accepted, tt);
       orders = λ c. made-more setup entries client cmd c accepted (held.orders c);
       covered = covered-step setup entries client cmd held accepted;

@@ -10,8 +10,8 @@ use Rattle.pvp_types.specs.declared.command.Reply.TheVariants.{No}
 use Rattle.pvp_types.specs.declared.command.Reason.TheVariants.{NotYours, UnknownMember}
 use Rattle.pvp_book.specs.declared.entry.Entry.{Entry}
 use Rattle.pvp_book.specs.declared.pair.Pair.{Pair}
-use Rattle.pvp_book.specs.Pairs.{pair_of, matched, has_reference, is_rescission, has_asked}
-use Rattle.pvp_book.specs.Settlement.{settled}
+use Rattle.pvp_book.specs.Pairs.{pair_of, matched_pairs, has_reference, is_rescission, has_asked}
+use Rattle.pvp_book.specs.Settlement.{settled_pairs}
 use Rattle.pvp_book.specs.KeptPair.{kept_pair, just_opened}
 use Rattle.pvp_book.specs.Answer.{Row, answer, is_refusal, on_pair, has_member, is_member_number, book_of}
 use Rattle.pvp_book.proofs.CandidateLemmas.{known-longer}
@@ -80,8 +80,8 @@ pub new-kept : (setup : Setup) (entries : List Entry) (history : List Row) → e
     → pair_of entries p.reference ≡ None → kept_pair setup entries p ≡ just_opened p
 unfolding NoneAsked
 new-kept setup entries history same p none =
-    let known = subst (λ es. AllByRecursion (λ q. pair_of es q.reference ≡ Some q) (matched es)) (sym same) (sound setup history).known in
+    let known = subst (λ es. AllByRecursion (λ q. pair_of es q.reference ≡ Some q) (matched_pairs es)) (sym same) (sound setup history).known in
     let asked = subst NoneAsked (sym same) (none-asked setup history) in
-    λ i. as_kept p (none-has entries p.reference none (matched entries) known i)
-    (none-has entries p.reference none (settled setup entries) (each-settled (λ q. pair_of entries q.reference ≡ Some q) setup entries known) i)
+    λ i. as_kept p (none-has entries p.reference none (matched_pairs entries) known i)
+    (none-has entries p.reference none (settled_pairs setup entries) (each-settled (λ q. pair_of entries q.reference ≡ Some q) setup entries known) i)
     (asked p.reference p.first none i) (asked p.reference p.second none i)

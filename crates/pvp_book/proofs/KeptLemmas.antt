@@ -17,11 +17,11 @@ use Rattle.pvp_book.specs.declared.account.Account.{Account}
 use Rattle.pvp_book.specs.declared.account.Movement.{Movement}
 use Rattle.pvp_book.specs.declared.entry.Entry.{Entry}
 use Rattle.pvp_book.specs.declared.pair.Pair.{Pair}
-use Rattle.pvp_book.specs.Accounts.{pay_ins, pay_outs, returned, bought, sold, received, given, balance_with}
+use Rattle.pvp_book.specs.Accounts.{pay_ins, pay_outs, amount_returned, amount_bought, amount_sold, amount_received, amount_given, balance_with}
 use Rattle.pvp_book.specs.Limits.{below, worth_of, debt_of, shortage_of, value_of, is_within_short, is_within_aggregate, meets_limits, passes, balances_with}
 use Rattle.pvp_types.specs.Setup.{IsValid}
 use Rattle.pvp_types.proofs.SetupLemmas.{valid-currencies}
-use Rattle.pvp_book.specs.Settlement.{both_pass, settled}
+use Rattle.pvp_book.specs.Settlement.{both_pass, settled_pairs}
 use Rattle.pvp_book.specs.Ledger.{balance, value, sum_of_balances}
 use Rattle.pvp_book.specs.Bounds.{most_total, IsWithin, IsSmall}
 use Rattle.pvp_book.specs.Answer.{has_member, balances_less}
@@ -29,7 +29,7 @@ use Rattle.pvp_book.specs.Laws.{IsExchange}
 use Rattle.pvp_book.proofs.LimitsLemmas.{short-places}
 use Rattle.pvp_book.proofs.LedgerLemmas.{difference-small, sum_of_balances-more}
 use Rattle.pvp_book.proofs.Members.{is-member}
-use Rattle.pvp_book.specs.Kept.{empty_account, no_account, IsAccount, posted, traded, is_within_limits, passes_with, both_pass_with, first_with, second_with, accounts_with, account_at, balance_at, AreAccounts, AreFigures, moved_to, moved_in, accounts_after, figures_after}
+use Rattle.pvp_book.specs.Kept.{empty_account, no_account, IsAccount, after_posting, after_trade, is_within_limits, passes_with, both_pass_with, first_with, second_with, accounts_with, account_at, balance_at, AreAccounts, AreFigures, moved_to, moved_in, accounts_after, figures_after}
 
 -- an amount added at one place of a list of balances
 pub read-added : (bs : List ℤ) (k c : ℕ) (amt : ℤ) → k < length bs
@@ -84,7 +84,7 @@ module _ (currencies : List Currency) (n : ℕ) where
       → AreAccounts currencies n balance accounts → AreAccounts currencies n later accounts
   AreAccounts-same balance later accounts same are = record { places = are.places; each = are.each; same = λ m c. are.same m c ∙ same m c }
 
-  pub IsAccount-posted : (account : Account) (c : ℕ) (amt : ℤ) → IsAccount currencies account → IsAccount currencies (posted currencies c amt account)
+  pub IsAccount-posted : (account : Account) (c : ℕ) (amt : ℤ) → IsAccount currencies account → IsAccount currencies (after_posting currencies c amt account)
   IsAccount-posted account c amt is = record { places = length-set account.balances c _ ∙ is.places; same = refl }
 
   -- a movement is posted
@@ -95,7 +95,7 @@ module _ (currencies : List Currency) (n : ℕ) where
       let account = account_at accounts x.member in
       let is = are.each x.member within in
       let place : x.ccy < length account.balances = let all = is.places in omega arith in
-      AreAccounts-set balance (λ m c. balance m c +ℤ moved_to m c (Some x)) accounts x.member (posted currencies x.ccy x.amt account) are within
+      AreAccounts-set balance (λ m c. balance m c +ℤ moved_to m c (Some x)) accounts x.member (after_posting currencies x.ccy x.amt account) are within
       (IsAccount-posted account x.ccy x.amt is)
       (λ c. read-added account.balances x.ccy c x.amt place ∙ ap (λ z. z +ℤ (if x.ccy == c then x.amt else pos 0)) (are.same x.member c)
       ∙ ap (λ b. balance x.member c +ℤ (if b && (x.ccy == c) then x.amt else pos 0)) (sym (eq-eqb x.member x.member refl)))
@@ -143,14 +143,15 @@ within-limits currencies member account ds is few short places same =
 
 -- once a pair is settled, a balance has its legs
 pub balance-settled : (entries : List Entry) (done : List Pair) (p : Pair) (m c : ℕ)
-    → balance_with entries (done ++ p ∷ []) m c ≡ balance_with entries done m c +ℤ (pos (bought m c p) -ℤ pos (sold m c p))
+    → balance_with entries (done ++ p ∷ []) m c ≡ balance_with entries done m c +ℤ (pos (amount_bought m c p) -ℤ pos (amount_sold m c p))
 balance-settled entries done p m c =
-    let came = sum_by-append (bought m c) done (p ∷ []) in
-    let one_came = sum_by-cons (bought m c) p [] in
-    let went = sum_by-append (sold m c) done (p ∷ []) in
-    let one_went = sum_by-cons (sold m c) p [] in
-    joined (pay_ins entries m c + returned entries m c) (sum_by (bought m c) done) (bought m c p) (pay_outs entries m c) (sum_by (sold m c) done) (sold m c p)
-    (sum_by (bought m c) (done ++ p ∷ [])) (sum_by (sold m c) (done ++ p ∷ [])) (omega arith) (omega arith)
+    let came = sum_by-append (amount_bought m c) done (p ∷ []) in
+    let one_came = sum_by-cons (amount_bought m c) p [] in
+    let went = sum_by-append (amount_sold m c) done (p ∷ []) in
+    let one_went = sum_by-cons (amount_sold m c) p [] in
+    joined (pay_ins entries m c + amount_returned entries m c) (sum_by (amount_bought m c) done) (amount_bought m c p) (pay_outs entries m c)
+    (sum_by (amount_sold m c) done) (amount_sold m c p)
+    (sum_by (amount_bought m c) (done ++ p ∷ [])) (sum_by (amount_sold m c) (done ++ p ∷ [])) (omega arith) (omega arith)
   where
     joined : (i b x o s y b' s' : ℕ) → b' ≡ b + x → s' ≡ s + y → pos (i + b') -ℤ pos (o + s') ≡ (pos (i + b) -ℤ pos (o + s)) +ℤ (pos x -ℤ pos y)
     joined i b x o s y b' s' is_b is_s = omega (arith, ints)
@@ -185,7 +186,7 @@ module _ (setup : Setup) (entries : List Entry) (done : List Pair) (accounts : L
 
   -- what an account reads once it sold and bought
   pub traded-reads : (m sell sell_amt buy buy_amt c : ℕ) → m < length accounts → sell < length setup.currencies → buy < length setup.currencies
-      → slice_index_or (traded setup.currencies sell sell_amt buy buy_amt (account_at accounts m)).balances c (pos 0)
+      → slice_index_or (after_trade setup.currencies sell sell_amt buy buy_amt (account_at accounts m)).balances c (pos 0)
       ≡ (balance_with entries done m c +ℤ (if sell == c then neg_ℤ (pos sell_amt) else pos 0)) +ℤ (if buy == c then pos buy_amt else pos 0)
   traded-reads m sell sell_amt buy buy_amt c within first second =
       let bs = (account_at accounts m).balances in
@@ -198,9 +199,10 @@ module _ (setup : Setup) (entries : List Entry) (done : List Pair) (accounts : L
       (read-added bs sell c (neg_ℤ (pos sell_amt)) (omega arith) ∙ ap (λ z. z +ℤ (if sell == c then neg_ℤ (pos sell_amt) else pos 0)) (are.same m c))
 
   pub traded-is : (m sell sell_amt buy buy_amt : ℕ) → m < length accounts
-      → IsAccount setup.currencies (traded setup.currencies sell sell_amt buy buy_amt (account_at accounts m))
+      → IsAccount setup.currencies (after_trade setup.currencies sell sell_amt buy buy_amt (account_at accounts m))
   traded-is m sell sell_amt buy buy_amt within =
-      IsAccount-posted setup.currencies (length setup.members) (posted setup.currencies sell (neg_ℤ (pos sell_amt)) (account_at accounts m)) buy (pos buy_amt)
+      IsAccount-posted setup.currencies (length setup.members) (after_posting setup.currencies sell (neg_ℤ (pos sell_amt)) (account_at accounts m)) buy
+      (pos buy_amt)
       (IsAccount-posted setup.currencies (length setup.members) (account_at accounts m) sell (neg_ℤ (pos sell_amt)) (are.each m within))
 
   first-reads : (c : ℕ) → slice_index_or (first_with setup.currencies p accounts).balances c (pos 0) ≡ balance_with entries (done ++ p ∷ []) p.first c
@@ -268,7 +270,7 @@ module _ (setup : Setup) (entries : List Entry) (done : List Pair) (accounts : L
       (subst (λ l. p.second < l) (sym (length-set accounts p.first (first_with setup.currencies p accounts))) (known p.second exchange.second))
       (traded-is p.second p.buy p.buy_amt p.sell p.sell_amt (known p.second exchange.second)) second-reads (λ k c other. others k c other (cases_eq k p.first))
     where
-      none : (k c : ℕ) (b : ℤ) → (p.first == k) ≡ false → (p.second == k) ≡ false → b ≡ b +ℤ (pos (bought k c p) -ℤ pos (sold k c p))
+      none : (k c : ℕ) (b : ℤ) → (p.first == k) ≡ false → (p.second == k) ≡ false → b ≡ b +ℤ (pos (amount_bought k c p) -ℤ pos (amount_sold k c p))
       none k c b first second =
           same b ∙ sym (ap (λ t. b +ℤ (pos ((if t && (p.buy == c) then p.buy_amt else 0) + (if (p.second == k) && (p.sell == c) then p.sell_amt else 0))
           -ℤ pos ((if t && (p.sell == c) then p.sell_amt else 0) + (if (p.second == k) && (p.buy == c) then p.buy_amt else 0)))) first
@@ -291,7 +293,7 @@ pub small-account : (entries : List Entry) (done : List Pair) (currencies : List
 small-account entries done currencies n accounts small are m =
     All-from_get_or (IsWithin most_total) (account_at accounts m).balances (pos 0)
     (λ c within. subst (IsWithin most_total) (sym (are.same m c))
-    (difference-small (received entries done m c) (given entries done m c) (small.received m c) (small.given m c)))
+    (difference-small (amount_received entries done m c) (amount_given entries done m c) (small.received m c) (small.given m c)))
 
 -- nor a figure
 pub small-sum : (entries : List Entry) (done : List Pair) (c : ℕ) → IsSmall entries done → (n : ℕ)
@@ -299,7 +301,8 @@ pub small-sum : (entries : List Entry) (done : List Pair) (c : ℕ) → IsSmall 
 small-sum entries done c small zero = record { above = omega (arith, ints); below = omega (arith, ints) }
 small-sum entries done c small (suc n) =
     let rest = small-sum entries done c small n in
-    let here = difference-small (received entries done (n + 1) c) (given entries done (n + 1) c) (small.received (n + 1) c) (small.given (n + 1) c) in
+    let here =
+    difference-small (amount_received entries done (n + 1) c) (amount_given entries done (n + 1) c) (small.received (n + 1) c) (small.given (n + 1) c) in
     let more = ap (λ k. sum_of_balances k entries done c) (sym (add-one n)) ∙ sum_of_balances-more entries done n c in
     subst (IsWithin (suc n * most_total)) (sym more) (sum (sum_of_balances n entries done c) (balance_with entries done (n + 1) c) rest here)
   where
@@ -313,16 +316,16 @@ pub small-pair : (entries : List Entry) (done : List Pair) (p : Pair) → IsSmal
 small-pair entries done p small =
     let sell = small.given p.first p.sell in
     let buy = small.received p.first p.buy in
-    let went = sum_by-append (sold p.first p.sell) done (p ∷ []) in
-    let one_went = sum_by-cons (sold p.first p.sell) p [] in
-    let came = sum_by-append (bought p.first p.buy) done (p ∷ []) in
-    let one_came = sum_by-cons (bought p.first p.buy) p [] in
-    let its_sell : p.sell_amt ≤ sold p.first p.sell p =
+    let went = sum_by-append (amount_sold p.first p.sell) done (p ∷ []) in
+    let one_went = sum_by-cons (amount_sold p.first p.sell) p [] in
+    let came = sum_by-append (amount_bought p.first p.buy) done (p ∷ []) in
+    let one_came = sum_by-cons (amount_bought p.first p.buy) p [] in
+    let its_sell : p.sell_amt ≤ amount_sold p.first p.sell p =
     subst (λ b. p.sell_amt ≤ (if b && (p.sell == p.sell) then p.sell_amt else 0) + (if (p.second == p.first) && (p.buy == p.sell) then p.buy_amt else 0))
     (sym (eq-eqb p.first p.first refl))
     (subst (λ b. p.sell_amt ≤ (if b then p.sell_amt else 0) + (if (p.second == p.first) && (p.buy == p.sell) then p.buy_amt else 0))
     (sym (eq-eqb p.sell p.sell refl)) (omega arith)) in
-    let its_buy : p.buy_amt ≤ bought p.first p.buy p =
+    let its_buy : p.buy_amt ≤ amount_bought p.first p.buy p =
     subst (λ b. p.buy_amt ≤ (if b && (p.buy == p.buy) then p.buy_amt else 0) + (if (p.second == p.first) && (p.sell == p.buy) then p.sell_amt else 0))
     (sym (eq-eqb p.first p.first refl))
     (subst (λ b. p.buy_amt ≤ (if b then p.buy_amt else 0) + (if (p.second == p.first) && (p.sell == p.buy) then p.sell_amt else 0))
@@ -356,13 +359,14 @@ value-kept setup entries accounts m valid are = by (cases_lt m (length accounts)
         → ((c : ℕ) → slice_index_or account.balances c (pos 0) ≡ balance setup entries m c)
         → value_of setup.currencies account.balances ≡ value setup entries m
     same account many reads =
-        let pairs = zip-same setup.currencies account.balances (balances_with setup entries (settled setup entries) m) many (simp length-balances (omega arith))
+        let pairs =
+        zip-same setup.currencies account.balances (balances_with setup entries (settled_pairs setup entries) m) many (simp length-balances (omega arith))
         (λ c within. reads c ∙ sym (get_or-map-range_with_len (λ d. balance setup entries m d) 0 (length setup.currencies) c c (pos 0) within (omega arith))) in
         λ i. pos (sum_by worth_of (pairs i)) -ℤ pos (sum_by debt_of (pairs i))
       where
-        length-balances : length (balances_with setup entries (settled setup entries) m) ≡ length setup.currencies
+        length-balances : length (balances_with setup entries (settled_pairs setup entries) m) ≡ length setup.currencies
         length-balances =
-            length-map (range_with_len 0 (length setup.currencies)) (λ c. balance_with entries (settled setup entries) m c)
+            length-map (range_with_len 0 (length setup.currencies)) (λ c. balance_with entries (settled_pairs setup entries) m c)
             ∙ length-range_with_len 0 (length setup.currencies)
 
     by : (m < length accounts) ⊎ (length accounts ≤ m) → (account_at accounts m).value ≡ value setup entries m
@@ -386,7 +390,8 @@ value-kept setup entries accounts m valid are = by (cases_lt m (length accounts)
 pub passes-less : (setup : Setup) (entries : List Entry) (done : List Pair) (accounts : List Account) (m c amt : ℕ) → IsValid setup → m < length accounts
     → c < length setup.currencies
     → AreAccounts setup.currencies (length setup.members) (balance_with entries done) accounts
-    → passes_with setup m (posted setup.currencies c (neg_ℤ (pos amt)) (account_at accounts m)) ≡ passes setup m (balances_less setup entries done m c amt)
+    → passes_with setup m (after_posting setup.currencies c (neg_ℤ (pos amt)) (account_at accounts m))
+    ≡ passes setup m (balances_less setup entries done m c amt)
 passes-less setup entries done accounts m c amt valid known here are = by (slice_get setup.members (m - 1)) refl
   where
     places : length (balances_less setup entries done m c amt) ≡ length setup.currencies
@@ -404,10 +409,10 @@ passes-less setup entries done accounts m c amt valid known here are = by (slice
     all = let is = (are.each m known).places in let few = (valid-currencies setup valid).1 in omega arith
 
     reads : (d : ℕ) → d < length setup.currencies → (d ≡ c) ⊎ (d ≡ c → ⊥)
-        → slice_index_or (posted setup.currencies c (neg_ℤ (pos amt)) (account_at accounts m)).balances d (pos 0)
+        → slice_index_or (after_posting setup.currencies c (neg_ℤ (pos amt)) (account_at accounts m)).balances d (pos 0)
         ≡ slice_index_or (balances_less setup entries done m c amt) d (pos 0)
     reads d within (inl same) =
-        ap (λ k. slice_index_or (posted setup.currencies c (neg_ℤ (pos amt)) (account_at accounts m)).balances k (pos 0)) same
+        ap (λ k. slice_index_or (after_posting setup.currencies c (neg_ℤ (pos amt)) (account_at accounts m)).balances k (pos 0)) same
         ∙ get_or-set_same (account_at accounts m).balances c _ (pos 0) all ∙ ap (λ b. b +ℤ neg_ℤ (pos amt)) (are.same m c)
         ∙ less (balance_with entries done m c)
         ∙ sym (ap (λ k. slice_index_or (balances_less setup entries done m c amt) k (pos 0)) same
@@ -418,11 +423,12 @@ passes-less setup entries done accounts m c amt valid known here are = by (slice
         ∙ get_or-map-range_with_len (λ k. balance_with entries done m k) 0 (length setup.currencies) d d (pos 0) within (omega arith))
 
     by : (found : Option Member) → slice_get setup.members (m - 1) ≡ found
-        → option_map_or (λ member. is_within_limits member (posted setup.currencies c (neg_ℤ (pos amt)) (account_at accounts m))) found false
+        → option_map_or (λ member. is_within_limits member (after_posting setup.currencies c (neg_ℤ (pos amt)) (account_at accounts m))) found false
         ≡ option_map_or (λ member. meets_limits setup.currencies member (balances_less setup entries done m c amt)) found false
     by None none = refl
     by (Some member) there =
-        within-limits setup.currencies member (posted setup.currencies c (neg_ℤ (pos amt)) (account_at accounts m)) (balances_less setup entries done m c amt)
+        within-limits setup.currencies member (after_posting setup.currencies c (neg_ℤ (pos amt)) (account_at accounts m))
+        (balances_less setup entries done m c amt)
         (IsAccount-posted setup.currencies (length setup.members) (account_at accounts m) c (neg_ℤ (pos amt)) (are.each m known))
         (valid-currencies setup valid).1 (short-places setup valid (m - 1) member there) places
         (λ d within. reads d within (cases_eq d c))

@@ -10,6 +10,7 @@ use Rattle.std.proofs.lemmas.List.{length-map}
 use Rattle.std.proofs.lemmas.List.FromFn.{map-range_with_len_more}
 use Rattle.pvp_types.proofs.Lists.{flat_map-range_with_len_more}
 use Rattle.pvp_types.specs.declared.setup.Setup.{Setup}
+use Rattle.pvp_types.specs.declared.command.Instruction.{Instruction}
 use Rattle.pvp_types.specs.declared.command.Cmd.{Cmd}
 use Rattle.pvp_types.specs.declared.command.PayOrder.{PayOrder}
 use Rattle.pvp_types.specs.declared.command.Reply.{Reply}
@@ -18,10 +19,10 @@ use Rattle.pvp_types.specs.declared.command.Reason.TheVariants.{NotYours, Unknow
 use Rattle.pvp_types.specs.declared.command.Cmd.TheVariants.{Instruct, Fund, PayOut, Paid, Returned}
 use Rattle.pvp_book.specs.declared.entry.Entry.{Entry}
 use Rattle.pvp_book.specs.declared.pair.Pair.{Pair}
-use Rattle.pvp_book.specs.Accounts.{paid_in_to, paid_out_of, pay_ins, pay_outs, returned, bought, sold, balance_with}
+use Rattle.pvp_book.specs.Accounts.{paid_in_to, paid_out_of, pay_ins, pay_outs, amount_returned, amount_bought, amount_sold, balance_with}
 use Rattle.pvp_book.specs.declared.pair.PairState.{PairState}
-use Rattle.pvp_book.specs.Pairs.{opened_by, pairs, matched_by, matched}
-use Rattle.pvp_book.specs.Settlement.{candidates, settled}
+use Rattle.pvp_book.specs.Pairs.{opened_by, pairs, matched_by, matched_pairs}
+use Rattle.pvp_book.specs.Settlement.{candidates, settled_pairs}
 use Rattle.pvp_book.specs.Ledger.{Ledger, most_amount, node_of, open_orders, state_with, is_state, sum_of_balances}
 use Rattle.pvp_book.specs.Open.{outstanding_at}
 use Rattle.pvp_book.specs.Orders.{order_by, order_of, orders, has_return, has_end}
@@ -44,11 +45,11 @@ ordered_by m o = if o.member == m then o.amt else 0
 
 -- what an entry brings a member, by a pay-in, by the pair that it matches or, once it is returned, by the order that it makes, is no more than it names
 brought-le : (m c client : ℕ) (cmd : Cmd) (reply : Reply)
-    → (paid_in_to m c cmd + sum_by (ordered_by m) (cons_option (order_by c client cmd reply) [])) + sum_by (bought m c)
+    → (paid_in_to m c cmd + sum_by (ordered_by m) (cons_option (order_by c client cmd reply) [])) + sum_by (amount_bought m c)
     (cons_option (matched_by client cmd reply) []) ≤ amount_of cmd
-brought-le m c client (Instruct reference other sell sell_amt buy buy_amt) Matched =
-    let first = at_most ((other == m) && (sell == c)) sell_amt in
-    let second = at_most ((client == m) && (buy == c)) buy_amt in
+brought-le m c client (Instruct asked) Matched =
+    let first = at_most ((asked.other == m) && (asked.sell == c)) asked.sell_amt in
+    let second = at_most ((client == m) && (asked.buy == c)) asked.buy_amt in
     omega arith
 brought-le m c client (Fund ccy pay member amt) reply = let here = at_most ((member == m) && (ccy == c)) amt in omega arith
 brought-le m c client (PayOut ccy amt) (Order out) = by (ccy == c)
@@ -60,24 +61,24 @@ brought-le m c client (PayOut ccy amt) (Order out) = by (ccy == c)
 brought-le m c client _ _ = omega arith
 
 taken-le : (m c client : ℕ) (cmd : Cmd) (reply : Reply)
-    → paid_out_of m c client cmd + sum_by (sold m c) (cons_option (matched_by client cmd reply) []) ≤ amount_of cmd
-taken-le m c client (Instruct reference other sell sell_amt buy buy_amt) Matched =
-    let first = at_most ((other == m) && (buy == c)) buy_amt in
-    let second = at_most ((client == m) && (sell == c)) sell_amt in
+    → paid_out_of m c client cmd + sum_by (amount_sold m c) (cons_option (matched_by client cmd reply) []) ≤ amount_of cmd
+taken-le m c client (Instruct asked) Matched =
+    let first = at_most ((asked.other == m) && (asked.buy == c)) asked.buy_amt in
+    let second = at_most ((client == m) && (asked.sell == c)) asked.sell_amt in
     omega arith
 taken-le m c client (PayOut ccy amt) reply = let here = at_most ((client == m) && (ccy == c)) amt in omega arith
 taken-le m c client _ _ = omega arith
 
 -- all pay-ins, all orders and all matched pairs together bring a member no more than the entries name
 all-brought-le : (entries : List Entry) (m c : ℕ)
-    → (pay_ins entries m c + sum_by (ordered_by m) (orders entries c)) + sum_by (bought m c) (matched entries) ≤ total entries
+    → (pay_ins entries m c + sum_by (ordered_by m) (orders entries c)) + sum_by (amount_bought m c) (matched_pairs entries) ≤ total entries
 all-brought-le [] m c = omega arith
 all-brought-le (e ∷ es) m c =
     let rest = all-brought-le es m c in
     let here = brought-le m c e.client e.cmd e.reply in
     let paid = sum_by-cons (λ (x : Entry). paid_in_to m c x.cmd) e es in
     let made = sum-cons_option (ordered_by m) (order_by c e.client e.cmd e.reply) (orders es c) in
-    let pairs = sum-cons_option (bought m c) (matched_by e.client e.cmd e.reply) (matched es) in
+    let pairs = sum-cons_option (amount_bought m c) (matched_by e.client e.cmd e.reply) (matched_pairs es) in
     let all = sum_by-cons (λ (x : Entry). amount_of x.cmd) e es in
     omega arith
 
@@ -91,7 +92,7 @@ sum-le f g low (x ∷ xs) =
     let right = sum_by-cons g x xs in
     omega arith
 
-returned-le : (entries : List Entry) (m c : ℕ) → returned entries m c ≤ sum_by (ordered_by m) (orders entries c)
+returned-le : (entries : List Entry) (m c : ℕ) → amount_returned entries m c ≤ sum_by (ordered_by m) (orders entries c)
 returned-le entries m c =
     sum-le (λ (o : PayOrder). if (o.member == m) && has_return entries c o.out then o.amt else 0) (ordered_by m)
     (λ o. by (o.member == m) (has_return entries c o.out) o.amt) (orders entries c)
@@ -101,22 +102,22 @@ returned-le entries m c =
     by true false amt = omega arith
     by false b amt = omega arith
 
-all-taken-le : (entries : List Entry) (m c : ℕ) → pay_outs entries m c + sum_by (sold m c) (matched entries) ≤ total entries
+all-taken-le : (entries : List Entry) (m c : ℕ) → pay_outs entries m c + sum_by (amount_sold m c) (matched_pairs entries) ≤ total entries
 all-taken-le [] m c = omega arith
 all-taken-le (e ∷ es) m c =
     let rest = all-taken-le es m c in
     let here = taken-le m c e.client e.cmd e.reply in
     let paid = sum_by-cons (λ (x : Entry). paid_out_of m c x.client x.cmd) e es in
-    let pairs = sum-cons_option (sold m c) (matched_by e.client e.cmd e.reply) (matched es) in
+    let pairs = sum-cons_option (amount_sold m c) (matched_by e.client e.cmd e.reply) (matched_pairs es) in
     let all = sum_by-cons (λ (x : Entry). amount_of x.cmd) e es in
     omega arith
 
 -- so where what is settled is within what is matched, no member received or gave more
-pub IsSmall-within : (entries : List Entry) (done rest : List Pair) → IsWithinMatched done rest (matched entries) → total entries ≤ most_total
+pub IsSmall-within : (entries : List Entry) (done rest : List Pair) → IsWithinMatched done rest (matched_pairs entries) → total entries ≤ most_total
     → IsSmall entries done
 IsSmall-within entries done rest within small = record {
-  received = λ m c. let all = all-brought-le entries m c in let back = returned-le entries m c in let part = within.sums (bought m c) in omega arith;
-  given = λ m c. let all = all-taken-le entries m c in let part = within.sums (sold m c) in omega arith;
+  received = λ m c. let all = all-brought-le entries m c in let back = returned-le entries m c in let part = within.sums (amount_bought m c) in omega arith;
+  given = λ m c. let all = all-taken-le entries m c in let part = within.sums (amount_sold m c) in omega arith;
 }
 
 pub total-small : (held : Ledger) → IsLedger held → total held.entries ≤ most_total
@@ -125,9 +126,10 @@ total-small held is =
     let few : held.applied ≤ 65535 = is.few in
     omega arith
 
-pub IsSmall-ledger : (held : Ledger) → IsLedger held → IsSmall held.entries (settled held.setup held.entries)
+pub IsSmall-ledger : (held : Ledger) → IsLedger held → IsSmall held.entries (settled_pairs held.setup held.entries)
 IsSmall-ledger held is =
-    IsSmall-within held.entries (settled held.setup held.entries) (candidates held.entries (settled held.setup held.entries)) is.within (total-small held is)
+    IsSmall-within held.entries (settled_pairs held.setup held.entries) (candidates held.entries (settled_pairs held.setup held.entries))
+    is.within (total-small held is)
 
 -- no order is of more than the entries name
 amount-by : (c client : ℕ) (cmd : Cmd) (reply : Reply) (o : PayOrder) → order_by c client cmd reply ≡ Some o → o.amt ≤ amount_of cmd
@@ -201,11 +203,11 @@ pay_out-small : (setup : Setup) (entries : List Entry) (client c amt : ℕ)
 pay_out-small setup entries client c amt e =
     amount-small amt (is-so _ (passed (pay_out_checks setup entries client c amt) (Order (length (orders entries c) + 1)) e).1.1.1.0)
 
-instruct-small : (setup : Setup) (entries : List Entry) (client reference other sell sell_amt buy buy_amt : ℕ)
-    → is_refusal (on_instruct setup entries client reference other sell sell_amt buy buy_amt) ≡ false → (is_amount sell_amt && is_amount buy_amt) ≡ true
-instruct-small setup entries client reference other sell sell_amt buy buy_amt e =
-    cases (is_member_number client) (has_member setup client && (has_member setup other && not (other == client)))
-    (has_currency setup sell && (has_currency setup buy && not (sell == buy))) (is_amount sell_amt && is_amount buy_amt) _ e
+instruct-small : (setup : Setup) (entries : List Entry) (client : ℕ) (asked : Instruction)
+    → is_refusal (on_instruct setup entries client asked) ≡ false → (is_amount asked.sell_amt && is_amount asked.buy_amt) ≡ true
+instruct-small setup entries client asked e =
+    cases (is_member_number client) (has_member setup client && (has_member setup asked.other && not (asked.other == client)))
+    (has_currency setup asked.sell && (has_currency setup asked.buy && not (asked.sell == asked.buy))) (is_amount asked.sell_amt && is_amount asked.buy_amt) _ e
   where
     cases : (yours member currency small : Bool) (rest : Reply)
         → is_refusal (if not yours then No NotYours else if not member then No UnknownMember else if not currency then No UnknownCurrency else if not small
@@ -218,10 +220,10 @@ instruct-small setup entries client reference other sell sell_amt buy buy_amt e 
 pub accepted-small : (setup : Setup) (entries : List Entry) (client : ℕ) (cmd : Cmd)
     → is_refusal (answer setup entries client cmd) ≡ false → amount_of cmd ≤ 2 * most_amount
 unfolding answer
-accepted-small setup entries client (Instruct reference other sell sell_amt buy buy_amt) e =
-    let both = and_parts _ _ (instruct-small setup entries client reference other sell sell_amt buy buy_amt e) in
-    let first = amount-small sell_amt both.0 in
-    let second = amount-small buy_amt both.1 in
+accepted-small setup entries client (Instruct asked) e =
+    let both = and_parts _ _ (instruct-small setup entries client asked e) in
+    let first = amount-small asked.sell_amt both.0 in
+    let second = amount-small asked.buy_amt both.1 in
     omega arith
 accepted-small setup entries client (Fund ccy pay member amt) e = let one = fund-small setup entries client ccy pay member amt e in omega arith
 accepted-small setup entries client (PayOut ccy amt) e = let one = pay_out-small setup entries client ccy amt e in omega arith
@@ -262,8 +264,9 @@ IsLedger-accepted held client cmd reply is room answered accepted =
       few = omega arith;
       small = omega arith;
       fewer = simp length-append (omega arith);
-      within = subst (λ done. IsWithinMatched done (candidates (held.entries ++ entry ∷ []) done) (matched (held.entries ++ entry ∷ [])))
-          (sym (settled-push held.setup held.entries entry)) (IsWithinMatched-push held.setup held.entries (settled held.setup held.entries) entry is.within);
+      within = subst (λ done. IsWithinMatched done (candidates (held.entries ++ entry ∷ []) done) (matched_pairs (held.entries ++ entry ∷ [])))
+          (sym (settled-push held.setup held.entries entry))
+          (IsWithinMatched-push held.setup held.entries (settled_pairs held.setup held.entries) entry is.within);
     }
 
 -- a difference of small numbers is small

@@ -18,12 +18,12 @@ use Rattle.pvp_types.specs.declared.command.Reply.TheVariants.{Done, Order}
 use Rattle.pvp_book.specs.declared.entry.Entry.{Entry}
 use Rattle.pvp_book.specs.declared.pair.Pair.{Pair}
 use Rattle.pvp_book.specs.declared.account.Movement.{Movement}
-use Rattle.pvp_book.specs.Accounts.{paid_in_to, paid_out_of, pay_ins, pay_outs, returned, bought, sold, balance_with}
+use Rattle.pvp_book.specs.Accounts.{paid_in_to, paid_out_of, pay_ins, pay_outs, amount_returned, amount_bought, amount_sold, balance_with}
 use Rattle.pvp_book.specs.Orders.{order_of, order_by, orders, is_return, has_return, is_end, has_end}
 use Rattle.pvp_book.specs.Ledger.{sum_of_balances}
 use Rattle.pvp_book.specs.OrderTable.{AreAscending}
 use Rattle.pvp_book.specs.Answer.{answer, is_refusal, has_order, has_member, has_currency, fund_checks, pay_out_checks, end_checks, on_pay_out}
-use Rattle.pvp_book.specs.Laws.{AreOrdered, funded, paid_out, funds, all_paid_out, all_returned}
+use Rattle.pvp_book.specs.Laws.{AreOrdered, pay_in_amount, pay_out_amount, funds, all_paid_out, all_returned}
 use Rattle.pvp_book.specs.Kept.{movement_by, moved_to, moved_in}
 use Rattle.pvp_book.proofs.Counts.{or-false}
 use Rattle.pvp_book.proofs.SettlementLemmas.{append-nil}
@@ -228,7 +228,7 @@ module _ (setup : Setup) (entries : List Entry) (client : ℕ) (cmd : Cmd) (acce
 
   -- an entry that makes no order and returns none
   plain : (m c : ℕ) → orders (entries ++ entry_of setup entries client cmd ∷ []) c ≡ orders entries c → ((n : ℕ) → is_return c n cmd ≡ false)
-      → returned (entries ++ entry_of setup entries client cmd ∷ []) m c ≡ returned entries m c + 0
+      → amount_returned (entries ++ entry_of setup entries client cmd ∷ []) m c ≡ amount_returned entries m c + 0
   plain m c same none =
       let kept =
       sum-same (λ o. if (o.member == m) && has_return (entries ++ entry_of setup entries client cmd ∷ []) c o.out then o.amt else 0)
@@ -246,11 +246,11 @@ orders-more setup entries client cmd c = filter_map-append (λ (x : Entry). orde
 
 returned-more : (setup : Setup) (entries : List Entry) (client : ℕ) (cmd : Cmd) → is_refusal (answer setup entries client cmd) ≡ false
     → ((c : ℕ) → AreOrdered entries c)
-    → (m c : ℕ) → returned (entries ++ entry_of setup entries client cmd ∷ []) m c ≡ returned entries m c + back_to entries m c cmd
+    → (m c : ℕ) → amount_returned (entries ++ entry_of setup entries client cmd ∷ []) m c ≡ amount_returned entries m c + back_to entries m c cmd
 unfolding answer
-returned-more setup entries client (Instruct reference other sell sell_amt buy buy_amt) accepted ordered m c =
-    plain setup entries client (Instruct reference other sell sell_amt buy buy_amt) accepted ordered m c
-    (orders-more setup entries client (Instruct reference other sell sell_amt buy buy_amt) c ∙ append-nil (orders entries c)) (λ n. refl)
+returned-more setup entries client (Instruct asked) accepted ordered m c =
+    plain setup entries client (Instruct asked) accepted ordered m c
+    (orders-more setup entries client (Instruct asked) c ∙ append-nil (orders entries c)) (λ n. refl)
 returned-more setup entries client (Rescind reference) accepted ordered m c =
     plain setup entries client (Rescind reference) accepted ordered m c (orders-more setup entries client (Rescind reference) c ∙ append-nil (orders entries c))
     (λ n. refl)
@@ -277,7 +277,7 @@ returned-more setup entries client (PayOut ccy amt) accepted ordered m c = by (c
         ≡ (if ccy == c then Some (record { ccy = ccy; out = length (orders entries ccy) + 1; member = client; amt = amt }) else None)
     made = ap (order_by c client (PayOut ccy amt)) (pay_out-order setup entries client ccy amt accepted)
 
-    whole : returned (entries ++ entry_of setup entries client (PayOut ccy amt) ∷ []) m c
+    whole : amount_returned (entries ++ entry_of setup entries client (PayOut ccy amt) ∷ []) m c
         ≡ sum_by (λ (o : PayOrder). if (o.member == m) && has_return entries c o.out then o.amt else 0)
         (orders entries c ++ cons_option (if ccy == c then Some (record { ccy = ccy; out = length (orders entries ccy) + 1; member = client; amt = amt })
         else None) [])
@@ -288,7 +288,7 @@ returned-more setup entries client (PayOut ccy amt) accepted ordered m c = by (c
         ∙ ap (sum_by (λ (o : PayOrder). if (o.member == m) && has_return entries c o.out then o.amt else 0))
         (orders-more setup entries client (PayOut ccy amt) c ∙ ap (λ o. orders entries c ++ cons_option o []) made)
 
-    by : (ccy ≡ c) ⊎ (ccy ≡ c → ⊥) → returned (entries ++ entry_of setup entries client (PayOut ccy amt) ∷ []) m c ≡ returned entries m c + 0
+    by : (ccy ≡ c) ⊎ (ccy ≡ c → ⊥) → amount_returned (entries ++ entry_of setup entries client (PayOut ccy amt) ∷ []) m c ≡ amount_returned entries m c + 0
     by (inr other) =
         whole ∙ ap (λ b. sum_by (λ (o : PayOrder). if (o.member == m) && has_return entries c o.out then o.amt else 0)
         (orders entries c ++ cons_option (if b then Some (record { ccy = ccy; out = length (orders entries ccy) + 1; member = client; amt = amt }) else None)
@@ -313,7 +313,7 @@ returned-more setup entries client (Returned ccy out) accepted ordered m c = by 
     same-orders : orders (entries ++ entry_of setup entries client (Returned ccy out) ∷ []) c ≡ orders entries c
     same-orders = orders-more setup entries client (Returned ccy out) c ∙ append-nil (orders entries c)
 
-    whole : returned (entries ++ entry_of setup entries client (Returned ccy out) ∷ []) m c
+    whole : amount_returned (entries ++ entry_of setup entries client (Returned ccy out) ∷ []) m c
         ≡ sum_by (λ (o : PayOrder). if (o.member == m) && (has_return entries c o.out || ((ccy == c) && (out == o.out))) then o.amt else 0) (orders entries c)
     whole =
         sum-same (λ o. if (o.member == m) && has_return (entries ++ entry_of setup entries client (Returned ccy out) ∷ []) c o.out then o.amt else 0)
@@ -323,17 +323,17 @@ returned-more setup entries client (Returned ccy out) accepted ordered m c = by 
         ∙ ap (sum_by (λ (o : PayOrder). if (o.member == m) && (has_return entries c o.out || ((ccy == c) && (out == o.out))) then o.amt else 0)) same-orders
 
     by : (ccy ≡ c) ⊎ (ccy ≡ c → ⊥)
-        → returned (entries ++ entry_of setup entries client (Returned ccy out) ∷ []) m c
-        ≡ returned entries m c + (if ccy == c then option_map_or (λ o. if o.member == m then o.amt else 0) (order_of entries c out) 0 else 0)
+        → amount_returned (entries ++ entry_of setup entries client (Returned ccy out) ∷ []) m c
+        ≡ amount_returned entries m c + (if ccy == c then option_map_or (λ o. if o.member == m then o.amt else 0) (order_of entries c out) 0 else 0)
     by (inr other) =
         whole ∙ sum-same (λ o. if (o.member == m) && (has_return entries c o.out || ((ccy == c) && (out == o.out))) then o.amt else 0)
         (λ o. if (o.member == m) && has_return entries c o.out then o.amt else 0) (orders entries c)
         (λ o. ap (λ b. if (o.member == m) && (has_return entries c o.out || (b && (out == o.out))) then o.amt else 0) (ne_eqb ccy c other)
         ∙ ap (λ b. if (o.member == m) && b then o.amt else 0) (or-false (has_return entries c o.out)))
-        ∙ none ∙ ap (λ b. returned entries m c + (if b then option_map_or (λ o. if o.member == m then o.amt else 0) (order_of entries c out) 0 else 0))
+        ∙ none ∙ ap (λ b. amount_returned entries m c + (if b then option_map_or (λ o. if o.member == m then o.amt else 0) (order_of entries c out) 0 else 0))
         (sym (ne_eqb ccy c other))
       where
-        none : returned entries m c ≡ returned entries m c + 0
+        none : amount_returned entries m c ≡ amount_returned entries m c + 0
         none = omega arith
     by (inl same) =
         let fresh : has_return entries c out ≡ false = no-return (end-known setup entries client ccy out accepted).1 in
@@ -341,7 +341,7 @@ returned-more setup entries client (Returned ccy out) accepted ordered m c = by 
         (λ o. if (o.member == m) && (has_return entries c o.out || (out == o.out)) then o.amt else 0) (orders entries c)
         (λ o. ap (λ b. if (o.member == m) && (has_return entries c o.out || (b && (out == o.out))) then o.amt else 0) (eq-eqb ccy c same))
         ∙ one-returned m out (has_return entries c) 1 (orders entries c) (ordered c).numbered fresh
-        ∙ ap (λ b. returned entries m c + (if b then option_map_or (λ o. if o.member == m then o.amt else 0) (order_of entries c out) 0 else 0))
+        ∙ ap (λ b. amount_returned entries m c + (if b then option_map_or (λ o. if o.member == m then o.amt else 0) (order_of entries c out) 0 else 0))
         (sym (eq-eqb ccy c same))
       where
         no-return : has_end entries ccy out ≡ false → has_return entries c out ≡ false
@@ -360,8 +360,8 @@ balance-moved setup entries done client cmd accepted ordered m c =
     let ins = sum-push (λ (x : Entry). paid_in_to m c x.cmd) entries (entry_of setup entries client cmd) in
     let outs = sum-push (λ (x : Entry). paid_out_of m c x.client x.cmd) entries (entry_of setup entries client cmd) in
     let back = returned-more setup entries client cmd accepted ordered m c in
-    (λ i. pos ((ins i + back i) + sum_by (bought m c) done) -ℤ pos (outs i + sum_by (sold m c) done))
-    ∙ by cmd (pay_ins entries m c) (returned entries m c) (pay_outs entries m c) (sum_by (bought m c) done) (sum_by (sold m c) done)
+    (λ i. pos ((ins i + back i) + sum_by (amount_bought m c) done) -ℤ pos (outs i + sum_by (amount_sold m c) done))
+    ∙ by cmd (pay_ins entries m c) (amount_returned entries m c) (pay_outs entries m c) (sum_by (amount_bought m c) done) (sum_by (amount_sold m c) done)
   where
     nothing : (i r o b s : ℕ) → pos (((i + 0) + (r + 0)) + b) -ℤ pos ((o + 0) + s) ≡ (pos ((i + r) + b) -ℤ pos (o + s)) +ℤ pos 0
     nothing i r o b s = omega (arith, ints)
@@ -544,8 +544,8 @@ pub walk-moves-none : (setup : Setup) (entries : List Entry) (most c : ℕ)
     (funds longer c ≡ funds entries c) × (all_paid_out longer c ≡ all_paid_out entries c) × (all_returned longer c ≡ all_returned entries c)
 walk-moves-none setup entries most c =
     let e = entry_of setup entries 0 (Settle most) in
-    let ins = sum-push (λ (x : Entry). funded c x.cmd) entries e in
-    let outs = sum-push (λ (x : Entry). paid_out c x.cmd) entries e in
+    let ins = sum-push (λ (x : Entry). pay_in_amount c x.cmd) entries e in
+    let outs = sum-push (λ (x : Entry). pay_out_amount c x.cmd) entries e in
     let kept =
     sum-same (λ o. if has_return (entries ++ entry_of setup entries 0 (Settle most) ∷ []) c o.out then o.amt else 0)
     (λ o. if has_return entries c o.out then o.amt else 0) (orders entries c)

@@ -26,15 +26,15 @@ use Rattle.pvp_book.proofs.Counts.{or-false}
 use Rattle.pvp_book.proofs.SettlementLemmas.{append-nil}
 
 -- what a step says of each number
-abbrev pub ordered : ℕ → Step → Option PayOrder
-ordered c (step.Made order) = if order.ccy == c then Some order else None
-ordered c _ = None
+abbrev pub order_made : ℕ → Step → Option PayOrder
+order_made c (step.Made order) = if order.ccy == c then Some order else None
+order_made c _ = None
 
 abbrev pub says_end : ℕ → ℕ → Step → Bool
 says_end c n (step.Ended ccy out) = (ccy == c) && (out == n)
 says_end c n _ = false
 
-order-said : (c client : ℕ) (cmd : Cmd) (reply : Reply) → order_by c client cmd reply ≡ ordered c (step_of client cmd reply)
+order-said : (c client : ℕ) (cmd : Cmd) (reply : Reply) → order_by c client cmd reply ≡ order_made c (step_of client cmd reply)
 order-said c client (PayOut ccy amt) (Order out) = refl
 order-said c client (PayOut ccy amt) _ = refl
 order-said c client _ reply = refl
@@ -54,12 +54,12 @@ find-join test (x ∷ xs) ys = by (test x) (find-join test xs ys)
     by false rest = rest
 
 -- what a step adds to a currency's orders
-abbrev pub added : ℕ → Step → List PayOrder
-added c s = cons_option (ordered c s) []
+abbrev pub orders_added : ℕ → Step → List PayOrder
+orders_added c s = cons_option (order_made c s) []
 
 -- what it makes of the open ones
-abbrev pub opened : ℕ → Step → List PayOrder → List PayOrder
-opened c s some = filter (λ (o : PayOrder). not (says_end c o.out s)) (some ++ added c s)
+abbrev pub open_orders_after : ℕ → Step → List PayOrder → List PayOrder
+open_orders_after c s some = filter (λ (o : PayOrder). not (says_end c o.out s)) (some ++ orders_added c s)
 
 -- two tests one after the other
 filter-twice : (a b : PayOrder → Bool) (os : List PayOrder) → filter (λ o. not (a o || b o)) os ≡ filter (λ o. not (b o)) (filter (λ o. not (a o)) os)
@@ -73,10 +73,10 @@ filter-twice a b (o ∷ os) = by (a o) (filter-twice a b os)
     by false rest = ap (λ ys. cond (not (b o)) (o ∷ ys) ys) rest
 
 module _ (entries : List Entry) (e : Entry) (s : Step) (is : step_of e.client e.cmd e.reply ≡ s) where
-  orders-more : (c : ℕ) → orders (entries ++ e ∷ []) c ≡ orders entries c ++ added c s
+  orders-more : (c : ℕ) → orders (entries ++ e ∷ []) c ≡ orders entries c ++ orders_added c s
   orders-more c =
       filter_map-append (λ (x : Entry). order_by c x.client x.cmd x.reply) entries (e ∷ [])
-      ∙ ap (λ o. orders entries c ++ cons_option o []) (order-said c e.client e.cmd e.reply ∙ ap (ordered c) is)
+      ∙ ap (λ o. orders entries c ++ cons_option o []) (order-said c e.client e.cmd e.reply ∙ ap (order_made c) is)
 
   has_end-more : (c n : ℕ) → has_end (entries ++ e ∷ []) c n ≡ (has_end entries c n || says_end c n s)
   has_end-more c n =
@@ -84,44 +84,44 @@ module _ (entries : List Entry) (e : Entry) (s : Step) (is : step_of e.client e.
       ∙ ap (λ b. has_end entries c n || b) (or-false (is_end c n e.cmd) ∙ end-said c n e.client e.cmd e.reply ∙ ap (says_end c n) is)
 
   order_of-more : (c n : ℕ)
-      → order_of (entries ++ e ∷ []) c n ≡ option_or (order_of entries c n) (find (λ (o : PayOrder). o.out == n) (added c s))
+      → order_of (entries ++ e ∷ []) c n ≡ option_or (order_of entries c n) (find (λ (o : PayOrder). o.out == n) (orders_added c s))
   order_of-more c n =
       ap (find (λ (o : PayOrder). o.out == n)) (orders-more c) ∙ find-join (λ (o : PayOrder). o.out == n) (orders entries c)
-      (added c s)
+      (orders_added c s)
 
   -- an order that is added has not ended
   abbrev AreFresh : Type 0
   AreFresh =
-      (c : ℕ) → filter (λ (o : PayOrder). not (has_end entries c o.out)) (added c s) ≡ added c s
+      (c : ℕ) → filter (λ (o : PayOrder). not (has_end entries c o.out)) (orders_added c s) ≡ orders_added c s
 
-  open-more : AreFresh → (c : ℕ) → open_orders (entries ++ e ∷ []) c ≡ opened c s (open_orders entries c)
+  open-more : AreFresh → (c : ℕ) → open_orders (entries ++ e ∷ []) c ≡ open_orders_after c s (open_orders entries c)
   open-more fresh c =
       filter_agree (λ (o : PayOrder). not (has_end (entries ++ e ∷ []) c o.out)) (λ (o : PayOrder). not (has_end entries c o.out || says_end c o.out s))
       (λ o. ap not (has_end-more c o.out)) (orders (entries ++ e ∷ []) c)
       ∙ ap (filter (λ (o : PayOrder). not (has_end entries c o.out || says_end c o.out s))) (orders-more c)
-      ∙ filter-twice (λ (o : PayOrder). has_end entries c o.out) (λ (o : PayOrder). says_end c o.out s) (orders entries c ++ added c s)
+      ∙ filter-twice (λ (o : PayOrder). has_end entries c o.out) (λ (o : PayOrder). says_end c o.out s) (orders entries c ++ orders_added c s)
       ∙ ap (filter (λ (o : PayOrder). not (says_end c o.out s)))
-      (filter-append (λ (o : PayOrder). not (has_end entries c o.out)) (orders entries c) (added c s) ∙ ap (λ os. open_orders entries c ++ os) (fresh c))
+      (filter-append (λ (o : PayOrder). not (has_end entries c o.out)) (orders entries c) (orders_added c s) ∙ ap (λ os. open_orders entries c ++ os) (fresh c))
 
   -- a table that has the step too has what the entries have
   AreMade-more : (old new : OrderTable)
-      → ((c n : ℕ) → order_at new c n ≡ option_or (order_at old c n) (find (λ (o : PayOrder). o.out == n) (added c s)))
+      → ((c n : ℕ) → order_at new c n ≡ option_or (order_at old c n) (find (λ (o : PayOrder). o.out == n) (orders_added c s)))
       → ((c n : ℕ) → has_ended new c n ≡ (has_ended old c n || says_end c n s))
       → length new.made ≡ length old.made
-      → ((c : ℕ) → length (made_at new c) ≡ length (made_at old c) + length (added c s))
+      → ((c : ℕ) → length (made_at new c) ≡ length (made_at old c) + length (orders_added c s))
       → length new.outstanding ≡ length old.outstanding
-      → ((c : ℕ) → open_at new c ≡ opened c s (open_at old c)) → AreFresh
+      → ((c : ℕ) → open_at new c ≡ open_orders_after c s (open_at old c)) → AreFresh
       → AreMade entries old → AreMade (entries ++ e ∷ []) new
   AreMade-more old new made ended places counts queues outstanding fresh are = record {
     made =
-        λ c n. made c n ∙ ap (λ o. option_or o (find (λ (x : PayOrder). x.out == n) (added c s))) (are.made c n)
+        λ c n. made c n ∙ ap (λ o. option_or o (find (λ (x : PayOrder). x.out == n) (orders_added c s))) (are.made c n)
         ∙ sym (order_of-more c n);
     ended = λ c n. ended c n ∙ ap (λ b. b || says_end c n s) (are.ended c n) ∙ sym (has_end-more c n);
     places = places ∙ are.places;
-    counts = λ c. counts c ∙ ap (λ k. k + length (added c s)) (are.counts c)
-        ∙ sym (ap length (orders-more c) ∙ length-append (orders entries c) (added c s));
+    counts = λ c. counts c ∙ ap (λ k. k + length (orders_added c s)) (are.counts c)
+        ∙ sym (ap length (orders-more c) ∙ length-append (orders entries c) (orders_added c s));
     queues = queues ∙ are.queues;
-    outstanding = λ c. outstanding c ∙ ap (opened c s) (are.outstanding c) ∙ sym (open-more fresh c);
+    outstanding = λ c. outstanding c ∙ ap (open_orders_after c s) (are.outstanding c) ∙ sym (open-more fresh c);
   }
 
 or-none : {X : Type 0} (o : Option X) → o ≡ option_or o None
@@ -159,19 +159,19 @@ none-more : (n : ℕ) → n ≡ n + 0
 none-more n = omega arith
 
 -- what a step that makes an order makes of the open ones
-opened-made : (order : PayOrder) (c : ℕ) (os : List PayOrder) → os ++ (if order.ccy == c then order ∷ [] else []) ≡ opened c (step.Made order) os
-opened-made order c os = by (order.ccy == c) ∙ none-ends (os ++ added c (step.Made order))
+opened-made : (order : PayOrder) (c : ℕ) (os : List PayOrder) → os ++ (if order.ccy == c then order ∷ [] else []) ≡ open_orders_after c (step.Made order) os
+opened-made order c os = by (order.ccy == c) ∙ none-ends (os ++ orders_added c (step.Made order))
   where
     by : (a : Bool) → os ++ (if a then order ∷ [] else []) ≡ os ++ cons_option (if a then Some order else None) []
     by true = refl
     by false = refl
 
 fresh-made : (entries : List Entry) (order : PayOrder) → has_end entries order.ccy order.out ≡ false
-    → (c : ℕ) → filter (λ (o : PayOrder). not (has_end entries c o.out)) (added c (step.Made order)) ≡ added c (step.Made order)
+    → (c : ℕ) → filter (λ (o : PayOrder). not (has_end entries c o.out)) (orders_added c (step.Made order)) ≡ orders_added c (step.Made order)
 fresh-made entries order new c = by (cases_eq order.ccy c)
   where
     by : (order.ccy ≡ c) ⊎ (order.ccy ≡ c → ⊥)
-        → filter (λ (o : PayOrder). not (has_end entries c o.out)) (added c (step.Made order)) ≡ added c (step.Made order)
+        → filter (λ (o : PayOrder). not (has_end entries c o.out)) (orders_added c (step.Made order)) ≡ orders_added c (step.Made order)
     by (inl same) =
         let is = eq-eqb order.ccy c same in
         ap (λ b. filter (λ (o : PayOrder). not (has_end entries c o.out)) (cons_option (if b then Some order else None) [])) is

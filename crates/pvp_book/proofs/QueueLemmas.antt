@@ -8,13 +8,13 @@ use Rattle.std.proofs.lemmas.List.Elements.{filter_agree}
 use Rattle.pvp_book.specs.declared.pair.Pair.{Pair}
 use Rattle.pvp_book.specs.declared.pair.PairState.{PairState}
 use Rattle.pvp_book.specs.declared.pair.PairState.TheVariants as state
-use Rattle.pvp_book.specs.Pairs.{pairs, matched, has_reference, has_asked, both_have_asked, is_matched}
-use Rattle.pvp_book.specs.Settlement.{settled}
+use Rattle.pvp_book.specs.Pairs.{pairs, matched_pairs, has_reference, has_asked, both_have_asked, is_matched}
+use Rattle.pvp_book.specs.Settlement.{settled_pairs}
 use Rattle.pvp_book.specs.Ledger.{Ledger, queue, state_of, is_state, pairs_in}
-use Rattle.pvp_book.specs.Kept.{Kept, IsKept}
-use Rattle.pvp_book.specs.Tally.{is_at, counted}
+use Rattle.pvp_book.specs.Kept.{Kept, KeepsLedger}
+use Rattle.pvp_book.specs.Tally.{is_at, count_in_state}
 use Rattle.pvp_book.proofs.SettlementLemmas.{same-self}
-use Rattle.pvp_book.proofs.SoundLemmas.{IsSound, sound}
+use Rattle.pvp_book.proofs.SoundLemmas.{IsSoundBook, sound}
 use Rattle.pvp_book.proofs.PassLemmas.{AreDistinct, distinct-once}
 use Rattle.pvp_book.proofs.TallyLemmas.{length-kept, one-moved}
 use Rattle.pvp_book.proofs.BookLemmas.{pairs-distinct}
@@ -23,7 +23,7 @@ use Rattle.pvp_book.proofs.BookLemmas.{pairs-distinct}
 abbrev marked : (Pair → Bool) → List Pair → Pair → PairState
 marked test ms p = if has_reference ms p.reference && test p then state.Matched else state.Unmatched
 
-none-marked : (ps : List Pair) → counted (λ p. state.Unmatched) state.Matched ps ≡ 0
+none-marked : (ps : List Pair) → count_in_state (λ p. state.Unmatched) state.Matched ps ≡ 0
 none-marked [] = refl
 none-marked (p ∷ ps) = none-marked ps
 
@@ -49,16 +49,17 @@ module _ (test : Pair → Bool) (m : Pair) (ms : List Pair) where
 -- pairs that are each found by reference among others are as many as those of their references
 as-many : (test : Pair → Bool) (ps : List Pair) → AreDistinct ps → (ms : List Pair) → AreDistinct ms
     → AllByRecursion (λ m. find (λ (p : Pair). m.reference == p.reference) ps ≡ Some m) ms
-    → length (filter test ms) ≡ counted (marked test ms) state.Matched ps
+    → length (filter test ms) ≡ count_in_state (marked test ms) state.Matched ps
 unfolding AreDistinct
 as-many test ps are [] distinct known = sym (none-marked ps)
 as-many test ps are (m ∷ ms) distinct known =
     let t = marked test ms in
     let u = marked test (m ∷ ms) in
-    let moves = (λ i. counted u state.Matched ps + is_at (option_map t (sym known.0 i)) state.Matched)
+    let moves = (λ i. count_in_state u state.Matched ps + is_at (option_map t (sym known.0 i)) state.Matched)
     ∙ one-moved t u state.Matched m.reference ps are (others-stay test m ms)
-    ∙ (λ i. counted t state.Matched ps + is_at (option_map u (known.0 i)) state.Matched) in
-    sum (length (filter test (m ∷ ms))) (if test m then 1 else 0) (length (filter test ms)) (counted t state.Matched ps) (counted u state.Matched ps)
+    ∙ (λ i. count_in_state t state.Matched ps + is_at (option_map u (known.0 i)) state.Matched) in
+    sum (length (filter test (m ∷ ms))) (if test m then 1 else 0) (length (filter test ms)) (count_in_state t state.Matched ps)
+    (count_in_state u state.Matched ps)
     (is_at (Some (t m)) state.Matched) (is_at (Some (u m)) state.Matched)
     (length-kept (test m) m (filter test ms)) (as-many test ps are ms distinct.1 known.1) moves (was-none test m ms distinct.0) (is-one test m ms)
   where
@@ -66,16 +67,17 @@ as-many test ps are (m ∷ ms) distinct known =
     sum all x rest ct cu a b split more moves none one = omega arith
 
 -- the pairs that a walk would look at
-pub queue-counted : (held : Ledger) (kept : Kept) → IsKept held kept
+pub queue-counted : (held : Ledger) (kept : Kept) → KeepsLedger held kept
     → length (queue held.setup held.entries) ≡ length (pairs_in held.setup held.entries state.Matched)
 queue-counted held kept is =
     let entries = held.entries in
-    let done = settled held.setup held.entries in
-    let sound_here = subst (IsSound held.setup) (sym is.reached) (sound held.setup is.history) in
-    as-many (λ p. not (has_reference done p.reference) && not (both_have_asked entries p)) (pairs entries) (pairs-distinct held is) (matched entries)
-    (distinct-once (matched entries) sound_here.once) sound_here.known
+    let done = settled_pairs held.setup held.entries in
+    let sound_here = subst (IsSoundBook held.setup) (sym is.reached) (sound held.setup is.history) in
+    as-many (λ p. not (has_reference done p.reference) && not (both_have_asked entries p)) (pairs entries) (pairs-distinct held is) (matched_pairs entries)
+    (distinct-once (matched_pairs entries) sound_here.once) sound_here.known
     ∙ ap length
-    (filter_agree (λ p. is_state (marked (λ q. not (has_reference done q.reference) && not (both_have_asked entries q)) (matched entries) p) state.Matched)
+    (filter_agree (λ p. is_state (marked (λ q. not (has_reference done q.reference) && not (both_have_asked entries q)) (matched_pairs entries) p)
+    state.Matched)
     (λ p. is_state (state_of held.setup entries p) state.Matched)
     (λ p. by (has_reference done p.reference) (is_matched entries p) (both_have_asked entries p) (has_asked entries p.first p.reference)) (pairs entries))
   where

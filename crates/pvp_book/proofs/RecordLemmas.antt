@@ -15,9 +15,9 @@ use Rattle.pvp_types.specs.declared.command.Reply.TheVariants.{Done, Matched}
 use Rattle.pvp_book.specs.declared.entry.Entry.{Entry}
 use Rattle.pvp_book.specs.declared.pair.Pair.{Pair}
 use Rattle.pvp_book.specs.declared.kept_pair.KeptPair.{KeptPair}
-use Rattle.pvp_book.specs.Pairs.{opened_by, pairs, matched_by, matched, pair_of, has_reference, is_matched, is_rescission, has_asked}
+use Rattle.pvp_book.specs.Pairs.{opened_by, pairs, matched_by, matched_pairs, pair_of, has_reference, is_matched, is_rescission, has_asked}
 use Rattle.pvp_book.specs.KeptPair.{pair_with, by_reference, just_opened, still_waits, once_settled, noted_by, pair_noted, named_by, pair_in, pair_put, is_waiting}
-use Rattle.pvp_book.specs.Kept.{waiting}
+use Rattle.pvp_book.specs.Kept.{waiting_pairs}
 use Rattle.pvp_book.proofs.Counts.{find-passes, or-false}
 use Rattle.pvp_book.proofs.PassLemmas.{AreDistinct, filter-same}
 use Rattle.pvp_book.proofs.SettlementLemmas.{append-nil, same-self}
@@ -25,11 +25,11 @@ use Rattle.pvp_book.proofs.CandidateLemmas.{turned}
 
 -- what the entries say of a reference with one more
 matched-more : (entries : List Entry) (e : Entry) (r : ℕ)
-    → has_reference (matched (entries ++ e ∷ [])) r
-    ≡ (has_reference (matched entries) r || has_reference (cons_option (matched_by e.client e.cmd e.reply) []) r)
+    → has_reference (matched_pairs (entries ++ e ∷ [])) r
+    ≡ (has_reference (matched_pairs entries) r || has_reference (cons_option (matched_by e.client e.cmd e.reply) []) r)
 matched-more entries e r =
     ap (λ ps. has_reference ps r) (filter_map-append (λ (x : Entry). matched_by x.client x.cmd x.reply) entries (e ∷ []))
-    ∙ list_any-append (λ (p : Pair). p.reference == r) (matched entries) (cons_option (matched_by e.client e.cmd e.reply) [])
+    ∙ list_any-append (λ (p : Pair). p.reference == r) (matched_pairs entries) (cons_option (matched_by e.client e.cmd e.reply) [])
 
 pub asked-more : (entries : List Entry) (e : Entry) (m r : ℕ)
     → has_asked (entries ++ e ∷ []) m r ≡ (has_asked entries m r || ((e.client == m) && is_rescission r e.cmd))
@@ -43,10 +43,10 @@ record IsOther (client : ℕ) (cmd : Cmd) (reply : Reply) (k : ℕ) : Type 0 whe
   asked : is_rescission k cmd ≡ false
 
 is-other : (client : ℕ) (cmd : Cmd) (reply : Reply) (k : ℕ) → (named_by cmd ≡ Some k → ⊥) → IsOther client cmd reply k
-is-other client (Instruct reference other sell sell_amt buy buy_amt) Matched k apart =
-    record { matched = ap (λ b. b || false) (ne_eqb reference k (λ e. apart (ap Some e))); asked = refl }
+is-other client (Instruct asked) Matched k apart =
+    record { matched = ap (λ b. b || false) (ne_eqb asked.reference k (λ e. apart (ap Some e))); asked = refl }
 is-other client (Rescind reference) reply k apart = record { matched = refl; asked = ne_eqb reference k (λ e. apart (ap Some e)) }
-is-other client (Instruct reference other sell sell_amt buy buy_amt) _ k apart = record { matched = refl; asked = refl }
+is-other client (Instruct asked) _ k apart = record { matched = refl; asked = refl }
 is-other client _ reply k apart = record { matched = refl; asked = refl }
 
 -- a pair with what came of it
@@ -77,9 +77,9 @@ noted-longer : (p : Pair) (matched settled first second : Bool) (client : ℕ) (
     → noted_by client cmd reply (as_kept p matched settled first second)
     ≡ as_kept p (matched || has_reference (cons_option (matched_by client cmd reply) []) p.reference) settled
     (first || ((client == p.first) && is_rescission p.reference cmd)) (second || ((client == p.second) && is_rescission p.reference cmd))
-noted-longer p matched settled first second client (Instruct reference other sell sell_amt buy buy_amt) Matched named =
-    let same : reference ≡ p.reference = cc in
-    λ i. as_kept p (sym (ap (λ b. matched || (b || false)) (eq-eqb reference p.reference same) ∙ or-true matched) i) settled
+noted-longer p matched settled first second client (Instruct asked) Matched named =
+    let same : asked.reference ≡ p.reference = cc in
+    λ i. as_kept p (sym (ap (λ b. matched || (b || false)) (eq-eqb asked.reference p.reference same) ∙ or-true matched) i) settled
     (sym (or-none (client == p.first) first) i) (sym (or-none (client == p.second) second) i)
 noted-longer p matched settled first second client (Rescind reference) reply named =
     let same : reference ≡ p.reference = cc in
@@ -89,7 +89,7 @@ noted-longer p matched settled first second client (Rescind reference) reply nam
     and-true : (a b : Bool) → (a || (b && true)) ≡ (a || b)
     and-true a true = refl
     and-true a false = refl
-noted-longer p matched settled first second client (Instruct reference other sell sell_amt buy buy_amt) _ named =
+noted-longer p matched settled first second client (Instruct asked) _ named =
     λ i. as_kept p (sym (or-false matched) i) settled (sym (or-none (client == p.first) first) i) (sym (or-none (client == p.second) second) i)
 noted-longer p matched settled first second client _ reply named = absurd (cc named)
 
@@ -107,9 +107,9 @@ record Opens (client : ℕ) (cmd : Cmd) (reply : Reply) (p : Pair) : Type 0 wher
   noted : (k : KeptPair) → noted_by client cmd reply k ≡ k
 
 opened-says : (client : ℕ) (cmd : Cmd) (reply : Reply) (p : Pair) → opened_by client cmd reply ≡ Some p → Opens client cmd reply p
-opened-says client (Instruct reference other sell sell_amt buy buy_amt) Done p opened =
-    let same : reference ≡ p.reference = cc in record { named = ap Some same; noted = λ k. refl }
-opened-says client (Instruct reference other sell sell_amt buy buy_amt) _ p opened = absurd (cc opened)
+opened-says client (Instruct asked) Done p opened =
+    let same : asked.reference ≡ p.reference = cc in record { named = ap Some same; noted = λ k. refl }
+opened-says client (Instruct asked) _ p opened = absurd (cc opened)
 opened-says client _ reply p opened = absurd (cc opened)
 
 -- the pair that a command names
@@ -297,7 +297,7 @@ put-settled entries now p are known =
 
 -- those of a line that wait, by what is kept
 pub waiting-kept : (entries : List Entry) (done line : List Pair) → AllByRecursion (λ p. pair_of entries p.reference ≡ Some p) line
-    → filter (λ p. is_waiting (by_reference (pair_with entries done) (pairs entries)) p) line ≡ waiting entries done line
+    → filter (λ p. is_waiting (by_reference (pair_with entries done) (pairs entries)) p) line ≡ waiting_pairs entries done line
 waiting-kept entries done line known =
     filter-same (λ p. is_waiting (by_reference (pair_with entries done) (pairs entries)) p) (λ p. still_waits (pair_with entries done p)) line
     (each-waits line known)

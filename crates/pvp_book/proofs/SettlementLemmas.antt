@@ -11,8 +11,8 @@ use Rattle.pvp_types.specs.declared.command.Cmd.{Cmd}
 use Rattle.pvp_types.specs.declared.command.Cmd.TheVariants.{Settle}
 use Rattle.pvp_book.specs.declared.entry.Entry.{Entry}
 use Rattle.pvp_book.specs.declared.pair.Pair.{Pair}
-use Rattle.pvp_book.specs.Pairs.{matched_by, matched, has_reference, has_asked, is_rescission, both_have_asked}
-use Rattle.pvp_book.specs.Settlement.{both_pass, candidates, pass, taken_by, settled_after, settled}
+use Rattle.pvp_book.specs.Pairs.{matched_by, matched_pairs, has_reference, has_asked, is_rescission, both_have_asked}
+use Rattle.pvp_book.specs.Settlement.{both_pass, candidates, pass, taken_by, settled_after, settled_pairs}
 use Rattle.pvp_book.specs.Bounds.{IsWithinMatched}
 
 pub append-nil : {X : Type 0} (xs : List X) → xs ++ [] ≡ xs
@@ -32,8 +32,8 @@ settled_after-push setup entries done (r ∷ rest) e =
 
 -- one more entry settles what its command takes
 pub settled-push : (setup : Setup) (entries : List Entry) (e : Entry)
-    → settled setup (entries ++ e ∷ []) ≡ settled setup entries ++ taken_by setup entries (settled setup entries) e.cmd
-unfolding settled
+    → settled_pairs setup (entries ++ e ∷ []) ≡ settled_pairs setup entries ++ taken_by setup entries (settled_pairs setup entries) e.cmd
+unfolding settled_pairs
 settled-push setup entries e = settled_after-push setup [] [] entries e
 
 sum-filter-cons : (f : Pair → ℕ) (q : Pair → Bool) (p : Pair) (ps : List Pair)
@@ -179,9 +179,9 @@ still-offered entries e done taken p h =
 
 -- one more entry keeps what is settled and offered within what is matched
 pub IsWithinMatched-push : (setup : Setup) (entries : List Entry) (done : List Pair) (e : Entry)
-    → IsWithinMatched done (candidates entries done) (matched entries)
+    → IsWithinMatched done (candidates entries done) (matched_pairs entries)
     → IsWithinMatched (done ++ taken_by setup entries done e.cmd) (candidates (entries ++ e ∷ []) (done ++ taken_by setup entries done e.cmd))
-    (matched (entries ++ e ∷ []))
+    (matched_pairs (entries ++ e ∷ []))
 unfolding without
 IsWithinMatched-push setup entries done e is = record {
   sums = λ f.
@@ -189,19 +189,21 @@ IsWithinMatched-push setup entries done e is = record {
       let taken = taken_by setup entries done e.cmd in
       let keeps = λ (p : Pair). not (has_reference (done ++ taken) p.reference) && not (both_have_asked (entries ++ e ∷ []) p) in
       let kept = λ (p : Pair). not (has_reference done p.reference) && not (both_have_asked entries p) in
-      let more : matched (entries ++ e ∷ []) ≡ matched entries ++ new = filter_map-append (λ (x : Entry). matched_by x.client x.cmd x.reply) entries (e ∷ []) in
-      let split : sum_by f (filter keeps (matched (entries ++ e ∷ []))) ≡ sum_by f (filter keeps (matched entries)) + sum_by f (filter keeps new) =
-      ap (λ ps. sum_by f (filter keeps ps)) more ∙ ap (sum_by f) (filter-append keeps (matched entries) new)
-      ∙ sum_by-append f (filter keeps (matched entries)) (filter keeps new) in
-      let all : sum_by f (matched (entries ++ e ∷ [])) ≡ sum_by f (matched entries) + sum_by f new =
-      ap (sum_by f) more ∙ sum_by-append f (matched entries) new in
+      let more : matched_pairs (entries ++ e ∷ []) ≡ matched_pairs entries ++ new =
+      filter_map-append (λ (x : Entry). matched_by x.client x.cmd x.reply) entries (e ∷ []) in
+      let split : sum_by f (filter keeps (matched_pairs (entries ++ e ∷ []))) ≡ sum_by f (filter keeps (matched_pairs entries)) + sum_by f (filter keeps new) =
+      ap (λ ps. sum_by f (filter keeps ps)) more ∙ ap (sum_by f) (filter-append keeps (matched_pairs entries) new)
+      ∙ sum_by-append f (filter keeps (matched_pairs entries)) (filter keeps new) in
+      let all : sum_by f (matched_pairs (entries ++ e ∷ [])) ≡ sum_by f (matched_pairs entries) + sum_by f new =
+      ap (sum_by f) more ∙ sum_by-append f (matched_pairs entries) new in
       let here = sum-filter-part f keeps new in
-      let old = sum-filter-filter f keeps kept (λ p. not (has_reference taken p.reference)) (matched entries) (λ p h. still-offered entries e done taken p h) in
+      let old =
+      sum-filter-filter f keeps kept (λ p. not (has_reference taken p.reference)) (matched_pairs entries) (λ p h. still-offered entries e done taken p h) in
       let part = taken-within setup entries done e.cmd f in
       let before = is.sums f in
       let now = sum_by-append f done taken in
       omega arith;
 }
 
-pub IsWithinMatched-nil : IsWithinMatched [] (candidates [] []) (matched [])
+pub IsWithinMatched-nil : IsWithinMatched [] (candidates [] []) (matched_pairs [])
 IsWithinMatched-nil = record { sums = λ f. omega arith }

@@ -12,7 +12,7 @@ use Rattle.pvp_book.specs.declared.kept_pair.KeptPair.{KeptPair}
 use Rattle.pvp_book.specs.Pairs.{has_reference}
 use Rattle.pvp_book.specs.Ledger.{state_with, is_state}
 use Rattle.pvp_book.specs.KeptPair.{pair_with, by_reference, state_kept, pair_in, pair_put}
-use Rattle.pvp_book.specs.Tally.{is_at, counted}
+use Rattle.pvp_book.specs.Tally.{is_at, count_in_state}
 use Rattle.pvp_book.proofs.PassLemmas.{AreDistinct}
 
 pub length-kept : {X : Type 0} (b : Bool) (p : X) (ps : List X) → length (cond b (p ∷ ps) ps) ≡ (if b then 1 else 0) + length ps
@@ -21,22 +21,23 @@ length-kept false p ps = omega arith
 
 -- where no pair has the reference, none moves
 same-counted : (t u : Pair → PairState) (s : PairState) (r : ℕ) (ps : List Pair) → has_reference ps r ≡ false → ((p : Pair) → (p.reference ≡ r → ⊥) → t p ≡ u p)
-    → counted u s ps ≡ counted t s ps
+    → count_in_state u s ps ≡ count_in_state t s ps
 same-counted t u s r [] none same = refl
 same-counted t u s r (p ∷ ps) none same = by (p.reference == r) refl none (λ rest. same-counted t u s r ps rest same)
   where
-    by : (b : Bool) → (p.reference == r) ≡ b → (b || has_reference ps r) ≡ false → (has_reference ps r ≡ false → counted u s ps ≡ counted t s ps)
-        → counted u s (p ∷ ps) ≡ counted t s (p ∷ ps)
+    by : (b : Bool) → (p.reference == r) ≡ b → (b || has_reference ps r) ≡ false → (has_reference ps r ≡ false → count_in_state u s ps ≡ count_in_state t s ps)
+        → count_in_state u s (p ∷ ps) ≡ count_in_state t s (p ∷ ps)
     by true is none rest = absurd (cc none)
     by false is none rest =
         length-kept (is_state (u p) s) p (filter (λ q. is_state (u q) s) ps)
-        ∙ ap (λ x. (if is_state x s then 1 else 0) + counted u s ps) (sym (same p (eqb-false p.reference r is)))
+        ∙ ap (λ x. (if is_state x s then 1 else 0) + count_in_state u s ps) (sym (same p (eqb-false p.reference r is)))
         ∙ ap (λ n. (if is_state (t p) s then 1 else 0) + n) (rest none)
         ∙ sym (length-kept (is_state (t p) s) p (filter (λ q. is_state (t q) s) ps))
 
 -- one pair moves
 pub one-moved : (t u : Pair → PairState) (s : PairState) (r : ℕ) (ps : List Pair) → AreDistinct ps → ((p : Pair) → (p.reference ≡ r → ⊥) → t p ≡ u p)
-    → counted u s ps + is_at (option_map t (find (λ p. r == p.reference) ps)) s ≡ counted t s ps + is_at (option_map u (find (λ p. r == p.reference) ps)) s
+    → count_in_state u s ps + is_at (option_map t (find (λ p. r == p.reference) ps)) s
+    ≡ count_in_state t s ps + is_at (option_map u (find (λ p. r == p.reference) ps)) s
 unfolding AreDistinct
 one-moved t u s r [] are same = refl
 one-moved t u s r (p ∷ ps) are same =
@@ -44,7 +45,7 @@ one-moved t u s r (p ∷ ps) are same =
     (length-kept (is_state (u p) s) p (filter (λ q. is_state (u q) s) ps))
     (one-moved t u s r ps are.1 same)
   where
-    rest : (r == p.reference) ≡ true → counted u s ps ≡ counted t s ps
+    rest : (r == p.reference) ≡ true → count_in_state u s ps ≡ count_in_state t s ps
     rest is = same-counted t u s r ps (subst (λ k. has_reference ps k ≡ false) (sym (eqb-true r p.reference is)) are.0) same
 
     joined : (x y m n cu ct : ℕ) → cu ≡ x + m → ct ≡ y + n → m ≡ n → cu + y ≡ ct + x
@@ -53,18 +54,20 @@ one-moved t u s r (p ∷ ps) are same =
     apart : (x y m n a b cu ct : ℕ) → cu ≡ x + m → ct ≡ y + n → x ≡ y → m + a ≡ n + b → cu + a ≡ ct + b
     apart x y m n a b cu ct is_u is_t heads tails = omega arith
 
-    by : (b : Bool) → (r == p.reference) ≡ b → counted t s (p ∷ ps) ≡ (if is_state (t p) s then 1 else 0) + counted t s ps
-        → counted u s (p ∷ ps) ≡ (if is_state (u p) s then 1 else 0) + counted u s ps
-        → counted u s ps + is_at (option_map t (find (λ q. r == q.reference) ps)) s ≡ counted t s ps + is_at (option_map u (find (λ q. r == q.reference) ps)) s
-        → counted u s (p ∷ ps) + is_at (option_map t (cond b (Some p) (find (λ q. r == q.reference) ps))) s
-        ≡ counted t s (p ∷ ps) + is_at (option_map u (cond b (Some p) (find (λ q. r == q.reference) ps))) s
+    by : (b : Bool) → (r == p.reference) ≡ b → count_in_state t s (p ∷ ps) ≡ (if is_state (t p) s then 1 else 0) + count_in_state t s ps
+        → count_in_state u s (p ∷ ps) ≡ (if is_state (u p) s then 1 else 0) + count_in_state u s ps
+        → count_in_state u s ps + is_at (option_map t (find (λ q. r == q.reference) ps)) s
+        ≡ count_in_state t s ps + is_at (option_map u (find (λ q. r == q.reference) ps)) s
+        → count_in_state u s (p ∷ ps) + is_at (option_map t (cond b (Some p) (find (λ q. r == q.reference) ps))) s
+        ≡ count_in_state t s (p ∷ ps) + is_at (option_map u (cond b (Some p) (find (λ q. r == q.reference) ps))) s
     by true is is_t is_u more =
-        joined (if is_state (u p) s then 1 else 0) (if is_state (t p) s then 1 else 0) (counted u s ps) (counted t s ps) (counted u s (p ∷ ps))
-        (counted t s (p ∷ ps)) is_u is_t (rest is)
+        joined (if is_state (u p) s then 1 else 0) (if is_state (t p) s then 1 else 0) (count_in_state u s ps) (count_in_state t s ps)
+        (count_in_state u s (p ∷ ps))
+        (count_in_state t s (p ∷ ps)) is_u is_t (rest is)
     by false is is_t is_u more =
-        apart (if is_state (u p) s then 1 else 0) (if is_state (t p) s then 1 else 0) (counted u s ps) (counted t s ps)
-        (is_at (option_map t (find (λ q. r == q.reference) ps)) s) (is_at (option_map u (find (λ q. r == q.reference) ps)) s) (counted u s (p ∷ ps))
-        (counted t s (p ∷ ps)) is_u is_t
+        apart (if is_state (u p) s then 1 else 0) (if is_state (t p) s then 1 else 0) (count_in_state u s ps) (count_in_state t s ps)
+        (is_at (option_map t (find (λ q. r == q.reference) ps)) s) (is_at (option_map u (find (λ q. r == q.reference) ps)) s) (count_in_state u s (p ∷ ps))
+        (count_in_state t s (p ∷ ps)) is_u is_t
         (ap (λ x. if is_state x s then 1 else 0) (sym (same p (λ e. eqb-false r p.reference is (sym e))))) more
 
 -- how many of the kept pairs are in a state
@@ -72,7 +75,7 @@ abbrev pub counted_in : PairState → List (ℕ × KeptPair) → ℕ
 counted_in s kept = length (filter (λ e. is_state (state_kept e.1) s) kept)
 
 pub counted-kept : (entries : List Entry) (done : List Pair) (s : PairState) (ps : List Pair)
-    → counted_in s (by_reference (pair_with entries done) ps) ≡ counted (state_with entries done) s ps
+    → counted_in s (by_reference (pair_with entries done) ps) ≡ count_in_state (state_with entries done) s ps
 counted-kept entries done s [] = refl
 counted-kept entries done s (p ∷ ps) =
     let here = is_state (state_with entries done p) s in

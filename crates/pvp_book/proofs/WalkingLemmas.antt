@@ -5,6 +5,7 @@ use Rattle.std.specs.List.{cons_option, AllByRecursion}
 use Rattle.std.proofs.lemmas.Bool.{and_parts, and_left, and_right, le-ltb, ltb-true}
 use Rattle.std.proofs.lemmas.List.Elements.{filter_map-append}
 use Rattle.pvp_types.specs.declared.setup.Setup.{Setup}
+use Rattle.pvp_types.specs.declared.command.Instruction.{Instruction}
 use Rattle.pvp_types.specs.declared.command.Cmd.{Cmd}
 use Rattle.pvp_types.specs.declared.command.Cmd.TheVariants.{Instruct}
 use Rattle.pvp_types.specs.declared.command.Reply.{Reply}
@@ -15,7 +16,7 @@ use Rattle.pvp_book.specs.declared.account.Account.{Account}
 use Rattle.pvp_book.specs.declared.entry.Entry.{Entry}
 use Rattle.pvp_book.specs.declared.pair.Pair.{Pair}
 use Rattle.pvp_book.specs.Accounts.{balance_with}
-use Rattle.pvp_book.specs.Pairs.{opened_by, pairs, pair_of, matched_by, matched, has_reference, both_have_asked}
+use Rattle.pvp_book.specs.Pairs.{opened_by, pairs, pair_of, matched_by, matched_pairs, has_reference, both_have_asked}
 use Rattle.pvp_book.specs.Settlement.{both_pass, candidates}
 use Rattle.pvp_book.specs.Bounds.{total, most_total, IsSmall}
 use Rattle.pvp_book.specs.Kept.{AreAccounts, CanSettle, both_pass_with, accounts_with}
@@ -36,7 +37,7 @@ use Rattle.pvp_book.specs.KeptPair.{pair_with, by_reference, state_kept, once_se
 use Rattle.pvp_book.specs.declared.tally.Tally.{Tally}
 use Rattle.pvp_book.specs.declared.pair.PairState.{PairState}
 use Rattle.pvp_book.specs.Ledger.{state_with, is_state}
-use Rattle.pvp_book.specs.Tally.{tallied, is_at}
+use Rattle.pvp_book.specs.Tally.{kept_count, is_at}
 use Rattle.pvp_book.proofs.PassLemmas.{AreDistinct}
 use Rattle.pvp_book.proofs.TallyLemmas.{counted_in, counted-kept, found-counted, tally-put}
 use Rattle.pvp_book.proofs.RecordLemmas.{found-kept, kept-settled, put-settled}
@@ -50,12 +51,12 @@ pub record IsTradable (setup : Setup) (p : Pair) : Type 0 where
 HasCurrencies : Setup → Pair → Type 0
 HasCurrencies setup p = (p.sell < length setup.currencies) × (p.buy < length setup.currencies)
 
-instruct-currencies : (setup : Setup) (entries : List Entry) (client reference other sell sell_amt buy buy_amt : ℕ)
-    → on_instruct setup entries client reference other sell sell_amt buy buy_amt ≡ Matched
-    → (has_currency setup sell && (has_currency setup buy && not (sell == buy))) ≡ true
-instruct-currencies setup entries client reference other sell sell_amt buy buy_amt e =
-    cases (is_member_number client) (has_member setup client && (has_member setup other && not (other == client)))
-    (has_currency setup sell && (has_currency setup buy && not (sell == buy))) _ e
+instruct-currencies : (setup : Setup) (entries : List Entry) (client : ℕ) (asked : Instruction)
+    → on_instruct setup entries client asked ≡ Matched
+    → (has_currency setup asked.sell && (has_currency setup asked.buy && not (asked.sell == asked.buy))) ≡ true
+instruct-currencies setup entries client asked e =
+    cases (is_member_number client) (has_member setup client && (has_member setup asked.other && not (asked.other == client)))
+    (has_currency setup asked.sell && (has_currency setup asked.buy && not (asked.sell == asked.buy))) _ e
   where
     cases : (yours member currency : Bool) (rest : Reply)
         → (if not yours then No NotYours else if not member then No UnknownMember else if not currency then No UnknownCurrency else rest) ≡ Matched
@@ -66,25 +67,25 @@ instruct-currencies setup entries client reference other sell sell_amt buy buy_a
 new-currencies : (setup : Setup) (entries : List Entry) (client : ℕ) (cmd : Cmd)
     → AllByRecursion (HasCurrencies setup) (cons_option (matched_by client cmd (answer setup entries client cmd)) [])
 unfolding answer HasCurrencies
-new-currencies setup entries client (Instruct reference other sell sell_amt buy buy_amt) =
-    by (on_instruct setup entries client reference other sell sell_amt buy buy_amt) refl
+new-currencies setup entries client (Instruct asked) =
+    by (on_instruct setup entries client asked) refl
   where
-    by : (r : Reply) → on_instruct setup entries client reference other sell sell_amt buy buy_amt ≡ r
+    by : (r : Reply) → on_instruct setup entries client asked ≡ r
         → AllByRecursion (λ (p : Pair). (p.sell < length setup.currencies) × (p.buy < length setup.currencies))
-        (cons_option (matched_by client (Instruct reference other sell sell_amt buy buy_amt) r) [])
+        (cons_option (matched_by client (Instruct asked) r) [])
     by Matched e =
-        let both = and_parts _ _ (instruct-currencies setup entries client reference other sell sell_amt buy buy_amt e) in
+        let both = and_parts _ _ (instruct-currencies setup entries client asked e) in
         ((ltb-true _ _ (and_parts _ _ both.1).0, ltb-true _ _ both.0), tt)
     by _ e = tt
 new-currencies setup entries client _ = tt
 
-known-currencies : (setup : Setup) (history : List Row) → AllByRecursion (HasCurrencies setup) (matched (book_of setup history))
+known-currencies : (setup : Setup) (history : List Row) → AllByRecursion (HasCurrencies setup) (matched_pairs (book_of setup history))
 known-currencies setup history =
-    reached setup (λ entries. AllByRecursion (HasCurrencies setup) (matched entries)) tt
+    reached setup (λ entries. AllByRecursion (HasCurrencies setup) (matched_pairs entries)) tt
     (λ entries client cmd held accepted.
     subst (AllByRecursion (HasCurrencies setup))
     (sym (filter_map-append (λ (x : Entry). matched_by x.client x.cmd x.reply) entries (entry_of setup entries client cmd ∷ [])))
-    (each-append (HasCurrencies setup) (matched entries) (cons_option (matched_by client cmd (answer setup entries client cmd)) []) held
+    (each-append (HasCurrencies setup) (matched_pairs entries) (cons_option (matched_by client cmd (answer setup entries client cmd)) []) held
     (new-currencies setup entries client cmd)))
     history
 
@@ -93,10 +94,10 @@ pub offered-tradable : (setup : Setup) (entries : List Entry) (done : List Pair)
     → AllByRecursion (IsTradable setup) (candidates entries done)
 unfolding HasCurrencies
 offered-tradable setup entries done history same =
-    each-filter (IsTradable setup) (λ p. not (has_reference done p.reference) && not (both_have_asked entries p)) (matched entries)
-    (subst (λ es. AllByRecursion (IsTradable setup) (matched es)) (sym same)
+    each-filter (IsTradable setup) (λ p. not (has_reference done p.reference) && not (both_have_asked entries p)) (matched_pairs entries)
+    (subst (λ es. AllByRecursion (IsTradable setup) (matched_pairs es)) (sym same)
     (each-both (IsExchange setup) (λ p. (p.sell < length setup.currencies) × (p.buy < length setup.currencies)) (IsTradable setup)
-    (matched (book_of setup history))
+    (matched_pairs (book_of setup history))
     (λ p exchange known. record { exchange = exchange; sell = known.0; buy = known.1 }) (sound setup history).exchange (known-currencies setup history)))
 
 each-at : (P : Pair → Type 0) (ps : List Pair) (k : ℕ) (nothing : Pair) → k < length ps → AllByRecursion P ps → P (get_or ps k nothing)
@@ -115,7 +116,7 @@ pub record IsOffered (setup : Setup) (entries : List Entry) (offered : List Pair
 -- The first i of the offered pairs were walked over, and the accounts are those with what it settled.
 pub record IsWalking (setup : Setup) (entries : List Entry) (start offered : List Pair) (most i count : ℕ) (now : List Pair) (members : List Account)
     : Type 0 where
-  pub walked : IsWalked setup entries start offered (matched entries) most i count now
+  pub walked : IsWalked setup entries start offered (matched_pairs entries) most i count now
   pub accounts : AreAccounts setup.currencies (length setup.members) (balance_with entries now) members
   pub counted : count ≤ i
 
@@ -125,7 +126,7 @@ pub record IsUnderWay (setup : Setup) (entries : List Entry) (start offered : Li
   pub now : List Pair
   pub walking : IsWalking setup entries start offered most i count now members
   pub pairs_kept : kept ≡ by_reference (pair_with entries now) (pairs entries)
-  pub tallied : (s : PairState) → tallied tally s ≡ counted_in s kept
+  pub tallied : (s : PairState) → kept_count tally s ≡ counted_in s kept
 
 module _ (setup : Setup) (entries : List Entry) (start offered : List Pair) (most i count : ℕ) (now : List Pair) (members : List Account) (nothing : Pair)
     (are : IsOffered setup entries offered) (within : i < length offered) (is : IsWalking setup entries start offered most i count now members) where
@@ -169,7 +170,8 @@ module _ (setup : Setup) (entries : List Entry) (start offered : List Pair) (mos
       let counted : count ≤ i = is.counted in
       record {
         walked =
-            IsWalked-taken setup entries start offered (matched entries) most i count now (get_or offered i nothing) here room (sym same ∙ passed) is.walked;
+            IsWalked-taken setup entries start offered (matched_pairs entries) most i count now (get_or offered i nothing) here room
+            (sym same ∙ passed) is.walked;
         accounts = AreAccounts-settled setup entries now members (get_or offered i nothing) are.valid tradable.exchange tradable.sell tradable.buy is.accounts;
         counted = omega arith;
       }
@@ -179,7 +181,7 @@ module _ (setup : Setup) (entries : List Entry) (start offered : List Pair) (mos
       let counted : count ≤ i = is.counted in
       record {
         walked =
-            IsWalked-passed setup entries start offered (matched entries) most i count now (get_or offered i nothing) here
+            IsWalked-passed setup entries start offered (matched_pairs entries) most i count now (get_or offered i nothing) here
             (and_right (nat_lt 0 (most - count)) _ (sym same ∙ failed)) is.walked;
         accounts = is.accounts;
         counted = omega arith;
@@ -189,7 +191,7 @@ module _ (setup : Setup) (entries : List Entry) (start offered : List Pair) (mos
   walking-past enough =
       let counted : count ≤ i = is.counted in
       record {
-        walked = IsWalked-passed setup entries start offered (matched entries) most i count now (get_or offered i nothing) here
+        walked = IsWalked-passed setup entries start offered (matched_pairs entries) most i count now (get_or offered i nothing) here
             (and_left (nat_lt 0 (most - count)) _ (le-ltb 0 (most - count) (omega arith))) is.walked;
         accounts = is.accounts;
         counted = omega arith;
@@ -215,13 +217,13 @@ module _ {setup : Setup} {entries : List Entry} {start offered : List Pair} {mos
 
   -- it is in the tally, and no count is great
   pub tally-there-here : (s : PairState)
-      → is_at (option_map state_kept (pair_in kept (Some (get_or offered i nothing).reference))) s ≤ tallied tally s
+      → is_at (option_map state_kept (pair_in kept (Some (get_or offered i nothing).reference))) s ≤ kept_count tally s
   tally-there-here s =
       let some = found-counted s kept (Some (get_or offered i nothing).reference) in
       let all = is.tallied s in
       omega arith
 
-  pub tally-few-here : length entries ≤ 65535 → (s : PairState) → tallied tally s ≤ 65535
+  pub tally-few-here : length entries ≤ 65535 → (s : PairState) → kept_count tally s ≤ 65535
   tally-few-here few s =
       let part = length-filter_map-le (λ (e : Entry). opened_by e.client e.cmd e.reply) entries in
       let same = length-filter (λ p. is_state (state_with entries is.now p) s) (pairs entries) in
@@ -230,8 +232,8 @@ module _ {setup : Setup} {entries : List Entry} {start offered : List Pair} {mos
       omega arith
 
   pub under-way-taken : (next : Tally)
-      → ((s : PairState) → tallied next s + is_at (option_map state_kept (pair_in kept (Some (get_or offered i nothing).reference))) s
-      ≡ tallied tally s + is_at (option_map state_kept (option_map once_settled (pair_in kept (Some (get_or offered i nothing).reference)))) s)
+      → ((s : PairState) → kept_count next s + is_at (option_map state_kept (pair_in kept (Some (get_or offered i nothing).reference))) s
+      ≡ kept_count tally s + is_at (option_map state_kept (option_map once_settled (pair_in kept (Some (get_or offered i nothing).reference)))) s)
       → count < most → both_pass_with setup (get_or offered i nothing) members ≡ true
       → IsUnderWay setup entries start offered most (i + 1) (count + 1)
       (pair_put kept (option_map once_settled (pair_in kept (Some (get_or offered i nothing).reference))))
@@ -247,7 +249,7 @@ module _ {setup : Setup} {entries : List Entry} {start offered : List Pair} {mos
         pairs_kept = (λ i. pair_put (is.pairs_kept i) (now_kept i)) ∙ put-settled entries is.now pair are.distinct known;
         tallied = λ s.
             tally-put s kept (Some pair.reference) (Some (pair_with entries (is.now ++ pair ∷ []) pair)) refl (λ e. absurd (cc e)) (is.tallied s)
-            (moves s ∙ ap (λ o. tallied tally s + is_at (option_map state_kept o) s) now_kept)
+            (moves s ∙ ap (λ o. kept_count tally s + is_at (option_map state_kept o) s) now_kept)
             ∙ ap (λ o. counted_in s (pair_put kept o)) (sym now_kept);
       }
 

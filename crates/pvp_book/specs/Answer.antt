@@ -2,6 +2,7 @@
 use Rattle.std.specs.Prelude.{ℕ, ◌+◌, ◌-ℤ◌, ◌==◌, ◌&&◌, ◌||◌, Bool, true, false, not, if◌then◌else◌, nat_lt, List, [], ◌∷◌, ◌++◌, length, Option, Some, None, ℤ, pos, int_lt, slice_set}
 use Rattle.std.specs.List.{list_any}
 use Rattle.pvp_types.specs.declared.setup.Setup.{Setup}
+use Rattle.pvp_types.specs.declared.command.Instruction.{Instruction}
 use Rattle.pvp_types.specs.declared.command.Cmd.{Cmd}
 use Rattle.pvp_types.specs.declared.command.Cmd.TheVariants.{Instruct, Rescind, Fund, Settle, PayOut, Paid, Returned}
 use Rattle.pvp_types.specs.declared.command.Reply.{Reply}
@@ -11,13 +12,14 @@ use Rattle.pvp_types.specs.declared.command.Reason.TheVariants.{NotYours, Unknow
 use Rattle.vr_types.specs.declared.limits.TheConstants.{MOST_MEMBERS}
 use Rattle.vr_types.specs.declared.row.RowOf.{RowOf}
 use Rattle.pvp_types.specs.Setup.{is_between}
+use Rattle.pvp_types.specs.Instruction.{mirror}
 use Rattle.pvp_book.specs.declared.entry.Entry.{Entry}
 use Rattle.pvp_book.specs.declared.pair.Pair.{Pair}
 use Rattle.pvp_book.specs.declared.pair.PairState.TheVariants.{Unmatched}
 use Rattle.pvp_book.specs.Accounts.{balance_with}
-use Rattle.pvp_book.specs.Pairs.{pair_of, has_reference, is_matched, is_rescinded}
+use Rattle.pvp_book.specs.Pairs.{pair_from, pair_of, has_reference, is_matched, is_rescinded}
 use Rattle.pvp_book.specs.Limits.{passes, balances_with}
-use Rattle.pvp_book.specs.Settlement.{candidates, pass, settled}
+use Rattle.pvp_book.specs.Settlement.{candidates, pass, settled_pairs}
 use Rattle.pvp_book.specs.Ledger.{Ledger, opening, most_amount, node_of, balance, figure, state_of, is_state, has_pay_in}
 use Rattle.pvp_book.specs.Orders.{orders, has_end}
 
@@ -40,12 +42,16 @@ is_amount amt = is_between 1 most_amount amt
 abbrev pub has_order : List Entry → ℕ → ℕ → Bool
 has_order entries c out = list_any (λ order. order.out == out) (orders entries c)
 
+-- two pairs of the same sides and the same words
+abbrev pub is_same_trade : Pair → Pair → Bool
+is_same_trade p q =
+    (p.first == q.first)
+    && ((p.second == q.second)
+    && ((p.sell == q.sell) && ((p.sell_amt == q.sell_amt) && ((p.buy == q.buy) && (p.buy_amt == q.buy_amt)))))
+
 -- an instruction whose words are the exact mirror of a pair's, from the pair's second side
-abbrev pub is_mirror : Pair → ℕ → ℕ → ℕ → ℕ → ℕ → ℕ → Bool
-is_mirror p client other sell sell_amt buy buy_amt =
-    (p.first == other)
-    && ((p.second == client)
-    && ((p.sell == buy) && ((p.sell_amt == buy_amt) && ((p.buy == sell) && (p.buy_amt == sell_amt)))))
+abbrev pub is_mirror : Pair → ℕ → Instruction → Bool
+is_mirror p client asked = is_same_trade p (pair_from asked.other (mirror client asked))
 
 -- a side of a pair: the first, or where it is matched the second
 abbrev pub is_side : List Entry → Pair → ℕ → Bool
@@ -64,28 +70,30 @@ unless ((fails, reason) ∷ more) reply = if fails then No reason else unless mo
 -- Each command's checks in their order: the first that fails is the answer.
 module _ (setup : Setup) (entries : List Entry) (client : ℕ) where
   -- an instruction under a reference that has a pair, or has none
-  abbrev pub on_mirror : Option Pair → ℕ → ℕ → ℕ → ℕ → ℕ → Reply
-  on_mirror None other sell sell_amt buy buy_amt = Done
-  on_mirror (Some p) other sell sell_amt buy buy_amt =
+  abbrev pub on_mirror : Option Pair → Instruction → Reply
+  on_mirror None asked = Done
+  on_mirror (Some p) asked =
       if (client == p.first) || not (is_state (state_of setup entries p) Unmatched) then No Repeated
-      else if not (is_mirror p client other sell sell_amt buy buy_amt) then No Mismatch
+      else if not (is_mirror p client asked) then No Mismatch
       else Matched
 
-  abbrev pub on_instruct : ℕ → ℕ → ℕ → ℕ → ℕ → ℕ → Reply
-  on_instruct reference other sell sell_amt buy buy_amt =
+  abbrev pub on_instruct : Instruction → Reply
+  on_instruct asked =
       if not (is_member_number client) then No NotYours
-      else if not (has_member setup client && (has_member setup other && not (other == client))) then No UnknownMember
-      else if not (has_currency setup sell && (has_currency setup buy && not (sell == buy))) then No UnknownCurrency
-      else if not (is_amount sell_amt && is_amount buy_amt) then No BadAmount
-      else if reference == 0 then No UnknownReference
-      else on_mirror (pair_of entries reference) other sell sell_amt buy buy_amt
+      else if not (has_member setup client && (has_member setup asked.other && not (asked.other == client)))
+      then No UnknownMember
+      else if not (has_currency setup asked.sell && (has_currency setup asked.buy && not (asked.sell == asked.buy)))
+      then No UnknownCurrency
+      else if not (is_amount asked.sell_amt && is_amount asked.buy_amt) then No BadAmount
+      else if asked.reference == 0 then No UnknownReference
+      else on_mirror (pair_of entries asked.reference) asked
 
   -- a rescission of a reference that has a pair, or has none
   abbrev pub on_pair : Option Pair → Reply
   on_pair None = No UnknownReference
   on_pair (Some p) =
       if not (is_side entries p client) then No NotYours
-      else if has_reference (settled setup entries) p.reference || is_rescinded entries p then No Late
+      else if has_reference (settled_pairs setup entries) p.reference || is_rescinded entries p then No Late
       else Done
 
   abbrev pub on_rescind : ℕ → Reply
@@ -109,7 +117,8 @@ module _ (setup : Setup) (entries : List Entry) (client : ℕ) where
   on_settle most =
       if not (client == 0) then No NotYours
       else Settled
-      (length (pass setup entries (settled setup entries) most (candidates entries (settled setup entries))))
+      (length (pass setup entries (settled_pairs setup entries) most
+      (candidates entries (settled_pairs setup entries))))
 
   abbrev pub pay_out_checks : ℕ → ℕ → List (Bool × Reason)
   pay_out_checks c amt =
@@ -118,7 +127,7 @@ module _ (setup : Setup) (entries : List Entry) (client : ℕ) where
       ∷ (not (has_currency setup c), UnknownCurrency)
       ∷ (not (is_amount amt), BadAmount)
       ∷ (int_lt (balance setup entries client c) (pos amt), Short)
-      ∷ (not (passes setup client (balances_less setup entries (settled setup entries) client c amt)), TestFails)
+      ∷ (not (passes setup client (balances_less setup entries (settled_pairs setup entries) client c amt)), TestFails)
       ∷ (int_lt (figure setup entries c) (pos amt), BankShort) ∷ []
 
   abbrev pub on_pay_out : ℕ → ℕ → Reply
@@ -136,7 +145,7 @@ module _ (setup : Setup) (entries : List Entry) (client : ℕ) where
   on_end c out = unless (end_checks c out) Done
 
   unfoldable pub answer : Cmd → Reply
-  answer (Instruct reference other sell sell_amt buy buy_amt) = on_instruct reference other sell sell_amt buy buy_amt
+  answer (Instruct asked) = on_instruct asked
   answer (Rescind reference) = on_rescind reference
   answer (Fund ccy pay member amt) = on_fund ccy pay member amt
   answer (Settle most) = on_settle most

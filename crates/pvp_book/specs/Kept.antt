@@ -22,7 +22,7 @@ use Rattle.pvp_book.specs.PayIns.{ArePaidIn}
 use Rattle.pvp_book.specs.declared.tally.Tally.{Tally}
 use Rattle.pvp_book.specs.Tally.{AreTallied}
 use Rattle.pvp_book.specs.Pairs.{pairs, pair_of, has_reference, both_have_asked}
-use Rattle.pvp_book.specs.Settlement.{candidates, settled}
+use Rattle.pvp_book.specs.Settlement.{candidates, settled_pairs}
 use Rattle.pvp_book.specs.Ledger.{Ledger, balance, figure}
 use Rattle.pvp_book.specs.Answer.{Row, book_of}
 use Rattle.pvp_book.specs.Bounds.{most_total, IsWithin, IsLedger}
@@ -42,14 +42,14 @@ pub record IsAccount (currencies : List Currency) (account : Account) : Type 0 w
   pub same : account ≡ account_of currencies account.balances
 
 -- the account once an amount of a currency is posted on it
-abbrev pub posted : List Currency → ℕ → ℤ → Account → Account
-posted currencies c amt account =
+abbrev pub after_posting : List Currency → ℕ → ℤ → Account → Account
+after_posting currencies c amt account =
     account_of currencies (slice_set account.balances c (slice_index_or account.balances c (pos 0) +ℤ amt))
 
 -- the account once an amount of one currency is sold for one of another
-abbrev pub traded : List Currency → ℕ → ℕ → ℕ → ℕ → Account → Account
-traded currencies sell sell_amt buy buy_amt account =
-    posted currencies buy (pos buy_amt) (posted currencies sell (neg_ℤ (pos sell_amt)) account)
+abbrev pub after_trade : List Currency → ℕ → ℕ → ℕ → ℕ → Account → Account
+after_trade currencies sell sell_amt buy buy_amt account =
+    after_posting currencies buy (pos buy_amt) (after_posting currencies sell (neg_ℤ (pos sell_amt)) account)
 
 -- the three tests, on what is kept
 abbrev pub is_within_limits : Member → Account → Bool
@@ -109,7 +109,7 @@ moved_in c (Some x) = if x.ccy == c then x.amt else pos 0
 abbrev pub accounts_after : List Currency → Option Movement → List Account → List Account
 accounts_after currencies None accounts = accounts
 accounts_after currencies (Some x) accounts =
-    slice_set accounts x.member (posted currencies x.ccy x.amt (account_at accounts x.member))
+    slice_set accounts x.member (after_posting currencies x.ccy x.amt (account_at accounts x.member))
 
 abbrev pub figures_after : Option Movement → List ℤ → List ℤ
 figures_after None figures = figures
@@ -127,10 +127,12 @@ pub record CanPost (setup : Setup) (accounts : List Account) (figures : List ℤ
 
 -- both members of a pair, with their accounts once it is settled
 abbrev pub first_with : List Currency → Pair → List Account → Account
-first_with currencies p accounts = traded currencies p.sell p.sell_amt p.buy p.buy_amt (account_at accounts p.first)
+first_with currencies p accounts =
+    after_trade currencies p.sell p.sell_amt p.buy p.buy_amt (account_at accounts p.first)
 
 abbrev pub second_with : List Currency → Pair → List Account → Account
-second_with currencies p accounts = traded currencies p.buy p.buy_amt p.sell p.sell_amt (account_at accounts p.second)
+second_with currencies p accounts =
+    after_trade currencies p.buy p.buy_amt p.sell p.sell_amt (account_at accounts p.second)
 
 abbrev pub accounts_with : List Currency → Pair → List Account → List Account
 accounts_with currencies p accounts =
@@ -159,13 +161,13 @@ pub record CanSettle (setup : Setup) (kept : List Account) (p : Pair) : Type 0 w
   pub small : (m : ℕ) → All (IsWithin most_total) (account_at kept m).balances
 
 -- those of some matched pairs that wait: they are neither settled nor taken back by both sides
-abbrev pub waiting : List Entry → List Pair → List Pair → List Pair
-waiting entries settled some =
+abbrev pub waiting_pairs : List Entry → List Pair → List Pair → List Pair
+waiting_pairs entries settled some =
     filter (λ p. not (has_reference settled p.reference) && not (both_have_asked entries p)) some
 
 -- A line of matched pairs has those that wait, in their order. It may have others too, which the next walk drops.
 pub record IsLine (entries : List Entry) (settled line : List Pair) : Type 0 where
-  pub waits : waiting entries settled line ≡ candidates entries settled
+  pub waits : waiting_pairs entries settled line ≡ candidates entries settled
   pub known : AllByRecursion (λ p. pair_of entries p.reference ≡ Some p) line
 
 -- what a book keeps beside its entries: the pairs by reference, with what came of each, the line of those that wait,
@@ -180,7 +182,7 @@ pub record Kept : Type 0 where
   pub tally : Tally
 
 -- each is what it is by the entries
-pub record IsKept (held : Ledger) (kept : Kept) : Type 0 where
+pub record KeepsLedger (held : Ledger) (kept : Kept) : Type 0 where
   pub ledger : IsLedger held
   -- the commands that it accepted
   pub history : List Row
@@ -191,5 +193,5 @@ pub record IsKept (held : Ledger) (kept : Kept) : Type 0 where
   pub pay_ins : ArePaidIn held.entries kept.paid
   pub orders : AreMade held.entries kept.table
   pub states : AreTallied held.setup held.entries kept.tally
-  pub line : IsLine held.entries (settled held.setup held.entries) kept.line
+  pub line : IsLine held.entries (settled_pairs held.setup held.entries) kept.line
   pub pairs : kept.pairs ≡ by_reference (kept_pair held.setup held.entries) (pairs held.entries)

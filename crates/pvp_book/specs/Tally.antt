@@ -8,11 +8,11 @@ use Rattle.pvp_book.specs.declared.pair.PairState.TheVariants.{Unmatched, Matche
 use Rattle.pvp_book.specs.declared.tally.Tally.{Tally}
 use Rattle.pvp_book.specs.Ledger.{is_state, pairs_in}
 
-abbrev pub tallied : Tally → PairState → ℕ
-tallied tally Unmatched = tally.unmatched
-tallied tally Matched = tally.matched
-tallied tally Settled = tally.settled
-tallied tally Rescinded = tally.rescinded
+abbrev pub kept_count : Tally → PairState → ℕ
+kept_count tally Unmatched = tally.unmatched
+kept_count tally Matched = tally.matched
+kept_count tally Settled = tally.settled
+kept_count tally Rescinded = tally.rescinded
 
 -- 1 where a pair is in a state
 abbrev pub is_at : Option PairState → PairState → ℕ
@@ -20,9 +20,9 @@ is_at None state = 0
 is_at (Some found) state = if is_state found state then 1 else 0
 
 -- how many pairs are in a state
-abbrev pub counted : (Pair → PairState) → PairState → List Pair → ℕ
-counted state_of state some = length (filter (λ p. is_state (state_of p) state) some)
+abbrev pub count_in_state : (Pair → PairState) → PairState → List Pair → ℕ
+count_in_state state_of state some = length (filter (λ p. is_state (state_of p) state) some)
 
 -- a tally of all pairs
 abbrev pub AreTallied : Setup → List Entry → Tally → Type 0
-AreTallied setup entries tally = (state : PairState) → tallied tally state ≡ length (pairs_in setup entries state)
+AreTallied setup entries tally = (state : PairState) → kept_count tally state ≡ length (pairs_in setup entries state)

@@ -2,7 +2,7 @@
 ghost use Rattle.std.specs.Prelude.{◌≡◌, ℕ, ◌*◌, ◌<◌, ◌≤◌, length, All, IfSome, pos, neg_ℤ};
 ghost use Rattle.pvp_types.specs.Setup.{IsValid};
 ghost use Rattle.pvp_book.specs.Limits.{standing_of};
-ghost use Rattle.pvp_book.specs.Kept.{IsAccount, posted, passes_with, movement_with};
+ghost use Rattle.pvp_book.specs.Kept.{IsAccount, after_posting, passes_with, movement_with};
 ghost use Rattle.pvp_book.specs.OrderTable.{order_at};
 ghost use Rattle.pvp_book.specs.Bounds.{amount_of, most_total, most_standing, IsWithin};
 
@@ -34,7 +34,7 @@ pub struct Movement {
 
 impl Account {
     ghost use Rattle.std.specs.Prelude.{slice_index_or};
-    ghost use Rattle.pvp_book.specs.Kept.{empty_account, traded, is_within_limits};
+    ghost use Rattle.pvp_book.specs.Kept.{empty_account, after_trade, is_within_limits};
 
     /// An account with nothing in it.
     pub fn empty() -> Self
@@ -55,13 +55,13 @@ impl Account {
     }
 
     /// The account once an amount of a currency is posted on it, which is below 0 where it is taken.
-    pub fn posted(&self, setup: &Setup, c: u8, amt: i64) -> Account
+    pub fn after_posting(&self, setup: &Setup, c: u8, amt: i64) -> Account
         requires valid { IsValid setup.now }
         requires account { IsAccount setup.now.currencies self.now }
         requires known { c < length setup.now.currencies }
         requires small { All (IsWithin (2 * most_total)) self.now.balances }
         requires amount { IsWithin most_total amt }
-        ensures { result ≡ posted setup.now.currencies c amt self.now }
+        ensures { result ≡ after_posting setup.now.currencies c amt self.now }
     {
         let currency = &setup.currencies.as_slice()[usize::from(c)];
         let before = self.balances[usize::from(c)];
@@ -70,14 +70,21 @@ impl Account {
         balances[usize::from(c)] = after;
         Account {
             balances,
-            value: self.value - standing(currency, before) + standing(currency, after),
+            value: self.value - standing_of(currency, before) + standing_of(currency, after),
             shortage: self.shortage - limits::shortage_of(currency, before)
                 + limits::shortage_of(currency, after),
         }
     }
 
     /// The account once an amount of one currency is sold for one of another.
-    pub fn traded(&self, setup: &Setup, sell: u8, sell_amt: u64, buy: u8, buy_amt: u64) -> Account
+    pub fn after_trade(
+        &self,
+        setup: &Setup,
+        sell: u8,
+        sell_amt: u64,
+        buy: u8,
+        buy_amt: u64,
+    ) -> Account
         requires valid { IsValid setup.now }
         requires account { IsAccount setup.now.currencies self.now }
         requires sell { sell < length setup.now.currencies }
@@ -85,10 +92,10 @@ impl Account {
         requires small { All (IsWithin most_total) self.now.balances }
         requires sell_amt { sell_amt ≤ most_total }
         requires buy_amt { buy_amt ≤ most_total }
-        ensures { result ≡ traded setup.now.currencies sell sell_amt buy buy_amt self.now }
+        ensures { result ≡ after_trade setup.now.currencies sell sell_amt buy buy_amt self.now }
     {
-        self.posted(setup, sell, -(sell_amt as i64))
-            .posted(setup, buy, buy_amt as i64)
+        self.after_posting(setup, sell, -(sell_amt as i64))
+            .after_posting(setup, buy, buy_amt as i64)
     }
 
     /// Whether a member with this account passes its tests.
@@ -102,7 +109,7 @@ impl Account {
 }
 
 /// What a balance in a currency adds to a member's value: its worth above 0, less its debt below.
-fn standing(currency: &Currency, balance: i64) -> i128
+fn standing_of(currency: &Currency, balance: i64) -> i128
     requires fair { (currency.now.rate ≤ 1000000) × (currency.now.haircut ≤ 9999) }
     requires small { IsWithin (3 * most_total) balance }
     ensures value { result ≡ standing_of (currency.now, balance) }
@@ -213,7 +220,7 @@ impl Accounts {
             return;
         };
         let at = usize::from(moved.member);
-        self.members[at] = self.members[at].posted(setup, moved.ccy, moved.amt);
+        self.members[at] = self.members[at].after_posting(setup, moved.ccy, moved.amt);
         self.figures[usize::from(moved.ccy)] += moved.amt;
     }
 
@@ -230,8 +237,8 @@ impl Accounts {
         let (sell, sell_amt) = (pair.sell, pair.sell_amt);
         let (buy, buy_amt) = (pair.buy, pair.buy_amt);
         let (at, other) = (usize::from(pair.first), usize::from(pair.second));
-        let first = self.members[at].traded(setup, sell, sell_amt, buy, buy_amt);
-        let second = self.members[other].traded(setup, buy, buy_amt, sell, sell_amt);
+        let first = self.members[at].after_trade(setup, sell, sell_amt, buy, buy_amt);
+        let second = self.members[other].after_trade(setup, buy, buy_amt, sell, sell_amt);
         if passes(setup, pair.first, &first) && passes(setup, pair.second, &second) {
             self.members[at] = first;
             self.members[other] = second;
@@ -249,10 +256,10 @@ impl Accounts {
         requires account { IsAccount setup.now.currencies (account_at self.now.members.items m) }
         requires small { All (IsWithin most_total) (account_at self.now.members.items m).balances }
         ensures { result ≡ passes_with setup.now m
-            (posted setup.now.currencies c (neg_ℤ (pos amt))
+            (after_posting setup.now.currencies c (neg_ℤ (pos amt))
             (account_at self.now.members.items m)) }
     {
-        let account = self.members[usize::from(m)].posted(setup, c, -(amt as i64));
+        let account = self.members[usize::from(m)].after_posting(setup, c, -(amt as i64));
         passes(setup, m, &account)
     }
 }

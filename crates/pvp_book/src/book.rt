@@ -1,18 +1,18 @@
 ghost use Rattle.std.specs.Prelude.{◌≡◌, ◌<◌, ◌≤◌, ◌+◌, ◌++◌, ◌∷◌, [], List, true, false, length, slice_get, IfOk, OnOk, IfSome};
 ghost use Rattle.pvp_book.specs.declared.entry.Entry.{Entry as Noted};
-ghost use Rattle.pvp_book.specs.Answer.{is_amount, is_refusal, is_mirror};
+ghost use Rattle.pvp_book.specs.Answer.{is_amount, is_refusal, is_same_trade};
 
 use crate::account::{self, Accounts};
 use crate::entry::Entry;
 use crate::kept_pair::{self, KeptPair, state_of};
 use crate::open::{self, OpenOrders};
 use crate::order_table::OrderTable;
-use crate::pair::{self, Pair, PairState};
+use crate::pair::{Pair, PairState};
 use crate::pay_ins::PayIns;
 use crate::tally::Tally;
 use crate::terms::{has_member, is_amount, node_of};
 use indexmap::IndexMap;
-use pvp_types::{Cmd, PayOrder, Reason, Reply, Setup};
+use pvp_types::{Cmd, Instruction, PayOrder, Reason, Reply, Setup};
 use std::alloc::{AllocError, Global};
 use std::marker::Model;
 use vr_types::MOST_MEMBERS;
@@ -43,7 +43,7 @@ pub struct Book {
 
 impl Model for Book {
     ghost use Rattle.pvp_book.specs.Ledger.{Ledger};
-    ghost use Rattle.pvp_book.specs.Kept.{Kept, IsKept};
+    ghost use Rattle.pvp_book.specs.Kept.{Kept, KeepsLedger};
 
     ghost Value = { Ledger };
 
@@ -54,7 +54,7 @@ impl Model for Book {
     } };
 
     ghost invariant = { λ b.
-        IsKept (record { setup = b.setup; entries = b.entries.items; applied = b.applied })
+        KeepsLedger (record { setup = b.setup; entries = b.entries.items; applied = b.applied })
         (record {
           pairs = b.pairs.entries;
           line = b.line.items;
@@ -73,8 +73,8 @@ impl Book {
     ghost use Rattle.pvp_book.specs.Pairs.{pair_of};
     ghost use Rattle.pvp_book.specs.KeptPair.{kept_pair};
     ghost use Rattle.pvp_book.specs.Limits.{passes};
-    ghost use Rattle.pvp_book.specs.Settlement.{settled};
-    ghost use Rattle.pvp_book.specs.Ledger.{opening, balance, figure, value, queue, open_orders, has_pay_in, outstanding, pair_state, pairs_in};
+    ghost use Rattle.pvp_book.specs.Settlement.{settled_pairs};
+    ghost use Rattle.pvp_book.specs.Ledger.{opening, balance, figure, value, queue, open_orders, has_pay_in, outstanding_orders, pair_state, pairs_in};
     ghost use Rattle.pvp_book.specs.Orders.{orders, has_end};
     ghost use Rattle.pvp_book.specs.Open.{orders_left};
     ghost use Rattle.pvp_book.specs.Answer.{answer_to, after, is_walk, balances_less, on_instruct, on_mirror, on_rescind, on_pair, on_fund, on_pay_out, on_end, has_order, has_member, has_currency};
@@ -140,7 +140,7 @@ impl Book {
     }
 
     /// How many matched pairs wait: those that are neither settled nor taken back by both sides.
-    pub fn queued(&self) -> usize
+    pub fn queue_length(&self) -> usize
         ensures { result ≡ length (queue self.now.setup self.now.entries) }
     {
         self.tally.get(PairState::Matched) as usize
@@ -159,7 +159,7 @@ impl Book {
     /// The outstanding order at a place, by currency, then number, and the client number of its
     /// node.
     pub fn open(&self, at: usize) -> Option<(u16, PayOrder)>
-        ensures { result ≡ slice_get (outstanding self.now.setup self.now.entries) at }
+        ensures { result ≡ slice_get (outstanding_orders self.now.setup self.now.entries) at }
     {
         open::outstanding_at(&self.table, self.setup.currency_count(), at)
     }
@@ -173,7 +173,7 @@ impl Book {
 
     /// How many orders of all currencies are outstanding.
     pub fn open_count(&self) -> usize
-        ensures { result ≡ length (outstanding self.now.setup self.now.entries) }
+        ensures { result ≡ length (outstanding_orders self.now.setup self.now.entries) }
     {
         open::count_outstanding(&self.table, self.setup.currency_count())
     }
@@ -226,7 +226,7 @@ impl Book {
     }
 
     /// Whether a currency's pay-in of this number is in the book.
-    pub fn paid_in(&self, c: u8, k: u32) -> bool
+    pub fn has_pay_in(&self, c: u8, k: u32) -> bool
         ensures { result ≡ has_pay_in self.now.entries c k }
     {
         self.pay_ins.has(c, k)
@@ -239,7 +239,7 @@ impl Book {
         ensures after { OnOk result (self.new ≡ after self.old 0 (Settle most)) }
     {
         let alloc = *self.entries.allocator();
-        let offered = kept_pair::waiting(alloc, self.line.as_slice(), &self.pairs)?;
+        let offered = kept_pair::waiting_pairs(alloc, self.line.as_slice(), &self.pairs)?;
         self.entries.reserve(1)?;
         let mut count = 0;
         for pair in &offered {
@@ -248,7 +248,7 @@ impl Book {
                     let before = kept_pair::find_pair(&self.pairs, Some(pair.reference));
                     let after = kept_pair::settle_pair(before);
                     kept_pair::put_pair(&mut self.pairs, after);
-                    self.tally = self.tally.moved(state_of(before), state_of(after));
+                    self.tally = self.tally.after_move(state_of(before), state_of(after));
                     count += 1;
                 }
             }
@@ -293,19 +293,13 @@ impl Book {
             }) }
     {
         self.entries.reserve(1)?;
-        self.pairs.reserve(1)?;
-        self.line.reserve(1)?;
         self.pay_ins.reserve()?;
         self.table.reserve(&entry)?;
+        kept_pair::note_in_pair(&mut self.pairs, &mut self.line, &mut self.tally, &entry)?;
         let moved = account::movement_by(&self.table, &entry);
-        let before = kept_pair::find_pair(&self.pairs, kept_pair::named_by(&entry));
-        let after = kept_pair::note_pair(before, &entry);
-        kept_pair::put_pair(&mut self.pairs, after);
-        self.tally = self.tally.moved(state_of(before), state_of(after));
-        pair::line_up(&mut self.line, &entry);
         self.pay_ins.note(&entry);
         self.table.add(&entry);
-        self.entries.push(entry)?;
+        self.entries.push_reserved(entry);
         self.accounts.post(&self.setup, moved);
         self.applied += 1;
         Ok(())
@@ -317,25 +311,7 @@ impl Book {
         ensures { result ≡ answer_to self.now client cmd }
     {
         match cmd {
-            Cmd::Instruct {
-                reference,
-                other,
-                sell,
-                sell_amt,
-                buy,
-                buy_amt,
-            } => {
-                let pair = Pair {
-                    reference,
-                    first: client,
-                    second: other,
-                    sell,
-                    sell_amt,
-                    buy,
-                    buy_amt,
-                };
-                self.on_instruct(&pair)
-            }
+            Cmd::Instruct(asked) => self.on_instruct(client, asked),
             Cmd::Rescind { reference } => self.on_rescind(client, reference),
             Cmd::Fund {
                 ccy,
@@ -349,19 +325,13 @@ impl Book {
         }
     }
 
-    /// Answers an instruction, given as the pair that it would open.
-    fn on_instruct(&self, asked: &Pair) -> Reply
-        ensures { result ≡ on_instruct self.now.setup self.now.entries asked.now.first
-            asked.now.reference asked.now.second asked.now.sell asked.now.sell_amt
-            asked.now.buy asked.now.buy_amt }
+    fn on_instruct(&self, client: u16, asked: Instruction) -> Reply
+        ensures { result ≡ on_instruct self.now.setup self.now.entries client asked }
     {
-        let other = asked.second;
-        if !(1..=MOST_MEMBERS).contains(&asked.first) {
+        let other = asked.other;
+        if !(1..=MOST_MEMBERS).contains(&client) {
             Reply::No(Reason::NotYours)
-        } else if !(self.has_member(asked.first)
-            && self.has_member(other)
-            && other != asked.first)
-        {
+        } else if !(self.has_member(client) && self.has_member(other) && other != client) {
             Reply::No(Reason::UnknownMember)
         } else if !(self.has_currency(asked.sell)
             && self.has_currency(asked.buy)
@@ -373,22 +343,24 @@ impl Book {
         } else if asked.reference == 0 {
             Reply::No(Reason::UnknownReference)
         } else {
-            self.on_mirror(asked)
+            self.on_mirror(client, asked)
         }
     }
 
     /// Answers an instruction under a reference that has a pair, or has none.
-    fn on_mirror(&self, asked: &Pair) -> Reply
-        ensures { result ≡ on_mirror self.now.setup self.now.entries asked.now.first
-            (pair_of self.now.entries asked.now.reference) asked.now.second asked.now.sell
-            asked.now.sell_amt asked.now.buy asked.now.buy_amt }
+    fn on_mirror(&self, client: u16, asked: Instruction) -> Reply
+        ensures { result ≡ on_mirror self.now.setup self.now.entries client
+            (pair_of self.now.entries asked.reference) asked }
     {
         match self.kept_pair_of(asked.reference) {
             None => Reply::Done,
             Some(kept) => {
-                if asked.first == kept.pair.first || !kept.state().is(PairState::Unmatched) {
+                if client == kept.pair.first || !kept.state().is(PairState::Unmatched) {
                     Reply::No(Reason::Repeated)
-                } else if !is_mirror(&kept.pair, asked) {
+                } else if !is_same_trade(
+                    &kept.pair,
+                    &Pair::new(asked.other, asked.mirror(client)),
+                ) {
                     Reply::No(Reason::Mismatch)
                 } else {
                     Reply::Matched
@@ -439,7 +411,7 @@ impl Book {
             Reply::No(Reason::BadAmount)
         } else if pay == 0 {
             Reply::No(Reason::UnknownReference)
-        } else if self.paid_in(c, pay) {
+        } else if self.has_pay_in(c, pay) {
             Reply::No(Reason::Repeated)
         } else {
             Reply::Done
@@ -475,7 +447,7 @@ impl Book {
         requires amount { is_amount amt ≡ true }
         ensures { result ≡ passes self.now.setup m
             (balances_less self.now.setup self.now.entries
-            (settled self.now.setup self.now.entries) m c amt) }
+            (settled_pairs self.now.setup self.now.entries) m c amt) }
     {
         self.accounts.passes_less(&self.setup, m, c, amt)
     }
@@ -529,15 +501,14 @@ fn is_refusal(reply: Reply) -> bool
     matches!(reply, Reply::No(_))
 }
 
-/// Whether an instruction, given as the pair that it would open, is the exact mirror of a pair's.
-fn is_mirror(pair: &Pair, asked: &Pair) -> bool
-    ensures { result ≡ is_mirror pair.now asked.now.first asked.now.second asked.now.sell
-        asked.now.sell_amt asked.now.buy asked.now.buy_amt }
+/// Whether two pairs have the same sides and the same words.
+fn is_same_trade(pair: &Pair, asked: &Pair) -> bool
+    ensures { result ≡ is_same_trade pair.now asked.now }
 {
-    pair.first == asked.second
-        && pair.second == asked.first
-        && pair.sell == asked.buy
-        && pair.sell_amt == asked.buy_amt
-        && pair.buy == asked.sell
-        && pair.buy_amt == asked.sell_amt
+    pair.first == asked.first
+        && pair.second == asked.second
+        && pair.sell == asked.sell
+        && pair.sell_amt == asked.sell_amt
+        && pair.buy == asked.buy
+        && pair.buy_amt == asked.buy_amt
 }

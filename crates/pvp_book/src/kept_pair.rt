@@ -1,13 +1,16 @@
 //! What a book keeps of each pair, to be looked up by reference.
-ghost use Rattle.std.specs.Prelude.{◌≡◌, ◌<◌, None, filter, nat_eq, slice_get, IfOk, IfSome};
+ghost use Rattle.std.specs.Prelude.{◌≡◌, ◌≢◌, ◌<◌, ◌≤◌, None, filter, nat_eq, slice_get, IfOk, IfSome, OnOk, OnErr};
 ghost use Rattle.std.specs.Map.{lookup};
 ghost use Rattle.std.specs.Option.{option_map};
 ghost use Rattle.indexmap.specs.IndexMap.{spare};
 ghost use Rattle.pvp_book.specs.KeptPair.{named_by, pair_in, pair_noted, pair_put, is_waiting};
-ghost use Rattle.pvp_book.specs.KeptPair.{state_kept, once_settled};
+ghost use Rattle.pvp_book.specs.KeptPair.{state_kept, once_settled, named_in, NotesPair};
+ghost use Rattle.pvp_book.specs.Tally.{kept_count, is_at};
+ghost use Rattle.pvp_book.specs.declared.pair.PairState.{PairState as State};
 
 use crate::entry::Entry;
 use crate::pair::{self, Pair, PairState};
+use crate::tally::Tally;
 use indexmap::IndexMap;
 use pvp_types::{Cmd, Reply};
 use std::alloc::{AllocError, Global};
@@ -83,7 +86,7 @@ impl KeptPair {
         ensures { result ≡ noted_by entry.now.client entry.now.cmd entry.now.reply self }
     {
         match (entry.cmd, entry.reply) {
-            (Cmd::Instruct { .. }, Reply::Matched) => KeptPair {
+            (Cmd::Instruct(_), Reply::Matched) => KeptPair {
                 matched: true,
                 ..self
             },
@@ -102,9 +105,42 @@ pub fn named_by(entry: &Entry) -> Option<u32>
     ensures { result ≡ named_by entry.now.cmd }
 {
     match entry.cmd {
-        Cmd::Instruct { reference, .. } | Cmd::Rescind { reference } => Some(reference),
+        Cmd::Instruct(asked) => Some(asked.reference),
+        Cmd::Rescind { reference } => Some(reference),
         _ => None,
     }
+}
+
+/// Notes an entry in the pair that it names: in what is kept of pairs, in the line of matched ones,
+/// and in how many are in each state. An entry that names no pair changes nothing there, and takes no
+/// memory. Nor does an `Err` change anything, which only want of memory gives.
+pub fn note_in_pair(
+    pairs: &mut IndexMap<u32, KeptPair>,
+    line: &mut Vec<Pair>,
+    tally: &mut Tally,
+    entry: &Entry,
+) -> Result<(), AllocError>
+    requires there { (state : State) → is_at (option_map state_kept
+        (named_in pairs.old.entries entry.now.cmd)) state ≤ kept_count tally.old state }
+    requires few { (state : State) → kept_count tally.old state ≤ 65535 }
+    ensures noted { OnOk result (NotesPair entry.now pairs.old.entries pairs.new.entries
+        line.old.items line.new.items tally.old tally.new) }
+    ensures names_one { OnErr result (named_by entry.now.cmd ≢ None) }
+    ensures same_pairs { OnErr result (pairs.new.entries ≡ pairs.old.entries) }
+    ensures same_line { OnErr result (line.new.items ≡ line.old.items) }
+    ensures same_tally { OnErr result (tally.new ≡ tally.old) }
+{
+    let Some(reference) = named_by(entry) else {
+        return Ok(());
+    };
+    pairs.reserve(1)?;
+    line.reserve(1)?;
+    let before = find_pair(pairs, Some(reference));
+    let after = note_pair(before, entry);
+    put_pair(pairs, after);
+    *tally = tally.after_move(state_of(before), state_of(after));
+    pair::line_up(line, entry);
+    Ok(())
 }
 
 /// The pair that is kept under a reference, if there is one.
@@ -163,7 +199,7 @@ fn is_waiting(pairs: &IndexMap<u32, KeptPair>, pair: &Pair) -> bool
 }
 
 /// Those of a line of matched pairs that wait, in their order.
-pub fn waiting(
+pub fn waiting_pairs(
     alloc: Global,
     line: &[Pair],
     pairs: &IndexMap<u32, KeptPair>,

@@ -35,7 +35,8 @@ impl PayIns {
         ensures { result ≡ has_come self.now c k }
     {
         let up_to = self.up_to.get(usize::from(c)).copied().unwrap_or(0);
-        0 < k && k <= up_to || self.others.contains(&(c, k))
+        // as a rule there is none beyond a gap, and then none is looked up
+        (0 < k && k <= up_to) || (!self.others.is_empty() && self.others.contains(&(c, k)))
     }
 
     /// Makes room for one more. An `Err`, which only want of memory gives, leaves what came.

@@ -1,7 +1,7 @@
 //! How many pairs have come how far.
 ghost use Rattle.std.specs.Prelude.{◌≡◌, ◌<◌, ◌≤◌, ◌+◌, IfSome};
 ghost use Rattle.pvp_book.specs.declared.pair.PairState.{PairState as State};
-ghost use Rattle.pvp_book.specs.Tally.{tallied, is_at};
+ghost use Rattle.pvp_book.specs.Tally.{kept_count, is_at};
 
 use crate::pair::PairState;
 
@@ -17,7 +17,7 @@ pub struct Tally {
 impl Tally {
     /// No pairs.
     pub fn new() -> Self
-        ensures { (state : State) → tallied result state ≡ 0 }
+        ensures { (state : State) → kept_count result state ≡ 0 }
     {
         Tally {
             unmatched: 0,
@@ -29,7 +29,7 @@ impl Tally {
 
     /// How many pairs are in a state.
     pub fn get(&self, state: PairState) -> u32
-        ensures { result ≡ tallied self.now state }
+        ensures { result ≡ kept_count self.now state }
     {
         match state {
             PairState::Unmatched => self.unmatched,
@@ -40,11 +40,12 @@ impl Tally {
     }
 
     /// The tally once a pair that was in one state, or was not there, is in another.
-    pub fn moved(&self, before: Option<PairState>, after: Option<PairState>) -> Tally
-        requires there { (state : State) → is_at before state ≤ tallied self.now state }
-        requires few { (state : State) → tallied self.now state ≤ 65535 }
+    pub fn after_move(&self, before: Option<PairState>, after: Option<PairState>) -> Tally
+        requires there { (state : State) → is_at before state ≤ kept_count self.now state }
+        requires few { (state : State) → kept_count self.now state ≤ 65535 }
         ensures { (state : State) →
-            tallied result state + is_at before state ≡ tallied self.now state + is_at after state }
+            kept_count result state + is_at before state
+            ≡ kept_count self.now state + is_at after state }
     {
         Tally {
             unmatched: self.step(PairState::Unmatched, before, after),
@@ -56,9 +57,9 @@ impl Tally {
 
     /// How many are in a state once a pair moved.
     fn step(&self, state: PairState, before: Option<PairState>, after: Option<PairState>) -> u32
-        requires there { is_at before state ≤ tallied self.now state }
-        requires few { tallied self.now state ≤ 65535 }
-        ensures { result + is_at before state ≡ tallied self.now state + is_at after state }
+        requires there { is_at before state ≤ kept_count self.now state }
+        requires few { kept_count self.now state ≤ 65535 }
+        ensures { result + is_at before state ≡ kept_count self.now state + is_at after state }
     {
         self.get(state) - one_at(before, state) + one_at(after, state)
     }

@@ -20,8 +20,8 @@ use Rattle.pvp_text.specs.declared.script.table.Kinds.TheVariants.{All}
 use Rattle.pvp_text.specs.declared.script.table.Word.{Word}
 use Rattle.pvp_text.specs.declared.script.table.Word.TheVariants as forms
 use Rattle.pvp_text.specs.declared.script.fields.Value.{Value}
-use Rattle.pvp_text.specs.ScriptTable.{text_of, fields_of, kinds_of, has, firsts, commands, written, told_by_command, command_form, told_by_first, form_of, form_fields}
-use Rattle.pvp_codes.specs.Near.{nearest}
+use Rattle.pvp_text.specs.ScriptTable.{text_of, fields_of, kinds_of, has, firsts, commands, find_word, told_by_command, command_form, told_by_first, form_of, form_fields}
+use Rattle.pvp_codes.specs.Near.{near_word}
 use Rattle.pvp_codes.specs.declared.broken.Breach.{Breach}
 use Rattle.pvp_codes.specs.declared.broken.Breach.TheVariants.{BeginsNoLine, NoCommand, Wrong}
 use Rattle.pvp_codes.specs.Broken.{number_fault, name_fault, other_kind, breaks, this_or, first_broken}
@@ -164,7 +164,7 @@ found_among P is (word ∷ words) one each at =
     ]
 
 -- all kinds of script have commands
-any_has : (command : List ℕ) (one : Word) → written command commands ≡ Some one → kinds_of one ≡ All
+any_has : (command : List ℕ) (one : Word) → find_word command commands ≡ Some one → kinds_of one ≡ All
 any_has command one at =
     found_among (λ word. kinds_of word ≡ All) (λ each. bytes_eq command (text_of each)) commands one
     (refl, (refl, (refl, (refl, (refl, (refl, (refl, tt))))))) at
@@ -195,7 +195,7 @@ not_known code kind setup said is other = rw is other
 
 -- a command that is told behind `do`
 command_fine : (code : LineCode) (kind : Kind) (setup : Setup) (first who command : List ℕ) (fields : List (List ℕ)) (found : Option Word)
-    → written command commands ≡ found → form_of (first ∷ who ∷ command ∷ fields) ≡ told_by_command found
+    → find_word command commands ≡ found → form_of (first ∷ who ∷ command ∷ fields) ≡ told_by_command found
     → (code ≡ line.WordCount → length (first ∷ who ∷ command ∷ fields) ≡ length (form_fields (told_by_command found)))
     → first_broken (breaks code kind setup) (form_fields (told_by_command found)) (first ∷ who ∷ command ∷ fields) ≡ None
     → Fine code (statement_at kind setup (first ∷ who ∷ command ∷ fields))
@@ -204,7 +204,7 @@ command_fine code kind setup first who command fields None at is count none =
     let q = parted (breaks code kind setup) Sender (Command ∷ []) who (command ∷ fields) p.1 in
     let r = parted (breaks code kind setup) Command [] command fields q.1 in
     not_known code kind setup (first ∷ who ∷ command ∷ fields) (rw is refl)
-    (λ same. let bad : Some (NoCommand (nearest command commands)) ≡ None = (rw (sym same, at) at r.0) in absurd cc)
+    (λ same. let bad : Some (NoCommand (near_word command commands)) ≡ None = (rw (sym same, at) at r.0) in absurd cc)
 command_fine code kind setup first who command fields (Some word) at is count none =
     of_word code kind setup word (first ∷ who ∷ command ∷ fields) is (λ _. rw (any_has command word at) refl) count none
 
@@ -214,20 +214,20 @@ do_fine : (code : LineCode) (kind : Kind) (setup : Setup) (first : List ℕ) (re
 do_fine code kind setup first [] is count none = too_few code kind setup first [] is count
 do_fine code kind setup first (who ∷ []) is count none = too_few code kind setup first (who ∷ []) is count
 do_fine code kind setup first (who ∷ command ∷ fields) is count none =
-    command_fine code kind setup first who command fields (written command commands) refl is count none
+    command_fine code kind setup first who command fields (find_word command commands) refl is count none
 
 kind_has : (is : Bool) (why : Breach) → (if is then None else Some why) ≡ None → is ≡ true
 kind_has true why none = refl
 kind_has false why none = absurd cc
 
 first_fine : (code : LineCode) (kind : Kind) (setup : Setup) (first : List ℕ) (rest : List (List ℕ)) (found : Option Word)
-    → written first firsts ≡ found → form_of (first ∷ rest) ≡ told_by_first found rest
+    → find_word first firsts ≡ found → form_of (first ∷ rest) ≡ told_by_first found rest
     → (code ≡ line.WordCount → length (first ∷ rest) ≡ length (form_fields (told_by_first found rest)))
     → first_broken (breaks code kind setup) (form_fields (told_by_first found rest)) (first ∷ rest) ≡ None → Fine code (statement_at kind setup (first ∷ rest))
 first_fine code kind setup first rest None at is count none =
     let p = parted (breaks code kind setup) First [] first rest none in
     not_known code kind setup (first ∷ rest) (rw is refl)
-    (λ same. let bad : Some (BeginsNoLine (nearest first firsts)) ≡ None = (rw (sym same, at) at p.0) in absurd cc)
+    (λ same. let bad : Some (BeginsNoLine (near_word first firsts)) ≡ None = (rw (sym same, at) at p.0) in absurd cc)
 first_fine code kind setup first rest (Some word) at is count none =
     elim (told_by word rest) [
       | inl is_do ↦ do_fine code kind setup first rest (rw is_do at is) (rw is_do at count) (rw is_do at none)
@@ -243,7 +243,7 @@ first_fine code kind setup first rest (Some word) at is count none =
 pub statement_fine : (code : LineCode) (kind : Kind) (setup : Setup) (first : List ℕ) (rest : List (List ℕ))
     → (code ≡ line.WordCount → length (first ∷ rest) ≡ length (form_fields (form_of (first ∷ rest))))
     → first_broken (breaks code kind setup) (form_fields (form_of (first ∷ rest))) (first ∷ rest) ≡ None → Fine code (statement_at kind setup (first ∷ rest))
-statement_fine code kind setup first rest count none = first_fine code kind setup first rest (written first firsts) refl refl count none
+statement_fine code kind setup first rest count none = first_fine code kind setup first rest (find_word first firsts) refl refl count none
 
 -- ---- the words that are counted
 

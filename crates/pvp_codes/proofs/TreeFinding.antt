@@ -13,8 +13,8 @@ use Rattle.pvp_types.specs.declared.setup.SetupFault.{SetupFault}
 use Rattle.pvp_types.specs.Setup.{fault_of}
 use Rattle.pvp_text.specs.declared.setup.TextFault.{TextFault}
 use Rattle.pvp_text.specs.declared.setup.TextFault.TheVariants.{NotJson, BadMember}
-use Rattle.pvp_text.specs.Reading.{◌>>=◌, kept}
-use Rattle.pvp_text.specs.SetupText.{Kind, needed, number, text, each_of, list, member, currency, bank_member, setup, unless_broken, setup_where, parts_where}
+use Rattle.pvp_text.specs.Reading.{◌>>=◌, value_or_refusal}
+use Rattle.pvp_text.specs.SetupText.{Kind, or_bad_member, number, text, each_of, list, member, currency, bank_member, setup, unless_broken, setup_where, parts_where}
 use Rattle.pvp_codes.specs.declared.tree.Flaw.TheVariants.{NotNumber, NotText}
 use Rattle.pvp_codes.specs.Tree as part
 use Rattle.pvp_codes.specs.Tree.{Found, Check, or_later, first_of, behind, here_unless, items_of, member_of, item_at, wrong_of}
@@ -44,14 +44,14 @@ none-behind path (Some found) = refl
 
 -- ---- numbers, texts, lists and members
 
-number_held : (held : Option ℕ) → is_ok (needed held) ≡ is_none (here_unless (is_some held) NotNumber)
+number_held : (held : Option ℕ) → is_ok (or_bad_member held) ≡ is_none (here_unless (is_some held) NotNumber)
 number_held (Some n) = refl
 number_held None = refl
 
 number_read : Agrees number part.number
 number_read d = number_held (option_and_then as_u64 (as_number d))
 
-text_held : (held : Option (List ℕ)) → is_ok (needed held >>= kept None) ≡ is_none (here_unless (is_some held) NotText)
+text_held : (held : Option (List ℕ)) → is_ok (or_bad_member held >>= value_or_refusal None) ≡ is_none (here_unless (is_some held) NotText)
 text_held (Some s) = refl
 text_held None = refl
 
@@ -67,7 +67,7 @@ each_read kind check agrees place (item d ds) =
     (λ x. formed (each_of kind None ds) (λ others. x ∷ others) ∙ each_read kind check agrees (place + 1) ds)
 
 list_held : {A : Type 0} (kind : Kind A) (check : Check) → Agrees kind check → (held : Option Items)
-    → is_ok (needed held >>= each_of kind None) ≡ is_none (items_of check held)
+    → is_ok (or_bad_member held >>= each_of kind None) ≡ is_none (items_of check held)
 list_held kind check agrees (Some ds) = each_read kind check agrees 0 ds
 list_held kind check agrees None = refl
 
@@ -75,7 +75,7 @@ list_read : {A : Type 0} (kind : Kind A) (check : Check) → Agrees kind check �
 list_read kind check agrees d = list_held kind check agrees (as_array d)
 
 member_held : {A : Type 0} (kind : Kind A) (check : Check) → Agrees kind check → (held : Option Data)
-    → is_ok (needed held >>= kind None) ≡ is_none (member_of check held)
+    → is_ok (or_bad_member held >>= kind None) ≡ is_none (member_of check held)
 member_held kind check agrees (Some d) = agrees d
 member_held kind check agrees None = refl
 

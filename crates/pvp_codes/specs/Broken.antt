@@ -11,8 +11,8 @@ use Rattle.pvp_text.specs.declared.script.table.Field.{Field}
 use Rattle.pvp_text.specs.declared.script.table.Field.TheVariants.{First, Command}
 use Rattle.pvp_text.specs.declared.script.table.Kinds.{Kinds}
 use Rattle.pvp_text.specs.declared.script.table.Word.{Word}
-use Rattle.pvp_text.specs.ScriptTable.{text_of, kinds_of, has, firsts, commands, written, kind_text, kinds_text}
-use Rattle.pvp_codes.specs.Near.{nearest}
+use Rattle.pvp_text.specs.ScriptTable.{text_of, kinds_of, has, firsts, commands, find_word, kind_text, kinds_text}
+use Rattle.pvp_codes.specs.Near.{near_word}
 use Rattle.pvp_codes.specs.declared.broken.Breach.{Breach}
 use Rattle.pvp_codes.specs.declared.broken.Breach.TheVariants.{BeginsNoLine, OtherKind, NoCommand, Wrong}
 
@@ -33,8 +33,8 @@ unknown_command (Some known) near = None
 unknown_command None near = Some (NoCommand near)
 
 abbrev pub unknown_word : Kind → Field → List ℕ → Option Breach
-unknown_word kind First word = unknown_first kind (written word firsts) (nearest word firsts)
-unknown_word kind Command word = unknown_command (written word commands) (nearest word commands)
+unknown_word kind First word = unknown_first kind (find_word word firsts) (near_word word firsts)
+unknown_word kind Command word = unknown_command (find_word word commands) (near_word word commands)
 unknown_word kind _ word = None
 
 -- ---- a word that may not stand in its form

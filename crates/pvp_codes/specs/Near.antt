@@ -5,10 +5,10 @@ use Rattle.pvp_text.specs.ScriptWords.{is_empty}
 use Rattle.pvp_text.specs.declared.script.table.Word.{Word}
 
 -- how many bytes two words have in common at their fronts
-abbrev pub common : List ℕ → List ℕ → ℕ
-common [] known = 0
-common (a ∷ word) [] = 0
-common (a ∷ word) (b ∷ known) = if a == b then 1 + common word known else 0
+abbrev pub common_length : List ℕ → List ℕ → ℕ
+common_length [] known = 0
+common_length (a ∷ word) [] = 0
+common_length (a ∷ word) (b ∷ known) = if a == b then 1 + common_length word known else 0
 
 -- the first two bytes changed places, and all else is the same
 abbrev pub is_swapped : List ℕ → List ℕ → Bool
@@ -24,8 +24,8 @@ has_slip word known =
 
 -- ONE SLIP AWAY: so behind what two words have in common
 abbrev pub is_slip : List ℕ → List ℕ → Bool
-is_slip word known = has_slip (drop (common word known) word) (drop (common word known) known)
+is_slip word known = has_slip (drop (common_length word known) word) (drop (common_length word known) known)
 
 -- the first of some words that is one slip away
-abbrev pub nearest : List ℕ → List Word → Option Word
-nearest word known = find (λ one. is_slip word (text_of one)) known
+abbrev pub near_word : List ℕ → List Word → Option Word
+near_word word known = find (λ one. is_slip word (text_of one)) known

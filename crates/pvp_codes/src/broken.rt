@@ -3,7 +3,7 @@
 ghost use Rattle.std.specs.Prelude.{◌≡◌, Some, None, IfNone, IfSome};
 ghost use Rattle.pvp_text.specs.ScriptWords.{words};
 ghost use Rattle.pvp_codes.specs.Broken as spec;
-ghost use Rattle.pvp_codes.specs.Near.{nearest};
+ghost use Rattle.pvp_codes.specs.Near.{near_word};
 ghost use Rattle.pvp_text.specs.ScriptTable as table;
 
 use crate::near::{near_command, near_first};
@@ -45,6 +45,7 @@ impl fmt::Display for Breach {
 }
 
 /// The first word of a line that breaks the rule of a code, and why; the line's form is given.
+// the lemma is for the loop's end, where no word is left
 #[tactic(auto, using(crate::proofs::BrokenWords::none_left))]
 pub fn first_broken<'a>(
     code: LineCode,
@@ -100,10 +101,10 @@ fn unknown_word(kind: Kind, field: Field, word: &[u8]) -> Option<Breach>
 
 /// Why a first word is unknown: it begins lines of other kinds of script, or of none.
 fn unknown_first(kind: Kind, word: &[u8]) -> Option<Breach>
-    ensures { result ≡ spec.unknown_first kind (table.written word.now table.firsts)
-        (nearest word.now table.firsts) }
+    ensures { result ≡ spec.unknown_first kind (table.find_word word.now table.firsts)
+        (near_word word.now table.firsts) }
 {
-    match Word::written(word, firsts()) {
+    match Word::find_word(word, firsts()) {
         Some(known) => other_kind(known.row().kinds, kind),
         None => Some(Breach::BeginsNoLine(near_first(word))),
     }
@@ -121,10 +122,10 @@ fn other_kind(kinds: Kinds, kind: Kind) -> Option<Breach>
 
 /// Why a command is unknown.
 fn unknown_command(word: &[u8]) -> Option<Breach>
-    ensures { result ≡ spec.unknown_command (table.written word.now table.commands)
-        (nearest word.now table.commands) }
+    ensures { result ≡ spec.unknown_command (table.find_word word.now table.commands)
+        (near_word word.now table.commands) }
 {
-    match Word::written(word, commands()) {
+    match Word::find_word(word, commands()) {
         Some(_) => None,
         None => Some(Breach::NoCommand(near_command(word))),
     }

@@ -8,20 +8,20 @@ use pvp_text::{Word, commands, firsts};
 
 /// The first word that begins lines and is one slip away from this.
 pub fn near_first(word: &[u8]) -> Option<Word>
-    ensures { result ≡ spec.nearest word.now table.firsts }
+    ensures { result ≡ spec.near_word word.now table.firsts }
 {
-    nearest(word, firsts())
+    near_word(word, firsts())
 }
 
 /// The first command that is one slip away from this word.
 pub fn near_command(word: &[u8]) -> Option<Word>
-    ensures { result ≡ spec.nearest word.now table.commands }
+    ensures { result ≡ spec.near_word word.now table.commands }
 {
-    nearest(word, commands())
+    near_word(word, commands())
 }
 
-fn nearest(word: &[u8], known: &[Word]) -> Option<Word>
-    ensures { result ≡ spec.nearest word.now known.now }
+fn near_word(word: &[u8], known: &[Word]) -> Option<Word>
+    ensures { result ≡ spec.near_word word.now known.now }
 {
     known
         .iter()
@@ -33,7 +33,7 @@ fn nearest(word: &[u8], known: &[Word]) -> Option<Word>
 fn is_slip(word: &[u8], known: &[u8]) -> bool
     ensures { result ≡ spec.is_slip word.now known.now }
 {
-    let at = common(word, known);
+    let at = common_length(word, known);
     has_slip(&word[at..], &known[at..])
 }
 
@@ -67,8 +67,8 @@ fn is_swapped(word: &[u8], known: &[u8]) -> bool
 }
 
 /// How many bytes two words have in common at their fronts.
-fn common(word: &[u8], known: &[u8]) -> usize
-    ensures exact { result ≡ spec.common word.now known.now }
+fn common_length(word: &[u8], known: &[u8]) -> usize
+    ensures exact { result ≡ spec.common_length word.now known.now }
     ensures within { (result ≤ length word.now) × (result ≤ length known.now) }
 {
     let mut at = 0;

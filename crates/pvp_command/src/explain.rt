@@ -37,7 +37,7 @@ listener, each site two connections with each other actor, and each connection t
 ///
 /// A fault that has a line and is left without it is answered why: a file cannot be read again, the setup that a script needs
 /// does not read any more, or memory was refused.
-pub fn explained<F: Files>(
+pub fn explanation_of<F: Files>(
     alloc: Global,
     files: &F,
     sources: Sources<'_>,

@@ -15,7 +15,7 @@ ghost use Rattle.pvp_command.specs.Lives.{IsFaultless};
 ghost use Rattle.pvp_command.specs.Request.{CheckWrites, CheckTells, BookWrites, BookTells, BooksScript, PlayWrites, PlayTells, ShowsScript, TellsRun, TellsScript};
 
 use crate::audits::audit;
-use crate::explain::{Sources, explained};
+use crate::explain::{Sources, explanation_of};
 use crate::fails::unknown_site;
 use crate::fault::Fault;
 use crate::files::{Files, Source, read_source};
@@ -160,7 +160,7 @@ fn tell_more<F: Files, E: Write>(
 {
     let status = tell(told, err);
     if let (true, Some(sources), Err(fault)) = (explains, sources, told) {
-        if let Ok(Some(line)) = explained(alloc, files, sources, fault) {
+        if let Ok(Some(line)) = explanation_of(alloc, files, sources, fault) {
             let _ = err.write_all(line.as_slice());
         }
     }

@@ -46,7 +46,7 @@ pub fn judge_gathered(alloc: Global, setup: &Setup, histories: Vec<History>) -> 
     ensures judges { JudgesHistories setup.now histories.items result }
     ensures tests { TellsWhy IsOfHistories result }
 {
-    match judged(alloc, setup, histories) {
+    match try_judge(alloc, setup, histories) {
         Ok(judgement) => judgement,
         Err(_) => Judgement::No {
             actor: 0,
@@ -57,7 +57,7 @@ pub fn judge_gathered(alloc: Global, setup: &Setup, histories: Vec<History>) -> 
 }
 
 /// The judgement of the histories of a bank's actors. `Err` where memory is refused.
-fn judged(alloc: Global, setup: &Setup, histories: Vec<History>) -> Result<Judgement, AllocError>
+fn try_judge(alloc: Global, setup: &Setup, histories: Vec<History>) -> Result<Judgement, AllocError>
     requires valid { IsValid setup.now }
     requires bank { AreOfTheBank setup.now histories.items }
     ensures judges { IfOk result (JudgesLeft setup.now histories.items) }

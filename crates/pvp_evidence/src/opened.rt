@@ -25,7 +25,7 @@ pub fn closed_of(
     ensures left { IfOk result (λ closed. IsLeftBy closed history) }
     ensures bank { IfOk result (IsOfBank setup.now) }
 {
-    let end = opened(alloc, setup, history.actor, history.opening)?;
+    let end = open_actor(alloc, setup, history.actor, history.opening)?;
     let History {
         actor,
         opening,
@@ -41,7 +41,7 @@ pub fn closed_of(
 }
 
 /// The bank's actor of a number, as it opens over this: a site alone over a cell. `Err` where memory is refused.
-fn opened(
+fn open_actor(
     alloc: Global,
     setup: &Setup,
     actor: u16,

@@ -16,7 +16,7 @@ use Rattle.pvp_wire.proofs.Numbers.{length-number}
 use Rattle.pvp_wire.proofs.Parts.{both, off}
 use Rattle.pvp_wire.proofs.Streams.{length-spelling}
 use Rattle.pvp_intake.specs.declared.link.Link.{Link}
-use Rattle.pvp_intake.specs.Sealing.{tag, sealed, AreEnds, IsSized, hello_text, hello_length, ping_text}
+use Rattle.pvp_intake.specs.Sealing.{tag, sealed_text, AreEnds, IsSized, hello_text, hello_length, ping_text}
 use Rattle.pvp_intake.specs.Fronts.{Said, Lives, Says, sealed_at, caller_at, hello_at, is_length, size_at, said_in, front_where, front}
 use Rattle.pvp_intake.proofs.Sealed.{sealed-length, same_sealed, there}
 
@@ -37,25 +37,25 @@ record IsText (text : List ℕ) : Type 0 where
   listed : is_length (big_number 4 text) ≡ true
   counts : length text ≡ 4 + big_number 4 text
 
-behind : (link : Link) (text rest : List ℕ) → 4 ≤ length text → big_number 4 (sealed link text ++ rest) ≡ big_number 4 text
+behind : (link : Link) (text rest : List ℕ) → 4 ≤ length text → big_number 4 (sealed_text link text ++ rest) ≡ big_number 4 text
 behind link text rest long = ap (big_number 4) (append_assoc text (tag link text) rest) ∙ big_from-append 4 text (tag link text ++ rest) long
 
-size-there : (link : Link) (text rest : List ℕ) → IsText text → size_at link (sealed link text ++ rest) ≡ Ok (Some (length text))
+size-there : (link : Link) (text rest : List ℕ) → IsText text → size_at link (sealed_text link text ++ rest) ≡ Ok (Some (length text))
 unfolding size_at
 size-there link text rest h =
-    let bytes = sealed link text ++ rest in
+    let bytes = sealed_text link text ++ rest in
     let number-is = behind link text rest h.long in
-    let long : nat_lt (length bytes) 4 ≡ false = le-ltb _ _ (omega (arith, length-append (sealed link text) rest, sealed-length link text, h.long)) in
+    let long : nat_lt (length bytes) 4 ≡ false = le-ltb _ _ (omega (arith, length-append (sealed_text link text) rest, sealed-length link text, h.long)) in
     let listed : is_length (big_number 4 bytes) ≡ true = ap is_length number-is ∙ h.listed in
     let size : 4 + big_number 4 bytes ≡ length text = omega (arith, number-is, h.counts) in
     let found : sealed_at link (4 + big_number 4 bytes) bytes ≡ Ok true = ap (λ (n : ℕ). sealed_at link n bytes) size ∙ there link text rest in
     rw (long, listed, found, size) refl
 
 front-there : (link : Link) (text rest : List ℕ) (said : Said) → IsText text → said_in false link text ≡ Ok said
-    → front link (sealed link text ++ rest) ≡ Ok (Some (said, length (sealed link text)))
+    → front link (sealed_text link text ++ rest) ≡ Ok (Some (said, length (sealed_text link text)))
 unfolding front_where
 front-there link text rest said h e =
-    let bytes = sealed link text ++ rest in
+    let bytes = sealed_text link text ++ rest in
     let front : take (length text) bytes ≡ text =
     ap (take (length text)) (append_assoc text (tag link text) rest) ∙ take_at text (tag link text ++ rest) (length text) refl in
     rw (size-there link text rest h, front, e, sealed-length link text) refl
@@ -83,7 +83,7 @@ says link s h from to =
     rw (long, read, eq-eqb s.envelope.from link.peer from, eq-eqb s.envelope.to link.me to) refl
 
 pub frame-again-there : (near far : Link) (s : Stamped) (rest : List ℕ) → AreEnds near far → IsSpelled s → s.envelope.from ≡ near.me → s.envelope.to ≡ near.peer
-    → front far (sealed near (spelling s) ++ rest) ≡ Ok (Some (Says s, length (sealed near (spelling s))))
+    → front far (sealed_text near (spelling s) ++ rest) ≡ Ok (Some (Says s, length (sealed_text near (spelling s))))
 frame-again-there near far s rest ends h from to =
     let found = front-there far (spelling s) rest (Says s) (frame-text s h) (says far s h (from ∙ ends.there) (to ∙ ends.back)) in
     rw (same_sealed near far (spelling s) ends) found
@@ -99,7 +99,7 @@ unfolding said_in
 lives link = rw (eq-eqb (length ping_text) 4 (length-number 4 0)) refl
 
 pub ping-again-there : (near far : Link) (rest : List ℕ) → AreEnds near far
-    → front far (sealed near ping_text ++ rest) ≡ Ok (Some (Lives, length (sealed near ping_text)))
+    → front far (sealed_text near ping_text ++ rest) ≡ Ok (Some (Lives, length (sealed_text near ping_text)))
 ping-again-there near far rest ends =
     let found = front-there far ping_text rest Lives ping-text (lives far) in
     rw (same_sealed near far ping_text ends) found
@@ -137,17 +137,17 @@ caller-there actor bank rest lt e =
     rw (t1, t2, t3, t4, who) refl
 
 pub caller-again-there : (near far : Link) (rest : List ℕ) → AreEnds near far → IsSized near
-    → caller_at far.bank (sealed near (hello_text near.me near.bank) ++ rest) ≡ Ok (Some near.me)
+    → caller_at far.bank (sealed_text near (hello_text near.me near.bank) ++ rest) ≡ Ok (Some near.me)
 caller-again-there near far rest ends sized =
     let text = hello_text near.me near.bank in
-    ap (λ (b : List ℕ). caller_at b (sealed near text ++ rest)) (sym ends.bank)
+    ap (λ (b : List ℕ). caller_at b (sealed_text near text ++ rest)) (sym ends.bank)
     ∙ ap (caller_at near.bank) (append_assoc text (tag near text) rest) ∙ caller-there near.me near.bank (tag near text ++ rest) sized.me sized.bank
 
 pub hello-again-there : (near far : Link) (rest : List ℕ) → AreEnds near far → IsSized near
-    → hello_at far (sealed near (hello_text near.me near.bank) ++ rest) ≡ Ok true
+    → hello_at far (sealed_text near (hello_text near.me near.bank) ++ rest) ≡ Ok true
 hello-again-there near far rest ends sized =
     let text = hello_text near.me near.bank in
-    let bytes = sealed near text ++ rest in
+    let bytes = sealed_text near text ++ rest in
     let size = length-hello near.me near.bank sized.bank in
     let found : sealed_at far (4 + hello_length) bytes ≡ Ok true =
     ap (λ (n : ℕ). sealed_at far n bytes) (sym size) ∙ ap (λ (b : List ℕ). sealed_at far (length text) (b ++ rest))

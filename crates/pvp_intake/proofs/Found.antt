@@ -19,7 +19,7 @@ use Rattle.pvp_wire.proofs.Streams.{length-spelling}
 use Rattle.pvp_intake.specs.declared.fault.LinkFault.{LinkFault}
 use Rattle.pvp_intake.specs.declared.link.Link.{Link}
 use Rattle.pvp_intake.specs.Sealing.{tag_size, hello_text, hello_length, ping_text}
-use Rattle.pvp_intake.specs.Fronts.{Said, Lives, Says, BeginsWith, IsHeard, sealed_at, caller_at, hello_of, hello_at, is_length, sized, size_at, addressed, said_of, said_in, with_size, front_of, front_where, front}
+use Rattle.pvp_intake.specs.Fronts.{Said, Lives, Says, BeginsWith, IsHeard, sealed_at, caller_at, hello_of, hello_at, is_length, size_if, size_at, addressed_envelope, said_of, said_in, with_size, front_of, front_where, front}
 use Rattle.pvp_intake.proofs.Sealed.{is_there}
 use Rattle.pvp_intake.proofs.Again.{length-first}
 
@@ -49,7 +49,7 @@ pub record IsSize (link : Link) (bytes : List ℕ) (n : ℕ) : Type 0 where
   pub counts : n ≡ 4 + big_number 4 bytes
   pub there : sealed_at link n bytes ≡ Ok true
 
-sized-is : (size : ℕ) (r : Result Bool LinkFault) (n : ℕ) → sized size r ≡ Ok (Some n) → (r ≡ Ok true) × (size ≡ n)
+sized-is : (size : ℕ) (r : Result Bool LinkFault) (n : ℕ) → size_if size r ≡ Ok (Some n) → (r ≡ Ok true) × (size ≡ n)
 sized-is size (Ok true) n e = (refl, cc)
 sized-is size (Ok false) n e = absurd cc
 sized-is size (Err why) n e = absurd cc
@@ -59,7 +59,7 @@ unfolding size_at
 size-is link bytes n e =
     let size = 4 + big_number 4 bytes in
     let a = asked (nat_lt (length bytes) 4) _ n e in
-    let b = passed (not (is_length (big_number 4 bytes))) _ (sized size (sealed_at link size bytes)) (Some n) a.1 in
+    let b = passed (not (is_length (big_number 4 bytes))) _ (size_if size (sealed_at link size bytes)) (Some n) a.1 in
     let c = sized-is size (sealed_at link size bytes) n b.1 in
     record { long = ltb-false _ _ a.0; counts = sym c.1; there = ap (λ (m : ℕ). sealed_at link m bytes) (sym c.1) ∙ c.0 }
 
@@ -103,7 +103,7 @@ lives-or : (b : Bool) (r : Result Said LinkFault) (s : Stamped) → tested b r �
 lives-or true r s e = absurd (cc)
 lives-or false r s e = e
 
-addressed-is : (link : Link) (x s : Stamped) → addressed link x ≡ Ok (Says s) → (x ≡ s) × (x.envelope.from ≡ link.peer) × (x.envelope.to ≡ link.me)
+addressed-is : (link : Link) (x s : Stamped) → addressed_envelope link x ≡ Ok (Says s) → (x ≡ s) × (x.envelope.from ≡ link.peer) × (x.envelope.to ≡ link.me)
 addressed-is link x s e =
     let a = passed (not (x.envelope.from == link.peer)) _ _ (Says s) e in
     let b = passed (not (x.envelope.to == link.me)) _ (said (Says x)) (Says s) a.1 in
@@ -146,7 +146,7 @@ frame-found link bytes s size fits e =
     (subst (λ (t : List ℕ). BeginsWith link t (n + tag_size link) bytes) r.0 begins) in
     record { begins = moved; spelled = r.1; sender = o.2; receiver = o.3 }
 
-addressed-says : (link : Link) (x : Stamped) → addressed link x ≡ Ok Lives → ⊥
+addressed-says : (link : Link) (x : Stamped) → addressed_envelope link x ≡ Ok Lives → ⊥
 addressed-says link x e =
     let a = passed (not (x.envelope.from == link.peer)) _ _ Lives e in
     let b = passed (not (x.envelope.to == link.me)) _ (said (Says x)) Lives a.1 in

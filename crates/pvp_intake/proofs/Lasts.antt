@@ -9,7 +9,7 @@ use Rattle.pvp_intake.specs.declared.fault.LinkFault.{LinkFault}
 use Rattle.pvp_intake.specs.declared.fault.LinkFault.TheVariants as fault
 use Rattle.pvp_intake.specs.declared.link.Link.{Link}
 use Rattle.pvp_intake.specs.Sealing.{tag_size, hello_length}
-use Rattle.pvp_intake.specs.Fronts.{sealed_at, caller_at, hello_of, hello_at, is_length, sized, size_at, said_in, with_size, front_of, front_where, front}
+use Rattle.pvp_intake.specs.Fronts.{sealed_at, caller_at, hello_of, hello_at, is_length, size_if, size_at, said_in, with_size, front_of, front_where, front}
 use Rattle.pvp_intake.proofs.Sealed.{is_there}
 use Rattle.pvp_intake.proofs.Found.{size-is}
 
@@ -45,9 +45,9 @@ size-lasts link bytes more h =
     let b = enough (nat_lt (length bytes) 4) _ _ h in
     let long : 4 ≤ length bytes = ltb-false _ _ b in
     let number-is : big_number 4 (bytes ++ more) ≡ n = big_from-append 4 bytes more long in
-    let there = sized (4 + n) (sealed_at link (4 + n) bytes) in
-    let again = sized (4 + n) (sealed_at link (4 + n) (bytes ++ more)) in
-    let inner : there ≢ Ok None → again ≡ there = λ k. ap (sized (4 + n)) (sealed-lasts link (4 + n) bytes more (λ e. k (ap (sized (4 + n)) e))) in
+    let there = size_if (4 + n) (sealed_at link (4 + n) bytes) in
+    let again = size_if (4 + n) (sealed_at link (4 + n) (bytes ++ more)) in
+    let inner : there ≢ Ok None → again ≡ there = λ k. ap (size_if (4 + n)) (sealed-lasts link (4 + n) bytes more (λ e. k (ap (size_if (4 + n)) e))) in
     let behind : cond (not (is_length n)) (Err fault.Length) there ≢ Ok None = λ e. h (rw b e) in
     rw (longer bytes more 4 long, b, number-is) (gate (not (is_length n)) (Ok None) (Err fault.Length) there again inner behind)
 

@@ -11,7 +11,7 @@ use Rattle.pvp_intake.specs.declared.fault.LinkFault.{LinkFault}
 use Rattle.pvp_intake.specs.declared.fault.LinkFault.TheVariants as fault
 use Rattle.pvp_intake.specs.declared.link.Link.{Link}
 use Rattle.pvp_intake.specs.Sealing.{tag, tag_size}
-use Rattle.pvp_intake.specs.Fronts.{Said, sealed_at, is_length, sized, size_at, of_wire, addressed, said_of, said_in, with_size, front_of, front_where, front}
+use Rattle.pvp_intake.specs.Fronts.{Said, sealed_at, is_length, size_if, size_at, of_wire, addressed_envelope, said_of, said_in, with_size, front_of, front_where, front}
 
 -- a test that tells no such fault passes on what is behind it
 past : {A : Type 0} (b : Bool) (first r : Result A LinkFault) (why : LinkFault) → (first ≡ Err why → ⊥) → (r ≡ Err why → ⊥) → cond b first r ≡ Err why → ⊥
@@ -30,7 +30,7 @@ sealed-never link size bytes =
     past (nat_lt (length bytes) (size + tag_size link)) _ _ fault.NoMemory (λ e. cc)
     (past (not (bytes_eq (tag link (take size bytes)) (take (tag_size link) (drop size bytes)))) _ _ fault.NoMemory (λ e. cc) (λ e. cc))
 
-sized-never : (size : ℕ) (r : Result Bool LinkFault) → (r ≡ Err fault.NoMemory → ⊥) → sized size r ≡ Err fault.NoMemory → ⊥
+sized-never : (size : ℕ) (r : Result Bool LinkFault) → (r ≡ Err fault.NoMemory → ⊥) → size_if size r ≡ Err fault.NoMemory → ⊥
 sized-never size (Ok true) h e = cc
 sized-never size (Ok false) h e = cc
 sized-never size (Err why) h e = h (ap told (other {A = Option ℕ} why fault.NoMemory e))
@@ -51,7 +51,7 @@ of_wire-never wire.Kind e = absurd cc
 of_wire-never wire.Field e = absurd cc
 of_wire-never wire.Length e = absurd cc
 
-addressed-never : (link : Link) (s : Stamped) → addressed link s ≡ Err fault.NoMemory → ⊥
+addressed-never : (link : Link) (s : Stamped) → addressed_envelope link s ≡ Err fault.NoMemory → ⊥
 addressed-never link s =
     past (not (s.envelope.from == link.peer)) _ _ fault.NoMemory (λ e. cc) (past (not (s.envelope.to == link.me)) _ _ fault.NoMemory (λ e. cc) (λ e. cc))
 

@@ -12,7 +12,7 @@ use Rattle.pvp_tags.specs.Hmac.{hmac, hmac_by_block}
 use Rattle.pvp_wire.proofs.Formats.{not-false}
 use Rattle.pvp_intake.specs.declared.fault.LinkFault.{LinkFault}
 use Rattle.pvp_intake.specs.declared.link.Link.{Link}
-use Rattle.pvp_intake.specs.Sealing.{tag_under, tag, size_under, tag_size, sealed, AreEnds}
+use Rattle.pvp_intake.specs.Sealing.{tag_under, tag, size_under, tag_size, sealed_text, AreEnds}
 use Rattle.pvp_intake.specs.Fronts.{sealed_at, BeginsWith}
 
 -- ---- a tag has its size
@@ -42,7 +42,7 @@ under-length (Some key) bank text = length-take 16 (hmac key (bank ++ text)) ∙
 pub tag-length : (link : Link) (text : List ℕ) → length (tag link text) ≡ tag_size link
 tag-length link text = under-length link.key link.bank text
 
-pub sealed-length : (link : Link) (text : List ℕ) → length (sealed link text) ≡ length text + tag_size link
+pub sealed-length : (link : Link) (text : List ℕ) → length (sealed_text link text) ≡ length text + tag_size link
 sealed-length link text = length-append text (tag link text) ∙ ap (λ (n : ℕ). length text + n) (tag-length link text)
 
 -- ---- both ends tag alike
@@ -50,19 +50,19 @@ sealed-length link text = length-append text (tag link text) ∙ ap (λ (n : ℕ
 pub same_tag : (near far : Link) (text : List ℕ) → AreEnds near far → tag near text ≡ tag far text
 same_tag near far text ends = ap (λ (k : Option (List ℕ)). tag_under k near.bank text) ends.key ∙ ap (λ (b : List ℕ). tag_under far.key b text) ends.bank
 
-pub same_sealed : (near far : Link) (text : List ℕ) → AreEnds near far → sealed near text ≡ sealed far text
+pub same_sealed : (near far : Link) (text : List ℕ) → AreEnds near far → sealed_text near text ≡ sealed_text far text
 same_sealed near far text ends = ap (λ (t : List ℕ). text ++ t) (same_tag near far text ends)
 
 -- ---- what was put is found
 
-pub there : (link : Link) (text rest : List ℕ) → sealed_at link (length text) (sealed link text ++ rest) ≡ Ok true
+pub there : (link : Link) (text rest : List ℕ) → sealed_at link (length text) (sealed_text link text ++ rest) ≡ Ok true
 unfolding sealed_at
 there link text rest =
     let t = tag link text in
-    let bytes = sealed link text ++ rest in
+    let bytes = sealed_text link text ++ rest in
     let shape : bytes ≡ text ++ (t ++ rest) = append_assoc text t rest in
     let size = sealed-length link text in
-    let long : nat_lt (length bytes) (length text + tag_size link) ≡ false = le-ltb _ _ (omega (arith, length-append (sealed link text) rest, size)) in
+    let long : nat_lt (length bytes) (length text + tag_size link) ≡ false = le-ltb _ _ (omega (arith, length-append (sealed_text link text) rest, size)) in
     let front : take (length text) bytes ≡ text = ap (take (length text)) shape ∙ take_at text (t ++ rest) (length text) refl in
     let behind : take (tag_size link) (drop (length text) bytes) ≡ t =
     ap (λ (b : List ℕ). take (tag_size link) (drop (length text) b)) shape
@@ -99,7 +99,7 @@ is_there link size bytes e =
     let b = passed (not (bytes_eq (tag link text) t)) _ _ a.1 in
     let long : size + tag_size link ≤ length bytes = ltb-false _ _ a.0 in
     let same : tag link text ≡ t = (bytes_eq-Decides (tag link text) t).0 (not-false _ b.0) in
-    let whole : take (size + tag_size link) bytes ≡ sealed link text = split size (tag_size link) bytes long ∙ ap (λ (x : List ℕ). text ++ x) (sym same) in
+    let whole : take (size + tag_size link) bytes ≡ sealed_text link text = split size (tag_size link) bytes long ∙ ap (λ (x : List ℕ). text ++ x) (sym same) in
     record {
       whole = whole;
       exact = sym (sealed-length link text ∙ (omega (arith, length-take size bytes, long)));

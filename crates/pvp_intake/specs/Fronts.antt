@@ -11,7 +11,7 @@ use Rattle.pvp_wire.specs.Spelling.{spelling}
 use Rattle.pvp_intake.specs.declared.fault.LinkFault.{LinkFault}
 use Rattle.pvp_intake.specs.declared.fault.LinkFault.TheVariants as fault
 use Rattle.pvp_intake.specs.declared.link.Link.{Link}
-use Rattle.pvp_intake.specs.Sealing.{tag, tag_size, sealed, hello_length}
+use Rattle.pvp_intake.specs.Sealing.{tag, tag_size, sealed_text, hello_length}
 
 -- a text of so many bytes stands there with its tag, or more bytes are wanted
 unfoldable pub sealed_at : Link → ℕ → List ℕ → Result Bool LinkFault
@@ -48,17 +48,17 @@ hello_at link bytes = hello_of link bytes (caller_at link.bank bytes)
 abbrev pub is_length : ℕ → Bool
 is_length len = (len == 0) || (nat_le 18 len && nat_le len most_length)
 
-abbrev pub sized : ℕ → Result Bool LinkFault → Result (Option ℕ) LinkFault
-sized size (Err why) = Err why
-sized size (Ok false) = Ok None
-sized size (Ok true) = Ok (Some size)
+abbrev pub size_if : ℕ → Result Bool LinkFault → Result (Option ℕ) LinkFault
+size_if size (Err why) = Err why
+size_if size (Ok false) = Ok None
+size_if size (Ok true) = Ok (Some size)
 
 -- how many bytes the frame or ping has that stands there with its tag, without that; none where more bytes are wanted
 unfoldable pub size_at : Link → List ℕ → Result (Option ℕ) LinkFault
 size_at link bytes =
     if nat_lt (length bytes) 4 then Ok None
     else if not (is_length (big_number 4 bytes)) then Err fault.Length
-    else sized (4 + big_number 4 bytes) (sealed_at link (4 + big_number 4 bytes) bytes)
+    else size_if (4 + big_number 4 bytes) (sealed_at link (4 + big_number 4 bytes) bytes)
 
 -- what a ping and a frame say
 pub data Said : Type 0 where
@@ -76,15 +76,15 @@ of_wire wire.Field = fault.Wire wire.Field
 of_wire wire.Length = fault.Wire wire.Length
 
 -- an envelope has to be from the link's peer and to this end
-abbrev pub addressed : Link → Stamped → Result Said LinkFault
-addressed link s =
+abbrev pub addressed_envelope : Link → Stamped → Result Said LinkFault
+addressed_envelope link s =
     if not (s.envelope.from == link.peer) then Err fault.Sender
     else if not (s.envelope.to == link.me) then Err fault.Receiver
     else Ok (Says s)
 
 abbrev pub said_of : Link → Result (Stamped × ℕ) WireFault → Result Said LinkFault
 said_of link (Err why) = Err (of_wire why)
-said_of link (Ok found) = addressed link found.0
+said_of link (Ok found) = addressed_envelope link found.0
 
 -- what a text says whose tag is right; read as if memory were refused for its rows, or as if it were not
 unfoldable pub said_in : Bool → Link → List ℕ → Result Said LinkFault
@@ -114,12 +114,13 @@ TakesMemory link bytes = front_where true link bytes ≡ Err fault.NoMemory
 
 -- a text that the near end put, with whatever follows it, is found at the far end as what it says
 abbrev pub IsFoundAt : Link → Link → List ℕ → List ℕ → Said → Type 0
-IsFoundAt far near text rest said = front far (sealed near text ++ rest) ≡ Ok (Some (said, length (sealed near text)))
+IsFoundAt far near text rest said =
+    front far (sealed_text near text ++ rest) ≡ Ok (Some (said, length (sealed_text near text)))
 
 -- these bytes begin with a text and its tag, which are so many
 pub record BeginsWith (link : Link) (text : List ℕ) (size : ℕ) (bytes : List ℕ) : Type 0 where
-  pub whole : take size bytes ≡ sealed link text
-  pub exact : size ≡ length (sealed link text)
+  pub whole : take size bytes ≡ sealed_text link text
+  pub exact : size ≡ length (sealed_text link text)
   pub within : size ≤ length bytes
 
 -- an envelope that is from the link's peer and to this end stands at the front, with the tag of its frame

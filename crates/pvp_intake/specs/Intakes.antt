@@ -14,9 +14,9 @@ said_by Ping = Lives
 said_by (Frame arrival) = Says arrival.stamped
 
 -- the same, with its size
-abbrev pub seen : Option (Piece × ℕ) → Option (Said × ℕ)
-seen None = None
-seen (Some x) = Some (said_by x.0, x.1)
+abbrev pub said_with_size : Option (Piece × ℕ) → Option (Said × ℕ)
+said_with_size None = None
+said_with_size (Some x) = Some (said_by x.0, x.1)
 
 -- A hello was taken, with its tag. Otherwise nothing changes.
 abbrev pub TakesHello : Link → List ℕ → Result Bool LinkFault → List ℕ → Type 0

@@ -22,8 +22,8 @@ abbrev pub tag_size : Link → ℕ
 tag_size link = size_under link.key
 
 -- A TEXT ON A LINK
-abbrev pub sealed : Link → List ℕ → List ℕ
-sealed link text = text ++ tag link text
+abbrev pub sealed_text : Link → List ℕ → List ℕ
+sealed_text link text = text ++ tag link text
 
 -- how many bytes of a hello its length counts: the number of an actor and the id of a bank
 abbrev pub hello_length : ℕ

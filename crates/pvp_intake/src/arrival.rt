@@ -32,7 +32,7 @@ impl Arrival {
     }
 
     /// What came.
-    pub fn stamped(&self) -> &Stamped
+    pub fn stamped_envelope(&self) -> &Stamped
         ensures is { result.now ≡ self.now.stamped }
         ensures sender { result.now.envelope.from ≡ self.now.peer }
         ensures receiver { result.now.envelope.to ≡ self.now.me }

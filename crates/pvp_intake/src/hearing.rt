@@ -80,7 +80,7 @@ pub fn hear_all<R: Read, H: Hearer, T: Wait>(
 fn end_with(intake: &Intake) -> LinkEnd
     ensures { result ≡ end_with intake.now }
 {
-    match intake.left() {
+    match intake.bytes_left() {
         0 => LinkEnd::End,
         left => LinkEnd::Cut(left),
     }

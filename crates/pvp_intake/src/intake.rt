@@ -1,11 +1,12 @@
 //! What came over a stream and is not taken yet.
-ghost use Rattle.std.specs.Prelude.{◌≡◌, ◌≤◌, drop, length};
+ghost use Rattle.std.specs.Prelude.{◌≡◌, length};
 
 use crate::arrival::Piece;
 use crate::fault::LinkFault;
 use crate::hello::{HELLO_BYTES, caller_at, hello_at};
 use crate::link::Link;
 use crate::piece::piece_at;
+use pvp_wire::drop_front;
 use std::alloc::{AllocError, Global};
 use std::marker::Model;
 
@@ -44,7 +45,7 @@ impl Intake {
     }
 
     /// How many bytes came and are not taken yet.
-    pub fn left(&self) -> usize
+    pub fn bytes_left(&self) -> usize
         ensures { result ≡ length self.now }
     {
         self.held.len() - self.used
@@ -93,17 +94,4 @@ impl Intake {
         self.used += size;
         Ok(Some(piece))
     }
-}
-
-/// Drops so many bytes from the front, and moves each of the others once.
-fn drop_front(held: &mut Vec<u8>, used: usize)
-    requires { used ≤ length held.old.items }
-    ensures { held.new.items ≡ drop used held.old.items }
-{
-    if used == 0 {
-        return;
-    }
-    let rest = held.len() - used;
-    held.copy_within(used.., 0);
-    held.truncate(rest);
 }

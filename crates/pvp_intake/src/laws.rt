@@ -4,29 +4,29 @@ ghost use Rattle.pvp_wire.specs.declared.stamped.Stamped.{Stamped};
 ghost use Rattle.pvp_wire.specs.Fits.{IsBytes, IsSpelled};
 ghost use Rattle.pvp_wire.specs.Spelling.{spelling};
 ghost use Rattle.pvp_intake.specs.declared.link.Link.{Link};
-ghost use Rattle.pvp_intake.specs.Sealing.{AreEnds, IsSized, sealed, hello_text, hello_length, ping_text, tag_size};
+ghost use Rattle.pvp_intake.specs.Sealing.{AreEnds, IsSized, sealed_text, hello_text, hello_length, ping_text, tag_size};
 ghost use Rattle.pvp_intake.specs.Fronts.{Lives, Says, IsFoundAt, BeginsWith, IsHeard, caller_at, hello_at, front};
 
 use crate::fault::LinkFault;
 
 /// What is put at one end of a link is found at the other, whatever follows it: an envelope from the one to the other, a
 /// ping, and the hello.
-pub fn again()
+pub fn put_is_found()
     ensures frame { (near far : Link) (stamped : Stamped) (rest : List ℕ) → AreEnds near far →
         IsSpelled stamped → stamped.envelope.from ≡ near.me → stamped.envelope.to ≡ near.peer →
         IsFoundAt far near (spelling stamped) rest (Says stamped) }
     ensures ping { (near far : Link) (rest : List ℕ) → AreEnds near far →
         IsFoundAt far near ping_text rest Lives }
     ensures caller { (near far : Link) (rest : List ℕ) → AreEnds near far → IsSized near →
-        caller_at far.bank (sealed near (hello_text near.me near.bank) ++ rest)
+        caller_at far.bank (sealed_text near (hello_text near.me near.bank) ++ rest)
         ≡ Ok (Some near.me) }
     ensures hello { (near far : Link) (rest : List ℕ) → AreEnds near far → IsSized near →
-        hello_at far (sealed near (hello_text near.me near.bank) ++ rest) ≡ Ok true }
+        hello_at far (sealed_text near (hello_text near.me near.bank) ++ rest) ≡ Ok true }
 {}
 
 /// What is found was put so, to the byte, with its tag: an envelope of the link's peer to this end, a ping, and the hello
 /// of the peer.
-pub fn found()
+pub fn found_was_put()
     ensures frame { (link : Link) (bytes : List ℕ) (stamped : Stamped) (size : ℕ) → IsBytes bytes →
         front link bytes ≡ Ok (Some (Says stamped, size)) → IsHeard link stamped size bytes }
     ensures ping { (link : Link) (bytes : List ℕ) (size : ℕ) → IsBytes bytes →

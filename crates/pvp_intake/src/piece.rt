@@ -1,8 +1,8 @@
 //! What stands at the front of what came over a link.
 ghost use Rattle.std.specs.Prelude.{◌≡◌, ◌≤◌, ◌+◌, length, IfOk, IfSome};
 ghost use Rattle.pvp_intake.specs.Sealing.{tag_size};
-ghost use Rattle.pvp_intake.specs.Fronts.{Gives, Finds, front_where, size_at, is_length, said_in, of_wire, addressed};
-ghost use Rattle.pvp_intake.specs.Intakes.{seen, said_by};
+ghost use Rattle.pvp_intake.specs.Fronts.{Gives, Finds, front_where, size_at, is_length, said_in, of_wire, addressed_envelope};
+ghost use Rattle.pvp_intake.specs.Intakes.{said_with_size, said_by};
 
 use crate::arrival::{Arrival, Piece};
 use crate::fault::LinkFault;
@@ -25,7 +25,8 @@ pub(crate) fn piece_at(
     bytes: &[u8],
     link: &Link,
 ) -> Result<Option<(Piece, usize)>, LinkFault>
-    ensures exact { Gives seen result (λ refused. front_where refused link.now bytes.now) }
+    ensures exact { Gives said_with_size result (λ refused.
+        front_where refused link.now bytes.now) }
     ensures within { IfOk result (λ found. IfSome found (λ x. x.1 ≤ length bytes.now)) }
 {
     let Some(size) = size_at(bytes, link)? else {
@@ -72,7 +73,7 @@ fn piece_in(alloc: Global, text: &[u8], link: &Link) -> Result<Piece, LinkFault>
         return Ok(Piece::Ping);
     }
     match decode(alloc, text) {
-        Ok((stamped, _)) => addressed(stamped, link),
+        Ok((stamped, _)) => addressed_envelope(stamped, link),
         Err(fault) => Err(of_wire(fault)),
     }
 }
@@ -88,8 +89,8 @@ fn of_wire(fault: WireFault) -> LinkFault
 }
 
 /// An envelope that came over this link, where it is from its peer and to this end.
-fn addressed(stamped: Stamped, link: &Link) -> Result<Piece, LinkFault>
-    ensures { Finds said_by result (addressed link.now stamped) }
+fn addressed_envelope(stamped: Stamped, link: &Link) -> Result<Piece, LinkFault>
+    ensures { Finds said_by result (addressed_envelope link.now stamped) }
 {
     if stamped.envelope.from != link.peer() {
         return Err(LinkFault::Sender);

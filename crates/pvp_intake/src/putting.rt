@@ -1,6 +1,6 @@
 //! What is written to a stream.
 ghost use Rattle.std.specs.Prelude.{◌≡◌, ◌++◌, OnOk, OnErr};
-ghost use Rattle.pvp_intake.specs.Sealing.{sealed, hello_text, ping_text};
+ghost use Rattle.pvp_intake.specs.Sealing.{sealed_text, hello_text, ping_text};
 
 use crate::hello::{HELLO_BYTES, HELLO_LENGTH};
 use crate::link::Link;
@@ -11,7 +11,7 @@ use std::alloc::AllocError;
 /// refused: then `out` is as it was.
 pub fn put_hello(link: &Link, out: &mut Vec<u8>) -> Result<(), AllocError>
     ensures put { OnOk result (out.new.items ≡ out.old.items
-        ++ sealed link.now (hello_text link.now.me link.now.bank)) }
+        ++ sealed_text link.now (hello_text link.now.me link.now.bank)) }
     ensures refused { OnErr result (out.new.items ≡ out.old.items) }
 {
     put_sealed(link, &hello_text(link.me(), link.bank()), out)
@@ -20,7 +20,7 @@ pub fn put_hello(link: &Link, out: &mut Vec<u8>) -> Result<(), AllocError>
 /// Puts a ping behind `out`, with its tag. `Err` where memory is refused: then `out` is as it was.
 #[tactic(auto, unfolding(pvp_wire::specs::Spelling::number))]
 pub fn put_ping(link: &Link, out: &mut Vec<u8>) -> Result<(), AllocError>
-    ensures put { OnOk result (out.new.items ≡ out.old.items ++ sealed link.now ping_text) }
+    ensures put { OnOk result (out.new.items ≡ out.old.items ++ sealed_text link.now ping_text) }
     ensures refused { OnErr result (out.new.items ≡ out.old.items) }
 {
     put_sealed(link, &[0; 4], out)
@@ -29,7 +29,7 @@ pub fn put_ping(link: &Link, out: &mut Vec<u8>) -> Result<(), AllocError>
 /// Puts a frame that is spelled already behind `out`, with its tag. `Err` where memory is refused: then `out` is as it
 /// was.
 pub fn put_frame(link: &Link, frame: &[u8], out: &mut Vec<u8>) -> Result<(), AllocError>
-    ensures put { OnOk result (out.new.items ≡ out.old.items ++ sealed link.now frame.now) }
+    ensures put { OnOk result (out.new.items ≡ out.old.items ++ sealed_text link.now frame.now) }
     ensures refused { OnErr result (out.new.items ≡ out.old.items) }
 {
     put_sealed(link, frame, out)
@@ -37,7 +37,7 @@ pub fn put_frame(link: &Link, frame: &[u8], out: &mut Vec<u8>) -> Result<(), All
 
 /// Puts bytes behind `out`, with their tag.
 fn put_sealed(link: &Link, bytes: &[u8], out: &mut Vec<u8>) -> Result<(), AllocError>
-    ensures put { OnOk result (out.new.items ≡ out.old.items ++ sealed link.now bytes.now) }
+    ensures put { OnOk result (out.new.items ≡ out.old.items ++ sealed_text link.now bytes.now) }
     ensures refused { OnErr result (out.new.items ≡ out.old.items) }
 {
     let before = out.len();

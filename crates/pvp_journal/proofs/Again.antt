@@ -27,7 +27,7 @@ use Rattle.pvp_parties.specs.declared.party.PartyEvent.{PartyEvent}
 use Rattle.pvp_parties.specs.declared.party.PartyEvent.TheVariants.{OfSite, OfNode, OfClient}
 use Rattle.pvp_parties.specs.declared.party.PartyOutcome.{PartyOutcome}
 use Rattle.pvp_parties.specs.declared.party.PartyOutcome.TheVariants.{OfSite as SiteTold, OfNode as NodeTold, OfClient as ClientTold, Stray}
-use Rattle.pvp_journal.specs.Spelling.{Entry, Envelope, stamped, asked, delivery_text, event_text, site_number, node_number, client_number, why_number, frames_text, sent_text, outcome_text, body_text}
+use Rattle.pvp_journal.specs.Spelling.{Entry, Envelope, stamped_envelope, command_request, delivery_text, event_text, site_number, node_number, client_number, why_number, frames_text, sent_text, outcome_text, body_text}
 use Rattle.pvp_journal.specs.Fits.{DeliveryFits, EventFits, FramesFit, SentFits, OutcomeFits, BodyFits}
 use Rattle.pvp_journal.specs.Reading.{Happened, stamped_at, sent_at, frames_from, all_sent_at, delivered_at, submitted_at, event_at, site_fault_at, node_fault_at, client_fault_at, why_at, outcome_at, entry_at, body_at}
 
@@ -40,11 +40,11 @@ stamped-again s rest h =
 same : (n : ℕ) → (n == n) ≡ true
 same n = eq-eqb n n refl
 
-sent-again : (me clock place : ℕ) (envelope : Envelope) (rest : List ℕ) → IsSpelled (stamped me clock place envelope)
-    → sent_at me clock place (spelling (stamped me clock place envelope) ++ rest) ≡ Ok (envelope, rest)
+sent-again : (me clock place : ℕ) (envelope : Envelope) (rest : List ℕ) → IsSpelled (stamped_envelope me clock place envelope)
+    → sent_at me clock place (spelling (stamped_envelope me clock place envelope) ++ rest) ≡ Ok (envelope, rest)
 unfolding sent_at
 sent-again me clock place envelope rest h =
-    let found = stamped-again (stamped me clock place envelope) rest h in
+    let found = stamped-again (stamped_envelope me clock place envelope) rest h in
     rw (found, same me, same clock, same place) refl
 
 frames-again : (me clock place : ℕ) (sent : List Envelope) (rest : List ℕ) → FramesFit me clock place sent
@@ -52,7 +52,7 @@ frames-again : (me clock place : ℕ) (sent : List Envelope) (rest : List ℕ) �
 unfolding frames_from
 frames-again me clock place [] rest h = refl
 frames-again me clock place (envelope ∷ more) rest h =
-    let text = spelling (stamped me clock place envelope) in
+    let text = spelling (stamped_envelope me clock place envelope) in
     let others = frames_text me clock (place + 1) more in
     let first = sent-again me clock place envelope (others ++ rest) h.0 in
     let then = frames-again me clock (place + 1) more rest h.1 in
@@ -76,11 +76,11 @@ delivered-again event (Some stamp) envelope rest h =
     let found = stamped-again (record { stamp = stamp; envelope = envelope }) rest h in
     rw found refl
 
-pub submitted-again : (me clock : ℕ) (cmd : Cmd) (rest : List ℕ) → IsSpelled (asked me clock cmd)
-    → submitted_at me clock (spelling (asked me clock cmd) ++ rest) ≡ Ok (cmd, rest)
+pub submitted-again : (me clock : ℕ) (cmd : Cmd) (rest : List ℕ) → IsSpelled (command_request me clock cmd)
+    → submitted_at me clock (spelling (command_request me clock cmd) ++ rest) ≡ Ok (cmd, rest)
 unfolding submitted_at
 submitted-again me clock cmd rest h =
-    let found = sent-again me clock 0 (asked me clock cmd).envelope rest h in
+    let found = sent-again me clock 0 (command_request me clock cmd).envelope rest h in
     rw found refl
 
 abbrev happened : Happened × List ℕ → Reads Happened

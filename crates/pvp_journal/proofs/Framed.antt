@@ -3,7 +3,7 @@ use Rattle.std.proofs.Common.{◌≡◌, ℕ, suc, ◌+◌, ◌<◌, ◌≤◌, 
 use Rattle.std.proofs.lemmas.List.{append-nil, drop_all}
 use Rattle.pvp_wire.specs.Spelling.{spelling}
 use Rattle.pvp_wire.specs.Fits.{IsSpelled}
-use Rattle.pvp_journal.specs.Spelling.{Envelope, stamped, frames_text}
+use Rattle.pvp_journal.specs.Spelling.{Envelope, stamped_envelope, frames_text}
 use Rattle.pvp_journal.specs.Fits.{FramesFit}
 
 -- the frames in front of a place are put; all fit where those from there on do, and the other way round
@@ -22,12 +22,12 @@ here sent place envelope lt e = rw add-one (drop-cons sent place envelope lt ∙
 
 pub one_put : (me clock : ℕ) (sent : List Envelope) (before : List ℕ) (place : ℕ) (out : List ℕ) (envelope : Envelope) (new : List ℕ)
     → IsBegun me clock sent before place out
-    → place < length sent → envelope ≡ get_or sent place envelope → new ≡ out ++ spelling (stamped me clock place envelope)
-    → IsSpelled (stamped me clock place envelope)
+    → place < length sent → envelope ≡ get_or sent place envelope → new ≡ out ++ spelling (stamped_envelope me clock place envelope)
+    → IsSpelled (stamped_envelope me clock place envelope)
     → IsBegun me clock sent before (place + 1) new
 one_put me clock sent before place out envelope new begun lt e put spelled =
     let split = here sent place envelope lt e in
-    let frame = spelling (stamped me clock place envelope) in
+    let frame = spelling (stamped_envelope me clock place envelope) in
     let others = drop (place + 1) sent in
     let texts = frames_text me clock (place + 1) others in
     let all = subst (λ (l : List Envelope). FramesFit me clock place l → FramesFit me clock 0 sent) split begun.all in
@@ -43,7 +43,7 @@ one_put me clock sent before place out envelope new begun lt e put spelled =
 -- one that does not fit
 pub one_unfit : (me clock : ℕ) (sent : List Envelope) (before : List ℕ) (place : ℕ) (out : List ℕ) (envelope : Envelope)
     → IsBegun me clock sent before place out
-    → place < length sent → envelope ≡ get_or sent place envelope → (IsSpelled (stamped me clock place envelope) → ⊥) → FramesFit me clock 0 sent → ⊥
+    → place < length sent → envelope ≡ get_or sent place envelope → (IsSpelled (stamped_envelope me clock place envelope) → ⊥) → FramesFit me clock 0 sent → ⊥
 one_unfit me clock sent before place out envelope begun lt e unfit fits =
     let split = here sent place envelope lt e in
     let rest = subst (λ (l : List Envelope). FramesFit me clock place l) split (begun.rest fits) in

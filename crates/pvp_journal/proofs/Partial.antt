@@ -10,7 +10,7 @@ use Rattle.pvp_wire.proofs.Numbers.{length-number}
 use Rattle.pvp_wire.proofs.Parts.{parted}
 use Rattle.pvp_journal.specs.declared.fault.JournalWhy.{JournalWhy}
 use Rattle.pvp_journal.specs.declared.fault.JournalWhy.TheVariants.{Length, Checksum}
-use Rattle.pvp_journal.specs.Spelling.{checksum, most, measured, sealed}
+use Rattle.pvp_journal.specs.Spelling.{checksum, greatest_u32, with_length, with_checksum}
 use Rattle.pvp_journal.specs.Journals.{Front, AtEnd, CutOff, Sound, Damaged, agree, front_at, length_in, measured_in, body_in, size_in, IsPartial}
 use Rattle.pvp_journal.proofs.Places.{some_in, twice_in, said_in, summed_in, last_in}
 use Rattle.pvp_journal.proofs.Sealed.{agree-whole, length-measured, length-sealed, front-cut}
@@ -72,16 +72,17 @@ filled (b ∷ bytes) e = omega arith
 
 -- the bytes behind a length
 abbrev behind : ℕ → ℕ → List ℕ → List ℕ
-behind before n body = number 4 (most - n) ++ (body ++ number 8 (checksum before (measured body)))
+behind before n body = number 4 (greatest_u32 - n) ++ (body ++ number 8 (checksum before (with_length body)))
 
-sealed-shape : (before : ℕ) (body : List ℕ) → sealed before body ≡ number 4 (length body) ++ behind before (length body) body
+sealed-shape : (before : ℕ) (body : List ℕ) → with_checksum before body ≡ number 4 (length body) ++ behind before (length body) body
 sealed-shape before body =
     let n = length body in
-    let s = number 8 (checksum before (measured body)) in
-    append_assoc (number 4 n ++ number 4 (most - n)) body s ∙ append_assoc (number 4 n) (number 4 (most - n)) (body ++ s)
+    let s = number 8 (checksum before (with_length body)) in
+    append_assoc (number 4 n ++ number 4 (greatest_u32 - n)) body s ∙ append_assoc (number 4 n) (number 4 (greatest_u32 - n)) (body ++ s)
 
-some-behind : (before : ℕ) (body : List ℕ) → 0 < length (body ++ number 8 (checksum before (measured body)))
-some-behind before body = omega (arith, length-append body (number 8 (checksum before (measured body))), length-number 8 (checksum before (measured body)))
+some-behind : (before : ℕ) (body : List ℕ) → 0 < length (body ++ number 8 (checksum before (with_length body)))
+some-behind before body =
+    omega (arith, length-append body (number 8 (checksum before (with_length body))), length-number 8 (checksum before (with_length body)))
 
 -- within its length
 begun-length : (before : ℕ) (bytes : List ℕ) → IsBytes bytes → 0 < length bytes → length bytes < 4 → IsPartial before bytes
@@ -96,7 +97,7 @@ begun-length before bytes fits some few =
     let body = zeros n in
     let body-len = length-zeros n in
     let rest = behind before n body in
-    let shape : sealed before body ≡ number 4 n ++ rest = sealed-shape before body ∙ ap (λ (k : ℕ). number 4 k ++ behind before k body) body-len in
+    let shape : with_checksum before body ≡ number 4 n ++ rest = sealed-shape before body ∙ ap (λ (k : ℕ). number 4 k ++ behind before k body) body-len in
     record {
       body = body;
       more = fill ++ rest;
@@ -107,16 +108,17 @@ begun-length before bytes fits some few =
     }
 
 -- within the length's complement
-begun-complement : (before n : ℕ) (front : List ℕ) → Fits 4 n → length front ≤ 4 → agree (number 4 (most - n)) front ≡ true
+begun-complement : (before n : ℕ) (front : List ℕ) → Fits 4 n → length front ≤ 4 → agree (number 4 (greatest_u32 - n)) front ≡ true
     → IsPartial before (number 4 n ++ front)
 begun-complement before n front short few twice =
-    let c = number 4 (most - n) in
-    let part = agree-part c front (omega (arith, length-number 4 (most - n))) twice in
+    let c = number 4 (greatest_u32 - n) in
+    let part = agree-part c front (omega (arith, length-number 4 (greatest_u32 - n))) twice in
     let left = drop (length front) c in
     let body = zeros n in
     let body-len = length-zeros n in
-    let tail = body ++ number 8 (checksum before (measured body)) in
-    let shape : sealed before body ≡ number 4 n ++ (c ++ tail) = sealed-shape before body ∙ ap (λ (k : ℕ). number 4 k ++ behind before k body) body-len in
+    let tail = body ++ number 8 (checksum before (with_length body)) in
+    let shape : with_checksum before body ≡ number 4 n ++ (c ++ tail) =
+    sealed-shape before body ∙ ap (λ (k : ℕ). number 4 k ++ behind before k body) body-len in
     record {
       body = body;
       more = left ++ tail;
@@ -129,45 +131,45 @@ begun-complement before n front short few twice =
     }
 
 -- within what it says
-begun-body : (before n : ℕ) (front : List ℕ) → Fits 4 n → length front ≤ n → IsPartial before ((number 4 n ++ number 4 (most - n)) ++ front)
+begun-body : (before n : ℕ) (front : List ℕ) → Fits 4 n → length front ≤ n → IsPartial before ((number 4 n ++ number 4 (greatest_u32 - n)) ++ front)
 begun-body before n front short few =
-    let c = number 4 (most - n) in
+    let c = number 4 (greatest_u32 - n) in
     let fill = zeros (n - length front) in
     let body = front ++ fill in
     let body-len : length body ≡ n = omega (arith, length-append front fill, length-zeros (n - length front)) in
-    let s = number 8 (checksum before (measured body)) in
-    let shape : sealed before body ≡ number 4 n ++ (c ++ (body ++ s)) =
+    let s = number 8 (checksum before (with_length body)) in
+    let shape : with_checksum before body ≡ number 4 n ++ (c ++ (body ++ s)) =
     sealed-shape before body ∙ ap (λ (k : ℕ). number 4 k ++ behind before k body) body-len in
     record {
       body = body;
       more = fill ++ s;
       short = subst (Fits 4) (sym body-len) short;
       some = not_empty ((number 4 n ++ c) ++ front) (omega (arith, length-append (number 4 n ++ c) front, length-append (number 4 n) c, length-number 4 n));
-      lacks = not_empty (fill ++ s) (omega (arith, length-append fill s, length-number 8 (checksum before (measured body))));
+      lacks = not_empty (fill ++ s) (omega (arith, length-append fill s, length-number 8 (checksum before (with_length body))));
       whole = append_assoc (number 4 n ++ c) front (fill ++ s) ∙ append_assoc (number 4 n) c (front ++ (fill ++ s))
           ∙ ap (λ (x : List ℕ). number 4 n ++ (c ++ x)) (sym (append_assoc front fill s)) ∙ sym shape;
     }
 
 -- within its checksum
-begun-sum : (before : ℕ) (body front : List ℕ) → Fits 4 (length body) → length front < 8 → agree (number 8 (checksum before (measured body))) front ≡ true
-    → IsPartial before (measured body ++ front)
+begun-sum : (before : ℕ) (body front : List ℕ) → Fits 4 (length body) → length front < 8 → agree (number 8 (checksum before (with_length body))) front ≡ true
+    → IsPartial before (with_length body ++ front)
 begun-sum before body front short few summed =
-    let s = number 8 (checksum before (measured body)) in
-    let s-len = length-number 8 (checksum before (measured body)) in
+    let s = number 8 (checksum before (with_length body)) in
+    let s-len = length-number 8 (checksum before (with_length body)) in
     let part = agree-part s front (omega (arith, s-len)) summed in
     let left = drop (length front) s in
     record {
       body = body;
       more = left;
       short = short;
-      some = not_empty (measured body ++ front) (omega (arith, length-append (measured body) front, length-measured body));
+      some = not_empty (with_length body ++ front) (omega (arith, length-append (with_length body) front, length-measured body));
       lacks = not_empty left (omega (arith, length-drop (length front) s, s-len));
-      whole = append_assoc (measured body) front left ∙ ap (λ (x : List ℕ). measured body ++ x) (sym part);
+      whole = append_assoc (with_length body) front left ∙ ap (λ (x : List ℕ). with_length body ++ x) (sym part);
     }
 
 -- behind its length
 begun-twice : (b : Bool) (before : ℕ) (bytes : List ℕ) → IsBytes bytes → nat_lt 8 (length bytes) ≡ b → 4 ≤ length bytes
-    → agree (number 4 (most - length_in bytes)) (drop 4 bytes) ≡ true → length bytes < 8 + length_in bytes → IsPartial before bytes
+    → agree (number 4 (greatest_u32 - length_in bytes)) (drop 4 bytes) ≡ true → length bytes < 8 + length_in bytes → IsPartial before bytes
 begun-twice false before bytes fits e four twice few =
     let t = number-takes 4 bytes four fits in
     let le : length bytes ≤ 8 = ltb-false 8 (length bytes) e in
@@ -176,21 +178,22 @@ begun-twice true before bytes fits e four twice few =
     let lt : 8 < length bytes = ltb-true 8 (length bytes) e in
     let t = number-takes 4 bytes four fits in
     let n = length_in bytes in
-    let c = number 4 (most - n) in
-    let two = agree-whole c (drop 4 bytes) (omega (arith, length-number 4 (most - n), length-drop 4 bytes)) twice in
-    let at8 : drop (length c) (drop 4 bytes) ≡ drop 8 bytes = ap (λ (k : ℕ). drop k (drop 4 bytes)) (length-number 4 (most - n)) ∙ drop-drop 4 4 bytes in
+    let c = number 4 (greatest_u32 - n) in
+    let two = agree-whole c (drop 4 bytes) (omega (arith, length-number 4 (greatest_u32 - n), length-drop 4 bytes)) twice in
+    let at8 : drop (length c) (drop 4 bytes) ≡ drop 8 bytes =
+    ap (λ (k : ℕ). drop k (drop 4 bytes)) (length-number 4 (greatest_u32 - n)) ∙ drop-drop 4 4 bytes in
     let shape : bytes ≡ (number 4 n ++ c) ++ drop 8 bytes =
     t.0 ∙ ap (λ (x : List ℕ). number 4 n ++ x) (two ∙ ap (λ (x : List ℕ). c ++ x) at8) ∙ sym (append_assoc (number 4 n) c (drop 8 bytes)) in
     subst (IsPartial before) (sym shape) (begun-body before n (drop 8 bytes) t.1 (omega (arith, length-drop 8 bytes)))
 
 -- behind what it says
-begun-said : (before : ℕ) (bytes : List ℕ) → IsBytes bytes → agree (number 4 (most - length_in bytes)) (drop 4 bytes) ≡ true
+begun-said : (before : ℕ) (bytes : List ℕ) → IsBytes bytes → agree (number 4 (greatest_u32 - length_in bytes)) (drop 4 bytes) ≡ true
     → 8 + length_in bytes ≤ length bytes
     → agree (number 8 (checksum before (measured_in bytes))) (drop (8 + length_in bytes) bytes) ≡ true → length bytes < size_in bytes → IsPartial before bytes
 begun-said before bytes fits twice said summed few =
     let m = measured-splits bytes fits twice said in
     let tail = drop (8 + length_in bytes) bytes in
-    let summed' : agree (number 8 (checksum before (measured (body_in bytes)))) tail ≡ true =
+    let summed' : agree (number 8 (checksum before (with_length (body_in bytes)))) tail ≡ true =
     ap (λ (x : List ℕ). agree (number 8 (checksum before x)) tail) (sym m.measure) ∙ summed in
     subst (IsPartial before) (sym m.text) (begun-sum before (body_in bytes) tail m.short (omega (arith, length-drop (8 + length_in bytes) bytes)) summed')
 
@@ -206,7 +209,7 @@ cut-partial before bytes fits e =
       | inl few ↦ begun-length before bytes fits some (ltb-true (length bytes) 4 few)
       | inr b ↦
           let four : 4 ≤ length bytes = ltb-false (length bytes) 4 b.0 in
-          let c = past_damage (agree (number 4 (most - n)) (drop 4 bytes)) Length (said_in before bytes) b.1 in
+          let c = past_damage (agree (number 4 (greatest_u32 - n)) (drop 4 bytes)) Length (said_in before bytes) b.1 in
           elim (cut_here (nat_lt (length bytes) (8 + n)) (summed_in before bytes) c.1) [
             | inl few ↦ begun-twice (nat_lt 8 (length bytes)) before bytes fits refl four c.0 (ltb-true (length bytes) (8 + n) few)
             | inr d ↦
@@ -223,7 +226,7 @@ cut-partial before bytes fits e =
 pub partial-cut : (before : ℕ) (bytes : List ℕ) → IsPartial before bytes → front_at before bytes ≡ CutOff
 partial-cut before bytes p =
     let k = length bytes in
-    let all = sealed before p.body in
+    let all = with_checksum before p.body in
     let whole-len : k + length p.more ≡ 16 + length p.body = omega (arith, length-append bytes p.more, ap length p.whole, length-sealed before p.body) in
     let some : 0 < k = filled bytes p.some in
     let lacks : 0 < length p.more = filled p.more p.lacks in

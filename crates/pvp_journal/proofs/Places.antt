@@ -8,7 +8,7 @@ use Rattle.pvp_journal.specs.declared.fault.JournalWhy.{JournalWhy}
 use Rattle.pvp_journal.specs.declared.fault.JournalWhy.TheVariants.{Magic, Version, Head as BadHead, Length, Checksum, Record, NoMemory}
 use Rattle.pvp_journal.specs.declared.journal.Left.{Left}
 use Rattle.pvp_journal.specs.declared.journal.Left.TheVariants.{Nothing, Torn}
-use Rattle.pvp_journal.specs.Spelling.{Entry, checksum, most}
+use Rattle.pvp_journal.specs.Spelling.{Entry, checksum, greatest_u32}
 use Rattle.pvp_journal.specs.Reading.{body_at}
 use Rattle.pvp_journal.specs.Journals.{Front, AtEnd, CutOff, Sound, Damaged, agree, front_at, length_in, measured_in, body_in, size_in, after, Place, next, Stands, AreRecords, IsWrong, KeepsEntry, IsLeft, IsEnd}
 
@@ -36,23 +36,23 @@ abbrev pub said_in : ℕ → List ℕ → Front
 said_in before bytes = if nat_lt (length bytes) (8 + length_in bytes) then CutOff else summed_in before bytes
 
 abbrev pub twice_in : ℕ → List ℕ → Front
-twice_in before bytes = if not (agree (number 4 (most - length_in bytes)) (drop 4 bytes)) then Damaged Length else said_in before bytes
+twice_in before bytes = if not (agree (number 4 (greatest_u32 - length_in bytes)) (drop 4 bytes)) then Damaged Length else said_in before bytes
 
 abbrev pub some_in : ℕ → List ℕ → Front
 some_in before bytes = if nat_lt (length bytes) 4 then CutOff else twice_in before bytes
 
 -- what a sound record has
-pub record IsSound (before : ℕ) (bytes : List ℕ) : Type 0 where
-  pub twice : agree (number 4 (most - length_in bytes)) (drop 4 bytes) ≡ true
+pub record IsSoundRecord (before : ℕ) (bytes : List ℕ) : Type 0 where
+  pub twice : agree (number 4 (greatest_u32 - length_in bytes)) (drop 4 bytes) ≡ true
   pub summed : agree (number 8 (checksum before (measured_in bytes))) (drop (8 + length_in bytes) bytes) ≡ true
   pub size : size_in bytes ≤ length bytes
 
-pub sound-is : (before : ℕ) (bytes : List ℕ) → front_at before bytes ≡ Sound → IsSound before bytes
+pub sound-is : (before : ℕ) (bytes : List ℕ) → front_at before bytes ≡ Sound → IsSoundRecord before bytes
 unfolding front_at
 sound-is before bytes e =
     let a = not_end (length bytes == 0) (some_in before bytes) e in
     let b = not_cut (nat_lt (length bytes) 4) (twice_in before bytes) a in
-    let c = not_damaged (agree (number 4 (most - length_in bytes)) (drop 4 bytes)) Length (said_in before bytes) b.1 in
+    let c = not_damaged (agree (number 4 (greatest_u32 - length_in bytes)) (drop 4 bytes)) Length (said_in before bytes) b.1 in
     let d = not_cut (nat_lt (length bytes) (8 + length_in bytes)) (summed_in before bytes) c.1 in
     let f = not_damaged (agree (number 8 (checksum before (measured_in bytes))) (drop (8 + length_in bytes) bytes)) Checksum (last_in bytes) d.1 in
     let g = not_cut (nat_lt (length bytes) (size_in bytes)) Sound f.1 in
@@ -98,7 +98,7 @@ unfolding front_at
 damaged-by before bytes why e =
     let a = past_end (length bytes == 0) (some_in before bytes) why e in
     let b = past_cut (nat_lt (length bytes) 4) (twice_in before bytes) why a in
-    elim (told (not (agree (number 4 (most - length_in bytes)) (drop 4 bytes))) Length (said_in before bytes) why b) [
+    elim (told (not (agree (number 4 (greatest_u32 - length_in bytes)) (drop 4 bytes))) Length (said_in before bytes) why b) [
       | inl known ↦ inl known
       | inr c ↦ elim (told (not (agree (number 8 (checksum before (measured_in bytes))) (drop (8 + length_in bytes) bytes))) Checksum (last_in bytes) why
           (past_cut (nat_lt (length bytes) (8 + length_in bytes)) (summed_in before bytes) why c)) [
@@ -142,7 +142,8 @@ at_end before [] e = refl
 at_end before (x ∷ xs) e =
     let bytes = x ∷ xs in
     let some : (length bytes == 0) ≡ false = ne_eqb (length bytes) 0 (λ n. absurd (omega arith)) in
-    absurd (never_end (nat_lt (length bytes) 4) (not (agree (number 4 (most - length_in bytes)) (drop 4 bytes))) (nat_lt (length bytes) (8 + length_in bytes))
+    absurd (never_end (nat_lt (length bytes) 4) (not (agree (number 4 (greatest_u32 - length_in bytes)) (drop 4 bytes)))
+    (nat_lt (length bytes) (8 + length_in bytes))
     (not (agree (number 8 (checksum before (measured_in bytes))) (drop (8 + length_in bytes) bytes)))
     (nat_lt (length bytes) (size_in bytes)) (rw some at e))
 
@@ -158,7 +159,7 @@ pub stops : (me : ℕ) (start : Place) (history : List Entry) (place : Place) (w
 stops me start history place why left records wrong is = (history, place, records, wrong, is)
 
 -- what passes all tests is sound
-pub sound-by : (before : ℕ) (bytes : List ℕ) → 4 ≤ length bytes → agree (number 4 (most - length_in bytes)) (drop 4 bytes) ≡ true
+pub sound-by : (before : ℕ) (bytes : List ℕ) → 4 ≤ length bytes → agree (number 4 (greatest_u32 - length_in bytes)) (drop 4 bytes) ≡ true
     → 8 + length_in bytes ≤ length bytes
     → agree (number 8 (checksum before (measured_in bytes))) (drop (8 + length_in bytes) bytes) ≡ true → size_in bytes ≤ length bytes
     → front_at before bytes ≡ Sound
@@ -175,7 +176,7 @@ rest_of : (k : ℕ) (bytes : List ℕ) → take (length bytes - k) (drop k bytes
 rest_of k bytes = ap (λ (i : ℕ). take i (drop k bytes)) (sym (length-drop k bytes)) ∙ take-length (drop k bytes)
 
 -- what a reader of a length and a checksum found is a sound record
-pub stood : (before n : ℕ) (bytes four eight : List ℕ) (s : ℕ) → n ≡ length_in bytes → four ≡ number 4 (most - n)
+pub stood : (before n : ℕ) (bytes four eight : List ℕ) (s : ℕ) → n ≡ length_in bytes → four ≡ number 4 (greatest_u32 - n)
     → agree four (take (length bytes - 4) (drop 4 bytes)) ≡ true
     → s ≡ checksum before (take (8 + n) bytes) → eight ≡ number 8 s → agree eight (take (length bytes - (8 + n)) (drop (8 + n) bytes)) ≡ true
     → (8 + n) + 8 ≤ length bytes
@@ -184,8 +185,8 @@ pub stood : (before n : ℕ) (bytes four eight : List ℕ) (s : ℕ) → n ≡ l
 stood before n bytes four eight s n-is four-is twice s-is eight-is summed long =
     let size : 16 + n ≤ length bytes = omega (arith, long) in
     let sum : s ≡ checksum before (measured_in bytes) = s-is ∙ ap (λ (k : ℕ). checksum before (take (8 + k) bytes)) n-is in
-    let a : agree (number 4 (most - length_in bytes)) (drop 4 bytes) ≡ true =
-    ap (λ (k : ℕ). agree (number 4 (most - k)) (drop 4 bytes)) (sym n-is) ∙ ap (λ (x : List ℕ). agree x (drop 4 bytes)) (sym four-is)
+    let a : agree (number 4 (greatest_u32 - length_in bytes)) (drop 4 bytes) ≡ true =
+    ap (λ (k : ℕ). agree (number 4 (greatest_u32 - k)) (drop 4 bytes)) (sym n-is) ∙ ap (λ (x : List ℕ). agree x (drop 4 bytes)) (sym four-is)
     ∙ ap (agree four) (sym (rest_of 4 bytes)) ∙ twice in
     let b : agree (number 8 (checksum before (measured_in bytes))) (drop (8 + length_in bytes) bytes) ≡ true =
     ap (λ (k : ℕ). agree (number 8 k) (drop (8 + length_in bytes) bytes)) (sym sum) ∙ ap (λ (k : ℕ). agree (number 8 s) (drop (8 + k) bytes)) (sym n-is)

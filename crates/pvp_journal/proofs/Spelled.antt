@@ -15,7 +15,7 @@ use Rattle.pvp_wire.proofs.Parts.{n2, n4, parted, never}
 use Rattle.pvp_journal.specs.declared.fault.JournalWhy.{JournalWhy}
 use Rattle.pvp_journal.specs.declared.fault.JournalWhy.TheVariants.{Magic, Version}
 use Rattle.pvp_journal.specs.declared.head.Head.{Head}
-use Rattle.pvp_journal.specs.Spelling.{Entry, checksum, magic, version, most, opening_text, head_text, head_sum, measured, sealed, record_text, record_sum, records_text, records_sum, journal_text, journal_sum}
+use Rattle.pvp_journal.specs.Spelling.{Entry, checksum, magic, version, greatest_u32, opening_text, head_text, head_sum, with_length, with_checksum, record_text, record_sum, records_text, records_sum, journal_text, journal_sum}
 use Rattle.pvp_journal.specs.Fits.{OpeningFits, IsHead, IsJournalable, AreJournalable}
 use Rattle.pvp_journal.specs.Reading.{opening_at, bank_at, fields_at, begins_with, in_head, head_at}
 use Rattle.pvp_journal.specs.Journals.{Sound, agree, front_at, length_in, measured_in, body_in, size_in, after, Place, next, Stands, AreRecords, ReadsAs}
@@ -35,19 +35,20 @@ number-takes n bytes long fits =
 
 -- what is measured, and what comes behind it
 pub record IsMeasured (bytes : List ℕ) : Type 0 where
-  pub text : bytes ≡ measured (body_in bytes) ++ drop (8 + length_in bytes) bytes
-  pub measure : measured_in bytes ≡ measured (body_in bytes)
+  pub text : bytes ≡ with_length (body_in bytes) ++ drop (8 + length_in bytes) bytes
+  pub measure : measured_in bytes ≡ with_length (body_in bytes)
   pub short : Fits 4 (length (body_in bytes))
 
-pub measured-splits : (bytes : List ℕ) → IsBytes bytes → agree (number 4 (most - length_in bytes)) (drop 4 bytes) ≡ true → 8 + length_in bytes ≤ length bytes
+pub measured-splits : (bytes : List ℕ) → IsBytes bytes → agree (number 4 (greatest_u32 - length_in bytes)) (drop 4 bytes) ≡ true
+    → 8 + length_in bytes ≤ length bytes
     → IsMeasured bytes
 measured-splits bytes fits twice long =
     let n = length_in bytes in
     let one = number-takes 4 bytes (omega arith) fits in
     let d4 = drop 4 bytes in
     let d8 = drop 8 bytes in
-    let c = number 4 (most - n) in
-    let c-len = length-number 4 (most - n) in
+    let c = number 4 (greatest_u32 - n) in
+    let c-len = length-number 4 (greatest_u32 - n) in
     let two : d4 ≡ c ++ drop (length c) d4 = agree-whole c d4 (omega (arith, length-drop 4 bytes)) twice in
     let body = body_in bytes in
     let at8 : drop (length c) d4 ≡ d8 = ap (λ (k : ℕ). drop k d4) c-len ∙ drop-drop 4 4 bytes in
@@ -55,23 +56,23 @@ measured-splits bytes fits twice long =
     let tail = drop (8 + n) bytes in
     let at-tail : drop n d8 ≡ tail = drop-drop n 8 bytes in
     let split8 : d8 ≡ body ++ tail = sym (take-append-drop n d8) ∙ ap (λ (x : List ℕ). body ++ x) at-tail in
-    let front : bytes ≡ measured body ++ tail =
+    let front : bytes ≡ with_length body ++ tail =
     one.0 ∙ ap (λ (x : List ℕ). number 4 n ++ x) (two ∙ ap (λ (x : List ℕ). c ++ x) (at8 ∙ split8))
-    ∙ ap (λ (k : ℕ). number 4 k ++ (number 4 (most - k) ++ (body ++ tail))) (sym body-len)
-    ∙ sym (append_assoc (number 4 (length body)) (number 4 (most - length body)) (body ++ tail))
-    ∙ sym (append_assoc (number 4 (length body) ++ number 4 (most - length body)) body tail) in
-    let measured-len : length (measured body) ≡ 8 + n = omega (arith, length-measured body, body-len) in
+    ∙ ap (λ (k : ℕ). number 4 k ++ (number 4 (greatest_u32 - k) ++ (body ++ tail))) (sym body-len)
+    ∙ sym (append_assoc (number 4 (length body)) (number 4 (greatest_u32 - length body)) (body ++ tail))
+    ∙ sym (append_assoc (number 4 (length body) ++ number 4 (greatest_u32 - length body)) body tail) in
+    let measured-len : length (with_length body) ≡ 8 + n = omega (arith, length-measured body, body-len) in
     record {
       text = front;
-      measure = ap (take (8 + n)) front ∙ take_at (measured body) tail (8 + n) measured-len;
+      measure = ap (take (8 + n)) front ∙ take_at (with_length body) tail (8 + n) measured-len;
       short = omega (arith, one.1, body-len);
     }
 
 -- a sound record is one that was sealed
 record IsSealed (before : ℕ) (bytes : List ℕ) : Type 0 where
-  text : bytes ≡ sealed before (body_in bytes) ++ after bytes
+  text : bytes ≡ with_checksum before (body_in bytes) ++ after bytes
   short : Fits 4 (length (body_in bytes))
-  sum : checksum before (measured_in bytes) ≡ checksum before (measured (body_in bytes))
+  sum : checksum before (measured_in bytes) ≡ checksum before (with_length (body_in bytes))
   body : IsBytes (body_in bytes)
   rest : IsBytes (after bytes)
 
@@ -83,16 +84,16 @@ sound-sealed before bytes fits e =
     let m = measured-splits bytes fits t.twice (omega arith) in
     let body = body_in bytes in
     let tail = drop (8 + n) bytes in
-    let sum : checksum before (measured_in bytes) ≡ checksum before (measured body) = ap (checksum before) m.measure in
+    let sum : checksum before (measured_in bytes) ≡ checksum before (with_length body) = ap (checksum before) m.measure in
     let s = number 8 (checksum before (measured_in bytes)) in
     let s-len = length-number 8 (checksum before (measured_in bytes)) in
     let three : tail ≡ s ++ drop (length s) tail = agree-whole s tail (omega (arith, length-drop (8 + n) bytes)) t.summed in
     let at-rest : drop (length s) tail ≡ after bytes =
     ap (λ (k : ℕ). drop k tail) s-len ∙ drop-drop 8 (8 + n) bytes ∙ ap (λ (k : ℕ). drop k bytes) (omega arith) in
     record {
-      text = m.text ∙ ap (λ (x : List ℕ). measured body ++ x) (three ∙ ap (λ (x : List ℕ). s ++ x) at-rest)
-          ∙ ap (λ (k : ℕ). measured body ++ (number 8 k ++ after bytes)) sum
-          ∙ sym (append_assoc (measured body) (number 8 (checksum before (measured body))) (after bytes));
+      text = m.text ∙ ap (λ (x : List ℕ). with_length body ++ x) (three ∙ ap (λ (x : List ℕ). s ++ x) at-rest)
+          ∙ ap (λ (k : ℕ). with_length body ++ (number 8 k ++ after bytes)) sum
+          ∙ sym (append_assoc (with_length body) (number 8 (checksum before (with_length body))) (after bytes));
       short = m.short;
       sum = sum;
       body = IsBytes-take n (drop 8 bytes) (IsBytes-drop 8 bytes fits);
@@ -111,8 +112,8 @@ stands-record me place r fits h =
     let s = sound-sealed place.sum place.bytes fits h.front in
     let b = body-takes me (body_in place.bytes) r s.body h.body in
     record {
-      text = s.text ∙ ap (λ (x : List ℕ). sealed place.sum x ++ after place.bytes) b.0;
-      sum = s.sum ∙ ap (λ (x : List ℕ). checksum place.sum (measured x)) b.0;
+      text = s.text ∙ ap (λ (x : List ℕ). with_checksum place.sum x ++ after place.bytes) b.0;
+      sum = s.sum ∙ ap (λ (x : List ℕ). checksum place.sum (with_length x)) b.0;
       journalable = record { fits = b.1; short = subst (λ (x : List ℕ). Fits 4 (length x)) b.0 s.short };
       rest = s.rest;
     }

@@ -29,7 +29,7 @@ use Rattle.pvp_parties.specs.declared.party.PartyEvent.{PartyEvent}
 use Rattle.pvp_parties.specs.declared.party.PartyEvent.TheVariants.{OfSite, OfNode, OfClient}
 use Rattle.pvp_parties.specs.declared.party.PartyOutcome.{PartyOutcome}
 use Rattle.pvp_parties.specs.declared.party.PartyOutcome.TheVariants.{OfSite as SiteTold, OfNode as NodeTold, OfClient as ClientTold, Stray}
-use Rattle.pvp_journal.specs.Spelling.{Entry, Envelope, stamped, asked, event_text, site_number, node_number, client_number, why_number, frames_text, sent_text, outcome_text, body_text}
+use Rattle.pvp_journal.specs.Spelling.{Entry, Envelope, stamped_envelope, command_request, event_text, site_number, node_number, client_number, why_number, frames_text, sent_text, outcome_text, body_text}
 use Rattle.pvp_journal.specs.Fits.{EventFits, FramesFit, SentFits, OutcomeFits, BodyFits}
 use Rattle.pvp_journal.specs.Reading.{Happened, stamped_at, is_of, sent_at, frames_from, all_sent_at, delivered_at, command_in, submitted_at, submits_at, pays_in_at, closes_at, event_at, site_fault_at, node_fault_at, client_fault_at, why_at, did_at, refused_at, fell_at, node_told_at, node_refused_at, client_told_at, client_refused_at, outcome_at, all_read, entry_at, body_at}
 use Rattle.pvp_journal.proofs.Again.{stamped-again, all_sent-again, submitted-again, site-again, node-again, client-again, why-again}
@@ -50,7 +50,7 @@ stamped_format : IsFormat spelling IsSpelled stamped_at
 stamped_format = record { takes = stamped-takes; again = stamped-again }
 
 -- a stamp that is this actor's of this clock and place
-stamp-is : (me clock place : ℕ) (s : Stamped) → is_of me clock place s.stamp ≡ true → s ≡ stamped me clock place s.envelope
+stamp-is : (me clock place : ℕ) (s : Stamped) → is_of me clock place s.stamp ≡ true → s ≡ stamped_envelope me clock place s.envelope
 stamp-is me clock place s h =
     let a = parted (s.stamp.actor == me) ((s.stamp.clock == clock) && (s.stamp.index == place)) h in
     let b = parted (s.stamp.clock == clock) (s.stamp.index == place) a.1 in
@@ -62,14 +62,16 @@ stamp-is me clock place s h =
     ∙ ap (λ (x : ℕ). record { stamp = record { actor = me; clock = clock; index = x }; envelope = s.envelope }) place-is
 
 sent-takes : (me clock place : ℕ)
-    → TakesBy (λ envelope. spelling (stamped me clock place envelope)) (λ envelope. IsSpelled (stamped me clock place envelope)) (sent_at me clock place)
+    → TakesBy (λ envelope. spelling (stamped_envelope me clock place envelope)) (λ envelope. IsSpelled (stamped_envelope me clock place envelope))
+    (sent_at me clock place)
 unfolding sent_at
 sent-takes me clock place bytes envelope rest fits e =
     let m = bind_ok (stamped_at bytes) (λ found. if is_of me clock place found.0.stamp then Ok (found.0.envelope, found.1) else Err Field) (envelope, rest) e in
     let w = wanted_ok (is_of me clock place m.0.0.stamp) Field (m.0.0.envelope, m.0.1) (envelope, rest) m.2 in
     let t = stamped-takes bytes m.0.0 m.0.1 fits m.1 in
     let mine = subst (λ (s : Stamped). Takes bytes (spelling s) m.0.1 × IsSpelled s) (stamp-is me clock place m.0.0 w.0) t in
-    subst (λ (p : Envelope × List ℕ). Takes bytes (spelling (stamped me clock place p.0)) p.1 × IsSpelled (stamped me clock place p.0)) w.1 mine
+    subst (λ (p : Envelope × List ℕ). Takes bytes (spelling (stamped_envelope me clock place p.0)) p.1 × IsSpelled (stamped_envelope me clock place p.0)) w.1
+    mine
 
 frames-takes : (me clock count place : ℕ) (bytes : List ℕ) (sent : List Envelope) (rest : List ℕ) → IsBytes bytes
     → frames_from me clock count place bytes ≡ Ok (sent, rest)
@@ -88,7 +90,7 @@ frames-takes me clock (suc count) place bytes sent rest fits e =
     let b = frames-takes me clock count (place + 1) m.0.1 k.0.0 k.0.1 a.0.rest_fits k.1 in
     let same = ok_is (m.0.0 ∷ k.0.0, k.0.1) (sent, rest) k.2 in
     subst (λ (p : List Envelope × List ℕ). Takes bytes (frames_text me clock place p.0) p.1 × FramesFit me clock place p.0 × (length p.0 ≡ suc count)) same (
-      Takes-then bytes (spelling (stamped me clock place m.0.0)) m.0.1 (frames_text me clock (place + 1) k.0.0) k.0.1 a.0 b.0,
+      Takes-then bytes (spelling (stamped_envelope me clock place m.0.0)) m.0.1 (frames_text me clock (place + 1) k.0.0) k.0.1 a.0 b.0,
       (a.1, b.1),
       ap suc b.2,
     )
@@ -200,24 +202,27 @@ message-is to (PayOrder msg) cmd e = absurd cc
 from-is : (s : Stamped) → IsSpelled s → s.envelope.from ≡ s.stamp.actor
 from-is s h = eqb-true s.envelope.from s.stamp.actor (parted (s.envelope.from == s.stamp.actor) _ h.wireable).0
 
-asked-is : (me clock : ℕ) (envelope : Envelope) (cmd : Cmd) → IsSpelled (stamped me clock 0 envelope) → command_in envelope.to envelope.msg ≡ Ok cmd
-    → stamped me clock 0 envelope ≡ asked me clock cmd
+asked-is : (me clock : ℕ) (envelope : Envelope) (cmd : Cmd) → IsSpelled (stamped_envelope me clock 0 envelope) → command_in envelope.to envelope.msg ≡ Ok cmd
+    → stamped_envelope me clock 0 envelope ≡ command_request me clock cmd
 asked-is me clock envelope cmd h e =
     let m = message-is envelope.to envelope.msg cmd e in
-    ap (λ (x : ℕ). stamped me clock 0 (record { from = x; to = envelope.to; msg = envelope.msg })) (from-is (stamped me clock 0 envelope) h)
-    ∙ ap (λ (x : ℕ). stamped me clock 0 (record { from = me; to = x; msg = envelope.msg })) m.0
-    ∙ ap (λ (x : BankMsg). stamped me clock 0 (record { from = me; to = FIRST_SITE; msg = x })) m.1
+    ap (λ (x : ℕ). stamped_envelope me clock 0 (record { from = x; to = envelope.to; msg = envelope.msg })) (from-is (stamped_envelope me clock 0 envelope) h)
+    ∙ ap (λ (x : ℕ). stamped_envelope me clock 0 (record { from = me; to = x; msg = envelope.msg })) m.0
+    ∙ ap (λ (x : BankMsg). stamped_envelope me clock 0 (record { from = me; to = FIRST_SITE; msg = x })) m.1
 
-submitted-takes : (me clock : ℕ) → TakesBy (λ cmd. spelling (asked me clock cmd)) (λ cmd. IsSpelled (asked me clock cmd)) (submitted_at me clock)
+submitted-takes : (me clock : ℕ)
+    → TakesBy (λ cmd. spelling (command_request me clock cmd)) (λ cmd. IsSpelled (command_request me clock cmd)) (submitted_at me clock)
 unfolding submitted_at
 submitted-takes me clock bytes cmd rest fits e =
     let m = bind_ok (sent_at me clock 0 bytes) (λ envelope. command_in envelope.0.to envelope.0.msg >>= λ x. Ok (x, envelope.1)) (cmd, rest) e in
     let k = bind_ok (command_in m.0.0.to m.0.0.msg) (λ x. Ok (x, m.0.1)) (cmd, rest) m.2 in
     let a = sent-takes me clock 0 bytes m.0.0 m.0.1 fits m.1 in
     let t = subst (λ (s : Stamped). Takes bytes (spelling s) m.0.1 × IsSpelled s) (asked-is me clock m.0.0 k.0 a.1 k.1) a in
-    subst (λ (p : Cmd × List ℕ). Takes bytes (spelling (asked me clock p.0)) p.1 × IsSpelled (asked me clock p.0)) (ok_is (k.0, m.0.1) (cmd, rest) k.2) t
+    subst (λ (p : Cmd × List ℕ). Takes bytes (spelling (command_request me clock p.0)) p.1 × IsSpelled (command_request me clock p.0))
+    (ok_is (k.0, m.0.1) (cmd, rest) k.2) t
 
-submitted_format : (me clock : ℕ) → IsFormat (λ cmd. spelling (asked me clock cmd)) (λ cmd. IsSpelled (asked me clock cmd)) (submitted_at me clock)
+submitted_format : (me clock : ℕ)
+    → IsFormat (λ cmd. spelling (command_request me clock cmd)) (λ cmd. IsSpelled (command_request me clock cmd)) (submitted_at me clock)
 submitted_format me clock = record { takes = submitted-takes me clock; again = submitted-again me clock }
 
 submits-takes : (me clock : ℕ) → TakesBy (fields me clock) (IsTagged me clock 12) (submits_at me clock)

@@ -12,7 +12,7 @@ use Rattle.pvp_parties.specs.declared.party.PartyEvent.TheVariants.{OfSite, OfNo
 use Rattle.pvp_parties.specs.declared.party.PartyOutcome.{PartyOutcome}
 use Rattle.pvp_parties.specs.declared.party.PartyOutcome.TheVariants.{OfSite as SiteTold, OfNode as NodeTold, OfClient as ClientTold, Stray}
 use Rattle.pvp_journal.specs.declared.head.Head.{Head}
-use Rattle.pvp_journal.specs.Spelling.{Entry, Envelope, stamped, asked, body_text}
+use Rattle.pvp_journal.specs.Spelling.{Entry, Envelope, stamped_envelope, command_request, body_text}
 
 abbrev pub OpeningFits : Option Boot → Type 0
 OpeningFits None = Unit {0}
@@ -42,13 +42,14 @@ EventFits me clock stamp (OfNode (node_event.PaysIn member amt)) = (stamp ≡ No
 EventFits me clock stamp (OfNode (node_event.Closes member)) = (stamp ≡ None) × Fits 2 member
 EventFits me clock stamp (OfClient (client_event.Takes envelope)) = DeliveryFits stamp envelope
 EventFits me clock stamp (OfClient client_event.Beats) = stamp ≡ None
-EventFits me clock stamp (OfClient (client_event.Submits cmd)) = (stamp ≡ None) × IsSpelled (asked me clock cmd)
+EventFits me clock stamp (OfClient (client_event.Submits cmd)) =
+    (stamp ≡ None) × IsSpelled (command_request me clock cmd)
 
 -- each frame of what was sent has its spelling
 abbrev pub FramesFit : ℕ → ℕ → ℕ → List Envelope → Type 0
 FramesFit me clock place [] = Unit {0}
 FramesFit me clock place (envelope ∷ more) =
-    IsSpelled (stamped me clock place envelope) × FramesFit me clock (place + 1) more
+    IsSpelled (stamped_envelope me clock place envelope) × FramesFit me clock (place + 1) more
 
 abbrev pub SentFits : ℕ → ℕ → List Envelope → Type 0
 SentFits me clock sent = Fits 4 (length sent) × FramesFit me clock 0 sent

@@ -15,7 +15,7 @@ use Rattle.pvp_journal.specs.declared.journal.Records.{Records}
 use Rattle.pvp_journal.specs.declared.journal.Stop.{Stop}
 use Rattle.pvp_journal.specs.declared.front.Front.{Front as Stood}
 use Rattle.pvp_journal.specs.declared.front.Front.TheVariants.{Empty, Torn as TornOff, Whole}
-use Rattle.pvp_journal.specs.Spelling.{Entry, checksum, most, sealed, journal_text}
+use Rattle.pvp_journal.specs.Spelling.{Entry, checksum, greatest_u32, with_checksum, journal_text}
 use Rattle.pvp_journal.specs.Reading.{head_at, body_at}
 
 -- ---- a record at the front of bytes
@@ -57,7 +57,7 @@ unfoldable pub front_at : ℕ → List ℕ → Front
 front_at before bytes =
     if length bytes == 0 then AtEnd
     else if nat_lt (length bytes) 4 then CutOff
-    else if not (agree (number 4 (most - length_in bytes)) (drop 4 bytes)) then Damaged Length
+    else if not (agree (number 4 (greatest_u32 - length_in bytes)) (drop 4 bytes)) then Damaged Length
     else if nat_lt (length bytes) (8 + length_in bytes) then CutOff
     else if not (agree (number 8 (checksum before (measured_in bytes))) (drop (8 + length_in bytes) bytes))
     then Damaged Checksum
@@ -71,7 +71,7 @@ pub record IsPartial (before : ℕ) (bytes : List ℕ) : Type 0 where
   pub short : Fits 4 (length body)
   pub some : bytes ≢ []
   pub lacks : more ≢ []
-  pub whole : bytes ++ more ≡ sealed before body
+  pub whole : bytes ++ more ≡ with_checksum before body
 
 -- ---- records one after the other
 

@@ -64,14 +64,18 @@ head_text head = number 4 magic ++ number 1 version ++ number 2 head.actor ++ op
 -- ---- events, each kind by a tag of its own
 
 -- an envelope with the stamp of this actor at this clock, at a place among those that it sent then
-abbrev pub stamped : ℕ → ℕ → ℕ → Envelope → Stamped
-stamped me clock place envelope =
+abbrev pub stamped_envelope : ℕ → ℕ → ℕ → Envelope → Stamped
+stamped_envelope me clock place envelope =
     record { stamp = record { actor = me; clock = clock; index = place }; envelope = envelope }
 
 -- a client's command as a request of number 0, which no client sends
-abbrev pub asked : ℕ → ℕ → Cmd → Stamped
-asked me clock cmd =
-    stamped me clock 0 (record { from = me; to = FIRST_SITE; msg = Request (record { number = 0; cmd = cmd }) })
+abbrev pub command_request : ℕ → ℕ → Cmd → Stamped
+command_request me clock cmd =
+    stamped_envelope me clock 0 (record {
+      from = me;
+      to = FIRST_SITE;
+      msg = Request (record { number = 0; cmd = cmd });
+    })
 
 -- the frame of what was delivered, which has a stamp
 abbrev pub delivery_text : Option Stamp → Envelope → List ℕ
@@ -90,7 +94,7 @@ event_text me clock stamp (OfNode (node_event.PaysIn member amt)) = 8 ∷ number
 event_text me clock stamp (OfNode (node_event.Closes member)) = 9 ∷ number 2 member
 event_text me clock stamp (OfClient (client_event.Takes envelope)) = 10 ∷ delivery_text stamp envelope
 event_text me clock stamp (OfClient client_event.Beats) = 11 ∷ []
-event_text me clock stamp (OfClient (client_event.Submits cmd)) = 12 ∷ spelling (asked me clock cmd)
+event_text me clock stamp (OfClient (client_event.Submits cmd)) = 12 ∷ spelling (command_request me clock cmd)
 
 -- ---- outcomes, each kind by a tag of its own
 
@@ -132,7 +136,7 @@ why_number (Some why.Full) = 6
 abbrev pub frames_text : ℕ → ℕ → ℕ → List Envelope → List ℕ
 frames_text me clock place [] = []
 frames_text me clock place (envelope ∷ more) =
-    spelling (stamped me clock place envelope) ++ frames_text me clock (place + 1) more
+    spelling (stamped_envelope me clock place envelope) ++ frames_text me clock (place + 1) more
 
 -- how many, and their frames
 abbrev pub sent_text : ℕ → ℕ → List Envelope → List ℕ
@@ -155,24 +159,24 @@ abbrev pub body_text : ℕ → Entry → List ℕ
 body_text me r = number 8 r.clock ++ event_text me r.clock r.stamp r.event ++ outcome_text me r.clock r.outcome
 
 -- the greatest number of four bytes
-abbrev pub most : ℕ
-most = 4294967295
+abbrev pub greatest_u32 : ℕ
+greatest_u32 = 4294967295
 
 -- a length, the same complemented, and that many bytes
-abbrev pub measured : List ℕ → List ℕ
-measured body = number 4 (length body) ++ number 4 (most - length body) ++ body
+abbrev pub with_length : List ℕ → List ℕ
+with_length body = number 4 (length body) ++ number 4 (greatest_u32 - length body) ++ body
 
 -- these and their checksum, which goes on from the one before
-abbrev pub sealed : ℕ → List ℕ → List ℕ
-sealed before body = measured body ++ number 8 (checksum before (measured body))
+abbrev pub with_checksum : ℕ → List ℕ → List ℕ
+with_checksum before body = with_length body ++ number 8 (checksum before (with_length body))
 
 -- THE RECORD of an event, behind one with this checksum
 abbrev pub record_text : ℕ → ℕ → Entry → List ℕ
-record_text me before r = sealed before (body_text me r)
+record_text me before r = with_checksum before (body_text me r)
 
 -- its checksum
 abbrev pub record_sum : ℕ → ℕ → Entry → ℕ
-record_sum me before r = checksum before (measured (body_text me r))
+record_sum me before r = checksum before (with_length (body_text me r))
 
 -- records one after the other, and the checksum after them
 abbrev pub records_text : ℕ → ℕ → List Entry → List ℕ

@@ -6,12 +6,11 @@ ghost use Rattle.headline.specs.declared.step.ClientEvent.TheVariants as client_
 ghost use Rattle.pvp_parties.specs.declared.party.PartyEvent.TheVariants.{OfSite, OfNode, OfClient};
 ghost use Rattle.pvp_journal.specs.Reading.{Finds, Tells, delivered_at, command_in, submitted_at, pays_in_at, closes_at, submits_at, event_at};
 
-use crate::fields::{u16_at, u64_at};
 use crate::sent::{BankEnvelope, sent_at, stamped_at};
 use headline::ClientEvent;
 use pvp_parties::PartyEvent;
 use pvp_types::Cmd;
-use pvp_wire::{Stamp, WireFault};
+use pvp_wire::{Stamp, WireFault, u16_at, u64_at};
 use rtgs_node::NodeEvent;
 use std::alloc::Global;
 use vr_types::{EventOf, FIRST_SITE, MsgOf, RequestOf};

@@ -3,9 +3,8 @@ ghost use Rattle.std.specs.Prelude.{◌≡◌};
 ghost use Rattle.pvp_journal.specs.Reading.{Finds, opening_at, bank_at, fields_at, head_at};
 
 use crate::fault::JournalWhy;
-use crate::fields::{u16_at, u32_at};
 use byteorder::{BigEndian, ByteOrder};
-use pvp_wire::WireFault;
+use pvp_wire::{WireFault, u16_at, u32_at};
 use vr_types::Boot;
 
 /// The letters PVPJ, with which a journal begins.

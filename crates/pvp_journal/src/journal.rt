@@ -6,14 +6,13 @@ ghost use Rattle.pvp_journal.specs.Journals.{ReadsJournal, ReadsRecords, KeepsEn
 
 use crate::events::event_at;
 use crate::fault::{JournalFault, JournalWhy};
-use crate::fields::u64_at;
 use crate::front::{Front, front_at};
 use crate::head::{Head, head_at};
 use crate::outcomes::outcome_at;
 use crate::sums::checksum;
 use pvp_parties::{PartyEvent, PartyOutcome};
 use pvp_rooms::Recorded;
-use pvp_wire::WireFault;
+use pvp_wire::{WireFault, u64_at};
 use std::alloc::Global;
 
 /// What a room keeps of an event: the event, the stamp of what was delivered, the clock, and how it came out.

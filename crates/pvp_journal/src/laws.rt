@@ -6,12 +6,12 @@ ghost use Rattle.pvp_journal.specs.declared.fault.JournalWhy.{JournalWhy};
 ghost use Rattle.pvp_journal.specs.declared.fault.JournalWhy.TheVariants as why;
 ghost use Rattle.pvp_journal.specs.declared.head.Head.{Head};
 ghost use Rattle.pvp_journal.specs.declared.journal.Left.{Left};
-ghost use Rattle.pvp_journal.specs.Spelling.{Entry, checksum, most, measured, head_text, record_text, record_sum, journal_text, journal_sum};
+ghost use Rattle.pvp_journal.specs.Spelling.{Entry, checksum, greatest_u32, with_length, head_text, record_text, record_sum, journal_text, journal_sum};
 ghost use Rattle.pvp_journal.specs.Fits.{AreJournalable};
 ghost use Rattle.pvp_journal.specs.Journals.{Place, ReadsAs, NoRecord, IsCutBehind, IsLeft, IsWrong, IsPartial, CutOff, Damaged, front_at};
 
 /// What a head and a history are spelled as reads as that head and that history, with nothing left behind it.
-pub fn whole()
+pub fn whole_reads_back()
     ensures { (head : Head) (history : List Entry) → AreJournalable head history →
         ReadsAs (journal_text head history) head history
         (record { sum = journal_sum head history; bytes = [] }) }
@@ -29,7 +29,7 @@ pub fn read()
 /// Bytes read as one head and one history alone, up to where no record stands. None does where nothing is left or a
 /// record is torn, and none where something is wrong but for want of memory. So of what `read_journal` may answer by its
 /// contract no two answers differ, unless memory was refused.
-pub fn only()
+pub fn only_one_reading()
     ensures reading { (bytes : List ℕ) (head other : Head) (history more : List Entry)
         (end stop : Place) → ReadsAs bytes head history end → NoRecord head.actor end →
         ReadsAs bytes other more stop → NoRecord other.actor stop →
@@ -48,7 +48,7 @@ pub fn one()
 {}
 
 /// A journal that was cut off anywhere behind its head is the journal of a front of its history, and behind that nothing or
-/// a torn record. It reads so, and by `only` in no other way: it is never told as damaged.
+/// a torn record. It reads so, and by `only_one_reading` in no other way: it is never told as damaged.
 pub fn cut()
     ensures { (head : Head) (history : List Entry) (size : ℕ) → AreJournalable head history →
         length (head_text head) ≤ size →
@@ -57,7 +57,7 @@ pub fn cut()
 
 /// What is torn is a front of a record, in mid-write: some bytes of one that would be whole with more. And each such front
 /// is torn.
-pub fn torn()
+pub fn torn_is_partial()
     ensures partial { (before : ℕ) (bytes : List ℕ) → IsBytes bytes →
         front_at before bytes ≡ CutOff → IsPartial before bytes }
     ensures cut { (before : ℕ) (bytes : List ℕ) →
@@ -68,9 +68,9 @@ pub fn torn()
 /// does not have its complement behind it, however few bytes there are.
 pub fn damage()
     ensures checksum { (before : ℕ) (body : List ℕ) (sum : ℕ) (rest : List ℕ) →
-        Fits 4 (length body) → Fits 8 sum → sum ≢ checksum before (measured body) →
-        front_at before ((measured body ++ number 8 sum) ++ rest) ≡ Damaged why.Checksum }
-    ensures length { (before n m : ℕ) (rest : List ℕ) → Fits 4 n → Fits 4 m → n + m ≢ most →
+        Fits 4 (length body) → Fits 8 sum → sum ≢ checksum before (with_length body) →
+        front_at before ((with_length body ++ number 8 sum) ++ rest) ≡ Damaged why.Checksum }
+    ensures length { (before n m : ℕ) (rest : List ℕ) → Fits 4 n → Fits 4 m → n + m ≢ greatest_u32 →
         front_at before ((number 4 n ++ number 4 m) ++ rest) ≡ Damaged why.Length }
 {}
 

@@ -4,7 +4,6 @@
 
 mod events;
 pub mod fault;
-mod fields;
 mod front;
 pub mod head;
 pub mod journal;

@@ -2,12 +2,11 @@
 ghost use Rattle.std.specs.Prelude.{◌≡◌};
 ghost use Rattle.pvp_journal.specs.Reading.{Finds, Tells, site_fault_at, node_fault_at, client_fault_at, why_at, did_at, refused_at, fell_at, node_told_at, node_refused_at, client_told_at, client_refused_at, outcome_at};
 
-use crate::fields::u32_at;
 use crate::sent::all_sent_at;
 use headline::ClientFault;
 use pvp_parties::PartyOutcome;
 use pvp_rooms::CameOf;
-use pvp_wire::WireFault;
+use pvp_wire::{WireFault, u32_at};
 use rtgs_node::NodeFault;
 use std::alloc::Global;
 use vr_types::{Boot, SiteFault, Why};

@@ -2,9 +2,8 @@
 ghost use Rattle.std.specs.Prelude.{◌≡◌, ◌++◌, ◌∷◌, [], OnOk};
 ghost use Rattle.pvp_journal.specs.Reading.{Tells, is_of, stamped_at, sent_at, frames_from, all_sent_at};
 
-use crate::fields::u32_at;
 use pvp_types::{Cmd, PayOrder, Reply};
-use pvp_wire::{Stamp, Stamped, WireFault, decode};
+use pvp_wire::{Stamp, Stamped, WireFault, decode, u32_at};
 use std::alloc::{AllocError, Global};
 use vr_types::{EnvelopeOf, SentOf};
 

@@ -310,8 +310,8 @@ fn put_submits(
     out: &mut Vec<u8>,
 ) -> Result<(), WriteFault>
     ensures { Puts out.old.items
-        (12 ∷ spelling (spell.asked me clock cmd))
-        ((stamp ≡ None) × IsSpelled (spell.asked me clock cmd))
+        (12 ∷ spelling (spell.command_request me clock cmd))
+        ((stamp ≡ None) × IsSpelled (spell.command_request me clock cmd))
         result out.new.items }
 {
     put_plain(12, stamp, out)?;

@@ -28,6 +28,7 @@ use Rattle.rtgs_node.specs.declared.event.NodeEvent.TheVariants as node_event
 use Rattle.rtgs_node.specs.declared.fault.NodeFault.TheVariants.{NotMine}
 use Rattle.rtgs_node.specs.Node.{Envelope, Node, refuses, on_message, node_step, opening_node}
 use Rattle.rtgs_node.specs.Shown as node
+use Rattle.rtgs_node.specs.Shown.{ShownNode}
 use Rattle.headline.specs.declared.step.ClientEvent.{ClientEvent}
 use Rattle.headline.specs.declared.step.ClientEvent.TheVariants as client_event
 use Rattle.headline.specs.declared.step.Move.{Move}
@@ -41,13 +42,13 @@ use Rattle.headline.specs.Legal.{Leads, IsLegal}
 use Rattle.headline.proofs.Basics.{none-some, some-same, set-here}
 use Rattle.headline.proofs.Runs.{legal-more}
 use Rattle.headline.proofs.Turns.{turn_of_site, turn_of_node, turn_of_client}
-use Rattle.pvp_world.specs.Client as client
+use Rattle.pvp_world.specs.Client.{ShownClient}
 use Rattle.pvp_rooms.specs.declared.message.Recorded.{Recorded}
 use Rattle.pvp_rooms.specs.declared.site.CameOf.TheVariants.{Did, Refused, Fell}
 use Rattle.pvp_rooms.specs.Histories.{replay}
 use Rattle.pvp_rooms.proofs.Growing.{replay-push}
 use Rattle.pvp_rooms.proofs.SiteSteps.{ended_allowed}
-use Rattle.pvp_audit.specs.Runs.{Tagged, own, number_in, number_at, AreInOrder, AreOpenings}
+use Rattle.pvp_audit.specs.Runs.{Tagged, own_events, number_in, number_at, AreInOrder, AreOpenings}
 use Rattle.pvp_parties.specs.Parties.{Party}
 use Rattle.pvp_parties.specs.declared.party.PartyOf.TheVariants as party_of
 use Rattle.pvp_parties.specs.declared.party.PartyEvent.{PartyEvent}
@@ -55,8 +56,8 @@ use Rattle.pvp_parties.specs.declared.party.PartyEvent.TheVariants as party_even
 use Rattle.pvp_parties.specs.declared.party.PartyOutcome.{PartyOutcome}
 use Rattle.pvp_parties.specs.declared.party.PartyOutcome.TheVariants as outcome
 use Rattle.pvp_parties.specs.Made.{Made}
-use Rattle.pvp_parties.specs.Alike.{Site as Shown}
-use Rattle.pvp_parties.specs.Parties.{PartyState, AtSite, AtNode, AtClient, Opens, Comes, after, delivers, sent, is_for, number_of, setup_of}
+use Rattle.pvp_parties.specs.Alike.{Site as Replica}
+use Rattle.pvp_parties.specs.Parties.{PartyState, AtSite, AtNode, AtClient, Opens, Comes, after, delivers, sent_envelopes, is_for, number_of, setup_of}
 use Rattle.pvp_judge.specs.Judged.{Left, party}
 use Rattle.pvp_judge.specs.Coming.{site_at, node_at, client_at, IsThere}
 use Rattle.pvp_judge.specs.Moves as moves
@@ -97,20 +98,20 @@ module _ (setup : Setup) (choose : Choice Cmd) where
   -- THE STATES OF ACTORS OF THIS BANK
 
   -- as they open
-  abbrev pub opened : Party → Option Boot → PartyState
-  opened (party_of.Site p) (Some boot) = AtSite (site_at setup choose p.place (opening_site f boot))
-  opened (party_of.Site p) None = AtClient (client_at setup choose p.place opening_client)
-  opened (party_of.Node p) boot = AtNode (node_at setup choose p.place opening_node)
-  opened (party_of.Client p) boot = AtClient (client_at setup choose p.place opening_client)
+  abbrev pub opening_state : Party → Option Boot → PartyState
+  opening_state (party_of.Site p) (Some boot) = AtSite (site_at setup choose p.place (opening_site f boot))
+  opening_state (party_of.Site p) None = AtClient (client_at setup choose p.place opening_client)
+  opening_state (party_of.Node p) boot = AtNode (node_at setup choose p.place opening_node)
+  opening_state (party_of.Client p) boot = AtClient (client_at setup choose p.place opening_client)
 
   abbrev pub start_in : Option Left → PartyState
   start_in None = AtClient (client_at setup choose 0 opening_client)
-  start_in (Some c) = opened c.end c.opening
+  start_in (Some c) = opening_state c.end c.opening
 
   abbrev pub start_of : List Left → ℕ → PartyState
   start_of closed k = start_in (slice_get closed k)
 
-  opens_so : IsRight f choose → (e : Party) (over : Option Boot) → setup_of e ≡ setup → OpenedOver e over → Opens e over (opened e over)
+  opens_so : IsRight f choose → (e : Party) (over : Option Boot) → setup_of e ≡ setup → OpenedOver e over → Opens e over (opening_state e over)
   opens_so right (party_of.Site p) (Some boot) same by = record {
     is = record { f = ap faults (sym same); me = refl; start = ap opening (sym same); right = right };
     site = ap (λ (s : Setup). opening_site (faults s) boot) (sym same);
@@ -130,13 +131,13 @@ module _ (setup : Setup) (choose : Choice Cmd) where
 
   -- where an actor's replay is
   abbrev pub state_of : List Left → List (Tagged PartyEvent PartyOutcome) → ℕ → PartyState
-  state_of closed run k = replay after (own run k) (start_of closed k)
+  state_of closed run k = replay after (own_events run k) (start_of closed k)
 
   -- moves that lead the bank to where the actors are after a run
   pub record Agrees (closed : List Left) (cells : List Boot) (run : List (Tagged PartyEvent PartyOutcome)) (moves : List Move) (bank : Bank) : Type 0 where
     pub legal : IsLegal setup choose f cells moves bank
     pub there : (k : ℕ) (c : Left) → slice_get closed k ≡ Some c → IsThere setup choose bank c.end (state_of closed run k)
-    pub post : bank.post ≡ post_of sent run
+    pub post : bank.post ≡ post_of sent_envelopes run
 
   -- ONE ACTOR'S PART CHANGES, AND NO OTHER'S
 
@@ -256,29 +257,30 @@ module _ (setup : Setup) (choose : Choice Cmd) where
         → (j : ℕ) (d : Left) → slice_get closed j ≡ Some d → IsThere setup choose later d.end (state_of closed next_run j)
     all_there later mine others j d there = go (k == j) refl
       where
-        go : (b : Bool) → (k == j) ≡ b → IsThere setup choose later d.end (replay after (own run j ++ (if b then r ∷ [] else [])) (start_of closed j))
+        go : (b : Bool) → (k == j) ≡ b → IsThere setup choose later d.end (replay after (own_events run j ++ (if b then r ∷ [] else [])) (start_of closed j))
         go true same =
             let e = eqb-true k j same in
-            let at_k : (d : Left) → slice_get closed k ≡ Some d → IsThere setup choose later d.end (replay after (own run k ++ r ∷ []) (start_of closed k)) =
-            λ d there. subst (λ (x : PartyState). IsThere setup choose later d.end x) (sym (replay-push after (own run k) r (start_of closed k)))
+            let at_k : (d : Left) → slice_get closed k ≡ Some d
+            → IsThere setup choose later d.end (replay after (own_events run k ++ r ∷ []) (start_of closed k)) =
+            λ d there. subst (λ (x : PartyState). IsThere setup choose later d.end x) (sym (replay-push after (own_events run k) r (start_of closed k)))
             (subst (λ (q : Left). IsThere setup choose later q.end (after (state_of closed run k) r.event r.outcome)) (some-same c d (sym is ∙ there)) mine) in
             subst (λ (i : ℕ). (d : Left) → slice_get closed i ≡ Some d
-            → IsThere setup choose later d.end (replay after (own run i ++ r ∷ []) (start_of closed i))) e at_k d there
+            → IsThere setup choose later d.end (replay after (own_events run i ++ r ∷ []) (start_of closed i))) e at_k d there
         go false same =
             subst (λ (l : List (Recorded PartyEvent PartyOutcome)). IsThere setup choose later d.end (replay after l (start_of closed j)))
-            (sym (append-nil (own run j)))
+            (sym (append-nil (own_events run j)))
             (others j d there (other j d there (eqb-false k j same)) (a.there j d there))
 
     -- nothing was done
-    stays : after (state_of closed run k) r.event r.outcome ≡ state_of closed run k → sent r.outcome ≡ [] → Agrees closed cells next_run trail bank
+    stays : after (state_of closed run k) r.event r.outcome ≡ state_of closed run k → sent_envelopes r.outcome ≡ [] → Agrees closed cells next_run trail bank
     stays still none = record {
       legal = a.legal;
       there = all_there bank (subst (λ (x : PartyState). IsThere setup choose bank c.end x) (sym still) (a.there k c is)) (λ j d there off so. so);
-      post = a.post ∙ sym (append-nil (post_of sent run)) ∙ ap (λ (l : List Envelope). post_of sent run ++ l) (sym none);
+      post = a.post ∙ sym (append-nil (post_of sent_envelopes run)) ∙ ap (λ (l : List Envelope). post_of sent_envelopes run ++ l) (sym none);
     }
 
     -- a move was taken
-    goes : (move : Move) (later : Bank) → Leads setup choose f bank move later → later.post ≡ bank.post ++ sent r.outcome
+    goes : (move : Move) (later : Bank) → Leads setup choose f bank move later → later.post ≡ bank.post ++ sent_envelopes r.outcome
         → IsThere setup choose later c.end (after (state_of closed run k) r.event r.outcome)
         → ((j : ℕ) (d : Left) → slice_get closed j ≡ Some d → ¬ (number_of d.end ≡ number_of c.end) → IsThere setup choose bank d.end (state_of closed run j)
         → IsThere setup choose later d.end (state_of closed run j))
@@ -289,7 +291,7 @@ module _ (setup : Setup) (choose : Choice Cmd) where
       record {
         legal = legal-more setup choose f cells trail bank move later a.legal leads;
         there = all_there later mine others;
-        post = posts ∙ ap (λ (l : List Envelope). l ++ sent r.outcome) a.post;
+        post = posts ∙ ap (λ (l : List Envelope). l ++ sent_envelopes r.outcome) a.post;
       },
     )
 
@@ -301,13 +303,14 @@ module _ (setup : Setup) (choose : Choice Cmd) where
         subst (λ (q : Party). IsThere setup choose later q (after (state_of closed run k) r.event r.outcome)) (sym ends)
         (subst (λ (s : PartyState). IsThere setup choose later e s) (λ i. after (sym at i) (sym event i) (sym came i)) there)
 
-    still : (x : PartyState) → state_of closed run k ≡ x → (v : PartyEvent) → r.event ≡ v → (o : PartyOutcome) → r.outcome ≡ o → after x v o ≡ x → sent o ≡ []
+    still : (x : PartyState) → state_of closed run k ≡ x → (v : PartyEvent) → r.event ≡ v → (o : PartyOutcome) → r.outcome ≡ o → after x v o ≡ x
+        → sent_envelopes o ≡ []
         → Goes None
-    still x at v event o came same none = stays ((λ i. after (at i) (event i) (came i)) ∙ same ∙ sym at) (ap sent came ∙ none)
+    still x at v event o came same none = stays ((λ i. after (at i) (event i) (came i)) ∙ same ∙ sym at) (ap sent_envelopes came ∙ none)
 
     module _ (number : ℕ) where
       -- a site
-      site_goes : (p : Made Shown) → c.end ≡ party_of.Site p → (y : Site Cmd) → state_of closed run k ≡ AtSite (site_at setup choose p.place y)
+      site_goes : (p : Made Replica) → c.end ≡ party_of.Site p → (y : Site Cmd) → state_of closed run k ≡ AtSite (site_at setup choose p.place y)
           → slice_get bank.sites p.place ≡ Some y
           → (v : PartyEvent) → r.event ≡ v → (o : PartyOutcome) → r.outcome ≡ o → Comes (AtSite (site_at setup choose p.place y)) v o → Names bank.post number v
           → Goes (move_by (200 + p.place) v o number)
@@ -322,7 +325,7 @@ module _ (setup : Setup) (choose : Choice Cmd) where
             has_turn = site_turn bank.post number i y e (allowed_free i y e allowed) named;
             acts = record { before = y; is_there = there; allowed = allowed; leads = refl };
           })
-          (ap (λ (l : List Envelope). bank.post ++ l) (sym come.sends ∙ sym (ap sent came)))
+          (ap (λ (l : List Envelope). bank.post ++ l) (sym come.sends ∙ sym (ap sent_envelopes came)))
           (put (party_of.Site p) ends (AtSite (site_at setup choose i y)) at (party_event.OfSite e) event (outcome.OfSite (Did letters dropped)) came later
           (step.site, refl, set-here bank.sites i y step.site there))
           (λ j d is_d off so. site_kept bank later.post i step.site d.end (state_of closed run j) (λ h. off (h ∙ sym (ap number_of ends))) so)
@@ -337,7 +340,7 @@ module _ (setup : Setup) (choose : Choice Cmd) where
             has_turn = site_turn bank.post number i y e (allowed_free i y e come.0.allowed) named;
             falls = record { before = y; is_there = there; falls = come.0; leads = refl };
           })
-          (sym (append-nil bank.post) ∙ ap (λ (l : List Envelope). bank.post ++ l) (sym (ap sent came)))
+          (sym (append-nil bank.post) ∙ ap (λ (l : List Envelope). bank.post ++ l) (sym (ap sent_envelopes came)))
           (put (party_of.Site p) ends (AtSite (site_at setup choose i y)) at (party_event.OfSite e) event (outcome.OfSite (Fell why cell)) came later
           (over cell Down, refl, set-here bank.sites i y (over cell Down) there))
           (λ j d is_d off so. site_kept bank bank.post i (over cell Down) d.end (state_of closed run j) (λ h. off (h ∙ sym (ap number_of ends))) so)
@@ -348,7 +351,7 @@ module _ (setup : Setup) (choose : Choice Cmd) where
       site_goes p ends y at there v event o came come named = absurd come
 
       -- a node
-      node_goes : (p : Made node.Shown) → c.end ≡ party_of.Node p → (y : Node) → state_of closed run k ≡ AtNode (node_at setup choose p.place y)
+      node_goes : (p : Made ShownNode) → c.end ≡ party_of.Node p → (y : Node) → state_of closed run k ≡ AtNode (node_at setup choose p.place y)
           → slice_get bank.nodes p.place ≡ Some y → p.place < 99
           → (v : PartyEvent) → r.event ≡ v → (o : PartyOutcome) → r.outcome ≡ o → Comes (AtNode (node_at setup choose p.place y)) v o → Names bank.post number v
           → Goes (move_by (101 + p.place) v o number)
@@ -365,7 +368,7 @@ module _ (setup : Setup) (choose : Choice Cmd) where
                 to_node i y letter (subst (λ (q : NodeEvent). (node_step setup f i y q).fault ≡ None) is come.allowed)) named;
             acts = record { before = y; is_there = there; allowed = come.allowed; leads = refl };
           })
-          (ap (λ (l : List Envelope). bank.post ++ l) (sym come.sends ∙ sym (ap sent came)))
+          (ap (λ (l : List Envelope). bank.post ++ l) (sym come.sends ∙ sym (ap sent_envelopes came)))
           (put (party_of.Node p) ends (AtNode (node_at setup choose i y)) at (party_event.OfNode e) event (outcome.OfNode (Ok letters)) came later
           (step.node, refl, set-here bank.nodes i y step.node there))
           (λ j d is_d off so. node_kept bank later.post i step.node d.end (state_of closed run j) (λ h. off (h ∙ sym (ap number_of ends))) so)
@@ -378,7 +381,7 @@ module _ (setup : Setup) (choose : Choice Cmd) where
       node_goes p ends y at there low v event o came come named = absurd come
 
       -- a client, which takes only what is addressed to it
-      client_goes : (p : Made client.Shown) → c.end ≡ party_of.Client p → (y : Client) → state_of closed run k ≡ AtClient (client_at setup choose p.place y)
+      client_goes : (p : Made ShownClient) → c.end ≡ party_of.Client p → (y : Client) → state_of closed run k ≡ AtClient (client_at setup choose p.place y)
           → slice_get bank.clients p.place ≡ Some y → p.place < 101
           → (v : PartyEvent) → r.event ≡ v → (o : PartyOutcome) → r.outcome ≡ o → Comes (AtClient (client_at setup choose p.place y)) v o
           → Names bank.post number v
@@ -393,7 +396,7 @@ module _ (setup : Setup) (choose : Choice Cmd) where
             has_turn = client_turn bank.post number i e low (λ letter h. mine letter (ap (λ (q : ClientEvent). party_event.OfClient q) h)) named;
             acts = record { before = y; is_there = there; allowed = come.allowed; leads = refl };
           })
-          (ap (λ (l : List Envelope). bank.post ++ l) (sym come.sends ∙ sym (ap sent came)))
+          (ap (λ (l : List Envelope). bank.post ++ l) (sym come.sends ∙ sym (ap sent_envelopes came)))
           (put (party_of.Client p) ends (AtClient (client_at setup choose i y)) at (party_event.OfClient e) event (outcome.OfClient (Ok letters)) came later
           (step.client, refl, set-here bank.clients i y step.client there))
           (λ j d is_d off so. client_kept bank later.post i step.client d.end (state_of closed run j) (λ h. off (h ∙ sym (ap number_of ends))) so)
@@ -406,7 +409,7 @@ module _ (setup : Setup) (choose : Choice Cmd) where
       client_goes p ends y at there low v event o came come named mine = absurd come
 
       -- what comes to a client is addressed to it
-      for_client : (p : Made client.Shown) → c.end ≡ party_of.Client p → (delivers r.event ≡ None) ⊎ (is_for c.end r.event ≡ true) → (letter : Envelope)
+      for_client : (p : Made ShownClient) → c.end ≡ party_of.Client p → (delivers r.event ≡ None) ⊎ (is_for c.end r.event ≡ true) → (letter : Envelope)
           → r.event ≡ party_event.OfClient (client_event.Takes letter) → letter.to ≡ p.place
       for_client p ends (inl none) letter taken = absurd (none-some letter (sym none ∙ ap delivers taken))
       for_client p ends (inr mine) letter taken = eqb-true letter.to p.place (sym (λ i. is_for (ends i) (taken i)) ∙ mine)

@@ -31,7 +31,7 @@ use Rattle.headline.specs.Bank.{Bank, turn, with_site, with_node, with_client}
 use Rattle.headline.specs.Legal.{Acts, FallsBy, Steps, Fails, LegalList}
 use Rattle.headline.proofs.Basics.{none-some, some-same, there}
 use Rattle.headline.proofs.Reached.{legal-holds}
-use Rattle.pvp_world.specs.World.{Shown, IsAt}
+use Rattle.pvp_world.specs.World.{ShownWorld, IsAt}
 use Rattle.pvp_world.specs.Steps.{Moves, IsTaken, IsRefused, AreReliable, dropped_in}
 use Rattle.pvp_world.specs.Falling.{FallsTo, KeepsReliable}
 use Rattle.pvp_world.specs.Refusals.{bank_refuses, turn_refuses, hinders, wants_fall}
@@ -116,10 +116,10 @@ acts_more setup choose f bank (OfClient k event) after p = ((client_step f k p.b
 
 -- WHAT A WORLD DOES
 
-module _ (one_bank : (setup : Setup) (f : ℕ) (a b : LegalList setup f) → a.cells ≡ b.cells → a.moves ≡ b.moves → a.bank ≡ b.bank) (world : Shown MemCell)
+module _ (one_bank : (setup : Setup) (f : ℕ) (a b : LegalList setup f) → a.cells ≡ b.cells → a.moves ≡ b.moves → a.bank ≡ b.bank) (world : ShownWorld MemCell)
     (at : IsAt held_by world)
     (list : LegalList world.setup (faults world.setup)) (cells : list.cells ≡ world.opening) (moves : list.moves ≡ world.trail) (step : Step)
-    (new : Shown MemCell) where
+    (new : ShownWorld MemCell) where
   abbrev g : ℕ
   g = faults world.setup
 

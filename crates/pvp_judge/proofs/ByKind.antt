@@ -26,7 +26,7 @@ use Rattle.headline.specs.declared.step.ClientEvent.TheVariants as client_event
 use Rattle.headline.specs.declared.step.ClientFault.{ClientFault}
 use Rattle.headline.specs.declared.step.ClientFault.TheVariants as client_fault
 use Rattle.headline.specs.Legal.{LegalList}
-use Rattle.pvp_world.specs.World.{Shown, ShowsBank, OfTrail}
+use Rattle.pvp_world.specs.World.{ShownWorld, ShowsBank, OfTrail}
 use Rattle.pvp_world.specs.Steps.{told_as}
 use Rattle.pvp_world.specs.Refusals.{bank_refuses}
 use Rattle.pvp_world.specs.declared.fault.WorldFault.TheVariants as fault
@@ -42,7 +42,7 @@ pub ok_map : {X E : Type 0} (P Q : X → Type 0) (r : Result X E) → ((x : X) �
 ok_map P Q (Ok x) so is = so x is
 ok_map P Q (Err e) so is = tt
 
-module _ (world : Shown MemCell) (shows : OfTrail world (λ list. ShowsBank held_by world list.bank)) where
+module _ (world : ShownWorld MemCell) (shows : OfTrail world (λ list. ShowsBank held_by world list.bank)) where
   named_there : (list : LegalList world.setup (faults world.setup)) → list.cells ≡ world.opening → list.moves ≡ world.trail → (number : ℕ) (e : _)
       → Names world.post number e → Names list.bank.post number e
   named_there list cells moves number e named = subst (λ (post : List Envelope). Names post number e) (shows list cells moves).post named

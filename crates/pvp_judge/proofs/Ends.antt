@@ -4,12 +4,12 @@ use Rattle.vr_types.specs.Site.{Site, boot_of}
 use Rattle.pvp_types.specs.declared.setup.Setup.{Setup}
 use Rattle.pvp_types.specs.declared.command.Cmd.{Cmd}
 use Rattle.vr_types.specs.Choice.{Choice}
-use Rattle.rtgs_node.specs.Shown as node
+use Rattle.rtgs_node.specs.Shown.{ShownNode}
 use Rattle.headline.specs.Bank.{Bank}
 use Rattle.headline.proofs.Basics.{some-same}
-use Rattle.pvp_world.specs.Client as client
+use Rattle.pvp_world.specs.Client.{ShownClient}
 use Rattle.vr_types.specs.declared.cell.MemCell.{MemCell}
-use Rattle.pvp_world.specs.World.{Shown}
+use Rattle.pvp_world.specs.World.{ShownWorld}
 use Rattle.pvp_rooms.specs.Nodes as nodes
 use Rattle.pvp_rooms.specs.Clients as clients
 use Rattle.pvp_parties.specs.Alike.{Site as Replica, AreAlikeSites}
@@ -19,7 +19,8 @@ use Rattle.pvp_parties.specs.Parties.{Party, PartyState, AtSite, AtNode, AtClien
 use Rattle.pvp_judge.specs.Coming.{IsThere}
 use Rattle.pvp_judge.specs.Judged.{ShowsState, ReadsWorld}
 
-pub reads_world : (world : Shown MemCell) (number : ℕ) (e : Party) (x : PartyState) → ShowsState world number x → Reads memory e x → ReadsWorld world number e
+pub reads_world : (world : ShownWorld MemCell) (number : ℕ) (e : Party) (x : PartyState) → ShowsState world number x → Reads memory e x
+    → ReadsWorld world number e
 reads_world world number (party_of.Site p) (AtSite x) shown reads = (
   shown.0,
   shown.1,
@@ -54,7 +55,7 @@ there_kind setup choose bank (party_of.Node p) x at = subst (λ (s : PartyState)
 there_kind setup choose bank (party_of.Client p) x at = subst (λ (s : PartyState). IsOfKind (party_of.Client p) s) (sym at.1) tt
 
 -- and ends that read like the world's actor read like where the histories lead
-pub reads_replay : (world : Shown MemCell) (number : ℕ) (e : Party) (x : PartyState) → ShowsState world number x → IsOfKind e x → ReadsWorld world number e
+pub reads_replay : (world : ShownWorld MemCell) (number : ℕ) (e : Party) (x : PartyState) → ShowsState world number x → IsOfKind e x → ReadsWorld world number e
     → Reads memory e x
 reads_replay world number (party_of.Site p) (AtSite x) shown kind reads =
     let same : reads.0 ≡ shown.0 = some-same reads.0 shown.0 (sym reads.1 ∙ shown.1) in
@@ -68,9 +69,9 @@ reads_replay world number (party_of.Site p) (AtSite x) shown kind reads =
       cell = alike.cell ∙ sym (ap (λ (s : Site Cmd). s.cell) shown.2.site);
     }
 reads_replay world number (party_of.Node p) (AtNode x) shown kind reads =
-    subst (λ (v : node.Shown). nodes.Reads p.now v) (some-same reads.0 x (sym reads.1 ∙ shown)) reads.2
+    subst (λ (v : ShownNode). nodes.Reads p.now v) (some-same reads.0 x (sym reads.1 ∙ shown)) reads.2
 reads_replay world number (party_of.Client p) (AtClient x) shown kind reads =
-    subst (λ (v : client.Shown). clients.Reads p.now v) (some-same reads.0 x (sym reads.1 ∙ shown)) reads.2
+    subst (λ (v : ShownClient). clients.Reads p.now v) (some-same reads.0 x (sym reads.1 ∙ shown)) reads.2
 reads_replay world number (party_of.Site p) (AtNode x) shown kind reads = absurd kind
 reads_replay world number (party_of.Site p) (AtClient x) shown kind reads = absurd kind
 reads_replay world number (party_of.Node p) (AtSite x) shown kind reads = absurd kind

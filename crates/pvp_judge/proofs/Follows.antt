@@ -11,20 +11,20 @@ use Rattle.vr_types.specs.Choice.{Choice, IsRight}
 use Rattle.vr_types.specs.Site.{opening_site}
 use Rattle.pvp_book.specs.Ledger.{opening}
 use Rattle.rtgs_node.specs.Node.{Envelope, opening_node}
-use Rattle.rtgs_node.specs.Shown as node
+use Rattle.rtgs_node.specs.Shown.{ShownNode}
 use Rattle.headline.specs.declared.step.Move.{Move}
 use Rattle.headline.specs.Client.{opening_client}
 use Rattle.headline.specs.Bank.{Bank, opening_bank}
 use Rattle.headline.specs.Legal.{IsRun, Leads, LegalList}
 use Rattle.headline.proofs.Basics.{none-some, some-same}
-use Rattle.pvp_world.specs.World.{Shown, ShowsBank, IsProved}
+use Rattle.pvp_world.specs.World.{ShownWorld, ShowsBank, IsProved}
 use Rattle.pvp_world.specs.Steps.{Moves, AreReliable}
-use Rattle.pvp_world.specs.Client as client
+use Rattle.pvp_world.specs.Client.{ShownClient}
 use Rattle.pvp_world.proofs.Refused.{within}
 use Rattle.pvp_world.proofs.Allowed.{shows-other}
 use Rattle.pvp_rooms.specs.declared.message.Recorded.{Recorded}
 use Rattle.pvp_rooms.specs.Histories.{replay}
-use Rattle.pvp_audit.specs.Runs.{Tagged, own, history_in, history_of, AreInOrder}
+use Rattle.pvp_audit.specs.Runs.{Tagged, own_events, history_in, history_of, AreInOrder}
 use Rattle.pvp_parties.specs.Parties.{Party}
 use Rattle.pvp_parties.specs.declared.party.PartyOf.TheVariants as party_of
 use Rattle.pvp_parties.specs.declared.party.PartyEvent.{PartyEvent}
@@ -37,11 +37,11 @@ use Rattle.pvp_judge.specs.Moves.{move_of}
 use Rattle.pvp_judge.specs.Retold.{Names, GoesBy}
 use Rattle.pvp_judge.specs.Banked.{AreOfBank, OpenedOver, HasPlace, OpensInOrder}
 use Rattle.pvp_judge.proofs.Ends.{IsOfKind, there_kind, reads_world, reads_replay}
-use Rattle.pvp_judge.proofs.Agrees.{opened, openings_are, start_in, start_of, number_is, Agrees, Goes, takes_next}
+use Rattle.pvp_judge.proofs.Agrees.{opening_state, openings_are, start_in, start_of, number_is, Agrees, Goes, takes_next}
 
 module _ (setup : Setup) (closed : List Left) (choose : Choice Cmd) (right : IsRight (faults setup) choose) where
   -- a world of this setup, over cells no save of which fails, that went through a run as the actors did by this choice
-  pub record Follows (run : List (Tagged PartyEvent PartyOutcome)) (world : Shown MemCell) : Type 0 where
+  pub record Follows (run : List (Tagged PartyEvent PartyOutcome)) (world : ShownWorld MemCell) : Type 0 where
     pub bank : Bank
     pub agrees : Agrees setup choose closed world.opening run world.trail bank
     pub made : world.setup ≡ setup
@@ -50,7 +50,7 @@ module _ (setup : Setup) (closed : List Left) (choose : Choice Cmd) (right : IsR
 
   -- THE BEGINNING
 
-  module _ (all : AreOfBank setup closed) (numbered : OpensInOrder closed) (world : Shown MemCell) (made : world.setup ≡ setup)
+  module _ (all : AreOfBank setup closed) (numbered : OpensInOrder closed) (world : ShownWorld MemCell) (made : world.setup ≡ setup)
       (cells : world.opening ≡ openings closed) (nothing : world.trail ≡ []) (proved : IsProved held_by world) (reliable : AreReliable memory world) where
     abbrev list : LegalList world.setup (faults world.setup)
     list = proved.is_at.list
@@ -73,7 +73,7 @@ module _ (setup : Setup) (closed : List Left) (choose : Choice Cmd) (right : IsR
     client_there (suc i) low = same_all opening_client setup.members i (omega arith)
 
     opens_there : (k : ℕ) (c : Left) → slice_get closed k ≡ Some c → (e : Party) → c.end ≡ e → (over : Option Boot) → c.opening ≡ over → OpenedOver e over
-        → HasPlace setup e → IsThere setup choose first e (opened setup choose e over)
+        → HasPlace setup e → IsThere setup choose first e (opening_state setup choose e over)
     opens_there k c is (party_of.Site p) ends (Some boot) over by place = (
       opening_site (faults setup) boot,
       refl,
@@ -107,7 +107,7 @@ module _ (setup : Setup) (closed : List Left) (choose : Choice Cmd) (right : IsR
   -- ONE EVENT MORE
 
   module _ (order : AreInOrder closed) (all : AreOfBank setup closed) (run : List (Tagged PartyEvent PartyOutcome))
-      (world : Shown MemCell) (p : Follows run world)
+      (world : ShownWorld MemCell) (p : Follows run world)
       (one_bank : (setup : Setup) (f : ℕ) (a b : LegalList setup f) → a.cells ≡ b.cells → a.moves ≡ b.moves → a.bank ≡ b.bank) where
     -- the legal list of the world's trail, by the actors' choices
     abbrev mine : LegalList setup (faults setup)
@@ -128,14 +128,14 @@ module _ (setup : Setup) (closed : List Left) (choose : Choice Cmd) (right : IsR
 
     -- whether an event comes out so is told of the state to which this choice leads
     pub told_here : (k : ℕ) (c : Left) → slice_get closed k ≡ Some c → (r : Recorded PartyEvent PartyOutcome) (can : Bool) → ComesSo world c.end r can
-        → IsTrue can ↔ Comes (replay after (own run k) (start_of setup choose closed k)) r.event r.outcome
+        → IsTrue can ↔ Comes (replay after (own_events run k) (start_of setup choose closed k)) r.event r.outcome
     told_here k c is r can so =
         subst (λ (s : Setup). (l : LegalList s (faults s)) → l.cells ≡ world.opening → l.moves ≡ world.trail → (x : PartyState)
         → IsThere s l.choose l.bank c.end x → IsTrue can ↔ Comes x r.event r.outcome) p.made
-        so mine refl refl (replay after (own run k) (start_of setup choose closed k)) (p.agrees.there k c is)
+        so mine refl refl (replay after (own_events run k) (start_of setup choose closed k)) (p.agrees.there k c is)
 
     module _ (k : ℕ) (c : Left) (is : slice_get closed k ≡ Some c) (r : Recorded PartyEvent PartyOutcome) (number : ℕ)
-        (come : Comes (replay after (own run k) (start_of setup choose closed k)) r.event r.outcome)
+        (come : Comes (replay after (own_events run k) (start_of setup choose closed k)) r.event r.outcome)
         (here : (delivers r.event ≡ None) ⊎ (is_for c.end r.event ≡ true)) (named : Names world.post number r.event) where
       abbrev pub next : List (Tagged PartyEvent PartyOutcome)
       next = record { by = k; what = r } ∷ run
@@ -151,7 +151,7 @@ module _ (setup : Setup) (closed : List Left) (choose : Choice Cmd) (right : IsR
       goes_by move e = subst (λ (o : Option Move). Goes setup choose closed order all world.opening run world.trail p.bank p.agrees k c is r o) e goes
 
       -- and when it took it, it is where the actors are
-      took : (move : Move) → move_of c.number r number ≡ Some move → (new : Shown MemCell) → Moves held_by world new move → IsProved held_by new
+      took : (move : Move) → move_of c.number r number ≡ Some move → (new : ShownWorld MemCell) → Moves held_by world new move → IsProved held_by new
           → AreReliable memory new → Follows next new
       took move e new moves proved reliable =
           let g = goes_by move e in
@@ -164,19 +164,19 @@ module _ (setup : Setup) (closed : List Left) (choose : Choice Cmd) (right : IsR
             reliable = reliable;
           }
 
-      took_none : move_of c.number r number ≡ None → (new : Shown MemCell) → new ≡ world → IsProved held_by new → AreReliable memory new → Follows next new
+      took_none : move_of c.number r number ≡ None → (new : ShownWorld MemCell) → new ≡ world → IsProved held_by new → AreReliable memory new → Follows next new
       took_none e new same proved reliable =
           let g : Agrees setup choose closed world.opening next world.trail p.bank =
           subst (λ (o : Option Move). Goes setup choose closed order all world.opening run world.trail p.bank p.agrees k c is r o) e goes in
           record {
             bank = p.bank;
-            agrees = subst (λ (w : Shown MemCell). Agrees setup choose closed w.opening next w.trail p.bank) (sym same) g;
-            made = ap (λ (w : Shown MemCell). w.setup) same ∙ p.made;
+            agrees = subst (λ (w : ShownWorld MemCell). Agrees setup choose closed w.opening next w.trail p.bank) (sym same) g;
+            made = ap (λ (w : ShownWorld MemCell). w.setup) same ∙ p.made;
             proved = proved;
             reliable = reliable;
           }
 
-      pub follows_next : (new : Shown MemCell) → GoesBy held_by world new (move_of c.number r number) → IsProved held_by new → AreReliable memory new
+      pub follows_next : (new : ShownWorld MemCell) → GoesBy held_by world new (move_of c.number r number) → IsProved held_by new → AreReliable memory new
           → Follows next new
       follows_next new went proved reliable = by (move_of c.number r number) refl went
         where
@@ -186,7 +186,7 @@ module _ (setup : Setup) (closed : List Left) (choose : Choice Cmd) (right : IsR
 
     -- THE END
 
-    module _ (each : (k : ℕ) → own run k ≡ history_of closed k) where
+    module _ (each : (k : ℕ) → own_events run k ≡ history_of closed k) where
       shown : ShowsBank held_by world p.bank
       shown = shows_bank
 
@@ -209,13 +209,13 @@ module _ (setup : Setup) (closed : List Left) (choose : Choice Cmd) (right : IsR
           let is = shown.nodes.each q.place v.0 there.0 v.1 there.2 in
           let same : v.0 ≡ node_at setup choose q.place there.0 = is ∙ ap (λ (s : Setup). record { setup = s; ccy = q.place; node = there.0 }) p.made in
           subst (λ (y : PartyState). ShowsState world (number_of {B = MemCell} (party_of.Node q)) y) (sym there.1)
-          (ap (λ (i : ℕ). slice_get world.nodes i) (number_is q.place place.1) ∙ v.1 ∙ ap (λ (u : node.Shown). Some u) same)
+          (ap (λ (i : ℕ). slice_get world.nodes i) (number_is q.place place.1) ∙ v.1 ∙ ap (λ (u : ShownNode). Some u) same)
       shows_by (party_of.Client q) x place there =
           let v = within p.bank.clients world.clients q.place there.0 (sym shown.clients.count) there.2 in
           let is = shown.clients.each q.place v.0 there.0 v.1 there.2 in
           let same : v.0 ≡ client_at setup choose q.place there.0 = is ∙ ap (λ (s : Setup). record { f = faults s; me = q.place; client = there.0 }) p.made in
           subst (λ (y : PartyState). ShowsState world (number_of {B = MemCell} (party_of.Client q)) y) (sym there.1)
-          (v.1 ∙ ap (λ (u : client.Shown). Some u) same)
+          (v.1 ∙ ap (λ (u : ShownClient). Some u) same)
 
       pub replayed : AreReplayed closed world
       replayed = record {
@@ -225,7 +225,7 @@ module _ (setup : Setup) (closed : List Left) (choose : Choice Cmd) (right : IsR
             subst (λ (n : ℕ). ShowsState world n (replay after c.history.items (start_of setup choose closed k))) (sym (all k c is).number)
             (subst (λ (l : List (Recorded PartyEvent PartyOutcome)). ShowsState world (number_of c.end) (replay after l (start_of setup choose closed k)))
             (each k ∙ ap history_in is)
-            (shows_by c.end (replay after (own run k) (start_of setup choose closed k)) (all k c is).place (p.agrees.there k c is)));
+            (shows_by c.end (replay after (own_events run k) (start_of setup choose closed k)) (all k c is).place (p.agrees.there k c is)));
       }
 
       -- an end reads like the replay of its history exactly where it reads like the world's actor
@@ -237,5 +237,5 @@ module _ (setup : Setup) (closed : List Left) (choose : Choice Cmd) (right : IsR
           let kind : IsOfKind c.end x =
           subst (λ (l : List (Recorded PartyEvent PartyOutcome)). IsOfKind c.end (replay after l (start_of setup choose closed k)))
           (each k ∙ ap history_in is)
-          (there_kind setup choose p.bank c.end (replay after (own run k) (start_of setup choose closed k)) (p.agrees.there k c is)) in
+          (there_kind setup choose p.bank c.end (replay after (own_events run k) (start_of setup choose closed k)) (p.agrees.there k c is)) in
           (reads_world world c.number c.end x (replayed.shown k c is), reads_replay world c.number c.end x (replayed.shown k c is) kind)

@@ -3,18 +3,18 @@ use Rattle.std.proofs.Common.{ℕ, List, sym, subst}
 use Rattle.pvp_types.specs.declared.setup.Setup.{Setup}
 use Rattle.vr_types.specs.declared.cell.MemCell.{MemCell}
 use Rattle.vr_types.specs.MemoryCell.{held_by}
-use Rattle.pvp_world.specs.World.{Shown, IsProved}
+use Rattle.pvp_world.specs.World.{ShownWorld, IsProved}
 use Rattle.pvp_audit.specs.Runs.{AreOpenings}
 use Rattle.pvp_audit.specs.Verdicts.{HoldOfAll, IsAlone, ClocksRise, MeansNo}
 use Rattle.pvp_audit.specs.declared.verdict.AuditTest.{AuditTest}
-use Rattle.pvp_parties.specs.Parties.{PartyState, delivers, sent, is_for}
+use Rattle.pvp_parties.specs.Parties.{PartyState, delivers, sent_envelopes, is_for}
 use Rattle.pvp_judge.specs.declared.judgement.Judgement.{Judgement}
 use Rattle.pvp_judge.specs.declared.judgement.Judgement.TheVariants.{Yes, No}
 use Rattle.pvp_judge.specs.Judged.{Left, party, EndsAgree, IsYes, IsYesOfRun, Judges}
 use Rattle.pvp_judge.specs.Passed.{HavePassed, EndsSo}
 
 module _ (closed : List Left) where
-  module _ (setup : Setup) (world : Shown MemCell) (passed : HavePassed setup closed world) where
+  module _ (setup : Setup) (world : ShownWorld MemCell) (passed : HavePassed setup closed world) where
     -- all events of histories
     pub passed_run : ClocksRise closed → IsProved held_by world → IsYesOfRun setup closed world
     passed_run clocks headline = record {
@@ -36,10 +36,10 @@ module _ (closed : List Left) where
 
       -- and the ends
       pub ended_means : (judgement : Judgement) → EndsSo closed world judgement → Judges setup closed judgement
-      ended_means (Yes by) so = subst (λ (w : Shown MemCell). IsYes setup closed w) (sym so.0) (passed_all so.2 so.1)
+      ended_means (Yes by) so = subst (λ (w : ShownWorld MemCell). IsYes setup closed w) (sym so.0) (passed_all so.2 so.1)
       ended_means (No actor event why) so =
           subst (λ (w : AuditTest). (start : ℕ → PartyState) → AreOpenings party closed start
-          → MeansNo party delivers sent is_for closed start actor event w) (sym so.3)
+          → MeansNo party delivers sent_envelopes is_for closed start actor event w) (sym so.3)
           (λ start opens. (
           let d = so.4 in (
             so.2,

@@ -5,7 +5,7 @@ use Rattle.std.proofs.lemmas.Option.{slice_get_within}
 use Rattle.pvp_wire.specs.declared.stamped.Stamp.{Stamp}
 use Rattle.pvp_rooms.specs.declared.message.Recorded.{Recorded}
 use Rattle.pvp_rooms.specs.declared.cell.Closed.{Closed}
-use Rattle.pvp_audit.specs.Runs.{Tagged, own, number_in, history_of, AreInOrder}
+use Rattle.pvp_audit.specs.Runs.{Tagged, own_events, number_in, history_of, AreInOrder}
 use Rattle.pvp_audit.specs.Verdicts.{ClocksRise}
 use Rattle.pvp_audit.specs.Merging.{IsMerged}
 use Rattle.pvp_audit.proofs.Looks.{get_pushed, get_set_other}
@@ -45,17 +45,18 @@ module _ {E O L : Type 0} (sent : O → List L) where
     pub stands : (j : ℕ) (letter : L) → slice_get (sent r.outcome) j ≡ Some letter → slice_get (post_of sent run) (first + j - 1) ≡ Some letter
 
   -- as many numbers as events
-  many_firsts : (run : List (Tagged E O)) (k : ℕ) → length (firsts_of sent run k) ≡ length (own run k)
+  many_firsts : (run : List (Tagged E O)) (k : ℕ) → length (firsts_of sent run k) ≡ length (own_events run k)
   many_firsts [] k = refl
   many_firsts (t ∷ past) k = go (t.by == k) (many_firsts past k)
     where
-      go : (b : Bool) → length (firsts_of sent past k) ≡ length (own past k)
-          → length (firsts_of sent past k ++ (if b then (length (post_of sent past) + 1) ∷ [] else [])) ≡ length (own past k ++ (if b then t.what ∷ [] else []))
+      go : (b : Bool) → length (firsts_of sent past k) ≡ length (own_events past k)
+          → length (firsts_of sent past k ++ (if b then (length (post_of sent past) + 1) ∷ [] else []))
+          ≡ length (own_events past k ++ (if b then t.what ∷ [] else []))
       go true h =
           let m = length-append (firsts_of sent past k) ((length (post_of sent past) + 1) ∷ []) in
-          let n = length-append (own past k) (t.what ∷ []) in
+          let n = length-append (own_events past k) (t.what ∷ []) in
           omega (arith, h, m, n)
-      go false h = ap length (append-nil (firsts_of sent past k)) ∙ h ∙ sym (ap length (append-nil (own past k)))
+      go false h = ap length (append-nil (firsts_of sent past k)) ∙ h ∙ sym (ap length (append-nil (own_events past k)))
 
   -- an event more puts what it sends at the end
   stays_first : (t : Tagged E O) (past : List (Tagged E O)) (r : Recorded E O) (first : ℕ) → IsFirst past r first → IsFirst (t ∷ past) r first
@@ -73,7 +74,7 @@ module _ {E O L : Type 0} (sent : O → List L) where
   }
 
   -- the number of each event of each actor
-  pub first_number : (run : List (Tagged E O)) (k i : ℕ) (r : Recorded E O) → slice_get (own run k) i ≡ Some r
+  pub first_number : (run : List (Tagged E O)) (k i : ℕ) (r : Recorded E O) → slice_get (own_events run k) i ≡ Some r
       → (first : ℕ) × (slice_get (firsts_of sent run k) i ≡ Some first) × IsFirst run r first
   first_number [] k i r is = cc
   first_number (t ∷ past) k i r is = go (t.by == k) (first_number past k i r) is
@@ -84,10 +85,10 @@ module _ {E O L : Type 0} (sent : O → List L) where
       old : (more : List ℕ) → IsAt (firsts_of sent past k) past → IsAt (firsts_of sent past k ++ more) (t ∷ past)
       old more f = (f.0, get_left (firsts_of sent past k) more i f.0 f.1, stays_first t past r f.0 f.2)
 
-      go : (b : Bool) → (slice_get (own past k) i ≡ Some r → IsAt (firsts_of sent past k) past)
-          → slice_get (own past k ++ (if b then t.what ∷ [] else [])) i ≡ Some r
+      go : (b : Bool) → (slice_get (own_events past k) i ≡ Some r → IsAt (firsts_of sent past k) past)
+          → slice_get (own_events past k ++ (if b then t.what ∷ [] else [])) i ≡ Some r
           → IsAt (firsts_of sent past k ++ (if b then (length (post_of sent past) + 1) ∷ [] else [])) (t ∷ past)
-      go true so there = elim (get_pushed (own past k) t.what r i there) [
+      go true so there = elim (get_pushed (own_events past k) t.what r i there) [
         | inl e ↦ old ((length (post_of sent past) + 1) ∷ []) (so e)
         | inr w ↦ (
           length (post_of sent past) + 1,
@@ -95,7 +96,7 @@ module _ {E O L : Type 0} (sent : O → List L) where
           is_first t past r w.1,
         )
       ]
-      go false so there = old [] (so (ap (λ l. slice_get l i) (sym (append-nil (own past k))) ∙ there))
+      go false so there = old [] (so (ap (λ l. slice_get l i) (sym (append-nil (own_events past k))) ∙ there))
 
   -- an event more: its number is one more than what the post has before it
   pub numbered_next : (run : List (Tagged E O)) (numbers : List (List ℕ)) (t : Tagged E O) → t.by < length numbers → AreNumbered sent run numbers
@@ -118,7 +119,7 @@ module _ {E O L : Type 0} (sent : O → List L) where
 module _ {A N E O L : Type 0} (sent : O → List L) (closed : List (Closed A N E O)) (order : AreInOrder closed) (clocks : ClocksRise closed) (at : List ℕ)
     (run : List (Tagged E O)) (merged : IsMerged closed run at) (numbers : List (List ℕ)) (numbered : AreNumbered sent run numbers) where
   -- an event of the run is an event of its actor
-  of_history : (k i : ℕ) (r : Recorded E O) → slice_get (own run k) i ≡ Some r → slice_get (history_of closed k) i ≡ Some r
+  of_history : (k i : ℕ) (r : Recorded E O) → slice_get (own_events run k) i ≡ Some r → slice_get (history_of closed k) i ≡ Some r
   of_history k i r there = taken (history_of closed k) (slice_index at k) i (ap (λ l. slice_get l i) (sym (merged.each k)) ∙ there)
     where
       taken : (xs : List (Recorded E O)) (n i : ℕ) → slice_get (take n xs) i ≡ Some r → slice_get xs i ≡ Some r
@@ -128,7 +129,7 @@ module _ {A N E O L : Type 0} (sent : O → List L) (closed : List (Closed A N E
       taken (x ∷ xs) (suc n) zero e = e
       taken (x ∷ xs) (suc n) (suc i) e = taken xs n i e
 
-  module _ (stamp : Stamp) (by place : ℕ) (what : Recorded E O) (there : slice_get (own run by) place ≡ Some what)
+  module _ (stamp : Stamp) (by place : ℕ) (what : Recorded E O) (there : slice_get (own_events run by) place ≡ Some what)
       (number_is : number_in (slice_get closed by) ≡ stamp.actor) (clock : what.clock ≡ stamp.clock) where
     event_named : IsEventOf closed stamp by place
     event_named =

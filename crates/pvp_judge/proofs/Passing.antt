@@ -12,16 +12,16 @@ use Rattle.vr_types.specs.MemoryCell.{held_by, IsReliable}
 use Rattle.vr_types.specs.Site.{opening_site}
 use Rattle.pvp_book.specs.Ledger.{opening}
 use Rattle.rtgs_node.specs.Node.{Envelope, opening_node}
-use Rattle.rtgs_node.specs.Shown as node
+use Rattle.rtgs_node.specs.Shown.{ShownNode}
 use Rattle.headline.specs.Client.{opening_client}
 use Rattle.headline.specs.Legal.{LegalList}
 use Rattle.headline.proofs.Basics.{none-some, some-same}
-use Rattle.pvp_world.specs.Client as client
-use Rattle.pvp_world.specs.World.{Shown, IsProved}
+use Rattle.pvp_world.specs.Client.{ShownClient}
+use Rattle.pvp_world.specs.World.{ShownWorld, IsProved}
 use Rattle.pvp_world.specs.Steps.{AreReliable}
 use Rattle.pvp_rooms.specs.declared.message.Recorded.{Recorded}
 use Rattle.pvp_rooms.specs.Histories.{replay}
-use Rattle.pvp_audit.specs.Runs.{own, history_in, history_of, AreInOrder, AreOpenings, Arrives, IsRun}
+use Rattle.pvp_audit.specs.Runs.{own_events, history_in, history_of, AreInOrder, AreOpenings, Arrives, IsRun}
 use Rattle.pvp_audit.specs.Named.{IsNamed}
 use Rattle.pvp_audit.specs.Verdicts.{ClocksRise}
 use Rattle.pvp_audit.specs.Merging.{IsNextActor, IsProgress, HasFailed}
@@ -33,7 +33,7 @@ use Rattle.pvp_parties.specs.declared.party.PartyEvent.{PartyEvent}
 use Rattle.pvp_parties.specs.declared.party.PartyOutcome.{PartyOutcome}
 use Rattle.pvp_parties.specs.Alike.{Site}
 use Rattle.pvp_parties.specs.Made.{memory}
-use Rattle.pvp_parties.specs.Parties.{Party, PartyState, AtSite, AtNode, AtClient, Opens, Comes, Reads, after, delivers, sent, is_for, setup_of}
+use Rattle.pvp_parties.specs.Parties.{Party, PartyState, AtSite, AtNode, AtClient, Opens, Comes, Reads, after, delivers, sent_envelopes, is_for, setup_of}
 use Rattle.pvp_judge.specs.Judged.{Left, party, openings, ReadsWorld}
 use Rattle.pvp_judge.specs.Moves.{move_of}
 use Rattle.pvp_judge.specs.Numbered.{noted_of, post_of, AreNumbered, IsFound}
@@ -41,7 +41,7 @@ use Rattle.pvp_judge.specs.Retold.{Names, GoesBy, IsTelling}
 use Rattle.pvp_judge.specs.Banked.{AreOfBank, OpenedOver, OpensInOrder, AllAre}
 use Rattle.pvp_judge.specs.Coming.{ComesSo}
 use Rattle.pvp_judge.specs.Passed.{OfOpenings, HavePassed}
-use Rattle.pvp_judge.proofs.Agrees.{opened, start_in, start_of}
+use Rattle.pvp_judge.proofs.Agrees.{opening_state, start_in, start_of}
 use Rattle.pvp_judge.proofs.Follows.{Follows, follows_none, shows_bank, told_here, follows_next, replayed, reads_same}
 use Rattle.pvp_judge.proofs.Naming.{number_names}
 use Rattle.pvp_judge.proofs.Numbering.{numbered_none, numbered_next}
@@ -53,7 +53,7 @@ use Rattle.pvp_judge.proofs.Telling.{telling_none, telling_next, telling_all}
 pub record IsBy (setup : Setup) (e : Party) (boot : Option Boot) (x : PartyState) : Type 0 where
   pub choose : Choice Cmd
   pub right : IsRight (faults setup) choose
-  pub is : x ≡ opened setup choose e boot
+  pub is : x ≡ opening_state setup choose e boot
 
 opened_by : (setup : Setup) (some : Choice Cmd) → IsRight (faults setup) some → (e : Party) (boot : Option Boot) (x : PartyState) → setup_of e ≡ setup
     → OpenedOver e boot → Opens e boot x → IsBy setup e boot x
@@ -71,12 +71,12 @@ opened_by setup some right (party_of.Site p) (Some boot) (AtSite x) same by o = 
 opened_by setup some right (party_of.Node p) None (AtNode x) same by o = record {
   choose = some;
   right = right;
-  is = ap (λ (v : node.Shown). AtNode v) o ∙ ap (λ (s : Setup). AtNode (record { setup = s; ccy = p.place; node = opening_node })) same;
+  is = ap (λ (v : ShownNode). AtNode v) o ∙ ap (λ (s : Setup). AtNode (record { setup = s; ccy = p.place; node = opening_node })) same;
 }
 opened_by setup some right (party_of.Client p) None (AtClient x) same by o = record {
   choose = some;
   right = right;
-  is = ap (λ (v : client.Shown). AtClient v) o ∙ ap (λ (s : Setup). AtClient (record { f = faults s; me = p.place; client = opening_client })) same;
+  is = ap (λ (v : ShownClient). AtClient v) o ∙ ap (λ (s : Setup). AtClient (record { f = faults s; me = p.place; client = opening_client })) same;
 }
 opened_by setup some right (party_of.Site p) (Some boot) (AtNode x) same by o = absurd o
 opened_by setup some right (party_of.Site p) (Some boot) (AtClient x) same by o = absurd o
@@ -95,11 +95,11 @@ pub record SomeRight (f : ℕ) : Type 0 where
   pub choose : Choice Cmd
   pub right : IsRight f choose
 
-pub record IsPassing (setup : Setup) (closed : List Left) (at : List ℕ) (numbers : List (List ℕ)) (world : Shown MemCell) : Type 0 where
+pub record IsPassing (setup : Setup) (closed : List Left) (at : List ℕ) (numbers : List (List ℕ)) (world : ShownWorld MemCell) : Type 0 where
   pub tells : IsTelling setup (openings closed) closed at world
   pub follows : (choose : Choice Cmd) (right : IsRight (faults setup) choose) → Follows setup closed choose right tells.run world
-  pub legal : OfOpenings closed (λ start. IsRun party delivers sent is_for closed start tells.run)
-  pub numbered : AreNumbered sent tells.run numbers
+  pub legal : OfOpenings closed (λ start. IsRun party delivers sent_envelopes is_for closed start tells.run)
+  pub numbered : AreNumbered sent_envelopes tells.run numbers
   pub counted : length numbers ≡ length closed
   pub some : SomeRight (faults setup)
 
@@ -115,7 +115,7 @@ reliable_sites sites cells over all i v is = all i v.cell (ap (λ l. slice_get l
 
 module _ (setup : Setup) (closed : List Left) (order : AreInOrder closed) (all : AreOfBank setup closed) (clocks : ClocksRise closed)
     (one_bank : (setup : Setup) (f : ℕ) (a b : LegalList setup f) → a.cells ≡ b.cells → a.moves ≡ b.moves → a.bank ≡ b.bank) where
-  pub passing_none : OpensInOrder closed → (at : List ℕ) (numbers : List (List ℕ)) (world : Shown MemCell) → ((k : ℕ) → slice_index at k ≡ 0)
+  pub passing_none : OpensInOrder closed → (at : List ℕ) (numbers : List (List ℕ)) (world : ShownWorld MemCell) → ((k : ℕ) → slice_index at k ≡ 0)
       → numbers ≡ replicate (length closed) []
       → world.setup ≡ setup → world.opening ≡ openings closed → world.trail ≡ [] → IsProved held_by world → AreReliable memory world
       → IsPassing setup closed at numbers world
@@ -123,7 +123,8 @@ module _ (setup : Setup) (closed : List Left) (order : AreInOrder closed) (all :
     tells = telling_none setup (openings closed) closed at world none made cells nothing;
     follows = λ choose right. follows_none setup closed choose right all opened world made cells nothing proved reliable;
     legal = λ start opens. tt;
-    numbered = subst (λ (l : List (List ℕ)). AreNumbered {E = PartyEvent} sent [] l) (sym is) (numbered_none PartyEvent sent (length closed));
+    numbered =
+        subst (λ (l : List (List ℕ)). AreNumbered {E = PartyEvent} sent_envelopes [] l) (sym is) (numbered_none PartyEvent sent_envelopes (length closed));
     counted = ap length is ∙ many (length closed);
     some =
         record { choose = proved.is_at.list.choose; right = subst (λ (s : Setup). IsRight (faults s) proved.is_at.list.choose) made proved.is_at.list.right };
@@ -132,7 +133,7 @@ module _ (setup : Setup) (closed : List Left) (order : AreInOrder closed) (all :
       many : (n : ℕ) → length (replicate {A = List ℕ} n []) ≡ n
       many n = length-replicate n []
 
-  module _ (at : List ℕ) (numbers : List (List ℕ)) (world : Shown MemCell) (p : IsPassing setup closed at numbers world) where
+  module _ (at : List ℕ) (numbers : List (List ℕ)) (world : ShownWorld MemCell) (p : IsPassing setup closed at numbers world) where
     -- an actor opened by a right choice
     by : (start : ℕ → PartyState) → AreOpenings party closed start → (k : ℕ) (c : Left) → slice_get closed k ≡ Some c → IsBy setup c.end c.opening (start k)
     by start opens k c is = opened_by setup p.some.choose p.some.right c.end c.opening (start k) (all k c is).made_from (all k c is).opened (opens k c is)
@@ -143,7 +144,7 @@ module _ (setup : Setup) (closed : List Left) (order : AreInOrder closed) (all :
         let b = by start opens k c is in
         b.is ∙ ap (λ (o : Option Left). start_in setup b.choose o) (sym is)
 
-    post_is : world.post ≡ post_of sent p.tells.run
+    post_is : world.post ≡ post_of sent_envelopes p.tells.run
     post_is =
         let f = p.follows p.some.choose p.some.right in
         (shows_bank setup closed p.some.choose p.some.right order all p.tells.run world f one_bank).post ∙ f.agrees.post
@@ -155,7 +156,7 @@ module _ (setup : Setup) (closed : List Left) (order : AreInOrder closed) (all :
     passing_reliable = (p.follows p.some.choose p.some.right).reliable
 
     -- the first events of each history are a run
-    progress : (start : ℕ → PartyState) → AreOpenings party closed start → IsProgress party delivers sent is_for closed start at
+    progress : (start : ℕ → PartyState) → AreOpenings party closed start → IsProgress party delivers sent_envelopes is_for closed start at
     progress start opens = record {
       run = p.tells.run;
       merged = p.tells.merged;
@@ -164,16 +165,17 @@ module _ (setup : Setup) (closed : List Left) (order : AreInOrder closed) (all :
 
     module _ (k : ℕ) (next : IsNextActor closed at k) (one : Left) (is : slice_get closed k ≡ Some one) (event : ℕ) (count : event ≡ slice_index at k + 1) where
       -- what the next event delivers is not what its stamp names
-      pub passing_stamped : ¬ IsNamed delivers sent is_for closed at one.end next.what
-          → OfOpenings closed (λ start. HasFailed party delivers sent is_for closed start k event Stamped)
-      passing_stamped never start opens = cannot_arrive party delivers sent is_for closed clocks start at (progress start opens) k next one is event count never
+      pub passing_stamped : ¬ IsNamed delivers sent_envelopes is_for closed at one.end next.what
+          → OfOpenings closed (λ start. HasFailed party delivers sent_envelopes is_for closed start k event Stamped)
+      passing_stamped never start opens =
+          cannot_arrive party delivers sent_envelopes is_for closed clocks start at (progress start opens) k next one is event count never
 
-      own_is : own p.tells.run k ≡ take (slice_index at k) one.history.items
+      own_is : own_events p.tells.run k ≡ take (slice_index at k) one.history.items
       own_is = p.tells.merged.each k ∙ ap (λ (o : Option Left). take (slice_index at k) (history_in o)) is
 
-      module _ (named : IsNamed delivers sent is_for closed at one.end next.what) where
-        pub arrives : Arrives delivers sent is_for closed p.tells.run one.end next.what
-        arrives = named_arrives delivers sent is_for closed at p.tells.run p.tells.merged.each one.end next.what named
+      module _ (named : IsNamed delivers sent_envelopes is_for closed at one.end next.what) where
+        pub arrives : Arrives delivers sent_envelopes is_for closed p.tells.run one.end next.what
+        arrives = named_arrives delivers sent_envelopes is_for closed at p.tells.run p.tells.merged.each one.end next.what named
 
         pub passing_mine : (delivers next.what.event ≡ None) ⊎ (is_for one.end next.what.event ≡ true)
         passing_mine = elim arrives [ inl none ↦ inl none | inr w ↦ inr w.2 ]
@@ -186,19 +188,19 @@ module _ (setup : Setup) (closed : List Left) (order : AreInOrder closed) (all :
         -- whether it comes out so is told of each state to which a right choice leads
         module _ (can : Bool) (so : ComesSo world one.end next.what can) where
           told_by : (choose : Choice Cmd) (right : IsRight (faults setup) choose)
-              → IsTrue can ↔ Comes (replay after (own p.tells.run k) (start_of setup choose closed k)) next.what.event next.what.outcome
+              → IsTrue can ↔ Comes (replay after (own_events p.tells.run k) (start_of setup choose closed k)) next.what.event next.what.outcome
           told_by choose right = told_here setup closed choose right order all p.tells.run world (p.follows choose right) one_bank k one is next.what can so
 
           told_of : (start : ℕ → PartyState) → AreOpenings party closed start
-              → IsTrue can ↔ Comes (replay after (own p.tells.run k) (start k)) next.what.event next.what.outcome
+              → IsTrue can ↔ Comes (replay after (own_events p.tells.run k) (start k)) next.what.event next.what.outcome
           told_of start opens =
               let b = by start opens k one is in
-              subst (λ (x : PartyState). IsTrue can ↔ Comes (replay after (own p.tells.run k) x) next.what.event next.what.outcome)
+              subst (λ (x : PartyState). IsTrue can ↔ Comes (replay after (own_events p.tells.run k) x) next.what.event next.what.outcome)
               (sym (by_start start opens k one is)) (told_by b.choose b.right)
 
-          pub passing_answered : can ≡ false → OfOpenings closed (λ start. HasFailed party delivers sent is_for closed start k event Answered)
+          pub passing_answered : can ≡ false → OfOpenings closed (λ start. HasFailed party delivers sent_envelopes is_for closed start k event Answered)
           passing_answered off start opens =
-              cannot_come party delivers sent is_for closed clocks start at (progress start opens) k next one is event count named
+              cannot_come party delivers sent_envelopes is_for closed clocks start at (progress start opens) k next one is event count named
               (λ come. true≢false (sym ((told_of start opens).1
               (subst (λ (l : List (Recorded PartyEvent PartyOutcome)). Comes (replay after l (start k)) next.what.event next.what.outcome) (sym own_is) come))
               ∙ off))
@@ -206,7 +208,7 @@ module _ (setup : Setup) (closed : List Left) (order : AreInOrder closed) (all :
           -- it goes on with the next event
           pub passing_next : can ≡ true → length world.post < 2 ^ 64 → (now : List ℕ) → IsStepped at now k → (number : ℕ)
               → IsFound closed numbers next.what.stamp number
-              → (new : Shown MemCell) → GoesBy held_by world new (move_of one.number next.what number) → IsProved held_by new → AreReliable memory new
+              → (new : ShownWorld MemCell) → GoesBy held_by world new (move_of one.number next.what number) → IsProved held_by new → AreReliable memory new
               → (more : List (List ℕ)) → more ≡ slice_set numbers k (noted_of numbers k ++ (length world.post + 1) ∷ []) → IsPassing setup closed now more new
           passing_next on fits now stepped number found new goes proved reliable more is_more =
               let low = next.within in
@@ -220,16 +222,16 @@ module _ (setup : Setup) (closed : List Left) (order : AreInOrder closed) (all :
                     ((told_by choose right).0 on) passing_mine
                     (passing_named fits number found) new goes proved reliable;
                 legal = λ start opens. (p.legal start opens, record { who = one; is = is; arrives = arrives; comes = (told_of start opens).0 on });
-                numbered = subst (λ (l : List (List ℕ)). AreNumbered sent (record { by = k; what = next.what } ∷ p.tells.run) l)
+                numbered = subst (λ (l : List (List ℕ)). AreNumbered sent_envelopes (record { by = k; what = next.what } ∷ p.tells.run) l)
                     (ap (λ (post : List Envelope). slice_set numbers k (noted_of numbers k ++ (length post + 1) ∷ [])) (sym post_is) ∙ sym is_more)
-                    (numbered_next sent p.tells.run numbers (record { by = k; what = next.what }) (omega (arith, low, counted)) p.numbered);
+                    (numbered_next sent_envelopes p.tells.run numbers (record { by = k; what = next.what }) (omega (arith, low, counted)) p.numbered);
                 counted = ap length is_more ∙ length-set numbers k (noted_of numbers k ++ (length world.post + 1) ∷ []) ∙ p.counted;
                 some = p.some;
               }
 
     -- no event is left
     module _ (done : (k : ℕ) → length (history_of closed k) ≤ slice_index at k) where
-      each : (k : ℕ) → own p.tells.run k ≡ history_of closed k
+      each : (k : ℕ) → own_events p.tells.run k ≡ history_of closed k
       each = merged_all closed order clocks at p.tells.run p.tells.merged done
 
       pub passing_all : HavePassed setup closed world

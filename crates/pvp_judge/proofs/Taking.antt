@@ -28,6 +28,7 @@ use Rattle.rtgs_node.specs.declared.fault.NodeFault.{NodeFault}
 use Rattle.rtgs_node.specs.declared.fault.NodeFault.TheVariants as node_fault
 use Rattle.rtgs_node.specs.Node.{Envelope, Node, refuses, on_message, node_step}
 use Rattle.rtgs_node.specs.Shown as node
+use Rattle.rtgs_node.specs.Shown.{ShownNode}
 use Rattle.headline.specs.declared.step.ClientEvent.{ClientEvent}
 use Rattle.headline.specs.declared.step.ClientEvent.TheVariants as client_event
 use Rattle.headline.specs.declared.step.ClientFault.{ClientFault}
@@ -39,12 +40,12 @@ use Rattle.headline.specs.Client.{Client, client_step}
 use Rattle.headline.specs.Bank.{Bank, turn, with_site, with_node, with_client}
 use Rattle.headline.specs.Legal.{Acts, FallsBy, LegalList}
 use Rattle.headline.proofs.Basics.{none-some, some-same}
-use Rattle.pvp_world.specs.World.{Shown, ShowsBank}
+use Rattle.pvp_world.specs.World.{ShownWorld, ShowsBank}
 use Rattle.pvp_world.specs.Steps.{dropped_in, told_as}
 use Rattle.pvp_world.specs.Refusals.{turn_refuses, bank_refuses, node_refuses, client_refuses}
 use Rattle.pvp_world.specs.declared.fault.WorldFault.TheVariants as fault
 use Rattle.pvp_world.proofs.Refused.{within}
-use Rattle.pvp_world.specs.Client as client
+use Rattle.pvp_world.specs.Client.{ShownClient}
 use Rattle.pvp_rooms.specs.declared.site.CameOf.TheVariants.{Did, Fell}
 use Rattle.pvp_rooms.specs.Sites as sites
 use Rattle.pvp_rooms.specs.Nodes as nodes
@@ -164,7 +165,7 @@ module _ (setup : Setup) (list : LegalList setup (faults setup)) where
       )
 
     -- why it refuses, as its replica says it
-    pub refusal_shown : (world : Shown MemCell) → ShowsBank held_by world bank → world.setup ≡ setup → (told : Option SiteFault)
+    pub refusal_shown : (world : ShownWorld MemCell) → ShowsBank held_by world bank → world.setup ≡ setup → (told : Option SiteFault)
         → ((v : Replica) → slice_get world.sites i ≡ Some v → told ≡ refusal v.f v.me (site_shown held_by v []) e) → told ≡ refusal f i y e
     refusal_shown world shows made told says =
         let v = within bank.sites world.sites i y (sym shows.sites.count) is in
@@ -177,7 +178,7 @@ module _ (setup : Setup) (list : LegalList setup (faults setup)) where
   -- A NODE
 
   module _ (c : ℕ) (y : Node) (is : slice_get bank.nodes c ≡ Some y) (e : NodeEvent) where
-    abbrev at_node : node.Shown
+    abbrev at_node : ShownNode
     at_node = node_at setup list.choose c y
 
     -- what is not addressed to it, it refuses
@@ -264,7 +265,7 @@ module _ (setup : Setup) (list : LegalList setup (faults setup)) where
   module _ (k : ℕ) (y : Client) (is : slice_get bank.clients k ≡ Some y) (e : ClientEvent) (number : ℕ)
       (named : Names bank.post number (party_event.OfClient e)) (low : k < 101)
       (mine : (letter : Envelope) → e ≡ client_event.Takes letter → letter.to ≡ k) where
-    abbrev at_client : client.Shown
+    abbrev at_client : ShownClient
     at_client = client_at setup list.choose k y
 
     abbrev to_client : Step

@@ -4,7 +4,7 @@ use Rattle.pvp_types.specs.declared.setup.Setup.{Setup}
 use Rattle.vr_types.specs.declared.cell.Boot.{Boot}
 use Rattle.vr_types.specs.declared.cell.MemCell.{MemCell}
 use Rattle.vr_types.specs.MemoryCell.{held_by}
-use Rattle.pvp_world.specs.World.{Shown}
+use Rattle.pvp_world.specs.World.{ShownWorld}
 use Rattle.pvp_rooms.specs.declared.cell.Closed.{Closed}
 use Rattle.pvp_rooms.specs.declared.message.Recorded.{Recorded}
 use Rattle.pvp_audit.specs.Runs.{history_of, number_in, AreInOrder}
@@ -19,7 +19,7 @@ use Rattle.pvp_judge.specs.Retold.{Names, GoesBy, IsTelling, WentThrough}
 
 module _ {A N : Type 0} (setup : Setup) (cells : List Boot) (closed : List (Closed A N PartyEvent PartyOutcome)) where
   -- a new world, before any event
-  abbrev pub telling_none : (at : List ℕ) (world : Shown MemCell) → ((k : ℕ) → slice_index at k ≡ 0) → world.setup ≡ setup → world.opening ≡ cells
+  abbrev pub telling_none : (at : List ℕ) (world : ShownWorld MemCell) → ((k : ℕ) → slice_index at k ≡ 0) → world.setup ≡ setup → world.opening ≡ cells
       → world.trail ≡ []
       → IsTelling setup cells closed at world
   telling_none at world none made opened trailed = record {
@@ -32,11 +32,11 @@ module _ {A N : Type 0} (setup : Setup) (cells : List Boot) (closed : List (Clos
     told = refl;
   }
 
-  module _ (order : AreInOrder closed) (clocks : ClocksRise closed) (at : List ℕ) (world : Shown MemCell) (p : IsTelling setup cells closed at world) where
+  module _ (order : AreInOrder closed) (clocks : ClocksRise closed) (at : List ℕ) (world : ShownWorld MemCell) (p : IsTelling setup cells closed at world) where
     -- the next event of all
     abbrev pub telling_next : (k : ℕ) (next : IsNextActor closed at k) (now : List ℕ) → IsStepped at now k → (one : Closed A N PartyEvent PartyOutcome)
         → slice_get closed k ≡ Some one
-        → (r : Recorded PartyEvent PartyOutcome) → next.what ≡ r → (number : ℕ) (after : Shown MemCell)
+        → (r : Recorded PartyEvent PartyOutcome) → next.what ≡ r → (number : ℕ) (after : ShownWorld MemCell)
         → Names world.post number r.event → GoesBy held_by world after (move_of one.number r number)
         → IsTelling setup cells closed now after
     telling_next k next now stepped one is r what number after named goes = record {

@@ -4,7 +4,7 @@ use Rattle.pvp_rooms.specs.declared.message.Recorded.{Recorded}
 use Rattle.pvp_rooms.specs.declared.cell.Closed.{Closed}
 use Rattle.pvp_audit.specs.Merging.{IsNextActor}
 use Rattle.pvp_audit.proofs.Together.{stepped, IsStepped}
-use Rattle.pvp_audit.proofs.Grows.{left, left_less, next_place, event_is}
+use Rattle.pvp_audit.proofs.Grows.{events_left, left_less, next_place, event_is}
 use Rattle.pvp_audit.proofs.Looks.{history_read}
 
 -- it is the event at this place of the history of the actor at that one
@@ -14,7 +14,7 @@ pub record IsTurn {A N E O : Type 0} (closed : List (Closed A N E O)) (at : List
   pub here : slice_index at k ≡ place
   pub there : slice_get one.history.items place ≡ Some next.what
   pub low : place < length one.history.items
-  pub less : left closed (slice_set at k (place + 1)) < left closed at
+  pub less : events_left closed (slice_set at k (place + 1)) < events_left closed at
   pub steps : IsStepped at (slice_set at k (place + 1)) k
 
 module _ {A N E O : Type 0} (closed : List (Closed A N E O)) (at : List ℕ) (k place : ℕ) (one : Closed A N E O) where

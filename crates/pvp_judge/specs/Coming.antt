@@ -17,15 +17,15 @@ use Rattle.pvp_book.specs.Ledger.{Ledger, opening}
 use Rattle.rtgs_node.specs.declared.event.NodeEvent.{NodeEvent}
 use Rattle.rtgs_node.specs.declared.fault.NodeFault.{NodeFault}
 use Rattle.rtgs_node.specs.Node.{Envelope, Node}
-use Rattle.rtgs_node.specs.Shown as node
+use Rattle.rtgs_node.specs.Shown.{ShownNode}
 use Rattle.headline.specs.declared.step.ClientEvent.{ClientEvent}
 use Rattle.headline.specs.declared.step.ClientFault.{ClientFault}
 use Rattle.headline.specs.Machine.{book}
 use Rattle.headline.specs.Client.{Client}
 use Rattle.headline.specs.Bank.{Bank}
 use Rattle.headline.specs.Legal.{LegalList, Steps, Fails}
-use Rattle.pvp_world.specs.Client as client
-use Rattle.pvp_world.specs.World.{Shown, OfTrail}
+use Rattle.pvp_world.specs.Client.{ShownClient}
+use Rattle.pvp_world.specs.World.{ShownWorld, OfTrail}
 use Rattle.pvp_world.specs.Steps.{dropped_in}
 use Rattle.pvp_rooms.specs.declared.message.Recorded.{Recorded}
 use Rattle.pvp_rooms.specs.declared.site.CameOf.{CameOf}
@@ -57,10 +57,10 @@ module _ (setup : Setup) (choose : Choice Cmd) where
   abbrev pub site_at : ℕ → Site Cmd → sites.SiteState Ledger Cmd
   site_at place x = record { f = faults setup; me = place; start = opening setup; choose = choose; site = x }
 
-  abbrev pub node_at : ℕ → Node → node.Shown
+  abbrev pub node_at : ℕ → Node → ShownNode
   node_at place x = record { setup = setup; ccy = place; node = x }
 
-  abbrev pub client_at : ℕ → Client → client.Shown
+  abbrev pub client_at : ℕ → Client → ShownClient
   client_at place x = record { f = faults setup; me = place; client = x }
 
   -- the bank's actor of this one's kind and place is in this state
@@ -74,23 +74,23 @@ module _ (setup : Setup) (choose : Choice Cmd) where
 
 -- WHETHER AN EVENT COMES OUT SO at an actor of a world, whatever right choices its sites take
 
-abbrev pub SiteComes : Shown MemCell → ℕ → EventOf Cmd Answer PaymentOrder → CameOf Cmd Answer PaymentOrder → Bool
+abbrev pub SiteComes : ShownWorld MemCell → ℕ → EventOf Cmd Answer PaymentOrder → CameOf Cmd Answer PaymentOrder → Bool
     → Type 0
 SiteComes world place event came can =
     OfTrail world (λ list. (y : Site Cmd) → slice_get list.bank.sites place ≡ Some y
     → IsTrue can ↔ sites.Comes book (site_at world.setup list.choose place y) event came)
 
-abbrev pub NodeComes : Shown MemCell → ℕ → NodeEvent → Result (List Envelope) NodeFault → Bool → Type 0
+abbrev pub NodeComes : ShownWorld MemCell → ℕ → NodeEvent → Result (List Envelope) NodeFault → Bool → Type 0
 NodeComes world place event told can =
     OfTrail world (λ list. (y : Node) → slice_get list.bank.nodes place ≡ Some y
     → IsTrue can ↔ nodes.Comes (node_at world.setup list.choose place y) event told)
 
-abbrev pub ClientComes : Shown MemCell → ℕ → ClientEvent → Result (List Envelope) ClientFault → Bool → Type 0
+abbrev pub ClientComes : ShownWorld MemCell → ℕ → ClientEvent → Result (List Envelope) ClientFault → Bool → Type 0
 ClientComes world place event told can =
     OfTrail world (λ list. (y : Client) → slice_get list.bank.clients place ≡ Some y
     → IsTrue can ↔ clients.Comes (client_at world.setup list.choose place y) event told)
 
-abbrev pub ComesSo : Shown MemCell → Party → Recorded PartyEvent PartyOutcome → Bool → Type 0
+abbrev pub ComesSo : ShownWorld MemCell → Party → Recorded PartyEvent PartyOutcome → Bool → Type 0
 ComesSo world end r can =
     OfTrail world (λ list. (x : PartyState) → IsThere world.setup list.choose list.bank end x
     → IsTrue can ↔ Comes x r.event r.outcome)

@@ -6,10 +6,10 @@ use Rattle.vr_types.specs.declared.cell.Boot.{Boot}
 use Rattle.vr_types.specs.declared.cell.BootCell.{Ghosts as Cell}
 use Rattle.vr_types.specs.declared.cell.MemCell.{MemCell}
 use Rattle.vr_types.specs.MemoryCell.{held_by}
-use Rattle.rtgs_node.specs.Shown as node
+use Rattle.rtgs_node.specs.Shown.{ShownNode}
 use Rattle.headline.specs.Machine.{book}
-use Rattle.pvp_world.specs.Client as client
-use Rattle.pvp_world.specs.World.{Shown, IsProved}
+use Rattle.pvp_world.specs.Client.{ShownClient}
+use Rattle.pvp_world.specs.World.{ShownWorld, IsProved}
 use Rattle.pvp_rooms.specs.declared.actor.Actor.{Ghosts}
 use Rattle.pvp_rooms.specs.declared.cell.Closed.{Closed}
 use Rattle.pvp_rooms.specs.Histories.{replay}
@@ -29,10 +29,10 @@ use Rattle.pvp_parties.specs.declared.party.PartyEvent.{PartyEvent}
 use Rattle.pvp_parties.specs.declared.party.PartyOutcome.{PartyOutcome}
 use Rattle.pvp_parties.specs.Alike as alike
 use Rattle.pvp_parties.specs.Alike.{AreAlikeSites}
-use Rattle.pvp_parties.specs.Parties.{PartyState, AtSite, AtNode, AtClient, Opens, Shows, Comes, Reads, Tells, Brings, after, delivers, sent, is_for}
+use Rattle.pvp_parties.specs.Parties.{PartyState, AtSite, AtNode, AtClient, Opens, Shows, Comes, Reads, Tells, Brings, after, delivers, sent_envelopes, is_for}
 use Rattle.pvp_judge.specs.declared.judgement.Judgement.{Judgement}
 use Rattle.pvp_judge.specs.declared.judgement.Judgement.TheVariants.{Yes, No}
-use Rattle.pvp_judge.specs.Moves.{currency_of}
+use Rattle.pvp_judge.specs.Moves.{currency_of_node}
 use Rattle.pvp_judge.specs.Retold.{WentThrough}
 
 -- what an actor of the bank left
@@ -65,7 +65,8 @@ openings (c ∷ more) = option_to_list c.opening ++ openings more
 -- the verdict is right, whatever right choices the sites take
 abbrev pub IsRightVerdict : List Left → Verdict → Type 0
 IsRightVerdict closed verdict =
-    (start : ℕ → PartyState) → AreOpenings party closed start → Means party delivers sent is_for closed start verdict
+    (start : ℕ → PartyState) → AreOpenings party closed start
+    → Means party delivers sent_envelopes is_for closed start verdict
 
 -- all tests pass
 abbrev pub AreSound : List Left → Type 0
@@ -74,34 +75,36 @@ AreSound closed = IsRightVerdict closed Passes
 -- the verdict of histories alone is right, whatever right choices the sites take
 abbrev pub IsRightOfRun : List Left → Verdict → Type 0
 IsRightOfRun closed verdict =
-    (start : ℕ → PartyState) → AreOpenings party closed start → MeansRun party delivers sent is_for closed start verdict
+    (start : ℕ → PartyState) → AreOpenings party closed start
+    → MeansRun party delivers sent_envelopes is_for closed start verdict
 
 -- the histories are one run
 abbrev pub AreOneRun : List Left → Type 0
 AreOneRun closed = IsRightOfRun closed Passes
 
 -- the world's actor of this number is in this state; of a site's it shows what its reading calls show
-abbrev pub ShowsState : Shown MemCell → ℕ → PartyState → Type 0
+abbrev pub ShowsState : ShownWorld MemCell → ℕ → PartyState → Type 0
 ShowsState world number (AtSite x) =
     (v : alike.Site) × (slice_get world.sites (number - FIRST_SITE) ≡ Some v) × sites.Shows book memory v x
-ShowsState world number (AtNode x) = slice_get world.nodes (currency_of number) ≡ Some x
+ShowsState world number (AtNode x) = slice_get world.nodes (currency_of_node number) ≡ Some x
 ShowsState world number (AtClient x) = slice_get world.clients number ≡ Some x
 
 -- A VERDICT IS A FUNCTION OF WHAT IS TESTED: of the same actors, over the same states in which they opened, no two are
 -- right, but for one that memory was refused
 abbrev pub HasOneVerdict : List Left → Type 0
 HasOneVerdict closed =
-    (start : ℕ → PartyState) (a b : Verdict) → IsTested a → IsTested b → Means party delivers sent is_for closed start a
-    → Means party delivers sent is_for closed start b → a ≡ b
+    (start : ℕ → PartyState) (a b : Verdict) → IsTested a → IsTested b
+    → Means party delivers sent_envelopes is_for closed start a
+    → Means party delivers sent_envelopes is_for closed start b → a ≡ b
 
 -- and so of histories alone
 abbrev pub HasOneVerdictOfRun : List Left → Type 0
 HasOneVerdictOfRun closed =
-    (start : ℕ → PartyState) (a b : Verdict) → MeansRun party delivers sent is_for closed start a
-    → MeansRun party delivers sent is_for closed start b → a ≡ b
+    (start : ℕ → PartyState) (a b : Verdict) → MeansRun party delivers sent_envelopes is_for closed start a
+    → MeansRun party delivers sent_envelopes is_for closed start b → a ≡ b
 
 -- THE WORLD'S ACTORS ARE WHERE THE HISTORIES LEAD, from where the actors opened, by right choices of the sites
-pub record AreReplayed (closed : List Left) (world : Shown MemCell) : Type 0 where
+pub record AreReplayed (closed : List Left) (world : ShownWorld MemCell) : Type 0 where
   pub start : ℕ → PartyState
   pub opens : AreOpenings party closed start
   pub shown : (k : ℕ) (c : Left) → slice_get closed k ≡ Some c
@@ -109,26 +112,26 @@ pub record AreReplayed (closed : List Left) (world : Shown MemCell) : Type 0 whe
 
 -- THE RUN IS THIS WORLD'S: it went through the merged list from a new one, over what the sites opened over; its actors
 -- are where the histories lead; and the headline holds of it
-pub record IsWorldOfRun (setup : Setup) (closed : List Left) (world : Shown MemCell) : Type 0 where
+pub record IsWorldOfRun (setup : Setup) (closed : List Left) (world : ShownWorld MemCell) : Type 0 where
   pub went : WentThrough setup (openings closed) closed world
   pub replayed : AreReplayed closed world
   pub headline : IsProved held_by world
 
 -- what an actor's reading calls show is what those of the world's actor of this number show
-abbrev pub ReadsWorld : Shown MemCell → ℕ → Party → Type 0
+abbrev pub ReadsWorld : ShownWorld MemCell → ℕ → Party → Type 0
 ReadsWorld world number (Site p) =
     (v : alike.Site) × (slice_get world.sites (number - FIRST_SITE) ≡ Some v) × AreAlikeSites p.now v
 ReadsWorld world number (Node p) =
-    (v : node.Shown) × (slice_get world.nodes (currency_of number) ≡ Some v) × nodes.Reads p.now v
+    (v : ShownNode) × (slice_get world.nodes (currency_of_node number) ≡ Some v) × nodes.Reads p.now v
 ReadsWorld world number (Client p) =
-    (v : client.Shown) × (slice_get world.clients number ≡ Some v) × clients.Reads p.now v
+    (v : ShownClient) × (slice_get world.clients number ≡ Some v) × clients.Reads p.now v
 
 -- so of each actor
-abbrev pub EndsAgree : List Left → Shown MemCell → Type 0
+abbrev pub EndsAgree : List Left → ShownWorld MemCell → Type 0
 EndsAgree closed world = (k : ℕ) (c : Left) → slice_get closed k ≡ Some c → ReadsWorld world c.number c.end
 
 -- A YES: all tests pass; all events went through this world; and each actor ended as the world's
-pub record IsYes (setup : Setup) (closed : List Left) (world : Shown MemCell) : Type 0 where
+pub record IsYes (setup : Setup) (closed : List Left) (world : ShownWorld MemCell) : Type 0 where
   pub sound : AreSound closed
   pub of_run : IsWorldOfRun setup closed world
   pub ends : EndsAgree closed world
@@ -138,7 +141,7 @@ Judges setup closed (Yes world) = IsYes setup closed world
 Judges setup closed (No actor event why) = IsRightVerdict closed (Fails actor event why)
 
 -- A YES OF HISTORIES, whatever receipts and ends there are: they are one run, and this world's
-pub record IsYesOfRun (setup : Setup) (closed : List Left) (world : Shown MemCell) : Type 0 where
+pub record IsYesOfRun (setup : Setup) (closed : List Left) (world : ShownWorld MemCell) : Type 0 where
   pub run : AreOneRun closed
   pub of_run : IsWorldOfRun setup closed world
 

@@ -23,8 +23,8 @@ use Rattle.pvp_parties.specs.declared.party.PartyOutcome.{PartyOutcome}
 use Rattle.pvp_parties.specs.declared.party.PartyOutcome.TheVariants as outcome
 
 -- the currency of a node's number
-abbrev pub currency_of : ℕ → ℕ
-currency_of number = min (number - FIRST_NODE) 255
+abbrev pub currency_of_node : ℕ → ℕ
+currency_of_node number = min (number - FIRST_NODE) 255
 
 -- the step that an event of an actor is, where what it delivers is the envelope of this number
 
@@ -36,8 +36,8 @@ site_step actor site.Crash number = Crash (actor - FIRST_SITE)
 site_step actor site.Restart number = Restart (actor - FIRST_SITE)
 
 abbrev pub node_step : ℕ → NodeEvent → ℕ → Step
-node_step actor (node.PaysIn member amt) number = PayIn (currency_of actor) member amt
-node_step actor (node.Closes member) number = Close (currency_of actor) member
+node_step actor (node.PaysIn member amt) number = PayIn (currency_of_node actor) member amt
+node_step actor (node.Closes member) number = Close (currency_of_node actor) member
 node_step actor (node.Takes envelope) number = Deliver number
 node_step actor node.Beats number = Beat actor
 

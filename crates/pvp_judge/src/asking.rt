@@ -36,7 +36,7 @@ pub fn takes_so(
 {
     headline::one_bank();
     let many = world.post_len();
-    match told(alloc, world, step)? {
+    match world_answer(alloc, world, step)? {
         Err(_) => Ok(false),
         Ok(report) => Ok(is_same_why(report.dropped, dropped) && is_posted(world, many, sent)),
     }
@@ -88,14 +88,14 @@ pub fn refuses_so(
     ensures reliable { OnOk result (AreReliable memory world.new) }
 {
     headline::one_bank();
-    match told(alloc, world, step)? {
+    match world_answer(alloc, world, step)? {
         Err(found) => Ok(is_same_fault(found, fault)),
         Ok(_) => Ok(false),
     }
 }
 
 /// What a world answers to a step. `Err` where memory is refused.
-fn told(
+fn world_answer(
     alloc: Global,
     world: &mut World<MemCell>,
     step: Step,

@@ -33,7 +33,7 @@ fn one_in_memory<C: BootCell>(closed: Closed<PartyOf<C>>) -> Closed<Party>
         seats,
         end,
     } = closed;
-    let cell = match end.held() {
+    let cell = match end.held_boot() {
         Some(boot) => MemCell::of(boot),
         None => MemCell::new(),
     };

@@ -6,7 +6,7 @@ ghost use Rattle.rtgs_node.specs.Node.{Envelope as AnyEnvelope};
 ghost use Rattle.rtgs_node.specs.declared.event.NodeEvent.TheVariants.{Takes as ToNode};
 ghost use Rattle.headline.specs.declared.step.ClientEvent.TheVariants.{Takes as ToClient};
 ghost use Rattle.pvp_world.specs.World.{IsProved};
-ghost use Rattle.pvp_world.specs.Steps.{AreReliable, told_as};
+ghost use Rattle.pvp_world.specs.Steps.{AreReliable};
 ghost use Rattle.vr_site.specs.Replica.{site_shown};
 ghost use Rattle.pvp_parties.specs.declared.party.PartyEvent.TheVariants as happens;
 ghost use Rattle.pvp_parties.specs.declared.party.PartyOutcome.TheVariants as came_as;
@@ -188,7 +188,7 @@ fn client_comes(
             if is_clients_want(*fault) {
                 return Ok(true);
             }
-            refuses_so(alloc, world, step, told_as(*fault))
+            refuses_so(alloc, world, step, WorldFault::of_client(*fault))
         }
     }
 }
@@ -241,17 +241,6 @@ fn is_clients_want(fault: ClientFault) -> bool
     match fault {
         ClientFault::NoMemory => true,
         _ => false,
-    }
-}
-
-/// What a world tells a client's fault as.
-fn told_as(fault: ClientFault) -> WorldFault
-    ensures { result ≡ told_as fault }
-{
-    match fault {
-        ClientFault::Outstanding => WorldFault::Outstanding,
-        ClientFault::Spent => WorldFault::Spent,
-        ClientFault::NoMemory => WorldFault::NoMemory,
     }
 }
 

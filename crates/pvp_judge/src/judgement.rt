@@ -74,7 +74,7 @@ pub fn judgement_of(
     }
     match one_pass(alloc, setup, closed)? {
         Passed::Failed { actor, event, why } => Ok(Judgement::No { actor, event, why }),
-        Passed::All(world) => Ok(ended(closed, world)),
+        Passed::All(world) => Ok(judgement_at_end(closed, world)),
     }
 }
 
@@ -118,7 +118,7 @@ fn one_pass(alloc: Global, setup: &Setup, closed: &[Closed<Party>]) -> Result<Pa
 }
 
 /// What is said where all events passed through a world: whether each end reads like that world's actor.
-fn ended(closed: &[Closed<Party>], world: World<MemCell>) -> Judgement
+fn judgement_at_end(closed: &[Closed<Party>], world: World<MemCell>) -> Judgement
     ensures { EndsSo closed.now world result }
 {
     world.is_proved();

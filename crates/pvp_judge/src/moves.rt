@@ -1,6 +1,6 @@
 //! Which move of a world an event of an actor was.
 ghost use Rattle.std.specs.Prelude.{◌≡◌};
-ghost use Rattle.pvp_judge.specs.Moves.{move_of, site_step, node_step, client_step, currency_of};
+ghost use Rattle.pvp_judge.specs.Moves.{move_of, site_step, node_step, client_step, currency_of_node};
 
 use headline::{ClientEvent, Move};
 use pvp_book::Book;
@@ -56,7 +56,7 @@ pub fn site_step(actor: u16, event: &Event<Book>, number: usize) -> Step
 pub fn node_step(actor: u16, event: &NodeEvent, number: usize) -> Step
     ensures { result ≡ node_step actor event.now number }
 {
-    let ccy = currency_of(actor);
+    let ccy = currency_of_node(actor);
     match event {
         NodeEvent::PaysIn { member, amt } => Step::PayIn {
             ccy,
@@ -87,8 +87,8 @@ pub fn client_step(actor: u16, event: &ClientEvent, number: usize) -> Step
 }
 
 /// The currency of a node's number.
-pub fn currency_of(number: u16) -> u8
-    ensures { result ≡ currency_of number }
+pub fn currency_of_node(number: u16) -> u8
+    ensures { result ≡ currency_of_node number }
 {
     u8::try_from(number.saturating_sub(FIRST_NODE)).unwrap_or(u8::MAX)
 }

@@ -58,12 +58,12 @@ impl Numbers {
     {
         match stamp {
             None => 0,
-            Some(stamp) => self.named(closed, stamp).unwrap_or(0),
+            Some(stamp) => self.number_by_stamp(closed, stamp).unwrap_or(0),
         }
     }
 
     /// The number of the envelope that a stamp names.
-    fn named<A: Audited>(&self, closed: &[Closed<A>], stamp: Stamp) -> Option<usize>
+    fn number_by_stamp<A: Audited>(&self, closed: &[Closed<A>], stamp: Stamp) -> Option<usize>
         requires order { AreInOrder closed.now }
         requires clocks { ClocksRise closed.now }
         ensures some { IfSome result (IsNumber closed.now self.now stamp) }

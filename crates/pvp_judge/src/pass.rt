@@ -66,19 +66,19 @@ pub fn pass(
         let taken = &one.history.as_slice()[place];
         let event = place + 1;
         if !is_named(closed, at.as_slice(), &one.end, taken) {
-            return Ok(failed(one.number, event, AuditTest::Stamped));
+            return Ok(failure_at(one.number, event, AuditTest::Stamped));
         }
         let number = numbers.find(closed, taken.stamp);
         numbers.note(k, world.post_len() + 1)?;
         if !comes_so(alloc, &mut world, one, taken, number)? {
-            return Ok(failed(one.number, event, AuditTest::Answered));
+            return Ok(failure_at(one.number, event, AuditTest::Answered));
         }
         at[k] = event;
     }
 }
 
 /// What is said where an event of an actor fails a test.
-fn failed(actor: u16, event: usize, why: AuditTest) -> Passed
+fn failure_at(actor: u16, event: usize, why: AuditTest) -> Passed
     ensures { result ≡ Passed.Failed actor event why }
 {
     Passed::Failed { actor, event, why }

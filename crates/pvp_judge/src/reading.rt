@@ -3,7 +3,7 @@ ghost use Rattle.std.specs.Prelude.{◌≡◌, ◌↔◌, ◌<◌, IsTrue, IfSom
 ghost use Rattle.pvp_judge.specs.Judged.{EndsAgree, ReadsWorld};
 ghost use Rattle.pvp_judge.specs.Passed.{DiffersFirst};
 
-use crate::moves::currency_of;
+use crate::moves::currency_of_node;
 use pvp_parties::Party;
 use pvp_parties::like::{are_alike_clients, are_alike_nodes, are_alike_sites};
 use pvp_rooms::Closed;
@@ -33,7 +33,7 @@ fn reads_world(world: &World<MemCell>, one: &Closed<Party>) -> bool
             None => false,
             Some(site) => are_alike_sites(end.replica(), site),
         },
-        Party::Node(end) => match world.node(currency_of(one.number)) {
+        Party::Node(end) => match world.node(currency_of_node(one.number)) {
             None => false,
             Some(node) => are_alike_nodes(end.node(), node),
         },

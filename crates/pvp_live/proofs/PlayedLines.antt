@@ -5,17 +5,17 @@ use Rattle.pvp_rooms.specs.Seats.{Place}
 use Rattle.pvp_rooms.proofs.Hearing.{hears_none, hears_more}
 use Rattle.pvp_peers.specs.Puts.{Put}
 use Rattle.pvp_text.specs.declared.script.Line.{Line}
-use Rattle.pvp_live.specs.Events.{posted}
+use Rattle.pvp_live.specs.Events.{statement_post}
 use Rattle.pvp_live.specs.Playing.{Kept, PostsWhere, Plays, HandsOver, IsPlaying}
 
 -- one line more
 plays_more : (cells : List Place) (done : List Line) (line : Line) (old mid new : Kept) (p q : List Put)
-    → Plays cells done old mid p → PostsWhere cells line.number (posted line.statement) mid new q → Plays cells (done ++ line ∷ []) old new (p ++ q)
+    → Plays cells done old mid p → PostsWhere cells line.number (statement_post line.statement) mid new q → Plays cells (done ++ line ∷ []) old new (p ++ q)
 plays_more cells [] line old mid new p q idle posts = (
   new,
   q,
   [],
-  subst (λ (s : Kept). PostsWhere cells line.number (posted line.statement) s new q) idle.kept posts,
+  subst (λ (s : Kept). PostsWhere cells line.number (statement_post line.statement) s new q) idle.kept posts,
   record { kept = refl; none = refl },
   ap (λ (l : List Put). l ++ q) idle.none ∙ sym (append-nil q),
 )
@@ -29,11 +29,11 @@ module _ {B : Type 0} (got : B → List Put → Type 0) (cells : List Place) whe
 
   pub playing_more : (lines : List Line) (i : ℕ) (d : Line) (other : List Place) (old mid new : Kept) (x y z : B) → i < length lines → other ≡ cells
       → IsPlaying cells (take i lines) old mid got x y
-      → HandsOver other (slice_index_or lines i d).number (posted (slice_index_or lines i d).statement) mid new got y z
+      → HandsOver other (slice_index_or lines i d).number (statement_post (slice_index_or lines i d).statement) mid new got y z
       → IsPlaying cells (take (i + 1) lines) old new got x z
   playing_more lines i d other old mid new x y z within same played hands =
       let here =
-      subst (λ (c : List Place). PostsWhere c (slice_index_or lines i d).number (posted (slice_index_or lines i d).statement) mid new hands.puts) same
+      subst (λ (c : List Place). PostsWhere c (slice_index_or lines i d).number (statement_post (slice_index_or lines i d).statement) mid new hands.puts) same
       hands.posts in
       record {
         puts = played.puts ++ hands.puts;

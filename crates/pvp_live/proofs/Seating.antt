@@ -13,7 +13,7 @@ use Rattle.pvp_rooms.specs.Seats.{Place}
 use Rattle.vr_types.specs.declared.cell.BootCell.{Ghosts as Cell}
 use Rattle.pvp_judge.specs.Judged.{Left}
 use Rattle.pvp_judge.specs.Cells.{LeftOver, AreInMemory}
-use Rattle.pvp_live.specs.Seating.{BankSeat, AreNew, IsAmong, TakesBack, TakesOne, IsKept, Keeps}
+use Rattle.pvp_live.specs.Seating.{BankSeat, AreNew, IsAmong, TakesBack, TakesOne, IsKeptSeat, Keeps}
 
 -- ---- new seats
 
@@ -124,7 +124,7 @@ keeps_none closed = λ seat there. absurd (Contains-none there.0 there.1)
 module _ {B : Type 0} (done : List (Vec BankSeat)) (closed : List (LeftOver B)) (own : Vec BankSeat) (one : LeftOver B)
     (same : IsPermutation own.items one.seats.items) where
   keeps_case : Keeps done closed → (seat : BankSeat) (those : Vec BankSeat) → Contains those.items seat → Contains done those ⊎ (own ≡ those)
-      → IsKept (closed ++ one ∷ []) seat
+      → IsKeptSeat (closed ++ one ∷ []) seat
   keeps_case keeps seat those has (inl before) =
       let kept = keeps seat (those, before, has) in (kept.0, Contains-append_left closed (one ∷ []) kept.0 kept.1, kept.2)
   keeps_case keeps seat those has (inr e) = (

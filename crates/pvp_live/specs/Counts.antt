@@ -6,29 +6,29 @@ use Rattle.pvp_peers.specs.declared.peer.PeerEnd.{PeerEnd}
 use Rattle.pvp_peers.specs.declared.peer.StreamEnd.{StreamEnd}
 use Rattle.pvp_peers.specs.declared.peer.StreamEnd.TheVariants.{End}
 use Rattle.pvp_streams.specs.declared.peer.Peer.{Peer}
-use Rattle.pvp_parties.specs.Parties.{sent}
+use Rattle.pvp_parties.specs.Parties.{sent_envelopes}
 use Rattle.pvp_judge.specs.Judged.{Left}
 use Rattle.pvp_live.specs.declared.sighting.Sighting.{Sighting}
 use Rattle.pvp_live.specs.Notes.{sighting_text}
 use Rattle.pvp_live.specs.Sightings.{sighting_of}
 
 -- a sum as a counter holds it, which goes no further
-abbrev pub counted : ℕ → ℕ
-counted n = min n (2 ^ 64 - 1)
+abbrev pub counter_value : ℕ → ℕ
+counter_value n = min n (2 ^ 64 - 1)
 
 -- HOW MANY ENVELOPES an actor sent, and how many all these did
 abbrev pub sent_by : Left → ℕ
-sent_by one = counted (sum_by (λ recorded. length (sent recorded.outcome)) one.history.items)
+sent_by one = counter_value (sum_by (λ recorded. length (sent_envelopes recorded.outcome)) one.history.items)
 
 abbrev pub sent_in_all : List Left → ℕ
-sent_in_all closed = counted (sum_by sent_by closed)
+sent_in_all closed = counter_value (sum_by sent_by closed)
 
 -- HOW MANY CAME: of the events that an actor took those with a stamp
 abbrev pub came_to : Left → ℕ
-came_to one = counted (sum_by (λ recorded. length (option_to_list recorded.stamp)) one.history.items)
+came_to one = counter_value (sum_by (λ recorded. length (option_to_list recorded.stamp)) one.history.items)
 
 abbrev pub came_in_all : List Left → ℕ
-came_in_all closed = counted (sum_by came_to closed)
+came_in_all closed = counter_value (sum_by came_to closed)
 
 abbrev pub lost_text : ℕ → ℕ → List ℕ
 lost_text all lost =
@@ -69,10 +69,10 @@ is_broken (Some end) = not (is_end end.why)
 is_broken None = true
 
 abbrev pub frames_taken : {A R G N E O : Type 0} → List (Peer A R G N E O) → ℕ
-frames_taken peers = counted (sum_by (λ peer. frames_at peer.end) peers)
+frames_taken peers = counter_value (sum_by (λ peer. frames_at peer.end) peers)
 
-abbrev pub broken : {A R G N E O : Type 0} → List (Peer A R G N E O) → ℕ
-broken peers = count_by (λ peer. is_broken peer.end) peers
+abbrev pub broken_count : {A R G N E O : Type 0} → List (Peer A R G N E O) → ℕ
+broken_count peers = count_by (λ peer. is_broken peer.end) peers
 
 abbrev pub ended_text : ℕ → ℕ → List ℕ
 ended_text frames streams =

@@ -27,13 +27,14 @@ beat_at actor = record {
 }
 
 -- a line that no live script has, and one by which time passes, post nothing
-abbrev pub posted : Statement → Option Post
-posted (Do (Submit who cmd)) = Some (record { actor = who; event = OfClient (client.Submits cmd) })
-posted (Do (PayIn ccy member amt)) =
+abbrev pub statement_post : Statement → Option Post
+statement_post (Do (Submit who cmd)) = Some (record { actor = who; event = OfClient (client.Submits cmd) })
+statement_post (Do (PayIn ccy member amt)) =
     Some (record { actor = number_of (Node ccy); event = OfNode (node.PaysIn member amt) })
-posted (Do (Close ccy member)) = Some (record { actor = number_of (Node ccy); event = OfNode (node.Closes member) })
-posted (Do (Beat actor)) = Some (beat_at actor)
-posted (Do (Timer i)) = Some (record { actor = number_of (Site i); event = OfSite site.Timer })
-posted (Do (Crash i)) = Some (record { actor = number_of (Site i); event = OfSite site.Crash })
-posted (Do (Restart i)) = Some (record { actor = number_of (Site i); event = OfSite site.Restart })
-posted _ = None
+statement_post (Do (Close ccy member)) =
+    Some (record { actor = number_of (Node ccy); event = OfNode (node.Closes member) })
+statement_post (Do (Beat actor)) = Some (beat_at actor)
+statement_post (Do (Timer i)) = Some (record { actor = number_of (Site i); event = OfSite site.Timer })
+statement_post (Do (Crash i)) = Some (record { actor = number_of (Site i); event = OfSite site.Crash })
+statement_post (Do (Restart i)) = Some (record { actor = number_of (Site i); event = OfSite site.Restart })
+statement_post _ = None

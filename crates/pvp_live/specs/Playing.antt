@@ -11,12 +11,12 @@ use Rattle.pvp_text.specs.declared.script.Line.{Line}
 use Rattle.std.specs.Global.{Vec}
 use Rattle.pvp_parties.specs.declared.party.PartyEvent.{PartyEvent}
 use Rattle.pvp_parties.specs.declared.party.PartyOutcome.{PartyOutcome}
-use Rattle.pvp_parties.specs.Parties.{sent}
+use Rattle.pvp_parties.specs.Parties.{sent_envelopes}
 use Rattle.pvp_live.specs.declared.events.Post.{Post}
 use Rattle.pvp_live.specs.declared.refusals.Refused.{Refused}
 use Rattle.pvp_judge.specs.Judged.{Left}
-use Rattle.pvp_live.specs.Seating.{BankSeat, AreNew, IsAmong, IsKept}
-use Rattle.pvp_live.specs.Events.{posted}
+use Rattle.pvp_live.specs.Seating.{BankSeat, AreNew, IsAmong, IsKeptSeat}
+use Rattle.pvp_live.specs.Events.{statement_post}
 use Rattle.pvp_live.specs.Effects.{line_effect, fault_of}
 use Rattle.pvp_live.specs.Refusals.{refused_after}
 
@@ -60,7 +60,8 @@ Answers cells post old new None = (new ≡ old) × (seat_at cells old post.actor
 
 -- what is handed on after an answer: what the actor sent, once
 abbrev pub handed_on : ℕ → Option (Answer PartyOutcome) → List Put
-handed_on actor (Some (Done clock outcome)) = record { actor = actor; clock = clock; sent = sent outcome } ∷ []
+handed_on actor (Some (Done clock outcome)) =
+    record { actor = actor; clock = clock; sent = sent_envelopes outcome } ∷ []
 handed_on actor (Some NoMemory) = []
 handed_on actor (Some ClockSpent) = []
 handed_on actor None = []
@@ -94,7 +95,7 @@ abbrev pub Plays : List Place → List Line → Kept → Kept → List Put → T
 Plays cells [] old new puts = IsIdle old new puts
 Plays cells (line ∷ more) old new puts =
     (mid : Kept) × (first : List Put) × (rest : List Put)
-    × PostsWhere cells line.number (posted line.statement) old mid first × Plays cells more mid new rest
+    × PostsWhere cells line.number (statement_post line.statement) old mid first × Plays cells more mid new rest
     × (puts ≡ first ++ rest)
 
 pub record IsPlaying {B : Type 0} (cells : List Place) (lines : List Line) (old new : Kept)
@@ -122,4 +123,4 @@ pub record WasTallied (lines : List Line) (closed : List Left) (refused : Option
   pub puts : List Put
   pub new : AreNew cells before
   pub plays : Plays cells lines (keeps before None) (keeps after refused) puts
-  pub kept : (seat : BankSeat) → Contains after seat → IsKept closed seat
+  pub kept : (seat : BankSeat) → Contains after seat → IsKeptSeat closed seat

@@ -29,9 +29,9 @@ abbrev pub TakesBack : List (Vec BankSeat) → List BankSeat → List (Vec BankS
 TakesBack old given new = (seat : BankSeat) → IsAmong old seat ⊎ Contains given seat → IsAmong new seat
 
 -- a seat stands in what these actors left, as it is; B is the type of the sites' boot cells
-abbrev pub IsKept : {B : Type 0} → List (LeftOver B) → BankSeat → Type 0
-IsKept {B} closed seat = (one : LeftOver B) × Contains closed one × Contains one.seats.items seat
+abbrev pub IsKeptSeat : {B : Type 0} → List (LeftOver B) → BankSeat → Type 0
+IsKeptSeat {B} closed seat = (one : LeftOver B) × Contains closed one × Contains one.seats.items seat
 
 -- and so does each of these
 abbrev pub Keeps : {B : Type 0} → List (Vec BankSeat) → List (LeftOver B) → Type 0
-Keeps seats closed = (seat : BankSeat) → IsAmong seats seat → IsKept closed seat
+Keeps seats closed = (seat : BankSeat) → IsAmong seats seat → IsKeptSeat closed seat

@@ -36,7 +36,7 @@ impl<'a> Board<'a> {
         ensures { result.came ≤ result.sent }
     {
         let came = self.came.load(Ordering::SeqCst);
-        let sent = self.writers.written();
+        let sent = self.writers.written_count();
         Frames {
             sent: sent.max(came),
             came,

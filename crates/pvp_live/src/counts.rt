@@ -1,6 +1,6 @@
 //! How many envelopes were sent in a run, and how many of them came.
 ghost use Rattle.std.specs.Prelude.{◌≡◌, length, option_to_list};
-ghost use Rattle.pvp_live.specs.Counts.{broken, came_in_all, came_to, frames_at, frames_taken, is_broken, sent_by, sent_in_all};
+ghost use Rattle.pvp_live.specs.Counts.{broken_count, came_in_all, came_to, frames_at, frames_taken, is_broken, sent_by, sent_in_all};
 
 use pvp_parties::{Party, PartyEvent, PartyOf, PartyOutcome};
 use pvp_peers::{PeerEnd, Served, StreamEnd};
@@ -25,7 +25,7 @@ fn sent_by(closed: &Closed<Party>) -> usize
 {
     let mut sent: usize = 0;
     for recorded in closed.history.as_slice() {
-        sent = sent.saturating_add(Party::sent(&recorded.outcome).len());
+        sent = sent.saturating_add(Party::sent_envelopes(&recorded.outcome).len());
     }
     sent
 }
@@ -84,8 +84,8 @@ fn frames_at(end: Option<PeerEnd>) -> usize
 }
 
 /// How many of these streams ended before their end.
-pub fn broken<C: BootCell, S, G>(peers: &[Peer<'_, PartyOf<C>, S, G>]) -> usize
-    ensures { result ≡ broken peers.now }
+pub fn broken_count<C: BootCell, S, G>(peers: &[Peer<'_, PartyOf<C>, S, G>]) -> usize
+    ensures { result ≡ broken_count peers.now }
 {
     peers.iter().filter(|peer| is_broken(peer.end)).count()
 }

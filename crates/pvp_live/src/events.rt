@@ -2,7 +2,7 @@
 ghost use Rattle.std.specs.Prelude.{◌≡◌};
 ghost use Rattle.vr_types.specs.Actors.{number_of};
 ghost use Rattle.vr_types.specs.declared.actors.ActorId.TheVariants.{Node, Site};
-ghost use Rattle.pvp_live.specs.Events.{posted, beat_at};
+ghost use Rattle.pvp_live.specs.Events.{statement_post, beat_at};
 
 use headline::ClientEvent;
 use pvp_book::Book;
@@ -20,8 +20,8 @@ pub struct Post {
 }
 
 /// What a line posts; a line of another kind of script, and one by which time passes, posts nothing.
-pub fn posted(statement: Statement) -> Option<Post>
-    ensures { result ≡ posted statement }
+pub fn statement_post(statement: Statement) -> Option<Post>
+    ensures { result ≡ statement_post statement }
 {
     let Statement::Do(step) = statement else {
         return None;

@@ -7,7 +7,7 @@ ghost use Rattle.pvp_live.specs.Counts.{ended_text, left_text, lost_text, separa
 ghost use Rattle.pvp_live.specs.Outcomes.{answer_text, clock_text, posted_text};
 
 use crate::board::Frames;
-use crate::counts::{broken, came_in_all, frames_taken, sent_in_all};
+use crate::counts::{broken_count, came_in_all, frames_taken, sent_in_all};
 use crate::effects::{Effect, line_effect};
 use crate::sighting::{Sighting, sighting_of};
 use pvp_parties::{Party, PartyOf, PartyOutcome};
@@ -76,7 +76,7 @@ pub fn tell_ends<N: Write, C: BootCell, S, G>(
     peers: &[Peer<'_, PartyOf<C>, S, G>],
 ) {
     let mut text = String::new(alloc);
-    if push_ended(&mut text, frames_taken(peers), broken(peers)).is_ok() {
+    if push_ended(&mut text, frames_taken(peers), broken_count(peers)).is_ok() {
         let _ = notes.write_all(text.as_str().as_bytes());
     }
 }

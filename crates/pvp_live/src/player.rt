@@ -9,7 +9,7 @@ ghost use Rattle.pvp_live.specs.Playing.{Answers, HandsOver, handed_on, keeps, p
 
 use crate::board::Board;
 use crate::effects::{fault_of, line_effect};
-use crate::events::{Post, posted};
+use crate::events::{Post, statement_post};
 use crate::notes::{tell_posted, tell_rest, tell_sites};
 use crate::refusals::{Refused, refused_after};
 use crate::sighting::look_at_sites;
@@ -58,7 +58,8 @@ pub struct LinePlayer<'a, R, N, C: BootCell> {
 impl<R: Wait + Clock, N: Write, C: BootCell> LinePlayer<'_, R, N, C> {
     /// Plays a line.
     fn line<O: Outbox>(&mut self, line: Line, out: &mut O)
-        ensures posted { HandsOver self.old.cells.now line.number (events.posted line.statement)
+        ensures posted { HandsOver self.old.cells.now line.number
+            (events.statement_post line.statement)
             (keeps self.old.seats.items self.old.refused)
             (keeps self.new.seats.items self.new.refused)
             O.got out.old out.new }
@@ -72,7 +73,7 @@ impl<R: Wait + Clock, N: Write, C: BootCell> LinePlayer<'_, R, N, C> {
                 self.tell(line.number);
             }
             statement => {
-                if let Some(post) = posted(statement) {
+                if let Some(post) = statement_post(statement) {
                     self.post(line, post, out);
                 }
             }
@@ -140,7 +141,7 @@ impl<R: Wait + Clock, N: Write, C: BootCell> LinePlayer<'_, R, N, C> {
     {
         match answer {
             Some(Answer::Done { clock, outcome }) => {
-                let sent = PartyOf::<C>::sent(outcome);
+                let sent = PartyOf::<C>::sent_envelopes(outcome);
                 out.put(self.rt, self.alloc, actor, *clock, sent);
             }
             Some(Answer::NoMemory | Answer::ClockSpent) | None => {}

@@ -167,7 +167,7 @@ where
     )?;
     let closed = in_memory(alloc, close_all(alloc, cells, seats)?)?;
     tell_left(alloc, notes, setup, closed.as_slice());
-    let judgement = judged(alloc, setup, closed.as_slice())?;
+    let judgement = judge_left(alloc, setup, closed.as_slice())?;
     Ok(Lived {
         closed,
         judgement,
@@ -176,7 +176,11 @@ where
 }
 
 /// Judges what all actors left. `Err` exactly where these are not the bank's, or a site had not begun with a new cell.
-fn judged(alloc: Global, setup: &Setup, closed: &[Closed<Party>]) -> Result<Judgement, Misplaced>
+fn judge_left(
+    alloc: Global,
+    setup: &Setup,
+    closed: &[Closed<Party>],
+) -> Result<Judgement, Misplaced>
     requires { IsValid setup.now }
     ensures judged { IfOk result (WasJudged setup.now closed.now) }
     ensures stranger { IfErr result (λ _.

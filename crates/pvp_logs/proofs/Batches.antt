@@ -5,11 +5,11 @@ use Rattle.std.proofs.lemmas.List.{append-nil, map-append}
 use Rattle.pvp_rooms.specs.declared.actor.Actor.{Ghosts}
 use Rattle.pvp_rooms.specs.declared.message.Input.{Input}
 use Rattle.pvp_rooms.specs.declared.message.Recorded.{Recorded}
-use Rattle.pvp_rooms.specs.Rooms.{Shown, IsRoom, Acted, Took, receipt, clock_after}
+use Rattle.pvp_rooms.specs.Rooms.{ShownRoom, IsRoom, Acted, Took, receipt, clock_after}
 use Rattle.pvp_rooms.proofs.Growing.{room_next}
 use Rattle.pvp_logs.specs.declared.room.Letter.{Letter}
 use Rattle.pvp_logs.specs.Log.{with_more}
-use Rattle.pvp_logs.specs.Rooms.{Texts, records, sum_after, letter, Held, Past, shown, Keeps, nothing_taken, with_pending, all_written}
+use Rattle.pvp_logs.specs.Rooms.{Texts, records, sum_after, letter, Held, Past, shown_room, Keeps, nothing_taken, with_pending, all_written}
 
 module _ {E O : Type 0} (t : Texts E O) where
   -- records behind records
@@ -67,12 +67,12 @@ module _ {N A E O L : Type 0} (m : Ghosts A N E O) (texts : ℕ → Texts E O) (
         batch = old.batch ++ (texts old.number).record_of old.sum r;
         waiting = old.waiting ++ letter r ∷ [];
       } in
-      Took m input (shown old past) (shown new (with_pending past r)) clock outcome × Keeps m texts seen new (with_pending past r)
+      Took m input (shown_room old past) (shown_room new (with_pending past r)) clock outcome × Keeps m texts seen new (with_pending past r)
   taken old actor input clock outcome past kept acted next =
       let r = receipt input clock outcome in
       let t = texts old.number in
       let longer : (past.written ++ past.pending) ++ r ∷ [] ≡ past.written ++ (past.pending ++ r ∷ []) = append_assoc past.written past.pending (r ∷ []) in
-      let room = room_next m (shown old past) actor input clock outcome kept.sound acted next in
+      let room = room_next m (shown_room old past) actor input clock outcome kept.sound acted next in
       let start : sum_after t past.start (past.written ++ past.pending) ≡ sum_after t (sum_after t past.start past.written) past.pending =
       sum-append t past.start past.written past.pending in (
         record {

@@ -8,7 +8,7 @@ use Rattle.pvp_rooms.specs.Histories.{Takes}
 use Rattle.pvp_rooms.specs.Rooms.{receipt, clock_after}
 use Rattle.pvp_parties.specs.declared.party.PartyOf.{PartyOf}
 use Rattle.pvp_logs.specs.Resumed.{room_over}
-use Rattle.pvp_logs.specs.Rooms.{Texts, Held, Past, letter, Keeps, TookOne, with_pending, noted, NotedOne, Mark, AreMarked, with_all, WentOn, GoesOn}
+use Rattle.pvp_logs.specs.Rooms.{Texts, Held, Past, letter, Keeps, TookOne, with_pending, unstamped_record, NotedOne, Mark, AreMarked, with_all, WentOn, GoesOn}
 use Rattle.pvp_logs.proofs.Batches.{taken}
 
 AreMarked-append : {E O : Type 0} (more later : List (Recorded E O)) (marks next : List (Mark E O))
@@ -57,7 +57,7 @@ module _ {N A E O L : Type 0} (m : Ghosts A N E O) (texts : ℕ → Texts E O) (
   pub noted_on : (old new : Held N A O L) (event : E) (outcome : O) → NotedOne m texts seen event outcome old new
       → GoesOn m m texts seen old new (record { event = event; came = Some outcome } ∷ [])
   noted_on old new event outcome one = λ past kept.
-      record { more = noted event new.clock outcome ∷ []; are = (refl, refl, refl, tt); opening = one.opening; keeps = one.keeps past kept }
+      record { more = unstamped_record event new.clock outcome ∷ []; are = (refl, refl, refl, tt); opening = one.opening; keeps = one.keeps past kept }
 
   -- the same actor, of which nothing is told
   abbrev silent : Ghosts A N E O
@@ -68,7 +68,7 @@ module _ {N A E O L : Type 0} (m : Ghosts A N E O) (texts : ℕ → Texts E O) (
       → ((x : m.State) → m.shows old.actor x → Takes m.comes m.after x event outcome (m.shows actor))
       → ((opening : N) (x : m.State) → m.opens actor opening x → m.opens old.actor opening x)
       → clock_after old.clock None ≡ Some clock
-      → let r = noted event clock outcome in
+      → let r = unstamped_record event clock outcome in
       let new : Held N A O L = record old {
         actor = actor;
         clock = clock;

@@ -51,8 +51,8 @@ IsAgain m opening again history =
     IsRoom m (record { opening = opening; actor = again.actor; clock = again.clock; history = history })
 
 -- what a room holds that goes on: nothing is in its batch, and nothing waits
-abbrev pub resumed : {N A O L : Type 0} → ℕ → N → Replayed A → L → ℕ → Held N A O L
-resumed number opening again log sum = record {
+abbrev pub resumed_room : {N A O L : Type 0} → ℕ → N → Replayed A → L → ℕ → Held N A O L
+resumed_room number opening again log sum = record {
   number = number;
   opening = opening;
   actor = again.actor;

@@ -4,7 +4,7 @@ use Rattle.pvp_rooms.specs.declared.actor.Actor.{Ghosts}
 use Rattle.pvp_rooms.specs.declared.message.Input.{Input}
 use Rattle.pvp_rooms.specs.declared.message.Recorded.{Recorded}
 use Rattle.pvp_rooms.specs.Histories.{Takes}
-use Rattle.pvp_rooms.specs.Rooms.{Shown, IsRoom, Took, receipt, clock_after}
+use Rattle.pvp_rooms.specs.Rooms.{ShownRoom, IsRoom, Took, receipt, clock_after}
 use Rattle.pvp_parties.specs.declared.party.PartyEvent.{PartyEvent}
 use Rattle.pvp_parties.specs.declared.party.PartyOutcome.{PartyOutcome}
 use Rattle.pvp_journal.specs.Spelling.{record_text, record_sum}
@@ -53,15 +53,15 @@ pub record Past (E O : Type 0) : Type 0 where
   pub pending : List (Recorded E O)
 
 -- the room of such a history
-abbrev pub shown : {N A E O L : Type 0} → Held N A O L → Past E O → Shown N A E O
-shown room past =
+abbrev pub shown_room : {N A E O L : Type 0} → Held N A O L → Past E O → ShownRoom N A E O
+shown_room room past =
     record { opening = room.opening; actor = room.actor; clock = room.clock; history = past.written ++ past.pending }
 
 -- WHAT A ROOM KEEPS of a history: its actor is the replay of it; the log, where it is known, has the records that are
 -- written, and the batch those that are not; and what those sent waits
 pub record Keeps {N A E O L : Type 0} (m : Ghosts A N E O) (texts : ℕ → Texts E O) (seen : L → Option (List ℕ))
     (room : Held N A O L) (past : Past E O) : Type 0 where
-  pub sound : IsRoom m (shown room past)
+  pub sound : IsRoom m (shown_room room past)
   pub log : IfSome (seen room.log) (λ bytes. bytes ≡ past.head ++ records (texts room.number) past.start past.written)
   pub batch : room.batch ≡ records (texts room.number)
       (sum_after (texts room.number) past.start past.written) past.pending
@@ -84,7 +84,8 @@ all_written past = record past { written = past.written ++ past.pending; pending
 abbrev pub TookOne : {N A E O L : Type 0} → Ghosts A N E O → (ℕ → Texts E O) → (L → Option (List ℕ)) → Input E
     → Held N A O L → Held N A O L → Past E O → ℕ → Type 0
 TookOne {O = O} m texts seen input old new past clock = (outcome : O)
-    × Took m input (shown old past) (shown new (with_pending past (receipt input clock outcome))) clock outcome
+    × Took m input (shown_room old past) (shown_room new (with_pending past (receipt input clock outcome))) clock
+    outcome
     × Keeps m texts seen new (with_pending past (receipt input clock outcome))
 
 -- WHAT AN ANSWER TELLS of a room before and after, whatever history it has kept
@@ -110,8 +111,8 @@ Flushes {E = E} {O = O} m texts seen old new letters =
     → (letters ≡ map letter past.pending) × Keeps m texts seen new (all_written past)
 
 -- an event without a stamp that came out so
-abbrev pub noted : {E O : Type 0} → E → ℕ → O → Recorded E O
-noted event clock outcome = record { event = event; stamp = None; clock = clock; outcome = outcome }
+abbrev pub unstamped_record : {E O : Type 0} → E → ℕ → O → Recorded E O
+unstamped_record event clock outcome = record { event = event; stamp = None; clock = clock; outcome = outcome }
 
 -- a room noted such an event: its actor goes on by it, and whatever history the room has kept, by its record
 pub record NotedOne {N A E O L : Type 0} (m : Ghosts A N E O) (texts : ℕ → Texts E O) (seen : L → Option (List ℕ))
@@ -122,7 +123,7 @@ pub record NotedOne {N A E O L : Type 0} (m : Ghosts A N E O) (texts : ℕ → T
   pub next : clock_after old.clock None ≡ Some new.clock
   pub step : (x : m.State) → m.shows old.actor x → Takes m.comes m.after x event outcome (m.shows new.actor)
   pub keeps : (past : Past E O) → Keeps m texts seen old past
-      → Keeps m texts seen new (with_pending past (noted event new.clock outcome))
+      → Keeps m texts seen new (with_pending past (unstamped_record event new.clock outcome))
 
 -- WHAT NOTING AN EVENT TELLS: it is in the history; or it cannot have come out so, or there is no greater clock
 abbrev pub Notes : {N A E O L : Type 0} → Ghosts A N E O → (ℕ → Texts E O) → (L → Option (List ℕ)) → E → O

@@ -37,7 +37,7 @@ impl MemLog {
     }
 
     /// How many of its first bytes outlive a power cut.
-    pub fn synced(&self) -> usize
+    pub fn synced_length(&self) -> usize
         ensures { result ≡ self.now.synced }
     {
         self.synced

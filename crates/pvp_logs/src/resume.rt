@@ -8,7 +8,7 @@ ghost use Rattle.pvp_journal.specs.Spelling.{Entry};
 ghost use Rattle.pvp_journal.specs.declared.journal.Left.TheVariants.{Nothing};
 ghost use Rattle.pvp_wire.specs.Fits.{IsBytes};
 ghost use Rattle.pvp_logs.specs.Rooms.{Keeps, bank_texts};
-ghost use Rattle.pvp_logs.specs.Resumed.{IsAgain, IsOpened, Replays, past_of, resumed};
+ghost use Rattle.pvp_logs.specs.Resumed.{IsAgain, IsOpened, Replays, past_of, resumed_room};
 
 use crate::log::Log;
 use crate::room::JournalRoom;
@@ -105,7 +105,7 @@ pub fn come_back<C: BootCell, L: Log>(
         journal.now.history.items }
     requires log { IfSome (L.seen log) (λ held. held ≡ bytes.now) }
     ensures is { let head = journal.now.head in
-        result ≡ resumed head.actor head.opening again log journal.now.sum }
+        result ≡ resumed_room head.actor head.opening again log journal.now.sum }
     ensures keeps { Keeps ⟦<PartyOf<C> as Actor>⟧ bank_texts L.seen result (past_of journal.now) }
 {
     are_bytes(bytes);

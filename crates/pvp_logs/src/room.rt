@@ -4,7 +4,7 @@ ghost use Rattle.pvp_parties.specs.Parties.{held_of};
 ghost use Rattle.pvp_logs.specs.Log.{OutlivesAll, with_more};
 ghost use Rattle.pvp_journal.specs.declared.fault.WriteFault.TheVariants.{Unfit};
 ghost use Rattle.pvp_logs.specs.Rooms.{Flushes, HasNoText, Keeps, Notes, Past, Steps, bank_texts};
-ghost use Rattle.pvp_logs.specs.Resumed.{IsAgain, IsWritten, resumed, room_over};
+ghost use Rattle.pvp_logs.specs.Resumed.{IsAgain, IsWritten, resumed_room, room_over};
 
 use crate::journaled::Journaled;
 use crate::log::{Log, LogFault};
@@ -117,7 +117,7 @@ impl<A: Journaled, L: Log> JournalRoom<A, L> {
     ) -> Self
         requires { (past : Past A.Event A.Outcome) × IsAgain A.Actor opening again past.written
             × IsWritten (A.texts number) (L.seen log) past sum }
-        ensures is { result ≡ resumed number opening again log sum }
+        ensures is { result ≡ resumed_room number opening again log sum }
         ensures keeps { (past : Past A.Event A.Outcome) →
             IsAgain A.Actor opening again past.written →
             IsWritten (A.texts number) (L.seen log) past sum →
@@ -157,7 +157,7 @@ impl<A: Journaled, L: Log> JournalRoom<A, L> {
     }
 
     /// What waits for a flush, in order.
-    pub fn waiting(&self) -> &[Letter<A::Outcome>]
+    pub fn waiting_letters(&self) -> &[Letter<A::Outcome>]
         ensures { result.now ≡ self.now.waiting }
     {
         self.waiting.as_slice()

@@ -70,21 +70,21 @@ pub fn restart<C: BootCell, L: Log>(
         (events_back way (is_up room.actor) (C.held cell))) }
 {
     let held = cell.load();
-    if !is_way(way, room.actor().held(), held) {
+    if !is_way(way, room.actor().held_boot(), held) {
         return Err(RestartFault::Misfit);
     }
     match way {
         WayBack::Again => over_same(room, cell),
         WayBack::Restarts => {
-            let down = crashed(alloc, room)?;
+            let down = room_after_crash(alloc, room)?;
             let over = over_same(down, cell)?;
-            taken(alloc, over, PartyEvent::OfSite(EventOf::Restart))
+            room_after_event(alloc, over, PartyEvent::OfSite(EventOf::Restart))
         }
         WayBack::FellAndRestarts => {
-            let down = crashed(alloc, room)?;
-            let fell = fallen(alloc, down, held)?;
+            let down = room_after_crash(alloc, room)?;
+            let fell = room_after_fall(alloc, down, held)?;
             let over = over_same(fell, cell)?;
-            taken(alloc, over, PartyEvent::OfSite(EventOf::Restart))
+            room_after_event(alloc, over, PartyEvent::OfSite(EventOf::Restart))
         }
     }
 }
@@ -120,7 +120,7 @@ fn over_same<C: BootCell, L: Log>(
     ensures { IfOk result (λ over.
         GoesOn ⟦<Party as Actor>⟧ ⟦<PartyOf<C> as Actor>⟧ bank_texts L.seen room over []) }
 {
-    if !is_same(room.actor().held(), cell.load()) {
+    if !is_same(room.actor().held_boot(), cell.load()) {
         return Err(RestartFault::Misfit);
     }
     Ok(room.over(cell))
@@ -137,7 +137,7 @@ fn is_same(own: Option<Boot>, held: Boot) -> bool
 }
 
 /// The room once its site is down.
-fn crashed<L: Log>(
+fn room_after_crash<L: Log>(
     alloc: Global,
     room: JournalRoom<Party, L>,
 ) -> Result<JournalRoom<Party, L>, RestartFault>
@@ -146,7 +146,7 @@ fn crashed<L: Log>(
         (crash_of (is_up room.actor))) }
 {
     if is_up(room.actor()) {
-        return taken(alloc, room, PartyEvent::OfSite(EventOf::Crash));
+        return room_after_event(alloc, room, PartyEvent::OfSite(EventOf::Crash));
     }
     Ok(room)
 }
@@ -165,7 +165,7 @@ fn is_up(actor: &Party) -> bool
 }
 
 /// The room once a restart of its site has fallen, over a cell that holds this.
-fn fallen<L: Log>(
+fn room_after_fall<L: Log>(
     alloc: Global,
     room: JournalRoom<Party, L>,
     held: Boot,
@@ -178,11 +178,11 @@ fn fallen<L: Log>(
         why: SiteFault::CellFault,
         cell: held,
     });
-    noted(alloc, room, PartyEvent::OfSite(EventOf::Restart), outcome)
+    room_after_note(alloc, room, PartyEvent::OfSite(EventOf::Restart), outcome)
 }
 
 /// The room once an event is noted that came out so.
-fn noted<A: Journaled + Audited, L: Log>(
+fn room_after_note<A: Journaled + Audited, L: Log>(
     alloc: Global,
     room: JournalRoom<A, L>,
     event: A::Event,
@@ -199,7 +199,7 @@ fn noted<A: Journaled + Audited, L: Log>(
 }
 
 /// The room once its actor took an event without a stamp, however it came out.
-fn taken<A: Journaled, L: Log>(
+fn room_after_event<A: Journaled, L: Log>(
     alloc: Global,
     room: JournalRoom<A, L>,
     event: A::Event,

@@ -18,7 +18,7 @@ use Rattle.vr_types.specs.Site.{Site, over}
 use Rattle.vr_log.specs.Outcomes.{ended}
 use Rattle.vr_log.specs.Running.{SumUp}
 use Rattle.vr_site.specs.Life.{lost}
-use Rattle.vr_site.specs.Replica.{Shown, KeepsPlace, site_shown, Handles}
+use Rattle.vr_site.specs.Replica.{ShownSite, KeepsPlace, site_shown, Handles}
 use Rattle.vr_site.proofs.Shows.{none_summed}
 use Rattle.pvp_rooms.specs.declared.site.CameOf.TheVariants.{Did, Refused, Fell}
 use Rattle.pvp_rooms.specs.Sites.{SiteState, step_in, Comes, after, Shows}
@@ -41,7 +41,7 @@ restarts : {C : Type 0} (R O : Type 0) (f me : ℕ) (y : Site C) → is_refused 
 unfolding on_restart
 restarts R O f me y = refl
 
-module _ {H C R O S B : Type 0} (m : Ghosts H C R O S) (c : Cell B) (old : Shown C S B) (x : SiteState H C) (event : EventOf C R O)
+module _ {H C R O S B : Type 0} (m : Ghosts H C R O S) (c : Cell B) (old : ShownSite C S B) (x : SiteState H C) (event : EventOf C R O)
     (shows : Shows m c old x) where
   -- the cell that is shown is the site's
   held_is : x.site.cell ≡ c.held old.cell
@@ -72,7 +72,7 @@ module _ {H C R O S B : Type 0} (m : Ghosts H C R O S) (c : Cell B) (old : Shown
   refuses_only why comes = sym (refusal_of m c old x event shows) ∙ comes
 
   -- a site falls in place of a restart that saved nothing
-  pub fell_unsaved : (now : Shown C S B) (why : SiteFault) (cell : Boot) → event ≡ Restart → refusal old.f old.me (site_shown c.held old []) event ≡ None
+  pub fell_unsaved : (now : ShownSite C S B) (why : SiteFault) (cell : Boot) → event ≡ Restart → refusal old.f old.me (site_shown c.held old []) event ≡ None
       → cell ≡ c.held old.cell → now ≡ record old { volatile = lost } → (why ≡ NoMemory) ⊎ (why ≡ CellFault)
       → Comes m x event (Fell why cell) × Shows m c now (after x event (Fell why cell))
   fell_unsaved now why cell restart free held fallen of =
@@ -88,12 +88,12 @@ module _ {H C R O S B : Type 0} (m : Ghosts H C R O S) (c : Cell B) (old : Shown
           is =
               still m c old now (record x { site = over cell status.Down }) left
               (record { f = shows.is.f; me = shows.is.me; start = shows.is.start; right = shows.is.right });
-          acks = subst (λ (v : Shown C S B). SumUp v.volatile.acked []) (sym fallen) none_summed;
+          acks = subst (λ (v : ShownSite C S B). SumUp v.volatile.acked []) (sym fallen) none_summed;
           site = ap (λ b. over b status.Down) last ∙ sym (ap (λ v. site_shown c.held (record now { volatile = v }) []) (ap (λ v. v.volatile) fallen));
         },
       )
 
-  module _ (new : Shown C S B) (place : KeepsPlace old new) (out : OutcomeOf C R O) (handles : Handles m c old new event (Ok out)) where
+  module _ (new : ShownSite C S B) (place : KeepsPlace old new) (out : OutcomeOf C R O) (handles : Handles m c old new event (Ok out)) where
     -- an event comes out as it was handled, and so alone
     pub did_so : (sent : List (EnvelopeOf C R O)) (dropped : Option Why) → out.dropped ≡ dropped → out.sent.items ≡ sent
         → Comes m x event (Did sent dropped) × Shows m c new (after x event (Did sent dropped))
@@ -109,14 +109,14 @@ module _ {H C R O S B : Type 0} (m : Ghosts H C R O S) (c : Cell B) (old : Shown
         (ended_one out.dropped dropped (sym d.0.ending ∙ comes.ending), d.0.sends ∙ sym comes.sends)
 
     -- a site falls over what its cell holds after its step, and over that alone
-    pub fell_so : (now : Shown C S B) (why : SiteFault) (cell : Boot) → now ≡ record new { volatile = lost } → cell ≡ c.held now.cell
+    pub fell_so : (now : ShownSite C S B) (why : SiteFault) (cell : Boot) → now ≡ record new { volatile = lost } → cell ≡ c.held now.cell
         → (why ≡ NoMemory) ⊎ (why ≡ CellFault)
         → Comes m x event (Fell why cell) × Shows m c now (after x event (Fell why cell))
     fell_so now why cell fallen held of =
         let f = fell_after m c old new x event shows place out handles now cell fallen held in
         ((f.0.0, of), f.1)
 
-    pub fell_only : (now : Shown C S B) (why : SiteFault) (cell : Boot) → now ≡ record new { volatile = lost }
+    pub fell_only : (now : ShownSite C S B) (why : SiteFault) (cell : Boot) → now ≡ record new { volatile = lost }
         → (cell ≡ c.held old.cell → c.held new.cell ≡ c.held old.cell)
         → Comes m x event (Fell why cell) → cell ≡ c.held now.cell
     fell_only now why cell fallen same comes =

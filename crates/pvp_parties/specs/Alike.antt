@@ -6,14 +6,14 @@ use Rattle.vr_types.specs.declared.cell.MemCell.{MemCell}
 use Rattle.vr_types.specs.declared.limits.TheConstants.{MOST_SITES}
 use Rattle.vr_types.specs.MemoryCell.{held_by}
 use Rattle.vr_types.specs.Site.{boot_of}
-use Rattle.vr_site.specs.Replica as replica
+use Rattle.vr_site.specs.Replica.{ShownSite}
 use Rattle.pvp_book.specs.Answer.{has_member}
 use Rattle.rtgs_node.specs.Node.{member_account}
-use Rattle.rtgs_node.specs.Shown as node
+use Rattle.rtgs_node.specs.Shown.{ShownNode}
 
 -- what a site of the bank shows, over a cell of this kind, and over one in memory
 abbrev pub SiteOf : Type 0 → Type 0
-SiteOf B = replica.Shown Cmd Setup B
+SiteOf B = ShownSite Cmd Setup B
 
 abbrev pub Site : Type 0
 Site = SiteOf MemCell
@@ -31,7 +31,7 @@ pub record AreAlikeSites (v w : Site) : Type 0 where
   pub cell : held_by v.cell ≡ held_by w.cell
 
 -- there are as many members, and each member's account holds the same
-pub record HoldTheSame (v w : node.Shown) : Type 0 where
+pub record HoldTheSame (v w : ShownNode) : Type 0 where
   pub count : length v.setup.members ≡ length w.setup.members
   pub members : (m : ℕ) → has_member v.setup m ≡ true
       → member_account v.setup v.ccy m v.node ≡ member_account w.setup w.ccy m w.node

@@ -6,8 +6,8 @@ use Rattle.vr_types.specs.declared.cell.BootCell.{Ghosts as Cell}
 use Rattle.vr_types.specs.declared.cell.MemCell.{MemCell}
 use Rattle.vr_types.specs.MemoryCell.{held_by, faults_of, IsReliable, after_save}
 use Rattle.vr_site.specs.Replica.{with_cell}
-use Rattle.rtgs_node.specs.Shown as node
-use Rattle.pvp_world.specs.Client as client
+use Rattle.rtgs_node.specs.Shown.{ShownNode}
+use Rattle.pvp_world.specs.Client.{ShownClient}
 use Rattle.pvp_parties.specs.Alike.{SiteOf}
 
 -- the ghost members of the cell in memory
@@ -35,8 +35,8 @@ made_over p cell = record { setup = p.setup; place = p.place; now = with_cell p.
 abbrev pub made_site : {B : Type 0} → Made (SiteOf B) → SiteOf B
 made_site p = record p.now { f = faults p.setup; me = p.place; setup = p.setup }
 
-abbrev pub made_node : Made node.Shown → node.Shown
+abbrev pub made_node : Made ShownNode → ShownNode
 made_node p = record p.now { setup = p.setup; ccy = p.place }
 
-abbrev pub made_client : Made client.Shown → client.Shown
+abbrev pub made_client : Made ShownClient → ShownClient
 made_client p = record p.now { f = faults p.setup; me = p.place }

@@ -11,13 +11,13 @@ use Rattle.vr_types.specs.Group.{actor_of}
 use Rattle.pvp_book.specs.Ledger.{Ledger, node_of}
 use Rattle.rtgs_node.specs.declared.event.NodeEvent.TheVariants.{Takes as ToNode}
 use Rattle.rtgs_node.specs.Node.{Envelope}
-use Rattle.rtgs_node.specs.Shown as node
+use Rattle.rtgs_node.specs.Shown.{ShownNode}
 use Rattle.headline.specs.declared.step.ClientEvent.TheVariants.{Takes as ToClient}
 use Rattle.headline.specs.declared.step.Turn.{Turn}
 use Rattle.headline.specs.declared.step.Turn.TheVariants.{OfSite as SiteTurn, OfNode as NodeTurn, OfClient as ClientTurn}
 use Rattle.headline.specs.Bank.{delivery}
 use Rattle.headline.specs.Machine.{book}
-use Rattle.pvp_world.specs.Client as client
+use Rattle.pvp_world.specs.Client.{ShownClient}
 use Rattle.pvp_rooms.specs.declared.site.CameOf.TheVariants.{Did}
 use Rattle.pvp_rooms.specs.Sites as sites
 use Rattle.pvp_rooms.specs.Nodes as nodes
@@ -37,8 +37,8 @@ Party = PartyOf MemCell
 -- the states of an actor of any kind
 pub data PartyState : Type 0 where
   AtSite : sites.SiteState Ledger Cmd → PartyState
-  AtNode : node.Shown → PartyState
-  AtClient : client.Shown → PartyState
+  AtNode : ShownNode → PartyState
+  AtClient : ShownClient → PartyState
 
 -- the number of an actor: clients from 0, nodes from 101, sites from 200
 abbrev pub number_of : {B : Type 0} → PartyOf B → ℕ
@@ -125,8 +125,8 @@ event_of (NodeTurn ccy event) = OfNode event
 event_of (ClientTurn number event) = OfClient event
 
 -- an envelope comes as to the kind of actor that it is addressed to
-abbrev pub delivered : Envelope → PartyEvent
-delivered envelope = event_of (delivery envelope)
+abbrev pub delivery_event : Envelope → PartyEvent
+delivery_event envelope = event_of (delivery envelope)
 
 -- what an event delivers
 abbrev pub delivers : PartyEvent → Option Envelope
@@ -136,11 +136,11 @@ delivers (OfClient (ToClient envelope)) = Some envelope
 delivers _ = None
 
 -- what an outcome sent
-abbrev pub sent : PartyOutcome → List Envelope
-sent (SiteTold (Did envelopes dropped)) = envelopes
-sent (NodeTold (Ok envelopes)) = envelopes
-sent (ClientTold (Ok envelopes)) = envelopes
-sent _ = []
+abbrev pub sent_envelopes : PartyOutcome → List Envelope
+sent_envelopes (SiteTold (Did envelopes dropped)) = envelopes
+sent_envelopes (NodeTold (Ok envelopes)) = envelopes
+sent_envelopes (ClientTold (Ok envelopes)) = envelopes
+sent_envelopes _ = []
 
 -- A client takes only what is addressed to its own number. A site and a node see to that themselves.
 abbrev pub is_for : {B : Type 0} → PartyOf B → PartyEvent → Bool

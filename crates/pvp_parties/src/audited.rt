@@ -14,13 +14,13 @@ use vr_types::is_same_envelope;
 
 impl Audited for Party {
     ghost use Rattle.rtgs_node.specs.Node.{Envelope};
-    ghost use Rattle.pvp_parties.specs.Parties.{delivers, sent, is_for};
+    ghost use Rattle.pvp_parties.specs.Parties.{delivers, sent_envelopes, is_for};
 
     ghost Letter = { Envelope };
 
     ghost delivers = { delivers };
 
-    ghost sent = { sent };
+    ghost sent = { sent_envelopes };
 
     ghost is_for = { is_for };
 

@@ -1,6 +1,6 @@
 //! What an event delivers, and what an outcome sent.
 ghost use Rattle.std.specs.Prelude.{◌≡◌, option_map, slice_get};
-ghost use Rattle.pvp_parties.specs.Parties.{delivers, sent};
+ghost use Rattle.pvp_parties.specs.Parties.{delivers, sent_envelopes};
 
 use crate::party::{PartyEvent, PartyOutcome};
 use headline::ClientEvent;
@@ -23,7 +23,7 @@ pub fn letter_of(event: &PartyEvent) -> Option<&Envelope<Book>>
 
 /// What an outcome sent at a place, counted from 0.
 pub fn letter_at(outcome: &PartyOutcome, at: usize) -> Option<&Envelope<Book>>
-    ensures { option_map (λ lent. lent.now) result ≡ slice_get (sent outcome.now) at }
+    ensures { option_map (λ lent. lent.now) result ≡ slice_get (sent_envelopes outcome.now) at }
 {
     match outcome {
         PartyOutcome::OfSite(CameOf::Did { sent, .. }) => sent.get(at),

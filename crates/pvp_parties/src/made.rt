@@ -102,7 +102,7 @@ impl<C: BootCell> SiteParty<C> {
     }
 
     /// What its cell holds.
-    pub fn held(&self) -> Boot
+    pub fn held_boot(&self) -> Boot
         ensures { result ≡ C.held self.now.now.cell }
     {
         self.site.boot()
@@ -157,10 +157,10 @@ pub struct NodeParty {
 impl Model for NodeParty {
     ghost use Rattle.pvp_types.specs.Setup.{IsValid};
     ghost use Rattle.std.specs.Prelude.{◌<◌, length};
-    ghost use Rattle.rtgs_node.specs.Shown.{Shown};
+    ghost use Rattle.rtgs_node.specs.Shown.{ShownNode};
     ghost use Rattle.pvp_parties.specs.Made.{Made};
 
-    ghost Value = { Made Shown };
+    ghost Value = { Made ShownNode };
 
     ghost view = { λ a. record { setup = a.setup; place = a.ccy; now = a.node } };
 
@@ -250,10 +250,10 @@ pub struct ClientParty {
 impl Model for ClientParty {
     ghost use Rattle.pvp_types.specs.Setup.{IsValid};
     ghost use Rattle.std.specs.Prelude.{◌≤◌, length};
-    ghost use Rattle.pvp_world.specs.Client.{Shown};
+    ghost use Rattle.pvp_world.specs.Client.{ShownClient};
     ghost use Rattle.pvp_parties.specs.Made.{Made};
 
-    ghost Value = { Made Shown };
+    ghost Value = { Made ShownClient };
 
     ghost view = { λ a. record { setup = a.setup; place = a.number; now = a.client } };
 

@@ -77,15 +77,15 @@ impl<C: BootCell> Actor for PartyOf<C> {
         match self {
             PartyOf::Site(site) => match event {
                 PartyEvent::OfSite(event) => Ok(of_site(site.take(alloc, event)?)),
-                _ => Ok(stray()),
+                _ => Ok(stray_copies()),
             },
             PartyOf::Node(node) => match event {
                 PartyEvent::OfNode(event) => Ok(of_node(node.take(alloc, event)?)),
-                _ => Ok(stray()),
+                _ => Ok(stray_copies()),
             },
             PartyOf::Client(client) => match event {
                 PartyEvent::OfClient(event) => Ok(of_client(client.take(alloc, event)?)),
-                _ => Ok(stray()),
+                _ => Ok(stray_copies()),
             },
         }
     }
@@ -158,7 +158,7 @@ fn of_client(copies: Copies<Told<ClientFault>>) -> Copies<PartyOutcome>
 }
 
 /// A stray, three times.
-fn stray() -> Copies<PartyOutcome>
+fn stray_copies() -> Copies<PartyOutcome>
     ensures answered { result.answered ≡ PartyOutcome.Stray }
     ensures recorded { result.recorded ≡ PartyOutcome.Stray }
     ensures receipted { result.receipted ≡ PartyOutcome.Stray }
@@ -235,11 +235,11 @@ impl<C: BootCell> PartyOf<C> {
     }
 
     /// What a site's cell holds; a node and a client have none.
-    pub fn held(&self) -> Option<Boot>
+    pub fn held_boot(&self) -> Option<Boot>
         ensures { result ≡ held_of C.BootCell self.now }
     {
         match self {
-            PartyOf::Site(site) => Some(site.held()),
+            PartyOf::Site(site) => Some(site.held_boot()),
             _ => None,
         }
     }

@@ -8,11 +8,11 @@ use rtgs_node::NodeEvent;
 use vr_types::{ActorId, BootCell, Envelope, EventOf};
 
 impl<C: BootCell> Served for PartyOf<C> {
-    ghost use Rattle.pvp_parties.specs.Parties.{delivered, sent};
+    ghost use Rattle.pvp_parties.specs.Parties.{delivery_event, sent_envelopes};
 
-    ghost delivery = { delivered };
+    ghost delivery = { delivery_event };
 
-    ghost sent = { sent };
+    ghost sent = { sent_envelopes };
 
     /// It comes as to the kind of actor that it is addressed to: to one of another kind it is a stray.
     fn deliver(envelope: Envelope<Book>) -> PartyEvent {
@@ -23,7 +23,7 @@ impl<C: BootCell> Served for PartyOf<C> {
         }
     }
 
-    fn sent(outcome: &PartyOutcome) -> &[Envelope<Book>] {
+    fn sent_envelopes(outcome: &PartyOutcome) -> &[Envelope<Book>] {
         match outcome {
             PartyOutcome::OfSite(CameOf::Did { sent, .. }) => sent.as_slice(),
             PartyOutcome::OfNode(Ok(sent)) => sent.as_slice(),

@@ -27,16 +27,16 @@ passages actor [] = []
 passages actor (r ∷ more) = Enters actor ∷ Took actor ∷ passages actor more
 
 -- a step in which memory was refused, and one for which there is no clock
-abbrev pub refused : ℕ → List Passing
-refused actor = Enters actor ∷ Wanted actor ∷ []
+abbrev pub refusal_passages : ℕ → List Passing
+refusal_passages actor = Enters actor ∷ Wanted actor ∷ []
 
-abbrev pub spent : ℕ → List Passing
-spent actor = Enters actor ∷ Spent actor ∷ []
+abbrev pub spent_passages : ℕ → List Passing
+spent_passages actor = Enters actor ∷ Spent actor ∷ []
 
 -- how the last step was told by whose want of memory or of a clock posting ends
 abbrev pub LastOf : ℕ → StreamEnd → List Passing → Type 0
-LastOf actor Memory last = last ≡ refused actor
-LastOf actor Clock last = last ≡ spent actor
+LastOf actor Memory last = last ≡ refusal_passages actor
+LastOf actor Clock last = last ≡ spent_passages actor
 LastOf actor End last = ⊥
 LastOf actor (Cut n) last = ⊥
 LastOf actor Read last = ⊥
@@ -49,8 +49,8 @@ LastPosted actor (Some why) last = LastOf actor why last
 -- A clock is told as spent only where the actor's step said so, and memory where it did, or where none was asked: then
 -- it was refused to read.
 abbrev pub LastRead : ℕ → StreamEnd → List Passing → Type 0
-LastRead actor Memory last = (last ≡ refused actor) ⊎ (last ≡ [])
-LastRead actor Clock last = last ≡ spent actor
+LastRead actor Memory last = (last ≡ refusal_passages actor) ⊎ (last ≡ [])
+LastRead actor Clock last = last ≡ spent_passages actor
 LastRead actor End last = last ≡ []
 LastRead actor (Cut n) last = last ≡ []
 LastRead actor Read last = last ≡ []

@@ -128,7 +128,7 @@ fn post_all<A: Served, G: Gate, O: Outbox, T: Wait>(
         };
         match cell.post(rt, alloc, seat, input, gate) {
             Answer::Done { clock, outcome } => {
-                outbox.put(rt, alloc, cell.number(), clock, A::sent(&outcome));
+                outbox.put(rt, alloc, cell.number(), clock, A::sent_envelopes(&outcome));
             }
             Answer::NoMemory => return Some(StreamEnd::Memory),
             Answer::ClockSpent => return Some(StreamEnd::Clock),

@@ -21,7 +21,7 @@ pub trait Served: Actor {
     fn deliver(envelope: Envelope<Book>) -> Self::Event
         ensures { result ≡ delivery envelope };
 
-    fn sent(outcome: &Self::Outcome) -> &[Envelope<Book>]
+    fn sent_envelopes(outcome: &Self::Outcome) -> &[Envelope<Book>]
         ensures { result.now ≡ sent outcome.now };
 }
 
@@ -37,7 +37,7 @@ impl<C: BootCell> Served for Replica<Book, C> {
         EventOf::Deliver(envelope)
     }
 
-    fn sent(came: &Came<Book>) -> &[Envelope<Book>] {
+    fn sent_envelopes(came: &Came<Book>) -> &[Envelope<Book>] {
         match came {
             CameOf::Did { sent, .. } => sent.as_slice(),
             CameOf::Refused(_) | CameOf::Fell { .. } => &[],
@@ -57,7 +57,7 @@ impl Served for Node {
         NodeEvent::Takes(envelope)
     }
 
-    fn sent(told: &Told<NodeFault>) -> &[Envelope<Book>] {
+    fn sent_envelopes(told: &Told<NodeFault>) -> &[Envelope<Book>] {
         match told {
             Ok(sent) => sent.as_slice(),
             Err(_) => &[],
@@ -77,7 +77,7 @@ impl Served for Client {
         ClientEvent::Takes(envelope)
     }
 
-    fn sent(told: &Told<ClientFault>) -> &[Envelope<Book>] {
+    fn sent_envelopes(told: &Told<ClientFault>) -> &[Envelope<Book>] {
         match told {
             Ok(sent) => sent.as_slice(),
             Err(_) => &[],

@@ -5,7 +5,7 @@ use Rattle.std.specs.Prelude.{Option, map}
 use Rattle.std.proofs.lemmas.List.{map-append, take_more}
 use Rattle.std.proofs.lemmas.List.Elements.{filter_map-append}
 use Rattle.vr_types.specs.declared.cell.MemCell.{MemCell}
-use Rattle.pvp_world.specs.World.{Shown as World}
+use Rattle.pvp_world.specs.World.{ShownWorld}
 use Rattle.pvp_trace.specs.declared.attempt.Attempt.{Attempt}
 use Rattle.pvp_picture.specs.declared.scene.Snapshot.{Snapshot}
 use Rattle.pvp_picture.specs.Replay.{ComesAgain, snapshots_of, Replays, StandUpTo}
@@ -22,7 +22,7 @@ found_more f n =
     ∙ filter_map-append f (range_with_len 0 n) (n ∷ [])
 
 -- one more attempt came out as it did
-replays-more : (first mid last : World MemCell) (attempts : List Attempt) (attempt : Attempt) (after : List (List Snapshot))
+replays-more : (first mid last : ShownWorld MemCell) (attempts : List Attempt) (attempt : Attempt) (after : List (List Snapshot))
     → Replays first attempts mid after → ComesAgain mid last attempt
     → Replays first (attempts ++ attempt ∷ []) last (after ++ snapshots_of last ∷ [])
 replays-more first mid last [] attempt after (is, none) tried =
@@ -31,7 +31,7 @@ replays-more first mid last (a ∷ attempts) attempt after (next, came, others, 
     (next, came, others ++ snapshots_of last ∷ [], ap (λ all. all ++ snapshots_of last ∷ []) is, replays-more next mid last attempts attempt others run tried)
 
 -- the snapshots after one more attempt are added
-pub stand_more : {V : Type 0} (items : V → List Snapshot) (first mid last : World MemCell) (noted : List Attempt) (i : ℕ) (d : Attempt)
+pub stand_more : {V : Type 0} (items : V → List Snapshot) (first mid last : ShownWorld MemCell) (noted : List Attempt) (i : ℕ) (d : Attempt)
     (all more : List V) (v : V)
     → i < length noted → more ≡ all ++ v ∷ [] → items v ≡ snapshots_of last → ComesAgain mid last (get_or noted i d)
     → StandUpTo first (take i noted) mid (map items all) → StandUpTo first (take (i + 1) noted) last (map items more)

@@ -16,5 +16,5 @@ named_or (Some name) sign = name
 named_or None sign = encode_utf8 sign
 
 -- a sign as it stands in XML's text and in its attributes
-abbrev pub spelled : ℕ → List ℕ
-spelled sign = named_or (name_of_sign sign) sign
+abbrev pub sign_text : ℕ → List ℕ
+sign_text sign = named_or (name_of_sign sign) sign

@@ -8,15 +8,15 @@ use Rattle.vr_types.specs.declared.cell.MemCell.{MemCell}
 use Rattle.vr_types.specs.MemoryCell.{held_by}
 use Rattle.vr_types.specs.Group.{primary}
 use Rattle.vr_types.specs.Site.{is_normal}
-use Rattle.vr_site.specs.Replica.{Shown as Replica}
-use Rattle.pvp_world.specs.World.{Shown as World}
+use Rattle.vr_site.specs.Replica.{ShownSite}
+use Rattle.pvp_world.specs.World.{ShownWorld}
 use Rattle.pvp_trace.specs.declared.attempt.Attempt.{Attempt}
 use Rattle.pvp_trace.specs.contracts.attempt.AttemptPartialEq.TheImpl.{ghosts as equal}
 use Rattle.pvp_trace.specs.Attempts.{Attempts}
 use Rattle.pvp_picture.specs.declared.scene.Snapshot.{Snapshot}
 
 -- where a site stands: it leads where it is normal, in a view of which it is the primary
-abbrev pub snapshot_of : ℕ → ℕ → Replica Cmd Setup MemCell → Snapshot
+abbrev pub snapshot_of : ℕ → ℕ → ShownSite Cmd Setup MemCell → Snapshot
 snapshot_of f number site = record {
   status = site.volatile.status;
   view = site.volatile.view;
@@ -26,32 +26,32 @@ snapshot_of f number site = record {
 }
 
 -- where a site of a world stands, if it is there
-abbrev pub snapshot_at : World MemCell → ℕ → Option Snapshot
+abbrev pub snapshot_at : ShownWorld MemCell → ℕ → Option Snapshot
 snapshot_at world number = option_map (snapshot_of (faults world.setup) number) (slice_get world.sites number)
 
 -- where all sites of a world stand, in order
-abbrev pub snapshots_of : World MemCell → List Snapshot
+abbrev pub snapshots_of : ShownWorld MemCell → List Snapshot
 snapshots_of world = filter_map (snapshot_at world) (range_with_len 0 (2 * faults world.setup + 1))
 
 -- a step that was noted was tried again, and came out the same, as `==` finds
-pub record ComesAgain (old new : World MemCell) (noted : Attempt) : Type 0 where
+pub record ComesAgain (old new : ShownWorld MemCell) (noted : Attempt) : Type 0 where
   pub again : Attempt
   pub attempts : Attempts held_by old new noted.step again
   pub same : equal.eq again noted ≡ true
 
 -- the attempts one after another: each came out the same in the world that the one before it left; and where the sites
 -- stand after each
-abbrev pub Replays : World MemCell → List Attempt → World MemCell → List (List Snapshot) → Type 0
+abbrev pub Replays : ShownWorld MemCell → List Attempt → ShownWorld MemCell → List (List Snapshot) → Type 0
 Replays first [] last after = (last ≡ first) × (after ≡ [])
 Replays first (attempt ∷ attempts) last after =
-    (next : World MemCell) × ComesAgain first next attempt
+    (next : ShownWorld MemCell) × ComesAgain first next attempt
     × (others : List (List Snapshot)) × (after ≡ snapshots_of next ∷ others) × Replays next attempts last others
 
 -- before the first attempt, and after each up to this world
-abbrev pub StandUpTo : World MemCell → List Attempt → World MemCell → List (List Snapshot) → Type 0
+abbrev pub StandUpTo : ShownWorld MemCell → List Attempt → ShownWorld MemCell → List (List Snapshot) → Type 0
 StandUpTo first attempts last all =
     (after : List (List Snapshot)) × (all ≡ snapshots_of first ∷ after) × Replays first attempts last after
 
 -- WHERE SITES STAND along a run of attempts from this world on
-abbrev pub StandAlong : World MemCell → List Attempt → List (List Snapshot) → Type 0
-StandAlong first attempts all = (last : World MemCell) × StandUpTo first attempts last all
+abbrev pub StandAlong : ShownWorld MemCell → List Attempt → List (List Snapshot) → Type 0
+StandAlong first attempts all = (last : ShownWorld MemCell) × StandUpTo first attempts last all

@@ -49,7 +49,7 @@ const HEAD: &str =
 ";
 
 /// The picture of a scene, as one SVG that stands alone. `Err` where memory is refused.
-pub fn drawn(alloc: Global, scene: &Scene) -> Result<String, AllocError> {
+pub fn picture_of(alloc: Global, scene: &Scene) -> Result<String, AllocError> {
     let mut text = String::new(alloc);
     push_opening(&mut text, scene)?;
     push_heading(&mut text, scene)?;

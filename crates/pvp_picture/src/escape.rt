@@ -1,14 +1,14 @@
 //! Text inside XML: the signs that mean something there are spelled out.
 
 ghost use Rattle.std.specs.Prelude.{◌≡◌, ◌++◌, chars, flat_map, OnOk, option_map, string_bytes};
-ghost use Rattle.pvp_picture.specs.Escape.{name_of_sign, spelled};
+ghost use Rattle.pvp_picture.specs.Escape.{name_of_sign, sign_text};
 
 use std::alloc::AllocError;
 
 /// Appends a text, with `&`, `<`, `>` and `"` spelled out and all else as it is. `Err` where memory is refused.
 pub fn push_escaped(text: &mut String, plain: &str) -> Result<(), AllocError>
     ensures { OnOk result (string_bytes text.new ≡ string_bytes text.old
-        ++ flat_map spelled (chars plain.now)) }
+        ++ flat_map sign_text (chars plain.now)) }
 {
     for sign in plain.chars() {
         push_sign(text, sign)?;
@@ -18,7 +18,7 @@ pub fn push_escaped(text: &mut String, plain: &str) -> Result<(), AllocError>
 
 /// Appends one sign as XML has it inside text.
 fn push_sign(text: &mut String, sign: char) -> Result<(), AllocError>
-    ensures { OnOk result (string_bytes text.new ≡ string_bytes text.old ++ spelled sign) }
+    ensures { OnOk result (string_bytes text.new ≡ string_bytes text.old ++ sign_text sign) }
 {
     match name_of(sign) {
         Some(name) => text.push_str(name),

@@ -185,7 +185,7 @@ fn push_point(
         push_line(
             text,
             "tick",
-            upright(x, y.saturating_sub(9), y.saturating_add(9)),
+            upright_line(x, y.saturating_sub(9), y.saturating_add(9)),
         )?;
     }
     if new.boots != old.boots {
@@ -196,7 +196,7 @@ fn push_point(
 }
 
 /// An upright line.
-fn upright(x: usize, y1: usize, y2: usize) -> Stroke {
+fn upright_line(x: usize, y1: usize, y2: usize) -> Stroke {
     Stroke {
         x1: x,
         y1,

@@ -6,8 +6,8 @@ ghost use Rattle.pvp_text.specs.declared.script.Kind.TheVariants as kinds;
 ghost use Rattle.pvp_text.specs.Script.{script_where};
 ghost use Rattle.pvp_picture.specs.Picture.{PictureEnds};
 
-use crate::draw::drawn;
-use crate::plays::{Play, new_world, played};
+use crate::draw::picture_of;
+use crate::plays::{Play, new_world, play_all};
 use crate::replay::snapshots;
 use crate::scene::Scene;
 use crate::staging::{Run, stage};
@@ -67,7 +67,7 @@ pub fn picture<W: Write>(
 {
     let lines = read_lines(alloc, setup, Kind::Play, script)?;
     let scene = scene_of(alloc, setup, fails, lines.as_slice(), steps)?;
-    let text = drawn(alloc, &scene)?;
+    let text = picture_of(alloc, &scene)?;
     write_text(writer, text.as_str())
 }
 
@@ -81,7 +81,7 @@ fn scene_of(
 ) -> Result<Scene, AllocError>
     requires { IsValid setup.now }
 {
-    let Play { player, apart } = played(alloc, new_world(alloc, setup, fails)?, lines)?;
+    let Play { player, apart } = play_all(alloc, new_world(alloc, setup, fails)?, lines)?;
     let snapshots = snapshots(alloc, new_world(alloc, setup, fails)?, player.notes())?;
     let run = Run {
         world: player.world(),

@@ -30,8 +30,8 @@ pub struct Play {
 }
 
 /// Plays all lines in a world. `Err` where memory is refused.
-pub fn played(alloc: Global, world: World<MemCell>, lines: &[Line]) -> Result<Play, AllocError> {
-    let mut player = Player::noting(alloc, world);
+pub fn play_all(alloc: Global, world: World<MemCell>, lines: &[Line]) -> Result<Play, AllocError> {
+    let mut player = Player::with_record(alloc, world);
     let mut apart = Apart::new(alloc);
     for line in lines {
         let from = player.cursor();

@@ -71,6 +71,7 @@ fn behind_bracket(rest: &[u8]) -> &[u8]
 }
 
 /// A host as a text; `None` where it is none.
+// the lemma shows that the branch of what is no text is never taken
 #[tactic(auto, using(crate::proofs::Hosts::no_text))]
 fn host_of(host: &[u8]) -> Option<&str>
     ensures some { IfSome result (λ text. (text.now ≡ host.now) × (is_host host.now ≡ true)) }

@@ -7,10 +7,11 @@ ghost use Rattle.pvp_text.specs.ScriptWords.{words};
 
 use crate::fault::{LineFault, PlaceFault, PlaceWhy};
 use crate::names::actor_named;
-use crate::words::{is_skipped, next_line, two_words};
+use crate::words::{is_skipped, two_words};
 use hex::FromHex;
 use pvp_streams::may_send;
 use pvp_tags::key_of;
+use pvp_text::next_line;
 use pvp_trace::names::push_actor;
 use pvp_types::Setup;
 use std::alloc::{AllocError, Global};

@@ -1,22 +1,9 @@
 //! The lines of the files of a process.
-ghost use Rattle.std.specs.Prelude.{◌≡◌, ◌≢◌, ◌<◌, ◌∷◌, [], List, ℕ, length, IfSome, IfNone};
+ghost use Rattle.std.specs.Prelude.{◌≡◌, ◌≢◌, ◌∷◌, [], List, ℕ, IfSome, IfNone};
 ghost use Rattle.pvp_text.specs.Script.{is_skipped};
-ghost use Rattle.pvp_text.specs.ScriptWords.{lines, words};
+ghost use Rattle.pvp_text.specs.ScriptWords.{words};
 
-use pvp_text::{cut, next_word};
-
-/// The first line of a text, and the text after it.
-#[tactic(auto, using(pvp_text::proofs::ScriptSplitting::first_line))]
-pub fn next_line(text: &[u8]) -> Option<(&[u8], &[u8])>
-    ensures none { IfNone result (lines text.now ≡ []) }
-    ensures some { IfSome result (λ x. lines text.now ≡ x.0.now ∷ lines x.1.now) }
-    ensures shorter { IfSome result (λ x. length x.1.now < length text.now) }
-{
-    if text.is_empty() {
-        return None;
-    }
-    Some(cut(text, b'\n'))
-}
+use pvp_text::next_word;
 
 /// Whether a line says nothing: it has no word, or begins with `#`.
 pub fn is_skipped(line: &[u8]) -> bool

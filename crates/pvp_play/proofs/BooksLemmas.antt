@@ -12,7 +12,7 @@ use Rattle.vr_types.specs.Site.{Site, executed_rows}
 use Rattle.pvp_book.specs.Answer.{Row, after_rows}
 use Rattle.pvp_book.specs.Ledger.{Ledger, opening, figure}
 use Rattle.rtgs_node.specs.Node.{Node, account}
-use Rattle.rtgs_node.specs.Shown as node
+use Rattle.rtgs_node.specs.Shown.{ShownNode}
 use Rattle.headline.specs.declared.step.Move.{Move}
 use Rattle.headline.specs.declared.step.Move.TheVariants.{Takes, Falls}
 use Rattle.headline.specs.declared.step.Turn.{Turn}
@@ -23,9 +23,8 @@ use Rattle.headline.specs.Headline.{AccountsMatch}
 use Rattle.headline.specs.Way.{way}
 use Rattle.headline.proofs.Basics.{none-some, some-same, set-length, there as has}
 use Rattle.headline.proofs.Books.{held-is, held-setup}
-use Rattle.vr_site.specs.Replica as replica
-use Rattle.vr_site.specs.Replica.{site_shown}
-use Rattle.pvp_world.specs.World.{Shown, IsAt, IsProved}
+use Rattle.vr_site.specs.Replica.{ShownSite, site_shown}
+use Rattle.pvp_world.specs.World.{ShownWorld, IsAt, IsProved}
 use Rattle.pvp_text.proofs.BookTextLemmas.{appended}
 use Rattle.pvp_play.specs.BooksText.{Matches, SiteMatches, book_of}
 
@@ -110,12 +109,12 @@ length-map h [] = refl
 length-map h (x ∷ xs) = ap (λ n. suc n) (length-map h xs)
 
 -- as many sites, nodes and clients as the setup says
-pub record HasAll {B : Type 0} (world : Shown B) : Type 0 where
+pub record HasAll {B : Type 0} (world : ShownWorld B) : Type 0 where
   pub sites : length world.sites ≡ 2 * faults world.setup + 1
   pub nodes : length world.nodes ≡ length world.setup.currencies
   pub clients : length world.clients ≡ length world.setup.members + 1
 
-pub has_all : {B : Type 0} (held : B → Boot) (world : Shown B) → IsAt held world → HasAll world
+pub has_all : {B : Type 0} (held : B → Boot) (world : ShownWorld B) → IsAt held world → HasAll world
 has_all held world at =
     let list = at.list in
     let same =
@@ -136,14 +135,14 @@ other-there (z ∷ xs) (y ∷ ys) zero x count e = (y, refl)
 other-there (z ∷ xs) (y ∷ ys) (suc i) x count e = other-there xs ys i x (omega arith) e
 
 -- the headline says it of the list that led to a world
-accounts-match : {B : Type 0} (held : B → Boot) (world : Shown B) (proved : IsProved held world) → AccountsMatch world.setup proved.is_at.list.bank
+accounts-match : {B : Type 0} (held : B → Boot) (world : ShownWorld B) (proved : IsProved held world) → AccountsMatch world.setup proved.is_at.list.bank
 accounts-match held world proved =
     let list = proved.is_at.list in
     let late : Continued list = record { moves = []; bank = list.bank; run = refl } in
     (proved.headline list late [] proved.is_at.cells (append-nil (list.moves ++ []) ∙ append-nil list.moves ∙ proved.is_at.moves)).accounts
 
 -- a node's account is the figure of a running site's book, and what is on the way between the two
-pub matches : {B : Type 0} (held : B → Boot) (world : Shown B) → IsProved held world → (i c : ℕ) (v : replica.Shown Cmd Setup B) (x : node.Shown)
+pub matches : {B : Type 0} (held : B → Boot) (world : ShownWorld B) → IsProved held world → (i c : ℕ) (v : ShownSite Cmd Setup B) (x : ShownNode)
     → slice_get world.sites i ≡ Some v → slice_get world.nodes c ≡ Some x → SiteMatches held c x.node v
 matches held world proved i c v x there node_there runs =
     let shows = proved.is_at.shows in
@@ -151,7 +150,7 @@ matches held world proved i c v x there node_there runs =
     let site = other-there world.sites bank.sites i v shows.sites.count there in
     let of_node = other-there world.nodes bank.nodes c x shows.nodes.count node_there in
     let is = shows.sites.each i v site.0 there site.1 in
-    let node_is : x.node ≡ of_node.0 = ap (λ (n : node.Shown). n.node) (shows.nodes.each c x of_node.0 node_there of_node.1) in
+    let node_is : x.node ≡ of_node.0 = ap (λ (n : ShownNode). n.node) (shows.nodes.each c x of_node.0 node_there of_node.1) in
     let rows = executed_rows (site_shown held v []) in
     let same : executed_rows site.0 ≡ rows = ap (λ (s : Site Cmd). executed_rows s) is.site in
     let book : book_of held v ≡ after_rows (opening world.setup) rows =

@@ -9,9 +9,9 @@ use Rattle.vr_types.specs.declared.cell.MemCell.{MemCell}
 use Rattle.vr_types.specs.contracts.cell.MemCellBootCell.TheImpl.{ghosts as memory}
 use Rattle.vr_types.specs.Cell.{new_cell}
 use Rattle.vr_types.specs.MemoryCell.{held_by, faults_of, saves_before_fault, keeps_at_fault, IsReliable}
-use Rattle.vr_site.specs.Replica.{Shown as Replica}
+use Rattle.vr_site.specs.Replica.{ShownSite}
 use Rattle.headline.proofs.Basics.{none-some, some-same}
-use Rattle.pvp_world.specs.World.{Shown as World}
+use Rattle.pvp_world.specs.World.{ShownWorld}
 use Rattle.pvp_world.specs.Steps.{AreReliable}
 use Rattle.pvp_play.specs.declared.cells.Fail.{Fail}
 use Rattle.pvp_play.specs.Cells.{fail_of, before_fault, IsArmed}
@@ -72,15 +72,15 @@ armed-not fails i cell is held failures reliable = record {
 }
 
 -- where none is to fail, the cells of a world are reliable
-pub all-reliable : (fails : List Fail) (world : World MemCell)
-    → ((i : ℕ) (v : Replica Cmd Setup MemCell) → slice_get world.sites i ≡ Some v → IsArmed fails i v.cell)
+pub all-reliable : (fails : List Fail) (world : ShownWorld MemCell)
+    → ((i : ℕ) (v : ShownSite Cmd Setup MemCell) → slice_get world.sites i ≡ Some v → IsArmed fails i v.cell)
     → fails ≡ [] → AreReliable memory world
 all-reliable fails world armed none i v at = (armed i v at).before ∙ ap (λ fs. option_and_then before_fault (fail_of fs i)) none
 
 -- the cells that a world was made over
-pub armed-sites : (fails : List Fail) (cells : List MemCell) (sites : List (Replica Cmd Setup MemCell)) → map (λ site. site.cell) sites ≡ cells
+pub armed-sites : (fails : List Fail) (cells : List MemCell) (sites : List (ShownSite Cmd Setup MemCell)) → map (λ site. site.cell) sites ≡ cells
     → ((i : ℕ) (cell : MemCell) → slice_get cells i ≡ Some cell → IsArmed fails i cell)
-    → (i : ℕ) (v : Replica Cmd Setup MemCell) → slice_get sites i ≡ Some v → IsArmed fails i v.cell
+    → (i : ℕ) (v : ShownSite Cmd Setup MemCell) → slice_get sites i ≡ Some v → IsArmed fails i v.cell
 armed-sites fails cells sites are all i v at =
-    all i v.cell (sym (ap (λ cs. slice_get cs i) are) ∙ slice_get-map (λ (site : Replica Cmd Setup MemCell). site.cell) sites i
-    ∙ ap (option_map (λ (site : Replica Cmd Setup MemCell). site.cell)) at)
+    all i v.cell (sym (ap (λ cs. slice_get cs i) are) ∙ slice_get-map (λ (site : ShownSite Cmd Setup MemCell). site.cell) sites i
+    ∙ ap (option_map (λ (site : ShownSite Cmd Setup MemCell). site.cell)) at)

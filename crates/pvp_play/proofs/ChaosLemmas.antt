@@ -5,7 +5,7 @@ use Rattle.std.specs.List.{list_all, range_with_len}
 use Rattle.pvp_types.specs.declared.step.Step.TheVariants.{Beat}
 use Rattle.rand_pcg.specs.Lcg.{Lcg}
 use Rattle.rand_pcg.specs.Pcg.{pcg32}
-use Rattle.pvp_world.specs.World.{Shown as World}
+use Rattle.pvp_world.specs.World.{ShownWorld}
 use Rattle.pvp_play.specs.declared.chaos.Act.{Act}
 use Rattle.pvp_play.specs.declared.chaos.Act.TheVariants.{Drains, Tries, Rests}
 use Rattle.pvp_play.specs.Chaos.{any_actor, any_delivery, table, act_of, next_act}
@@ -20,7 +20,7 @@ pub all-past : (test : ℕ → Bool) (n i : ℕ) → n ≤ i → list_all test (
 all-past test n i past = let none : n - i ≡ 0 = omega arith in ap (λ k. list_all test (range_with_len i k)) none
 
 -- two words were drawn, and chose this
-pub act-chosen : {B : Type 0} (words between left : Lcg) (a b : ℕ) (act : Act) (world old : World B)
+pub act-chosen : {B : Type 0} (words between left : Lcg) (a b : ℕ) (act : Act) (world old : ShownWorld B)
     → (a, between) ≡ pcg32 words → (b, left) ≡ pcg32 between → world ≡ old → act ≡ act_of world a b
     → (act ≡ next_act old words) × (left ≡ (pcg32 (pcg32 words).1).1)
 act-chosen {B} words between left a b act world old first second same chosen =
@@ -29,7 +29,7 @@ act-chosen {B} words between left a b act world old first second same chosen =
     let drawn_then : b ≡ (pcg32 (pcg32 words).1).0 = ap (λ (p : ℕ × Lcg). p.0) second ∙ ap (λ (w : Lcg). (pcg32 w).0) on in
     let on_then : left ≡ (pcg32 (pcg32 words).1).1 = ap (λ (p : ℕ × Lcg). p.1) second ∙ ap (λ (w : Lcg). (pcg32 w).1) on in
     let is : act ≡ act_of old (pcg32 words).0 (pcg32 (pcg32 words).1).0 =
-    chosen ∙ ap (λ (w : World B). act_of w a b) same ∙ ap (λ (x : ℕ). act_of old x b) drawn ∙ ap (λ (y : ℕ). act_of old (pcg32 words).0 y) drawn_then in
+    chosen ∙ ap (λ (w : ShownWorld B). act_of w a b) same ∙ ap (λ (x : ℕ). act_of old x b) drawn ∙ ap (λ (y : ℕ). act_of old (pcg32 words).0 y) drawn_then in
     (is, on_then)
 
 -- ROWS OF THE TABLE
@@ -44,7 +44,7 @@ row-past zero k x xs low = let e : k - 0 ≡ k = omega arith in ap (slice_get xs
 row-past (suc n) zero x xs low = absurd (omega arith)
 row-past (suc n) (suc k) x xs low = let e : k - n ≡ suc k - suc n = omega arith in row-past n k x xs (omega arith) ∙ ap (slice_get xs) e
 
-module _ {B : Type 0} (world : World B) (a b : ℕ) where
+module _ {B : Type 0} (world : ShownWorld B) (a b : ℕ) where
   -- a row of the table
   row : (turn : ℕ) (act : Act) → a % 32 ≡ turn → slice_get (table world b) turn ≡ Some act → act ≡ act_of world a b
   row turn act is at = sym (ap (λ (found : Option Act). unwrap_or found Rests) (ap (slice_get (table world b)) is ∙ at))

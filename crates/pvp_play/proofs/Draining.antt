@@ -8,7 +8,7 @@ use Rattle.rtgs_node.specs.Node.{Envelope}
 use Rattle.pvp_types.specs.declared.step.Step.{Step}
 use Rattle.pvp_types.specs.declared.step.Step.TheVariants.{Deliver}
 use Rattle.headline.proofs.Basics.{none-some, some-same}
-use Rattle.pvp_world.specs.World.{Shown as World}
+use Rattle.pvp_world.specs.World.{ShownWorld}
 use Rattle.pvp_trace.specs.declared.attempt.Attempt.{Attempt}
 use Rattle.pvp_play.specs.Notes.{with_notes}
 use Rattle.pvp_play.specs.Player.{Position, TriesIn, Wants, is_open, open_number, open_after, AreDelivered, with_cursor, Drains, DrainStops}
@@ -138,10 +138,10 @@ module _ (cut : List ℕ) where
 
 -- ENVELOPES THAT ARE DELIVERED
 
-tries-grow : {B : Type 0} (c : Cell B) (old new : World B) (step : Step) (a : Attempt) → TriesIn c old new step a → Grows old.post new.post
+tries-grow : {B : Type 0} (c : Cell B) (old new : ShownWorld B) (step : Step) (a : Attempt) → TriesIn c old new step a → Grows old.post new.post
 tries-grow c old new step a tries = applies-grow c.held old new step a.result tries.attempts.applies
 
-AreDelivered-more : {B : Type 0} (c : Cell B) (ns : List ℕ) (bs : List Attempt) (n : ℕ) (old mid new : World B) (a : Attempt)
+AreDelivered-more : {B : Type 0} (c : Cell B) (ns : List ℕ) (bs : List Attempt) (n : ℕ) (old mid new : ShownWorld B) (a : Attempt)
     → AreDelivered c ns bs old mid → TriesIn c mid new (Deliver n) a → AreDelivered c (ns ++ n ∷ []) (bs ++ a ∷ []) old new
 AreDelivered-more c [] [] n old mid new a none tries = (new, subst (λ w. TriesIn c w new (Deliver n) a) none tries, refl)
 AreDelivered-more c [] (b ∷ bs) n old mid new a none tries = absurd none

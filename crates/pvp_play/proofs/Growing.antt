@@ -15,7 +15,7 @@ use Rattle.headline.specs.Bank.{Bank}
 use Rattle.headline.specs.Legal.{Acts, FallsBy, Leads}
 use Rattle.pvp_world.specs.declared.fault.WorldFault.{WorldFault}
 use Rattle.pvp_world.specs.declared.report.Report.{Report}
-use Rattle.pvp_world.specs.World.{Shown as World}
+use Rattle.pvp_world.specs.World.{ShownWorld}
 use Rattle.pvp_world.specs.Steps.{Moves, Applies, is_world_fall}
 
 -- a post is another with more behind it
@@ -40,7 +40,7 @@ bank-grows setup choose f bank (Falls step cell) after leads = by leads.turn_is 
     by (OfNode c event) falls = absurd falls
     by (OfClient k event) falls = absurd falls
 
-module _ {B : Type 0} (held : B → Boot) (old new : World B) where
+module _ {B : Type 0} (held : B → Boot) (old new : ShownWorld B) where
   moves-grow : (move : Move) → Moves held old new move → Grows old.post new.post
   moves-grow move moves =
       let grown = bank-grows old.setup moves.list.choose (faults old.setup) moves.list.bank move moves.after moves.leads in
@@ -52,4 +52,4 @@ module _ {B : Type 0} (held : B → Boot) (old new : World B) where
     where
       by : (b : Bool) → is_world_fall fault ≡ b → Grows old.post new.post
       by true e = moves-grow _ (refused.fell e).moves
-      by false e = same-grows old.post new.post (ap (λ (w : World B). w.post) (refused.kept e).0)
+      by false e = same-grows old.post new.post (ap (λ (w : ShownWorld B). w.post) (refused.kept e).0)

@@ -3,14 +3,14 @@ use Rattle.std.proofs.Common.{◌≡◌, ◌≢◌, ℕ, zero, suc, ◌+◌, ◌
 use Rattle.std.specs.Prelude.{filter}
 use Rattle.std.specs.List.{range_with_len}
 use Rattle.std.proofs.lemmas.List.Elements.{filter-append}
-use Rattle.pvp_play.specs.Passing.{passed}
+use Rattle.pvp_play.specs.Passing.{passed_numbers}
 
 -- the numbers from one on, and one more
 range-more : (a n j : ℕ) → a + n ≡ j → range_with_len a (suc n) ≡ range_with_len a n ++ j ∷ []
 range-more a zero j is = ap (λ k. k ∷ []) (omega arith)
 range-more a (suc n) j is = ap (λ ks. a ∷ ks) (range-more (a + 1) n j (omega arith))
 
-passed-more : (from place : ℕ) → from ≤ place → passed from (place + 1) ≡ passed from place ++ (place + 1) ∷ []
+passed-more : (from place : ℕ) → from ≤ place → passed_numbers from (place + 1) ≡ passed_numbers from place ++ (place + 1) ∷ []
 passed-more from place low =
     let size : place + 1 - from ≡ suc (place - from) = omega (arith, low) in
     ap (λ n. range_with_len (from + 1) n) size ∙ range-more (from + 1) (place - from) (place + 1) (omega (arith, low))
@@ -35,13 +35,13 @@ some-held held a (suc n) (suc k) j within at is none =
 module _ (held : ℕ → Bool) (from : ℕ) where
   -- those that are held, up to a place
   abbrev pub held_up_to : ℕ → List ℕ
-  held_up_to place = filter held (passed from place)
+  held_up_to place = filter held (passed_numbers from place)
 
   pub held-none : held_up_to from ≡ []
   held-none = let none : from - from ≡ 0 = omega arith in ap (λ n. filter held (range_with_len (from + 1) n)) none
 
   next : (place : ℕ) → from ≤ place → held_up_to (place + 1) ≡ held_up_to place ++ (if held (place + 1) then (place + 1) ∷ [] else [])
-  next place low = ap (filter held) (passed-more from place low) ∙ filter-append held (passed from place) ((place + 1) ∷ [])
+  next place low = ap (filter held) (passed-more from place low) ∙ filter-append held (passed_numbers from place) ((place + 1) ∷ [])
 
   -- the next one is held
   pub held-more : (place : ℕ) (numbers more : List ℕ) → from ≤ place → held (place + 1) ≡ true → more ≡ numbers ++ (place + 1) ∷ []

@@ -10,7 +10,7 @@ use Rattle.pvp_text.specs.declared.script.Statement.TheVariants.{Do, Print, Drai
 use Rattle.pvp_world.specs.declared.fault.WorldFault.{WorldFault}
 use Rattle.pvp_world.specs.declared.fault.WorldFault.TheVariants.{Site, NoSuchActor}
 use Rattle.pvp_world.specs.declared.report.Report.{Report}
-use Rattle.pvp_world.specs.World.{Shown as World}
+use Rattle.pvp_world.specs.World.{ShownWorld}
 use Rattle.pvp_world.specs.Steps.{AreReliable, has_number}
 use Rattle.pvp_trace.specs.declared.attempt.Attempt.{Attempt}
 use Rattle.pvp_play.specs.declared.chaos.Act.{Act}
@@ -36,10 +36,10 @@ none-other : (told : Option WorldFault) → told ≡ None → told ≢ Some (Sit
 none-other told none e = cc
 
 module _ {B : Type 0} (c : Cell B) where
-  abbrev Keeps : World B → World B → Type 0
+  abbrev Keeps : ShownWorld B → ShownWorld B → Type 0
   Keeps old new = AreReliable c old → AreReliable c new
 
-  same-keeps : (old new : World B) → new ≡ old → Keeps old new
+  same-keeps : (old new : ShownWorld B) → new ≡ old → Keeps old new
   same-keeps old new e all = subst (AreReliable c) (sym e) all
 
   tried-keeps : (old new : Position B) (step : Step) (told : Option WorldFault) → Tries c old new step told
@@ -48,7 +48,7 @@ module _ {B : Type 0} (c : Cell B) where
       let kept = tries.tried.tells.reliable all in
       (kept.0, told-other tries.attempt.result told tries.is_told kept.1)
 
-  delivered-keep : (ns : List ℕ) (attempts : List Attempt) (old new : World B) → AreDelivered c ns attempts old new → Keeps old new
+  delivered-keep : (ns : List ℕ) (attempts : List Attempt) (old new : ShownWorld B) → AreDelivered c ns attempts old new → Keeps old new
   delivered-keep [] [] old new none all = same-keeps old new none all
   delivered-keep [] (a ∷ attempts) old new none all = absurd none
   delivered-keep (n ∷ ns) [] old new none all = absurd none
@@ -64,7 +64,7 @@ module _ {B : Type 0} (c : Cell B) where
   turns-keep zero old new none all = same-keeps old.1.world new.1.world (ap (λ (p : Lcg × Position B). p.1.world) none) all
   turns-keep (suc n) old new (mid, turns, turn) all = act-keeps _ mid.1 new.1 turn.1 (turns-keep n old mid turns all)
 
-  quiet-keeps : (old new : World B) (told : Option WorldFault) → Keeps old new → told ≡ None → AreReliable c old
+  quiet-keeps : (old new : ShownWorld B) (told : Option WorldFault) → Keeps old new → told ≡ None → AreReliable c old
       → AreReliable c new × (told ≢ Some (Site CellFault))
   quiet-keeps old new told keeps none all = (keeps all, none-other told none)
 

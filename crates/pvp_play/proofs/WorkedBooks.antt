@@ -8,16 +8,16 @@ use Rattle.pvp_types.specs.declared.command.Cmd.{Cmd}
 use Rattle.pvp_types.specs.declared.command.Cmd.TheVariants.{Fund, PayOut}
 use Rattle.pvp_types.specs.declared.command.Reply.TheVariants.{Order}
 use Rattle.pvp_types.specs.declared.command.PayOrder.{PayOrder}
-use Rattle.pvp_book.specs.Settlement.{both_pass, pass, taken_by, settled_after, settled}
+use Rattle.pvp_book.specs.Settlement.{both_pass, pass, taken_by, settled_after, settled_pairs}
 use Rattle.pvp_book.specs.Answer.{answer}
 use Rattle.vr_types.specs.declared.cell.Boot.{Boot}
 use Rattle.vr_types.specs.declared.event.Status.{Status}
 use Rattle.vr_types.specs.declared.event.Status.TheVariants.{Normal, Change, Recovering}
 use Rattle.vr_types.specs.declared.row.RowOf.{RowOf}
 use Rattle.vr_site.specs.Life.{Volatile, resting}
-use Rattle.vr_site.specs.Replica as replica
-use Rattle.rtgs_node.specs.Shown as node
-use Rattle.pvp_world.specs.World.{Shown, world_of}
+use Rattle.vr_site.specs.Replica.{ShownSite}
+use Rattle.rtgs_node.specs.Shown.{ShownNode}
+use Rattle.pvp_world.specs.World.{ShownWorld, world_of}
 use Rattle.pvp_play.specs.BooksText.{books_text}
 
 abbrev member : List ℕ → Member
@@ -54,14 +54,14 @@ running status view done = record {
   known = [];
 }
 
-abbrev site : ℕ → ℕ → Volatile Cmd → replica.Shown Cmd Setup ℕ
+abbrev site : ℕ → ℕ → Volatile Cmd → ShownSite Cmd Setup ℕ
 site me boots volatile = record { f = 1; me = me; setup = setup; cell = boots; volatile = volatile }
 
 abbrev order : ℕ → ℕ → PayOrder
 order ccy amt = record { ccy = ccy; out = 1; member = 1; amt = amt }
 
 -- two pay-ins came and the order was done
-abbrev eur : node.Shown
+abbrev eur : ShownNode
 eur = record {
   setup = setup;
   ccy = 0;
@@ -77,14 +77,14 @@ eur = record {
 }
 
 -- an order was returned
-abbrev usd : node.Shown
+abbrev usd : ShownNode
 usd = record {
   setup = setup;
   ccy = 1;
   node = record { pay_ins = []; pay_outs = []; returned = order 1 5 ∷ []; closed = []; notices = []; answered = 0 };
 }
 
-abbrev world : Shown ℕ
+abbrev world : ShownWorld ℕ
 world = world_of setup []
     (site 0 0 (running Normal 0 2) ∷ site 1 1 (running Change 1 1) ∷ site 2 3 (resting Recovering [] []) ∷ [])
     (eur ∷ usd ∷ [])
@@ -101,5 +101,5 @@ printed : books_text held world
     ++ codes "node EUR account 370 payins 2 payouts 1\n  site 0 figure 300 way 70\n  site 1 figure 500 way -130\n"
     ++ codes "node USD account 0 payins 0 payouts 0 returned 1\n  site 0 figure 0 way 0\n  site 1 figure 0 way 0\n"
     ++ codes "client ALFA 1 order 1\nclient BETA 4 waits\n"
-unfolding digits answer both_pass pass taken_by settled_after settled
+unfolding digits answer both_pass pass taken_by settled_after settled_pairs
 printed = refl

@@ -9,7 +9,7 @@ use Rattle.pvp_types.specs.declared.command.Reply.{Reply}
 use Rattle.pvp_types.specs.Reply.{reply_text}
 use Rattle.pvp_book.specs.Ledger.{Ledger, opening, figure}
 use Rattle.rtgs_node.specs.Node.{Node, account}
-use Rattle.rtgs_node.specs.Shown as node
+use Rattle.rtgs_node.specs.Shown.{ShownNode}
 use Rattle.headline.specs.Machine.{book}
 use Rattle.headline.specs.Way.{way}
 use Rattle.vr_types.specs.declared.cell.Boot.{Boot}
@@ -18,16 +18,15 @@ use Rattle.vr_types.specs.declared.event.Status.TheVariants.{Normal, Change, Rec
 use Rattle.vr_types.specs.Handling.{machine_of}
 use Rattle.vr_types.specs.Site.{is_running}
 use Rattle.vr_site.specs.Life.{Volatile}
-use Rattle.vr_site.specs.Replica as replica
-use Rattle.vr_site.specs.Replica.{site_shown}
+use Rattle.vr_site.specs.Replica.{ShownSite, site_shown}
 use Rattle.pvp_text.specs.BookText.{block}
-use Rattle.pvp_world.specs.World.{Shown}
-use Rattle.pvp_world.specs.Client as client
+use Rattle.pvp_world.specs.World.{ShownWorld}
+use Rattle.pvp_world.specs.Client.{ShownClient}
 
 -- SITES
 
 -- the book of a running site: what its executed rows lead to
-abbrev pub book_of : {B : Type 0} → (B → Boot) → replica.Shown Cmd Setup B → Ledger
+abbrev pub book_of : {B : Type 0} → (B → Boot) → ShownSite Cmd Setup B → Ledger
 book_of held v = machine_of book (opening v.setup) (site_shown held v [])
 
 -- where a running site stands
@@ -41,16 +40,16 @@ status_text v Change = codes "change" ++ standing_text v
 status_text v Recovering = codes "recovering"
 status_text v Down = codes "down"
 
-abbrev pub site_line : {B : Type 0} → (B → Boot) → ℕ × replica.Shown Cmd Setup B → List ℕ
+abbrev pub site_line : {B : Type 0} → (B → Boot) → ℕ × ShownSite Cmd Setup B → List ℕ
 site_line held (i, v) =
     codes "site " ++ decimal i ++ codes " " ++ status_text v.volatile v.volatile.status
     ++ codes " cell " ++ decimal (held v.cell).boots ++ codes "\n"
 
 -- the block of a running site's book
-abbrev pub book_block : {B : Type 0} → (B → Boot) → replica.Shown Cmd Setup B → List ℕ
+abbrev pub book_block : {B : Type 0} → (B → Boot) → ShownSite Cmd Setup B → List ℕ
 book_block held v = if is_running v.volatile.status then block (codes "  ") (book_of held v) else []
 
-abbrev pub site_text : {B : Type 0} → (B → Boot) → ℕ × replica.Shown Cmd Setup B → List ℕ
+abbrev pub site_text : {B : Type 0} → (B → Boot) → ℕ × ShownSite Cmd Setup B → List ℕ
 site_text held (i, v) = site_line held (i, v) ++ book_block held v
 
 -- NODES
@@ -79,17 +78,17 @@ abbrev pub Matches : ℕ → Node → Ledger → Type 0
 Matches c x held = account x ≡ figure held.setup held.entries c +ℤ way c x held.entries
 
 -- so of a running site's book
-abbrev pub SiteMatches : {B : Type 0} → (B → Boot) → ℕ → Node → replica.Shown Cmd Setup B → Type 0
+abbrev pub SiteMatches : {B : Type 0} → (B → Boot) → ℕ → Node → ShownSite Cmd Setup B → Type 0
 SiteMatches held c x v = is_running v.volatile.status ≡ true → Matches c x (book_of held v)
 
 -- those of a running site
-abbrev pub way_line : {B : Type 0} → (B → Boot) → ℕ → Node → ℕ × replica.Shown Cmd Setup B → List ℕ
+abbrev pub way_line : {B : Type 0} → (B → Boot) → ℕ → Node → ℕ × ShownSite Cmd Setup B → List ℕ
 way_line held c x (i, v) =
     if is_running v.volatile.status
     then codes "  site " ++ decimal i ++ figure_text c x (book_of held v) ++ codes "\n"
     else []
 
-abbrev pub node_text : {B : Type 0} → (B → Boot) → Shown B → ℕ × node.Shown → List ℕ
+abbrev pub node_text : {B : Type 0} → (B → Boot) → ShownWorld B → ℕ × ShownNode → List ℕ
 node_text held world (c, v) =
     node_line world.setup c v.node ++ flat_map (way_line held c v.node) (enumerate_from 0 world.sites)
 
@@ -106,14 +105,14 @@ answer_text (Some reply) = reply_text reply
 answer_text None = codes "waits"
 
 -- a client that has sent nothing prints nothing
-abbrev pub client_text : Setup → ℕ × client.Shown → List ℕ
+abbrev pub client_text : Setup → ℕ × ShownClient → List ℕ
 client_text setup (k, v) =
     if v.client.number == 0 then []
     else codes "client " ++ name_of setup k ++ codes " " ++ decimal v.client.number ++ codes " "
     ++ answer_text v.client.answer ++ codes "\n"
 
 -- THE BOOKS of a world: of its sites, its nodes and its clients
-abbrev pub books_text : {B : Type 0} → (B → Boot) → Shown B → List ℕ
+abbrev pub books_text : {B : Type 0} → (B → Boot) → ShownWorld B → List ℕ
 books_text held world =
     flat_map (site_text held) (enumerate_from 0 world.sites)
     ++ flat_map (node_text held world) (enumerate_from 0 world.nodes)

@@ -3,20 +3,22 @@ use Rattle.std.specs.Prelude.{◌≡◌, ℕ, ◌+◌, ◌-◌, ◌*◌, ◌/◌
 use Rattle.std.specs.List.{list_all, range_with_len}
 use Rattle.std.specs.Option.{option_map_or}
 use Rattle.pvp_types.specs.declared.setup.Setup.{Setup}
+use Rattle.pvp_types.specs.declared.command.Instruction.{Instruction}
 use Rattle.pvp_types.specs.declared.command.Cmd.{Cmd}
 use Rattle.pvp_types.specs.declared.command.Cmd.TheVariants.{Instruct, Rescind, Settle, PayOut}
 use Rattle.pvp_types.specs.declared.step.Step.{Step}
 use Rattle.pvp_types.specs.declared.step.Step.TheVariants.{Deliver, PayIn, Submit, Beat, Timer, Crash, Restart}
+use Rattle.pvp_types.specs.Instruction.{mirror}
 use Rattle.vr_types.specs.declared.actors.TheConstants.{FIRST_NODE, FIRST_SITE}
 use Rattle.vr_types.specs.declared.cell.BootCell.{Ghosts as Cell}
 use Rattle.vr_types.specs.Site.{is_normal}
 use Rattle.rand_pcg.specs.Lcg.{Lcg, started, increment_of}
 use Rattle.rand_pcg.specs.Pcg.{multiplier_64, pcg32}
 use Rattle.pvp_world.specs.declared.fault.WorldFault.{WorldFault}
-use Rattle.pvp_world.specs.World.{Shown as World}
+use Rattle.pvp_world.specs.World.{ShownWorld}
 use Rattle.pvp_play.specs.declared.chaos.Act.{Act}
 use Rattle.pvp_play.specs.declared.chaos.Act.TheVariants.{Drains, Skips, Tries, Rests}
-use Rattle.pvp_play.specs.Player.{Position, skipped}
+use Rattle.pvp_play.specs.Player.{Position, after_skip}
 use Rattle.pvp_play.specs.Turns.{Turns}
 use Rattle.pvp_play.specs.Player as player
 
@@ -60,28 +62,37 @@ first_amount reference = 1 + ((7 * reference) % 100)
 abbrev pub second_amount : ℕ → ℕ
 second_amount reference = 1 + ((11 * reference) % 100)
 
+-- what side 0 asks for
+abbrev pub opening_side : Setup → ℕ → Instruction
+opening_side setup r = record {
+  reference = r;
+  other = on_side setup r 1;
+  sell = first_currency setup r;
+  buy = second_currency setup r;
+  sell_amt = first_amount r;
+  buy_amt = second_amount r;
+}
+
 -- what side 0 or side 1 asks for: each sells what the other buys
 abbrev pub instruction : Setup → ℕ → ℕ → Cmd
 instruction setup r side =
-    if side == 0 then Instruct r (on_side setup r 1) (first_currency setup r) (first_amount r)
-    (second_currency setup r) (second_amount r)
-    else Instruct r (on_side setup r 0) (second_currency setup r) (second_amount r)
-    (first_currency setup r) (first_amount r)
+    if side == 0 then Instruct (opening_side setup r)
+    else Instruct (mirror (on_side setup r 0) (opening_side setup r))
 
 -- SITES
 
 -- the site of a number is there and normal
-abbrev pub is_normal_at : {B : Type 0} → World B → ℕ → Bool
+abbrev pub is_normal_at : {B : Type 0} → ShownWorld B → ℕ → Bool
 is_normal_at world i = option_map_or (λ v. is_normal v.volatile.status) (slice_get world.sites i) false
 
 -- every site is
-abbrev pub are_normal : {B : Type 0} → World B → Bool
+abbrev pub are_normal : {B : Type 0} → ShownWorld B → Bool
 are_normal world = list_all (is_normal_at world) (range_with_len 0 world.setup.sites)
 
 -- A TURN
 
 -- some envelope that was ever sent
-abbrev pub any_delivery : {B : Type 0} → World B → ℕ → Act
+abbrev pub any_delivery : {B : Type 0} → ShownWorld B → ℕ → Act
 any_delivery world b = if length world.post == 0 then Rests else Tries (Deliver (1 + (b % length world.post)))
 
 abbrev pub any_pay_in : Setup → ℕ → Step
@@ -106,11 +117,11 @@ abbrev pub any_timer : Setup → ℕ → Act
 any_timer setup b = if (b % 8) == 0 then Tries (Timer ((b / 8) % setup.sites)) else Rests
 
 -- a site falls only where all are normal
-abbrev pub any_crash : {B : Type 0} → World B → ℕ → Act
+abbrev pub any_crash : {B : Type 0} → ShownWorld B → ℕ → Act
 any_crash world b = if are_normal world then Tries (Crash (b % world.setup.sites)) else Rests
 
 -- WHAT EACH OF 32 TURNS DOES
-abbrev pub table : {B : Type 0} → World B → ℕ → List Act
+abbrev pub table : {B : Type 0} → ShownWorld B → ℕ → List Act
 table world b =
     replicate 16 Drains  -- 0 to 15
     ++ replicate 4 (any_delivery world b)  -- 16 to 19
@@ -127,13 +138,13 @@ table world b =
     ∷ []
 
 -- the first word chooses the turn
-abbrev pub act_of : {B : Type 0} → World B → ℕ → ℕ → Act
+abbrev pub act_of : {B : Type 0} → ShownWorld B → ℕ → ℕ → Act
 act_of world a b = unwrap_or (slice_get (table world b) (a % 32)) Rests
 
 -- it is done
 abbrev pub Does : {B : Type 0} → Cell B → Act → Position B → Position B → Type 0
 Does c Drains old new = player.Drains c 1 old new
-Does c Skips old new = new ≡ skipped old 1
+Does c Skips old new = new ≡ after_skip old 1
 Does c (Tries step) old new = (told : Option WorldFault) × player.Tries c old new step told
 Does c Rests old new = new ≡ old
 
@@ -145,7 +156,7 @@ Stops c (Tries step) old new = player.Wants old new step
 Stops c Rests old new = ⊥
 
 -- what the next two words of the generator choose
-abbrev pub next_act : {B : Type 0} → World B → Lcg → Act
+abbrev pub next_act : {B : Type 0} → ShownWorld B → Lcg → Act
 next_act world words = let first = pcg32 words in act_of world first.0 (pcg32 first.1).0
 
 -- A TURN OF CHAOS takes two words of the generator

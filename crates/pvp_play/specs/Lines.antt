@@ -11,11 +11,11 @@ use Rattle.vr_types.specs.declared.event.SiteFault.TheVariants.{CellFault}
 use Rattle.vr_types.specs.contracts.cell.MemCellBootCell.TheImpl.{ghosts as memory}
 use Rattle.vr_types.specs.Cell.{new_cell}
 use Rattle.vr_types.specs.MemoryCell.{held_by}
-use Rattle.vr_site.specs.Replica.{Shown as Replica}
+use Rattle.vr_site.specs.Replica.{ShownSite}
 use Rattle.pvp_world.specs.declared.fault.WorldFault.{WorldFault}
 use Rattle.pvp_world.specs.declared.fault.WorldFault.TheVariants.{Site as OfSite}
 use Rattle.pvp_world.specs.Fault.{fault_text}
-use Rattle.pvp_world.specs.World.{Shown as World, IsProved}
+use Rattle.pvp_world.specs.World.{ShownWorld, IsProved}
 use Rattle.pvp_world.specs.Steps.{AreReliable}
 use Rattle.pvp_text.specs.declared.book.RunFault.{RunFault}
 use Rattle.pvp_text.specs.declared.book.RunFault.TheVariants as run
@@ -33,7 +33,7 @@ use Rattle.pvp_play.specs.Cells.{IsArmed}
 use Rattle.pvp_play.specs.Chaos.{Rages, RageStops}
 use Rattle.pvp_play.specs.Notes.{notes, notes_text}
 use Rattle.pvp_play.specs.Passing.{passing_text}
-use Rattle.pvp_play.specs.Player.{Position, beginning, Tries, Wants, Drains, DrainStops, skipped, cut_off, healed, with_cut, unknown_actor, CutStops}
+use Rattle.pvp_play.specs.Player.{Position, beginning, Tries, Wants, Drains, DrainStops, after_skip, cut_off, cut_without, with_cut, unknown_actor, CutStops}
 
 -- nothing was refused
 abbrev pub IsTaken : Option WorldFault → Type 0
@@ -44,9 +44,10 @@ abbrev pub Does : {B : Type 0} → Cell B → Statement → Position B → Posit
 Does c (Do step) old new told = Tries c old new step told
 Does c Print old new told = (new ≡ old) × IsTaken told
 Does c (Drain turns) old new told = Drains c turns old new × IsTaken told
-Does c (Skip envelopes) old new told = (new ≡ skipped old envelopes) × IsTaken told
+Does c (Skip envelopes) old new told = (new ≡ after_skip old envelopes) × IsTaken told
 Does c (Cut actor) old new told = (new ≡ with_cut old actor (cut_off old.cut actor)) × (told ≡ unknown_actor old actor)
-Does c (Heal actor) old new told = (new ≡ with_cut old actor (healed old.cut actor)) × (told ≡ unknown_actor old actor)
+Does c (Heal actor) old new told =
+    (new ≡ with_cut old actor (cut_without old.cut actor)) × (told ≡ unknown_actor old actor)
 Does c (Chaos seed turns) old new told = Rages c seed turns old new × IsTaken told
 Does c (Rest milliseconds) old new told = (new ≡ old) × IsTaken told
 
@@ -67,12 +68,12 @@ abbrev pub refused_text : ℕ → Option WorldFault → List ℕ
 refused_text number None = []
 refused_text number (Some fault) = codes "refused " ++ decimal number ++ codes " " ++ fault_text fault ++ codes "\n"
 
-abbrev pub print_text : {B : Type 0} → (B → Boot) → Statement → World B → List ℕ
+abbrev pub print_text : {B : Type 0} → (B → Boot) → Statement → ShownWorld B → List ℕ
 print_text held Print world = books_text held world
 print_text held _ world = []
 
 -- WHERE STEPS ARE TOLD: each that was noted after so many before; and where none was, what was refused
-abbrev pub steps_text : {B : Type 0} → World B → ℕ → Option WorldFault → ℕ → List Attempt → List ℕ
+abbrev pub steps_text : {B : Type 0} → ShownWorld B → ℕ → Option WorldFault → ℕ → List Attempt → List ℕ
 steps_text world number told before noted =
     if nat_lt before (length noted) then notes_text world.setup world.post before noted else refused_text number told
 
@@ -159,7 +160,7 @@ no_notes Steps = Some []
 pub record IsOpening (made_from : Setup) (fails : List Fail) (telling : Telling) (p : Position MemCell) : Type 0 where
   pub setup : p.world.setup ≡ made_from
   pub cells : p.world.opening ≡ replicate (2 * faults made_from + 1) new_cell
-  pub armed : (i : ℕ) (v : Replica Cmd Setup MemCell) → slice_get p.world.sites i ≡ Some v → IsArmed fails i v.cell
+  pub armed : (i : ℕ) (v : ShownSite Cmd Setup MemCell) → slice_get p.world.sites i ≡ Some v → IsArmed fails i v.cell
   pub trail : p.world.trail ≡ []
   pub headline : IsProved held_by p.world
   pub begins : p ≡ beginning (no_notes telling) p.world

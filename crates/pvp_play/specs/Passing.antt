@@ -12,8 +12,8 @@ use Rattle.pvp_trace.specs.Names.{actor_text}
 use Rattle.pvp_play.specs.Player.{Position, is_open}
 
 -- THE ENVELOPES THAT THE CURSOR PASSED from one place to another, by their numbers
-abbrev pub passed : ℕ → ℕ → List ℕ
-passed from to = range_with_len (from + 1) (to - from)
+abbrev pub passed_numbers : ℕ → ℕ → List ℕ
+passed_numbers from to = range_with_len (from + 1) (to - from)
 
 -- the envelope of a number goes between actors of whom one is cut off
 abbrev pub is_held : List ℕ → List Envelope → ℕ → Bool
@@ -21,7 +21,7 @@ is_held cut post number = option_map_or (λ envelope. not (is_open cut envelope)
 
 -- those of them that a cut held back
 abbrev pub held_back : {B : Type 0} → ℕ → Position B → List ℕ
-held_back from p = filter (is_held p.cut p.world.post) (passed from p.cursor)
+held_back from p = filter (is_held p.cut p.world.post) (passed_numbers from p.cursor)
 
 -- IN WORDS
 

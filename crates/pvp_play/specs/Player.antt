@@ -8,7 +8,7 @@ use Rattle.pvp_types.specs.declared.step.Step.TheVariants as steps
 use Rattle.pvp_world.specs.declared.fault.WorldFault.{WorldFault}
 use Rattle.pvp_world.specs.declared.fault.WorldFault.TheVariants.{NoSuchActor, NoMemory}
 use Rattle.pvp_world.specs.declared.report.Report.{Report}
-use Rattle.pvp_world.specs.World.{Shown as World}
+use Rattle.pvp_world.specs.World.{ShownWorld}
 use Rattle.pvp_world.specs.Steps.{TellsFailures, IsTurn, has_number}
 use Rattle.pvp_trace.specs.declared.attempt.Attempt.{Attempt}
 use Rattle.pvp_trace.specs.Attempts.{Attempts}
@@ -16,13 +16,13 @@ use Rattle.pvp_play.specs.Notes.{with_notes}
 
 -- WHAT A PLAYER SHOWS
 pub record Position (B : Type 0) : Type 0 where
-  pub world : World B
+  pub world : ShownWorld B
   pub cursor : ℕ  -- the number of the envelope up to which the post was gone through
   pub cut : List ℕ  -- the actors that are cut off
   pub noted : Option (List Attempt)  -- the steps that were tried, where they are noted
 
 -- nothing was gone through yet, and no actor is cut off
-abbrev pub beginning : {B : Type 0} → Option (List Attempt) → World B → Position B
+abbrev pub beginning : {B : Type 0} → Option (List Attempt) → ShownWorld B → Position B
 beginning noted world = record { world = world; cursor = 0; cut = []; noted = noted }
 
 -- A STEP IS TRIED
@@ -33,7 +33,7 @@ refusal_in (Ok report) = None
 refusal_in (Err fault) = Some fault
 
 -- the world did with it what it does, and did not want for memory, which would end the play
-pub record TriesIn {B : Type 0} (c : Cell B) (old new : World B) (step : Step) (attempt : Attempt) : Type 0 where
+pub record TriesIn {B : Type 0} (c : Cell B) (old new : ShownWorld B) (step : Step) (attempt : Attempt) : Type 0 where
   pub attempts : Attempts c.held old new step attempt
   pub tells : TellsFailures c old new step attempt.result
   pub had_memory : refusal_in attempt.result ≢ Some NoMemory
@@ -78,16 +78,16 @@ abbrev pub with_cursor : {B : Type 0} → Position B → ℕ → Position B
 with_cursor p number = record p { cursor = number }
 
 -- so many envelopes are passed over, at most to the end of the post
-abbrev pub skipped : {B : Type 0} → Position B → ℕ → Position B
-skipped p n = with_cursor p (min (p.cursor + n) (length p.world.post))
+abbrev pub after_skip : {B : Type 0} → Position B → ℕ → Position B
+after_skip p n = with_cursor p (min (p.cursor + n) (length p.world.post))
 
 -- envelopes are delivered one after another, whether that is refused or not
-abbrev pub AreDelivered : {B : Type 0} → Cell B → List ℕ → List Attempt → World B → World B → Type 0
+abbrev pub AreDelivered : {B : Type 0} → Cell B → List ℕ → List Attempt → ShownWorld B → ShownWorld B → Type 0
 AreDelivered c [] [] old new = new ≡ old
 AreDelivered c [] (attempt ∷ attempts) old new = ⊥
 AreDelivered c (number ∷ numbers) [] old new = ⊥
 AreDelivered {B} c (number ∷ numbers) (attempt ∷ attempts) old new =
-    (mid : World B) × TriesIn c old mid (steps.Deliver number) attempt × AreDelivered c numbers attempts mid new
+    (mid : ShownWorld B) × TriesIn c old mid (steps.Deliver number) attempt × AreDelivered c numbers attempts mid new
 
 -- where the cursor stands after these were delivered: at the last of them, and at the post's end where they are too few
 abbrev pub cursor_after : ℕ → List ℕ → ℕ → ℕ → ℕ
@@ -123,8 +123,8 @@ pub record DrainStops {B : Type 0} (c : Cell B) (turns : ℕ) (old new : Positio
 abbrev pub cut_off : List ℕ → ℕ → List ℕ
 cut_off cut actor = if is_among cut actor then cut else cut ++ actor ∷ []
 
-abbrev pub healed : List ℕ → ℕ → List ℕ
-healed cut actor = filter (λ a. not (a == actor)) cut
+abbrev pub cut_without : List ℕ → ℕ → List ℕ
+cut_without cut actor = filter (λ a. not (a == actor)) cut
 
 -- the cuts are changed so, where the actor is there
 abbrev pub with_cut : {B : Type 0} → Position B → ℕ → List ℕ → Position B

@@ -4,7 +4,7 @@ ghost use Rattle.pvp_types.specs.Setup.{IsValid};
 ghost use Rattle.pvp_play.specs.Chaos.{currency_count, any_member, any_currency, any_actor, any_reference, on_side, instruction, is_normal_at, are_normal, any_delivery, any_pay_in, any_pay_out, any_instruction, any_rescission, any_settlement, any_timer, any_crash, act_of, Does, Stops, Rages, RageStops};
 
 use crate::player::Player;
-use pvp_types::{Cmd, Setup, Step};
+use pvp_types::{Cmd, Instruction, Setup, Step};
 use pvp_world::World;
 use rand_core::utils::NextWord;
 use rand_pcg::Lcg64Xsh32;
@@ -167,24 +167,18 @@ fn instruction(setup: &Setup, reference: u32, side: u32) -> Cmd
     let second = ((reference + 1) % currencies) as u8;
     let first_amt = u64::from(1 + 7 * reference % 100);
     let second_amt = u64::from(1 + 11 * reference % 100);
+    let opening = Instruction {
+        reference,
+        other: on_side(setup, reference, 1),
+        sell: first,
+        buy: second,
+        sell_amt: first_amt,
+        buy_amt: second_amt,
+    };
     if side == 0 {
-        Cmd::Instruct {
-            reference,
-            other: on_side(setup, reference, 1),
-            sell: first,
-            sell_amt: first_amt,
-            buy: second,
-            buy_amt: second_amt,
-        }
+        Cmd::Instruct(opening)
     } else {
-        Cmd::Instruct {
-            reference,
-            other: on_side(setup, reference, 0),
-            sell: second,
-            sell_amt: second_amt,
-            buy: first,
-            buy_amt: first_amt,
-        }
+        Cmd::Instruct(opening.mirror(on_side(setup, reference, 0)))
     }
 }
 

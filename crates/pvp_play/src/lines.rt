@@ -119,7 +119,7 @@ fn player_of<C: BootCell>(alloc: Global, world: World<C>, telling: Telling) -> P
 {
     match telling {
         Telling::Books => Player::new(alloc, world),
-        Telling::Steps => Player::noting(alloc, world),
+        Telling::Steps => Player::with_record(alloc, world),
     }
 }
 

@@ -1,6 +1,6 @@
 //! A player of a world: what is tried there, which envelopes come next, and who is cut off.
 ghost use Rattle.std.specs.Prelude.{◌≡◌, ◌≢◌, [], None, Some, Err, IfOk, OnOk, OnErr, is_some, option_map};
-ghost use Rattle.pvp_play.specs.Player.{healed, refusal_in};
+ghost use Rattle.pvp_play.specs.Player.{cut_without, refusal_in};
 ghost use Rattle.pvp_world.specs.declared.fault.WorldFault.TheVariants.{NoMemory};
 
 use crate::notes::{make_room, note};
@@ -38,7 +38,7 @@ impl<C: BootCell> Model for Player<C> {
 }
 
 impl<C: BootCell> Player<C> {
-    ghost use Rattle.pvp_play.specs.Player.{beginning, Tries, Wants, Drains, DrainStops, is_open, is_among, skipped, cut_off, with_cut, unknown_actor, CutStops};
+    ghost use Rattle.pvp_play.specs.Player.{beginning, Tries, Wants, Drains, DrainStops, is_open, is_among, after_skip, cut_off, with_cut, unknown_actor, CutStops};
     ghost use Rattle.pvp_play.specs.Notes.{notes};
     ghost use Rattle.pvp_play.specs.Passing.{is_held, held_back};
     ghost use Rattle.pvp_play.specs.Turns.{DrainsTo, WantsTo, next_open};
@@ -56,7 +56,7 @@ impl<C: BootCell> Player<C> {
     }
 
     /// A player of a world at the beginning of its post, who cuts off no one and notes each step that is tried.
-    pub fn noting(alloc: Global, world: World<C>) -> Self
+    pub fn with_record(alloc: Global, world: World<C>) -> Self
         ensures { result ≡ beginning (Some []) world }
     {
         Player {
@@ -176,7 +176,7 @@ impl<C: BootCell> Player<C> {
     fn is_open(&self, envelope: &Envelope<Book>) -> bool
         ensures { result ≡ is_open self.now.cut envelope.now }
     {
-        !self.is_cut(envelope.from) && !self.is_cut(envelope.to)
+        self.cut.is_empty() || !self.is_cut(envelope.from) && !self.is_cut(envelope.to)
     }
 
     /// Whether an actor is cut off.
@@ -188,7 +188,7 @@ impl<C: BootCell> Player<C> {
 
     /// Passes over the next envelopes, so many at most.
     pub fn skip(&mut self, envelopes: u32)
-        ensures { self.new ≡ skipped self.old envelopes }
+        ensures { self.new ≡ after_skip self.old envelopes }
     {
         let end = self.world.post_len();
         self.cursor = self.cursor.saturating_add(envelopes as usize).min(end);
@@ -212,13 +212,13 @@ impl<C: BootCell> Player<C> {
 
     /// Cuts an actor off no longer. Answers why it was refused, if it was.
     pub fn heal(&mut self, actor: u16) -> Option<WorldFault>
-        ensures after { self.new ≡ with_cut self.old actor (healed self.old.cut actor) }
+        ensures after { self.new ≡ with_cut self.old actor (cut_without self.old.cut actor) }
         ensures told { result ≡ unknown_actor self.old actor }
     {
         if !self.world.has_number(actor) {
             return Some(WorldFault::NoSuchActor);
         }
-        without(&mut self.cut, actor);
+        remove_actor(&mut self.cut, actor);
         None
     }
 }
@@ -236,8 +236,8 @@ fn refusal_in(came: Result<Report, WorldFault>) -> Result<Option<WorldFault>, Al
 }
 
 /// Takes an actor out of those that are cut off.
-fn without(cut: &mut Vec<u16>, actor: u16)
-    ensures { cut.new.items ≡ healed cut.old.items actor }
+fn remove_actor(cut: &mut Vec<u16>, actor: u16)
+    ensures { cut.new.items ≡ cut_without cut.old.items actor }
 {
     cut.retain(|a| *a != actor);
 }

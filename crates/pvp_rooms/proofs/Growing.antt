@@ -7,7 +7,7 @@ use Rattle.pvp_rooms.specs.declared.message.Answer.{Answer}
 use Rattle.pvp_rooms.specs.declared.message.Answer.TheVariants.{Done, NoMemory, ClockSpent}
 use Rattle.pvp_rooms.specs.declared.actor.Actor.{Ghosts}
 use Rattle.pvp_rooms.specs.Histories.{replay, AreSteps, stamp_clock, IsRising, last_clock}
-use Rattle.pvp_rooms.specs.Rooms.{Shown, IsReplayed, IsRoom, Acted, Told, clock_after, receipt}
+use Rattle.pvp_rooms.specs.Rooms.{ShownRoom, IsReplayed, IsRoom, Acted, Told, clock_after, receipt}
 use Rattle.pvp_rooms.specs.Seats.{AnswersStep}
 use Rattle.pvp_rooms.specs.Closing.{IsClosed}
 
@@ -51,7 +51,7 @@ replayed_next m opening old new history r replayed acted = λ x opens.
       subst (m.shows new) (sym (replay-push m.after history r x)) here.1,
     )
 
-pub room_next : {A N E O : Type 0} (m : Ghosts A N E O) (old : Shown N A E O) (new : A) (input : Input E) (clock : ℕ) (outcome : O)
+pub room_next : {A N E O : Type 0} (m : Ghosts A N E O) (old : ShownRoom N A E O) (new : A) (input : Input E) (clock : ℕ) (outcome : O)
     → IsRoom m old → Acted m old.actor new input.event outcome → clock_after old.clock input.stamp ≡ Some clock
     → IsRoom m (record { opening = old.opening; actor = new; clock = clock; history = old.history ++ receipt input clock outcome ∷ [] })
 room_next m old new input clock outcome room acted next =
@@ -64,7 +64,7 @@ room_next m old new input clock outcome room acted next =
     }
 
 -- what a room answers was taken
-pub answers_step : {A N E O : Type 0} (m : Ghosts A N E O) (input : Input E) (old new : Shown N A E O) (answer : Answer O)
+pub answers_step : {A N E O : Type 0} (m : Ghosts A N E O) (input : Input E) (old new : ShownRoom N A E O) (answer : Answer O)
     → Told m input old new answer → IsRoom m old → IsRoom m new → AnswersStep m input answer
 answers_step {E = E} {O = O} m input old new (Done clock outcome) told was sound =
     let P : List (Recorded E O) → Type 0 = λ h. IsReplayed m new.opening new.actor h in
@@ -82,7 +82,7 @@ answers_step m input old new NoMemory told was sound = tt
 answers_step m input old new ClockSpent told was sound = tt
 
 -- what a room hands out is closed
-pub closes : {A N E O : Type 0} (m : Ghosts A N E O) (room : Shown N A E O) (opening : N) (history : List (Recorded E O)) (end : A)
+pub closes : {A N E O : Type 0} (m : Ghosts A N E O) (room : ShownRoom N A E O) (opening : N) (history : List (Recorded E O)) (end : A)
     → opening ≡ room.opening → history ≡ room.history → end ≡ room.actor → IsRoom m room → IsClosed m opening history end
 closes {E = E} {O = O} m room opening history end first all last kept = record {
   replayed =

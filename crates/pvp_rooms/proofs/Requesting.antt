@@ -5,8 +5,10 @@ use Rattle.pvp_book.specs.Ledger.{node_of}
 use Rattle.rtgs_node.specs.declared.event.NodeEvent.{NodeEvent}
 use Rattle.rtgs_node.specs.Node.{Envelope}
 use Rattle.rtgs_node.specs.Shown as node
+use Rattle.rtgs_node.specs.Shown.{ShownNode}
 use Rattle.headline.specs.declared.step.ClientEvent.{ClientEvent}
 use Rattle.pvp_world.specs.Client as client
+use Rattle.pvp_world.specs.Client.{ShownClient}
 use Rattle.pvp_world.proofs.Sent.{AreRequests, requests-few, node-requests, client-requests}
 use Rattle.pvp_rooms.specs.declared.requests.SentRoom.{SentRoom}
 use Rattle.pvp_rooms.specs.Requests.{HasRoom}
@@ -22,12 +24,12 @@ room_for f me sent room requests has =
       for_receipt = omega (arith, few, has.for_receipt);
     }
 
-pub node_sends : (v new : node.Shown) (event : NodeEvent) (sent : List Envelope) → node.IsStep v new (node.step_of v event) sent
+pub node_sends : (v new : ShownNode) (event : NodeEvent) (sent : List Envelope) → node.IsStep v new (node.step_of v event) sent
     → AreRequests (faults v.setup) (node_of v.ccy) sent
 unfolding node.step_of
 node_sends v new event sent step =
     subst (AreRequests (faults v.setup) (node_of v.ccy)) (sym step.sends) (node-requests v.setup (faults v.setup) v.ccy v.node event)
 
-pub client_sends : (v new : client.Shown) (event : ClientEvent) (sent : List Envelope) → client.IsStep v new (client.step_of v event) sent
+pub client_sends : (v new : ShownClient) (event : ClientEvent) (sent : List Envelope) → client.IsStep v new (client.step_of v event) sent
     → AreRequests v.f v.me sent
 client_sends v new event sent step = subst (AreRequests v.f v.me) (sym step.sends) (client-requests v.f v.me v.client event)

@@ -20,7 +20,7 @@ use Rattle.vr_types.specs.Step.{Handled}
 use Rattle.vr_log.specs.Outcomes.{ended}
 use Rattle.vr_log.specs.Running.{SumUp}
 use Rattle.vr_site.specs.Life.{lost}
-use Rattle.vr_site.specs.Replica.{Shown, KeepsPlace, site_shown, Does, Falls, Handles}
+use Rattle.vr_site.specs.Replica.{ShownSite, KeepsPlace, site_shown, Does, Falls, Handles}
 use Rattle.vr_site.proofs.Shows.{none_summed}
 use Rattle.headline.proofs.Basics.{none-some}
 use Rattle.pvp_world.proofs.Silent.{IsSilent, dropped-silent, crash-silent, silent-sends}
@@ -34,7 +34,7 @@ ended_allowed (Some why) = refl
 
 module _ {H C R O S B : Type 0} (m : Ghosts H C R O S) (c : Cell B) where
   -- a refusal does not look at acknowledgements
-  refusal_is : (v : Shown C S B) (acks : List Ack) (event : EventOf C R O)
+  refusal_is : (v : ShownSite C S B) (acks : List Ack) (event : EventOf C R O)
       → refusal v.f v.me (site_shown c.held v acks) event ≡ refusal v.f v.me (site_shown c.held v []) event
   refusal_is v acks (Deliver envelope) = refl
   refusal_is v acks Timer = refl
@@ -42,27 +42,27 @@ module _ {H C R O S B : Type 0} (m : Ghosts H C R O S) (c : Cell B) where
   refusal_is v acks Crash = refl
   refusal_is v acks Restart = refl
 
-  pub refusal_of : (v : Shown C S B) (x : SiteState H C) (event : EventOf C R O) → Shows m c v x
+  pub refusal_of : (v : ShownSite C S B) (x : SiteState H C) (event : EventOf C R O) → Shows m c v x
       → refusal x.f x.me x.site event ≡ refusal v.f v.me (site_shown c.held v []) event
   refusal_of v x event shows =
       (λ i. refusal (shows.is.f i) (shows.is.me i) (shows.site i) event) ∙ refusal_is v x.site.collected.acks event
 
-  pub refused : (v : Shown C S B) (x : SiteState H C) (event : EventOf C R O) (why : SiteFault) → Shows m c v x
+  pub refused : (v : ShownSite C S B) (x : SiteState H C) (event : EventOf C R O) (why : SiteFault) → Shows m c v x
       → Some why ≡ refusal v.f v.me (site_shown c.held v []) event → refusal x.f x.me x.site event ≡ Some why
   refused v x event why shows h = refusal_of v x event shows ∙ sym h
 
   -- it is still the site that it was
-  pub still : (old new : Shown C S B) (x : SiteState H C) → KeepsPlace old new → IsSiteOf m old x → IsSiteOf m new x
+  pub still : (old new : ShownSite C S B) (x : SiteState H C) → KeepsPlace old new → IsSiteOf m old x → IsSiteOf m new x
   still old new x place is = record { f = is.f ∙ sym place.f; me = is.me ∙ sym place.me; start = is.start ∙ ap m.start (sym place.setup); right = is.right }
 
   -- what opens after an event that keeps the place opens before it
-  pub opens_kept : (old new : Shown C S B) (boot : Boot) (x : SiteState H C) → KeepsPlace old new → Opens m new boot x → Opens m old boot x
+  pub opens_kept : (old new : ShownSite C S B) (boot : Boot) (x : SiteState H C) → KeepsPlace old new → Opens m new boot x → Opens m old boot x
   opens_kept old new boot x place opens = record {
     is = record { f = opens.is.f ∙ place.f; me = opens.is.me ∙ place.me; start = opens.is.start ∙ ap m.start place.setup; right = opens.is.right };
     site = opens.site ∙ ap (λ f. opening_site f boot) place.f;
   }
 
-  module _ (old new : Shown C S B) (x : SiteState H C) (event : EventOf C R O) (shows : Shows m c old x) (place : KeepsPlace old new) where
+  module _ (old new : ShownSite C S B) (x : SiteState H C) (event : EventOf C R O) (shows : Shows m c old x) (place : KeepsPlace old new) where
     -- the replica's step is its site's
     step_is : step_in {R = R} {O = O} x event ≡ site_step x.choose old.f old.me (site_shown c.held old x.site.collected.acks) event
     step_is = λ i. site_step x.choose (shows.is.f i) (shows.is.me i) (shows.site i) event
@@ -86,7 +86,7 @@ module _ {H C R O S B : Type 0} (m : Ghosts H C R O S) (c : Cell B) where
       )
 
       -- the site fell after its step, as a copy was refused
-      pub fell_after : (now : Shown C S B) (cell : Boot) → now ≡ record new { volatile = lost } → cell ≡ c.held now.cell
+      pub fell_after : (now : ShownSite C S B) (cell : Boot) → now ≡ record new { volatile = lost } → cell ≡ c.held now.cell
           → Comes m x event (Fell NoMemory cell) × Shows m c now (after x event (Fell NoMemory cell))
       fell_after now cell fallen held =
           let d = does in
@@ -104,7 +104,7 @@ module _ {H C R O S B : Type 0} (m : Ghosts H C R O S) (c : Cell B) where
               is =
                   still old now (record x { site = over cell status.Down }) left
                   (record { f = shows.is.f; me = shows.is.me; start = shows.is.start; right = shows.is.right });
-              acks = subst (λ (v : Shown C S B). SumUp v.volatile.acked []) (sym fallen) none_summed;
+              acks = subst (λ (v : ShownSite C S B). SumUp v.volatile.acked []) (sym fallen) none_summed;
               site = ap (λ b. over b status.Down) last ∙ sym (ap (λ v. site_shown c.held v []) fallen);
             },
           )
@@ -143,7 +143,7 @@ module _ {H C R O S B : Type 0} (m : Ghosts H C R O S) (c : Cell B) where
           )
 
   -- a crash that is not refused is taken
-  no_crash : (old : Shown C S B) (event : EventOf C R O) (why : SiteFault)
+  no_crash : (old : ShownSite C S B) (event : EventOf C R O) (why : SiteFault)
       → (event ≡ Crash → old.volatile.status ≢ status.Down → IsOk {T = OutcomeOf C R O} (Err why))
       → None ≡ refusal old.f old.me (site_shown c.held old []) event → event ≢ Crash
   no_crash old event why taken allowed crash = absurd (true≢false (sym (taken crash up)))
@@ -155,7 +155,7 @@ module _ {H C R O S B : Type 0} (m : Ghosts H C R O S) (c : Cell B) where
       up down = none-some NotUp (sym at ∙ ap (λ (s : Status). if is_down s then Some NotUp else None) down)
 
   -- what a replica tells of its fall in place of an event is why it fell
-  pub fell_by_cause : (old new : Shown C S B) (event : EventOf C R O) (why : SiteFault) (told : Result (OutcomeOf C R O) SiteFault) → told ≡ Err why
+  pub fell_by_cause : (old new : ShownSite C S B) (event : EventOf C R O) (why : SiteFault) (told : Result (OutcomeOf C R O) SiteFault) → told ≡ Err why
       → KeepsPlace old new → Handles m c old new event (Err why)
       → None ≡ refusal old.f old.me (site_shown c.held old []) event
       → (event ≡ Crash → old.volatile.status ≢ status.Down → IsOk {T = OutcomeOf C R O} (Err why))
@@ -172,13 +172,13 @@ module _ {H C R O S B : Type 0} (m : Ghosts H C R O S) (c : Cell B) where
       same r a p q = cc
 
   -- so it is where it fell after its step, as something that it sent could not be copied
-  pub after_by_cause : (old mid new : Shown C S B) (event : EventOf C R O) (out : OutcomeOf C R O) → KeepsPlace old mid → Handles m c old mid event (Ok out)
+  pub after_by_cause : (old mid new : ShownSite C S B) (event : EventOf C R O) (out : OutcomeOf C R O) → KeepsPlace old mid → Handles m c old mid event (Ok out)
       → out.sent.items ≢ [] → new ≡ record mid { volatile = lost } → c.faults mid.cell ≡ c.faults old.cell
       → HasCause m c old new event NoMemory
   after_by_cause old mid new event out place handles some fallen counted = record {
     handled = λ x shows. handled x (does old mid x event shows place out handles);
     failed = λ is. absurd (cc);
-    counted = λ other. ap (λ (v : Shown C S B). c.faults v.cell) fallen ∙ counted;
+    counted = λ other. ap (λ (v : ShownSite C S B). c.faults v.cell) fallen ∙ counted;
   }
     where
       said : (x : SiteState H C) → Does m c old mid out (step_in x event) → IsSilent (step_in {R = R} {O = O} x event) → ⊥
@@ -196,7 +196,7 @@ module _ {H C R O S B : Type 0} (m : Ghosts H C R O S) (c : Cell B) where
       }
 
   -- a new replica shows the site that it opens as
-  pub opened : (v : Shown C S B) (boot : Boot) (x : SiteState H C) → SumUp v.volatile.acked [] → site_shown c.held v [] ≡ opening_site v.f boot
+  pub opened : (v : ShownSite C S B) (boot : Boot) (x : SiteState H C) → SumUp v.volatile.acked [] → site_shown c.held v [] ≡ opening_site v.f boot
       → Opens m v boot x → Shows m c v x
   opened v boot x summed site opens =
       let none : x.site.collected.acks ≡ [] = ap (λ y. y.collected.acks) (opens.site ∙ sym site) in

@@ -9,7 +9,7 @@ use Rattle.pvp_rooms.specs.declared.actor.Actor.{Ghosts}
 use Rattle.pvp_rooms.specs.Histories.{Takes, replay, AreSteps, IsRising, last_clock, stamp_clock}
 
 -- what a room shows: A is the type of actors, N that of their openings
-pub record Shown (N A E O : Type 0) : Type 0 where
+pub record ShownRoom (N A E O : Type 0) : Type 0 where
   pub opening : N
   pub actor : A
   pub clock : ℕ
@@ -23,7 +23,7 @@ IsReplayed m opening actor history =
     → AreSteps m.comes m.after history x × m.shows actor (replay m.after history x)
 
 -- what each room keeps: its actor is the replay of its history, and the clocks rise up to its own
-pub record IsRoom {A N E O : Type 0} (m : Ghosts A N E O) (room : Shown N A E O) : Type 0 where
+pub record IsRoom {A N E O : Type 0} (m : Ghosts A N E O) (room : ShownRoom N A E O) : Type 0 where
   pub replayed : IsReplayed m room.opening room.actor room.history
   pub rising : IsRising room.history 0
   pub last : last_clock room.history 0 ≡ room.clock
@@ -46,7 +46,7 @@ pub record Acted {A N E O : Type 0} (m : Ghosts A N E O) (old new : A) (event : 
   pub told : m.tells old new event outcome
 
 -- a room took an input
-pub record Took {A N E O : Type 0} (m : Ghosts A N E O) (input : Input E) (old new : Shown N A E O) (clock : ℕ)
+pub record Took {A N E O : Type 0} (m : Ghosts A N E O) (input : Input E) (old new : ShownRoom N A E O) (clock : ℕ)
     (outcome : O) : Type 0 where
   pub opening : new.opening ≡ old.opening
   pub next : clock_after old.clock input.stamp ≡ Some clock
@@ -55,7 +55,8 @@ pub record Took {A N E O : Type 0} (m : Ghosts A N E O) (input : Input E) (old n
   pub acted : Acted m old.actor new.actor input.event outcome
 
 -- WHAT AN ANSWER TELLS of a room before and after
-abbrev pub Told : {A N E O : Type 0} → Ghosts A N E O → Input E → Shown N A E O → Shown N A E O → Answer O → Type 0
+abbrev pub Told : {A N E O : Type 0} → Ghosts A N E O → Input E → ShownRoom N A E O → ShownRoom N A E O → Answer O
+    → Type 0
 Told m input old new (Done clock outcome) = Took m input old new clock outcome
 Told m input old new NoMemory = (new ≡ old) × IsSome (clock_after old.clock input.stamp)
 Told m input old new ClockSpent = (new ≡ old) × (clock_after old.clock input.stamp ≡ None)

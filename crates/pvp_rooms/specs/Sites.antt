@@ -17,7 +17,7 @@ use Rattle.vr_types.specs.Site.{Site, over, opening_site, boot_of}
 use Rattle.vr_types.specs.Step.{Step, Handled}
 use Rattle.vr_log.specs.Outcomes.{ended}
 use Rattle.vr_log.specs.Running.{SumUp}
-use Rattle.vr_site.specs.Replica.{Shown, site_shown}
+use Rattle.vr_site.specs.Replica.{ShownSite, site_shown}
 use Rattle.pvp_rooms.specs.declared.site.CameOf.{CameOf}
 use Rattle.pvp_rooms.specs.declared.site.CameOf.TheVariants.{Did, Refused, Fell}
 
@@ -53,20 +53,21 @@ after x event (Refused why) = x
 after x event (Fell why cell) = record x { site = over cell status.Down }
 
 -- the replica is this site of its group, over this start
-pub record IsSiteOf {H C R O S B : Type 0} (m : Ghosts H C R O S) (v : Shown C S B) (x : SiteState H C) : Type 0 where
+pub record IsSiteOf {H C R O S B : Type 0} (m : Ghosts H C R O S) (v : ShownSite C S B) (x : SiteState H C)
+    : Type 0 where
   pub f : x.f ≡ v.f
   pub me : x.me ≡ v.me
   pub start : x.start ≡ m.start v.setup
   pub right : IsRight x.f x.choose
 
 -- the replica opens as this site, over a cell that holds this
-pub record Opens {H C R O S B : Type 0} (m : Ghosts H C R O S) (v : Shown C S B) (boot : Boot) (x : SiteState H C)
+pub record Opens {H C R O S B : Type 0} (m : Ghosts H C R O S) (v : ShownSite C S B) (boot : Boot) (x : SiteState H C)
     : Type 0 where
   pub is : IsSiteOf m v x
   pub site : x.site ≡ opening_site v.f boot
 
 -- the replica shows this site: the acknowledgements that came sum up to the numbers that it keeps
-pub record Shows {H C R O S B : Type 0} (m : Ghosts H C R O S) (c : Cell B) (v : Shown C S B) (x : SiteState H C)
+pub record Shows {H C R O S B : Type 0} (m : Ghosts H C R O S) (c : Cell B) (v : ShownSite C S B) (x : SiteState H C)
     : Type 0 where
   pub is : IsSiteOf m v x
   pub acks : SumUp v.volatile.acked x.site.collected.acks
@@ -79,15 +80,15 @@ pub record IsHandled {H C R O : Type 0} (x : SiteState H C) (event : EventOf C R
 
 -- A FALL HAS ITS CAUSE: a crash fells no site, nor does an event that is dropped; that the cell did not save is told
 -- where a save failed, and only there
-pub record HasCause {H C R O S B : Type 0} (m : Ghosts H C R O S) (c : Cell B) (old new : Shown C S B)
+pub record HasCause {H C R O S B : Type 0} (m : Ghosts H C R O S) (c : Cell B) (old new : ShownSite C S B)
     (event : EventOf C R O) (why : SiteFault) : Type 0 where
   pub handled : (x : SiteState H C) → Shows m c old x → IsHandled x event
   pub failed : why ≡ CellFault → HasRisen (c.faults old.cell) (c.faults new.cell)
   pub counted : why ≢ CellFault → c.faults new.cell ≡ c.faults old.cell
 
 -- what is told of an event that came out so: a refusal changes nothing, and no save failed that is not told
-abbrev pub Tells : {H C R O S B : Type 0} → Ghosts H C R O S → Cell B → Shown C S B → Shown C S B → EventOf C R O
-    → CameOf C R O → Type 0
+abbrev pub Tells : {H C R O S B : Type 0} → Ghosts H C R O S → Cell B → ShownSite C S B → ShownSite C S B
+    → EventOf C R O → CameOf C R O → Type 0
 Tells m c old new event (Did sent dropped) = c.faults new.cell ≡ c.faults old.cell
 Tells m c old new event (Refused why) = new ≡ old
 Tells m c old new event (Fell why cell) = HasCause m c old new event why
@@ -102,7 +103,7 @@ Brings Restart = ⊥
 
 -- what the replica's reading calls show, but for its machine, is this site's: of what it knows each number, and a group
 -- has at most seven sites
-pub record Reads {H C S B : Type 0} (c : Cell B) (v : Shown C S B) (x : SiteState H C) : Type 0 where
+pub record Reads {H C S B : Type 0} (c : Cell B) (v : ShownSite C S B) (x : SiteState H C) : Type 0 where
   pub status : v.volatile.status ≡ x.site.status
   pub view : v.volatile.view ≡ x.site.view
   pub log : v.volatile.log ≡ x.site.log

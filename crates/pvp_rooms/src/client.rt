@@ -5,7 +5,7 @@ ghost use Rattle.pvp_rooms.specs.Closing.{fresh_seats};
 use crate::actor::Actor;
 use crate::cell::ActorCell;
 use crate::message::Copies;
-use crate::requests::{SentRoom, Told, refused};
+use crate::requests::{SentRoom, Told, refusal_copies};
 use crate::seat::Seat;
 use headline::{ClientEvent, ClientFault};
 use pvp_types::Setup;
@@ -13,7 +13,7 @@ use pvp_world::Client;
 use std::alloc::{AllocError, Global};
 
 impl Actor for Client {
-    ghost use Rattle.pvp_world.specs.Client.{Shown};
+    ghost use Rattle.pvp_world.specs.Client.{ShownClient};
     ghost use Rattle.pvp_rooms.specs.Histories.{Takes};
     ghost use Rattle.pvp_rooms.specs.Clients.{Opens, Comes, Reads, Tells, Brings, after};
 
@@ -24,7 +24,7 @@ impl Actor for Client {
 
     type Outcome = Told<ClientFault>;
 
-    ghost State = { Shown };
+    ghost State = { ShownClient };
 
     ghost opens = { λ v opening x. Opens v x };
 
@@ -45,9 +45,10 @@ impl Actor for Client {
         alloc: Global,
         event: ClientEvent,
     ) -> Result<Copies<Told<ClientFault>>, AllocError>
-        ensures step { IfOk result (λ copies. (x : Shown) → x ≡ self.old →
+        ensures step { IfOk result (λ copies. (x : ShownClient) → x ≡ self.old →
             Takes Comes after x event copies.answered (λ y. y ≡ self.new)) }
-        ensures opens { (opening : Unit {0}) (x : Shown) → Opens self.new x → Opens self.old x }
+        ensures opens { (opening : Unit {0}) (x : ShownClient) → Opens self.new x →
+            Opens self.old x }
         ensures recorded { IfOk result (λ copies. copies.recorded ≡ copies.answered) }
         ensures receipted { IfOk result (λ copies. copies.receipted ≡ copies.answered) }
         ensures err { OnErr result (self.new ≡ self.old) }
@@ -56,7 +57,7 @@ impl Actor for Client {
         let room = SentRoom::new(alloc, self.faults())?;
         Ok(match self.handle(alloc, event) {
             Ok(sent) => room.copies(alloc, sent),
-            Err(fault) => refused(fault),
+            Err(fault) => refusal_copies(fault),
         })
     }
 

@@ -6,7 +6,7 @@ ghost use Rattle.pvp_rooms.specs.Closing.{fresh_seats};
 use crate::actor::Actor;
 use crate::cell::ActorCell;
 use crate::message::Copies;
-use crate::requests::{SentRoom, Told, refused};
+use crate::requests::{SentRoom, Told, refusal_copies};
 use crate::seat::Seat;
 use pvp_book::node_of;
 use pvp_types::Setup;
@@ -14,7 +14,7 @@ use rtgs_node::{Node, NodeEvent, NodeFault};
 use std::alloc::{AllocError, Global};
 
 impl Actor for Node {
-    ghost use Rattle.rtgs_node.specs.Shown.{Shown};
+    ghost use Rattle.rtgs_node.specs.Shown.{ShownNode};
     ghost use Rattle.pvp_rooms.specs.Histories.{Takes};
     ghost use Rattle.pvp_rooms.specs.Nodes.{Opens, Comes, Reads, Tells, Brings, after};
 
@@ -25,7 +25,7 @@ impl Actor for Node {
 
     type Outcome = Told<NodeFault>;
 
-    ghost State = { Shown };
+    ghost State = { ShownNode };
 
     ghost opens = { λ v opening x. Opens v x };
 
@@ -46,9 +46,9 @@ impl Actor for Node {
         alloc: Global,
         event: NodeEvent,
     ) -> Result<Copies<Told<NodeFault>>, AllocError>
-        ensures step { IfOk result (λ copies. (x : Shown) → x ≡ self.old →
+        ensures step { IfOk result (λ copies. (x : ShownNode) → x ≡ self.old →
             Takes Comes after x event copies.answered (λ y. y ≡ self.new)) }
-        ensures opens { (opening : Unit {0}) (x : Shown) → Opens self.new x → Opens self.old x }
+        ensures opens { (opening : Unit {0}) (x : ShownNode) → Opens self.new x → Opens self.old x }
         ensures recorded { IfOk result (λ copies. copies.recorded ≡ copies.answered) }
         ensures receipted { IfOk result (λ copies. copies.receipted ≡ copies.answered) }
         ensures err { OnErr result (self.new ≡ self.old) }
@@ -57,7 +57,7 @@ impl Actor for Node {
         let room = SentRoom::new(alloc, self.setup().faults())?;
         Ok(match self.handle(event) {
             Ok(sent) => room.copies(alloc, sent),
-            Err(fault) => refused(fault),
+            Err(fault) => refusal_copies(fault),
         })
     }
 

@@ -50,7 +50,7 @@ impl SentRoom {
 }
 
 /// A refusal, three times.
-pub(crate) fn refused<F: Copy>(fault: F) -> Copies<Told<F>>
+pub(crate) fn refusal_copies<F: Copy>(fault: F) -> Copies<Told<F>>
     ensures answered { result.answered ≡ Err fault }
     ensures recorded { result.recorded ≡ Err fault }
     ensures receipted { result.receipted ≡ Err fault }

@@ -19,9 +19,9 @@ pub struct Room<A: Actor> {
 }
 
 impl<A: Actor> Model for Room<A> {
-    ghost use Rattle.pvp_rooms.specs.Rooms.{Shown, IsRoom};
+    ghost use Rattle.pvp_rooms.specs.Rooms.{ShownRoom, IsRoom};
 
-    ghost Value = { Shown A.Opening A A.Event A.Outcome };
+    ghost Value = { ShownRoom A.Opening A A.Event A.Outcome };
 
     ghost view = { λ a. record {
       opening = a.opening;

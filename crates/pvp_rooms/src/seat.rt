@@ -37,7 +37,7 @@ impl<E, O> Seat<E, O> {
     }
 
     /// A seat of this number at an actor that holds these receipts, as they stand in what the actor left.
-    pub fn holding(actor: u16, number: u16, receipts: Vec<Recorded<E, O>>) -> Self
+    pub fn with_receipts(actor: u16, number: u16, receipts: Vec<Recorded<E, O>>) -> Self
         ensures { result ≡ record { actor = actor; number = number; receipts = receipts.items } }
     {
         Seat {

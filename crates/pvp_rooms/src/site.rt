@@ -64,15 +64,15 @@ impl<M: Machine, C: BootCell> Actor for Replica<M, C> {
     /// Where a copy of what the site sent is refused after its step, the site falls.
     fn take(&mut self, alloc: Global, event: Event<M>) -> Result<Copies<Came<M>>, AllocError> {
         if let Some(why) = self.refuses(&event) {
-            return Ok(refused::<M>(why));
+            return Ok(refusal_copies::<M>(why));
         }
         match self.handle(alloc, event) {
-            Err(why) => Ok(fell::<M>(why, self.boot())),
-            Ok(out) => match did::<M>(alloc, out) {
+            Err(why) => Ok(fall_copies::<M>(why, self.boot())),
+            Ok(out) => match outcome_copies::<M>(alloc, out) {
                 Ok(copies) => Ok(copies),
                 Err(_) => {
                     self.fall();
-                    Ok(fell::<M>(SiteFault::NoMemory, self.boot()))
+                    Ok(fall_copies::<M>(SiteFault::NoMemory, self.boot()))
                 }
             },
         }
@@ -120,7 +120,7 @@ impl<M: Machine, C: BootCell> ActorCell<Replica<M, C>> {
 }
 
 /// What a step led to, three times. `Err` where memory is refused, which is asked for where something was sent alone.
-fn did<M: Machine>(alloc: Global, out: Outcome<M>) -> Result<Copies<Came<M>>, AllocError>
+fn outcome_copies<M: Machine>(alloc: Global, out: Outcome<M>) -> Result<Copies<Came<M>>, AllocError>
     ensures answered { IfOk result (λ copies. copies.answered
         ≡ CameOf.Did out.sent.items out.dropped) }
     ensures recorded { IfOk result (λ copies. copies.recorded ≡ copies.answered) }
@@ -156,7 +156,7 @@ fn copy_of<M: Machine>(alloc: Global, sent: &Sent<M>) -> Result<Sent<M>, AllocEr
 }
 
 /// A refusal, three times.
-fn refused<M: Machine>(why: SiteFault) -> Copies<Came<M>>
+fn refusal_copies<M: Machine>(why: SiteFault) -> Copies<Came<M>>
     ensures answered { result.answered ≡ CameOf.Refused why }
     ensures recorded { result.recorded ≡ result.answered }
     ensures receipted { result.receipted ≡ result.answered }
@@ -169,7 +169,7 @@ fn refused<M: Machine>(why: SiteFault) -> Copies<Came<M>>
 }
 
 /// A fall, three times.
-fn fell<M: Machine>(why: SiteFault, cell: Boot) -> Copies<Came<M>>
+fn fall_copies<M: Machine>(why: SiteFault, cell: Boot) -> Copies<Came<M>>
     ensures answered { result.answered ≡ CameOf.Fell why cell }
     ensures recorded { result.recorded ≡ result.answered }
     ensures receipted { result.receipted ≡ result.answered }

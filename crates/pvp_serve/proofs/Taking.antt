@@ -13,7 +13,7 @@ use Rattle.pvp_places.specs.declared.serving.ServeFault.TheVariants as serve
 use Rattle.pvp_places.specs.Told.{write_told}
 use Rattle.pvp_peers.specs.Puts.{Put}
 use Rattle.pvp_parties.specs.declared.party.PartyOutcome.{PartyOutcome}
-use Rattle.pvp_parties.specs.Parties.{sent}
+use Rattle.pvp_parties.specs.Parties.{sent_envelopes}
 use Rattle.pvp_logs.specs.declared.room.Letter.{Letter}
 use Rattle.pvp_serve.specs.Serving.{puts_in, IsRefused}
 
@@ -36,7 +36,7 @@ module _ {N A O L : Type 0} (stamp : Option Stamp) (old new : Option (Held N A O
 pub puts-append : (me : ℕ) (a b : List (Letter PartyOutcome)) → puts_in me (a ++ b) ≡ puts_in me a ++ puts_in me b
 puts-append me [] b = refl
 puts-append me (letter ∷ a) b =
-    ap (λ (l : List Put). let p : Put = record { actor = me; clock = letter.clock; sent = sent letter.outcome } in p ∷ l) (puts-append me a b)
+    ap (λ (l : List Put). let p : Put = record { actor = me; clock = letter.clock; sent = sent_envelopes letter.outcome } in p ∷ l) (puts-append me a b)
 
 -- a list that has no length is empty
 pub nothing-in : {A : Type 0} (xs : List A) → (length xs == 0) ≡ true → xs ≡ []

@@ -223,14 +223,14 @@ is_end _ = false
 
 -- WHAT A TERMINAL IS OWED once its actor heard something: a client that waits tells the answer that came, and a node's
 -- beat may say something again
-abbrev pub answered : ℕ → Option Reply → Bool → TerminalDesk → TerminalDesk
-answered number (Some reply) true desk = record desk { waits = false; ticks = 0; owes = Some (number, reply) }
-answered number (Some reply) false desk = desk
-answered number None waits desk = desk
+abbrev pub after_answer : ℕ → Option Reply → Bool → TerminalDesk → TerminalDesk
+after_answer number (Some reply) true desk = record desk { waits = false; ticks = 0; owes = Some (number, reply) }
+after_answer number (Some reply) false desk = desk
+after_answer number None waits desk = desk
 
 abbrev pub after_hearing : Option Request → TerminalDesk → TerminalDesk
 after_hearing None desk = record desk { waits = true }
-after_hearing (Some request) desk = answered request.number request.answer desk.waits desk
+after_hearing (Some request) desk = after_answer request.number request.answer desk.waits desk
 
 -- NOTHING IS LEFT to be done at a terminal: it has ended and the process is not to stay, no answer is awaited and no
 -- line waits

@@ -18,7 +18,7 @@ use Rattle.pvp_rooms.specs.Rooms.{clock_after}
 use Rattle.pvp_wire.specs.declared.stamped.Stamp.{Stamp}
 use Rattle.pvp_wire.specs.declared.stamped.Stamped.{Stamped}
 use Rattle.pvp_peers.specs.Puts.{Put}
-use Rattle.pvp_parties.specs.Parties.{delivered, sent}
+use Rattle.pvp_parties.specs.Parties.{delivery_event, sent_envelopes}
 use Rattle.pvp_parties.specs.declared.party.PartyOf.{PartyOf}
 use Rattle.pvp_parties.specs.declared.party.PartyOf.TheVariants as party
 use Rattle.pvp_parties.specs.declared.party.PartyEvent.{PartyEvent}
@@ -35,7 +35,7 @@ use Rattle.pvp_serve.specs.declared.serving.TheConstants.{HORIZON}
 
 -- an envelope that came, with its stamp
 abbrev pub input_of : Stamped → Input PartyEvent
-input_of stamped = record { event = delivered stamped.envelope; stamp = Some stamped.stamp }
+input_of stamped = record { event = delivery_event stamped.envelope; stamp = Some stamped.stamp }
 
 -- an event of the actor's own
 abbrev pub own_input : PartyEvent → Input PartyEvent
@@ -161,7 +161,7 @@ IsSafeIn seen synced syncs room = IsTrue syncs → OutlivesIn seen synced room
 
 -- an event sent something
 abbrev pub sends : Letter PartyOutcome → Bool
-sends letter = not (is_empty (sent letter.outcome))
+sends letter = not (is_empty (sent_envelopes letter.outcome))
 
 -- SOMETHING LEAVES: what happened is told, or an event sent something
 abbrev pub leaves : Bool → List (Letter PartyOutcome) → Bool
@@ -169,7 +169,8 @@ leaves is_told letters = is_told || list_any sends letters
 
 -- what these events of an actor sent, each at its clock
 abbrev pub puts_in : ℕ → List (Letter PartyOutcome) → List Put
-puts_in me letters = map (λ letter. record { actor = me; clock = letter.clock; sent = sent letter.outcome }) letters
+puts_in me letters =
+    map (λ letter. record { actor = me; clock = letter.clock; sent = sent_envelopes letter.outcome }) letters
 
 -- WHAT IS HANDED OUT: all that the events of a written batch sent, and nothing of a batch that was not written
 abbrev pub puts_of : ℕ → Result (Vec (Letter PartyOutcome)) ServeFault → List Put

@@ -23,8 +23,8 @@ use Rattle.pvp_serve.specs.declared.telling.Teller.{Teller}
 use Rattle.pvp_serve.specs.Telling.{ended_after, told_after, turned_away}
 
 -- what a site knows of time once a stream stands: beats are owed again
-abbrev pub met : Patience → Patience
-met patience = record patience { same = 0; ticks = RECOVERING_TICKS - 1 }
+abbrev pub after_meeting : Patience → Patience
+after_meeting patience = record patience { same = 0; ticks = RECOVERING_TICKS - 1 }
 
 -- and after a tick, if there is a site
 abbrev pub IsTickedIf : Option Look → Patience → Patience → Type 0
@@ -39,7 +39,7 @@ KnowsTime held sites me room lanes (Frame arrival) old new =
     new ≡ heard_from (serves_view sent.msg && is_primary (standing_in room) sites sent.from) old
 KnowsTime held sites me room lanes (Ping peer) old new =
     new ≡ heard_from (is_primary (standing_in room) sites peer) old
-KnowsTime held sites me room lanes (Came lane) old new = new ≡ met old
+KnowsTime held sites me room lanes (Came lane) old new = new ≡ after_meeting old
 KnowsTime held sites me room lanes (Gone peer stream end) old new =
     new ≡ missed_by (list_any (is_stream peer stream) lanes && is_primary (standing_in room) sites peer) old
 KnowsTime held sites me room lanes Tick old new = IsTickedIf (look_in held sites me room) old new
@@ -54,9 +54,9 @@ teller_after (Away why) lost teller = turned_away why teller
 teller_after _ lost teller = teller
 
 -- how an item went, whatever is answered
-abbrev pub went : {A : Type 0} → Result A ServeFault → Result (Unit {0}) ServeFault
-went (Ok answer) = Ok tt
-went (Err fault) = Err fault
+abbrev pub result_of_item : {A : Type 0} → Result A ServeFault → Result (Unit {0}) ServeFault
+result_of_item (Ok answer) = Ok tt
+result_of_item (Err fault) = Err fault
 
 module _ {N B O L : Type 0} (m : Ghosts (PartyOf B) N PartyEvent O) (texts : ℕ → Texts PartyEvent O)
     (seen : L → Option (List ℕ)) where
@@ -84,7 +84,7 @@ module _ {N B O L : Type 0} (m : Ghosts (PartyOf B) N PartyEvent O) (texts : ℕ
   -- terminal, or beyond it where it is to stay
   pub record SiteTakes (held : B → Boot) (me : ℕ) (lanes : List Lane) (lost : ℕ) (item : Inbox) (desk after : SiteDesk)
       (old new : Option (Held N (PartyOf B) O L)) (result : Result Bool ServeFault) : Type 0 where
-    pub takes : RoomTakes held desk.sites me desk.patience item old new (went result)
+    pub takes : RoomTakes held desk.sites me desk.patience item old new (result_of_item result)
     pub knows : KnowsTime held desk.sites me old lanes item desk.patience after.patience
     pub left : after
         ≡ record desk { patience = after.patience; teller = teller_after item lost desk.teller }

@@ -52,9 +52,9 @@ pub record IsAsItWas (desk after : TerminalDesk) : Type 0 where
   pub rest : after ≡ record desk { lines = after.lines }
 
 -- what a terminal is owed once an envelope came, unless it was refused
-abbrev pub heard : Result (Unit {0}) ServeFault → Option Request → TerminalDesk → TerminalDesk
-heard (Ok done) request desk = after_hearing request desk
-heard (Err fault) request desk = desk
+abbrev pub after_hearing_if : Result (Unit {0}) ServeFault → Option Request → TerminalDesk → TerminalDesk
+after_hearing_if (Ok done) request desk = after_hearing request desk
+after_hearing_if (Err fault) request desk = desk
 
 -- the room of an actor of the bank, where it is not gone
 abbrev pub RoomOf : Type 0 → Type 0 → Type 0 → Type 0

@@ -73,7 +73,7 @@ ghost use Rattle.pvp_serve.specs.Terminals.{
   Pays,
   TakesItem,
   asked_next,
-  heard,
+  after_hearing_if,
 };
 
 use crate::host::Host;
@@ -172,7 +172,7 @@ impl TerminalDesk {
     ) -> Result<(), ServeFault>
         ensures comes { Comes ⟦<PartyOf<C> as Actor>⟧ bank_texts L.seen arrival.stamped
             serving.old.room serving.new.room result }
-        ensures desk { self.new ≡ heard result (request_in serving.new.room) self.old }
+        ensures desk { self.new ≡ after_hearing_if result (request_in serving.new.room) self.old }
         ensures rest { serving.new ≡ record serving.old {
           room = serving.new.room;
           out = record serving.old.out {
@@ -183,7 +183,7 @@ impl TerminalDesk {
               serving.old.unbelieved;
         } }
     {
-        asks_next(serving, &arrival.stamped().envelope);
+        asks_next(serving, &arrival.stamped_envelope().envelope);
         serving.take_frame(rt.alloc(), arrival)?;
         self.hears(serving.request());
         Ok(())

@@ -23,7 +23,7 @@ const OWNERS: u32 = 0o600;
 const RUN_FILE: &str = "/proc/sys/kernel/random/boot_id";
 
 /// What a failed call on the folder means.
-fn told(failed: io::Error) -> ServeFault {
+fn io_fault(failed: io::Error) -> ServeFault {
     match failed.kind() {
         ErrorKind::OutOfMemory => ServeFault::NoMemory,
         _ => ServeFault::Folder(FolderWhy::Failed),
@@ -46,7 +46,7 @@ pub fn name_in(alloc: Global, folder: &str, name: &str) -> Result<String, ServeF
 /// is open.
 pub fn take_folder<R: Host>(rt: R, folder: &str) -> Result<File, ServeFault> {
     if let Err(failed) = fs::create_dir_all(&rt, folder) {
-        return Err(told(failed));
+        return Err(io_fault(failed));
     }
     let name = name_in(rt.alloc(), folder, "lock")?;
     let file = match OpenOptions::new()
@@ -55,7 +55,7 @@ pub fn take_folder<R: Host>(rt: R, folder: &str) -> Result<File, ServeFault> {
         .open(&rt, name.as_str())
     {
         Ok(file) => file,
-        Err(failed) => return Err(told(failed)),
+        Err(failed) => return Err(io_fault(failed)),
     };
     for _ in 0..LOCK_TRIES {
         if file.try_lock().is_ok() {
@@ -83,7 +83,7 @@ pub fn read_in<R: Host>(rt: R, folder: &str, name: &str) -> Result<Option<Vec<u8
     let name = name_in(rt.alloc(), folder, name)?;
     match bytes_of(rt, name.as_str()) {
         Ok(found) => Ok(found),
-        Err(failed) => Err(told(failed)),
+        Err(failed) => Err(io_fault(failed)),
     }
 }
 
@@ -103,7 +103,7 @@ pub fn put_in<R: Host>(rt: R, folder: &str, name: &str, bytes: &[u8]) -> Result<
     let fresh = format!(in alloc; "{}.new", name.as_str())?;
     match replace(rt, folder, name.as_str(), fresh.as_str(), bytes) {
         Ok(()) => Ok(()),
-        Err(failed) => Err(told(failed)),
+        Err(failed) => Err(io_fault(failed)),
     }
 }
 
@@ -125,7 +125,7 @@ pub fn open_journal<R: Host>(rt: R, folder: &str, kept: usize) -> Result<File, S
     let name = name_in(rt.alloc(), folder, "journal")?;
     match open_cut(rt, name.as_str(), kept as u64) {
         Ok(file) => Ok(file),
-        Err(failed) => Err(told(failed)),
+        Err(failed) => Err(io_fault(failed)),
     }
 }
 

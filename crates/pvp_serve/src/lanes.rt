@@ -279,20 +279,20 @@ impl Outgoing {
     /// The next frame; `None` once the lane is let go.
     pub fn next<R: Wires>(&self, rt: R) -> Option<Vec<u8>> {
         match self.from.recv(&rt) {
-            Ok(frame) => Some(self.taken(frame)),
+            Ok(frame) => Some(self.release_frame(frame)),
             Err(_) => None,
         }
     }
 
     /// The next frame, where one waits.
-    pub fn waiting<R: Wires>(&self, rt: R) -> Option<Vec<u8>> {
+    pub fn try_next<R: Wires>(&self, rt: R) -> Option<Vec<u8>> {
         match self.from.try_recv(&rt) {
-            Ok(frame) => Some(self.taken(frame)),
+            Ok(frame) => Some(self.release_frame(frame)),
             Err(_) => None,
         }
     }
 
-    fn taken(&self, frame: Vec<u8>) -> Vec<u8> {
+    fn release_frame(&self, frame: Vec<u8>) -> Vec<u8> {
         self.waiting.fetch_sub(frame.len() as u64, Ordering::SeqCst);
         frame
     }

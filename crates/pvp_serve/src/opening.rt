@@ -108,12 +108,12 @@ pub fn settle<R: Host, A: Journaled, L: Log>(
     opened: Result<JournalRoom<A, L>, ServeFault>,
 ) -> Result<JournalRoom<A, L>, ServeFault> {
     match opened?.flush(rt.alloc(), place.syncs) {
-        Ok((room, _letters)) => marked(rt, place, room),
+        Ok((room, _letters)) => mark_room(rt, place, room),
         Err(fault) => Err(log_fault(fault)),
     }
 }
 
-fn marked<R: Host, A: Journaled, L: Log>(
+fn mark_room<R: Host, A: Journaled, L: Log>(
     rt: R,
     place: &Place<'_>,
     room: JournalRoom<A, L>,
@@ -184,7 +184,7 @@ fn open_forgetful<R: Host>(
     let boot = cell.load();
     let (log, sum) = begin(rt, place, Some(boot))?;
     match new_site(alloc, place, site, MemCell::of(boot), log, sum) {
-        Ok(room) => restarted(restart(alloc, room, cell, WayBack::Restarts)),
+        Ok(room) => restart_result(restart(alloc, room, cell, WayBack::Restarts)),
         Err(fault) => Err(fault),
     }
 }
@@ -197,11 +197,11 @@ fn open_again<R: Host>(
     store: DirStore<R>,
 ) -> Result<Room<SiteCell<R>>, ServeFault> {
     let alloc = rt.alloc();
-    let bytes = untorn(alloc, bytes)?;
+    let bytes = drop_torn_record(alloc, bytes)?;
     let cell = FileCell::open(alloc, store)?;
     let is_whole = is_whole(rt, place.folder)?;
     match again(rt, place, bytes.as_slice()) {
-        Ok(room) => back(alloc, is_whole, room, cell),
+        Ok(room) => bring_back(alloc, is_whole, room, cell),
         Err(fault) => Err(fault),
     }
 }
@@ -212,12 +212,12 @@ fn open_same<R: Host>(
     place: &Place<'_>,
     bytes: Vec<u8>,
 ) -> Result<Room<MemCell>, ServeFault> {
-    let bytes = untorn(rt.alloc(), bytes)?;
-    trusted(rt, place, again(rt, place, bytes.as_slice()))
+    let bytes = drop_torn_record(rt.alloc(), bytes)?;
+    require_whole(rt, place, again(rt, place, bytes.as_slice()))
 }
 
 /// What was found in a folder, whose journal has to be whole.
-fn trusted<R: Host, T: Drop>(
+fn require_whole<R: Host, T: Drop>(
     rt: R,
     place: &Place<'_>,
     found: Result<T, ServeFault>,
@@ -230,20 +230,20 @@ fn trusted<R: Host, T: Drop>(
 }
 
 /// The way back of a site over its own cell. Where there is none, it is told of the cell.
-fn back<C: BootCell>(
+fn bring_back<C: BootCell>(
     alloc: Global,
     is_whole: bool,
     room: Room<MemCell>,
     cell: C,
 ) -> Result<Room<C>, ServeFault> {
     let held = cell.load();
-    let known = room.actor().held().unwrap_or(held);
+    let known = room.actor().held_boot().unwrap_or(held);
     let way = way_back(known, held, is_whole).unwrap_or(WayBack::Again);
-    restarted(restart(alloc, room, cell, way))
+    restart_result(restart(alloc, room, cell, way))
 }
 
 /// What came back, or why it does not, as that is told.
-fn restarted<T>(came: Result<T, RestartFault>) -> Result<T, ServeFault>
+fn restart_result<T>(came: Result<T, RestartFault>) -> Result<T, ServeFault>
     ensures { result ≡ came_back came }
 {
     match came {
@@ -329,7 +329,7 @@ fn begin<R: Host>(
 }
 
 /// The bytes of a journal without the record that was cut off at their end.
-fn untorn(alloc: Global, bytes: Vec<u8>) -> Result<Vec<u8>, ServeFault>
+fn drop_torn_record(alloc: Global, bytes: Vec<u8>) -> Result<Vec<u8>, ServeFault>
     ensures kept { IfOk result (λ kept. IsUntorn bytes.items kept.items) }
     ensures refused { IfErr result (λ fault. IsDamaged bytes.items fault) }
 {
@@ -457,7 +457,7 @@ fn other_again(
         return Err(ServeFault::Other(EvidenceWhy::Stranger));
     }
     let party = other_party(alloc, place)?;
-    replayed(replay(alloc, party, history))
+    replay_result(replay(alloc, party, history))
 }
 
 /// The site of a place after a history.
@@ -473,11 +473,11 @@ fn site_again(
         return Err(ServeFault::Other(EvidenceWhy::Stranger));
     };
     let party = site_party(alloc, place, site, MemCell::of(boot))?;
-    replayed(replay(alloc, party, history))
+    replay_result(replay(alloc, party, history))
 }
 
 /// The actor that took its history again, or why it did not, as that is told.
-fn replayed<T>(came: Result<Option<T>, AllocError>) -> Result<T, ServeFault>
+fn replay_result<T>(came: Result<Option<T>, AllocError>) -> Result<T, ServeFault>
     ensures { result ≡ came_again came }
 {
     match came {

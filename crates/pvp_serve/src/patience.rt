@@ -121,8 +121,8 @@ impl Patience {
         match look.status {
             Status::Down => Due::Restart,
             Status::Normal if look.is_primary => self.primary(look),
-            Status::Normal => self.waiting(is_out, Due::Nothing),
-            Status::Change => self.waiting(is_out, Due::Beat),
+            Status::Normal => self.timer_or(is_out, Due::Nothing),
+            Status::Change => self.timer_or(is_out, Due::Beat),
             Status::Recovering if self.ticks % RECOVERING_TICKS == 0 => Due::Beat,
             Status::Recovering => Due::Nothing,
         }
@@ -136,7 +136,7 @@ impl Patience {
     }
 
     /// Its timer, where it has waited long enough, and else this.
-    fn waiting(&mut self, is_out: bool, otherwise: Due) -> Due
+    fn timer_or(&mut self, is_out: bool, otherwise: Due) -> Due
         ensures due { result ≡ (if is_out then Due.Timer else otherwise) }
         ensures quiet { self.new ≡ record self.old {
           quiet = if is_out then 0

@@ -186,17 +186,17 @@ impl<C: BootCell, L: Log, O: Outbox + Drop> Serving<C, L, O> {
     }
 
     /// What waits for a flush, in order; nothing where the room is gone.
-    pub fn waiting(&self) -> &[Letter<PartyOutcome>]
+    pub fn waiting_letters(&self) -> &[Letter<PartyOutcome>]
         ensures { result.now ≡ waiting_in self.now.room }
     {
         match &self.room {
-            Some(room) => room.waiting(),
+            Some(room) => room.waiting_letters(),
             None => &[],
         }
     }
 
     /// How many frames were lost since their clocks were too far ahead.
-    pub fn unbelieved(&self) -> u64
+    pub fn unbelieved_count(&self) -> u64
         ensures { result ≡ self.now.unbelieved }
     {
         self.unbelieved
@@ -279,7 +279,7 @@ impl<C: BootCell, L: Log, O: Outbox + Drop> Serving<C, L, O> {
         ensures handed { Hears O.got self.old.out self.new.out (puts_of self.old.me result) }
         ensures rest { self.new ≡ record self.old { room = self.new.room; out = self.new.out } }
     {
-        let syncs = self.syncs && leaves(is_told, self.waiting());
+        let syncs = self.syncs && leaves(is_told, self.waiting_letters());
         let letters = write_in(&mut self.room, alloc, syncs)?;
         if letters.is_empty() {
             return Ok(letters);
@@ -294,7 +294,7 @@ impl<C: BootCell, L: Log, O: Outbox + Drop> Serving<C, L, O> {
         ensures rest { self.new ≡ record self.old { out = self.new.out } }
     {
         for letter in letters {
-            let sent = PartyOf::<C>::sent(&letter.outcome);
+            let sent = PartyOf::<C>::sent_envelopes(&letter.outcome);
             self.out.put(rt, alloc, self.me, letter.clock, sent);
         }
     }
@@ -394,5 +394,5 @@ fn send_any(letters: &[Letter<PartyOutcome>]) -> bool
 fn sends(letter: &Letter<PartyOutcome>) -> bool
     ensures { result ≡ sends letter.now }
 {
-    !Party::sent(&letter.outcome).is_empty()
+    !Party::sent_envelopes(&letter.outcome).is_empty()
 }

@@ -28,7 +28,7 @@ ghost use Rattle.pvp_serve.specs.Sites.{
   KnowsTime,
   RoomTakes,
   SiteTakes,
-  met,
+  after_meeting,
   teller_after,
 };
 ghost use Rattle.pvp_serve.specs.Telling.{fresh_teller, stood_after};
@@ -98,10 +98,10 @@ impl SiteDesk {
               serving.old.unbelieved;
         } }
     {
-        self.attends(serving.standing(), &arrival.stamped().envelope);
-        let (from, before) = (arrival.peer(), serving.waiting().len());
+        self.attends(serving.standing(), &arrival.stamped_envelope().envelope);
+        let (from, before) = (arrival.peer(), serving.waiting_letters().len());
         serving.take_frame(rt.alloc(), arrival)?;
-        if found_full(before, serving.waiting()) {
+        if found_full(before, serving.waiting_letters()) {
             serving.out().ping(&rt, rt.alloc(), from);
         }
         Ok(())
@@ -174,7 +174,7 @@ impl SiteDesk {
         };
         let due = self.patience.tick(look);
         if due == Due::Timer {
-            self.patience.draws(drawn(rt));
+            self.patience.draws(random_byte(rt));
         }
         do_due(rt, serving, due)
     }
@@ -201,7 +201,7 @@ impl SiteDesk {
         match item {
             Inbox::Frame(arrival) => self.take_frame(rt, serving, arrival),
             Inbox::Tick => {
-                self.teller.ticks(rt, serving.unbelieved());
+                self.teller.ticks(rt, serving.unbelieved_count());
                 self.tick(rt, serving)
             }
             Inbox::Came(lane) => self.meets(serving, lane),
@@ -249,7 +249,8 @@ impl SiteDesk {
             ≡ with_lane lane serving.old.out.all.items) }
         ensures refused { IfErr result (λ fault. (fault ≡ NoMemory) × (serving.new.out.all.items
             ≡ lanes_to_others lane.peer serving.old.out.all.items)) }
-        ensures patience { self.new ≡ record self.old { patience = met self.old.patience } }
+        ensures patience { self.new
+            ≡ record self.old { patience = after_meeting self.old.patience } }
         ensures serving { serving.new ≡ record serving.old { out = serving.new.out } }
     {
         self.patience.meets();
@@ -389,7 +390,7 @@ fn primary_of(view: u32, sites: u16) -> u16
 }
 
 /// A number from 0 to 255, drawn anew.
-fn drawn<R: Host>(rt: R) -> u8
+fn random_byte<R: Host>(rt: R) -> u8
     ensures { result < 256 }
 {
     let mut bytes = [0u8; 1];

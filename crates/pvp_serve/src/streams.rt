@@ -1,6 +1,6 @@
 //! A stream between two actors: one thread reads it, another writes it.
 ghost use Rattle.std.specs.Prelude.{◌≡◌, ◌++◌, OnOk, OnErr};
-ghost use Rattle.pvp_intake.specs.Sealing.{sealed};
+ghost use Rattle.pvp_intake.specs.Sealing.{sealed_text};
 ghost use Rattle.pvp_serve.specs.Lanes.{piece_text};
 
 use crate::host::Wires;
@@ -72,7 +72,7 @@ fn gather<R: Wires>(
         if bytes.len() >= MOST_BYTES {
             break;
         }
-        let Some(frame) = outgoing.waiting(rt) else {
+        let Some(frame) = outgoing.try_next(rt) else {
             break;
         };
         put(link, frame.as_slice(), bytes)?;
@@ -83,7 +83,7 @@ fn gather<R: Wires>(
 /// Puts a frame there, or a ping where it is empty.
 fn put(link: &Link, frame: &[u8], bytes: &mut Vec<u8>) -> Result<(), AllocError>
     ensures put { OnOk result (
-        bytes.new.items ≡ bytes.old.items ++ sealed link.now (piece_text frame.now)) }
+        bytes.new.items ≡ bytes.old.items ++ sealed_text link.now (piece_text frame.now)) }
     ensures refused { OnErr result (bytes.new.items ≡ bytes.old.items) }
 {
     if frame.is_empty() {

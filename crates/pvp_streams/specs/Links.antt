@@ -40,5 +40,5 @@ abbrev pub lists_of : {S : Type 0} → List (Sending S) → List (ℕ × List �
 lists_of sending = map (λ s. let pair : ℕ × List ℕ = (s.actor, goals_of s.streams.items) in pair) sending
 
 -- each of these actors, and those to which it may send
-abbrev pub wanted : List ℕ → List ℕ → List (ℕ × List ℕ)
-wanted actors senders = map (λ from. let pair : ℕ × List ℕ = (from, receivers actors from) in pair) senders
+abbrev pub wanted_lists : List ℕ → List ℕ → List (ℕ × List ℕ)
+wanted_lists actors senders = map (λ from. let pair : ℕ × List ℕ = (from, receivers actors from) in pair) senders

@@ -22,7 +22,7 @@ impl Frame {
         Some(Frame { stamped })
     }
 
-    pub fn stamped(&self) -> &Stamped
+    pub fn stamped_envelope(&self) -> &Stamped
         ensures is { result.now ≡ self.now.stamped }
         ensures spelled { is_wireable result.now ≡ true }
     {

@@ -8,7 +8,7 @@ use std::io::Write;
 
 /// A stream that is still open after some frames has taken all of them that are for its receiver, whole and in order, and
 /// nothing else, where at most one stream goes to each receiver.
-pub fn whole<W: Write>()
+pub fn frames_come_whole<W: Write>()
     ensures { (frames : List Stamped) (old new : List (Outgoing W)) (out : Outgoing W) →
         AreWritten (λ w. W.contents w) frames old new → HasOneEach old → Contains new out →
         HasTakenAll (λ w. W.contents w) frames old out }

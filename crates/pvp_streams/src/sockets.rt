@@ -1,6 +1,6 @@
 //! Streams between actors over the loopback of this machine.
 ghost use Rattle.std.specs.Prelude.{◌≡◌, ◌++◌, ◌∷◌, [], IfOk, OnOk};
-ghost use Rattle.pvp_streams.specs.Links.{talks, links, links_from, receivers, actors_of, ends_of, goals_of, lists_of, wanted};
+ghost use Rattle.pvp_streams.specs.Links.{talks, links, links_from, receivers, actors_of, ends_of, goals_of, lists_of, wanted_lists};
 
 use crate::writer::Outgoing;
 use std::alloc::{AllocFailed, Global};
@@ -112,7 +112,7 @@ pub fn connect_all<N: Net>(
     ensures incoming { IfOk result (λ made. ends_of made.incoming.items
         ≡ links actors.now actors.now) }
     ensures outgoing { IfOk result (λ made. lists_of made.outgoing.items
-        ≡ wanted actors.now actors.now) }
+        ≡ wanted_lists actors.now actors.now) }
 {
     let doors = open_doors(net, alloc, actors)?;
     let mut incoming = Vec::new(alloc);

@@ -88,7 +88,7 @@ impl<W: Write + Drop> Writer<W> {
         ensures { Writes (λ w. W.contents w) frame.now.stamped self.old.streams.items
             self.new.streams.items result }
     {
-        let stamped = frame.stamped();
+        let stamped = frame.stamped_envelope();
         let Some(at) = place_of(self.streams.as_slice(), stamped.envelope.to) else {
             return false;
         };

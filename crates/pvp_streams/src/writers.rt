@@ -29,7 +29,7 @@ pub struct Writers {
 impl Writers {
     /// How many frames were written so far, each to its end, whether or not its receiver took it. One that is written may
     /// not be counted yet.
-    pub fn written(&self) -> u64 {
+    pub fn written_count(&self) -> u64 {
         self.written.load(Ordering::SeqCst)
     }
 

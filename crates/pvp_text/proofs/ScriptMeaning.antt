@@ -13,8 +13,8 @@ use Rattle.pvp_text.specs.declared.script.table.Field.TheVariants as fields
 use Rattle.pvp_text.specs.Reading.{◌>>=◌}
 use Rattle.pvp_text.specs.declared.script.table.Word.{Word}
 use Rattle.pvp_text.specs.declared.script.table.Word.TheVariants as words
-use Rattle.pvp_text.specs.Script.{said_at, statement_of}
-use Rattle.pvp_text.specs.ScriptFields.{is_of_name, unknown_before, wrong_before, both, value_at, values_at, number_within, reference_at, actor_at, site_at, sender_of, client_of, currency_of, as_actor, as_currency, as_number, as_amount}
+use Rattle.pvp_text.specs.Script.{said_at, instruction_of, statement_of}
+use Rattle.pvp_text.specs.ScriptFields.{is_of_name, unknown_before, wrong_before, both, value_at, values_at, number_within, reference_at, actor_at, site_at, sender_of, client_of, currency_named, as_actor, as_currency, as_number, as_amount}
 use Rattle.pvp_text.specs.ScriptTable.{fields_of}
 use Rattle.pvp_text.specs.ScriptSaid.{is_of, AreOf, HaveTheirValues, MeanWhatTheySay}
 
@@ -40,7 +40,8 @@ value_is kind setup fields.Number word value is = said_of fields.Number values.N
 value_is kind setup fields.Turns word value is = said_of fields.Turns values.Number (λ n. refl) _ value is
 value_is kind setup fields.Sender word value is = said_then fields.Sender values.Actor (λ n. refl) (sender_of kind setup) (reference_at 65535 word) value is
 value_is kind setup fields.Client word value is = said_then fields.Client values.Actor (λ n. refl) _ (reference_at 65535 word) value is
-value_is kind setup fields.Currency word value is = said_then fields.Currency values.Currency (λ n. refl) (currency_of setup) (reference_at 255 word) value is
+value_is kind setup fields.Currency word value is =
+    said_then fields.Currency values.Currency (λ n. refl) (currency_named setup) (reference_at 255 word) value is
 value_is kind setup fields.Actor word value is = said_then fields.Actor values.Actor (λ n. refl) _ (actor_at word) value is
 value_is kind setup fields.Site word value is = said_of fields.Site values.Actor (λ n. refl) (site_at word) value is
 
@@ -140,7 +141,11 @@ same_like words.Crash one other is = cc
 same_like words.Restart one other is = cc
 same_like words.Deliver one other is = cc
 same_like words.Do one other is = cc
-same_like words.Instruct one other is = cc
+same_like words.Instruct one other is =
+    let sender : as_actor (said_at one 1) ≡ as_actor (said_at other 1) = cc in
+    let asked : instruction_of one ≡ instruction_of other = cc in
+    λ i. values.None ∷ values.Actor (sender i) ∷ values.None ∷ values.Number ((asked i).reference) ∷ values.Actor ((asked i).other)
+    ∷ values.Currency ((asked i).sell) ∷ values.Amount ((asked i).sell_amt) ∷ values.Currency ((asked i).buy) ∷ values.Amount ((asked i).buy_amt) ∷ []
 same_like words.Rescind one other is = cc
 same_like words.Settle one other is = cc
 same_like words.Fund one other is = cc

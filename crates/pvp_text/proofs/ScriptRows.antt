@@ -1,6 +1,7 @@
 -- What worked scripts say.
 use Rattle.std.proofs.Common.{◌≡◌, ℕ, List, [], ◌∷◌, ◌++◌, Result, Ok, Err, refl}
 use Rattle.std.specs.Prelude.{codes}
+use Rattle.pvp_types.proofs.Instructions.{instruction}
 use Rattle.pvp_types.specs.declared.command.Cmd.TheVariants.{Instruct, Rescind, Fund, Settle, PayOut, Paid, Returned}
 use Rattle.pvp_types.specs.declared.setup.Currency.{Currency}
 use Rattle.pvp_types.specs.declared.setup.Member.{Member}
@@ -47,7 +48,8 @@ returned = refl
 
 settled : script_at Book setup (codes "do ALFA instruct 1 BETA USD 1100 EUR 1000" ++ lf ++ codes "do BETA instruct 1 @1 EUR 1000 @1 1100" ++ lf
     ++ codes "do OP settle 10" ++ lf ++ codes "do ALFA rescind 1" ++ lf)
-    ≡ Ok (at 1 (Do (Submit 1 (Instruct 1 2 1 1100 0 1000))) ∷ at 2 (Do (Submit 2 (Instruct 1 1 0 1000 1 1100))) ∷ at 3 (Do (Submit 0 (Settle 10)))
+    ≡ Ok (at 1 (Do (Submit 1 (Instruct (instruction 1 2 1 1100 0 1000)))) ∷ at 2 (Do (Submit 2 (Instruct (instruction 1 1 0 1000 1 1100))))
+    ∷ at 3 (Do (Submit 0 (Settle 10)))
     ∷ at 4 (Do (Submit 1 (Rescind 1))) ∷ [])
 unfolding script_where lines_at line_at statement_at
 settled = refl
@@ -103,11 +105,11 @@ unfolding script_where lines_at line_at statement_at
 amount_before_name = refl
 
 -- the operator and a node are told by name wherever a client is, as the book refuses what they may not be
-operator_as_a_side : one (codes "do ALFA instruct 1 OP USD 1 EUR 1") ≡ Ok (at 1 (Do (Submit 1 (Instruct 1 0 1 1 0 1))) ∷ [])
+operator_as_a_side : one (codes "do ALFA instruct 1 OP USD 1 EUR 1") ≡ Ok (at 1 (Do (Submit 1 (Instruct (instruction 1 0 1 1 0 1)))) ∷ [])
 unfolding script_where lines_at line_at statement_at
 operator_as_a_side = refl
 
-node_as_a_side : one (codes "do ALFA instruct 1 USD USD 1 EUR 1") ≡ Ok (at 1 (Do (Submit 1 (Instruct 1 102 1 1 0 1))) ∷ [])
+node_as_a_side : one (codes "do ALFA instruct 1 USD USD 1 EUR 1") ≡ Ok (at 1 (Do (Submit 1 (Instruct (instruction 1 102 1 1 0 1)))) ∷ [])
 unfolding script_where lines_at line_at statement_at
 node_as_a_side = refl
 

@@ -8,7 +8,7 @@ use Rattle.pvp_text.specs.declared.script.fields.Value.{Value}
 use Rattle.pvp_text.specs.declared.script.fields.WordFault.{WordFault}
 use Rattle.pvp_text.specs.declared.script.table.Field.{Field}
 use Rattle.pvp_text.specs.Reading.{◌>>=◌}
-use Rattle.pvp_text.specs.ScriptFields.{is_of_name, unknown_before, wrong_before, both, value_at, values_at, graver}
+use Rattle.pvp_text.specs.ScriptFields.{is_of_name, unknown_before, wrong_before, both, value_at, values_at, graver_fault}
 
 -- what all words say, given those of the words so far, the gravest fault of these, and what the others say
 abbrev pub with_later : Option WordFault → List Value → Result (List Value) LineCode → Result (List Value) LineCode
@@ -45,7 +45,7 @@ both_wrong found later = elim (cases_Bool (is_of_name found)) [
 
 -- one word more that is wrong
 pub one_wrong : (fault : Option WordFault) (front : List Value) (found : WordFault) (later : Result (List Value) LineCode)
-    → with_later fault front (both (Err found) later) ≡ with_later (Some (graver fault found)) front later
+    → with_later fault front (both (Err found) later) ≡ with_later (Some (graver_fault fault found)) front later
 one_wrong None front found later = elim (cases_Bool (is_of_name found)) [
   | inl name ↦ rw name (none_before front later)
   | inr number ↦ rw number refl
@@ -67,6 +67,6 @@ goes_on kind setup field fields word said fault front value whole so_far is =
 pub goes_wrong : (kind : Kind) (setup : Setup) (field : Field) (fields : List Field) (word : List ℕ) (said : List (List ℕ)) (fault : Option WordFault)
     (front : List Value) (found : WordFault) (whole : Result (List Value) LineCode)
     → whole ≡ with_later fault front (values_at kind setup (field ∷ fields) (word ∷ said)) → value_at kind setup field word ≡ Err found
-    → whole ≡ with_later (Some (graver fault found)) front (values_at kind setup fields said)
+    → whole ≡ with_later (Some (graver_fault fault found)) front (values_at kind setup fields said)
 goes_wrong kind setup field fields word said fault front found whole so_far is =
     (rw is at so_far) ∙ one_wrong fault front found (values_at kind setup fields said)

@@ -7,7 +7,7 @@ use Rattle.pvp_types.specs.declared.step.Step.TheVariants.{Submit}
 use Rattle.pvp_types.specs.declared.setup.Member.{Member}
 use Rattle.pvp_types.specs.declared.command.Cmd.{Cmd}
 use Rattle.pvp_types.specs.Reply.{reply_text}
-use Rattle.pvp_book.specs.Ledger.{Ledger, opening, balance, figure, outstanding, pairs_in}
+use Rattle.pvp_book.specs.Ledger.{Ledger, opening, balance, figure, outstanding_orders, pairs_in}
 use Rattle.pvp_book.specs.declared.pair.PairState.TheVariants.{Unmatched, Matched, Settled, Rescinded}
 use Rattle.pvp_book.specs.Answer.{answer_to, after}
 use Rattle.std.specs.Global.{Vec}
@@ -53,7 +53,8 @@ figure_line indent held = indent ++ codes "figure" ++ figures_text held (length 
 
 -- how many orders are neither paid nor returned
 abbrev pub open_line : List ℕ → Ledger → List ℕ
-open_line indent held = indent ++ codes "open " ++ decimal (length (outstanding held.setup held.entries)) ++ codes "\n"
+open_line indent held =
+    indent ++ codes "open " ++ decimal (length (outstanding_orders held.setup held.entries)) ++ codes "\n"
 
 -- the block of a book, where each line begins with this indent
 abbrev pub block : List ℕ → Ledger → List ℕ

@@ -9,9 +9,9 @@ abbrev pub ◌>>=◌ : {A B E : Type 0} → Result A E → (A → Result B E) �
 
 -- Something is kept, which takes memory. Reading is told by what is read where no memory is refused (None), and by what
 -- is read where it is refused and this fault is told of it.
-abbrev pub kept : {A E : Type 0} → Option E → A → Result A E
-kept None x = Ok x
-kept (Some refusal) x = Err refusal
+abbrev pub value_or_refusal : {A E : Type 0} → Option E → A → Result A E
+value_or_refusal None x = Ok x
+value_or_refusal (Some refusal) x = Err refusal
 
 -- memory is refused: reading takes some before any other fault comes
 abbrev pub IsRefused : {A E : Type 0} → (E → Bool) → E → (Option E → Result A E) → Type 0

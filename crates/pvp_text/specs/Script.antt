@@ -2,6 +2,7 @@
 use Rattle.std.specs.Prelude.{ℕ, ◌+◌, ◌==◌, ◌&&◌, ◌||◌, Bool, true, false, not, List, [], ◌∷◌, ◌++◌, length, slice_index, slice_index_or, Option, Some, None, option_map, option_to_list, Result, Ok, Err, codes, nat_lt, nat_le, if◌then◌else◌}
 use Rattle.std.specs.Global.{Vec}
 use Rattle.std.specs.List.{list_all}
+use Rattle.pvp_types.specs.declared.command.Instruction.{Instruction}
 use Rattle.pvp_types.specs.declared.command.Cmd.{Cmd}
 use Rattle.pvp_types.specs.declared.command.Cmd.TheVariants.{Instruct, Rescind, Fund, Settle, PayOut, Paid, Returned}
 use Rattle.pvp_types.specs.declared.setup.Setup.{Setup}
@@ -30,6 +31,17 @@ use Rattle.pvp_text.specs.ScriptWords.{is_empty, lines, words}
 abbrev pub said_at : List Value → ℕ → Value
 said_at values place = slice_index_or values place Nothing
 
+-- what an instruction's line asks
+abbrev pub instruction_of : List Value → Instruction
+instruction_of values = record {
+  reference = as_number (said_at values 3);
+  other = as_actor (said_at values 4);
+  sell = as_currency (said_at values 5);
+  buy = as_currency (said_at values 7);
+  sell_amt = as_amount (said_at values 6);
+  buy_amt = as_amount (said_at values 8);
+}
+
 -- a command of the form of this word
 abbrev pub command_of : Word → List Value → Cmd
 command_of word.Rescind values = Rescind (as_number (said_at values 3))
@@ -40,9 +52,7 @@ command_of word.Fund values =
 command_of word.PayOut values = PayOut (as_currency (said_at values 3)) (as_amount (said_at values 4))
 command_of word.Paid values = Paid (as_currency (said_at values 3)) (as_number (said_at values 4))
 command_of word.Returned values = Returned (as_currency (said_at values 3)) (as_number (said_at values 4))
-command_of _ values =
-    Instruct (as_number (said_at values 3)) (as_actor (said_at values 4)) (as_currency (said_at values 5))
-    (as_amount (said_at values 6)) (as_currency (said_at values 7)) (as_amount (said_at values 8))
+command_of _ values = Instruct (instruction_of values)
 
 -- a step of the form of this word: what has none of its own tells a client's command
 abbrev pub step_of : Word → List Value → Step

@@ -130,16 +130,16 @@ no_sender kind setup name = if is_some (currency_number setup name) then OfNode 
 abbrev pub sender_of : Kind → Setup → Spelled → Result ℕ WordFault
 sender_of kind setup who = number_of (sender_number kind setup) (no_sender kind setup) who
 
-abbrev pub currency_of : Setup → Spelled → Result ℕ WordFault
-currency_of setup ccy = number_of (currency_number setup) (λ _. NoCurrency) ccy
+abbrev pub currency_named : Setup → Spelled → Result ℕ WordFault
+currency_named setup ccy = number_of (currency_number setup) (λ _. NoCurrency) ccy
 
 -- a reference of the code, without where it lies in memory
-abbrev pub spelled : Reference ℕ → Spelled
-spelled (references.Number n) = numbered n
-spelled (references.Name name) = named name.now
+abbrev pub spelling_of : Reference ℕ → Spelled
+spelling_of (references.Number n) = numbered n
+spelling_of (references.Name name) = named name.now
 
 abbrev pub spelled_in : Result (Reference ℕ) WordFault → Result Spelled WordFault
-spelled_in (Ok r) = Ok (spelled r)
+spelled_in (Ok r) = Ok (spelling_of r)
 spelled_in (Err fault) = Err fault
 
 -- ---- what the words of a line say
@@ -156,7 +156,7 @@ value_at kind setup fields.Sender word =
 value_at kind setup fields.Client word =
     reference_at 65535 word >>= λ who. client_of setup NoClient who >>= λ n. Ok (values.Actor n)
 value_at kind setup fields.Currency word =
-    reference_at 255 word >>= λ ccy. currency_of setup ccy >>= λ n. Ok (values.Currency n)
+    reference_at 255 word >>= λ ccy. currency_named setup ccy >>= λ n. Ok (values.Currency n)
 value_at kind setup fields.Actor word =
     actor_at word >>= λ who. client_of setup NoActor who >>= λ n. Ok (values.Actor n)
 value_at kind setup fields.Site word = site_at word >>= λ n. Ok (values.Actor n)
@@ -204,11 +204,11 @@ values_in (Ok found) = Ok found.items
 values_in (Err code) = Err code
 
 -- of two faults of a line's words a malformed number is told, wherever it stands
-abbrev pub graver : Option WordFault → WordFault → WordFault
-graver None found = found
-graver (Some before) found = if is_of_name before then found else before
+abbrev pub graver_fault : Option WordFault → WordFault → WordFault
+graver_fault None found = found
+graver_fault (Some before) found = if is_of_name before then found else before
 
 -- all values, where no word has a fault
-abbrev pub ended : Option WordFault → List Value → Result (List Value) LineCode
-ended None found = Ok found
-ended (Some fault) found = Err (code_of fault)
+abbrev pub values_or_fault : Option WordFault → List Value → Result (List Value) LineCode
+values_or_fault None found = Ok found
+values_or_fault (Some fault) found = Err (code_of fault)

@@ -126,8 +126,8 @@ kinds_text Live = codes "a live run"
 -- ---- the form of a line
 
 -- the first of some words that is written so
-abbrev pub written : List ℕ → List Word → Option Word
-written word words = find (λ one. bytes_eq word (text_of one)) words
+abbrev pub find_word : List ℕ → List Word → Option Word
+find_word word words = find (λ one. bytes_eq word (text_of one)) words
 
 -- the form that a command tells, where it is one
 abbrev pub told_by_command : Option Word → Form
@@ -136,7 +136,7 @@ told_by_command None = NoCommand
 
 -- `do`, who sends the command, and the command
 abbrev pub command_form : List (List ℕ) → Form
-command_form (who ∷ command ∷ fields) = told_by_command (written command commands)
+command_form (who ∷ command ∷ fields) = told_by_command (find_word command commands)
 command_form _ = TooFew
 
 -- the form that a first word tells, with what stands behind it
@@ -148,7 +148,7 @@ told_by_first None rest = NoLine
 -- THE FORM that the words of a line tell
 abbrev pub form_of : List (List ℕ) → Form
 form_of [] = TooFew
-form_of (first ∷ rest) = told_by_first (written first firsts) rest
+form_of (first ∷ rest) = told_by_first (find_word first firsts) rest
 
 -- what each word is to be, as far as the form is told
 abbrev pub form_fields : Form → List Field

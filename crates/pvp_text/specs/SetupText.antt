@@ -13,7 +13,7 @@ use Rattle.pvp_types.specs.declared.setup.SetupFault.{SetupFault}
 use Rattle.pvp_types.specs.Setup.{fault_of, rule_text}
 use Rattle.pvp_text.specs.declared.setup.TextFault.{TextFault}
 use Rattle.pvp_text.specs.declared.setup.TextFault.TheVariants.{NotJson, BadMember, NoMemory, BadSetup}
-use Rattle.pvp_text.specs.Reading.{◌>>=◌, kept}
+use Rattle.pvp_text.specs.Reading.{◌>>=◌, value_or_refusal}
 
 -- ---- what a part of the tree holds
 
@@ -22,33 +22,33 @@ abbrev pub Kind : Type 0 → Type 0
 Kind A = Option TextFault → Data → Result A TextFault
 
 -- what is there, or a bad member
-abbrev pub needed : {A : Type 0} → Option A → Result A TextFault
-needed held = ok_or held BadMember
+abbrev pub or_bad_member : {A : Type 0} → Option A → Result A TextFault
+or_bad_member held = ok_or held BadMember
 
 -- a number in digits alone, below 2 ^ 64
 abbrev pub number : Kind ℕ
-number refused d = needed (option_and_then as_u64 (as_number d))
+number refused d = or_bad_member (option_and_then as_u64 (as_number d))
 
 -- a string, which is kept
 abbrev pub text : Kind (List ℕ)
-text refused d = needed (as_str d) >>= kept refused
+text refused d = or_bad_member (as_str d) >>= value_or_refusal refused
 
 -- the items, each of which is of that kind and is kept
 abbrev pub each_of : {A : Type 0} → Kind A → Option TextFault → Items → Result (List A) TextFault
 each_of kind refused no_items = Ok []
 each_of kind refused (item d ds) = do
   x ← kind refused d
-  first ← kept refused x
+  first ← value_or_refusal refused x
   others ← each_of kind refused ds
   Ok (first ∷ others)
 
 -- an array, each of whose items is of that kind
 abbrev pub list : {A : Type 0} → Kind A → Kind (List A)
-list kind refused d = needed (as_array d) >>= each_of kind refused
+list kind refused d = or_bad_member (as_array d) >>= each_of kind refused
 
 -- an object's member of that name, which is of that kind. Its other members are ignored.
 abbrev pub member : {A : Type 0} → Kind A → List ℕ → Kind A
-member kind name refused d = needed (get name d) >>= kind refused
+member kind name refused d = or_bad_member (get name d) >>= kind refused
 
 unfoldable pub currency : Kind Currency
 currency refused d = do
@@ -75,14 +75,14 @@ setup refused d = do
 -- ---- the whole text
 
 -- memory is taken for any text but an empty one, whatever is wrong with it: more the JSON reader does not say
-abbrev pub taken : Option TextFault → List ℕ → Result (List ℕ) TextFault
-taken None bytes = Ok bytes
-taken (Some refusal) [] = Ok []
-taken (Some refusal) (b ∷ bytes) = Err refusal
+abbrev pub text_or_refusal : Option TextFault → List ℕ → Result (List ℕ) TextFault
+text_or_refusal None bytes = Ok bytes
+text_or_refusal (Some refusal) [] = Ok []
+text_or_refusal (Some refusal) (b ∷ bytes) = Err refusal
 
 -- the tree of a text that is JSON. Of a name that stands twice in an object it has the last value.
 abbrev pub tree : Option TextFault → List ℕ → Result Data TextFault
-tree refused bytes = taken refused bytes >>= λ text. ok_or (if is_utf8 text then read text else None) NotJson
+tree refused bytes = text_or_refusal refused bytes >>= λ text. ok_or (if is_utf8 text then read text else None) NotJson
 
 -- a setup, given the first rule that it breaks
 abbrev pub unless_broken : Option SetupFault → Setup → Result Setup TextFault

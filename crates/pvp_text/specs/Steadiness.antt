@@ -7,8 +7,8 @@ use Rattle.pvp_types.specs.declared.setup.Currency.{Currency}
 use Rattle.pvp_types.specs.declared.setup.Member.{Member}
 use Rattle.pvp_types.specs.declared.setup.Setup.{Setup}
 use Rattle.pvp_text.specs.declared.setup.TextFault.{TextFault}
-use Rattle.pvp_text.specs.Reading.{◌>>=◌, kept, IsSteady}
-use Rattle.pvp_text.specs.SetupText.{Kind, needed, number, text, each_of, list, member, currency, bank_member, setup}
+use Rattle.pvp_text.specs.Reading.{◌>>=◌, value_or_refusal, IsSteady}
+use Rattle.pvp_text.specs.SetupText.{Kind, or_bad_member, number, text, each_of, list, member, currency, bank_member, setup}
 
 -- a kind of part is read so
 abbrev pub IsSteadyKind : {A : Type 0} → Kind A → Type 0
@@ -38,7 +38,7 @@ steady-each : {A : Type 0} (kind : Kind A) → IsSteadyKind kind → (ds : Items
     → IsSteady (λ refused. each_of kind refused ds)
 steady-each kind h no_items = plain (Ok _)
 steady-each kind h (item d ds) =
-    steady-then (λ refused. kind refused d) (λ refused x. kept refused x >>= λ first.
+    steady-then (λ refused. kind refused d) (λ refused x. value_or_refusal refused x >>= λ first.
     each_of kind refused ds >>= λ others. Ok (first ∷ others))
     (h d) (λ x refusal. inr refl)
 
@@ -46,14 +46,18 @@ pub steady-number : IsSteadyKind number
 steady-number d = plain (number None d)
 
 pub steady-text : IsSteadyKind text
-steady-text d = steady-then (λ refused. needed (as_str d)) kept (plain (needed (as_str d))) (λ x refusal. inr refl)
+steady-text d =
+    steady-then (λ refused. or_bad_member (as_str d)) value_or_refusal
+    (plain (or_bad_member (as_str d))) (λ x refusal. inr refl)
 
 pub steady-list : {A : Type 0} (kind : Kind A) → IsSteadyKind kind → IsSteadyKind (list kind)
 steady-list kind h d =
-    steady-then (λ refused. needed (as_array d)) (each_of kind) (plain (needed (as_array d))) (steady-each kind h)
+    steady-then (λ refused. or_bad_member (as_array d)) (each_of kind)
+    (plain (or_bad_member (as_array d))) (steady-each kind h)
 
 pub steady-member : {A : Type 0} (kind : Kind A) (name : List ℕ) → IsSteadyKind kind → IsSteadyKind (member kind name)
-steady-member kind name h d = steady-then (λ refused. needed (get name d)) kind (plain (needed (get name d))) h
+steady-member kind name h d =
+    steady-then (λ refused. or_bad_member (get name d)) kind (plain (or_bad_member (get name d))) h
 
 -- a member, and what is read after it
 then_member : {A B : Type 0} (kind : Kind A) (name : List ℕ) (d : Data)

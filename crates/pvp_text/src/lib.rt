@@ -9,6 +9,6 @@ pub mod setup;
 pub use book::{RunFault, run_book};
 pub use script::{
     Field, Form, Kind, Kinds, Line, LineCode, LineFault, Row, Statement, Value, Word, WordFault,
-    amount, commands, cut, firsts, next_word, read_script, value_of,
+    amount, commands, cut, firsts, next_line, next_word, read_script, value_of,
 };
 pub use setup::{TextFault, read_parts, read_setup};

@@ -55,13 +55,12 @@ mod table;
 mod words;
 
 use crate::script::reading::read_line;
-use crate::script::words::next_line;
 pub use fields::{Value, WordFault, amount, value_of};
 use pvp_types::{Setup, Step};
 use std::alloc::{AllocFailed, Global};
 use std::fmt;
 pub use table::{Field, Form, Kinds, Row, Word, commands, firsts};
-pub use words::{cut, next_word};
+pub use words::{cut, next_line, next_word};
 
 /// What a script is run on, which decides what lines it may have.
 #[derive(Clone, Copy, Debug, PartialEq, Eq)]

@@ -9,7 +9,7 @@ use Rattle.vr_types.specs.declared.cell.Boot.{Boot}
 use Rattle.rtgs_node.specs.Node.{Envelope}
 use Rattle.headline.specs.declared.step.Move.{Move}
 use Rattle.headline.specs.declared.step.Move.TheVariants.{Takes, Falls}
-use Rattle.pvp_world.specs.World.{Shown}
+use Rattle.pvp_world.specs.World.{ShownWorld}
 use Rattle.pvp_world.specs.Steps.{Applies, is_world_fall}
 use Rattle.pvp_world.specs.declared.fault.WorldFault.{WorldFault}
 use Rattle.pvp_world.specs.declared.report.Report.{Report}
@@ -36,7 +36,7 @@ fell_by (Err fault) trail = if is_world_fall fault then cell_of (slice_get trail
 
 -- a step was tried in a world: it did with it what it does, and this is what came of it; was and now are where the site
 -- of the step stands in the world before and after it
-pub record Attempts {B : Type 0} (held : B → Boot) (old new : Shown B) (asked : Step) (a : Attempt) : Type 0 where
+pub record Attempts {B : Type 0} (held : B → Boot) (old new : ShownWorld B) (asked : Step) (a : Attempt) : Type 0 where
   pub step : a.step ≡ asked
   pub applies : Applies held old new asked a.result
   pub fell : a.fell ≡ fell_by a.result new.trail

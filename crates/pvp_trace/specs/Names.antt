@@ -7,11 +7,11 @@ use Rattle.vr_types.specs.declared.actors.ActorId.{ActorId}
 use Rattle.vr_types.specs.declared.actors.ActorId.TheVariants.{Client, Node, Site}
 
 -- what the setup has no name for
-abbrev pub numbered : ℕ → List ℕ
-numbered n = codes "@" ++ decimal n
+abbrev pub number_text : ℕ → List ℕ
+number_text n = codes "@" ++ decimal n
 
 abbrev pub currency_text : Setup → ℕ → List ℕ
-currency_text setup c = option_map_or (λ currency. currency.code) (slice_get setup.currencies c) (numbered c)
+currency_text setup c = option_map_or (λ currency. currency.code) (slice_get setup.currencies c) (number_text c)
 
 -- who an actor is, and another text where the setup has no such node or member
 abbrev pub name_text : Setup → List ℕ → ActorId → List ℕ
@@ -23,4 +23,4 @@ name_text setup other (Client client) =
 
 -- a site by its number, a node by its currency's code, a client by its name
 abbrev pub actor_text : Setup → ℕ → List ℕ
-actor_text setup actor = name_text setup (numbered actor) (id_of actor)
+actor_text setup actor = name_text setup (number_text actor) (id_of actor)

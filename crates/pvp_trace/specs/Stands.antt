@@ -6,21 +6,21 @@ use Rattle.pvp_types.specs.declared.step.Step.{Step}
 use Rattle.vr_types.specs.declared.event.Status.{Status}
 use Rattle.vr_types.specs.declared.event.Status.TheVariants.{Normal, Change, Recovering, Down}
 use Rattle.vr_types.specs.Site.{is_normal, is_change, is_recovering, is_down}
-use Rattle.vr_site.specs.Replica.{Shown as Replica}
+use Rattle.vr_site.specs.Replica.{ShownSite}
 use Rattle.rtgs_node.specs.Node.{Envelope}
 use Rattle.headline.specs.declared.step.Turn.{Turn}
 use Rattle.headline.specs.declared.step.Turn.TheVariants.{OfSite, OfNode, OfClient}
 use Rattle.headline.specs.Bank.{turn}
-use Rattle.pvp_world.specs.World.{Shown as World}
+use Rattle.pvp_world.specs.World.{ShownWorld}
 use Rattle.pvp_trace.specs.declared.stand.Stand.{Stand}
 
 -- WHERE A SITE STANDS, by its number
-abbrev pub stand_of : {B : Type 0} → ℕ → Replica Cmd Setup B → Stand
+abbrev pub stand_of : {B : Type 0} → ℕ → ShownSite Cmd Setup B → Stand
 stand_of i site =
     record { site = i; status = site.volatile.status; view = site.volatile.view; done = site.volatile.done }
 
 -- the site of a world that has this number, where there is one
-abbrev pub stand_at : {B : Type 0} → World B → ℕ → Option Stand
+abbrev pub stand_at : {B : Type 0} → ShownWorld B → ℕ → Option Stand
 stand_at world i = option_map (stand_of i) (slice_get world.sites i)
 
 -- THE SITE OF A STEP: whose turn it is

@@ -14,9 +14,10 @@ abbrev pub amount_text : Setup → ℕ → ℕ → List ℕ
 amount_text setup c amt = currency_text setup c ++ codes " " ++ decimal amt
 
 abbrev pub command_text : Setup → Cmd → List ℕ
-command_text setup (Instruct reference other sell sell_amt buy buy_amt) =
-    codes "instruct " ++ decimal reference ++ codes " " ++ actor_text setup other
-    ++ codes " " ++ amount_text setup sell sell_amt ++ codes " " ++ amount_text setup buy buy_amt
+command_text setup (Instruct asked) =
+    codes "instruct " ++ decimal asked.reference ++ codes " " ++ actor_text setup asked.other
+    ++ codes " " ++ amount_text setup asked.sell asked.sell_amt
+    ++ codes " " ++ amount_text setup asked.buy asked.buy_amt
 command_text setup (Rescind reference) = codes "rescind " ++ decimal reference
 command_text setup (Fund ccy pay member amt) =
     codes "fund " ++ amount_text setup ccy pay ++ codes " " ++ actor_text setup member ++ codes " " ++ decimal amt

@@ -14,20 +14,13 @@ pub fn push_command(text: &mut String, setup: &Setup, cmd: Cmd) -> Result<(), Al
         ++ command_text setup.now cmd) }
 {
     match cmd {
-        Cmd::Instruct {
-            reference,
-            other,
-            sell,
-            sell_amt,
-            buy,
-            buy_amt,
-        } => {
-            write!(text, "instruct {reference} ")?;
-            push_actor(text, setup, other)?;
+        Cmd::Instruct(asked) => {
+            write!(text, "instruct {} ", asked.reference)?;
+            push_actor(text, setup, asked.other)?;
             text.push_str(" ")?;
-            push_amount(text, setup, sell, sell_amt)?;
+            push_amount(text, setup, asked.sell, asked.sell_amt)?;
             text.push_str(" ")?;
-            push_amount(text, setup, buy, buy_amt)
+            push_amount(text, setup, asked.buy, asked.buy_amt)
         }
         Cmd::Rescind { reference } => write!(text, "rescind {reference}"),
         Cmd::Fund {

@@ -1,7 +1,7 @@
 -- Frames: what is taken is spelled so, and what is spelled so is read again, whatever follows it.
 use Rattle.std.proofs.Common.{◌≡◌, ℕ, Bool, ◌+◌, ◌<◌, ◌≤◌, ◌^◌, ◌==◌, ◌&&◌, true, false, not, nat_lt, nat_le, List, [], ◌∷◌, ◌++◌, length, take, drop, Result, Ok, Err, refl, sym, ap, subst, ◌∙◌, if◌then◌else◌, append_assoc, arith}
 use Rattle.std.specs.List.{list_all}
-use Rattle.std.proofs.lemmas.Bool.{ltb-false, le-ltb, le-leb, leb-true, eq-eqb, eqb-true}
+use Rattle.std.proofs.lemmas.Bool.{ltb-false, le-ltb, le-leb, eq-eqb, eqb-true}
 use Rattle.std.proofs.lemmas.List.{append-nil, length-drop, drop-append-le, take-append-le, take_at, take-append-drop, length-append, length-take}
 use Rattle.byteorder.specs.Endian.{big_number}
 use Rattle.byteorder.specs.Numbers.{big_from-append}
@@ -12,34 +12,25 @@ use Rattle.pvp_wire.specs.declared.fault.WireFault.{WireFault}
 use Rattle.pvp_wire.specs.declared.fault.WireFault.TheVariants.{Short, TooLong, Version, Kind, Length}
 use Rattle.pvp_wire.specs.declared.stamped.Stamp.{Stamp}
 use Rattle.pvp_wire.specs.declared.stamped.Stamped.{Stamped}
-use Rattle.pvp_wire.specs.Spelling.{number, version, kind, body, stamp, head, spelling, has_client, has_site_count, most_body, BankMsg}
-use Rattle.pvp_wire.specs.Fits.{IsBytes, Fits, StampFits, IsSpelled}
-use Rattle.pvp_wire.specs.Reading.{◌>>=◌, number_at, stamp_at, envelope_at, all_read, counted_at, frame_where, frame_at, most_length}
-use Rattle.pvp_wire.proofs.Formats.{IsBytes-rest, IsBytes-drop, IsBytes-take, TakesBy, IsFormat, bind_ok, guard_ok, guarded, wanted_ok, not-false, ok_is, fault_is, takes3, again3}
+use Rattle.pvp_wire.specs.Shape.{◌>>=◌, number, Fits, number_at, listed_at}
+use Rattle.pvp_wire.specs.Layout.{BankMsg, kind, body, stamp, message_at}
+use Rattle.pvp_wire.specs.Spelling.{version, head, spelling, has_client, has_site_count, most_body}
+use Rattle.pvp_wire.specs.Fits.{IsBytes, IsSpelled}
+use Rattle.pvp_wire.specs.Reading.{envelope_at, all_read, counted_at, frame_where, frame_at, most_length}
+use Rattle.pvp_wire.proofs.Formats.{IsBytes-rest, IsBytes-drop, IsBytes-take, Takes, Takes-then, TakesBy, bind_ok, guard_ok, guarded, wanted_ok, not-false, ok_is, fault_is}
 use Rattle.pvp_wire.proofs.Numbers.{length-number}
-use Rattle.pvp_wire.proofs.Parts.{n4, n8, both, parted, listed_format}
-use Rattle.pvp_wire.proofs.MessageFormats.{IsOfKind, message_format}
-use Rattle.pvp_wire.proofs.Lengths.{length-head, spelled-short}
-
-abbrev pub make_stamp : ℕ → ℕ → ℕ → Stamp
-make_stamp actor clock index = record { actor = actor; clock = clock; index = index }
-
-abbrev IsStamp : Stamp → Type 0
-IsStamp s = StampFits s × (is_actor s.actor ≡ true)
-
-stamp_format : IsFormat stamp IsStamp stamp_at
-unfolding stamp_at
-stamp_format = record {
-  takes = takes3 (listed_format 2 is_actor) n8 n4 make_stamp stamp IsStamp (λ a b c. refl) (λ a b c ha hb hc. ((ha.0, hb, hc), ha.1));
-  again = λ s rest h. again3 (listed_format 2 is_actor) n8 n4 make_stamp s.actor s.clock s.index rest (h.0.0, h.1) h.0.1 h.0.2;
-}
-
-abbrev pub make_stamped : Stamp → ℕ → BankMsg → Stamped
-make_stamped s to msg = record { stamp = s; envelope = record { from = s.actor; to = to; msg = msg } }
+use Rattle.pvp_wire.proofs.Parts.{n4, both, parted}
+use Rattle.pvp_wire.proofs.Shapes.{listed_right}
+use Rattle.pvp_wire.proofs.Layouts.{IsStamp, stamp_right}
+use Rattle.pvp_wire.proofs.MessageFormats.{IsOfKind, message_takes, message_of_kind}
+use Rattle.pvp_wire.proofs.Lengths.{admitted, length-head, spelled-short}
 
 -- what stands after the version and the kind
 abbrev inside : Stamped → List ℕ
-inside s = stamp s.stamp ++ number 2 s.envelope.to ++ body s.envelope.msg
+inside s = stamp.spell s.stamp ++ number 2 s.envelope.to ++ body s.envelope.msg
+
+abbrev pub stamped : Stamp → ℕ → BankMsg → Stamped
+stamped s to msg = record { stamp = s; envelope = record { from = s.actor; to = to; msg = msg } }
 
 -- what has a spelling, part by part
 record Parts (k : ℕ) (s : Stamped) : Type 0 where
@@ -68,17 +59,23 @@ part s h =
     let a = parted (s.envelope.from == s.stamp.actor) (is_actor s.stamp.actor && (is_actor s.envelope.to && is_admitted s.envelope.msg)) h.wireable in
     let b = parted (is_actor s.stamp.actor) (is_actor s.envelope.to && is_admitted s.envelope.msg) a.1 in
     let c = parted (is_actor s.envelope.to) (is_admitted s.envelope.msg) b.1 in
-    let d = parted (list_all has_client (rows_in s.envelope.msg)) (has_site_count (known_in s.envelope.msg)) c.1 in
-    record { stamp = (h.fits.0, b.0); to = (h.fits.1, c.0); msg = ((h.fits.2, (d.0, d.1)), refl); from = eqb-true s.envelope.from s.stamp.actor a.0 }
+    record { stamp = (h.fits.0, b.0); to = (h.fits.1, c.0); msg = ((h.fits.2, admitted s h.wireable), refl); from = eqb-true s.envelope.from s.stamp.actor a.0 }
 
-envelope-takes : (k : ℕ) → 1 ≤ k → k ≤ 13 → TakesBy inside (Parts k) (envelope_at false k)
+envelope-takes : (k : ℕ) → TakesBy inside (Parts k) (envelope_at false k)
 unfolding envelope_at
-envelope-takes k low high =
-    takes3 stamp_format (listed_format 2 is_actor) (message_format k low high) make_stamped inside (Parts k) (λ a b c. refl)
-    (λ a b c ha hb hc. record { stamp = ha; to = hb; msg = hc; from = refl })
-
-rebuilt : (s : Stamped) → s.envelope.from ≡ s.stamp.actor → make_stamped s.stamp s.envelope.to s.envelope.msg ≡ s
-rebuilt s e = ap (λ (from : ℕ). record { stamp = s.stamp; envelope = record { from = from; to = s.envelope.to; msg = s.envelope.msg } }) (sym e)
+envelope-takes k bytes s rest fits e =
+    let a =
+    bind_ok (stamp.read false bytes) (λ x. (listed_at 2 is_actor x.1 >>= λ y. (message_at false k y.1 >>= λ z. Ok (stamped x.0 y.0 z.0, z.1)))) (s, rest) e in
+    let ta = stamp_right.takes bytes a.0.0 a.0.1 fits a.1 in
+    let b = bind_ok (listed_at 2 is_actor a.0.1) (λ y. (message_at false k y.1 >>= λ z. Ok (stamped a.0.0 y.0 z.0, z.1))) (s, rest) a.2 in
+    let tb = (listed_right 2 is_actor).takes a.0.1 b.0.0 b.0.1 ta.0.rest_fits b.1 in
+    let c = bind_ok (message_at false k b.0.1) (λ z. Ok (stamped a.0.0 b.0.0 z.0, z.1)) (s, rest) b.2 in
+    let tc = message_takes k b.0.1 c.0.0 c.0.1 tb.0.rest_fits c.1 in
+    subst (λ (p : Stamped × List ℕ). Takes bytes (inside p.0) p.1 × Parts k p.0) (ok_is (stamped a.0.0 b.0.0 c.0.0, c.0.1) (s, rest) c.2) (
+      Takes-then bytes (stamp.spell a.0.0 ++ number 2 b.0.0) b.0.1 (body c.0.0) c.0.1
+          (Takes-then bytes (stamp.spell a.0.0) a.0.1 (number 2 b.0.0) b.0.1 ta.0 tb.0) tc.0,
+      record { stamp = ta.1; to = tb.1; msg = tc.1; from = refl },
+    )
 
 kinds : (m : BankMsg) → (1 ≤ kind m) × (kind m ≤ 13)
 kinds (Request msg) = (omega arith, omega arith)
@@ -99,10 +96,14 @@ envelope-again : (s : Stamped) (rest : List ℕ) → IsSpelled s → envelope_at
 unfolding envelope_at
 envelope-again s rest h =
     let p = part s h in
-    let b = kinds s.envelope.msg in
-    again3 stamp_format (listed_format 2 is_actor) (message_format (kind s.envelope.msg) b.0 b.1) make_stamped s.stamp s.envelope.to
-    s.envelope.msg rest p.stamp p.to p.msg
-    ∙ ap (λ (t : Stamped). Ok (t, rest)) (rebuilt s p.from)
+    let to = number 2 s.envelope.to in
+    let msg = body s.envelope.msg in
+    ap (envelope_at false (kind s.envelope.msg)) (append_assoc (stamp.spell s.stamp ++ to) msg rest ∙ append_assoc (stamp.spell s.stamp) to (msg ++ rest))
+    ∙ rw (
+      stamp_right.again s.stamp (to ++ (msg ++ rest)) p.stamp,
+      (listed_right 2 is_actor).again s.envelope.to (msg ++ rest) p.to,
+      message_of_kind (kind s.envelope.msg) s.envelope.msg rest p.msg,
+    ) (ap (λ (from : ℕ). Ok (record { stamp = s.stamp; envelope = record { from = from; to = s.envelope.to; msg = s.envelope.msg } }, rest)) (sym p.from))
 
 number-parts : (bytes : List ℕ) (n : ℕ) (rest : List ℕ) → number_at 4 bytes ≡ Ok (n, rest) → (big_number 4 bytes ≡ n) × (drop 4 bytes ≡ rest)
 number-parts bytes n rest e =
@@ -128,11 +129,8 @@ counted-takes (n ∷ k ∷ bytes) s fits e =
     let v = guarded (not (n == version)) Version (if not (nat_le 1 k && nat_le k 13) then Err Kind else (envelope_at false k bytes >>= all_read)) s e in
     let w = guarded (not (nat_le 1 k && nat_le k 13)) Kind (envelope_at false k bytes >>= all_read) s v.1 in
     let version-is : n ≡ version = eqb-true n version (not-false (n == version) v.0) in
-    let bounds = parted (nat_le 1 k) (nat_le k 13) (not-false (nat_le 1 k && nat_le k 13) w.0) in
-    let low : 1 ≤ k = leb-true 1 k bounds.0 in
-    let high : k ≤ 13 = leb-true k 13 bounds.1 in
     let m = bind_ok (envelope_at false k bytes) all_read s w.1 in
-    let t = envelope-takes k low high bytes m.0.0 m.0.1 (IsBytes-rest k bytes (IsBytes-rest n (k ∷ bytes) fits)) m.1 in
+    let t = envelope-takes k bytes m.0.0 m.0.1 (IsBytes-rest k bytes (IsBytes-rest n (k ∷ bytes) fits)) m.1 in
     let a = all_read-ok m.0 s m.2 in
     let text : bytes ≡ inside m.0.0 = t.0.parts ∙ ap (λ (x : List ℕ). inside m.0.0 ++ x) (no_bytes m.0.1 a.1) ∙ append-nil (inside m.0.0) in
     let whole : n ∷ k ∷ bytes ≡ head m.0.0 ++ body m.0.0.envelope.msg =

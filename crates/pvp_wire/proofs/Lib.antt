@@ -1,6 +1,8 @@
 pub mod Formats
 pub mod Loop
 pub mod Numbers
+pub mod Shapes
+pub mod Layouts
 pub mod Parts
 pub mod MessageFormats
 pub mod Lengths

@@ -3,7 +3,7 @@ use Rattle.std.proofs.Common.{◌≡◌, ◌⊎◌, inl, inr, true, false, ℕ, 
 use Rattle.std.proofs.lemmas.List.{append-nil}
 use Rattle.pvp_wire.specs.declared.fault.WireFault.{WireFault}
 use Rattle.pvp_wire.specs.declared.fault.WireFault.TheVariants.{NoMemory}
-use Rattle.pvp_wire.specs.Reading.{◌>>=◌, Reads, items_from}
+use Rattle.pvp_wire.specs.Shape.{◌>>=◌, Reads, items_from}
 
 -- what was read before, and what is still read
 abbrev pub with_front : {A : Type 0} → List A → Reads (List A) → Reads (List A)

@@ -4,9 +4,9 @@ use Rattle.std.proofs.Math.Seq.{take-add}
 use Rattle.std.proofs.lemmas.Grind.{flat_map-append}
 use Rattle.std.specs.List.{flat_map}
 use Rattle.vr_types.specs.Pages.{page_rows, as_page}
-use Rattle.pvp_wire.specs.Spelling.{row, BankRow}
+use Rattle.pvp_wire.specs.Layout.{row, BankRow}
 use Rattle.pvp_wire.specs.Pieces.{rows_at}
-use Rattle.pvp_wire.specs.Fits.{EachFits}
+use Rattle.pvp_wire.specs.Shape.{EachFits}
 
 -- a page that is lent has the rows that stand there
 pub lent-page : {X : Type 0} (found lent : List X) → Some lent ≡ as_page found → lent ≡ found
@@ -26,8 +26,8 @@ length-page-more rows page = ap (λ l. length l) (page-more rows page) ∙ lengt
 
 -- their bytes
 pub spelled-more : (rows : List BankRow) (page : ℕ)
-    → flat_map row (take (page_rows * (page + 1)) rows) ≡ flat_map row (take (page_rows * page) rows) ++ flat_map row (rows_at rows page)
-spelled-more rows page = ap (flat_map row) (page-more rows page) ∙ flat_map-append row (take (page_rows * page) rows) (rows_at rows page)
+    → flat_map row.spell (take (page_rows * (page + 1)) rows) ≡ flat_map row.spell (take (page_rows * page) rows) ++ flat_map row.spell (rows_at rows page)
+spelled-more rows page = ap (flat_map row.spell) (page-more rows page) ∙ flat_map-append row.spell (take (page_rows * page) rows) (rows_at rows page)
 
 pub EachFits-append : {A : Type 0} (ItemFits : A → Type 0) (xs ys : List A) → EachFits ItemFits xs → EachFits ItemFits ys → EachFits ItemFits (xs ++ ys)
 EachFits-append ItemFits [] ys each more = more

@@ -1,158 +1,27 @@
 -- Where reading takes memory: only where a row was read.
-use Rattle.std.proofs.Common.{◌≡◌, ◌≢◌, inl, inr, ℕ, zero, suc, ◌+◌, ◌<◌, ◌≤◌, ◌==◌, ◌&&◌, ◌||◌, Bool, true, false, not, nat_lt, nat_le, List, [], ◌∷◌, length, get_or, take, drop, Some, Result, Ok, Err, refl, sym, ap, ◌∙◌, subst, if◌then◌else◌, arith}
-use Rattle.std.proofs.lemmas.Bool.{ltb-false}
+use Rattle.std.proofs.Common.{◌≡◌, ◌≢◌, inr, ℕ, zero, suc, ◌+◌, ◌<◌, ◌≤◌, ◌==◌, ◌&&◌, Bool, true, false, not, nat_lt, nat_le, List, [], ◌∷◌, length, get_or, take, drop, Some, Result, Ok, Err, refl, sym, ap, ◌∙◌, subst, if◌then◌else◌, arith}
+use Rattle.std.proofs.lemmas.Bool.{ltb-false, eqb-true}
 use Rattle.std.proofs.lemmas.List.{get_or-drop, get_or-take}
 use Rattle.byteorder.specs.Endian.{big_number}
-use Rattle.pvp_types.specs.declared.command.Cmd.TheVariants.{Instruct, Rescind, Fund, Settle, PayOut, Paid, Returned}
-use Rattle.pvp_types.specs.declared.command.Reason.{Reason}
-use Rattle.pvp_types.specs.declared.command.Reply.TheVariants.{Settled, Order, No}
-use Rattle.vr_types.specs.declared.message.MsgOf.TheVariants.{PayOrder}
-use Rattle.vr_types.specs.Actors.{is_actor, is_client}
+use Rattle.vr_types.specs.declared.message.MsgOf.TheVariants.{Request, Prepare, PrepareOk, Commit, StartViewChange, DoViewChange, StartView, GetState, NewState, Recovery, RecoveryResponse, Reply, PayOrder}
+use Rattle.vr_types.specs.Actors.{is_actor}
 use Rattle.vr_types.specs.Messages.{rows_of_state}
 use Rattle.pvp_wire.specs.declared.fault.WireFault.{WireFault}
-use Rattle.pvp_wire.specs.declared.fault.WireFault.TheVariants.{Short, TooLong, Version, Kind, Field, Length, NoMemory}
+use Rattle.pvp_wire.specs.declared.fault.WireFault.TheVariants.{Short, TooLong, Version, Kind, Length, NoMemory}
 use Rattle.pvp_wire.specs.declared.stamped.Stamped.{Stamped}
-use Rattle.pvp_wire.specs.Spelling.{BankMsg, BankRow, version, is_site_count}
-use Rattle.pvp_wire.specs.Reading.{◌>>=◌, Reads, number_at, listed_at, instruct_at, command_at, reason_at, reply_at, order_at, row_at, items_from, rows_at, boots_at, state_at, option_at, view_and_place_at, request_at, prepare_at, start_view_change_at, do_view_change_at, start_view_at, new_state_at, recovery_response_at, answer_at, message_at, stamp_at, envelope_at, all_read, counted_at, frame_where, most_length, carries_a_list, HasARow, IsOfField, frame_at}
-use Rattle.pvp_wire.proofs.Formats.{failed, ok_is, fault_is, reads1, reads2, reads3, reads4, reads5}
-use Rattle.pvp_wire.proofs.Parts.{make_order, make_row}
-use Rattle.pvp_wire.proofs.MessageFormats.{make_state, make_pair, make_request, make_prepare, make_prepare_ok, make_commit, make_start_view_change, make_start_view, make_get_state, make_new_state, make_vote, make_recovery, make_response, make_answer}
-use Rattle.pvp_wire.proofs.Frames.{make_stamp, make_stamped, all_read-ok}
+use Rattle.pvp_wire.specs.Shape.{◌>>=◌, Reads, as_part, number_at, Shape, Chain, lastly, ◌of◌and◌, whole, listed_at, items_from}
+use Rattle.pvp_wire.specs.Layout.{BankMsg, BankRow, row, rows, state, option_at, state_option, do_view_change, start_view, new_state, recovery_response, message_at, stamp}
+use Rattle.pvp_wire.specs.Spelling.{version}
+use Rattle.pvp_wire.specs.Reading.{envelope_at, all_read, counted_at, frame_where, most_length, carries_a_list, HasARow, IsOfField, frame_at}
+use Rattle.pvp_wire.proofs.Formats.{failed, ok_is, fault_is}
+use Rattle.pvp_wire.proofs.Shapes.{elsewhere, then_fails, IsRight, listed_right, more-faults}
+use Rattle.pvp_wire.proofs.Layouts.{r2, r4, order_right, row_right, in_place_boots, stamp_right}
+use Rattle.pvp_wire.proofs.MessageFormats.{not_memory, request_right, prepare_right, view_right, start_view_change_right, answer_right, message_never}
+use Rattle.pvp_wire.proofs.Frames.{stamped, all_read-ok}
 
--- the same fault of another reading
-elsewhere : {A B : Type 0} (f g : WireFault) → failed {A = A} f ≡ failed {A = A} g → failed {A = B} f ≡ failed {A = B} g
-elsewhere {A} f g e = ap (λ (fault : WireFault). Err fault) (fault_is {A = A} f g e)
-
-not_memory : IsOfField NoMemory → ⊥
-not_memory (inl e) = absurd cc
-not_memory (inr e) = absurd cc
-
--- ---- reading that takes no memory and fails at fields alone
-
-record Only {A : Type 0} (read : Result A WireFault) : Type 0 where
-  faults : (fault : WireFault) → read ≡ Err fault → IsOfField fault
-
-only_put : {A : Type 0} (x : A) → Only {A = A} (Ok x)
-only_put x = record { faults = λ fault e. absurd cc }
-
-only_field : {A : Type 0} → Only {A = A} (Err Field)
-only_field {A} = record { faults = λ fault e. inl (sym (fault_is {A = A} Field fault e)) }
-
-only_length : {A : Type 0} → Only {A = A} (Err Length)
-only_length {A} = record { faults = λ fault e. inr (sym (fault_is {A = A} Length fault e)) }
-
-only_if : {A : Type 0} {x y : Result A WireFault} (b : Bool) → Only x → Only y → Only (if b then x else y)
-only_if true hx hy = hx
-only_if false hx hy = hy
-
-only_then : {A B : Type 0} (read : Reads A) (k : A × List ℕ → Reads B) → Only read → ((x : A × List ℕ) → Only (k x)) → Only (read >>= k)
-only_then (Ok x) k h hk = hk x
-only_then {A} {B} (Err d) k h hk = record { faults = λ fault e. h.faults fault (elsewhere {A = B × List ℕ} {B = A × List ℕ} d fault e) }
-
-abbrev OnlyFields : {A : Type 0} → (List ℕ → Reads A) → Type 0
-OnlyFields read = (bytes : List ℕ) → Only (read bytes)
-
-only1 : {A Z : Type 0} {ra : List ℕ → Reads A} → OnlyFields ra → (make : A → Z) → OnlyFields (reads1 ra make)
-only1 {A} {Z} {ra} ha make bytes = only_then (ra bytes) (λ xa. Ok (make xa.0, xa.1)) (ha bytes) (λ xa. only_put {A = Z × List ℕ} (make xa.0, xa.1))
-
-only2 : {A B Z : Type 0} {ra : List ℕ → Reads A} {rb : List ℕ → Reads B} → OnlyFields ra → OnlyFields rb → (make : A → B → Z) → OnlyFields (reads2 ra rb make)
-only2 {A} {B} {Z} {ra} {rb} ha hb make bytes = only_then (ra bytes) (λ xa. reads1 rb (make xa.0) xa.1) (ha bytes) (λ xa. only1 hb (make xa.0) xa.1)
-
-only3 : {A B C Z : Type 0} {ra : List ℕ → Reads A} {rb : List ℕ → Reads B} {rc : List ℕ → Reads C} → OnlyFields ra → OnlyFields rb → OnlyFields rc
-    → (make : A → B → C → Z) → OnlyFields (reads3 ra rb rc make)
-only3 {A} {B} {C} {Z} {ra} {rb} {rc} ha hb hc make bytes =
-    only_then (ra bytes) (λ xa. reads2 rb rc (make xa.0) xa.1) (ha bytes) (λ xa. only2 hb hc (make xa.0) xa.1)
-
-only4 : {A B C D Z : Type 0} {ra : List ℕ → Reads A} {rb : List ℕ → Reads B} {rc : List ℕ → Reads C} {rd : List ℕ → Reads D} → OnlyFields ra → OnlyFields rb
-    → OnlyFields rc → OnlyFields rd → (make : A → B → C → D → Z) → OnlyFields (reads4 ra rb rc rd make)
-only4 {A} {B} {C} {D} {Z} {ra} {rb} {rc} {rd} ha hb hc hd make bytes =
-    only_then (ra bytes) (λ xa. reads3 rb rc rd (make xa.0) xa.1) (ha bytes) (λ xa. only3 hb hc hd (make xa.0) xa.1)
-
-only5 : {A B C D E Z : Type 0} {ra : List ℕ → Reads A} {rb : List ℕ → Reads B} {rc : List ℕ → Reads C} {rd : List ℕ → Reads D} {re : List ℕ → Reads E}
-    → OnlyFields ra → OnlyFields rb → OnlyFields rc → OnlyFields rd → OnlyFields re → (make : A → B → C → D → E → Z) → OnlyFields (reads5 ra rb rc rd re make)
-only5 {A} {B} {C} {D} {E} {Z} {ra} {rb} {rc} {rd} {re} ha hb hc hd he make bytes =
-    only_then (ra bytes) (λ xa. reads4 rb rc rd re (make xa.0) xa.1) (ha bytes) (λ xa. only4 hb hc hd he (make xa.0) xa.1)
-
-number_only : (n : ℕ) → OnlyFields (number_at n)
-number_only n bytes = only_if (nat_lt (length bytes) n) only_length (only_put {A = ℕ × List ℕ} (big_number n bytes, drop n bytes))
-
-listed_only : (width : ℕ) (is_listed : ℕ → Bool) → OnlyFields (listed_at width is_listed)
-listed_only width is_listed bytes =
-    only_then (number_at width bytes) (λ n. if is_listed n.0 then Ok n else Err Field) (number_only width bytes)
-    (λ n. only_if (is_listed n.0) (only_put n) only_field)
-
-instruct_only : OnlyFields instruct_at
-instruct_only bytes =
-    only_then (number_at 4 bytes) (λ a. (number_at 2 a.1 >>= λ b. reads4 (number_at 1) (number_at 8) (number_at 1) (number_at 8) (Instruct a.0 b.0) b.1))
-    (number_only 4 bytes) (λ a.
-    only_then (number_at 2 a.1) (λ b. reads4 (number_at 1) (number_at 8) (number_at 1) (number_at 8) (Instruct a.0 b.0) b.1) (number_only 2 a.1) (λ b.
-    only4 (number_only 1) (number_only 8) (number_only 1) (number_only 8) (Instruct a.0 b.0) b.1))
-
-command_only : OnlyFields command_at
-unfolding command_at
-command_only [] = only_length
-command_only (tag ∷ bytes) =
-    only_if (tag == 1) (instruct_only bytes) (only_if (tag == 2) (only1 (number_only 4) Rescind bytes)
-    (only_if (tag == 3) (only4 (number_only 1) (number_only 4) (number_only 2) (number_only 8) Fund bytes)
-    (only_if (tag == 4) (only1 (number_only 4) Settle bytes)
-    (only_if (tag == 5) (only2 (number_only 1) (number_only 8) PayOut bytes) (only_if (tag == 6) (only2 (number_only 1) (number_only 4) Paid bytes)
-    (only_if (tag == 7) (only2 (number_only 1) (number_only 4) Returned bytes) only_field))))))
-
--- one of the reasons
-known : (why : Reason) (bytes : List ℕ) → Only {A = Reason × List ℕ} (Ok (why, bytes))
-known why bytes = only_put {A = Reason × List ℕ} (why, bytes)
-
-reason_only : OnlyFields reason_at
-reason_only [] = only_length
-reason_only (n ∷ bytes) =
-    only_if (n == 1) (known _ bytes)
-    (only_if (n == 2) (known _ bytes)
-    (only_if (n == 3) (known _ bytes) (only_if (n == 4) (known _ bytes) (only_if (n == 5) (known _ bytes) (only_if (n == 6) (known _ bytes)
-    (only_if (n == 7) (known _ bytes)
-    (only_if (n == 8) (known _ bytes)
-    (only_if (n == 9) (known _ bytes) (only_if (n == 10) (known _ bytes) (only_if (n == 11) (known _ bytes) only_field))))))))))
-
-reply_only : OnlyFields reply_at
-unfolding reply_at
-reply_only [] = only_length
-reply_only (tag ∷ bytes) =
-    only_if (tag == 1) (only_put _) (only_if (tag == 2) (only_put _) (only_if (tag == 3) (only1 (number_only 4) Settled bytes)
-    (only_if (tag == 4) (only1 (number_only 4) Order bytes) (only_if (tag == 5) (only1 reason_only No bytes) only_field))))
-
-order_only : OnlyFields order_at
-unfolding order_at
-order_only = only4 (number_only 1) (number_only 4) (number_only 2) (number_only 8) make_order
-
-row_only : OnlyFields row_at
-unfolding row_at
-row_only = only3 (listed_only 2 is_client) (number_only 4) command_only make_row
-
-more_only : {A : Type 0} (item_at : List ℕ → Reads A) → OnlyFields item_at → (count : ℕ) → OnlyFields (items_from item_at false count)
-unfolding items_from
-more_only {A} item_at h zero bytes = only_put {A = List A × List ℕ} ([], bytes)
-more_only item_at h (suc count) bytes =
-    only_then (item_at bytes) (λ x. reads1 (items_from item_at false count) (λ others. x.0 ∷ others) x.1) (h bytes)
-    (λ x. only1 (more_only item_at h count) (λ others. x.0 ∷ others) x.1)
-
-rows_only : OnlyFields (rows_at false)
-unfolding rows_at
-rows_only bytes = only_then (number_at 2 bytes) (λ n. items_from row_at false n.0 n.1) (number_only 2 bytes) (λ n. more_only row_at row_only n.0 n.1)
-
-boots_only : OnlyFields boots_at
-unfolding boots_at
-boots_only bytes =
-    only_then (listed_at 1 is_site_count bytes) (λ n. items_from (number_at 4) false n.0 n.1) (listed_only 1 is_site_count bytes)
-    (λ n. more_only (number_at 4) (number_only 4) n.0 n.1)
-
-option_only : OnlyFields (option_at false)
-unfolding option_at state_at
-option_only [] = only_length
-option_only (flag ∷ bytes) = only_if (flag == 0) (only_put _) (only_if (flag == 1) (only1 (only2 (number_only 2) rows_only make_state) Some bytes) only_field)
-
-pair_only : OnlyFields view_and_place_at
-pair_only = only2 (number_only 4) (number_only 2) make_pair
-
--- ---- what takes memory
+-- this reading fails at fields alone
+abbrev Only : {A : Type 0} → Result A WireFault → Type 0
+Only read = (fault : WireFault) → read ≡ Err fault → IsOfField fault
 
 -- where memory is refused, this is so, and with memory what is read has a property, or a field is at fault
 pub record Asked {A : Type 0} (So : Type 0) (Has : A → Type 0) (refused read : Result A WireFault) : Type 0 where
@@ -165,7 +34,7 @@ unasked : {A : Type 0} {So : Type 0} {Has : A → Type 0} {refused read : Result
 unasked never = record { kind = λ e. absurd (never e); found = λ x e same. absurd (never e); fault = λ f e same. absurd (never e) }
 
 asked_only : {A : Type 0} {So : Type 0} {Has : A → Type 0} {read : Result A WireFault} → Only read → Asked So Has read read
-asked_only h = unasked (λ e. not_memory (h.faults NoMemory e))
+asked_only h = unasked (λ e. not_memory NoMemory (h NoMemory e) refl)
 
 asked_if : {A : Type 0} {So : Type 0} {Has : A → Type 0} {x y x' y' : Result A WireFault} (b : Bool) → Asked So Has x x' → Asked So Has y y'
     → Asked So Has (if b then x else y) (if b then x' else y')
@@ -197,43 +66,36 @@ asked_map {A} {B} HasAfter (Err d) (Err g) make h keeps = record {
 asked_then : {A B : Type 0} {So : Type 0} {Has : B × List ℕ → Type 0} (read : Reads A) (kr k : A × List ℕ → Reads B) → Only read
     → ((x : A × List ℕ) → Asked So Has (kr x) (k x)) → Asked So Has (read >>= kr) (read >>= k)
 asked_then (Ok x) kr k h hk = hk x
-asked_then {A} {B} (Err d) kr k h hk = unasked (λ e. not_memory (h.faults NoMemory (elsewhere {A = B × List ℕ} {B = A × List ℕ} d NoMemory e)))
+asked_then {A} {B} (Err d) kr k h hk =
+    unasked (λ e. not_memory NoMemory (h NoMemory (elsewhere {A = B × List ℕ} {B = A × List ℕ} d NoMemory e)) refl)
 
-abbrev AskedFor : {A : Type 0} → Type 0 → (A → Type 0) → (List ℕ → Reads A) → (List ℕ → Reads A) → Type 0
-AskedFor So Has refused read = (bytes : List ℕ) → Asked So (λ x. Has x.0) (refused bytes) (read bytes)
+-- ---- shapes that take memory for what has a property, and the last part of others
 
-asked1 : {A Z : Type 0} {So : Type 0} {Has : A → Type 0} {r s : List ℕ → Reads A} (HasAfter : Z → Type 0) → AskedFor So Has r s → (make : A → Z)
-    → ((a : A) → Has a → HasAfter (make a)) → AskedFor So HasAfter (reads1 r make) (reads1 s make)
-asked1 {A} {Z} {So} {Has} {r} {s} HasAfter h make keeps bytes =
-    asked_map {B = Z × List ℕ} (λ z. HasAfter z.0) (r bytes) (s bytes) (λ x. (make x.0, x.1)) (h bytes) (λ x has. keeps x.0 has)
+record Asks {A : Type 0} (shape : Shape A) (Has : A → Type 0) : Type 0 where
+  asked : (bytes : List ℕ) → Asked (Unit {0}) (λ x. Has x.0) (shape.read true bytes) (shape.read false bytes)
 
-asked2 : {A B Z : Type 0} {So : Type 0} {Has : B → Type 0} {ra : List ℕ → Reads A} {r s : List ℕ → Reads B} (HasAfter : Z → Type 0) → OnlyFields ra
-    → AskedFor So Has r s → (make : A → B → Z) → ((a : A) (b : B) → Has b → HasAfter (make a b))
-    → AskedFor So HasAfter (reads2 ra r make) (reads2 ra s make)
-asked2 {A} {B} {Z} {So} {Has} {ra} {r} {s} HasAfter ha h make keeps bytes =
-    asked_then (ra bytes) (λ xa. reads1 r (make xa.0) xa.1) (λ xa. reads1 s (make xa.0) xa.1) (ha bytes) (λ xa. asked1 HasAfter h (make xa.0) (keeps xa.0) xa.1)
+record ChainAsks {Z Make : Type 0} (parts : Chain Z Make) (make : Make) (Has : Z → Type 0) : Type 0 where
+  asked : (bytes : List ℕ) → Asked (Unit {0}) (λ x. Has x.0) (parts.read make true bytes) (parts.read make false bytes)
 
-asked3 : {A B C Z : Type 0} {So : Type 0} {Has : C → Type 0} {ra : List ℕ → Reads A} {rb : List ℕ → Reads B} {r s : List ℕ → Reads C} (HasAfter : Z → Type 0)
-    → OnlyFields ra → OnlyFields rb → AskedFor So Has r s → (make : A → B → C → Z) → ((a : A) (b : B) (c : C) → Has c → HasAfter (make a b c))
-    → AskedFor So HasAfter (reads3 ra rb r make) (reads3 ra rb s make)
-asked3 {A} {B} {C} {Z} {So} {Has} {ra} {rb} {r} {s} HasAfter ha hb h make keeps bytes =
-    asked_then (ra bytes) (λ xa. reads2 rb r (make xa.0) xa.1) (λ xa. reads2 rb s (make xa.0) xa.1) (ha bytes)
-    (λ xa. asked2 HasAfter hb h (make xa.0) (keeps xa.0) xa.1)
+last_asks : {A Z : Type 0} {shape : Shape A} {Has : A → Type 0} {at : Z → A} {make : A → Z} {HasAfter : Z → Type 0} → Asks shape Has
+    → ((a : A) → Has a → HasAfter (make a)) → ChainAsks (lastly shape at) make HasAfter
+last_asks {A} {Z} {shape} {Has} {at} {make} {HasAfter} asks keeps = record {
+  asked = λ bytes. asked_map {B = Z × List ℕ} (λ z. HasAfter z.0) (shape.read true bytes) (shape.read false bytes) (λ x. (make x.0, x.1)) (asks.asked bytes)
+      (λ x has. keeps x.0 has);
+}
 
-asked4 : {A B C D Z : Type 0} {So : Type 0} {Has : D → Type 0} {ra : List ℕ → Reads A} {rb : List ℕ → Reads B} {rc : List ℕ → Reads C} {r s : List ℕ → Reads D}
-    (HasAfter : Z → Type 0) → OnlyFields ra → OnlyFields rb → OnlyFields rc → AskedFor So Has r s → (make : A → B → C → D → Z)
-    → ((a : A) (b : B) (c : C) (d : D) → Has d → HasAfter (make a b c d)) → AskedFor So HasAfter (reads4 ra rb rc r make) (reads4 ra rb rc s make)
-asked4 {A} {B} {C} {D} {Z} {So} {Has} {ra} {rb} {rc} {r} {s} HasAfter ha hb hc h make keeps bytes =
-    asked_then (ra bytes) (λ xa. reads3 rb rc r (make xa.0) xa.1) (λ xa. reads3 rb rc s (make xa.0) xa.1) (ha bytes)
-    (λ xa. asked3 HasAfter hb hc h (make xa.0) (keeps xa.0) xa.1)
+-- a part before, for which none is taken
+part_asks : {A Z Make : Type 0} {shape : Shape A} {Is : A → Type 0} {most : ℕ} {at : Z → A} {others : Chain Z Make} {make : A → Make} {Has : Z → Type 0}
+    → IsRight shape Is most → ((bytes : List ℕ) → shape.read true bytes ≡ shape.read false bytes) → ((a : A) → ChainAsks others (make a) Has)
+    → ChainAsks (◌of◌and◌ shape at others) make Has
+part_asks {A} {Z} {Make} {shape} {Is} {most} {at} {others} {make} {Has} right same asks = record {
+  asked = λ bytes. rw (same bytes)
+      (asked_then (shape.read false bytes) (λ x. others.read (make x.0) true x.1) (λ x. others.read (make x.0) false x.1) (right.faults bytes)
+      (λ x. (asks x.0).asked x.1));
+}
 
-asked5 : {A B C D E Z : Type 0} {So : Type 0} {Has : E → Type 0} {ra : List ℕ → Reads A} {rb : List ℕ → Reads B} {rc : List ℕ → Reads C} {rd : List ℕ → Reads D}
-    {r s : List ℕ → Reads E} (HasAfter : Z → Type 0) → OnlyFields ra → OnlyFields rb → OnlyFields rc → OnlyFields rd → AskedFor So Has r s
-    → (make : A → B → C → D → E → Z) → ((a : A) (b : B) (c : C) (d : D) (e : E) → Has e → HasAfter (make a b c d e))
-    → AskedFor So HasAfter (reads5 ra rb rc rd r make) (reads5 ra rb rc rd s make)
-asked5 {A} {B} {C} {D} {E} {Z} {So} {Has} {ra} {rb} {rc} {rd} {r} {s} HasAfter ha hb hc hd h make keeps bytes =
-    asked_then (ra bytes) (λ xa. reads4 rb rc rd r (make xa.0) xa.1) (λ xa. reads4 rb rc rd s (make xa.0) xa.1) (ha bytes)
-    (λ xa. asked4 HasAfter hb hc hd h (make xa.0) (keeps xa.0) xa.1)
+whole_asks : {Z Make : Type 0} {parts : Chain Z Make} {make : Make} {Has : Z → Type 0} → ChainAsks parts make Has → Asks (whole parts make) Has
+whole_asks asks = record { asked = asks.asked }
 
 -- ---- rows
 
@@ -250,132 +112,120 @@ first_row r (Ok x) h = record {
       absurd cc;
   fault = λ f e same. absurd cc;
 }
-first_row r (Err d) h = record { kind = λ e. tt; found = λ y e same. absurd cc; fault = λ f e same. h.faults f same }
+first_row r (Err d) h = record { kind = λ e. tt; found = λ y e same. absurd cc; fault = λ f e same. h f same }
 
-more_asked : (count : ℕ) → AskedFor (Unit {0}) SomeRows (items_from row_at true count) (items_from row_at false count)
+more_asked : (count : ℕ) (bytes : List ℕ)
+    → Asked (Unit {0}) (λ x. SomeRows x.0) (items_from (row.read false) true count bytes) (items_from (row.read false) false count bytes)
 unfolding items_from
 more_asked zero bytes = unasked (λ e. absurd cc)
 more_asked (suc count) bytes =
-    asked_then (row_at bytes) (λ r. Err NoMemory) (λ r. (items_from row_at false count r.1 >>= λ x. Ok (r.0 ∷ x.0, x.1))) (row_only bytes)
-    (λ r. first_row r.0 (items_from row_at false count r.1) (more_only row_at row_only count r.1))
+    asked_then (row.read false bytes) (λ r. Err NoMemory) (λ r. (items_from (row.read false) false count r.1 >>= λ x. Ok (r.0 ∷ x.0, x.1)))
+    (row_right.faults bytes) (λ r. first_row r.0 (items_from (row.read false) false count r.1) (more-faults row_right count r.1))
 
-rows_asked : AskedFor (Unit {0}) SomeRows (rows_at true) (rows_at false)
-unfolding rows_at
-rows_asked bytes =
-    asked_then (number_at 2 bytes) (λ n. items_from row_at true n.0 n.1) (λ n. items_from row_at false n.0 n.1) (number_only 2 bytes) (λ n. more_asked n.0 n.1)
+rows_asks : Asks rows SomeRows
+unfolding rows
+rows_asks = record {
+  asked = λ bytes.
+      asked_then (number_at 2 bytes) (λ n. items_from (row.read false) true n.0 n.1) (λ n. items_from (row.read false) false n.0 n.1)
+      (r2.faults bytes) (λ n. more_asked n.0 n.1);
+}
 
-state_asked : AskedFor (Unit {0}) (λ state. SomeRows state.rows) (state_at true) (state_at false)
-unfolding state_at
-state_asked = asked2 (λ state. SomeRows state.rows) (number_only 2) rows_asked make_state (λ done rows some. some)
+state_asks : Asks state (λ s. SomeRows s.rows)
+unfolding state
+state_asks = whole_asks (part_asks r2 (λ b. refl) (λ a. last_asks rows_asks (λ rows some. some)))
 
 -- a state is there, and has a row
-option_asked : AskedFor (Unit {0}) (λ state. SomeRows (rows_of_state state)) (option_at true) (option_at false)
+option_asks : Asks state_option (λ s. SomeRows (rows_of_state s))
 unfolding option_at
-option_asked [] = asked_only only_length
-option_asked (flag ∷ bytes) =
-    asked_if (flag == 0) (asked_only (only_put _))
-    (asked_if (flag == 1) (asked1 (λ state. SomeRows (rows_of_state state)) state_asked Some (λ state some. some) bytes) (asked_only only_field))
+option_asks = record { asked = by }
+  where
+    by : (bytes : List ℕ) → Asked (Unit {0}) (λ x. SomeRows (rows_of_state x.0)) (option_at true bytes) (option_at false bytes)
+    by [] = unasked (λ e. absurd cc)
+    by (flag ∷ bytes) =
+        asked_if (flag == 0) (unasked (λ e. absurd cc)) (asked_if (flag == 1)
+        (asked_map (λ x. SomeRows (rows_of_state x.0)) (state.read true bytes) (state.read false bytes) (λ s. (Some s.0, s.1)) (state_asks.asked bytes)
+        (λ s some. some)) (unasked (λ e. absurd cc)))
 
 -- ---- messages
 
-request_only : OnlyFields request_at
-unfolding request_at
-request_only = only2 (number_only 4) command_only make_request
+do_view_change_asks : Asks do_view_change (λ m. HasARow (DoViewChange m))
+unfolding do_view_change
+do_view_change_asks =
+    whole_asks (part_asks r4 (λ b. refl) (λ a. part_asks r4 (λ b. refl) (λ a. part_asks r2 (λ b. refl) (λ a. part_asks in_place_boots (λ b. refl) (λ a.
+    last_asks rows_asks (λ rows some. some))))))
 
-prepare_only : OnlyFields prepare_at
-unfolding prepare_at
-prepare_only = only4 (number_only 4) (number_only 2) (number_only 2) row_only make_prepare
+start_view_asks : Asks start_view (λ m. HasARow (StartView m))
+unfolding start_view
+start_view_asks = whole_asks (part_asks r4 (λ b. refl) (λ a. part_asks r2 (λ b. refl) (λ a. last_asks rows_asks (λ rows some. some))))
 
-answer_only : OnlyFields answer_at
-unfolding answer_at
-answer_only = only3 (number_only 4) (number_only 4) reply_only make_answer
+new_state_asks : Asks new_state (λ m. HasARow (NewState m))
+unfolding new_state
+new_state_asks =
+    whole_asks (part_asks r4 (λ b. refl) (λ a. part_asks r2 (λ b. refl) (λ a. part_asks r2 (λ b. refl) (λ a. last_asks rows_asks (λ rows some. some)))))
 
-start_view_change_only : OnlyFields start_view_change_at
-unfolding start_view_change_at
-start_view_change_only = only2 (number_only 4) boots_only make_start_view_change
+recovery_response_asks : Asks recovery_response (λ m. HasARow (RecoveryResponse m))
+unfolding recovery_response
+recovery_response_asks =
+    whole_asks (part_asks r4 (λ b. refl) (λ a. part_asks r4 (λ b. refl) (λ a. part_asks in_place_boots (λ b. refl) (λ a.
+    last_asks option_asks (λ s some. some)))))
 
-do_view_change_asked : AskedFor (Unit {0}) HasARow (do_view_change_at true) (do_view_change_at false)
-unfolding do_view_change_at
-do_view_change_asked =
-    asked5 HasARow (number_only 4) (number_only 4) (number_only 2) boots_only rows_asked make_vote (λ a b c d e some. some)
+-- the message of a kind takes memory so
+abbrev Asking : ℕ → Reads BankMsg → Reads BankMsg → Type 0
+Asking k refused read = Asked (carries_a_list k ≡ true) (λ x. HasARow x.0) refused read
 
-start_view_asked : AskedFor (Unit {0}) HasARow (start_view_at true) (start_view_at false)
-unfolding start_view_at
-start_view_asked = asked3 HasARow (number_only 4) (number_only 2) rows_asked make_start_view (λ a b c some. some)
+-- the case of this kind, or another
+choose : (k i : ℕ) {x y x' y' : Reads BankMsg} → Asking i x x' → Asking k y y' → Asking k (if k == i then x else y) (if k == i then x' else y')
+choose k i {x} {y} {x'} {y'} this other = by (k == i) (eqb-true k i)
+  where
+    by : (b : Bool) → (b ≡ true → k ≡ i) → Asking k (if b then x else y) (if b then x' else y')
+    by true same = subst (λ (j : ℕ). Asking j x x') (sym (same refl)) this
+    by false same = other
 
-new_state_asked : AskedFor (Unit {0}) HasARow (new_state_at true) (new_state_at false)
-unfolding new_state_at
-new_state_asked = asked4 HasARow (number_only 4) (number_only 2) (number_only 2) rows_asked make_new_state (λ a b c d some. some)
+-- one that takes none
+none : {A : Type 0} {shape : Shape A} {Is : A → Type 0} {most : ℕ} → IsRight shape Is most → (make : A → BankMsg) (k : ℕ) (bytes : List ℕ)
+    → Asking k (as_part make (shape.read false bytes)) (as_part make (shape.read false bytes))
+none {A} {shape} right make k bytes =
+    asked_only (λ fault e. then_fails IsOfField (shape.read false bytes) (λ x. Ok (make x.0, x.1)) fault (right.faults bytes) (λ x f ok. absurd cc) e)
 
-recovery_response_asked : AskedFor (Unit {0}) HasARow (recovery_response_at true) (recovery_response_at false)
-unfolding recovery_response_at
-recovery_response_asked =
-    asked4 HasARow (number_only 4) (number_only 4) boots_only option_asked make_response (λ a b c d some. some)
+-- one that takes some
+some : {A : Type 0} {shape : Shape A} {Has : A → Type 0} → Asks shape Has → (make : A → BankMsg) (k : ℕ) (bytes : List ℕ) → carries_a_list k ≡ true
+    → ((a : A) → Has a → HasARow (make a)) → Asking k (as_part make (shape.read true bytes)) (as_part make (shape.read false bytes))
+some {A} {shape} asks make k bytes carries has =
+    let asked =
+    asked_map {B = BankMsg × List ℕ} (λ x. HasARow x.0) (shape.read true bytes) (shape.read false bytes) (λ x. (make x.0, x.1)) (asks.asked bytes)
+    (λ x is. has x.0 is) in
+    record { kind = λ e. carries; found = asked.found; fault = asked.fault }
 
-fields_asked : (k : ℕ) → AskedFor (Unit {0}) HasARow (message_at true k) (message_at false k)
+message_asked : (k : ℕ) (bytes : List ℕ) → Asking k (message_at true k bytes) (message_at false k bytes)
 unfolding message_at
-fields_asked k bytes =
-    asked_if (k == 1) (asked_only (request_only bytes))
-    (asked_if (k == 2) (asked_only (prepare_only bytes)) (asked_if (k == 3) (asked_only (only1 pair_only make_prepare_ok bytes))
-    (asked_if (k == 4) (asked_only (only1 pair_only make_commit bytes)) (asked_if (k == 5) (asked_only (start_view_change_only bytes))
-    (asked_if (k == 6) (do_view_change_asked bytes) (asked_if (k == 7) (start_view_asked bytes)
-    (asked_if (k == 8) (asked_only (only1 pair_only make_get_state bytes))
-    (asked_if (k == 9) (new_state_asked bytes) (asked_if (k == 10) (asked_only (only1 (number_only 4) make_recovery bytes))
-    (asked_if (k == 11) (recovery_response_asked bytes)
-    (asked_if (k == 12) (asked_only (answer_only bytes))
-    (asked_if (k == 13) (asked_only (only1 order_only PayOrder bytes)) (unasked (λ e. absurd cc))))))))))))))
-
-quiet : {A : Type 0} {read : Result A WireFault} → Only read → read ≡ Err NoMemory → ⊥
-quiet h e = not_memory (h.faults NoMemory e)
-
-never_if : {A : Type 0} {x y : Result A WireFault} (b : Bool) → (b ≡ true → x ≡ Err NoMemory → ⊥) → (y ≡ Err NoMemory → ⊥) → (if b then x else y) ≡ Err NoMemory
-    → ⊥
-never_if true hx hy e = hx refl e
-never_if false hx hy e = hy e
-
-neither : (a b : Bool) → (a || b) ≡ false → (a ≡ false) × (b ≡ false)
-neither true b h = absurd cc
-neither false b h = (refl, h)
-
-differ : (b : Bool) → b ≡ false → b ≡ true → ⊥
-differ true none some = absurd cc
-differ false none some = absurd cc
-
--- the other kinds take no memory
-bare : (k : ℕ) (bytes : List ℕ) → carries_a_list k ≡ false → message_at true k bytes ≡ Err NoMemory → ⊥
-unfolding message_at
-bare k bytes none =
-    let a = neither (k == 6) ((k == 7) || ((k == 9) || (k == 11))) none in
-    let b = neither (k == 7) ((k == 9) || (k == 11)) a.1 in
-    let c = neither (k == 9) (k == 11) b.1 in
-    never_if (k == 1) (λ is. quiet (request_only bytes))
-    (never_if (k == 2) (λ is. quiet (prepare_only bytes)) (never_if (k == 3) (λ is. quiet (only1 pair_only make_prepare_ok bytes))
-    (never_if (k == 4) (λ is. quiet (only1 pair_only make_commit bytes)) (never_if (k == 5) (λ is. quiet (start_view_change_only bytes))
-    (never_if (k == 6) (λ is e. differ (k == 6) a.0 is)
-    (never_if (k == 7) (λ is e. differ (k == 7) b.0 is) (never_if (k == 8) (λ is. quiet (only1 pair_only make_get_state bytes))
-    (never_if (k == 9) (λ is e. differ (k == 9) c.0 is)
-    (never_if (k == 10) (λ is. quiet (only1 (number_only 4) make_recovery bytes)) (never_if (k == 11) (λ is e. differ (k == 11) c.1 is)
-    (never_if (k == 12) (λ is. quiet (answer_only bytes)) (never_if (k == 13) (λ is. quiet (only1 order_only PayOrder bytes)) (λ e. absurd cc)))))))))))))
-
-of_kind : (k : ℕ) (bytes : List ℕ) (b : Bool) → carries_a_list k ≡ b → message_at true k bytes ≡ Err NoMemory → b ≡ true
-of_kind k bytes true some e = refl
-of_kind k bytes false none e = absurd (bare k bytes none e)
-
-message_asked : (k : ℕ) → AskedFor (carries_a_list k ≡ true) HasARow (message_at true k) (message_at false k)
-message_asked k bytes = record { kind = of_kind k bytes (carries_a_list k) refl; found = (fields_asked k bytes).found; fault = (fields_asked k bytes).fault }
+message_asked k bytes =
+    choose k 1 (none request_right Request 1 bytes) (choose k 2 (none prepare_right Prepare 2 bytes)
+    (choose k 3 (none view_right (λ x. PrepareOk (record { view = x.0; place = x.1 })) 3 bytes)
+    (choose k 4 (none view_right (λ x. Commit (record { view = x.0; done = x.1 })) 4 bytes)
+    (choose k 5 (none start_view_change_right StartViewChange 5 bytes)
+    (choose k 6 (some do_view_change_asks DoViewChange 6 bytes refl (λ m is. is))
+    (choose k 7 (some start_view_asks StartView 7 bytes refl (λ m is. is))
+    (choose k 8 (none view_right (λ x. GetState (record { view = x.0; base = x.1 })) 8 bytes)
+    (choose k 9 (some new_state_asks NewState 9 bytes refl (λ m is. is))
+    (choose k 10 (none r4 (λ n. Recovery (record { nonce = n })) 10 bytes)
+    (choose k 11 (some recovery_response_asks RecoveryResponse 11 bytes refl (λ m is. is))
+    (choose k 12 (none answer_right Reply 12 bytes) (choose k 13 (none order_right PayOrder 13 bytes) (unasked (λ e. absurd cc))))))))))))))
 
 -- ---- frames
 
 abbrev pub HasIn : Stamped → Type 0
 HasIn s = HasARow s.envelope.msg
 
-stamp_only : OnlyFields stamp_at
-unfolding stamp_at
-stamp_only = only3 (listed_only 2 is_actor) (number_only 8) (number_only 4) make_stamp
-
-envelope_asked : (k : ℕ) → AskedFor (carries_a_list k ≡ true) HasIn (envelope_at true k) (envelope_at false k)
+envelope_asked : (k : ℕ) (bytes : List ℕ) → Asked (carries_a_list k ≡ true) (λ x. HasIn x.0) (envelope_at true k bytes) (envelope_at false k bytes)
 unfolding envelope_at
-envelope_asked k = asked3 HasIn stamp_only (listed_only 2 is_actor) (message_asked k) make_stamped (λ a b c some. some)
+envelope_asked k bytes =
+    asked_then (stamp.read false bytes)
+    (λ a. (listed_at 2 is_actor a.1 >>= λ b. (message_at true k b.1 >>= λ c. Ok (stamped a.0 b.0 c.0, c.1))))
+    (λ a. (listed_at 2 is_actor a.1 >>= λ b. (message_at false k b.1 >>= λ c. Ok (stamped a.0 b.0 c.0, c.1)))) (stamp_right.faults bytes) (λ a.
+    asked_then (listed_at 2 is_actor a.1) (λ b. (message_at true k b.1 >>= λ c. Ok (stamped a.0 b.0 c.0, c.1)))
+    (λ b. (message_at false k b.1 >>= λ c. Ok (stamped a.0 b.0 c.0, c.1))) ((listed_right 2 is_actor).faults a.1) (λ b.
+    asked_map {B = Stamped × List ℕ} (λ x. HasIn x.0) (message_at true k b.1) (message_at false k b.1) (λ c. (stamped a.0 b.0 c.0, c.1))
+    (message_asked k b.1) (λ c is. is)))
 
 unrefused : (b : Bool) (s : Stamped) → (if b then Ok s else failed {A = Stamped} Length) ≡ Err NoMemory → ⊥
 unrefused true s e = absurd cc
@@ -429,31 +279,24 @@ frame_asked bytes =
 
 -- ---- reading where memory is not refused never tells that it was
 
+never_if : {A : Type 0} {x y : Result A WireFault} (b : Bool) → (b ≡ true → x ≡ Err NoMemory → ⊥) → (y ≡ Err NoMemory → ⊥) → (if b then x else y) ≡ Err NoMemory
+    → ⊥
+never_if true hx hy e = hx refl e
+never_if false hx hy e = hy e
+
 never_then : {A B : Type 0} (read : Result A WireFault) (k : A → Result B WireFault) → (read ≡ Err NoMemory → ⊥) → ((x : A) → k x ≡ Err NoMemory → ⊥)
     → (read >>= k) ≡ Err NoMemory → ⊥
 never_then (Ok x) k h hk e = hk x e
 never_then {A} {B} (Err d) k h hk e = h (elsewhere {A = B} {B = A} d NoMemory e)
 
-message_never : (k : ℕ) (bytes : List ℕ) → message_at false k bytes ≡ Err NoMemory → ⊥
-unfolding message_at do_view_change_at start_view_at new_state_at recovery_response_at
-message_never k bytes =
-    never_if (k == 1) (λ is. quiet (request_only bytes))
-    (never_if (k == 2) (λ is. quiet (prepare_only bytes)) (never_if (k == 3) (λ is. quiet (only1 pair_only make_prepare_ok bytes))
-    (never_if (k == 4) (λ is. quiet (only1 pair_only make_commit bytes)) (never_if (k == 5) (λ is. quiet (start_view_change_only bytes))
-    (never_if (k == 6) (λ is. quiet (only5 (number_only 4) (number_only 4) (number_only 2) boots_only rows_only make_vote bytes))
-    (never_if (k == 7) (λ is. quiet (only3 (number_only 4) (number_only 2) rows_only make_start_view bytes))
-    (never_if (k == 8) (λ is. quiet (only1 pair_only make_get_state bytes))
-    (never_if (k == 9) (λ is. quiet (only4 (number_only 4) (number_only 2) (number_only 2) rows_only make_new_state bytes))
-    (never_if (k == 10) (λ is. quiet (only1 (number_only 4) make_recovery bytes))
-    (never_if (k == 11) (λ is. quiet (only4 (number_only 4) (number_only 4) boots_only option_only make_response bytes))
-    (never_if (k == 12) (λ is. quiet (answer_only bytes)) (never_if (k == 13) (λ is. quiet (only1 order_only PayOrder bytes)) (λ e. absurd cc)))))))))))))
-
 envelope_never : (k : ℕ) (bytes : List ℕ) → envelope_at false k bytes ≡ Err NoMemory → ⊥
 unfolding envelope_at
 envelope_never k bytes =
-    never_then (stamp_at bytes) (λ a. reads2 (listed_at 2 is_actor) (message_at false k) (make_stamped a.0) a.1) (quiet (stamp_only bytes)) (λ a.
-    never_then (listed_at 2 is_actor a.1) (λ b. reads1 (message_at false k) (make_stamped a.0 b.0) b.1) (quiet (listed_only 2 is_actor a.1)) (λ b.
-    never_then (message_at false k b.1) (λ c. Ok (make_stamped a.0 b.0 c.0, c.1)) (message_never k b.1) (λ c e. absurd cc)))
+    never_then (stamp.read false bytes) (λ a. (listed_at 2 is_actor a.1 >>= λ b. (message_at false k b.1 >>= λ c. Ok (stamped a.0 b.0 c.0, c.1))))
+    (λ e. not_memory NoMemory (stamp_right.faults bytes NoMemory e) refl) (λ a.
+    never_then (listed_at 2 is_actor a.1) (λ b. (message_at false k b.1 >>= λ c. Ok (stamped a.0 b.0 c.0, c.1)))
+    (λ e. not_memory NoMemory ((listed_right 2 is_actor).faults a.1 NoMemory e) refl) (λ b.
+    never_then (message_at false k b.1) (λ c. Ok (stamped a.0 b.0 c.0, c.1)) (message_never k b.1) (λ c e. absurd cc)))
 
 counted_never : (bytes : List ℕ) → counted_at false bytes ≡ Err NoMemory → ⊥
 unfolding counted_at

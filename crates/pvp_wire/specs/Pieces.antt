@@ -6,8 +6,7 @@ use Rattle.vr_types.specs.declared.message.MsgOf.TheVariants.{DoViewChange, Star
 use Rattle.vr_types.specs.declared.message.StateOf.{StateOf}
 use Rattle.vr_types.specs.Pages.{page_rows}
 use Rattle.pvp_types.specs.declared.command.Cmd.{Cmd}
-use Rattle.pvp_wire.specs.Spelling.{BankMsg, BankRow, row}
-use Rattle.pvp_wire.specs.Fits.{RowsFit}
+use Rattle.pvp_wire.specs.Layout.{BankMsg, BankRow, row, rows}
 
 -- the rows of a state, where there is one
 abbrev pub rows_of : Option (StateOf Cmd) → Option (List BankRow)
@@ -25,7 +24,7 @@ last_rows _ = None
 -- their bytes
 abbrev pub spelled : Option (List BankRow) → List ℕ
 spelled None = []
-spelled (Some log) = flat_map row log
+spelled (Some log) = flat_map row.spell log
 
 -- the rows of a page, counted from 0; none behind the last one
 abbrev pub rows_at : List BankRow → ℕ → List BankRow
@@ -34,7 +33,7 @@ rows_at rows page = take page_rows (drop (page_rows * page) rows)
 -- they fit
 abbrev pub LastFits : Option (List BankRow) → Type 0
 LastFits None = Unit {0}
-LastFits (Some log) = RowsFit log
+LastFits (Some log) = rows.Fits log
 
 -- how many bytes a piece has room for
 abbrev pub room : ℕ

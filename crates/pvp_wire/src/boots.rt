@@ -1,7 +1,9 @@
 //! What a sender knew of the sites' boots.
 ghost use Rattle.std.specs.Prelude.{◌≤◌, false};
 ghost use Rattle.vr_types.specs.declared.limits.TheConstants.{MOST_SITES};
-ghost use Rattle.pvp_wire.specs.Reading.{Finds, number_at, items_from, boots_at};
+ghost use Rattle.pvp_wire.specs.Shape.{number_at, items_from};
+ghost use Rattle.pvp_wire.specs.Layout as layout;
+ghost use Rattle.pvp_wire.specs.Reading.{Finds};
 
 use crate::fault::WireFault;
 use crate::fields::{site_count_at, u32_at};
@@ -23,9 +25,9 @@ fn boots_from(count: u8, bytes: &[u8]) -> Result<(Known, &[u8]), WireFault>
 }
 
 /// Of how many sites the boots are told, and the boot number of each. It takes no memory.
-#[tactic(auto, unfolding(crate::specs::Reading::boots_at))]
+#[tactic(auto, unfolding(crate::specs::Layout::boots))]
 pub fn boots_at(bytes: &[u8]) -> Result<(Known, &[u8]), WireFault>
-    ensures { Finds (λ x. (x.0, x.1.now)) result (boots_at bytes.now) }
+    ensures { Finds (λ x. (x.0, x.1.now)) result (layout.boots.read false bytes.now) }
 {
     let (count, rest) = site_count_at(bytes)?;
     boots_from(count, rest)

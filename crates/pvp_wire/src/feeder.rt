@@ -125,8 +125,8 @@ fn keep_frame(alloc: Global, bytes: &[u8], frames: &mut Vec<Stamped>) -> Result<
     }
 }
 
-/// Drops so many bytes from the front, and moves each of the others once.
-fn drop_front(held: &mut Vec<u8>, used: usize)
+/// Drops so many bytes from the front, and moves each of the others once. It takes no memory.
+pub fn drop_front(held: &mut Vec<u8>, used: usize)
     requires { used ≤ length held.old.items }
     ensures { held.new.items ≡ drop used held.old.items }
 {

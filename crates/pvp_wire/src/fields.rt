@@ -1,17 +1,21 @@
 //! Fields that take no memory: each is read from the front of the bytes, and answered with the bytes after it.
-ghost use Rattle.std.specs.Prelude.{◌≡◌, ◌≤◌, IfOk};
+ghost use Rattle.std.specs.Prelude.{◌≡◌, ◌≤◌, false, IfOk};
 ghost use Rattle.vr_types.specs.Actors.{is_actor, is_client};
 ghost use Rattle.vr_types.specs.declared.limits.TheConstants.{MOST_SITES};
-ghost use Rattle.pvp_wire.specs.Spelling.{is_site_count};
-ghost use Rattle.pvp_wire.specs.Reading.{Finds, number_at, listed_at, instruct_at, fund_at, pay_out_at, paid_at, returned_at, command_at, reason_at, reply_at, order_at, row_at, view_and_place_at, stamp_at};
+ghost use Rattle.pvp_types.specs.declared.command.Cmd.TheVariants.{Instruct, Fund, PayOut, Paid, Returned};
+ghost use Rattle.pvp_wire.specs.Shape.{number_at, listed_at, as_part};
+ghost use Rattle.pvp_wire.specs.Layout as layout;
+ghost use Rattle.pvp_wire.specs.Layout.{is_site_count, command_at, reason_at, reply_at};
+ghost use Rattle.pvp_wire.specs.Reading.{Finds};
 
 use crate::admitted::is_site_count;
 use crate::fault::WireFault;
 use crate::stamped::Stamp;
 use byteorder::{BigEndian, ByteOrder};
-use pvp_types::{Cmd, PayOrder, Reason, Reply};
+use pvp_types::{Cmd, Instruction, PayOrder, Reason, Reply};
 use vr_types::{RowOf, is_actor, is_client};
 
+/// A number of one byte.
 pub fn u8_at(bytes: &[u8]) -> Result<(u8, &[u8]), WireFault>
     ensures { Finds (λ x. (x.0, x.1.now)) result (number_at 1 bytes.now) }
 {
@@ -21,6 +25,7 @@ pub fn u8_at(bytes: &[u8]) -> Result<(u8, &[u8]), WireFault>
     }
 }
 
+/// A number of two bytes, high byte first; `Length` where they are not there. It takes no memory.
 pub fn u16_at(bytes: &[u8]) -> Result<(u16, &[u8]), WireFault>
     ensures { Finds (λ x. (x.0, x.1.now)) result (number_at 2 bytes.now) }
 {
@@ -30,6 +35,7 @@ pub fn u16_at(bytes: &[u8]) -> Result<(u16, &[u8]), WireFault>
     Ok((BigEndian::read_u16(bytes), &bytes[2..]))
 }
 
+/// A number of four bytes, high byte first; `Length` where they are not there. It takes no memory.
 pub fn u32_at(bytes: &[u8]) -> Result<(u32, &[u8]), WireFault>
     ensures { Finds (λ x. (x.0, x.1.now)) result (number_at 4 bytes.now) }
 {
@@ -39,6 +45,7 @@ pub fn u32_at(bytes: &[u8]) -> Result<(u32, &[u8]), WireFault>
     Ok((BigEndian::read_u32(bytes), &bytes[4..]))
 }
 
+/// A number of eight bytes, high byte first; `Length` where they are not there. It takes no memory.
 pub fn u64_at(bytes: &[u8]) -> Result<(u64, &[u8]), WireFault>
     ensures { Finds (λ x. (x.0, x.1.now)) result (number_at 8 bytes.now) }
 {
@@ -83,7 +90,8 @@ pub fn site_count_at(bytes: &[u8]) -> Result<(u8, &[u8]), WireFault>
 }
 
 fn instruct_at(bytes: &[u8]) -> Result<(Cmd, &[u8]), WireFault>
-    ensures { Finds (λ x. (x.0, x.1.now)) result (instruct_at bytes.now) }
+    ensures { Finds (λ x. (x.0, x.1.now)) result
+        (as_part Instruct (layout.instruct.read false bytes.now)) }
 {
     let (reference, rest) = u32_at(bytes)?;
     let (other, rest) = u16_at(rest)?;
@@ -91,19 +99,20 @@ fn instruct_at(bytes: &[u8]) -> Result<(Cmd, &[u8]), WireFault>
     let (sell_amt, rest) = u64_at(rest)?;
     let (buy, rest) = u8_at(rest)?;
     let (buy_amt, rest) = u64_at(rest)?;
-    let cmd = Cmd::Instruct {
+    let cmd = Cmd::Instruct(Instruction {
         reference,
         other,
         sell,
         sell_amt,
         buy,
         buy_amt,
-    };
+    });
     Ok((cmd, rest))
 }
 
 fn fund_at(bytes: &[u8]) -> Result<(Cmd, &[u8]), WireFault>
-    ensures { Finds (λ x. (x.0, x.1.now)) result (fund_at bytes.now) }
+    ensures { Finds (λ x. (x.0, x.1.now)) result
+        (as_part (λ f. Fund f.0 f.1 f.2 f.3) (layout.fund.read false bytes.now)) }
 {
     let (ccy, rest) = u8_at(bytes)?;
     let (pay, rest) = u32_at(rest)?;
@@ -119,7 +128,8 @@ fn fund_at(bytes: &[u8]) -> Result<(Cmd, &[u8]), WireFault>
 }
 
 fn pay_out_at(bytes: &[u8]) -> Result<(Cmd, &[u8]), WireFault>
-    ensures { Finds (λ x. (x.0, x.1.now)) result (pay_out_at bytes.now) }
+    ensures { Finds (λ x. (x.0, x.1.now)) result
+        (as_part (λ a. PayOut a.0 a.1) (layout.amount.read false bytes.now)) }
 {
     let (ccy, rest) = u8_at(bytes)?;
     let (amt, rest) = u64_at(rest)?;
@@ -127,7 +137,8 @@ fn pay_out_at(bytes: &[u8]) -> Result<(Cmd, &[u8]), WireFault>
 }
 
 fn paid_at(bytes: &[u8]) -> Result<(Cmd, &[u8]), WireFault>
-    ensures { Finds (λ x. (x.0, x.1.now)) result (paid_at bytes.now) }
+    ensures { Finds (λ x. (x.0, x.1.now)) result
+        (as_part (λ o. Paid o.0 o.1) (layout.order_number.read false bytes.now)) }
 {
     let (ccy, rest) = u8_at(bytes)?;
     let (out, rest) = u32_at(rest)?;
@@ -135,7 +146,8 @@ fn paid_at(bytes: &[u8]) -> Result<(Cmd, &[u8]), WireFault>
 }
 
 fn returned_at(bytes: &[u8]) -> Result<(Cmd, &[u8]), WireFault>
-    ensures { Finds (λ x. (x.0, x.1.now)) result (returned_at bytes.now) }
+    ensures { Finds (λ x. (x.0, x.1.now)) result
+        (as_part (λ o. Returned o.0 o.1) (layout.order_number.read false bytes.now)) }
 {
     let (ccy, rest) = u8_at(bytes)?;
     let (out, rest) = u32_at(rest)?;
@@ -143,7 +155,7 @@ fn returned_at(bytes: &[u8]) -> Result<(Cmd, &[u8]), WireFault>
 }
 
 /// A command: its tag, then its fields.
-#[tactic(auto, unfolding(crate::specs::Reading::command_at))]
+#[tactic(auto, unfolding(crate::specs::Layout::command_at))]
 pub fn command_at(bytes: &[u8]) -> Result<(Cmd, &[u8]), WireFault>
     ensures { Finds (λ x. (x.0, x.1.now)) result (command_at bytes.now) }
 {
@@ -189,7 +201,7 @@ fn reason_at(bytes: &[u8]) -> Result<(Reason, &[u8]), WireFault>
 }
 
 /// An answer: its tag, then its field.
-#[tactic(auto, unfolding(crate::specs::Reading::reply_at))]
+#[tactic(auto, unfolding(crate::specs::Layout::reply_at))]
 pub fn reply_at(bytes: &[u8]) -> Result<(Reply, &[u8]), WireFault>
     ensures { Finds (λ x. (x.0, x.1.now)) result (reply_at bytes.now) }
 {
@@ -214,9 +226,9 @@ pub fn reply_at(bytes: &[u8]) -> Result<(Reply, &[u8]), WireFault>
 }
 
 /// A pay-out's order.
-#[tactic(auto, unfolding(crate::specs::Reading::order_at))]
+#[tactic(auto, unfolding(crate::specs::Layout::order))]
 pub fn order_at(bytes: &[u8]) -> Result<(PayOrder, &[u8]), WireFault>
-    ensures { Finds (λ x. (x.0, x.1.now)) result (order_at bytes.now) }
+    ensures { Finds (λ x. (x.0, x.1.now)) result (layout.order.read false bytes.now) }
 {
     let (ccy, rest) = u8_at(bytes)?;
     let (out, rest) = u32_at(rest)?;
@@ -232,9 +244,9 @@ pub fn order_at(bytes: &[u8]) -> Result<(PayOrder, &[u8]), WireFault>
 }
 
 /// A row of a log.
-#[tactic(auto, unfolding(crate::specs::Reading::row_at))]
+#[tactic(auto, unfolding(crate::specs::Layout::row))]
 pub fn row_at(bytes: &[u8]) -> Result<(RowOf<Cmd>, &[u8]), WireFault>
-    ensures { Finds (λ x. (x.0, x.1.now)) result (row_at bytes.now) }
+    ensures { Finds (λ x. (x.0, x.1.now)) result (layout.row.read false bytes.now) }
 {
     let (client, rest) = client_at(bytes)?;
     let (number, rest) = u32_at(rest)?;
@@ -249,7 +261,7 @@ pub fn row_at(bytes: &[u8]) -> Result<(RowOf<Cmd>, &[u8]), WireFault>
 
 /// A view and a number of two bytes.
 pub fn view_and_place_at(bytes: &[u8]) -> Result<((u32, u16), &[u8]), WireFault>
-    ensures { Finds (λ x. (x.0, x.1.now)) result (view_and_place_at bytes.now) }
+    ensures { Finds (λ x. (x.0, x.1.now)) result (layout.view_and_place.read false bytes.now) }
 {
     let (view, rest) = u32_at(bytes)?;
     let (place, rest) = u16_at(rest)?;
@@ -257,9 +269,9 @@ pub fn view_and_place_at(bytes: &[u8]) -> Result<((u32, u16), &[u8]), WireFault>
 }
 
 /// A stamp, whose actor is the sender.
-#[tactic(auto, unfolding(crate::specs::Reading::stamp_at))]
+#[tactic(auto, unfolding(crate::specs::Layout::stamp))]
 pub fn stamp_at(bytes: &[u8]) -> Result<(Stamp, &[u8]), WireFault>
-    ensures { Finds (λ x. (x.0, x.1.now)) result (stamp_at bytes.now) }
+    ensures { Finds (λ x. (x.0, x.1.now)) result (layout.stamp.read false bytes.now) }
 {
     let (actor, rest) = actor_at(bytes)?;
     let (clock, rest) = u64_at(rest)?;

@@ -15,7 +15,8 @@ pub mod writing;
 
 pub use admitted::wireable;
 pub use fault::WireFault;
-pub use feeder::Feeder;
+pub use feeder::{Feeder, drop_front};
+pub use fields::{u16_at, u32_at, u64_at};
 pub use reading::decode;
 pub use stamped::{Message, Stamp, Stamped};
 pub use writing::encode;

@@ -1,5 +1,10 @@
 //! The fields of messages, one function a kind.
-ghost use Rattle.pvp_wire.specs.Reading.{Finds, Gives, request_at, prepare_at, start_view_change_at, do_view_change_at, start_view_at, new_state_at, recovery_response_at, answer_at, message_at};
+ghost use Rattle.std.specs.Prelude.{false};
+ghost use Rattle.vr_types.specs.declared.message.MsgOf.TheVariants as message;
+ghost use Rattle.pvp_wire.specs.Shape.{as_part};
+ghost use Rattle.pvp_wire.specs.Layout as layout;
+ghost use Rattle.pvp_wire.specs.Layout.{message_at};
+ghost use Rattle.pvp_wire.specs.Reading.{Finds, Gives};
 
 use crate::boots::boots_at;
 use crate::fault::WireFault;
@@ -13,7 +18,7 @@ use vr_types::{
 };
 
 /// The fields of a message of a kind.
-#[tactic(auto, unfolding(crate::specs::Reading::message_at))]
+#[tactic(auto, unfolding(crate::specs::Layout::message_at))]
 pub fn message_at(alloc: Global, kind: u8, bytes: &[u8]) -> Result<(Message, &[u8]), WireFault>
     ensures { Gives (λ x. (x.0, x.1.now)) result (λ refused. message_at refused kind bytes.now) }
 {
@@ -50,9 +55,10 @@ pub fn message_at(alloc: Global, kind: u8, bytes: &[u8]) -> Result<(Message, &[u
     }
 }
 
-#[tactic(auto, unfolding(crate::specs::Reading::request_at))]
+#[tactic(auto, unfolding(crate::specs::Layout::request))]
 fn request_at(bytes: &[u8]) -> Result<(Message, &[u8]), WireFault>
-    ensures { Finds (λ x. (x.0, x.1.now)) result (request_at bytes.now) }
+    ensures { Finds (λ x. (x.0, x.1.now)) result
+        (as_part message.Request (layout.request.read false bytes.now)) }
 {
     let (number, rest) = u32_at(bytes)?;
     let (cmd, rest) = command_at(rest)?;
@@ -60,9 +66,10 @@ fn request_at(bytes: &[u8]) -> Result<(Message, &[u8]), WireFault>
     Ok((MsgOf::Request(msg), rest))
 }
 
-#[tactic(auto, unfolding(crate::specs::Reading::prepare_at))]
+#[tactic(auto, unfolding(crate::specs::Layout::prepare))]
 fn prepare_at(bytes: &[u8]) -> Result<(Message, &[u8]), WireFault>
-    ensures { Finds (λ x. (x.0, x.1.now)) result (prepare_at bytes.now) }
+    ensures { Finds (λ x. (x.0, x.1.now)) result
+        (as_part message.Prepare (layout.prepare.read false bytes.now)) }
 {
     let (view, rest) = u32_at(bytes)?;
     let (place, rest) = u16_at(rest)?;
@@ -77,9 +84,10 @@ fn prepare_at(bytes: &[u8]) -> Result<(Message, &[u8]), WireFault>
     Ok((MsgOf::Prepare(msg), rest))
 }
 
-#[tactic(auto, unfolding(crate::specs::Reading::start_view_change_at))]
+#[tactic(auto, unfolding(crate::specs::Layout::start_view_change))]
 fn start_view_change_at(bytes: &[u8]) -> Result<(Message, &[u8]), WireFault>
-    ensures { Finds (λ x. (x.0, x.1.now)) result (start_view_change_at bytes.now) }
+    ensures { Finds (λ x. (x.0, x.1.now)) result
+        (as_part message.StartViewChange (layout.start_view_change.read false bytes.now)) }
 {
     let (view, rest) = u32_at(bytes)?;
     let (known, rest) = match boots_at(rest) {
@@ -90,9 +98,10 @@ fn start_view_change_at(bytes: &[u8]) -> Result<(Message, &[u8]), WireFault>
     Ok((MsgOf::StartViewChange(msg), rest))
 }
 
-#[tactic(auto, unfolding(crate::specs::Reading::do_view_change_at))]
+#[tactic(auto, unfolding(crate::specs::Layout::do_view_change))]
 fn do_view_change_at(alloc: Global, bytes: &[u8]) -> Result<(Message, &[u8]), WireFault>
-    ensures { Gives (λ x. (x.0, x.1.now)) result (λ refused. do_view_change_at refused bytes.now) }
+    ensures { Gives (λ x. (x.0, x.1.now)) result (λ refused.
+        as_part message.DoViewChange (layout.do_view_change.read refused bytes.now)) }
 {
     let (view, rest) = u32_at(bytes)?;
     let (last_normal, rest) = u32_at(rest)?;
@@ -112,9 +121,10 @@ fn do_view_change_at(alloc: Global, bytes: &[u8]) -> Result<(Message, &[u8]), Wi
     Ok((MsgOf::DoViewChange(msg), rest))
 }
 
-#[tactic(auto, unfolding(crate::specs::Reading::start_view_at))]
+#[tactic(auto, unfolding(crate::specs::Layout::start_view))]
 fn start_view_at(alloc: Global, bytes: &[u8]) -> Result<(Message, &[u8]), WireFault>
-    ensures { Gives (λ x. (x.0, x.1.now)) result (λ refused. start_view_at refused bytes.now) }
+    ensures { Gives (λ x. (x.0, x.1.now)) result (λ refused.
+        as_part message.StartView (layout.start_view.read refused bytes.now)) }
 {
     let (view, rest) = u32_at(bytes)?;
     let (done, rest) = u16_at(rest)?;
@@ -123,9 +133,10 @@ fn start_view_at(alloc: Global, bytes: &[u8]) -> Result<(Message, &[u8]), WireFa
     Ok((MsgOf::StartView(msg), rest))
 }
 
-#[tactic(auto, unfolding(crate::specs::Reading::new_state_at))]
+#[tactic(auto, unfolding(crate::specs::Layout::new_state))]
 fn new_state_at(alloc: Global, bytes: &[u8]) -> Result<(Message, &[u8]), WireFault>
-    ensures { Gives (λ x. (x.0, x.1.now)) result (λ refused. new_state_at refused bytes.now) }
+    ensures { Gives (λ x. (x.0, x.1.now)) result (λ refused.
+        as_part message.NewState (layout.new_state.read refused bytes.now)) }
 {
     let (view, rest) = u32_at(bytes)?;
     let (base, rest) = u16_at(rest)?;
@@ -140,10 +151,10 @@ fn new_state_at(alloc: Global, bytes: &[u8]) -> Result<(Message, &[u8]), WireFau
     Ok((MsgOf::NewState(msg), rest))
 }
 
-#[tactic(auto, unfolding(crate::specs::Reading::recovery_response_at))]
+#[tactic(auto, unfolding(crate::specs::Layout::recovery_response))]
 fn recovery_response_at(alloc: Global, bytes: &[u8]) -> Result<(Message, &[u8]), WireFault>
     ensures { Gives (λ x. (x.0, x.1.now)) result (λ refused.
-        recovery_response_at refused bytes.now) }
+        as_part message.RecoveryResponse (layout.recovery_response.read refused bytes.now)) }
 {
     let (view, rest) = u32_at(bytes)?;
     let (nonce, rest) = u32_at(rest)?;
@@ -161,9 +172,10 @@ fn recovery_response_at(alloc: Global, bytes: &[u8]) -> Result<(Message, &[u8]),
     Ok((MsgOf::RecoveryResponse(msg), rest))
 }
 
-#[tactic(auto, unfolding(crate::specs::Reading::answer_at))]
+#[tactic(auto, unfolding(crate::specs::Layout::answer))]
 fn answer_at(bytes: &[u8]) -> Result<(Message, &[u8]), WireFault>
-    ensures { Finds (λ x. (x.0, x.1.now)) result (answer_at bytes.now) }
+    ensures { Finds (λ x. (x.0, x.1.now)) result
+        (as_part message.Reply (layout.answer.read false bytes.now)) }
 {
     let (view, rest) = u32_at(bytes)?;
     let (number, rest) = u32_at(rest)?;

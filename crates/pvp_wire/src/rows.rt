@@ -1,6 +1,9 @@
 //! Rows of a log, and the state that a primary answers with.
-ghost use Rattle.std.specs.Prelude.{◌≡◌};
-ghost use Rattle.pvp_wire.specs.Reading.{Gives, row_at, items_from, rows_at, state_at, option_at};
+ghost use Rattle.std.specs.Prelude.{◌≡◌, false};
+ghost use Rattle.pvp_wire.specs.Shape.{items_from};
+ghost use Rattle.pvp_wire.specs.Layout as layout;
+ghost use Rattle.pvp_wire.specs.Layout.{option_at};
+ghost use Rattle.pvp_wire.specs.Reading.{Gives};
 
 use crate::fault::WireFault;
 use crate::fields::{row_at, u16_at};
@@ -11,7 +14,7 @@ use vr_types::{RowsOf, StateOf};
 /// So many rows.
 fn rows_from(alloc: Global, count: u16, bytes: &[u8]) -> Result<(RowsOf<Cmd>, &[u8]), WireFault>
     ensures { Gives (λ x. (x.0, x.1.now)) result (λ refused.
-        items_from row_at refused count bytes.now) }
+        items_from (layout.row.read false) refused count bytes.now) }
 {
     let mut rows = RowsOf::new(alloc);
     let mut rest = bytes;
@@ -24,18 +27,18 @@ fn rows_from(alloc: Global, count: u16, bytes: &[u8]) -> Result<(RowsOf<Cmd>, &[
 }
 
 /// A count, and that many rows.
-#[tactic(auto, unfolding(crate::specs::Reading::rows_at))]
+#[tactic(auto, unfolding(crate::specs::Layout::rows))]
 pub fn rows_at(alloc: Global, bytes: &[u8]) -> Result<(RowsOf<Cmd>, &[u8]), WireFault>
-    ensures { Gives (λ x. (x.0, x.1.now)) result (λ refused. rows_at refused bytes.now) }
+    ensures { Gives (λ x. (x.0, x.1.now)) result (λ refused. layout.rows.read refused bytes.now) }
 {
     let (count, rest) = u16_at(bytes)?;
     rows_from(alloc, count, rest)
 }
 
 /// A state: how many rows are executed, and the rows.
-#[tactic(auto, unfolding(crate::specs::Reading::state_at))]
+#[tactic(auto, unfolding(crate::specs::Layout::state))]
 fn state_at(alloc: Global, bytes: &[u8]) -> Result<(StateOf<Cmd>, &[u8]), WireFault>
-    ensures { Gives (λ x. (x.0, x.1.now)) result (λ refused. state_at refused bytes.now) }
+    ensures { Gives (λ x. (x.0, x.1.now)) result (λ refused. layout.state.read refused bytes.now) }
 {
     let (done, rest) = u16_at(bytes)?;
     let (rows, rest) = rows_at(alloc, rest)?;
@@ -43,7 +46,7 @@ fn state_at(alloc: Global, bytes: &[u8]) -> Result<(StateOf<Cmd>, &[u8]), WireFa
 }
 
 /// A flag, and the state where it is 1.
-#[tactic(auto, unfolding(crate::specs::Reading::option_at))]
+#[tactic(auto, unfolding(crate::specs::Layout::option_at))]
 pub fn option_at(alloc: Global, bytes: &[u8]) -> Result<(Option<StateOf<Cmd>>, &[u8]), WireFault>
     ensures { Gives (λ x. (x.0, x.1.now)) result (λ refused. option_at refused bytes.now) }
 {

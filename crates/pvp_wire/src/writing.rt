@@ -8,9 +8,12 @@ ghost use Rattle.pvp_types.specs.declared.command.Cmd.TheVariants.{PayOut, Paid,
 ghost use Rattle.vr_types.specs.declared.message.MsgOf.TheVariants as message;
 ghost use Rattle.vr_types.specs.Messages.{known_in};
 ghost use Rattle.vr_types.specs.Pages.{page_rows};
+ghost use Rattle.pvp_wire.specs.Shape.{Fits, EachFits};
+ghost use Rattle.pvp_wire.specs.Layout as layout;
+ghost use Rattle.pvp_wire.specs.Layout.{MessageFits};
 ghost use Rattle.pvp_wire.specs.Spelling as spell;
 ghost use Rattle.pvp_wire.specs.Pieces as piece;
-ghost use Rattle.pvp_wire.specs.Fits.{Fits, CommandFits, ReplyFits, OrderFits, RowFits, RowsFit, EachFits, BootsFit, StateFits, MessageFits, StampFits, IsSpelled};
+ghost use Rattle.pvp_wire.specs.Fits.{IsSpelled};
 
 use crate::reading::VERSION;
 use crate::stamped::{Message, Stamp, Stamped};
@@ -86,10 +89,11 @@ fn rows_len(msg: &Message) -> u32
 }
 
 /// How many bytes the rows of a list take.
+#[tactic(auto, unfolding(crate::specs::Layout::rows))]
 fn each_len(rows: &RowsOf<Cmd>) -> u32
-    ensures exact { result ≡ length (flat_map spell.row rows.now) }
+    ensures exact { result ≡ length (flat_map layout.row.spell rows.now) }
     ensures few { result ≤ spell.most_rows }
-    ensures fits { RowsFit rows.now }
+    ensures fits { layout.rows.Fits rows.now }
 {
     let mut len = 0;
     for page in 0..page_count(rows) {
@@ -120,9 +124,9 @@ fn page_at(rows: &RowsOf<Cmd>, page: usize) -> &[RowOf<Cmd>]
 /// How many bytes the rows of a page take.
 fn page_len(page: &[RowOf<Cmd>]) -> u32
     requires { length page.now ≤ page_rows }
-    ensures exact { result ≡ length (flat_map spell.row page.now) }
+    ensures exact { result ≡ length (flat_map layout.row.spell page.now) }
     ensures few { result ≤ spell.most_row * length page.now }
-    ensures fits { EachFits RowFits page.now }
+    ensures fits { EachFits layout.row.Fits page.now }
 {
     let mut len = 0;
     for row in page {
@@ -132,10 +136,11 @@ fn page_len(page: &[RowOf<Cmd>]) -> u32
 }
 
 /// How many bytes a row takes.
+#[tactic(auto, unfolding(crate::specs::Layout::row))]
 fn row_len(row: RowOf<Cmd>) -> u32
-    ensures exact { result ≡ length (spell.row row) }
+    ensures exact { result ≡ length (layout.row.spell row) }
     ensures few { result ≤ spell.most_row }
-    ensures fits { RowFits row }
+    ensures fits { layout.row.Fits row }
 {
     6 + command_len(row.cmd)
 }
@@ -143,10 +148,10 @@ fn row_len(row: RowOf<Cmd>) -> u32
 /// How many bytes a command takes: its tag and its fields.
 #[tactic(auto, using(crate::proofs::Lengths::lengths))]
 fn command_len(cmd: Cmd) -> u32
-    ensures { result ≡ length (spell.command cmd) }
+    ensures { result ≡ length (layout.command.spell cmd) }
 {
     match cmd {
-        Cmd::Instruct { .. } => 25,
+        Cmd::Instruct(_) => 25,
         Cmd::Rescind { .. } => 5,
         Cmd::Fund { .. } => 16,
         Cmd::Settle { .. } => 5,
@@ -170,7 +175,7 @@ fn write_rows<W: Write>(msg: &Message, writer: &mut W) -> io::Result<()>
 /// Writes the rows of a list, a page at a time.
 fn write_each<W: Write>(rows: &RowsOf<Cmd>, writer: &mut W) -> io::Result<()>
     ensures { OnOk result (Appends (W.contents writer.old) (W.contents writer.new)
-        (flat_map spell.row rows.now)) }
+        (flat_map layout.row.spell rows.now)) }
 {
     for at in 0..page_count(rows) {
         write_page(page_at(rows, at), writer)?;
@@ -182,7 +187,7 @@ fn write_each<W: Write>(rows: &RowsOf<Cmd>, writer: &mut W) -> io::Result<()>
 fn write_page<W: Write>(rows: &[RowOf<Cmd>], writer: &mut W) -> io::Result<()>
     requires { length rows.now ≤ page_rows }
     ensures { OnOk result (Appends (W.contents writer.old) (W.contents writer.new)
-        (flat_map spell.row rows.now)) }
+        (flat_map layout.row.spell rows.now)) }
 {
     let mut page = Page::new();
     for row in rows {
@@ -197,7 +202,7 @@ fn push_head(out: &mut Piece, stamped: &Stamped, body: u32)
     requires short { body ≤ spell.most_body }
     ensures bytes { out.new.items ≡ out.old.items ++ spell.number 4 (18 + body)
         ++ spell.head stamped.now }
-    ensures fits { StampFits stamped.now.stamp × Fits 2 stamped.now.envelope.to }
+    ensures fits { layout.stamp.Fits stamped.now.stamp × Fits 2 stamped.now.envelope.to }
 {
     push_u32(out, 18 + body);
     push_kind(out, &stamped.envelope.msg);
@@ -215,11 +220,12 @@ fn push_kind(out: &mut Piece, msg: &Message)
     push_tag(out, kind_of(msg));
 }
 
+#[tactic(auto, unfolding(crate::specs::Layout::stamp))]
 fn push_stamp(out: &mut Piece, stamp: Stamp)
     requires { array_vec_len out.old + 14 ≤ piece.room }
-    ensures bytes { out.new.items ≡ out.old.items ++ spell.stamp stamp }
+    ensures bytes { out.new.items ≡ out.old.items ++ layout.stamp.spell stamp }
     ensures len { array_vec_len out.new ≡ array_vec_len out.old + 14 }
-    ensures fits { StampFits stamp }
+    ensures fits { layout.stamp.Fits stamp }
 {
     push_u16(out, stamp.actor);
     push_u64(out, stamp.clock);
@@ -290,23 +296,16 @@ fn push_tag<const N: usize>(out: &mut ArrayVec<u8, N>, tag: u8)
 /// A command: its tag, then its fields.
 fn push_command<const N: usize>(out: &mut ArrayVec<u8, N>, cmd: Cmd)
     requires { array_vec_len out.old + 25 ≤ N }
-    ensures bytes { out.new.items ≡ out.old.items ++ spell.command cmd }
+    ensures bytes { out.new.items ≡ out.old.items ++ layout.command.spell cmd }
     ensures len { array_vec_len out.new ≤ array_vec_len out.old + 25 }
-    ensures fits { CommandFits cmd }
+    ensures fits { layout.command.Fits cmd }
 {
     match cmd {
-        Cmd::Instruct {
-            reference,
-            other,
-            sell,
-            sell_amt,
-            buy,
-            buy_amt,
-        } => {
-            push_tagged(out, 1, reference);
-            push_u16(out, other);
-            push_leg(out, sell, sell_amt);
-            push_leg(out, buy, buy_amt);
+        Cmd::Instruct(asked) => {
+            push_tagged(out, 1, asked.reference);
+            push_u16(out, asked.other);
+            push_leg(out, asked.sell, asked.sell_amt);
+            push_leg(out, asked.buy, asked.buy_amt);
         }
         Cmd::Rescind { reference } => push_tagged(out, 2, reference),
         Cmd::Fund {
@@ -328,7 +327,7 @@ fn push_command<const N: usize>(out: &mut ArrayVec<u8, N>, cmd: Cmd)
 /// That a member asks for a pay-out.
 fn push_pay_out<const N: usize>(out: &mut ArrayVec<u8, N>, ccy: u8, amt: u64)
     requires { array_vec_len out.old + 10 ≤ N }
-    ensures bytes { out.new.items ≡ out.old.items ++ spell.command (PayOut ccy amt) }
+    ensures bytes { out.new.items ≡ out.old.items ++ layout.command.spell (PayOut ccy amt) }
     ensures len { array_vec_len out.new ≡ array_vec_len out.old + 10 }
 {
     push_tag(out, 5);
@@ -338,7 +337,7 @@ fn push_pay_out<const N: usize>(out: &mut ArrayVec<u8, N>, ccy: u8, amt: u64)
 /// That a pay-out is paid.
 fn push_paid<const N: usize>(out: &mut ArrayVec<u8, N>, ccy: u8, number: u32)
     requires { array_vec_len out.old + 6 ≤ N }
-    ensures bytes { out.new.items ≡ out.old.items ++ spell.command (Paid ccy number) }
+    ensures bytes { out.new.items ≡ out.old.items ++ layout.command.spell (Paid ccy number) }
     ensures len { array_vec_len out.new ≡ array_vec_len out.old + 6 }
 {
     push_tag(out, 6);
@@ -349,7 +348,7 @@ fn push_paid<const N: usize>(out: &mut ArrayVec<u8, N>, ccy: u8, number: u32)
 /// That a pay-out could not be paid.
 fn push_returned<const N: usize>(out: &mut ArrayVec<u8, N>, ccy: u8, number: u32)
     requires { array_vec_len out.old + 6 ≤ N }
-    ensures bytes { out.new.items ≡ out.old.items ++ spell.command (Returned ccy number) }
+    ensures bytes { out.new.items ≡ out.old.items ++ layout.command.spell (Returned ccy number) }
     ensures len { array_vec_len out.new ≡ array_vec_len out.old + 6 }
 {
     push_tag(out, 7);
@@ -398,7 +397,7 @@ fn push_payment<const N: usize>(
 
 /// The number of a reason's code.
 fn reason_number(reason: Reason) -> u8
-    ensures { result ≡ spell.reason_number reason }
+    ensures { result ≡ layout.reason_number reason }
 {
     match reason {
         Reason::NotYours => 1,
@@ -418,9 +417,9 @@ fn reason_number(reason: Reason) -> u8
 /// An answer: its tag, then its field.
 fn push_reply(out: &mut Piece, reply: Reply)
     requires { array_vec_len out.old + 5 ≤ piece.room }
-    ensures bytes { out.new.items ≡ out.old.items ++ spell.reply reply }
+    ensures bytes { out.new.items ≡ out.old.items ++ layout.reply.spell reply }
     ensures len { array_vec_len out.new ≤ array_vec_len out.old + 5 }
-    ensures fits { ReplyFits reply }
+    ensures fits { layout.reply.Fits reply }
 {
     match reply {
         Reply::Done => push_tag(out, 1),
@@ -435,20 +434,22 @@ fn push_reply(out: &mut Piece, reply: Reply)
 }
 
 /// A pay-out's order.
+#[tactic(auto, unfolding(crate::specs::Layout::order))]
 fn push_order(out: &mut Piece, order: PayOrder)
     requires { array_vec_len out.old + 15 ≤ piece.room }
-    ensures bytes { out.new.items ≡ out.old.items ++ spell.order order }
+    ensures bytes { out.new.items ≡ out.old.items ++ layout.order.spell order }
     ensures len { array_vec_len out.new ≡ array_vec_len out.old + 15 }
-    ensures fits { OrderFits order }
+    ensures fits { layout.order.Fits order }
 {
     push_payment(out, order.ccy, order.out, order.member, order.amt);
 }
 
+#[tactic(auto, unfolding(crate::specs::Layout::row))]
 fn push_row<const N: usize>(out: &mut ArrayVec<u8, N>, row: RowOf<Cmd>)
     requires { array_vec_len out.old + 31 ≤ N }
-    ensures bytes { out.new.items ≡ out.old.items ++ spell.row row }
+    ensures bytes { out.new.items ≡ out.old.items ++ layout.row.spell row }
     ensures len { array_vec_len out.new ≤ array_vec_len out.old + 31 }
-    ensures fits { RowFits row }
+    ensures fits { layout.row.Fits row }
 {
     push_u16(out, row.client);
     push_u32(out, row.number);
@@ -456,22 +457,24 @@ fn push_row<const N: usize>(out: &mut ArrayVec<u8, N>, row: RowOf<Cmd>)
 }
 
 /// How many rows there are. They come behind it.
+#[tactic(auto, unfolding(crate::specs::Layout::rows))]
 fn push_count(out: &mut Piece, rows: &RowsOf<Cmd>)
     requires { array_vec_len out.old + 2 ≤ piece.room }
-    ensures bytes { out.new.items ++ flat_map spell.row rows.now
-        ≡ out.old.items ++ spell.rows rows.now }
+    ensures bytes { out.new.items ++ flat_map layout.row.spell rows.now
+        ≡ out.old.items ++ layout.rows.spell rows.now }
     ensures len { array_vec_len out.new ≡ array_vec_len out.old + 2 }
 {
     push_u16(out, rows.len() as u16);
 }
 
 /// Of how many sites the boots are told, and the boot number of each.
+#[tactic(auto, unfolding(crate::specs::Layout::boots))]
 fn push_boots(out: &mut Piece, known: &Known)
     requires room { array_vec_len out.old + 29 ≤ piece.room }
     requires count { spell.is_site_count (length known.now) ≡ true }
-    ensures bytes { out.new.items ≡ out.old.items ++ spell.boots known.now }
+    ensures bytes { out.new.items ≡ out.old.items ++ layout.boots.spell known.now }
     ensures len { array_vec_len out.new ≤ array_vec_len out.old + 29 }
-    ensures fits { BootsFit known.now }
+    ensures fits { layout.boots.Fits known.now }
 {
     push_u8(out, known.len() as u8);
     for site in 0..known.len() {
@@ -480,11 +483,12 @@ fn push_boots(out: &mut Piece, known: &Known)
 }
 
 /// 0, or 1 and the state in front of its rows.
+#[tactic(auto, unfolding(crate::specs::Layout::state))]
 fn push_state(out: &mut Piece, state: &Option<StateOf<Cmd>>)
     requires { array_vec_len out.old + 5 ≤ piece.room }
     ensures bytes { out.new.items ++ piece.spelled (piece.rows_of state.now)
-        ≡ out.old.items ++ spell.state state.now }
-    ensures fits { piece.LastFits (piece.rows_of state.now) → StateFits state.now }
+        ≡ out.old.items ++ layout.state_option.spell state.now }
+    ensures fits { piece.LastFits (piece.rows_of state.now) → layout.state_option.Fits state.now }
 {
     match state {
         None => push_tag(out, 0),
@@ -552,6 +556,7 @@ fn push_front(out: &mut Piece, msg: &Message)
     }
 }
 
+#[tactic(auto, unfolding(crate::specs::Layout::request))]
 fn push_request(out: &mut Piece, msg: RequestOf<Cmd>)
     requires { array_vec_len out.old + 29 ≤ piece.room }
     ensures bytes { out.new.items ≡ out.old.items ++ spell.body (message.Request msg) }
@@ -561,6 +566,7 @@ fn push_request(out: &mut Piece, msg: RequestOf<Cmd>)
     push_command(out, msg.cmd);
 }
 
+#[tactic(auto, unfolding(crate::specs::Layout::prepare))]
 fn push_prepare(out: &mut Piece, msg: &PrepareOf<Cmd>)
     requires { array_vec_len out.old + 39 ≤ piece.room }
     ensures bytes { out.new.items ≡ out.old.items ++ spell.body (message.Prepare msg.now) }
@@ -571,6 +577,7 @@ fn push_prepare(out: &mut Piece, msg: &PrepareOf<Cmd>)
     push_row(out, msg.row);
 }
 
+#[tactic(auto, unfolding(crate::specs::Layout::start_view_change))]
 fn push_start_view_change(out: &mut Piece, msg: &StartViewChange)
     requires count { spell.is_site_count (length msg.now.known) ≡ true }
     requires room { array_vec_len out.old + 33 ≤ piece.room }
@@ -581,12 +588,13 @@ fn push_start_view_change(out: &mut Piece, msg: &StartViewChange)
     push_boots(out, &msg.known);
 }
 
+#[tactic(auto, unfolding(crate::specs::Layout::do_view_change))]
 fn push_do_view_change(out: &mut Piece, msg: &DoViewChangeOf<Cmd>)
     requires count { spell.is_site_count (length msg.now.known) ≡ true }
     requires room { array_vec_len out.old + 41 ≤ piece.room }
-    ensures bytes { out.new.items ++ flat_map spell.row msg.now.rows
+    ensures bytes { out.new.items ++ flat_map layout.row.spell msg.now.rows
         ≡ out.old.items ++ spell.body (message.DoViewChange msg.now) }
-    ensures fits { RowsFit msg.now.rows → MessageFits (message.DoViewChange msg.now) }
+    ensures fits { layout.rows.Fits msg.now.rows → MessageFits (message.DoViewChange msg.now) }
 {
     push_u32(out, msg.view);
     push_view_and_place(out, msg.last_normal, msg.done);
@@ -594,21 +602,23 @@ fn push_do_view_change(out: &mut Piece, msg: &DoViewChangeOf<Cmd>)
     push_count(out, &msg.rows);
 }
 
+#[tactic(auto, unfolding(crate::specs::Layout::start_view))]
 fn push_start_view(out: &mut Piece, msg: &StartViewOf<Cmd>)
     requires { array_vec_len out.old + 8 ≤ piece.room }
-    ensures bytes { out.new.items ++ flat_map spell.row msg.now.rows
+    ensures bytes { out.new.items ++ flat_map layout.row.spell msg.now.rows
         ≡ out.old.items ++ spell.body (message.StartView msg.now) }
-    ensures fits { RowsFit msg.now.rows → MessageFits (message.StartView msg.now) }
+    ensures fits { layout.rows.Fits msg.now.rows → MessageFits (message.StartView msg.now) }
 {
     push_view_and_place(out, msg.view, msg.done);
     push_count(out, &msg.rows);
 }
 
+#[tactic(auto, unfolding(crate::specs::Layout::new_state))]
 fn push_new_state(out: &mut Piece, msg: &NewStateOf<Cmd>)
     requires { array_vec_len out.old + 10 ≤ piece.room }
-    ensures bytes { out.new.items ++ flat_map spell.row msg.now.rows
+    ensures bytes { out.new.items ++ flat_map layout.row.spell msg.now.rows
         ≡ out.old.items ++ spell.body (message.NewState msg.now) }
-    ensures fits { RowsFit msg.now.rows → MessageFits (message.NewState msg.now) }
+    ensures fits { layout.rows.Fits msg.now.rows → MessageFits (message.NewState msg.now) }
 {
     push_view_and_place(out, msg.view, msg.base);
     push_u16(out, msg.done);
@@ -616,6 +626,7 @@ fn push_new_state(out: &mut Piece, msg: &NewStateOf<Cmd>)
 }
 
 /// What a site answers to a recovering one.
+#[tactic(auto, unfolding(crate::specs::Layout::recovery_response))]
 fn push_regained(out: &mut Piece, msg: &RecoveryResponseOf<Cmd>)
     requires count { spell.is_site_count (length msg.now.known) ≡ true }
     requires room { array_vec_len out.old + 42 ≤ piece.room }
@@ -631,6 +642,7 @@ fn push_regained(out: &mut Piece, msg: &RecoveryResponseOf<Cmd>)
 }
 
 /// What a client is answered.
+#[tactic(auto, unfolding(crate::specs::Layout::answer))]
 fn push_answer(out: &mut Piece, msg: ReplyOf<Reply>)
     requires { array_vec_len out.old + 13 ≤ piece.room }
     ensures bytes { out.new.items ≡ out.old.items ++ spell.body (message.Reply msg) }

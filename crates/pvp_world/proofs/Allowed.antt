@@ -24,7 +24,7 @@ use Rattle.headline.specs.Bank.{Bank, turn, with_site}
 use Rattle.headline.specs.Legal.{LegalList, SiteFalls, FallsBy}
 use Rattle.headline.proofs.Basics.{none-some, some-same, set-here}
 use Rattle.headline.proofs.Runs.{legal-more}
-use Rattle.pvp_world.specs.World.{Shown, ShowsBank, IsAt}
+use Rattle.pvp_world.specs.World.{ShownWorld, ShowsBank, IsAt}
 use Rattle.pvp_world.specs.Steps.{IsWhy, IsRefused, TellsFailures, AreReliable, saved_in}
 use Rattle.pvp_world.specs.Falling.{is_of_site, HoldsAnother, IsWhyNot, FellAsSaved, FallsTo, KeepsReliable}
 use Rattle.pvp_world.specs.Refusals.{turn_refuses, bank_refuses, hinders, wants, wants_fall, IsAllowed}
@@ -51,7 +51,7 @@ wants-memory (fault.Site site_fault.BootsSpent) had off = had
 wants-memory (fault.Site site_fault.NotMine) had off = had
 
 module _ {B : Type 0} (held : B → Boot) (one_bank : (setup : Setup) (f : ℕ) (a b : LegalList setup f) → a.cells ≡ b.cells → a.moves ≡ b.moves → a.bank ≡ b.bank)
-    (world : Shown B) (at : IsAt held world) where
+    (world : ShownWorld B) (at : IsAt held world) where
   -- the world shows the bank to which any legal list of its trail leads
   pub shows-other : (list : LegalList world.setup (faults world.setup)) → list.cells ≡ world.opening → list.moves ≡ world.trail → ShowsBank held world list.bank
   shows-other list cells moves =
@@ -69,7 +69,7 @@ module _ {B : Type 0} (held : B → Boot) (one_bank : (setup : Setup) (f : ℕ) 
       none-some why (sym taken ∙ told)
 
   -- an allowed step that is refused, over reliable cells, was refused memory
-  pub memory-alone : (c : Cell B) → (step : Step) → IsAllowed world (Takes step) → AreReliable c world → (new : Shown B) (why : WorldFault)
+  pub memory-alone : (c : Cell B) → (step : Step) → IsAllowed world (Takes step) → AreReliable c world → (new : ShownWorld B) (why : WorldFault)
       → IsRefused held world new step why → TellsFailures c world new step (Err why) → wants why ≡ true
   memory-alone c step allowed reliable new why refused tells = by (hinders why) refl
     where
@@ -150,7 +150,7 @@ module _ {B : Type 0} (held : B → Boot) (one_bank : (setup : Setup) (f : ℕ) 
     same-event i j e g h = cc
 
     -- it is none over another value that the step saves
-    pub no-fall-elsewhere : (new : Shown B) → FellAsSaved held world new step cell → ⊥
+    pub no-fall-elsewhere : (new : ShownWorld B) → FellAsSaved held world new step cell → ⊥
     no-fall-elsewhere new told =
         by a.leads.turn_is a.leads.has_turn a.leads.falls told.fell.moves.leads.turn_is told.fell.moves.leads.has_turn told.fell.moves.leads.falls told.saved
       where
@@ -208,7 +208,7 @@ module _ {B : Type 0} (held : B → Boot) (one_bank : (setup : Setup) (f : ℕ) 
         by (OfClient i event) turned ours u turned_too fallen saved = absurd ours
 
     -- where it is not the move, memory was refused
-    pub fall-memory-alone : (c : Cell B) → AreReliable c world → (new : Shown B) (why : FallFault) → FallsTo held world new step cell (Err why)
+    pub fall-memory-alone : (c : Cell B) → AreReliable c world → (new : ShownWorld B) (why : FallFault) → FallsTo held world new step cell (Err why)
         → KeepsReliable c world new (Err why) → wants_fall why ≡ true
     fall-memory-alone c reliable new fall_fault.Elsewhere falls keeps = absurd (no-fall-elsewhere new falls)
     fall-memory-alone c reliable new (fall_fault.Step why) falls keeps = by (hinders why) refl

@@ -8,11 +8,11 @@ use Rattle.pvp_types.specs.declared.step.Step.{Step}
 use Rattle.vr_types.specs.declared.cell.Boot.{Boot}
 use Rattle.vr_types.specs.declared.cell.BootCell.{Ghosts as Cell}
 use Rattle.vr_types.specs.declared.event.EventOf.{EventOf}
-use Rattle.vr_site.specs.Replica as replica
+use Rattle.vr_site.specs.Replica.{ShownSite}
 use Rattle.headline.specs.declared.step.Move.TheVariants.{Falls}
 use Rattle.headline.specs.declared.step.Turn.TheVariants.{OfSite}
 use Rattle.headline.specs.Bank.{turn}
-use Rattle.pvp_world.specs.World.{Shown}
+use Rattle.pvp_world.specs.World.{ShownWorld}
 use Rattle.pvp_world.specs.Steps.{Moves, IsOverSaved, IsWhy, AreReliable, is_fall, is_world_fall}
 use Rattle.pvp_world.specs.Falling.{FellElsewhere, FallsTo, KeepsReliable, is_miss}
 use Rattle.pvp_world.specs.declared.fault.WorldFault.{WorldFault}
@@ -23,9 +23,9 @@ use Rattle.pvp_world.specs.declared.fault.FallFault.{FallFault}
 use Rattle.pvp_world.specs.declared.fault.FallFault.TheVariants.{Step as OfStep, Elsewhere}
 use Rattle.pvp_world.proofs.Saves.{reliable-after}
 
-module _ {B : Type 0} (held : B → Boot) (old new : Shown B) (step : Step) (cell : Boot) where
+module _ {B : Type 0} (held : B → Boot) (old new : ShownWorld B) (step : Step) (cell : Boot) where
   -- the site's cell held another value before too, since it does not let go of this one
-  elsewhere : (i : ℕ) (event : EventOf Cmd Answer PaymentOrder) (v : replica.Shown Cmd Setup B) (other : Boot)
+  elsewhere : (i : ℕ) (event : EventOf Cmd Answer PaymentOrder) (v : ShownSite Cmd Setup B) (other : Boot)
       → turn old.post step ≡ Some (OfSite i event) → slice_get old.sites i ≡ Some v → other ≢ cell → (held v.cell ≡ cell → other ≡ cell)
       → Moves held old new (Falls step other) → FellElsewhere held old new step cell
   elsewhere i event v other is there apart lasts moves = record {
@@ -36,7 +36,7 @@ module _ {B : Type 0} (held : B → Boot) (old new : Shown B) (step : Step) (cel
   }
 
   -- a fall over another value is told by what is a miss, and as elsewhere where that value is what the step saves
-  pub told-elsewhere : (missed : FallFault) (i : ℕ) (event : EventOf Cmd Answer PaymentOrder) (v : replica.Shown Cmd Setup B) (other : Boot)
+  pub told-elsewhere : (missed : FallFault) (i : ℕ) (event : EventOf Cmd Answer PaymentOrder) (v : ShownSite Cmd Setup B) (other : Boot)
       → is_miss missed ≡ true → turn old.post step ≡ Some (OfSite i event) → slice_get old.sites i ≡ Some v → other ≢ cell → (held v.cell ≡ cell → other ≡ cell)
       → (moves : Moves held old new (Falls step other)) → (missed ≡ Elsewhere → IsOverSaved held old new step other moves)
       → FallsTo held old new step cell (Err missed)
@@ -74,12 +74,12 @@ no-failure fault stays e =
     ∙ stays)
 
 -- WHERE NO SAVE OF A CELL FAILS
-module _ {B : Type 0} (c : Cell B) (old new : Shown B) where
+module _ {B : Type 0} (c : Cell B) (old new : ShownWorld B) where
   -- no site changed, and none fell
   pub stays-reliable : (fault : WorldFault) → new.sites ≡ old.sites → is_world_fall fault ≡ false → KeepsReliable c old new (Err (OfStep fault))
   stays-reliable fault same stays = λ all. ((λ i v at. all i v (sym (ap (λ vs. slice_get vs i) same) ∙ at)), no-failure fault stays)
 
-  module _ (i : ℕ) (v u : replica.Shown Cmd Setup B) (there : slice_get old.sites i ≡ Some v) (changes : new.sites ≡ slice_set old.sites i u)
+  module _ (i : ℕ) (v u : ShownSite Cmd Setup B) (there : slice_get old.sites i ≡ Some v) (changes : new.sites ≡ slice_set old.sites i u)
       (result : Result FallFault SiteFault) (keeps : c.is_reliable v.cell → c.is_reliable u.cell × (result ≢ Ok (OfStep (OfSiteFault CellFault)))) where
     after : AreReliable c old → AreReliable c new
     after all j w at = reliable-after c.is_reliable old.sites i v u all (keeps (all i v there)).0 j w (sym (ap (λ vs. slice_get vs j) changes) ∙ at)

@@ -15,9 +15,9 @@ use Rattle.vr_types.specs.declared.limits.TheConstants.{MAX_ROWS}
 use Rattle.vr_types.specs.Cell.{max_number}
 use Rattle.vr_types.specs.Group.{sites}
 use Rattle.vr_types.specs.Site.{Site, is_running}
-use Rattle.vr_site.specs.Replica as replica
+use Rattle.vr_site.specs.Replica.{ShownSite}
 use Rattle.rtgs_node.specs.Node.{Node}
-use Rattle.rtgs_node.specs.Shown as node
+use Rattle.rtgs_node.specs.Shown.{ShownNode}
 use Rattle.agreement.specs.Progress.{runs_at}
 use Rattle.agreement.proofs.Onward as alone
 use Rattle.headline.specs.Bank.{Bank}
@@ -25,8 +25,8 @@ use Rattle.headline.specs.Legal.{LegalList}
 use Rattle.headline.specs.Progress as progress
 use Rattle.headline.proofs.Basics.{none-some, some-same, there, place_of}
 use Rattle.headline.proofs.Reached.{legal-holds}
-use Rattle.pvp_world.specs.World.{Shown, ShowsBank, IsAt}
-use Rattle.pvp_world.specs.Progress.{CanGoOn, GoesOn, running, unanswered, has_room, can_go_on}
+use Rattle.pvp_world.specs.World.{ShownWorld, ShowsBank, IsAt}
+use Rattle.pvp_world.specs.Progress.{CanGoOn, GoesOn, running_count, unanswered_count, has_room, can_go_on}
 use Rattle.pvp_world.proofs.Proved.{shows_there}
 
 -- LISTS OF WHICH EACH IS SO OF THE ONE IN ITS PLACE
@@ -68,14 +68,14 @@ all_of p (x ∷ xs) each = both (p x) (list_all p xs) (each 0 x refl) (all_of p 
 
 -- HOW MANY NOTICES ARE NOT ANSWERED
 
-abbrev pub open_at : node.Shown → ℕ
+abbrev pub open_at : ShownNode → ℕ
 open_at shown = length shown.node.notices - shown.node.answered
 
 cut_later : (a n most : ℕ) → min (min a most + n) most ≡ min (a + n) most
 cut_later a n most = omega arith
 
 -- a sum that is cut at a greatest one, and one node more
-pub one_more : (xs : List node.Shown) (i : ℕ) (x : node.Shown) (sum n most : ℕ) → i < length xs → x ≡ get_or xs i x → n ≡ open_at x
+pub one_more : (xs : List ShownNode) (i : ℕ) (x : ShownNode) (sum n most : ℕ) → i < length xs → x ≡ get_or xs i x → n ≡ open_at x
     → sum ≡ min (sum_by open_at (take i xs)) most → min (sum + n) most ≡ min (sum_by open_at (take (i + 1) xs)) most
 one_more xs i x sum n most low is count so_far =
     let more = sum_by_more open_at xs i x low in
@@ -124,27 +124,27 @@ lt_yes a b h = grind (arith, nat_tests, h)
 lt_of : (a b : ℕ) → nat_lt a b ≡ true → a < b
 lt_of a b e = grind (arith, nat_tests, e)
 
-module _ {B : Type 0} (held : B → Boot) (world : Shown B) (bank : Bank) (shows : ShowsBank held world bank)
+module _ {B : Type 0} (held : B → Boot) (world : ShownWorld B) (bank : Bank) (shows : ShowsBank held world bank)
     (size : length bank.sites ≡ 2 * faults world.setup + 1) where
-  run_is : running world ≡ count_by (runs_at bank.sites) (sites (faults world.setup))
+  run_is : running_count world ≡ count_by (runs_at bank.sites) (sites (faults world.setup))
   run_is =
-      each_count (λ (v : replica.Shown Cmd Setup B). is_running v.volatile.status) (λ (x : Site Cmd). is_running x.status) world.sites
+      each_count (λ (v : ShownSite Cmd Setup B). is_running v.volatile.status) (λ (x : Site Cmd). is_running x.status) world.sites
       bank.sites shows.sites.count
       (λ i v x at at'. sym (ap (λ (y : Site Cmd). is_running y.status) (shows.sites.each i v x at at').site))
       ∙ (sym (runs_are bank.sites) ∙ ap (λ (n : ℕ). count_by (runs_at bank.sites) (range_with_len 0 n)) size)
 
-  notices_are : unanswered world ≡ progress.unanswered bank
+  notices_are : unanswered_count world ≡ progress.unanswered_count bank
   notices_are =
-      each_sum (λ (s : node.Shown). length s.node.notices - s.node.answered) (λ (x : Node). length x.notices - x.answered) world.nodes
+      each_sum (λ (s : ShownNode). length s.node.notices - s.node.answered) (λ (x : Node). length x.notices - x.answered) world.nodes
       bank.nodes shows.nodes.count
-      (λ c v x at at'. ap (λ (s : node.Shown). length s.node.notices - s.node.answered) (shows.nodes.each c v x at at'))
+      (λ c v x at at'. ap (λ (s : ShownNode). length s.node.notices - s.node.answered) (shows.nodes.each c v x at at'))
 
   -- a site of the bank has room where what is shown of it has
   record HasRoom (x : Site Cmd) : Type 0 where
     view : x.view + 2 * (2 * faults world.setup + 1) ≤ max_number
-    space : 2 * (length x.log + length bank.clients) + progress.unanswered bank ≤ MAX_ROWS
+    space : 2 * (length x.log + length bank.clients) + progress.unanswered_count bank ≤ MAX_ROWS
 
-  room_there : (i : ℕ) (v : replica.Shown Cmd Setup B) (x : Site Cmd) → slice_get world.sites i ≡ Some v → slice_get bank.sites i ≡ Some x
+  room_there : (i : ℕ) (v : ShownSite Cmd Setup B) (x : Site Cmd) → slice_get world.sites i ≡ Some v → slice_get bank.sites i ≡ Some x
       → has_room world v ≡ true → HasRoom x
   room_there i v x at at' has =
       let is = (shows.sites.each i v x at at').site in
@@ -152,14 +152,14 @@ module _ {B : Type 0} (held : B → Boot) (world : Shown B) (bank : Bank) (shows
       let long = ap (λ (y : Site Cmd). length y.log) is in
       let parts =
       and_parts (nat_le (v.volatile.view + 2 * (2 * faults world.setup + 1)) max_number)
-      (nat_le (2 * (length v.volatile.log + length world.clients) + unanswered world) MAX_ROWS) has in
+      (nat_le (2 * (length v.volatile.log + length world.clients) + unanswered_count world) MAX_ROWS) has in
       let a = le_of (v.volatile.view + 2 * (2 * faults world.setup + 1)) max_number parts.0 in
-      let b = le_of (2 * (length v.volatile.log + length world.clients) + unanswered world) MAX_ROWS parts.1 in
+      let b = le_of (2 * (length v.volatile.log + length world.clients) + unanswered_count world) MAX_ROWS parts.1 in
       let c = shows.clients.count in
       let d = notices_are in
       record { view = omega arith; space = omega arith }
 
-  room_shown : (i : ℕ) (v : replica.Shown Cmd Setup B) (x : Site Cmd) → slice_get world.sites i ≡ Some v → slice_get bank.sites i ≡ Some x → HasRoom x
+  room_shown : (i : ℕ) (v : ShownSite Cmd Setup B) (x : Site Cmd) → slice_get world.sites i ≡ Some v → slice_get bank.sites i ≡ Some x → HasRoom x
       → has_room world v ≡ true
   room_shown i v x at at' has =
       let is = (shows.sites.each i v x at at').site in
@@ -170,21 +170,21 @@ module _ {B : Type 0} (held : B → Boot) (world : Shown B) (bank : Bank) (shows
       let e = has.view in
       let g = has.space in
       both (nat_le (v.volatile.view + 2 * (2 * faults world.setup + 1)) max_number)
-      (nat_le (2 * (length v.volatile.log + length world.clients) + unanswered world) MAX_ROWS)
+      (nat_le (2 * (length v.volatile.log + length world.clients) + unanswered_count world) MAX_ROWS)
       (le_yes (v.volatile.view + 2 * (2 * faults world.setup + 1)) max_number (omega arith))
-      (le_yes (2 * (length v.volatile.log + length world.clients) + unanswered world) MAX_ROWS (omega arith))
+      (le_yes (2 * (length v.volatile.log + length world.clients) + unanswered_count world) MAX_ROWS (omega arith))
 
   can_there : can_go_on world ≡ true → progress.CanGoOn (faults world.setup) bank
   can_there can = record {
     sites = record {
-      many = let m = lt_of (faults world.setup) (running world) parts.0 in let r = run_is in omega arith;
+      many = let m = lt_of (faults world.setup) (running_count world) parts.0 in let r = run_is in omega arith;
       room = λ x in'. (each x in').view;
     };
     space = λ x in'. (each x in').space;
   }
     where
-      parts : (nat_lt (faults world.setup) (running world) ≡ true) × (list_all (has_room world) world.sites ≡ true)
-      parts = let p = and_parts (nat_lt (faults world.setup) (running world)) (list_all (has_room world) world.sites) can in (p.0, p.1)
+      parts : (nat_lt (faults world.setup) (running_count world) ≡ true) × (list_all (has_room world) world.sites ≡ true)
+      parts = let p = and_parts (nat_lt (faults world.setup) (running_count world)) (list_all (has_room world) world.sites) can in (p.0, p.1)
 
       each : (x : Site Cmd) → Contains bank.sites x → HasRoom x
       each x in' =
@@ -195,11 +195,11 @@ module _ {B : Type 0} (held : B → Boot) (world : Shown B) (bank : Bank) (shows
           room_there t.0 v.0 x v.1 t.1 (all_at (has_room world) world.sites t.0 v.0 parts.1 v.1)
 
   can_shown : progress.CanGoOn (faults world.setup) bank → can_go_on world ≡ true
-  can_shown can = both (nat_lt (faults world.setup) (running world)) (list_all (has_room world) world.sites)
-      (lt_yes (faults world.setup) (running world) (let m = can.sites.many in let r = run_is in omega arith))
+  can_shown can = both (nat_lt (faults world.setup) (running_count world)) (list_all (has_room world) world.sites)
+      (lt_yes (faults world.setup) (running_count world) (let m = can.sites.many in let r = run_is in omega arith))
       (all_of (has_room world) world.sites each)
     where
-      each : (i : ℕ) (v : replica.Shown Cmd Setup B) → slice_get world.sites i ≡ Some v → has_room world v ≡ true
+      each : (i : ℕ) (v : ShownSite Cmd Setup B) → slice_get world.sites i ≡ Some v → has_room world v ≡ true
       each i v at =
           let low = slice_get_within world.sites i v at in
           let c = shows.sites.count in
@@ -214,7 +214,7 @@ all_there {setup} {f} list =
     ap (length {A = Site Cmd}) (sym h.sites) ∙ alone.all_there f
     (record { choose = list.choose; right = list.right; cells = list.cells; events = h.events; world = h.world; legal = h.alone })
 
-module _ {B : Type 0} (held : B → Boot) (world : Shown B) (at : IsAt held world)
+module _ {B : Type 0} (held : B → Boot) (world : ShownWorld B) (at : IsAt held world)
     (one_bank : (setup : Setup) (f : ℕ) (a b : LegalList setup f) → a.cells ≡ b.cells → a.moves ≡ b.moves → a.bank ≡ b.bank) where
   pub exact : IsTrue (can_go_on world) ↔ CanGoOn world
   exact = (

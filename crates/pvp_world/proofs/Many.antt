@@ -5,7 +5,7 @@ use Rattle.pvp_types.specs.declared.step.Step.{Step}
 use Rattle.headline.specs.declared.step.Move.TheVariants.{Takes}
 use Rattle.headline.proofs.Basics.{none-some, some-same}
 use Rattle.pvp_world.specs.declared.fault.WorldFault.{WorldFault}
-use Rattle.pvp_world.specs.World.{Shown}
+use Rattle.pvp_world.specs.World.{ShownWorld}
 use Rattle.pvp_world.specs.Steps.{Moves, AreTaken, IsRefused, TellsFailures, failures, IsStopped}
 
 -- the first elements and the next one
@@ -29,10 +29,10 @@ map-more : (steps : List Step) (s : Step) → map (λ step. Takes step) (steps +
 map-more [] s = refl
 map-more (t ∷ steps) s = ap (λ zs. Takes t ∷ zs) (map-more steps s)
 
-pub none-taken : {B : Type 0} (old : Shown B) → AreTaken old old []
+pub none-taken : {B : Type 0} (old : ShownWorld B) → AreTaken old old []
 none-taken old = record { setup = refl; opening = refl; trail = sym (append-nil old.trail) }
 
-module _ {B : Type 0} (c : Cell B) (old mid new : Shown B) (steps : List Step) (i : ℕ) (s : Step) (at : slice_get steps i ≡ Some s)
+module _ {B : Type 0} (c : Cell B) (old mid new : ShownWorld B) (steps : List Step) (i : ℕ) (s : Step) (at : slice_get steps i ≡ Some s)
     (taken : AreTaken old mid (take i steps)) where
   taken-next : Moves c.held mid new (Takes s) → AreTaken old new (take (suc i) steps)
   taken-next moves = record {

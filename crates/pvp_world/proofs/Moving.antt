@@ -14,13 +14,13 @@ use Rattle.vr_types.specs.declared.event.Status.TheVariants.{Down}
 use Rattle.vr_types.specs.Choice.{Choice, IsRight}
 use Rattle.vr_types.specs.Handling.{refusal, site_step, IsFall, envelopes}
 use Rattle.vr_types.specs.Site.{Site, over}
-use Rattle.vr_site.specs.Replica as replica
-use Rattle.vr_site.specs.Replica.{site_shown}
+use Rattle.vr_site.specs.Replica.{ShownSite, site_shown}
 use Rattle.pvp_book.specs.Ledger.{opening}
 use Rattle.rtgs_node.specs.declared.event.NodeEvent.{NodeEvent}
 use Rattle.rtgs_node.specs.declared.fault.NodeFault.{NodeFault}
 use Rattle.rtgs_node.specs.Node.{Envelope, node_step}
 use Rattle.rtgs_node.specs.Shown as node
+use Rattle.rtgs_node.specs.Shown.{ShownNode}
 use Rattle.headline.specs.declared.step.ClientEvent.{ClientEvent}
 use Rattle.headline.specs.declared.step.ClientFault.{ClientFault}
 use Rattle.headline.specs.declared.step.ClientFault.TheVariants as client_fault
@@ -39,9 +39,10 @@ use Rattle.pvp_world.proofs.Sent.{few-sites, node-few, client-few}
 use Rattle.pvp_world.specs.declared.fault.WorldFault.TheVariants.{Site as OfSiteFault, Node as OfNodeFault}
 use Rattle.pvp_world.specs.declared.report.Report.{Report}
 use Rattle.pvp_world.specs.Client as client
-use Rattle.pvp_world.specs.World.{Shown, world_of, AreEach, IsSite, IsNode, IsClient, ShowsBank, IsAt}
+use Rattle.pvp_world.specs.Client.{ShownClient}
+use Rattle.pvp_world.specs.World.{ShownWorld, world_of, AreEach, IsSite, IsNode, IsClient, ShowsBank, IsAt}
 use Rattle.pvp_world.specs.Steps.{IsReport, Moves, IsOverSaved, IsTaken, HasFallen, IsRefused, IsWhy, is_fall, is_world_fall, told_as}
-use Rattle.pvp_world.specs.Serving.{IsServed, IsUnserved, IsDown, IsKept, HoldsSaved}
+use Rattle.pvp_world.specs.Serving.{IsServed, IsUnserved, IsDown, HasRefused, HoldsSaved}
 use Rattle.pvp_world.proofs.Sites.{refusal-stays}
 
 -- one event at a turn
@@ -93,13 +94,13 @@ set-each Is xs ys i x y are is = record {
   each = set-both Is xs ys i x y are.each is;
 }
 
-module _ {B : Type 0} (held : B → Boot) (setup : Setup) (first : List Boot) (sites : List (replica.Shown Cmd Setup B)) (nodes : List node.Shown)
-    (clients : List client.Shown) (post : List Envelope) (trail : List Move) where
-  abbrev old : Shown B
+module _ {B : Type 0} (held : B → Boot) (setup : Setup) (first : List Boot) (sites : List (ShownSite Cmd Setup B)) (nodes : List ShownNode)
+    (clients : List ShownClient) (post : List Envelope) (trail : List Move) where
+  abbrev old : ShownWorld B
   old = world_of setup first sites nodes clients post trail
 
   -- a move that the list before it allows
-  moved : (at : IsAt held old) (move : Move) (after : Bank) (new : Shown B) → Leads setup at.list.choose (faults setup) at.list.bank move after
+  moved : (at : IsAt held old) (move : Move) (after : Bank) (new : ShownWorld B) → Leads setup at.list.choose (faults setup) at.list.bank move after
       → ShowsBank held new after
       → new.setup ≡ setup → new.opening ≡ first → new.trail ≡ trail ++ move ∷ [] → Moves held old new move
   moved at move after new leads shows made opened trailed = record {
@@ -116,7 +117,7 @@ module _ {B : Type 0} (held : B → Boot) (setup : Setup) (first : List Boot) (s
   }
 
   -- the world is where its trail leads
-  pub moves-at : (sites' : List (replica.Shown Cmd Setup B)) (nodes' : List node.Shown) (clients' : List client.Shown) (post' : List Envelope)
+  pub moves-at : (sites' : List (ShownSite Cmd Setup B)) (nodes' : List ShownNode) (clients' : List ShownClient) (post' : List Envelope)
       (trail' : List Move) (move : Move)
       → Moves held old (world_of setup first sites' nodes' clients' post' trail') move → IsAt held (world_of setup first sites' nodes' clients' post' trail')
   moves-at sites' nodes' clients' post' trail' move moves =
@@ -152,7 +153,7 @@ module _ {B : Type 0} (held : B → Boot) (setup : Setup) (first : List Boot) (s
     turns t is = ap (λ p. turn p step) (sym at.shows.post) ∙ is
 
     -- A SITE'S TURN
-    pub site-taken : (i : ℕ) (event : EventOf Cmd Answer PaymentOrder) (v new : replica.Shown Cmd Setup B) (posted : List Envelope)
+    pub site-taken : (i : ℕ) (event : EventOf Cmd Answer PaymentOrder) (v new : ShownSite Cmd Setup B) (posted : List Envelope)
         (trailed : List Move) (report : Report)
         → turn post step ≡ Some (OfSite i event) → slice_get sites i ≡ Some v
         → ((x : Site Cmd) (choose : Choice Cmd) → IsRight (faults setup) choose → IsSite held setup i v x
@@ -184,7 +185,7 @@ module _ {B : Type 0} (held : B → Boot) (setup : Setup) (first : List Boot) (s
         }
 
     -- A SITE'S FALL
-    pub site-down : (i : ℕ) (event : EventOf Cmd Answer PaymentOrder) (v new : replica.Shown Cmd Setup B) (posted : List Envelope)
+    pub site-down : (i : ℕ) (event : EventOf Cmd Answer PaymentOrder) (v new : ShownSite Cmd Setup B) (posted : List Envelope)
         (trailed : List Move) (cell : Boot)
         → turn post step ≡ Some (OfSite i event) → slice_get sites i ≡ Some v → cell ≡ held new.cell
         → ((x : Site Cmd) (choose : Choice Cmd) → IsRight (faults setup) choose → IsSite held setup i v x → IsDown held setup choose i x event new)
@@ -218,7 +219,7 @@ module _ {B : Type 0} (held : B → Boot) (setup : Setup) (first : List Boot) (s
         refl refl noted
 
     -- over what its event saves
-    pub down-saved : (i : ℕ) (event : EventOf Cmd Answer PaymentOrder) (v new : replica.Shown Cmd Setup B) (posted : List Envelope)
+    pub down-saved : (i : ℕ) (event : EventOf Cmd Answer PaymentOrder) (v new : ShownSite Cmd Setup B) (posted : List Envelope)
         (trailed : List Move) (cell : Boot)
         (is : turn post step ≡ Some (OfSite i event)) (there : slice_get sites i ≡ Some v) (cell_is : cell ≡ held new.cell)
         (goes : (x : Site Cmd) (choose : Choice Cmd) → IsRight (faults setup) choose → IsSite held setup i v x → IsDown held setup choose i x event new)
@@ -230,7 +231,7 @@ module _ {B : Type 0} (held : B → Boot) (setup : Setup) (first : List Boot) (s
         let x = other-there sites bank.sites i v at.shows.sites.count there in
         cell_is ∙ saves x.0 choose at.list.right (at.shows.sites.each i v x.0 there x.1)
 
-    pub site-fell : (i : ℕ) (event : EventOf Cmd Answer PaymentOrder) (v new : replica.Shown Cmd Setup B) (posted : List Envelope) (trailed : List Move)
+    pub site-fell : (i : ℕ) (event : EventOf Cmd Answer PaymentOrder) (v new : ShownSite Cmd Setup B) (posted : List Envelope) (trailed : List Move)
         (fault : SiteFault) (cell : Boot)
         → turn post step ≡ Some (OfSite i event) → slice_get sites i ≡ Some v → is_fall fault ≡ true → cell ≡ held new.cell
         → ((x : Site Cmd) (choose : Choice Cmd) → IsRight (faults setup) choose → IsSite held setup i v x
@@ -250,7 +251,7 @@ module _ {B : Type 0} (held : B → Boot) (setup : Setup) (first : List Boot) (s
           no_crash = λ site crash. fell.no_crash (same-event site i event (sym (ap (λ (s : Step). turn post s) crash) ∙ is));
         }
 
-    pub site-falls : (i : ℕ) (event : EventOf Cmd Answer PaymentOrder) (v new : replica.Shown Cmd Setup B) (posted : List Envelope) (trailed : List Move)
+    pub site-falls : (i : ℕ) (event : EventOf Cmd Answer PaymentOrder) (v new : ShownSite Cmd Setup B) (posted : List Envelope) (trailed : List Move)
         (fault : SiteFault) (cell : Boot)
         → turn post step ≡ Some (OfSite i event) → slice_get sites i ≡ Some v → is_fall fault ≡ true → cell ≡ held new.cell
         → ((x : Site Cmd) (choose : Choice Cmd) → IsRight (faults setup) choose → IsSite held setup i v x
@@ -263,7 +264,7 @@ module _ {B : Type 0} (held : B → Boot) (setup : Setup) (first : List Boot) (s
     }
 
     -- a site refuses its turn
-    pub site-stays : (i : ℕ) (event : EventOf Cmd Answer PaymentOrder) (v new : replica.Shown Cmd Setup B) (posted : List Envelope)
+    pub site-stays : (i : ℕ) (event : EventOf Cmd Answer PaymentOrder) (v new : ShownSite Cmd Setup B) (posted : List Envelope)
         (trailed : List Move) (fault : SiteFault)
         → slice_get sites i ≡ Some v → is_fall fault ≡ false
         → ((x : Site Cmd) (choose : Choice Cmd) → IsRight (faults setup) choose → IsSite held setup i v x
@@ -277,14 +278,14 @@ module _ {B : Type 0} (held : B → Boot) (setup : Setup) (first : List Boot) (s
         ∙ ap (λ p. world_of setup first sites nodes clients p trailed) served.sent
         ∙ ap (λ t. world_of setup first sites nodes clients post t) noted
 
-    named-refusal : (i : ℕ) (event : EventOf Cmd Answer PaymentOrder) (v : replica.Shown Cmd Setup B) {x : Site Cmd} → IsSite held setup i v x
+    named-refusal : (i : ℕ) (event : EventOf Cmd Answer PaymentOrder) (v : ShownSite Cmd Setup B) {x : Site Cmd} → IsSite held setup i v x
         → refusal {R = Answer} {O = PaymentOrder} v.f v.me (site_shown held v []) event ≡ refusal (faults setup) i x event
     named-refusal i event v {x} shown =
         ap (λ (f : ℕ). refusal {R = Answer} {O = PaymentOrder} f v.me (site_shown held v x.collected.acks) event) shown.f
         ∙ ap (λ (me : ℕ). refusal {R = Answer} {O = PaymentOrder} (faults setup) me (site_shown held v x.collected.acks) event) shown.me
         ∙ ap (λ (y : Site Cmd). refusal {R = Answer} {O = PaymentOrder} (faults setup) i y event) (sym shown.site)
 
-    pub site-refuses : (i : ℕ) (event : EventOf Cmd Answer PaymentOrder) (v new : replica.Shown Cmd Setup B) (posted : List Envelope)
+    pub site-refuses : (i : ℕ) (event : EventOf Cmd Answer PaymentOrder) (v new : ShownSite Cmd Setup B) (posted : List Envelope)
         (trailed : List Move) (fault : SiteFault)
         → turn post step ≡ Some (OfSite i event) → slice_get sites i ≡ Some v → is_fall fault ≡ false
         → ((x : Site Cmd) (choose : Choice Cmd) → IsRight (faults setup) choose → IsSite held setup i v x
@@ -305,9 +306,9 @@ module _ {B : Type 0} (held : B → Boot) (setup : Setup) (first : List Boot) (s
         }
 
     -- a site refuses to fall
-    pub site-keeps : (i : ℕ) (event : EventOf Cmd Answer PaymentOrder) (v new : replica.Shown Cmd Setup B) (trailed : List Move) (fault : SiteFault)
+    pub site-keeps : (i : ℕ) (event : EventOf Cmd Answer PaymentOrder) (v new : ShownSite Cmd Setup B) (trailed : List Move) (fault : SiteFault)
         → turn post step ≡ Some (OfSite i event) → slice_get sites i ≡ Some v
-        → ((x : Site Cmd) (choose : Choice Cmd) → IsRight (faults setup) choose → IsSite held setup i v x → IsKept setup i x event v new fault)
+        → ((x : Site Cmd) (choose : Choice Cmd) → IsRight (faults setup) choose → IsSite held setup i v x → HasRefused setup i x event v new fault)
         → trailed ≡ trail
         → (world_of setup first (slice_set sites i new) nodes clients post trailed ≡ old) × IsWhy held old step (OfSiteFault fault) × (is_fall fault ≡ false)
     site-keeps i event v new trailed fault is there keeps noted =
@@ -321,7 +322,7 @@ module _ {B : Type 0} (held : B → Boot) (setup : Setup) (first : List Boot) (s
         )
 
     -- A NODE'S TURN
-    pub node-taken : (i : ℕ) (event : NodeEvent) (v new : node.Shown) (sent posted : List Envelope) (trailed : List Move) (report : Report)
+    pub node-taken : (i : ℕ) (event : NodeEvent) (v new : ShownNode) (sent posted : List Envelope) (trailed : List Move) (report : Report)
         → turn post step ≡ Some (OfNode i event) → slice_get nodes i ≡ Some v → node.IsStep v new (node.step_of v event) sent
         → posted ≡ post ++ sent → IsReport post posted None report → trailed ≡ trail ++ Takes step ∷ []
         → IsTaken held old (world_of setup first sites (slice_set nodes i new) clients posted trailed) step report
@@ -330,7 +331,7 @@ module _ {B : Type 0} (held : B → Boot) (setup : Setup) (first : List Boot) (s
         let x = other-there nodes bank.nodes i v at.shows.nodes.count there in
         let shown = at.shows.nodes.each i v x.0 there x.1 in
         let s = node_step setup (faults setup) i x.0 event in
-        let same = ap (λ (w : node.Shown). node_step w.setup (faults w.setup) w.ccy w.node event) shown in
+        let same = ap (λ (w : ShownNode). node_step w.setup (faults w.setup) w.ccy w.node event) shown in
         record {
           moves = moved at (Takes step) (with_node bank i s.node s.sent) (world_of setup first sites (slice_set nodes i new) clients posted trailed)
               (record {
@@ -341,7 +342,7 @@ module _ {B : Type 0} (held : B → Boot) (setup : Setup) (first : List Boot) (s
               (record {
                 sites = at.shows.sites;
                 nodes = set-each (IsNode setup) nodes bank.nodes i new s.node at.shows.nodes
-                    (steps.node ∙ ap (λ (w : node.Shown). record w { node = (node_step v.setup (faults v.setup) v.ccy v.node event).node }) shown
+                    (steps.node ∙ ap (λ (w : ShownNode). record w { node = (node_step v.setup (faults v.setup) v.ccy v.node event).node }) shown
                     ∙ ap (λ n. record { setup = setup; ccy = i; node = n }) (ap (λ t. t.node) same));
                 clients = at.shows.clients;
                 post = put ∙ ap (λ p. p ++ sent) at.shows.post ∙ ap (λ p. bank.post ++ p) (steps.sends ∙ ap (λ t. t.sent) same);
@@ -350,7 +351,7 @@ module _ {B : Type 0} (held : B → Boot) (setup : Setup) (first : List Boot) (s
           told = told;
         }
 
-    pub node-stays : (i : ℕ) (event : NodeEvent) (v new : node.Shown) (posted : List Envelope) (trailed : List Move) (fault : NodeFault)
+    pub node-stays : (i : ℕ) (event : NodeEvent) (v new : ShownNode) (posted : List Envelope) (trailed : List Move) (fault : NodeFault)
         → slice_get nodes i ≡ Some v → node.IsRefusal v new (node.step_of v event) fault
         → posted ≡ post → trailed ≡ trail → world_of setup first sites (slice_set nodes i new) clients posted trailed ≡ old
     node-stays i event v new posted trailed fault there refuses put noted =
@@ -358,7 +359,7 @@ module _ {B : Type 0} (held : B → Boot) (setup : Setup) (first : List Boot) (s
         ∙ ap (λ p. world_of setup first sites nodes clients p trailed) put
         ∙ ap (λ t. world_of setup first sites nodes clients post t) noted
 
-    pub node-refuses : (i : ℕ) (event : NodeEvent) (v new : node.Shown) (posted : List Envelope) (trailed : List Move) (fault : NodeFault)
+    pub node-refuses : (i : ℕ) (event : NodeEvent) (v new : ShownNode) (posted : List Envelope) (trailed : List Move) (fault : NodeFault)
         → turn post step ≡ Some (OfNode i event) → slice_get nodes i ≡ Some v → node.IsRefusal v new (node.step_of v event) fault
         → posted ≡ post → trailed ≡ trail
         → IsRefused held old (world_of setup first sites (slice_set nodes i new) clients posted trailed) step (OfNodeFault fault)
@@ -372,27 +373,27 @@ module _ {B : Type 0} (held : B → Boot) (setup : Setup) (first : List Boot) (s
     }
 
     -- what a node sends has room where there is room for one envelope a site
-    pub node-fits : IsValid setup → (i : ℕ) (event : NodeEvent) (v new : node.Shown) (sent : List Envelope) → slice_get nodes i ≡ Some v
+    pub node-fits : IsValid setup → (i : ℕ) (event : NodeEvent) (v new : ShownNode) (sent : List Envelope) → slice_get nodes i ≡ Some v
         → node.IsStep v new (node.step_of v event) sent → length sent ≤ 7
     unfolding node.step_of
     node-fits valid i event v new sent there steps =
         let x = other-there nodes bank.nodes i v at.shows.nodes.count there in
-        let made = ap (λ (w : node.Shown). w.setup) (at.shows.nodes.each i v x.0 there x.1) in
+        let made = ap (λ (w : ShownNode). w.setup) (at.shows.nodes.each i v x.0 there x.1) in
         let few = subst (λ (s : Setup). 2 * faults s + 1 ≤ 7) (sym made) (few-sites setup valid) in
         let low = node-few v.setup (faults v.setup) v.ccy v.node event in
         subst (λ es. length es ≤ 7) (sym steps.sends) (omega arith)
 
     -- A CLIENT'S TURN
-    pub client-fits : IsValid setup → (i : ℕ) (event : ClientEvent) (v new : client.Shown) (sent : List Envelope) → slice_get clients i ≡ Some v
+    pub client-fits : IsValid setup → (i : ℕ) (event : ClientEvent) (v new : ShownClient) (sent : List Envelope) → slice_get clients i ≡ Some v
         → client.IsStep v new (client.step_of v event) sent → length sent ≤ 7
     client-fits valid i event v new sent there steps =
         let x = other-there clients bank.clients i v at.shows.clients.count there in
-        let made = ap (λ (w : client.Shown). w.f) (at.shows.clients.each i v x.0 there x.1) in
+        let made = ap (λ (w : ShownClient). w.f) (at.shows.clients.each i v x.0 there x.1) in
         let few = subst (λ (f : ℕ). 2 * f + 1 ≤ 7) (sym made) (few-sites setup valid) in
         let low = client-few v.f v.me v.client event in
         subst (λ es. length es ≤ 7) (sym steps.sends) (omega arith)
 
-    pub client-taken : (i : ℕ) (event : ClientEvent) (v new : client.Shown) (sent posted : List Envelope) (trailed : List Move) (report : Report)
+    pub client-taken : (i : ℕ) (event : ClientEvent) (v new : ShownClient) (sent posted : List Envelope) (trailed : List Move) (report : Report)
         → turn post step ≡ Some (OfClient i event) → slice_get clients i ≡ Some v → client.IsStep v new (client.step_of v event) sent
         → posted ≡ post ++ sent → IsReport post posted None report → trailed ≡ trail ++ Takes step ∷ []
         → IsTaken held old (world_of setup first sites nodes (slice_set clients i new) posted trailed) step report
@@ -401,7 +402,7 @@ module _ {B : Type 0} (held : B → Boot) (setup : Setup) (first : List Boot) (s
         let x = other-there clients bank.clients i v at.shows.clients.count there in
         let shown = at.shows.clients.each i v x.0 there x.1 in
         let s = client_step (faults setup) i x.0 event in
-        let same = ap (λ (w : client.Shown). client_step w.f w.me w.client event) shown in
+        let same = ap (λ (w : ShownClient). client_step w.f w.me w.client event) shown in
         record {
           moves = moved at (Takes step) (with_client bank i s.client s.sent) (world_of setup first sites nodes (slice_set clients i new) posted trailed)
               (record {
@@ -413,7 +414,7 @@ module _ {B : Type 0} (held : B → Boot) (setup : Setup) (first : List Boot) (s
                 sites = at.shows.sites;
                 nodes = at.shows.nodes;
                 clients = set-each (IsClient setup) clients bank.clients i new s.client at.shows.clients
-                    (steps.client ∙ ap (λ (w : client.Shown). record w { client = (client_step v.f v.me v.client event).client }) shown
+                    (steps.client ∙ ap (λ (w : ShownClient). record w { client = (client_step v.f v.me v.client event).client }) shown
                     ∙ ap (λ n. record { f = faults setup; me = i; client = n }) (ap (λ t. t.client) same));
                 post = put ∙ ap (λ p. p ++ sent) at.shows.post ∙ ap (λ p. bank.post ++ p) (steps.sends ∙ ap (λ t. t.sent) same);
               })
@@ -421,7 +422,7 @@ module _ {B : Type 0} (held : B → Boot) (setup : Setup) (first : List Boot) (s
           told = told;
         }
 
-    pub client-stays : (i : ℕ) (event : ClientEvent) (v new : client.Shown) (posted : List Envelope) (trailed : List Move) (fault : ClientFault)
+    pub client-stays : (i : ℕ) (event : ClientEvent) (v new : ShownClient) (posted : List Envelope) (trailed : List Move) (fault : ClientFault)
         → slice_get clients i ≡ Some v → client.IsRefusal v new (client.step_of v event) fault
         → posted ≡ post → trailed ≡ trail → world_of setup first sites nodes (slice_set clients i new) posted trailed ≡ old
     client-stays i event v new posted trailed fault there refuses put noted =
@@ -429,7 +430,7 @@ module _ {B : Type 0} (held : B → Boot) (setup : Setup) (first : List Boot) (s
         ∙ ap (λ p. world_of setup first sites nodes clients p trailed) put
         ∙ ap (λ t. world_of setup first sites nodes clients post t) noted
 
-    pub client-refuses : (i : ℕ) (event : ClientEvent) (v new : client.Shown) (posted : List Envelope) (trailed : List Move) (fault : ClientFault)
+    pub client-refuses : (i : ℕ) (event : ClientEvent) (v new : ShownClient) (posted : List Envelope) (trailed : List Move) (fault : ClientFault)
         → turn post step ≡ Some (OfClient i event) → slice_get clients i ≡ Some v → client.IsRefusal v new (client.step_of v event) fault
         → posted ≡ post → trailed ≡ trail
         → IsRefused held old (world_of setup first sites nodes (slice_set clients i new) posted trailed) step (told_as fault)

@@ -16,15 +16,14 @@ use Rattle.vr_types.specs.Cell.{is_new}
 use Rattle.vr_types.specs.Choice.{Choice, IsRight}
 use Rattle.vr_types.specs.Site.{Ack, opening_site, over, no_boots}
 use Rattle.vr_log.specs.Running.{SumUp}
-use Rattle.vr_site.specs.Replica as replica
-use Rattle.vr_site.specs.Replica.{site_shown}
+use Rattle.vr_site.specs.Replica.{ShownSite, site_shown}
 use Rattle.rtgs_node.specs.Node.{Envelope, opening_node}
-use Rattle.rtgs_node.specs.Shown as node
+use Rattle.rtgs_node.specs.Shown.{ShownNode}
 use Rattle.headline.specs.declared.step.Move.{Move}
 use Rattle.headline.specs.Bank.{opening_bank}
 use Rattle.headline.specs.Client.{opening_client}
 use Rattle.headline.proofs.Basics.{some-same, none-some, at-push}
-use Rattle.pvp_world.specs.Client as client
+use Rattle.pvp_world.specs.Client.{ShownClient}
 use Rattle.pvp_world.specs.World.{AreEach, IsSite, IsNode, IsClient, IsAt, world_of}
 use Rattle.pvp_world.proofs.Choosing.{any_choice}
 
@@ -106,7 +105,7 @@ opening_acks f cell = by (is_new cell)
     by false = refl
 
 -- what a replica over a cell shows
-pub IsSite-opening : {B : Type 0} (held : B → Boot) (setup : Setup) (i : ℕ) (v : replica.Shown Cmd Setup B) (cell : B)
+pub IsSite-opening : {B : Type 0} (held : B → Boot) (setup : Setup) (i : ℕ) (v : ShownSite Cmd Setup B) (cell : B)
     → v.f ≡ faults setup → v.me ≡ i → v.setup ≡ setup → SumUp v.volatile.acked [] → site_shown held v [] ≡ opening_site (faults setup) (held cell)
     → IsSite held setup i v (opening_site (faults setup) (held cell))
 IsSite-opening held setup i v cell f me made_from acks site =
@@ -120,8 +119,8 @@ IsSite-opening held setup i v cell f me made_from acks site =
     }
 
 -- A WORLD THAT IS NEW is where no move leads
-pub IsAt-opening : {B : Type 0} (held : B → Boot) (setup : Setup) (cells : List B) (copy : Setup) (first : List Boot) (sites : List (replica.Shown Cmd Setup B))
-    (nodes : List node.Shown) (clients : List client.Shown) (post : List Envelope) (trail : List Move)
+pub IsAt-opening : {B : Type 0} (held : B → Boot) (setup : Setup) (cells : List B) (copy : Setup) (first : List Boot) (sites : List (ShownSite Cmd Setup B))
+    (nodes : List ShownNode) (clients : List ShownClient) (post : List Envelope) (trail : List Move)
     → IsValid setup → length cells ≡ 2 * faults setup + 1 → copy ≡ setup → first ≡ map held cells
     → AreEach (IsSite held setup) sites (map (opening_site (faults setup)) (map held cells))
     → AreEach (IsNode setup) nodes (map (λ (currency : Currency). opening_node) setup.currencies)

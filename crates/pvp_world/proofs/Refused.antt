@@ -15,13 +15,13 @@ use Rattle.vr_types.specs.declared.event.SiteFault.TheVariants as site_fault
 use Rattle.vr_types.specs.Choice.{Choice}
 use Rattle.vr_types.specs.Handling.{refusal, site_step, is_refused, refused_or, on_event}
 use Rattle.vr_types.specs.Site.{Site}
-use Rattle.vr_site.specs.Replica as replica
-use Rattle.vr_site.specs.Replica.{site_shown}
+use Rattle.vr_site.specs.Replica.{ShownSite, site_shown}
 use Rattle.rtgs_node.specs.declared.event.NodeEvent.{NodeEvent}
 use Rattle.rtgs_node.specs.declared.fault.NodeFault.{NodeFault}
 use Rattle.rtgs_node.specs.declared.fault.NodeFault.TheVariants as node_fault
 use Rattle.rtgs_node.specs.Node.{Node, node_step}
 use Rattle.rtgs_node.specs.Shown as node
+use Rattle.rtgs_node.specs.Shown.{ShownNode}
 use Rattle.headline.specs.declared.step.ClientEvent.{ClientEvent}
 use Rattle.headline.specs.declared.step.ClientFault.{ClientFault}
 use Rattle.headline.specs.declared.step.ClientFault.TheVariants as client_fault
@@ -32,7 +32,8 @@ use Rattle.headline.specs.Bank.{Bank, turn}
 use Rattle.headline.specs.Legal.{Acts, FallsBy}
 use Rattle.headline.proofs.Basics.{none-some}
 use Rattle.pvp_world.specs.Client as client
-use Rattle.pvp_world.specs.World.{Shown, IsSite, ShowsBank}
+use Rattle.pvp_world.specs.Client.{ShownClient}
+use Rattle.pvp_world.specs.World.{ShownWorld, IsSite, ShowsBank}
 use Rattle.pvp_world.specs.Steps.{IsWhy, SiteRefuses, NodeRefuses, ClientRefuses, has_actor, is_fall, is_world_fall, told_as}
 use Rattle.pvp_world.specs.declared.fault.WorldFault.{WorldFault}
 use Rattle.pvp_world.specs.declared.fault.WorldFault.TheVariants as fault
@@ -81,7 +82,7 @@ module _ (setup : Setup) (choose : Choice Cmd) (bank : Bank) where
   falls-of-site (OfNode c event) cell after a = absurd a
   falls-of-site (OfClient k event) cell after a = absurd a
 
-module _ {B : Type 0} (held : B → Boot) (w : Shown B) (bank : Bank) (shows : ShowsBank held w bank) (step : Step) where
+module _ {B : Type 0} (held : B → Boot) (w : ShownWorld B) (bank : Bank) (shows : ShowsBank held w bank) (step : Step) where
   abbrev f : ℕ
   f = faults w.setup
 
@@ -96,7 +97,7 @@ module _ {B : Type 0} (held : B → Boot) (w : Shown B) (bank : Bank) (shows : S
   absent (OfClient k event) off =
       ap (λ (o : Option Client). client_refuses f k event o) (past bank.clients k (ap (λ n. nat_lt k n) (sym shows.clients.count) ∙ off))
 
-  named : (i : ℕ) (v : replica.Shown Cmd Setup B) (x : Site Cmd) (event : EventOf Cmd Answer PaymentOrder) → IsSite held w.setup i v x
+  named : (i : ℕ) (v : ShownSite Cmd Setup B) (x : Site Cmd) (event : EventOf Cmd Answer PaymentOrder) → IsSite held w.setup i v x
       → refusal {R = Answer} {O = PaymentOrder} f i x event ≡ refusal v.f v.me (site_shown held v []) event
   named i v x event shown =
       ap (λ (y : Site Cmd). refusal {R = Answer} {O = PaymentOrder} f i y event) shown.site
@@ -111,14 +112,14 @@ module _ {B : Type 0} (held : B → Boot) (w : Shown B) (bank : Bank) (shows : S
   site-why (OfNode c event) why r = absurd r
   site-why (OfClient k event) why r = absurd r
 
-  node-told : (c : ℕ) (event : NodeEvent) (v : node.Shown) (x : Node) (why : NodeFault) → hinders_node why ≡ false
+  node-told : (c : ℕ) (event : NodeEvent) (v : ShownNode) (x : Node) (why : NodeFault) → hinders_node why ≡ false
       → v ≡ record { setup = w.setup; ccy = c; node = x }
       → node.IsRefusal v v (node.step_of v event) why → (node_step w.setup f c x event).fault ≡ Some why
   unfolding node.step_of
   node-told c event v x why had shown r = by r.why
     where
       same : (node_step w.setup f c x event).fault ≡ (node_step v.setup (faults v.setup) v.ccy v.node event).fault
-      same = ap (λ (u : node.Shown). (node_step u.setup (faults u.setup) u.ccy u.node event).fault) (sym shown)
+      same = ap (λ (u : ShownNode). (node_step u.setup (faults u.setup) u.ccy u.node event).fault) (sym shown)
 
       by : ((node_step v.setup (faults v.setup) v.ccy v.node event).fault ≡ Some why)
           ⊎ ((why ≡ node_fault.NoMemory) × ((node_step v.setup (faults v.setup) v.ccy v.node event).fault ≡ None)
@@ -135,13 +136,13 @@ module _ {B : Type 0} (held : B → Boot) (w : Shown B) (bank : Bank) (shows : S
       ∙ ap (λ (o : Option NodeFault). option_map (λ why. fault.Node why) o) (node-told c event r.0 x.0 why had (shows.nodes.each c r.0 x.0 r.1 x.1) r.2)
   node-why (OfClient k event) why had r = absurd r
 
-  client-told : (k : ℕ) (event : ClientEvent) (v : client.Shown) (x : Client) (why : ClientFault) → hinders (told_as why) ≡ false
+  client-told : (k : ℕ) (event : ClientEvent) (v : ShownClient) (x : Client) (why : ClientFault) → hinders (told_as why) ≡ false
       → v ≡ record { f = f; me = k; client = x }
       → client.IsRefusal v v (client.step_of v event) why → (client_step f k x event).fault ≡ Some why
   client-told k event v x why had shown r = by r.why
     where
       same : (client_step f k x event).fault ≡ (client_step v.f v.me v.client event).fault
-      same = ap (λ (u : client.Shown). (client_step u.f u.me u.client event).fault) (sym shown)
+      same = ap (λ (u : ShownClient). (client_step u.f u.me u.client event).fault) (sym shown)
 
       by : ((client_step v.f v.me v.client event).fault ≡ Some why)
           ⊎ ((why ≡ client_fault.NoMemory) × ((client_step v.f v.me v.client event).fault ≡ None) × (0 < length (client_step v.f v.me v.client event).sent))

@@ -11,24 +11,24 @@ use Rattle.vr_types.specs.declared.event.EventOf.{EventOf}
 use Rattle.vr_types.specs.declared.event.SiteFault.{SiteFault}
 use Rattle.vr_types.specs.declared.event.SiteFault.TheVariants.{CellFault}
 use Rattle.vr_types.specs.Cell.{HasRisen}
-use Rattle.vr_site.specs.Replica as replica
+use Rattle.vr_site.specs.Replica.{ShownSite}
 use Rattle.headline.specs.declared.step.Turn.TheVariants.{OfSite}
 use Rattle.headline.specs.Bank.{turn}
 use Rattle.headline.proofs.Basics.{some-same, set-at}
 use Rattle.pvp_world.specs.declared.fault.WorldFault.{WorldFault}
 use Rattle.pvp_world.specs.declared.fault.WorldFault.TheVariants.{Site}
 use Rattle.pvp_world.specs.declared.report.Report.{Report}
-use Rattle.pvp_world.specs.World.{Shown}
+use Rattle.pvp_world.specs.World.{ShownWorld}
 use Rattle.pvp_world.specs.Steps.{AreReliable, TellsFailures, failures}
 
-module _ {B : Type 0} (IsReliable : B → Type 0) (sites : List (replica.Shown Cmd Setup B)) (i : ℕ) (v new : replica.Shown Cmd Setup B) where
+module _ {B : Type 0} (IsReliable : B → Type 0) (sites : List (ShownSite Cmd Setup B)) (i : ℕ) (v new : ShownSite Cmd Setup B) where
   -- of the sites one is changed
-  pub reliable-after : ((j : ℕ) (u : replica.Shown Cmd Setup B) → slice_get sites j ≡ Some u → IsReliable u.cell) → IsReliable new.cell
-      → (j : ℕ) (u : replica.Shown Cmd Setup B) → slice_get (slice_set sites i new) j ≡ Some u → IsReliable u.cell
+  pub reliable-after : ((j : ℕ) (u : ShownSite Cmd Setup B) → slice_get sites j ≡ Some u → IsReliable u.cell) → IsReliable new.cell
+      → (j : ℕ) (u : ShownSite Cmd Setup B) → slice_get (slice_set sites i new) j ≡ Some u → IsReliable u.cell
   reliable-after all keeps j u e = by (set-at sites i new j u e)
     where
       by : ((i ≡ j) × (new ≡ u)) ⊎ (slice_get sites j ≡ Some u) → IsReliable u.cell
-      by (inl h) = subst (λ (w : replica.Shown Cmd Setup B). IsReliable w.cell) h.1 keeps
+      by (inl h) = subst (λ (w : ShownSite Cmd Setup B). IsReliable w.cell) h.1 keeps
       by (inr h) = all j u h
 
 -- where one is changed to what is counted alike, so are all
@@ -58,7 +58,7 @@ other-fault result fault is other e = other (is ∙ ap (λ z. Err z) (same e))
     same : ◌≡◌ {A = Result Report WorldFault} (Err (Site fault)) (Err (Site CellFault)) → fault ≡ CellFault
     same d = cc
 
-module _ {B : Type 0} (c : Cell B) (old new : Shown B) (step : Step) where
+module _ {B : Type 0} (c : Cell B) (old new : ShownWorld B) (step : Step) where
   -- no site was asked
   pub none-tells : (result : Result Report WorldFault) → new.sites ≡ old.sites → result ≢ Err (Site CellFault) → TellsFailures c old new step result
   none-tells result same other = record {
@@ -67,7 +67,7 @@ module _ {B : Type 0} (c : Cell B) (old new : Shown B) (step : Step) where
     reliable = λ all. ((λ i v at. all i v (sym (ap (λ vs. slice_get vs i) same) ∙ at)), other);
   }
 
-  module _ (i : ℕ) (event : EventOf Cmd Answer PaymentOrder) (v u : replica.Shown Cmd Setup B)
+  module _ (i : ℕ) (event : EventOf Cmd Answer PaymentOrder) (v u : ShownSite Cmd Setup B)
       (is : turn old.post step ≡ Some (OfSite i event)) (there : slice_get old.sites i ≡ Some v) (changes : new.sites ≡ slice_set old.sites i u) where
     keeps : AreReliable c old → c.is_reliable u.cell → AreReliable c new
     keeps all kept j w at = reliable-after c.is_reliable old.sites i v u all kept j w (sym (ap (λ vs. slice_get vs j) changes) ∙ at)

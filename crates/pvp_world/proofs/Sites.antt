@@ -28,14 +28,13 @@ use Rattle.vr_types.specs.Step.{Step, Ending, Handled}
 use Rattle.vr_log.specs.Outcomes.{ended}
 use Rattle.vr_log.specs.Running.{SumUp}
 use Rattle.vr_site.specs.Life.{lost}
-use Rattle.vr_site.specs.Replica as replica
 use Rattle.vr_site.specs.Saving.{IsOneSave}
-use Rattle.vr_site.specs.Replica.{site_shown, Does, Falls, Handles}
+use Rattle.vr_site.specs.Replica.{ShownSite, site_shown, Does, Falls, Handles}
 use Rattle.rtgs_node.specs.Node.{Envelope}
 use Rattle.headline.proofs.Basics.{some-same, none-some}
 use Rattle.pvp_world.specs.World.{IsSite}
 use Rattle.pvp_world.specs.Steps.{is_fall}
-use Rattle.pvp_world.specs.Serving.{IsUnserved, IsDown, IsKept}
+use Rattle.pvp_world.specs.Serving.{IsUnserved, IsDown, HasRefused}
 use Rattle.pvp_world.proofs.Silent.{IsSilent, dropped-silent, crash-silent, silent-sends}
 
 -- A refusal is no fall.
@@ -71,7 +70,7 @@ restart-handled : (choose : Choice Cmd) (f me : ℕ) (x : Site Cmd) → is_refus
 unfolding on_restart
 restart-handled choose f me x = refl
 
-module _ {H B : Type 0} (m : Ghosts H Cmd Answer PaymentOrder Setup) (c : Cell B) (setup : Setup) (i : ℕ) (old new : replica.Shown Cmd Setup B)
+module _ {H B : Type 0} (m : Ghosts H Cmd Answer PaymentOrder Setup) (c : Cell B) (setup : Setup) (i : ℕ) (old new : ShownSite Cmd Setup B)
     (event : EventOf Cmd Answer PaymentOrder) (x : Site Cmd) (choose : Choice Cmd) (right : IsRight (faults setup) choose)
     (is : IsSite c.held setup i old x) where
   abbrev step : Step Cmd Answer PaymentOrder
@@ -124,7 +123,7 @@ module _ {H B : Type 0} (m : Ghosts H Cmd Answer PaymentOrder Setup) (c : Cell B
       ∙ ap (λ (y : Site Cmd). refusal (faults setup) i y event) (sym is.site)
 
   -- what was done is the step
-  done : (out : OutcomeOf Cmd Answer PaymentOrder) (mid : replica.Shown Cmd Setup B) (result : Result (OutcomeOf Cmd Answer PaymentOrder) SiteFault)
+  done : (out : OutcomeOf Cmd Answer PaymentOrder) (mid : ShownSite Cmd Setup B) (result : Result (OutcomeOf Cmd Answer PaymentOrder) SiteFault)
       → Handles m c old mid event result → result ≡ Ok out → Does m c old mid out named
   done out mid result handles answered =
       subst (λ (r : Result (OutcomeOf Cmd Answer PaymentOrder) SiteFault).
@@ -177,25 +176,25 @@ module _ {H B : Type 0} (m : Ghosts H Cmd Answer PaymentOrder Setup) (c : Cell B
           (handles.fall at) choose x.collected.acks right_here is.acks)
 
   -- its cell then holds what the event saves
-  pub saved-after : (out : OutcomeOf Cmd Answer PaymentOrder) (mid : replica.Shown Cmd Setup B) (result : Result (OutcomeOf Cmd Answer PaymentOrder) SiteFault)
+  pub saved-after : (out : OutcomeOf Cmd Answer PaymentOrder) (mid : ShownSite Cmd Setup B) (result : Result (OutcomeOf Cmd Answer PaymentOrder) SiteFault)
       → Handles m c old mid event result → result ≡ Ok out → new ≡ record mid { volatile = lost }
       → c.held new.cell ≡ step.site.cell
   saved-after out mid result handles answered fallen =
-      ap (λ (v : replica.Shown Cmd Setup B). c.held v.cell) fallen
+      ap (λ (v : ShownSite Cmd Setup B). c.held v.cell) fallen
       ∙ sym (ap (λ (s : Step Cmd Answer PaymentOrder). s.site.cell) (sym same) ∙ ap (λ (y : Site Cmd). y.cell) (done out mid result handles answered).site)
 
   -- a site that handled the event, and then fell
-  pub down-after : (out : OutcomeOf Cmd Answer PaymentOrder) (mid : replica.Shown Cmd Setup B) (result : Result (OutcomeOf Cmd Answer PaymentOrder) SiteFault)
+  pub down-after : (out : OutcomeOf Cmd Answer PaymentOrder) (mid : ShownSite Cmd Setup B) (result : Result (OutcomeOf Cmd Answer PaymentOrder) SiteFault)
       → Handles m c old mid event result → result ≡ Ok out → new ≡ record mid { volatile = lost }
       → IsDown c.held setup choose i x event new
   down-after out mid result handles answered fallen = record {
     falls = record { allowed = allowed; down = inr (ap (λ (k : Boot). over k Down) (saved-after out mid result handles answered fallen)) };
     site = record {
-      f = ap (λ (v : replica.Shown Cmd Setup B). v.f) fallen ∙ does.f ∙ is.f;
-      me = ap (λ (v : replica.Shown Cmd Setup B). v.me) fallen ∙ does.me ∙ is.me;
-      made_from = ap (λ (v : replica.Shown Cmd Setup B). v.setup) fallen ∙ does.setup ∙ is.made_from;
-      acks = subst (λ (v : replica.Shown Cmd Setup B). SumUp v.volatile.acked []) (sym fallen) none_summed;
-      site = ap (λ (k : Boot). over k Down) cell_is ∙ ap (λ (v : replica.Shown Cmd Setup B). site_shown c.held v []) (sym fallen);
+      f = ap (λ (v : ShownSite Cmd Setup B). v.f) fallen ∙ does.f ∙ is.f;
+      me = ap (λ (v : ShownSite Cmd Setup B). v.me) fallen ∙ does.me ∙ is.me;
+      made_from = ap (λ (v : ShownSite Cmd Setup B). v.setup) fallen ∙ does.setup ∙ is.made_from;
+      acks = subst (λ (v : ShownSite Cmd Setup B). SumUp v.volatile.acked []) (sym fallen) none_summed;
+      site = ap (λ (k : Boot). over k Down) cell_is ∙ ap (λ (v : ShownSite Cmd Setup B). site_shown c.held v []) (sym fallen);
     };
   }
     where
@@ -207,10 +206,10 @@ module _ {H B : Type 0} (m : Ghosts H Cmd Answer PaymentOrder Setup) (c : Cell B
           ap (λ (s : Step Cmd Answer PaymentOrder). is_refused s.ending) (sym same) ∙ ap (λ (e : Ending). is_refused e) does.ending ∙ ended-allowed out.dropped
 
       cell_is : c.held new.cell ≡ c.held mid.cell
-      cell_is = ap (λ (v : replica.Shown Cmd Setup B). c.held v.cell) fallen
+      cell_is = ap (λ (v : ShownSite Cmd Setup B). c.held v.cell) fallen
 
   -- a site that handled the event, and fell as the post took nothing of what it sent
-  pub fell-after : (out : OutcomeOf Cmd Answer PaymentOrder) (mid : replica.Shown Cmd Setup B) (result : Result (OutcomeOf Cmd Answer PaymentOrder) SiteFault)
+  pub fell-after : (out : OutcomeOf Cmd Answer PaymentOrder) (mid : ShownSite Cmd Setup B) (result : Result (OutcomeOf Cmd Answer PaymentOrder) SiteFault)
       (post posted : List Envelope)
       → Handles m c old mid event result → result ≡ Ok out → new ≡ record mid { volatile = lost } → posted ≡ post → out.sent.items ≢ []
       → IsUnserved c.held setup choose i x event old new post posted NoMemory
@@ -251,14 +250,14 @@ module _ {H B : Type 0} (m : Ghosts H Cmd Answer PaymentOrder Setup) (c : Cell B
 
   pub kept-unserved : (result : Result (OutcomeOf Cmd Answer PaymentOrder) SiteFault) (fault : SiteFault)
       → Handles m c old new event result → (event ≡ Crash → old.volatile.status ≢ Down → IsOk result) → result ≡ Err fault → is_fall fault ≡ false
-      → IsKept setup i x event old new fault
+      → HasRefused setup i x event old new fault
   kept-unserved result fault handles taken answered stays =
       let kept = (unserved result fault [] [] handles taken answered refl).refused stays in
       record { same = kept.0; refused = kept.1 }
 
   -- a site that refuses the event and is as it was
   pub kept-refused : (fault : SiteFault) → refusal {R = Answer} {O = PaymentOrder} old.f old.me (site_shown c.held old []) event ≡ Some fault → new ≡ old
-      → IsKept setup i x event old new fault
+      → HasRefused setup i x event old new fault
   kept-refused fault at kept = record { same = kept; refused = sym named-refusal ∙ at }
 
   -- a site that falls in place of a restart, before it saves
@@ -268,16 +267,16 @@ module _ {H B : Type 0} (m : Ghosts H Cmd Answer PaymentOrder Setup) (c : Cell B
   down-before at restart fallen = record {
     falls = record { allowed = allowed; down = inl (ap (λ (k : Boot). over k Down) (cell_is ∙ ap (λ (y : Site Cmd). y.cell) (sym is.site))) };
     site = record {
-      f = ap (λ (v : replica.Shown Cmd Setup B). v.f) fallen ∙ is.f;
-      me = ap (λ (v : replica.Shown Cmd Setup B). v.me) fallen ∙ is.me;
-      made_from = ap (λ (v : replica.Shown Cmd Setup B). v.setup) fallen ∙ is.made_from;
-      acks = subst (λ (v : replica.Shown Cmd Setup B). SumUp v.volatile.acked []) (sym fallen) none_summed;
-      site = ap (λ (k : Boot). over k Down) cell_is ∙ ap (λ (v : replica.Shown Cmd Setup B). site_shown c.held v []) (sym fallen);
+      f = ap (λ (v : ShownSite Cmd Setup B). v.f) fallen ∙ is.f;
+      me = ap (λ (v : ShownSite Cmd Setup B). v.me) fallen ∙ is.me;
+      made_from = ap (λ (v : ShownSite Cmd Setup B). v.setup) fallen ∙ is.made_from;
+      acks = subst (λ (v : ShownSite Cmd Setup B). SumUp v.volatile.acked []) (sym fallen) none_summed;
+      site = ap (λ (k : Boot). over k Down) cell_is ∙ ap (λ (v : ShownSite Cmd Setup B). site_shown c.held v []) (sym fallen);
     };
   }
     where
       cell_is : c.held new.cell ≡ c.held old.cell
-      cell_is = ap (λ (v : replica.Shown Cmd Setup B). c.held v.cell) fallen
+      cell_is = ap (λ (v : ShownSite Cmd Setup B). c.held v.cell) fallen
 
       allowed : is_refused step.ending ≡ false
       allowed =

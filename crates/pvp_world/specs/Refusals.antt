@@ -26,7 +26,7 @@ use Rattle.pvp_world.specs.declared.fault.WorldFault.{WorldFault}
 use Rattle.pvp_world.specs.declared.fault.WorldFault.TheVariants as fault
 use Rattle.pvp_world.specs.declared.fault.FallFault.{FallFault}
 use Rattle.pvp_world.specs.declared.fault.FallFault.TheVariants as fall_fault
-use Rattle.pvp_world.specs.World.{Shown}
+use Rattle.pvp_world.specs.World.{ShownWorld}
 use Rattle.pvp_world.specs.Steps.{told_as}
 
 -- an actor's own reason, where the actor is there
@@ -110,7 +110,7 @@ wants_fall fall_fault.Elsewhere = false
 
 -- A MOVE THAT A WORLD'S TRAIL ALLOWS: the trail is a legal list over the first values of its cells, which goes on with
 -- it
-pub record IsAllowed {B : Type 0} (world : Shown B) (move : Move) : Type 0 where
+pub record IsAllowed {B : Type 0} (world : ShownWorld B) (move : Move) : Type 0 where
   pub list : LegalList world.setup (faults world.setup)
   pub cells : list.cells ≡ world.opening
   pub moves : list.moves ≡ world.trail

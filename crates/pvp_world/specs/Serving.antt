@@ -15,7 +15,7 @@ use Rattle.vr_types.specs.Choice.{Choice, IsRight}
 use Rattle.vr_types.specs.Handling.{refusal, site_step, is_refused, dropped_as, IsFall, envelopes}
 use Rattle.vr_types.specs.Site.{Site, over}
 use Rattle.vr_types.specs.Step.{Handled}
-use Rattle.vr_site.specs.Replica as replica
+use Rattle.vr_site.specs.Replica.{ShownSite}
 use Rattle.pvp_book.specs.Ledger.{opening}
 use Rattle.rtgs_node.specs.Node.{Envelope}
 use Rattle.headline.specs.Machine.{book}
@@ -25,7 +25,7 @@ use Rattle.pvp_world.specs.declared.report.Report.{Report}
 
 -- the site took its step, and the post took what it sent
 pub record IsServed {B : Type 0} (held : B → Boot) (setup : Setup) (choose : Choice Cmd) (i : ℕ) (x : Site Cmd)
-    (event : EventOf Cmd Answer PaymentOrder) (new : replica.Shown Cmd Setup B) (post posted : List Envelope)
+    (event : EventOf Cmd Answer PaymentOrder) (new : ShownSite Cmd Setup B) (post posted : List Envelope)
     (report : Report) : Type 0 where
   pub allowed : is_refused (site_step {R = Answer} {O = PaymentOrder} choose (faults setup) i x event).ending ≡ false
   pub site : IsSite held setup i new (site_step {R = Answer} {O = PaymentOrder} choose (faults setup) i x event).site
@@ -35,7 +35,7 @@ pub record IsServed {B : Type 0} (held : B → Boot) (setup : Setup) (choose : C
 
 -- it fell in place of a step that it handles, which is no crash
 pub record HasFallen {B : Type 0} (held : B → Boot) (setup : Setup) (choose : Choice Cmd) (i : ℕ) (x : Site Cmd)
-    (event : EventOf Cmd Answer PaymentOrder) (new : replica.Shown Cmd Setup B) : Type 0 where
+    (event : EventOf Cmd Answer PaymentOrder) (new : ShownSite Cmd Setup B) : Type 0 where
   pub falls : IsFall x (site_step {R = Answer} {O = PaymentOrder} choose (faults setup) i x event)
       (over (held new.cell) Down)
   pub handled : (site_step {R = Answer} {O = PaymentOrder} choose (faults setup) i x event).ending ≡ Handled
@@ -44,26 +44,26 @@ pub record HasFallen {B : Type 0} (held : B → Boot) (setup : Setup) (choose : 
 
 -- it is down in place of a step that it does not refuse, over what its cell then holds
 pub record IsDown {B : Type 0} (held : B → Boot) (setup : Setup) (choose : Choice Cmd) (i : ℕ) (x : Site Cmd)
-    (event : EventOf Cmd Answer PaymentOrder) (new : replica.Shown Cmd Setup B) : Type 0 where
+    (event : EventOf Cmd Answer PaymentOrder) (new : ShownSite Cmd Setup B) : Type 0 where
   pub falls : IsFall x (site_step {R = Answer} {O = PaymentOrder} choose (faults setup) i x event)
       (over (held new.cell) Down)
   pub site : IsSite held setup i new (over (held new.cell) Down)
 
 -- it refuses, and is as it was
-pub record IsKept {B : Type 0} (setup : Setup) (i : ℕ) (x : Site Cmd) (event : EventOf Cmd Answer PaymentOrder)
-    (old new : replica.Shown Cmd Setup B) (fault : SiteFault) : Type 0 where
+pub record HasRefused {B : Type 0} (setup : Setup) (i : ℕ) (x : Site Cmd) (event : EventOf Cmd Answer PaymentOrder)
+    (old new : ShownSite Cmd Setup B) (fault : SiteFault) : Type 0 where
   pub same : new ≡ old
   pub refused : refusal {R = Answer} {O = PaymentOrder} (faults setup) i x event ≡ Some fault
 
 -- so of each site of a bank that the replica shows
-abbrev pub GoesDown : {A B : Type 0} → (B → Boot) → Setup → ℕ → replica.Shown Cmd Setup B → replica.Shown Cmd Setup B
+abbrev pub GoesDown : {A B : Type 0} → (B → Boot) → Setup → ℕ → ShownSite Cmd Setup B → ShownSite Cmd Setup B
     → EventOf Cmd Answer PaymentOrder → Result A SiteFault → Type 0
 GoesDown held setup i old new event result =
     (x : Site Cmd) (choose : Choice Cmd) → IsRight (faults setup) choose → IsSite held setup i old x
-    → MatchResult result (λ _. IsDown held setup choose i x event new) (IsKept setup i x event old new)
+    → MatchResult result (λ _. IsDown held setup choose i x event new) (HasRefused setup i x event old new)
 
 -- its cell then holds what the event saves: so of each site of a bank that the replica shows
-abbrev pub HoldsSaved : {B : Type 0} → (B → Boot) → Setup → ℕ → replica.Shown Cmd Setup B → replica.Shown Cmd Setup B
+abbrev pub HoldsSaved : {B : Type 0} → (B → Boot) → Setup → ℕ → ShownSite Cmd Setup B → ShownSite Cmd Setup B
     → EventOf Cmd Answer PaymentOrder → Type 0
 HoldsSaved held setup i old new event =
     (x : Site Cmd) (choose : Choice Cmd) → IsRight (faults setup) choose → IsSite held setup i old x
@@ -71,7 +71,7 @@ HoldsSaved held setup i old new event =
 
 -- it refuses, and is as it was; or it fell
 pub record IsUnserved {B : Type 0} (held : B → Boot) (setup : Setup) (choose : Choice Cmd) (i : ℕ) (x : Site Cmd)
-    (event : EventOf Cmd Answer PaymentOrder) (old new : replica.Shown Cmd Setup B) (post posted : List Envelope)
+    (event : EventOf Cmd Answer PaymentOrder) (old new : ShownSite Cmd Setup B) (post posted : List Envelope)
     (fault : SiteFault) : Type 0 where
   pub sent : posted ≡ post
   pub refused : is_fall fault ≡ false
@@ -79,7 +79,7 @@ pub record IsUnserved {B : Type 0} (held : B → Boot) (setup : Setup) (choose :
   pub fell : is_fall fault ≡ true → HasFallen held setup choose i x event new
 
 -- so of each site of a bank that the replica shows
-abbrev pub Serves : {B : Type 0} → (B → Boot) → Setup → ℕ → replica.Shown Cmd Setup B → replica.Shown Cmd Setup B
+abbrev pub Serves : {B : Type 0} → (B → Boot) → Setup → ℕ → ShownSite Cmd Setup B → ShownSite Cmd Setup B
     → EventOf Cmd Answer PaymentOrder → List Envelope → List Envelope → Result Report SiteFault → Type 0
 Serves held setup i old new event post posted result =
     (x : Site Cmd) (choose : Choice Cmd) → IsRight (faults setup) choose → IsSite held setup i old x

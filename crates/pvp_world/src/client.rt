@@ -23,9 +23,9 @@ pub struct Client {
 
 impl Model for Client {
     ghost use Rattle.std.specs.Prelude.{◌≤◌};
-    ghost use Rattle.pvp_world.specs.Client.{Shown};
+    ghost use Rattle.pvp_world.specs.Client.{ShownClient};
 
-    ghost Value = { Shown };
+    ghost Value = { ShownClient };
 
     ghost view = { λ a. record {
       f = a.faults;

@@ -1,6 +1,8 @@
 ghost use Rattle.std.specs.Prelude.{◌≡◌};
 ghost use Rattle.pvp_world.specs.Fault.{site_fault_text};
+ghost use Rattle.pvp_world.specs.Steps.{told_as};
 
+use headline::ClientFault;
 use rtgs_node::NodeFault;
 use std::fmt;
 use vr_types::SiteFault;
@@ -22,6 +24,19 @@ pub enum WorldFault {
     Spent,
     /// G5: memory was refused to the trail, the post, a client, or the copy of an envelope that is delivered.
     NoMemory,
+}
+
+impl WorldFault {
+    /// What a client's fault is told as.
+    pub fn of_client(fault: ClientFault) -> Self
+        ensures { result ≡ told_as fault }
+    {
+        match fault {
+            ClientFault::Outstanding => WorldFault::Outstanding,
+            ClientFault::Spent => WorldFault::Spent,
+            ClientFault::NoMemory => WorldFault::NoMemory,
+        }
+    }
 }
 
 /// Why a fall was not taken as it was told.

@@ -62,7 +62,14 @@ fn put(
     ensures nothing { sent.items ≡ [] → IsOk result }
 {
     let count = sent.len();
-    let first = if count == 0 { 0 } else { post.len() + 1 };
+    if count == 0 {
+        return Ok(Report {
+            first: 0,
+            count,
+            dropped,
+        });
+    }
+    let first = post.len() + 1;
     post.append(&mut sent)?;
     Ok(Report {
         first,

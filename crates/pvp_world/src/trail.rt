@@ -109,7 +109,7 @@ impl Trail {
         requires { 0 < self.old.room }
         ensures { self.new.items ≡ self.old.items ++ Takes (Deliver number) ∷ [] }
     {
-        let _pushed = self.entries.push(TrailEntry::Delivery(number));
+        self.entries.push_reserved(TrailEntry::Delivery(number));
     }
 
     /// Puts a move at the end that is no delivery.
@@ -118,7 +118,7 @@ impl Trail {
         ensures { self.new.items ≡ self.old.items ++ made ∷ [] }
     {
         let place = self.others.len();
-        let _pushed = self.others.push(made);
-        let _entered = self.entries.push(TrailEntry::Other(place));
+        self.others.push_reserved(made);
+        self.entries.push_reserved(TrailEntry::Other(place));
     }
 }

@@ -1,5 +1,4 @@
 ghost use Rattle.std.specs.Prelude.{◌≡◌, ◌≢◌, ◌+◌, ◌*◌, ◌<◌, ◌==◌, ◌-◌, ◌≤◌, [], true, false, None, Some, Err, List, length, map, slice_get, if◌then◌else◌, IfOk, OnOk, IfErr, OnErr, option_map, vec_len, vec_capacity, min, count_by, IsTrue, ◌↔◌};
-ghost use Rattle.pvp_world.specs.Steps.{told_as};
 ghost use Rattle.vr_types.specs.Site.{is_running};
 
 mod falls;
@@ -11,7 +10,7 @@ use crate::post::{MOST_SENT, is_fall, put_in_room, serve};
 use crate::report::Report;
 use crate::trail::Trail;
 use crate::turn::{beat, delivery};
-use headline::{ClientEvent, ClientFault, Move, Turn};
+use headline::{ClientEvent, Move, Turn};
 use pvp_book::Book;
 use pvp_types::{Setup, Step};
 use rtgs_node::{Node, NodeEvent};
@@ -38,9 +37,9 @@ pub struct World<C: BootCell> {
 
 impl<C: BootCell> Model for World<C> {
     ghost use Rattle.pvp_types.specs.Setup.{IsValid};
-    ghost use Rattle.pvp_world.specs.World.{Shown, IsAt, world_of};
+    ghost use Rattle.pvp_world.specs.World.{ShownWorld, IsAt, world_of};
 
-    ghost Value = { Shown C };
+    ghost Value = { ShownWorld C };
 
     ghost view = { λ a. world_of a.setup a.opening.items a.sites.items a.nodes.items a.clients.items
         a.post.items a.trail.items };
@@ -56,7 +55,7 @@ impl<C: BootCell> World<C> {
     ghost use Rattle.headline.specs.declared.step.Turn.TheVariants.{OfSite, OfNode, OfClient};
     ghost use Rattle.headline.specs.Bank.{turn};
     ghost use Rattle.pvp_world.specs.World.{IsAt, IsProved};
-    ghost use Rattle.pvp_world.specs.Progress.{CanGoOn, GoesOn, can_go_on, unanswered, has_room};
+    ghost use Rattle.pvp_world.specs.Progress.{CanGoOn, GoesOn, can_go_on, unanswered_count, has_room};
     ghost use Rattle.std.specs.List.{list_all};
     ghost use Rattle.pvp_world.specs.Steps.{Applies, AreTaken, IsStopped, AreReliable, TellsFailures, failures, has_number, has_actor, IsWhy, is_world_fall, InTurn};
     ghost use Rattle.pvp_world.specs.declared.fault.WorldFault.TheVariants.{Site as OfSiteFault, NoMemory as OutOfMemory};
@@ -126,7 +125,7 @@ impl<C: BootCell> World<C> {
         ensures { IsProved C.held self.now }
     {
         let _ = &self.setup;
-        headline::whole();
+        headline::headline_and_replies();
         headline::one_bank();
     }
 
@@ -201,31 +200,31 @@ impl<C: BootCell> World<C> {
     fn has_needs(&self) -> bool
         ensures { result ≡ can_go_on self.now }
     {
-        running(self.sites.as_slice()) > usize::from(self.setup.faults()) && self.have_room()
+        running_count(self.sites.as_slice()) > usize::from(self.setup.faults()) && self.have_room()
     }
 
     /// Whether each site has room.
     fn have_room(&self) -> bool
         ensures { result ≡ list_all (has_room self.now) self.now.sites }
     {
-        let notices = self.unanswered();
+        let notices = self.unanswered_count();
         self.sites.iter().all(|site| self.has_room(site, notices))
     }
 
     /// How many notices of nodes are not answered; what no log has room for stands for any more.
-    fn unanswered(&self) -> usize
-        ensures { result ≡ min (unanswered self.now) (MAX_ROWS + 1) }
+    fn unanswered_count(&self) -> usize
+        ensures { result ≡ min (unanswered_count self.now) (MAX_ROWS + 1) }
     {
         let mut count = 0;
         for node in &self.nodes {
-            count = (count + node.unanswered()).min(MAX_ROWS + 1);
+            count = (count + node.unanswered_count()).min(MAX_ROWS + 1);
         }
         count
     }
 
     /// Whether a site's view is not near its end, and its log has room for what may come to be asked.
     fn has_room(&self, site: &Replica<Book, C>, notices: usize) -> bool
-        requires { notices ≡ min (unanswered self.now) (MAX_ROWS + 1) }
+        requires { notices ≡ min (unanswered_count self.now) (MAX_ROWS + 1) }
         ensures { result ≡ has_room self.now site.now }
     {
         let sites = 2 * u64::from(self.setup.faults()) + 1;
@@ -385,7 +384,7 @@ impl<C: BootCell> World<C> {
                 self.trail.push(Move::Takes(step));
                 Ok(put_in_room(&mut self.post, sent))
             }
-            Err(fault) => Err(told_as(fault)),
+            Err(fault) => Err(WorldFault::of_client(fault)),
         }
     }
 }
@@ -398,7 +397,7 @@ fn runs<C: BootCell>(site: &Replica<Book, C>) -> bool
 }
 
 /// How many of these sites run.
-fn running<C: BootCell>(sites: &[Replica<Book, C>]) -> usize
+fn running_count<C: BootCell>(sites: &[Replica<Book, C>]) -> usize
     ensures { result ≡ count_by (λ site. is_running site.volatile.status) sites.now }
 {
     let mut count = 0;
@@ -408,17 +407,6 @@ fn running<C: BootCell>(sites: &[Replica<Book, C>]) -> usize
         }
     }
     count
-}
-
-/// What a client's fault is told as.
-fn told_as(fault: ClientFault) -> WorldFault
-    ensures { result ≡ told_as fault }
-{
-    match fault {
-        ClientFault::Outstanding => WorldFault::Outstanding,
-        ClientFault::Spent => WorldFault::Spent,
-        ClientFault::NoMemory => WorldFault::NoMemory,
-    }
 }
 
 /// Makes room for one move and for what a node or a client sends at once. `Err` where memory is refused.

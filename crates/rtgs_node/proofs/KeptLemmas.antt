@@ -21,8 +21,8 @@ use Rattle.pvp_book.proofs.Counts.{each-append, each-weaker, count-cons}
 use Rattle.pvp_book.proofs.Members.{is-member}
 use Rattle.rtgs_node.specs.declared.payment.PayIn.{PayIn}
 use Rattle.rtgs_node.specs.Node.{Node, opening_node, has_done, has_returned, is_known, is_closed, came_in, went_out, came_from, went_to, deposit, account, member_account, pay_in_checks, order_checks}
-use Rattle.rtgs_node.specs.Shown.{Shown, first_fault}
-use Rattle.rtgs_node.specs.Kept.{IsPayment, AreAccounts, open_accounts, IsKept}
+use Rattle.rtgs_node.specs.Shown.{ShownNode, first_fault}
+use Rattle.rtgs_node.specs.Kept.{IsPayment, AreAccounts, open_accounts, IsKeptNode}
 use Rattle.rtgs_node.proofs.Checks.{passed}
 use Rattle.rtgs_node.proofs.Amounts.{amount-small, sum-small, covers}
 
@@ -235,7 +235,7 @@ module _ (setup : Setup) (c : ℕ) (x : Node) (bank : ℕ) (members : List ℕ) 
 
 -- WHAT IS KEPT
 
-module _ (s : Shown) (bank room : ℕ) (members known : List ℕ) (is : IsKept s bank members known room) where
+module _ (s : ShownNode) (bank room : ℕ) (members known : List ℕ) (is : IsKeptNode s bank members known room) where
   pub bank-small : bank ≤ 65535 * most_amount
   bank-small =
       let few = is.counted.pay_ins in
@@ -288,15 +288,15 @@ module _ (s : Shown) (bank room : ℕ) (members known : List ℕ) (is : IsKept s
         (is.accounts.members member paid_in-known) (passed (pay_in_checks s.setup f s.ccy s.node member amt) none).1.1.1.1.0
 
     -- the amount goes from the member's account to the bank's
-    pub IsKept-paid_in : (cmd : Cmd)
-        → IsKept (record s {
+    pub IsKeptNode-paid_in : (cmd : Cmd)
+        → IsKeptNode (record s {
           node = record s.node {
             pay_ins = s.node.pay_ins ++ record { member = member; amt = amt } ∷ [];
             notices = s.node.notices ++ cmd ∷ [];
           };
         })
         (bank + amt) (slice_set members (member - 1) (slice_index_or members (member - 1) 0 - amt)) known room
-    IsKept-paid_in cmd = record {
+    IsKeptNode-paid_in cmd = record {
       valid = is.valid;
       currency = is.currency;
       counted = record {
@@ -330,10 +330,11 @@ module _ (s : Shown) (bank room : ℕ) (members known : List ℕ) (is : IsKept s
     order-room = leb-false 65535 (length s.node.pay_outs + length s.node.returned) (passed (order_checks s.setup f s.ccy s.node o) none).1.1.0
 
     -- the amount goes from the bank's account to the member's
-    pub IsKept-paid_out : (cmd : Cmd) (now : List ℕ) → ((n : ℕ) → list_any (λ k. n == k) now ≡ ((n == o.out) || list_any (λ k. n == k) known)) → o.amt ≤ bank
-        → IsKept (record s { node = record s.node { pay_outs = s.node.pay_outs ++ o ∷ []; notices = s.node.notices ++ cmd ∷ [] } })
+    pub IsKeptNode-paid_out : (cmd : Cmd) (now : List ℕ) → ((n : ℕ) → list_any (λ k. n == k) now ≡ ((n == o.out) || list_any (λ k. n == k) known))
+        → o.amt ≤ bank
+        → IsKeptNode (record s { node = record s.node { pay_outs = s.node.pay_outs ++ o ∷ []; notices = s.node.notices ++ cmd ∷ [] } })
         (bank - o.amt) (slice_set members (o.member - 1) (slice_index_or members (o.member - 1) 0 + o.amt)) now room
-    IsKept-paid_out cmd now knows enough = record {
+    IsKeptNode-paid_out cmd now knows enough = record {
       valid = is.valid;
       currency = is.currency;
       counted = record {
@@ -355,9 +356,9 @@ module _ (s : Shown) (bank room : ℕ) (members known : List ℕ) (is : IsKept s
     }
 
     -- the order is returned, and no money moves
-    pub IsKept-given_back : (cmd : Cmd) (now : List ℕ) → ((n : ℕ) → list_any (λ k. n == k) now ≡ ((n == o.out) || list_any (λ k. n == k) known))
-        → IsKept (record s { node = record s.node { returned = s.node.returned ++ o ∷ []; notices = s.node.notices ++ cmd ∷ [] } }) bank members now room
-    IsKept-given_back cmd now knows = record {
+    pub IsKeptNode-given_back : (cmd : Cmd) (now : List ℕ) → ((n : ℕ) → list_any (λ k. n == k) now ≡ ((n == o.out) || list_any (λ k. n == k) known))
+        → IsKeptNode (record s { node = record s.node { returned = s.node.returned ++ o ∷ []; notices = s.node.notices ++ cmd ∷ [] } }) bank members now room
+    IsKeptNode-given_back cmd now knows = record {
       valid = is.valid;
       currency = is.currency;
       counted = record {
@@ -381,8 +382,8 @@ module _ (s : Shown) (bank room : ℕ) (members known : List ℕ) (is : IsKept s
     pub closed-room : length s.node.closed < room
     closed-room = let less = one-less in let was = is.room in omega arith
 
-    pub IsKept-closed : (now : ℕ) → room ≤ now → IsKept (record s { node = record s.node { closed = s.node.closed ++ m ∷ [] } }) bank members known now
-    IsKept-closed now grown = record {
+    pub IsKeptNode-closed : (now : ℕ) → room ≤ now → IsKeptNode (record s { node = record s.node { closed = s.node.closed ++ m ∷ [] } }) bank members known now
+    IsKeptNode-closed now grown = record {
       valid = is.valid;
       currency = is.currency;
       counted = record { notices = is.counted.notices; answered = is.counted.answered; pay_ins = is.counted.pay_ins; orders = is.counted.orders };
@@ -393,9 +394,9 @@ module _ (s : Shown) (bank room : ℕ) (members known : List ℕ) (is : IsKept s
     }
 
   -- the notice that was out is answered
-  pub IsKept-answered : s.node.answered < length s.node.notices
-      → IsKept (record s { node = record s.node { answered = s.node.answered + 1 } }) bank members known room
-  IsKept-answered more = record {
+  pub IsKeptNode-answered : s.node.answered < length s.node.notices
+      → IsKeptNode (record s { node = record s.node { answered = s.node.answered + 1 } }) bank members known room
+  IsKeptNode-answered more = record {
     valid = is.valid;
     currency = is.currency;
     counted = record { notices = is.counted.notices; answered = omega arith; pay_ins = is.counted.pay_ins; orders = is.counted.orders };
@@ -409,9 +410,9 @@ module _ (s : Shown) (bank room : ℕ) (members known : List ℕ) (is : IsKept s
   notices-few = let all = is.counted.notices in let ins = is.counted.pay_ins in let orders = is.counted.orders in omega arith
 
 -- a new node holds what was deposited
-pub IsKept-opening : (setup : Setup) (c room : ℕ) → IsValid setup → c < length setup.currencies → length setup.members ≤ room
-    → IsKept (record { setup = setup; ccy = c; node = opening_node }) 0 (map (λ (m : Member). slice_index_or m.deposit c 0) setup.members) [] room
-IsKept-opening setup c room valid known enough = record {
+pub IsKeptNode-opening : (setup : Setup) (c room : ℕ) → IsValid setup → c < length setup.currencies → length setup.members ≤ room
+    → IsKeptNode (record { setup = setup; ccy = c; node = opening_node }) 0 (map (λ (m : Member). slice_index_or m.deposit c 0) setup.members) [] room
+IsKeptNode-opening setup c room valid known enough = record {
   valid = valid;
   currency = known;
   counted = record { notices = refl; answered = omega arith; pay_ins = omega arith; orders = omega arith };

@@ -23,8 +23,8 @@ use Rattle.rtgs_node.specs.declared.payment.PayIn.{PayIn}
 use Rattle.rtgs_node.specs.declared.event.NodeEvent.TheVariants.{PaysIn, Closes, Takes, Beats}
 use Rattle.rtgs_node.specs.declared.event.NodeEvent.{NodeEvent}
 use Rattle.rtgs_node.specs.Node.{Node, NodeStep, opening_node, came_in, went_out, came_from, went_to, account, deposit, member_account, refuses, unless, is_known, is_closed, pay_in_checks, order_checks, close_checks, on_order, on_reply, on_message, node_step}
-use Rattle.rtgs_node.specs.Shown.{Shown}
-use Rattle.rtgs_node.specs.Kept.{IsPayment, IsKept}
+use Rattle.rtgs_node.specs.Shown.{ShownNode}
+use Rattle.rtgs_node.specs.Kept.{IsPayment, IsKeptNode}
 use Rattle.rtgs_node.proofs.Checks.{Passed}
 use Rattle.rtgs_node.specs.Laws.{node_after, all_accounts, all_deposits}
 
@@ -143,7 +143,7 @@ whole-after setup f c events = whole setup c (node_after setup f c events) (afte
     after x (event ∷ more) are = after (node_step setup f c x event).node more (step-are setup f c x are event)
 
 -- of a node that is kept right
-pub kept-whole : (s : Shown) (bank room : ℕ) (members known : List ℕ) → IsKept s bank members known room
+pub kept-whole : (s : ShownNode) (bank room : ℕ) (members known : List ℕ) → IsKeptNode s bank members known room
     → all_accounts s.setup s.ccy s.node ≡ pos (all_deposits s.setup s.ccy)
 kept-whole s bank room members known is = whole s.setup s.ccy s.node (record {
   pay_ins =

@@ -6,7 +6,7 @@ use Rattle.pvp_types.specs.declared.command.Reply.TheVariants.{Done}
 use Rattle.pvp_types.specs.declared.command.PayOrder.{PayOrder as PaymentOrder}
 use Rattle.vr_types.specs.declared.message.MsgOf.{MsgOf}
 use Rattle.vr_types.specs.declared.message.MsgOf.TheVariants.{Reply, PayOrder}
-use Rattle.pvp_book.proofs.WorkedRows.{worked}
+use Rattle.pvp_book.proofs.WorkedRows.{worked_setup}
 use Rattle.rtgs_node.specs.declared.fault.NodeFault.{NodeFault}
 use Rattle.rtgs_node.specs.declared.fault.NodeFault.TheVariants.{Short, UnknownMember, BadAmount, Closed}
 use Rattle.rtgs_node.specs.declared.event.NodeEvent.TheVariants.{PaysIn, Closes, Takes, Beats}
@@ -14,12 +14,12 @@ use Rattle.rtgs_node.specs.declared.event.NodeEvent.{NodeEvent}
 use Rattle.rtgs_node.specs.Node.{Node, NodeStep, opening_node, account, member_account, node_step}
 
 told : NodeStep → Option NodeFault × ℕ × ℤ × ℤ
-told step = (step.fault, length step.sent, account step.node, member_account worked 1 1 step.node)
+told step = (step.fault, length step.sent, account step.node, member_account worked_setup 1 1 step.node)
 
 node_sees : Node → List NodeEvent → List (Option NodeFault × ℕ × ℤ × ℤ)
 node_sees x [] = []
 node_sees x (event ∷ more) =
-    told (node_step worked 1 1 x event) ∷ node_sees (node_step worked 1 1 x event).node more
+    told (node_step worked_setup 1 1 x event) ∷ node_sees (node_step worked_setup 1 1 x event).node more
 
 to_usd : MsgOf Cmd Answer PaymentOrder → NodeEvent
 to_usd msg = Takes (record { from = 200; to = 102; msg = msg })

@@ -9,9 +9,9 @@ use Rattle.pvp_types.specs.Setup.{IsValid}
 use Rattle.pvp_book.specs.Answer.{has_member, is_amount}
 use Rattle.rtgs_node.specs.declared.payment.PayIn.{PayIn}
 use Rattle.rtgs_node.specs.Node.{Node, is_known, is_closed, came_in, went_out, came_from, went_to, deposit}
-use Rattle.rtgs_node.specs.Shown.{Shown}
+use Rattle.rtgs_node.specs.Shown.{ShownNode}
 
-abbrev pub shown_of : Setup → ℕ → List PayIn → List PaymentOrder → List PaymentOrder → List ℕ → List Cmd → ℕ → Shown
+abbrev pub shown_of : Setup → ℕ → List PayIn → List PaymentOrder → List PaymentOrder → List ℕ → List Cmd → ℕ → ShownNode
 shown_of setup ccy pay_ins pay_outs returned closed notices answered = record {
   setup = setup;
   ccy = ccy;
@@ -53,7 +53,7 @@ pub record AreAccounts (setup : Setup) (c : ℕ) (x : Node) (held : ℕ) (each :
 abbrev pub open_accounts : Setup → Node → ℕ
 open_accounts setup x = count_by (λ m. not (is_closed x m)) (range_with_len 1 (length setup.members))
 
-pub record IsKept (shown : Shown) (bank : ℕ) (members numbers : List ℕ) (capacity : ℕ) : Type 0 where
+pub record IsKeptNode (shown : ShownNode) (bank : ℕ) (members numbers : List ℕ) (capacity : ℕ) : Type 0 where
   pub valid : IsValid shown.setup
   pub currency : shown.ccy < length shown.setup.currencies
   pub counted : AreCounted shown.node

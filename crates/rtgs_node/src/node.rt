@@ -39,18 +39,18 @@ pub struct Node {
 }
 
 impl Model for Node {
-    ghost use Rattle.rtgs_node.specs.Shown.{Shown};
+    ghost use Rattle.rtgs_node.specs.Shown.{ShownNode};
 
-    ghost Value = { Shown };
+    ghost Value = { ShownNode };
 
     ghost use Rattle.std.specs.Prelude.{vec_capacity};
-    ghost use Rattle.rtgs_node.specs.Kept.{shown_of, IsKept};
+    ghost use Rattle.rtgs_node.specs.Kept.{shown_of, IsKeptNode};
 
     ghost view = { λ a.
         shown_of a.setup a.ccy a.pay_ins.items a.pay_outs.items a.returned.items a.closed.items
         a.notices.items a.answered };
 
-    ghost invariant = { λ a. IsKept
+    ghost invariant = { λ a. IsKeptNode
         (shown_of a.setup a.ccy a.pay_ins.items a.pay_outs.items a.returned.items a.closed.items
         a.notices.items a.answered)
         a.bank a.members.items a.known.keys (vec_capacity a.closed) };
@@ -60,7 +60,7 @@ impl Node {
     ghost use Rattle.pvp_types.specs.Setup.{IsValid};
     ghost use Rattle.rtgs_node.specs.Node.{opening_node, account, member_account, is_known, is_closed};
     ghost use Rattle.rtgs_node.specs.declared.event.NodeEvent.TheVariants.{PaysIn, Closes, Takes, Beats};
-    ghost use Rattle.rtgs_node.specs.Shown.{step_of, IsStep, IsRefusal, order_step, reply_step, credited, given_back, paid_out, sent_with, sent_after, pay_in_fault, order_fault};
+    ghost use Rattle.rtgs_node.specs.Shown.{step_of, IsStep, IsRefusal, order_step, reply_step, credit_step, given_back, paid_out, sent_with, sent_after, pay_in_fault, order_fault};
     ghost use Rattle.rtgs_node.specs.Laws.{all_accounts, all_deposits};
 
     /// The node of a currency: the bank's account opens at 0 and each member's at its deposit. `Err` where memory is
@@ -206,14 +206,14 @@ impl Node {
     }
 
     /// How many orders were returned.
-    pub fn returned(&self) -> usize
+    pub fn returned_count(&self) -> usize
         ensures { result ≡ length self.now.node.returned }
     {
         self.returned.len()
     }
 
     /// How many of its notices are not answered.
-    pub fn unanswered(&self) -> usize
+    pub fn unanswered_count(&self) -> usize
         ensures count { result ≡ length self.now.node.notices - self.now.node.answered }
         ensures few { result ≤ 131070 }
     {
@@ -291,7 +291,7 @@ impl Node {
     fn credit(&mut self, member: u16, amt: u64) -> Result<Vec<Envelope<Book>>, AllocError>
         requires { pay_in_fault self.old member amt ≡ None }
         ensures taken { IfOk result (λ sent.
-            IsStep self.old self.new (credited self.old member amt) sent.items) }
+            IsStep self.old self.new (credit_step self.old member amt) sent.items) }
         ensures err { OnErr result (self.new ≡ self.old) }
     {
         let cmd = Cmd::Fund {

@@ -72,7 +72,7 @@ pub fn take_log<M: Machine>(
         return Ok(dropped(alloc, Why::Stale));
     }
     running.kept.take_rows(base, rows)?;
-    let _ = running.kept.execute(alloc, done)?;
+    running.kept.advance(done)?;
     be_normal(running, view);
     let len = running.kept.log.len();
     if (running.kept.done as usize) < len {

@@ -3,4 +3,3 @@ pub mod KeptLemmas
 pub mod Others
 pub mod OutcomeLemmas
 pub mod Rows
-pub mod Table

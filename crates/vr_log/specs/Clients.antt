@@ -1,5 +1,6 @@
 -- What the clients' table says.
 use Rattle.std.specs.Prelude.{ℕ, ◌*◌, None, List, Option, drop, get_or, take}
+use Rattle.std.specs.Option.{option_map_or}
 use Rattle.vr_types.specs.Pages.{page_rows}
 use Rattle.vr_log.specs.declared.clients.ClientOf.{ClientOf}
 use Rattle.vr_log.specs.declared.clients.ClientsOf.{ClientsOf}
@@ -19,6 +20,14 @@ newest_in clients client = (known_in clients client).newest
 -- the number of a client's last executed row, and the answer to it
 abbrev pub reply_in : {R : Type 0} → ClientsOf R → ℕ → Option (ℕ × R)
 reply_in clients client = (known_in clients client).answer
+
+-- the number of the last executed row of a client of whom this is known, 0 for none
+abbrev pub executed_of : {R : Type 0} → ClientOf R → ℕ
+executed_of known = option_map_or (λ answer. answer.0) known.answer 0
+
+-- the number of a client's last executed row, 0 for none
+abbrev pub executed_in : {R : Type 0} → ClientsOf R → ℕ → ℕ
+executed_in clients client = executed_of (known_in clients client)
 
 -- the rows of a page, counted from 0; none behind the last one
 abbrev pub rows_at : {X : Type 0} → List X → ℕ → List X

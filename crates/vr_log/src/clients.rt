@@ -1,8 +1,8 @@
-ghost use Rattle.std.specs.Prelude.{◌≡◌, ℕ, ◌*◌, ◌==◌, ◌<◌, ◌≤◌, ◌++◌, List, Some, None, length, IfOk, OnOk, OnErr, if◌then◌else◌};
+ghost use Rattle.std.specs.Prelude.{◌≡◌, ℕ, ◌*◌, ◌==◌, ◌<◌, ◌≤◌, ◌++◌, List, Some, None, length, take, OnOk, OnErr, if◌then◌else◌};
 ghost use Rattle.vr_types.specs.declared.row.RowOf.{RowOf};
 ghost use Rattle.vr_types.specs.Rows.{newest};
 ghost use Rattle.vr_types.specs.Pages.{page_rows};
-ghost use Rattle.vr_log.specs.Clients.{rows_at};
+ghost use Rattle.vr_log.specs.Clients.{executed_of, rows_at};
 
 use std::alloc::{AllocError, Global};
 use vr_types::{Machine, PAGE_ROWS, RowOf, RowsOf};
@@ -24,6 +24,16 @@ impl<R> ClientOf<R> {
             answer: None,
         }
     }
+
+    /// The number of its last executed row, 0 for none.
+    fn executed(&self) -> u32
+        ensures { result ≡ executed_of self.now }
+    {
+        match &self.answer {
+            Some((number, _)) => *number,
+            None => 0,
+        }
+    }
 }
 
 /// Of each client the number of its newest row, and what it was last answered. Clients have small numbers, so each has its
@@ -39,7 +49,7 @@ pub type Clients<M> = ClientsOf<<M as Machine>::Reply>;
 
 impl<R: Copy> ClientsOf<R> {
     ghost use Rattle.vr_types.specs.Rows.{newest};
-    ghost use Rattle.vr_log.specs.Clients.{known_in, newest_in, reply_in};
+    ghost use Rattle.vr_log.specs.Clients.{executed_in, known_in, newest_in, reply_in};
 
     /// No client has sent anything. It takes no memory.
     pub fn new(alloc: Global) -> Self
@@ -139,35 +149,30 @@ impl<R: Copy> ClientsOf<R> {
         Ok(())
     }
 
-    /// Takes the newest numbers from a log; the answers stay. An `Err` leaves the table as it was.
-    pub fn rebuild<C: Copy>(&mut self, log: &RowsOf<C>) -> Result<(), AllocError>
-        ensures ok { OnOk result ((q : ℕ) → newest_in self.new q ≡ newest log.now q) }
-        ensures err { OnErr result ((q : ℕ) → newest_in self.new q ≡ newest_in self.old q) }
+    /// Takes the newest numbers from a log whose first `done` rows were executed: the rows behind these alone are looked
+    /// at. The answers stay. After an `Err` this may only be dropped.
+    pub fn renumber<C: Copy>(&mut self, log: &RowsOf<C>, done: usize) -> Result<(), AllocError>
+        ensures ok { OnOk result (((q : ℕ) →
+            executed_in self.old q ≡ newest (take done log.now) q) →
+            (q : ℕ) → newest_in self.new q ≡ newest log.now q) }
         ensures replies { (q : ℕ) → reply_in self.new q ≡ reply_in self.old q }
     {
-        let mut clients = self.without_numbers()?;
-        clients.note_rows(log)?;
-        *self = clients;
+        self.forget_waiting();
+        for at in done..log.len() {
+            let row = log.row(at);
+            self.note(row.client, row.number)?;
+        }
         Ok(())
     }
 
-    /// A table with the same answers, and no numbers.
-    fn without_numbers(&self) -> Result<Self, AllocError>
-        ensures newest { IfOk result (λ clients. (q : ℕ) → newest_in clients q ≡ 0) }
-        ensures replies { IfOk result (λ clients. (q : ℕ) →
-            reply_in clients q ≡ reply_in self.now q) }
+    /// Makes the last executed row of each client its newest.
+    fn forget_waiting(&mut self)
+        ensures newest { (q : ℕ) → newest_in self.new q ≡ executed_in self.old q }
+        ensures replies { (q : ℕ) → reply_in self.new q ≡ reply_in self.old q }
     {
-        let mut table = Vec::with_capacity(self.alloc, self.table.len())?;
-        for known in self.table.as_slice() {
-            table.push(ClientOf {
-                newest: 0,
-                ..*known
-            })?;
+        for place in 0..self.table.len() {
+            self.table[place].newest = self.table[place].executed();
         }
-        Ok(ClientsOf {
-            alloc: self.alloc,
-            table,
-        })
     }
 }
 

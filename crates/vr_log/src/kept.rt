@@ -78,7 +78,8 @@ impl<M: Machine> Kept<M> {
     }
 
     /// The first `base` rows of the log stay, and these come after them. Where none stays, the rows are moved, not
-    /// copied; where all stay, these alone are noted in the clients' table. After an `Err` this may only be dropped.
+    /// copied. Rows that are executed already are not noted again in the clients' table. After an `Err` this may only be
+    /// dropped.
     pub fn take_rows(&mut self, base: usize, rows: RowsOf<M::Cmd>) -> Result<(), AllocError>
         requires base { base ≤ length self.old.log }
         requires few { base + length rows ≤ MAX_ROWS }
@@ -96,7 +97,7 @@ impl<M: Machine> Kept<M> {
             return self.log.replace_from(base, rows);
         }
         self.log.replace_from(base, rows)?;
-        self.clients.rebuild(&self.log)
+        self.clients.renumber(&self.log, self.done as usize)
     }
 
     /// Executes the rows up to this place, as far as the log goes, and gives their answers in order.
@@ -121,6 +122,25 @@ impl<M: Machine> Kept<M> {
             answers.push(answer)?;
         }
         Ok(answers)
+    }
+
+    /// Executes the rows up to this place, as far as the log goes, and keeps no answers: those of a backup are sent to
+    /// no one. After an `Err` this may only be dropped.
+    pub fn advance(&mut self, upto: u16) -> Result<(), AllocError>
+        requires { IsReady M.Machine self.old }
+        ensures done { OnOk result (self.new.done ≡ max self.old.done
+            (min upto (length self.old.log))) }
+        ensures log { self.new.log ≡ self.old.log }
+        ensures ready { OnOk result (IsReady M.Machine self.new) }
+        ensures kept { OnOk result ((start : M) → IsKept M.Machine start self.old →
+            IsKept M.Machine start self.new) }
+    {
+        let last = (upto as usize).min(self.log.len());
+        while (self.done as usize) < last {
+            let row = self.log.row(self.done as usize);
+            let _answer = self.execute_next(row)?;
+        }
+        Ok(())
     }
 
     /// Executes the next row. After an `Err` this may only be dropped.

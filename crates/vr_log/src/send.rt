@@ -90,8 +90,8 @@ pub fn sends_one<C: Drop, R: Drop, O: Drop>(
 ) -> Result<OutcomeOf<C, R, O>, AllocError>
     ensures { IfOk result (λ out. Sends out (envelope ∷ [])) }
 {
-    let mut sent = Vec::new(alloc);
-    sent.push(envelope)?;
+    let mut sent = Vec::with_capacity(alloc, 1)?;
+    sent.push_reserved(envelope);
     Ok(OutcomeOf {
         sent,
         dropped: None,
@@ -133,7 +133,7 @@ pub fn tell_all<C: Copy, R: Drop, O: Drop>(
 ) -> Result<Vec<EnvelopeOf<C, R, O>>, AllocError>
     ensures { IfOk result (λ sent. sent.items ≡ to_all config.f config.me (news_msg news)) }
 {
-    let mut sent = Vec::new(alloc);
+    let mut sent = Vec::with_capacity(alloc, 2 * usize::from(config.f))?;
     for site in 0..2 * config.f + 1 {
         if site != config.me {
             sent.push(mail_to(config, site, news.msg()))?;

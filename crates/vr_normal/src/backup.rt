@@ -68,7 +68,7 @@ pub fn commit<M: Machine>(
         return ask_state(alloc, config, msg.view, running.kept.done);
     }
     let len = running.kept.log.len() as u16;
-    let _ = running.kept.execute(alloc, msg.done)?;
+    running.kept.advance(msg.done)?;
     if len < msg.done {
         ask_state(alloc, config, running.view, len)
     } else {
@@ -93,7 +93,7 @@ fn take_row<M: Machine>(
 {
     let len = running.kept.log.len();
     append_next(&mut running.kept, msg.place, msg.row)?;
-    let _ = running.kept.execute(alloc, msg.done)?;
+    running.kept.advance(msg.done)?;
     if len + 1 < msg.place as usize {
         ask_state(alloc, config, running.view, len as u16)
     } else {

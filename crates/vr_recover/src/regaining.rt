@@ -31,7 +31,7 @@ pub fn regain<M: Machine>(
         ≡ site_of running [] cell) }
 {
     let mut kept = fresh::<M>(alloc, setup, state.rows)?;
-    let _ = kept.execute(alloc, state.done)?;
+    kept.advance(state.done)?;
     let acked = vec![in alloc; 0u16; 2 * config.f as usize + 1]?;
     Ok(Running {
         status: Status::Normal,
@@ -58,7 +58,7 @@ fn fresh<M: Machine>(
     ensures done { IfOk result (λ kept. kept.done ≡ 0) }
 {
     let mut clients = ClientsOf::new(alloc);
-    clients.rebuild(&log)?;
+    clients.note_rows(&log)?;
     Ok(Kept {
         log,
         clients,

@@ -12,7 +12,7 @@ use vr_types::{Config, MemCell, Outcome, SiteFault, Status, Why};
 
 /// What the reading calls show of a site of three.
 #[derive(Clone, Copy, Debug, PartialEq, Eq)]
-struct Shown {
+struct SiteReading {
     status: Status,
     view: u32,
     rows: usize,
@@ -42,16 +42,16 @@ pub enum Shows {
 
 impl Shows {
     /// What the reading calls are to show.
-    fn shown(self) -> Shown {
+    fn shown(self) -> SiteReading {
         match self {
             Shows::Normal(view, rows, done) => running(Status::Normal, view, rows, done),
-            Shows::NormalKnows(view, rows, done, known, boots) => Shown {
+            Shows::NormalKnows(view, rows, done, known, boots) => SiteReading {
                 known,
                 boots,
                 ..running(Status::Normal, view, rows, done)
             },
             Shows::Change(view, rows, done) => running(Status::Change, view, rows, done),
-            Shows::ChangeKnows(view, rows, done, known) => Shown {
+            Shows::ChangeKnows(view, rows, done, known) => SiteReading {
                 known,
                 ..running(Status::Change, view, rows, done)
             },
@@ -63,8 +63,8 @@ impl Shows {
 
 /// A site that runs in a view, with this many rows, of which so many are executed: each of them adds 3 to a sum that
 /// starts at 7. It knows of no boots.
-fn running(status: Status, view: u32, rows: usize, done: usize) -> Shown {
-    Shown {
+fn running(status: Status, view: u32, rows: usize, done: usize) -> SiteReading {
+    SiteReading {
         status,
         view,
         rows,
@@ -76,8 +76,8 @@ fn running(status: Status, view: u32, rows: usize, done: usize) -> Shown {
 }
 
 /// A site that recovers or is down, which has lost all but its cell.
-fn lost(status: Status, known: [u32; 3], boots: u32) -> Shown {
-    Shown {
+fn lost(status: Status, known: [u32; 3], boots: u32) -> SiteReading {
+    SiteReading {
         status,
         view: 0,
         rows: 0,
@@ -160,7 +160,7 @@ impl Trial {
     }
 
     /// Goes a step: whether it is as it says, and what the site is to show after it.
-    fn goes(&mut self, step: Step) -> (bool, Shown) {
+    fn goes(&mut self, step: Step) -> (bool, SiteReading) {
         let before = self.shown();
         match step {
             Step::Takes(event) => (self.takes(event), self.shown()),
@@ -177,8 +177,8 @@ impl Trial {
     }
 
     /// What the reading calls show.
-    fn shown(&self) -> Shown {
-        Shown {
+    fn shown(&self) -> SiteReading {
+        SiteReading {
             status: self.site.status(),
             view: self.site.view(),
             rows: self.site.log_len(),

@@ -20,7 +20,7 @@ use Rattle.vr_types.proofs.Choosing.{choice_of}
 use Rattle.vr_types.proofs.ChoosingRight.{choice_of-right}
 use Rattle.vr_types.proofs.Saving.{step_saved, envelopes_saved}
 use Rattle.vr_log.specs.Running.{SumUp}
-use Rattle.vr_site.specs.Replica.{Shown, site_shown, Handles}
+use Rattle.vr_site.specs.Replica.{ShownSite, site_shown, Handles}
 
 -- one acknowledgement of each site, of all that it acknowledged
 abbrev acks_from : ℕ → List ℕ → List Ack
@@ -68,7 +68,7 @@ acks_of_summed acked = λ j n. by_count j n
         let none : (suc n == 0) ≡ false = ne_eqb (suc n) 0 (λ e. absurd (omega arith)) in
         rw none (ap (λ q. list_any (tells (suc n) q) (acks_from 0 acked)) at ∙ told_by 0 acked (suc n) j (omega arith))
 
-module _ {H C R O S B : Type 0} (m : Ghosts H C R O S) (c : Cell B) (old new : Shown C S B) (event : EventOf C R O) where
+module _ {H C R O S B : Type 0} (m : Ghosts H C R O S) (c : Cell B) (old new : ShownSite C S B) (event : EventOf C R O) where
   -- what is sent was saved before
   pub handled_is_saved : (choose : Choice C) → IsRight old.f choose → (out : OutcomeOf C R O)
       → Handles m c old new event (Ok out) → All (λ e. IsSavedFor (c.held new.cell) e.msg) out.sent.items

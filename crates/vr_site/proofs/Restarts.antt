@@ -22,7 +22,7 @@ use Rattle.vr_log.specs.Running.{SumUp}
 use Rattle.vr_recover.specs.declared.recovering.RecoveringOf.{RecoveringOf}
 use Rattle.vr_recover.specs.Recovering.{recovering_site}
 use Rattle.vr_site.specs.Life.{Volatile, lost, awaiting, site_with}
-use Rattle.vr_site.specs.Replica.{Shown, site_shown, Does, Falls, Handles}
+use Rattle.vr_site.specs.Replica.{ShownSite, site_shown, Does, Falls, Handles}
 use Rattle.vr_site.specs.Saving.{IsOneSave}
 use Rattle.vr_site.proofs.Recovering.{beats_is}
 use Rattle.vr_site.proofs.Shows.{none_summed, stepped_handles, fell_handles}
@@ -49,7 +49,7 @@ restart_is : {C R O : Type 0} (f me : ℕ) (x : Site C)
 unfolding on_restart
 restart_is f me x = refl
 
-module _ {H C R O S B : Type 0} (m : Ghosts H C R O S) (c : Cell B) (old new : Shown C S B)
+module _ {H C R O S B : Type 0} (m : Ghosts H C R O S) (c : Cell B) (old new : ShownSite C S B)
     (config : (new.f ≡ old.f) × (new.me ≡ old.me) × (new.setup ≡ old.setup)) where
   -- all is lost but the cell
   pub crashed : (out : OutcomeOf C R O) → is_down old.volatile.status ≡ false → new.volatile ≡ lost → new.cell ≡ old.cell → Sends out []

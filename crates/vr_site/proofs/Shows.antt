@@ -27,7 +27,7 @@ use Rattle.vr_log.specs.Running.{SumUp, Meets, site_of}
 use Rattle.vr_site.specs.declared.life.Life.{Life}
 use Rattle.vr_site.specs.declared.life.Life.TheVariants as life
 use Rattle.vr_site.specs.Life.{Volatile, lost, running_volatile, volatile_of, site_with, IsWell}
-use Rattle.vr_site.specs.Replica.{Shown, site_shown, Does, Falls, Handles, Serves}
+use Rattle.vr_site.specs.Replica.{ShownSite, site_shown, Does, Falls, Handles, Serves}
 
 -- no acknowledgement sums up no numbers
 pub none_summed : SumUp [] []
@@ -40,7 +40,7 @@ err_is (Err error) x y h same = ap (λ e. Err e) (h ∙ same)
 
 module _ {H C R O S B : Type 0} (m : Ghosts H C R O S) (c : Cell B) where
   -- an event that is refused, and changes nothing
-  pub refused_handles : (old new : Shown C S B) (event : EventOf C R O) (fault : SiteFault) → new ≡ old
+  pub refused_handles : (old new : ShownSite C S B) (event : EventOf C R O) (fault : SiteFault) → new ≡ old
       → refusal old.f old.me (site_shown c.held old []) event ≡ Some fault
       → Handles {H = H} {C = C} {R = R} {O = O} m c old new event (Err fault)
   refused_handles old new event fault same refused = record {
@@ -50,7 +50,8 @@ module _ {H C R O S B : Type 0} (m : Ghosts H C R O S) (c : Cell B) where
   }
 
   -- an event that is not refused, and takes its step
-  pub stepped_handles : (old new : Shown C S B) (event : EventOf C R O) (out : OutcomeOf C R O) → refusal old.f old.me (site_shown c.held old []) event ≡ None
+  pub stepped_handles : (old new : ShownSite C S B) (event : EventOf C R O) (out : OutcomeOf C R O)
+      → refusal old.f old.me (site_shown c.held old []) event ≡ None
       → ((choose : Choice C) (acks : List Ack) → IsRight old.f choose → SumUp old.volatile.acked acks
       → Does m c old new out (on_event choose old.f old.me (site_shown c.held old acks) event))
       → Handles m c old new event (Ok out)
@@ -64,7 +65,7 @@ module _ {H C R O S B : Type 0} (m : Ghosts H C R O S) (c : Cell B) where
   }
 
   -- an event that is not refused, and in place of which the site fell
-  pub fell_handles : (old new : Shown C S B) (event : EventOf C R O) (fault : SiteFault) → refusal old.f old.me (site_shown c.held old []) event ≡ None
+  pub fell_handles : (old new : ShownSite C S B) (event : EventOf C R O) (fault : SiteFault) → refusal old.f old.me (site_shown c.held old []) event ≡ None
       → ((choose : Choice C) (acks : List Ack) → IsRight old.f choose → SumUp old.volatile.acked acks
       → Falls c old new (site_shown c.held old acks) (on_event choose old.f old.me (site_shown c.held old acks) event) fault)
       → Handles m c old new event (Err fault)
@@ -78,7 +79,7 @@ module _ {H C R O S B : Type 0} (m : Ghosts H C R O S) (c : Cell B) where
   }
 
   -- a fall of a site that is down by now over the old cell
-  pub down_falls : (base : Shown C S B) (v : Volatile C) (x : Site C) (step : Step C R O) → base.volatile ≡ lost → x.cell ≡ c.held base.cell
+  pub down_falls : (base : ShownSite C S B) (v : Volatile C) (x : Site C) (step : Step C R O) → base.volatile ≡ lost → x.cell ≡ c.held base.cell
       → step.ending ≡ Handled
       → Falls c (record base { volatile = v }) base x step NoMemory
   down_falls base v x step volatile cell handled = record {
@@ -93,7 +94,7 @@ module _ {H C R O S B : Type 0} (m : Ghosts H C R O S) (c : Cell B) where
     fault = inl refl;
   }
 
-  module _ (base : Shown C S B) (r n : Running H C R O S) (event : EventOf C R O) where
+  module _ (base : ShownSite C S B) (r n : Running H C R O S) (event : EventOf C R O) where
     -- a growth was refused while it ran
     pub ran_short : (done : Result (OutcomeOf C R O) AllocError) → ((out : OutcomeOf C R O) → done ≡ Ok out → ⊥) → base.volatile ≡ lost
         → Serves m (m.start base.setup) base.f base.me (c.held base.cell) r n done event
@@ -105,7 +106,7 @@ module _ {H C R O S B : Type 0} (m : Ghosts H C R O S) (c : Cell B) where
         (serves.follows choose acks right (record { sound = serves.sound; summed = summed })))
 
     -- it runs on
-    pub ran_on : (new : Shown C S B) (out : OutcomeOf C R O) → (new.f ≡ base.f) × (new.me ≡ base.me) × (new.setup ≡ base.setup)
+    pub ran_on : (new : ShownSite C S B) (out : OutcomeOf C R O) → (new.f ≡ base.f) × (new.me ≡ base.me) × (new.setup ≡ base.setup)
         → new.volatile ≡ running_volatile n → new.cell ≡ base.cell
         → Serves m (m.start base.setup) base.f base.me (c.held base.cell) r n (Ok out) event
         → Handles m c (record base { volatile = running_volatile r }) new event (Ok out)

@@ -16,12 +16,12 @@ use Rattle.vr_recover.specs.declared.progress.Progress.TheVariants.{Dropped, Wai
 use Rattle.vr_recover.specs.declared.recovering.RecoveringOf.{RecoveringOf}
 use Rattle.vr_recover.specs.Recovering.{recovering_site}
 use Rattle.vr_site.specs.Life.{Volatile, lost, awaiting, running_volatile, site_with}
-use Rattle.vr_site.specs.Replica.{Shown, Does, Handles, Awaits}
+use Rattle.vr_site.specs.Replica.{ShownSite, Does, Handles, Awaits}
 use Rattle.vr_site.proofs.Shows.{stepped_handles, fell_handles, down_falls}
 
-module _ {H C R O S B : Type 0} (m : Ghosts H C R O S) (c : Cell B) (base : Shown C S B) (before now : RecoveringOf C) (event : EventOf C R O) where
+module _ {H C R O S B : Type 0} (m : Ghosts H C R O S) (c : Cell B) (base : ShownSite C S B) (before now : RecoveringOf C) (event : EventOf C R O) where
   -- the replica before
-  abbrev first : Shown C S B
+  abbrev first : ShownSite C S B
   first = record base { volatile = awaiting before }
 
   -- a growth was refused
@@ -41,7 +41,7 @@ module _ {H C R O S B : Type 0} (m : Ghosts H C R O S) (c : Cell B) (base : Show
       (λ choose acks right summed. down_falls m c base first.volatile (recovering_site before acks (c.held base.cell)) _ volatile refl
       (ap (λ s. s.ending) (awaits.follows choose acks right)))
 
-  module _ (new : Shown C S B) (config : (new.f ≡ base.f) × (new.me ≡ base.me) × (new.setup ≡ base.setup)) where
+  module _ (new : ShownSite C S B) (config : (new.f ≡ base.f) × (new.me ≡ base.me) × (new.setup ≡ base.setup)) where
     -- the event was dropped
     pub waited_dropped : (out : OutcomeOf C R O) (why : Why) → new.volatile ≡ awaiting now → new.cell ≡ base.cell → Drops out why
         → Awaits {H = H} {C = C} {R = R} {O = O} {S = S} base.f base.me (c.held base.cell) before now (Ok (Dropped why)) event

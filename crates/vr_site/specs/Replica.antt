@@ -24,7 +24,7 @@ use Rattle.vr_site.specs.Life.{Volatile, volatile_of, site_with}
 use Rattle.vr_site.specs.Saving.{IsOneSave, IsSavedAtMostOnce}
 
 -- what a replica shows: B is the type of its cell
-pub record Shown (C S B : Type 0) : Type 0 where
+pub record ShownSite (C S B : Type 0) : Type 0 where
   pub f : ℕ
   pub me : ℕ
   pub setup : S
@@ -32,26 +32,26 @@ pub record Shown (C S B : Type 0) : Type 0 where
   pub volatile : Volatile C
 
 -- what is shown of the parts
-abbrev pub shown : {H C R O S B : Type 0} → ℕ → ℕ → S → B → Life H C R O S → Shown C S B
+abbrev pub shown : {H C R O S B : Type 0} → ℕ → ℕ → S → B → Life H C R O S → ShownSite C S B
 shown f me setup cell life = record { f = f; me = me; setup = setup; cell = cell; volatile = volatile_of life }
 
 -- the same over another cell
-abbrev pub with_cell : {C S B D : Type 0} → Shown C S B → D → Shown C S D
+abbrev pub with_cell : {C S B D : Type 0} → ShownSite C S B → D → ShownSite C S D
 with_cell v cell = record { f = v.f; me = v.me; setup = v.setup; cell = cell; volatile = v.volatile }
 
 -- the site that is shown, where these acknowledgements came; held is what a cell holds
-abbrev pub site_shown : {C S B : Type 0} → (B → Boot) → Shown C S B → List Ack → Site C
+abbrev pub site_shown : {C S B : Type 0} → (B → Boot) → ShownSite C S B → List Ack → Site C
 site_shown held v acks = site_with v.volatile acks (held v.cell)
 
 -- its place in the group stays, and what it was made from
-pub record KeepsPlace {C S B : Type 0} (old new : Shown C S B) : Type 0 where
+pub record KeepsPlace {C S B : Type 0} (old new : ShownSite C S B) : Type 0 where
   pub f : new.f ≡ old.f
   pub me : new.me ≡ old.me
   pub setup : new.setup ≡ old.setup
 
 -- What was done is the step: what is shown is the site after it, the outcome is the step's, and the rest is as before.
 -- The cell is saved where it held another value, and there once.
-pub record Does {H C R O S B : Type 0} (m : Ghosts H C R O S) (c : Cell B) (old new : Shown C S B)
+pub record Does {H C R O S B : Type 0} (m : Ghosts H C R O S) (c : Cell B) (old new : ShownSite C S B)
     (out : OutcomeOf C R O) (step : Step C R O) : Type 0 where
   pub f : new.f ≡ old.f
   pub me : new.me ≡ old.me
@@ -64,7 +64,7 @@ pub record Does {H C R O S B : Type 0} (m : Ghosts H C R O S) (c : Cell B) (old 
 
 -- The site fell in place of the step, only where the event is handled and not dropped: for want of memory, or as the
 -- one save of the step's value failed.
-pub record Falls {C R O S B : Type 0} (c : Cell B) (old new : Shown C S B) (x : Site C) (step : Step C R O)
+pub record Falls {C R O S B : Type 0} (c : Cell B) (old new : ShownSite C S B) (x : Site C) (step : Step C R O)
     (why : SiteFault) : Type 0 where
   pub f : new.f ≡ old.f
   pub me : new.me ≡ old.me
@@ -77,7 +77,7 @@ pub record Falls {C R O S B : Type 0} (c : Cell B) (old new : Shown C S B) (x : 
 
 -- An event was handled as the site step says, for any right choice and any acknowledgements that the kept numbers sum
 -- up.
-pub record Handles {H C R O S B : Type 0} (m : Ghosts H C R O S) (c : Cell B) (old new : Shown C S B)
+pub record Handles {H C R O S B : Type 0} (m : Ghosts H C R O S) (c : Cell B) (old new : ShownSite C S B)
     (event : EventOf C R O) (result : Result (OutcomeOf C R O) SiteFault) : Type 0 where
   -- an outcome is the step's
   pub step : IfOk result (λ out. (choose : Choice C) (acks : List Ack) → IsRight old.f choose

@@ -40,9 +40,9 @@ pub struct Replica<M: Machine, C: BootCell> {
 
 impl<M: Machine, C: BootCell> Model for Replica<M, C> {
     ghost use Rattle.vr_site.specs.Life.{IsWell};
-    ghost use Rattle.vr_site.specs.Replica.{Shown, shown};
+    ghost use Rattle.vr_site.specs.Replica.{ShownSite, shown};
 
-    ghost Value = { Shown M.Cmd M.Setup C };
+    ghost Value = { ShownSite M.Cmd M.Setup C };
 
     ghost view = { λ a. shown a.config.f a.config.me a.setup a.cell a.life };
 

@@ -23,7 +23,7 @@ fn next(intake: &mut Intake, alloc: Global, link: &Link) -> Heard {
     match intake.next(alloc, link) {
         Ok(None) => Heard::Nothing,
         Ok(Some(Piece::Ping)) => Heard::Ping,
-        Ok(Some(Piece::Frame(arrival))) => Heard::Frame(arrival.stamped().stamp.clock),
+        Ok(Some(Piece::Frame(arrival))) => Heard::Frame(arrival.stamped_envelope().stamp.clock),
         Err(fault) => Heard::Wrong(fault),
     }
 }

@@ -356,7 +356,11 @@ fn sends_the_row<R: Abort + Wait + AllocGlobal>(
     let asked = asked_in(&request.envelope)?;
     takes(rt, cell, seat, request)?;
     let outcome = outcome_of(rt, cell, seat, EventOf::Beat, None)?;
-    are_prepared(rt, Replica::<Book, MemCell>::sent(&outcome), asked);
+    are_prepared(
+        rt,
+        Replica::<Book, MemCell>::sent_envelopes(&outcome),
+        asked,
+    );
     Ok(())
 }
 
@@ -391,7 +395,7 @@ fn asks_with_the_fifth<R: Abort + Wait + AllocGlobal>(
     seat: &mut SiteSeat<Book>,
 ) -> Result<(), Fail> {
     let outcome = outcome_of(rt, cell, seat, EventOf::Restart, None)?;
-    ask_with_the_fifth(rt, Replica::<Book, MemCell>::sent(&outcome));
+    ask_with_the_fifth(rt, Replica::<Book, MemCell>::sent_envelopes(&outcome));
     Ok(())
 }
 

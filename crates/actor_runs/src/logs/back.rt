@@ -321,7 +321,7 @@ fn worked_twice(alloc: Global) -> Result<Vec<u8>, Fail> {
 
 /// The room over another cell, which holds what its own does.
 fn over_another(room: Operator) -> Operator {
-    match room.actor().held() {
+    match room.actor().held_boot() {
         Some(own) => room.over(MemCell::of(own)),
         None => room.over(MemCell::new()),
     }
@@ -360,7 +360,7 @@ fn what_comes_back_goes_on(rt: HostRuntime) -> Result<(), Fail> {
 
 /// What the site of a room holds.
 fn holds<R: Abort>(rt: &R, room: &Operator, want: Option<Boot>) {
-    assert_eq!(rt; room.actor().held(), want);
+    assert_eq!(rt; room.actor().held_boot(), want);
 }
 
 #[test]

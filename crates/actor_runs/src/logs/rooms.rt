@@ -113,7 +113,7 @@ fn stand_written(rt: &impl Abort, alloc: Global, flushed: &(Operator, usize), co
 /// Nothing of a room waits, and all of its log is synced.
 fn is_synced(rt: &impl Abort, room: &Operator) {
     assert_eq!(rt; room.is_flushed(), true);
-    assert_eq!(rt; room.log().synced(), room.log().bytes().len());
+    assert_eq!(rt; room.log().synced_length(), room.log().bytes().len());
 }
 
 #[test]

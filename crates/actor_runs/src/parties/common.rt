@@ -225,7 +225,7 @@ pub fn first_letter<A: Served>(
     alloc: Global,
     outcome: &A::Outcome,
 ) -> Result<Envelope<Book>, Fail> {
-    match A::sent(outcome).get(0) {
+    match A::sent_envelopes(outcome).get(0) {
         Some(envelope) => Ok(envelope.copy(alloc)?),
         None => Err(Fail::new("an envelope")),
     }

@@ -121,7 +121,8 @@ fn put_receipt<A: Actor>(
 ) -> Result<(), Fail> {
     let mut receipts = Vec::new(*left.history.allocator());
     receipts.push(receipt)?;
-    left.seats.push(Seat::holding(left.number, 1, receipts))?;
+    left.seats
+        .push(Seat::with_receipts(left.number, 1, receipts))?;
     Ok(())
 }
 
@@ -310,7 +311,7 @@ fn put_seat<A: Actor>(
     number: u16,
     receipts: Result<Vec<Recorded<A::Event, A::Outcome>>, Fail>,
 ) -> Result<(), Fail> {
-    let seat = Seat::holding(one.number, number, receipts?);
+    let seat = Seat::with_receipts(one.number, number, receipts?);
     one.seats.push(seat)?;
     Ok(())
 }

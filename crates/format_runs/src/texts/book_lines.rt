@@ -2,7 +2,7 @@
 use crate::texts::script::{has_fault, has_lines};
 use fixtures::setup::three_currencies;
 use pvp_text::{Kind, Line, Statement};
-use pvp_types::{Cmd, Step};
+use pvp_types::{Cmd, Instruction, Step};
 use std::process::Abort;
 use std::test::Fail;
 
@@ -47,14 +47,14 @@ fn reads_the_forms_of_pairs(rt: HostRuntime) -> Result<(), Fail> {
     let script = "do ALFA instruct 7 BETA USD 1100 @0 18446744073709551615
 do @2 rescind 4294967295
 do OP settle 0";
-    let instruct = Cmd::Instruct {
+    let instruct = Cmd::Instruct(Instruction {
         reference: 7,
         other: 2,
         sell: 1,
         sell_amt: 1100,
         buy: 0,
         buy_amt: u64::MAX,
-    };
+    });
     let rescind = Cmd::Rescind {
         reference: u32::MAX,
     };

@@ -1,6 +1,6 @@
 use fixtures::setup::three_currencies;
 use pvp_text::{Kind, Line, LineFault, Statement, read_script};
-use pvp_types::{Cmd, Setup, Step};
+use pvp_types::{Cmd, Instruction, Setup, Step};
 use std::alloc::{AllocError, Global};
 use std::process::Abort;
 use std::test::Fail;
@@ -108,14 +108,14 @@ do @102 fund USD 1 ALFA 1200
 do BETA payout JPY 18446744073709551615
 do @102 paid USD 1
 do @103 returned @2 9";
-    let instruct = Cmd::Instruct {
+    let instruct = Cmd::Instruct(Instruction {
         reference: 7,
         other: 2,
         sell: 1,
         sell_amt: 1100,
         buy: 0,
         buy_amt: 1000,
-    };
+    });
     let rescind = Cmd::Rescind {
         reference: u32::MAX,
     };

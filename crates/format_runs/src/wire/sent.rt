@@ -1,6 +1,6 @@
 //! What the tests send, and the frames of it.
 
-use pvp_types::Cmd;
+use pvp_types::{Cmd, Instruction};
 use pvp_wire::{Message, Stamp, Stamped, decode, encode, wireable};
 use std::alloc::{AllocError, Global};
 use std::io::Write;
@@ -63,14 +63,14 @@ pub fn row() -> RowOf<Cmd> {
     RowOf {
         client: 108,
         number: u32::MAX,
-        cmd: Cmd::Instruct {
+        cmd: Cmd::Instruct(Instruction {
             reference: u32::MAX,
             other: u16::MAX,
             sell: u8::MAX,
             sell_amt: u64::MAX,
             buy: 0,
             buy_amt: 0,
-        },
+        }),
     }
 }
 

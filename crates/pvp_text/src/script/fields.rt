@@ -2,7 +2,7 @@
 ghost use Rattle.std.specs.Prelude.{◌≡◌, ◌≤◌, ◌^◌, true, Some, IfOk};
 ghost use Rattle.std.specs.Char.{is_ascii_digit};
 ghost use Rattle.std.specs.List.{list_all};
-ghost use Rattle.pvp_text.specs.ScriptFields.{has_leading_zero, is_number, number_at, number_within, is_of_name, code_of, word_fault_text, reference_at, actor_at, site_at, client_of, operator_or_member, sender_number, sender_of, no_sender, currency_of, spelled, spelled_in, value_at, as_actor, as_currency, as_number, as_amount};
+ghost use Rattle.pvp_text.specs.ScriptFields.{has_leading_zero, is_number, number_at, number_within, is_of_name, code_of, word_fault_text, reference_at, actor_at, site_at, client_of, operator_or_member, sender_number, sender_of, no_sender, currency_named, spelling_of, spelled_in, value_at, as_actor, as_currency, as_number, as_amount};
 
 use crate::script::table::Field;
 use crate::script::words::is;
@@ -188,7 +188,7 @@ pub fn value_of(kind: Kind, setup: &Setup, field: Field, word: &[u8]) -> Result<
             WordFault::NoClient,
             client_reference(word)?,
         )?),
-        Field::Currency => Value::Currency(currency_of(setup, currency_reference(word)?)?),
+        Field::Currency => Value::Currency(currency_named(setup, currency_reference(word)?)?),
         Field::Actor => Value::Actor(client_of(setup, WordFault::NoActor, actor_reference(word)?)?),
         Field::Site => Value::Actor(site(word)?),
     })
@@ -220,12 +220,13 @@ pub fn amount(word: &[u8]) -> Result<u64, LineCode>
     if !is_number(word) {
         return Err(LineCode::Number);
     }
-    parsed(word)
+    parse_number(word)
 }
 
 /// The number that digits are; `Number` where it has more than 64 bits.
+// the lemma shows that the branch of what is no text is never taken
 #[tactic(auto, using(crate::proofs::ScriptNumbers::no_text))]
-fn parsed(word: &[u8]) -> Result<u64, LineCode>
+fn parse_number(word: &[u8]) -> Result<u64, LineCode>
     requires { is_number word.now ≡ true }
     ensures { result ≡ number_at (2 ^ 64) word.now }
 {
@@ -249,7 +250,7 @@ fn number_within(most: u64, word: &[u8]) -> Result<u64, WordFault>
     if !are_digits(word) {
         return Err(WordFault::NotDigits);
     }
-    match parsed(word) {
+    match parse_number(word) {
         Ok(number) if number <= most => Ok(number),
         _ => Err(WordFault::Above(most)),
     }
@@ -314,7 +315,7 @@ fn site_number(digits: &[u8]) -> Result<u8, WordFault>
 
 /// The number of a client, or this fault. One that is told by number is not looked up.
 fn client_of(setup: &Setup, fault: WordFault, who: Reference<u16>) -> Result<u16, WordFault>
-    ensures { result ≡ client_of setup.now fault (spelled who.entry) }
+    ensures { result ≡ client_of setup.now fault (spelling_of who.entry) }
 {
     match who {
         Reference::Number(number) => Ok(number),
@@ -324,7 +325,7 @@ fn client_of(setup: &Setup, fault: WordFault, who: Reference<u16>) -> Result<u16
 
 /// The number of a client that sends a command. One that is told by number is not looked up.
 fn sender_of(kind: Kind, setup: &Setup, who: Reference<u16>) -> Result<u16, WordFault>
-    ensures { result ≡ sender_of kind setup.now (spelled who.entry) }
+    ensures { result ≡ sender_of kind setup.now (spelling_of who.entry) }
 {
     match who {
         Reference::Number(number) => Ok(number),
@@ -365,8 +366,8 @@ fn no_sender(kind: Kind, setup: &Setup, name: &[u8]) -> WordFault
 }
 
 /// The number of a currency. One that is told by number is not looked up.
-fn currency_of(setup: &Setup, ccy: Reference<u8>) -> Result<u8, WordFault>
-    ensures { result ≡ currency_of setup.now (spelled ccy.entry) }
+fn currency_named(setup: &Setup, ccy: Reference<u8>) -> Result<u8, WordFault>
+    ensures { result ≡ currency_named setup.now (spelling_of ccy.entry) }
 {
     match ccy {
         Reference::Number(number) => Ok(number),

@@ -2,7 +2,7 @@
 ghost use Rattle.std.specs.Prelude.{◌≡◌, ◌≤◌, length};
 ghost use Rattle.std.specs.List.{list_all};
 ghost use Rattle.pvp_text.specs.Script.{known_in, line_values, statement_at, line_at, is_printable};
-ghost use Rattle.pvp_text.specs.ScriptFields.{values_in, graver, ended};
+ghost use Rattle.pvp_text.specs.ScriptFields.{values_in, graver_fault, values_or_fault};
 ghost use Rattle.pvp_text.specs.ScriptWords.{words};
 
 use crate::script::fields::{Value, WordFault, value_of};
@@ -51,13 +51,13 @@ fn are_printable(line: &[u8]) -> bool
 fn read_statement(kind: Kind, setup: &Setup, line: &[u8]) -> Result<Statement, LineCode>
     ensures { result ≡ statement_at kind setup.now (words line.now) }
 {
-    let word = known(kind, Form::of(line))?;
+    let word = known_word(kind, Form::of(line))?;
     let values = read_words(kind, setup, word.row().fields, line)?;
     Ok(statement(word, values.as_slice()))
 }
 
 /// The word that tells a form, where scripts of this kind have its lines.
-fn known(kind: Kind, form: Form) -> Result<Word, LineCode>
+fn known_word(kind: Kind, form: Form) -> Result<Word, LineCode>
     ensures { result ≡ known_in kind form }
 {
     match form {
@@ -82,7 +82,7 @@ fn read_words(kind: Kind, setup: &Setup, fields: &[Field], line: &[u8]) -> Resul
         };
         match value_of(kind, setup, *field, word) {
             Ok(value) => values.push(value),
-            Err(found) => fault = Some(graver(fault, found)),
+            Err(found) => fault = Some(graver_fault(fault, found)),
         }
         rest = after;
     }
@@ -93,8 +93,8 @@ fn read_words(kind: Kind, setup: &Setup, fields: &[Field], line: &[u8]) -> Resul
 }
 
 /// Which of two faults of a line's words is told: the one that was before, if any, and the one that was found.
-fn graver(before: Option<WordFault>, found: WordFault) -> WordFault
-    ensures { result ≡ graver before found }
+fn graver_fault(before: Option<WordFault>, found: WordFault) -> WordFault
+    ensures { result ≡ graver_fault before found }
 {
     match before {
         Some(before) if !before.is_of_name() => before,
@@ -104,7 +104,7 @@ fn graver(before: Option<WordFault>, found: WordFault) -> WordFault
 
 /// All values, where no word has a fault.
 fn end(fault: Option<WordFault>, values: Values) -> Result<Values, LineCode>
-    ensures { values_in result ≡ ended fault values.items }
+    ensures { values_in result ≡ values_or_fault fault values.items }
 {
     match fault {
         None => Ok(values),

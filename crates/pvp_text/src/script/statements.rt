@@ -6,7 +6,7 @@ ghost use Rattle.pvp_text.specs.Script.{statement_of, step_of, command_of};
 use crate::script::Statement;
 use crate::script::fields::Value;
 use crate::script::table::Word;
-use pvp_types::{Cmd, Step};
+use pvp_types::{Cmd, Instruction, Step};
 
 /// What a line says whose form this word tells. Each value stands at the place of its word, and the first
 /// word's place is 0.
@@ -93,14 +93,14 @@ fn command(word: Word, values: &[Value]) -> Cmd
             ccy: at(values, 3).currency(),
             out: at(values, 4).number(),
         },
-        _ => Cmd::Instruct {
+        _ => Cmd::Instruct(Instruction {
             reference: at(values, 3).number(),
             other: at(values, 4).actor(),
             sell: at(values, 5).currency(),
             sell_amt: at(values, 6).amount(),
             buy: at(values, 7).currency(),
             buy_amt: at(values, 8).amount(),
-        },
+        }),
     }
 }
 

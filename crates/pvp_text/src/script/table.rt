@@ -127,8 +127,8 @@ impl Row {
 
 impl Word {
     /// The first of these words that is written so.
-    pub fn written(text: &[u8], words: &[Word]) -> Option<Self>
-        ensures { result ≡ spec.written text.now words.now }
+    pub fn find_word(text: &[u8], words: &[Word]) -> Option<Self>
+        ensures { result ≡ spec.find_word text.now words.now }
     {
         words.iter().copied().find(|one| is(text, one.row().text))
     }
@@ -244,7 +244,7 @@ impl Form {
         let Some((first, rest)) = next_word(line) else {
             return Form::TooFew;
         };
-        match Word::written(first, firsts()) {
+        match Word::find_word(first, firsts()) {
             Some(Word::Do) => Form::of_command(rest),
             Some(word) => Form::Of(word),
             None => Form::NoLine,
@@ -261,7 +261,7 @@ impl Form {
         let Some((command, _)) = next_word(rest) else {
             return Form::TooFew;
         };
-        match Word::written(command, commands()) {
+        match Word::find_word(command, commands()) {
             Some(word) => Form::Of(word),
             None => Form::NoCommand,
         }

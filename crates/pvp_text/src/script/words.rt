@@ -22,6 +22,7 @@ fn place_of(byte: u8, bytes: &[u8]) -> Option<usize>
 }
 
 /// The first line of a text, and the text after it.
+// the lemma says what a cut at the first line's end is to all lines
 #[tactic(auto, using(crate::proofs::ScriptSplitting::first_line))]
 pub fn next_line(text: &[u8]) -> Option<(&[u8], &[u8])>
     ensures none { IfNone result (lines text.now ≡ []) }
@@ -35,6 +36,7 @@ pub fn next_line(text: &[u8]) -> Option<(&[u8], &[u8])>
 }
 
 /// The first word of a line, and the line after it.
+// the lemma says what a cut at the first space is to all words
 #[tactic(auto, using(crate::proofs::ScriptSplitting::first_word))]
 pub fn next_word(line: &[u8]) -> Option<(&[u8], &[u8])>
     ensures none { IfNone result (words line.now ≡ []) }

@@ -23,15 +23,15 @@ returns-in-Ok-Some-clause-some g c =
           c.in-Ok-Some.ensures.some));
     }
 
-pub returns-in-Err-rising-clause-some : goal.returns-in-Err-rising-clause-some
-returns-in-Err-rising-clause-some g c =
+pub returns-in-Err-check_clocks-clause-some : goal.returns-in-Err-check_clocks-clause-some
+returns-in-Err-check_clocks-clause-some g c =
     let closed = c.args.closed.now in
     let k = c.loop-k.k in
     let one = c.index-closed-k.result in
     let is = slice_get_read closed (length closed) k one refl c.loop-k-test.true c.index-closed-k.is in
-    let err = c.in-Err-rising.ensures.err in
-    let clock : ClockFails c.as_slice-in-loop-k-2.result.now (c.in-Err-rising.at + 1) =
-    record { many = c.in-Err-rising.at; count = refl; within = err.0; rising = err.1; fails = err.2 } in
+    let err = c.in-Err-check_clocks.ensures.err in
+    let clock : ClockFails c.as_slice-in-loop-k-2.result.now (c.in-Err-check_clocks.at + 1) =
+    record { many = c.in-Err-check_clocks.at; count = refl; within = err.0; rising = err.1; fails = err.2 } in
     record {
       place = k;
       who = one;
@@ -41,7 +41,7 @@ returns-in-Err-rising-clause-some g c =
         subst (λ h. AreReceived h one.seats.items) c.as_slice.ensures.value
             (subst (λ s. AreReceived c.as_slice.result.now s) c.as_slice-in-loop-k.ensures.value
             (subst (λ o. IfNone o (AreReceived c.as_slice.result.now c.as_slice-in-loop-k.result.now)) c.in-Ok-None.field-0-is c.in-Ok-None.ensures.none)),
-        subst (λ h. ClockFails h (c.in-Err-rising.at + 1)) c.as_slice-in-loop-k-2.ensures.value clock,
+        subst (λ h. ClockFails h (c.in-Err-check_clocks.at + 1)) c.as_slice-in-loop-k-2.ensures.value clock,
       );
     }
 

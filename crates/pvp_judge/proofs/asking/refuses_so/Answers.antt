@@ -9,7 +9,7 @@ use Rattle.pvp_judge.proofs.asking.refuses_so.Goals as goal
 pub returns-in-Err-clause-so : goal.returns-in-Err-clause-so
 returns-in-Err-clause-so c = λ list cells moves.
     let old = c.args.world.now in
-    let new = c.told.new.world in
+    let new = c.world_answer.new.world in
     let step = c.args.step in
     let told = c.in_ok-found.ensures in
     let refused : IsRefused held_by old new step c.in-Err.found = subst (λ r. Applies held_by old new step r) c.in-Err.is told.applies in
@@ -20,7 +20,7 @@ returns-in-Err-clause-so c = λ list cells moves.
 pub returns-in-Ok-clause-so : goal.returns-in-Ok-clause-so
 returns-in-Ok-clause-so c = λ list cells moves.
     let old = c.args.world.now in
-    let new = c.told.new.world in
+    let new = c.world_answer.new.world in
     let step = c.args.step in
     let told = c.in_ok-found.ensures in
     let taken : IsTaken held_by old new step c.in-Ok.field-0 = subst (λ r. Applies held_by old new step r) c.in-Ok.is told.applies in (

@@ -23,11 +23,11 @@ returns-else-is_clients_want-clause-so c =
     let world = c.args.world.now in
     let step = c.client_step-step.result in
     let why = c.in-Err.fault in
-    ok_map (λ can. OfTrail world (λ list. IsTrue can ↔ (bank_refuses world.setup (faults world.setup) list.bank step ≡ Some c.told_as.result)))
+    ok_map (λ can. OfTrail world (λ list. IsTrue can ↔ (bank_refuses world.setup (faults world.setup) list.bank step ≡ Some c.of_client.result)))
     (ClientComes world c.args.actor c.args.event.now c.args.told.now) c.refuses_so.result
     (λ can so. subst (λ t. ClientComes world c.args.actor c.args.event.now t can) (sym c.in-Err.is)
     (client_refused_so world c.is_proved.ensures.shows c.args.actor c.requires.last c.args.event.now c.requires.mine c.args.number c.requires.named step
     c.client_step-step.ensures can why
     (λ same. (let clash : true ≡ false = sym (c.is_clients_want.ensures.1 same) ∙ c.if-is_clients_want.false in cc))
-    (subst (λ w. OfTrail world (λ list. IsTrue can ↔ (bank_refuses world.setup (faults world.setup) list.bank step ≡ Some w))) c.told_as.ensures so)))
+    (subst (λ w. OfTrail world (λ list. IsTrue can ↔ (bank_refuses world.setup (faults world.setup) list.bank step ≡ Some w))) c.of_client.ensures so)))
     c.refuses_so.ensures.so

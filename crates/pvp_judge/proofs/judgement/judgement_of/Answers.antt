@@ -13,4 +13,4 @@ returns-in-All-clause-judges c =
     let closed = c.args.closed.now in
     let alone = subst (λ o. IfNone o (HoldOfAll closed (λ _ e. IsAlone e))) c.in_default.is c.in_ok-actor.ensures.none in
     ended_means closed c.args.setup.now c.in-All.world (subst (PassesSo c.args.setup.now closed) c.in-All.is c.in_ok-actor-2.ensures) alone
-    c.ended.result c.ended.ensures
+    c.judgement_at_end.result c.judgement_at_end.ensures

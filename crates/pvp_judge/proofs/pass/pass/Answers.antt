@@ -4,7 +4,7 @@ use Rattle.pvp_rooms.specs.declared.message.Recorded.{Recorded}
 use Rattle.pvp_audit.specs.Runs.{history_of, number_in}
 use Rattle.pvp_audit.specs.Named.{IsNamed}
 use Rattle.pvp_audit.proofs.Grows.{zeros_none, zeros_many}
-use Rattle.pvp_parties.specs.Parties.{delivers, sent, is_for}
+use Rattle.pvp_parties.specs.Parties.{delivers, sent_envelopes, is_for}
 use Rattle.pvp_judge.specs.Banked.{IsOfBank}
 use Rattle.pvp_judge.specs.Coming.{ComesSo}
 use Rattle.pvp_judge.specs.Moves.{move_of}
@@ -101,7 +101,7 @@ returns-then-not-is_named c =
     let i = c.loop-k.invariant in
     let r = c.index-as_slice-place.result in
     let what = event_read closed at k place one t c.as_slice-in-loop-k.result.now c.as_slice-in-loop-k.ensures.value r c.index-as_slice-place.is in
-    subst (λ p. PassesSo c.args.setup.now closed p) (sym c.failed.ensures) (record {
+    subst (λ p. PassesSo c.args.setup.now closed p) (sym c.failure_at.ensures) (record {
       place = k;
       number = ap number_in t.is;
       test = tt;
@@ -109,8 +109,8 @@ returns-then-not-is_named c =
           passing_stamped c.args.setup.now closed c.requires.order c.requires.bank c.requires.clocks c.one_bank.ensures.right_choices at numbers world i.so k
           t.next one t.is (place + 1) (ap (λ n. n + 1) (sym t.here)) (λ named. (
           let here =
-          subst (λ l. IsNamed delivers sent is_for closed l one.end r) (sym c.as_slice-in-loop-k-2.ensures.value)
-          (subst (λ (v : Recorded _ _). IsNamed delivers sent is_for closed at one.end v) what named) in
+          subst (λ l. IsNamed delivers sent_envelopes is_for closed l one.end r) (sym c.as_slice-in-loop-k-2.ensures.value)
+          (subst (λ (v : Recorded _ _). IsNamed delivers sent_envelopes is_for closed at one.end v) what named) in
           let clash : true ≡ false = sym (c.is_named.ensures.1 here) ∙ c.if-not-is_named.true in cc));
     })
 
@@ -153,9 +153,10 @@ comes_so-requires-clause-named c =
     let i = c.loop-k.invariant in
     let r = c.index-as_slice-place.result in
     let what = event_read closed at k place one t c.as_slice-in-loop-k.result.now c.as_slice-in-loop-k.ensures.value r c.index-as_slice-place.is in
-    let named : IsNamed delivers sent is_for closed at one.end t.next.what =
-    subst (λ (v : Recorded _ _). IsNamed delivers sent is_for closed at one.end v) (sym what)
-    (subst (λ l. IsNamed delivers sent is_for closed l one.end r) c.as_slice-in-loop-k-2.ensures.value (c.is_named.ensures.0 c.if-not-is_named.false)) in
+    let named : IsNamed delivers sent_envelopes is_for closed at one.end t.next.what =
+    subst (λ (v : Recorded _ _). IsNamed delivers sent_envelopes is_for closed at one.end v) (sym what)
+    (subst (λ l. IsNamed delivers sent_envelopes is_for closed l one.end r) c.as_slice-in-loop-k-2.ensures.value
+    (c.is_named.ensures.0 c.if-not-is_named.false)) in
     let found : IsFound closed numbers t.next.what.stamp c.find-number.result =
     subst (λ (v : Recorded _ _). IsFound closed numbers v.stamp c.find-number.result) (sym what) c.find-number.ensures in
     let posts = c.post_len.ensures in
@@ -179,9 +180,10 @@ comes_so-requires-clause-mine c =
     let i = c.loop-k.invariant in
     let r = c.index-as_slice-place.result in
     let what = event_read closed at k place one t c.as_slice-in-loop-k.result.now c.as_slice-in-loop-k.ensures.value r c.index-as_slice-place.is in
-    let named : IsNamed delivers sent is_for closed at one.end t.next.what =
-    subst (λ (v : Recorded _ _). IsNamed delivers sent is_for closed at one.end v) (sym what)
-    (subst (λ l. IsNamed delivers sent is_for closed l one.end r) c.as_slice-in-loop-k-2.ensures.value (c.is_named.ensures.0 c.if-not-is_named.false)) in
+    let named : IsNamed delivers sent_envelopes is_for closed at one.end t.next.what =
+    subst (λ (v : Recorded _ _). IsNamed delivers sent_envelopes is_for closed at one.end v) (sym what)
+    (subst (λ l. IsNamed delivers sent_envelopes is_for closed l one.end r) c.as_slice-in-loop-k-2.ensures.value
+    (c.is_named.ensures.0 c.if-not-is_named.false)) in
     subst (λ (v : Recorded _ _). (delivers v.event ≡ None) ⊎ (is_for one.end v.event ≡ true)) what
     (passing_mine c.args.setup.now closed c.requires.order c.requires.bank c.requires.clocks c.one_bank.ensures.right_choices at numbers world i.so k t.next one
     t.is (place + 1) (ap (λ n. n + 1) (sym t.here)) named)
@@ -201,12 +203,13 @@ returns-then-not-branch c =
     let i = c.loop-k.invariant in
     let r = c.index-as_slice-place.result in
     let what = event_read closed at k place one t c.as_slice-in-loop-k.result.now c.as_slice-in-loop-k.ensures.value r c.index-as_slice-place.is in
-    let named : IsNamed delivers sent is_for closed at one.end t.next.what =
-    subst (λ (v : Recorded _ _). IsNamed delivers sent is_for closed at one.end v) (sym what)
-    (subst (λ l. IsNamed delivers sent is_for closed l one.end r) c.as_slice-in-loop-k-2.ensures.value (c.is_named.ensures.0 c.if-not-is_named.false)) in
+    let named : IsNamed delivers sent_envelopes is_for closed at one.end t.next.what =
+    subst (λ (v : Recorded _ _). IsNamed delivers sent_envelopes is_for closed at one.end v) (sym what)
+    (subst (λ l. IsNamed delivers sent_envelopes is_for closed l one.end r) c.as_slice-in-loop-k-2.ensures.value
+    (c.is_named.ensures.0 c.if-not-is_named.false)) in
     let so : ComesSo world one.end t.next.what c.in_ok-comes_so.field-0 =
     subst (λ (v : Recorded _ _). ComesSo world one.end v c.in_ok-comes_so.field-0) (sym what) c.in_ok-comes_so.ensures.so in
-    subst (λ p. PassesSo c.args.setup.now closed p) (sym c.failed-then-not-branch.ensures) (record {
+    subst (λ p. PassesSo c.args.setup.now closed p) (sym c.failure_at-then-not-branch.ensures) (record {
       place = k;
       number = ap number_in t.is;
       test = tt;
@@ -230,9 +233,10 @@ loop-k-preserved c =
     let i = c.loop-k.invariant in
     let r = c.index-as_slice-place.result in
     let what = event_read closed at k place one t c.as_slice-in-loop-k.result.now c.as_slice-in-loop-k.ensures.value r c.index-as_slice-place.is in
-    let named : IsNamed delivers sent is_for closed at one.end t.next.what =
-    subst (λ (v : Recorded _ _). IsNamed delivers sent is_for closed at one.end v) (sym what)
-    (subst (λ l. IsNamed delivers sent is_for closed l one.end r) c.as_slice-in-loop-k-2.ensures.value (c.is_named.ensures.0 c.if-not-is_named.false)) in
+    let named : IsNamed delivers sent_envelopes is_for closed at one.end t.next.what =
+    subst (λ (v : Recorded _ _). IsNamed delivers sent_envelopes is_for closed at one.end v) (sym what)
+    (subst (λ l. IsNamed delivers sent_envelopes is_for closed l one.end r) c.as_slice-in-loop-k-2.ensures.value
+    (c.is_named.ensures.0 c.if-not-is_named.false)) in
     let so : ComesSo world one.end t.next.what c.in_ok-comes_so.field-0 =
     subst (λ (v : Recorded _ _). ComesSo world one.end v c.in_ok-comes_so.field-0) (sym what) c.in_ok-comes_so.ensures.so in
     let found : IsFound closed numbers t.next.what.stamp c.find-number.result =

@@ -1,5 +1,5 @@
 use Rattle.std.proofs.Common.{◌≡◌, length}
-use Rattle.pvp_audit.proofs.Grows.{left}
+use Rattle.pvp_audit.proofs.Grows.{events_left}
 use Rattle.pvp_judge.proofs.Passing.{IsPassing}
 use Rattle.pvp_judge.proofs.pass.pass.Given as goal
 
@@ -10,4 +10,4 @@ invariant-loop-k l = record {
 }
 
 abbrev pub decreases-loop-k : goal.decreases-loop-k
-decreases-loop-k l = left l.closed l.at.items
+decreases-loop-k l = events_left l.closed l.at.items

@@ -3,7 +3,7 @@ use Rattle.std.specs.Vec.Iter.{into_iter_items}
 use Rattle.pvp_rooms.specs.declared.message.Recorded.{Recorded}
 use Rattle.pvp_rooms.specs.Seats.{Held}
 use Rattle.pvp_peers.specs.Peers.{IsPosting}
-use Rattle.pvp_peers.specs.Puts.{refused, spent}
+use Rattle.pvp_peers.specs.Puts.{refusal_passages, spent_passages}
 use Rattle.pvp_peers.proofs.Streams.{posting_next, hands_none, hands_more, hands_same, hands_one, passes_none, passes_more, passes_one, passes_last}
 use Rattle.pvp_peers.proofs.peer.post_all.Goals as goal
 
@@ -34,7 +34,7 @@ loop-frame-preserved g c =
       hands_more g.O.Outbox.got g.A.Served.sent n c.args.seat.now c.loop-frame.seat c.post.new.seat c.args.outbox.now c.loop-frame.outbox
           c.put.new.self c.loop-frame.invariant.3
           (hands_one g.O.Outbox.got g.A.Served.sent n c.loop-frame.seat c.post.new.seat _ c.loop-frame.outbox c.put.new.self _ c.in-Done.ensures.receipts
-          (λ i. record { actor = c.number.ensures i; clock = c.in-Done.clock; sent = c.sent.ensures i }) c.put.ensures),
+          (λ i. record { actor = c.number.ensures i; clock = c.in-Done.clock; sent = c.sent_envelopes.ensures i }) c.put.ensures),
       passes_more g.G.Gate.heard n c.args.seat.now c.loop-frame.seat c.post.new.seat c.args.gate.now c.loop-frame.gate c.post.new.gate
           [] c.loop-frame.invariant.4
           (passes_one g.G.Gate.heard n c.loop-frame.seat c.post.new.seat _ c.loop-frame.gate c.post.new.gate c.in-Done.ensures.receipts
@@ -52,13 +52,13 @@ pub returns-in-NoMemory-clause-passed : goal.returns-in-NoMemory-clause-passed
 returns-in-NoMemory-clause-passed g c =
     let n = c.args.cell.now.number in
     record {
-      last = refused n;
+      last = refusal_passages n;
       ends = refl;
       passes =
           passes_more g.G.Gate.heard n c.args.seat.now c.loop-frame.seat c.post.new.seat c.args.gate.now c.loop-frame.gate c.post.new.gate
-          (refused n) c.loop-frame.invariant.4
+          (refusal_passages n) c.loop-frame.invariant.4
           (passes_last g.G.Gate.heard n c.loop-frame.seat c.post.new.seat c.loop-frame.gate c.post.new.gate
-          (refused n) c.in-NoMemory.ensures.receipts c.in-NoMemory.ensures.passed);
+          (refusal_passages n) c.in-NoMemory.ensures.receipts c.in-NoMemory.ensures.passed);
     }
 
 pub returns-in-ClockSpent-clause-handed : goal.returns-in-ClockSpent-clause-handed
@@ -72,11 +72,11 @@ pub returns-in-ClockSpent-clause-passed : goal.returns-in-ClockSpent-clause-pass
 returns-in-ClockSpent-clause-passed g c =
     let n = c.args.cell.now.number in
     record {
-      last = spent n;
+      last = spent_passages n;
       ends = refl;
       passes =
           passes_more g.G.Gate.heard n c.args.seat.now c.loop-frame.seat c.post.new.seat c.args.gate.now c.loop-frame.gate c.post.new.gate
-          (spent n) c.loop-frame.invariant.4
+          (spent_passages n) c.loop-frame.invariant.4
           (passes_last g.G.Gate.heard n c.loop-frame.seat c.post.new.seat c.loop-frame.gate c.post.new.gate
-          (spent n) c.in-ClockSpent.ensures.receipts c.in-ClockSpent.ensures.passed);
+          (spent_passages n) c.in-ClockSpent.ensures.receipts c.in-ClockSpent.ensures.passed);
     }

@@ -7,14 +7,14 @@ use Rattle.pvp_book.specs.Ledger.{Ledger}
 use Rattle.rtgs_node.specs.Node.{Node}
 use Rattle.vr_types.specs.declared.cell.Boot.{Boot}
 use Rattle.vr_types.specs.Site.{is_running}
-use Rattle.vr_site.specs.Replica as replica
+use Rattle.vr_site.specs.Replica.{ShownSite}
 use Rattle.pvp_play.specs.BooksText.{book_of, figure_text, way_line}
 use Rattle.pvp_play.proofs.books.push_site_figure.Goals as goal
 
 regroup : (old site figure end : List ℕ) → ((old ++ site) ++ figure) ++ end ≡ old ++ ((site ++ figure) ++ end)
 regroup old site figure end = simp append_assoc
 
-module _ {B : Type 0} (held : B → Boot) (c : ℕ) (x : Node) (i : ℕ) (v : replica.Shown Cmd Setup B) (book : Ledger) (old site whole new : List ℕ) where
+module _ {B : Type 0} (held : B → Boot) (c : ℕ) (x : Node) (i : ℕ) (v : ShownSite Cmd Setup B) (book : Ledger) (old site whole new : List ℕ) where
   abbrev site_words : List ℕ
   site_words = codes "  site " ++ decimal i
 

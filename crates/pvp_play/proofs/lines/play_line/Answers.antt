@@ -1,5 +1,5 @@
 use Rattle.std.proofs.Common.{ℕ, ◌++◌, List, length, string_bytes, sym, ap, ◌∙◌}
-use Rattle.pvp_world.specs.World.{Shown as World}
+use Rattle.pvp_world.specs.World.{ShownWorld}
 use Rattle.pvp_trace.specs.declared.attempt.Attempt.{Attempt}
 use Rattle.pvp_play.specs.declared.notes.Telling.{Telling}
 use Rattle.pvp_play.specs.Notes.{notes}
@@ -15,7 +15,7 @@ returns-in-Books-clause-played g c =
     let new = c.do_line.new.player in
     let told = c.in_ok-told.told in
     text-played g.C.BootCell c.args.telling line old new told string_bytes c.books_told.result _ c.in_ok-told.ensures.done
-    (ap (λ (w : World g.row.C.Denot). refused_text line.number told ++ print_text g.C.BootCell.held line.statement w) c.world.ensures
+    (ap (λ (w : ShownWorld g.row.C.Denot). refused_text line.number told ++ print_text g.C.BootCell.held line.statement w) c.world.ensures
     ∙ sym (ap (λ (t : Telling). line_text g.C.BootCell.held t line told old new) c.in-Books.is))
     c.books_told.ensures.text
 

@@ -1,7 +1,7 @@
-use Rattle.std.proofs.Common.{◌≡◌, ◌+◌, ◌++◌, ◌∷◌, [], false, length, refl, arith}
+use Rattle.std.proofs.Common.{◌≡◌, ◌+◌, ◌++◌, ◌∷◌, [], false, length, arith}
 use Rattle.std.proofs.lemmas.Result.{err_from_is_err_and}
 use Rattle.std.proofs.lemmas.List.{length-append}
-use Rattle.pvp_wire.specs.Reading.{number_at, items_from}
+use Rattle.pvp_wire.specs.Shape.{number_at, items_from}
 use Rattle.pvp_wire.proofs.Loop.{goes_on, ends, is_done}
 use Rattle.pvp_wire.proofs.boots.boots_from.Goals as goal
 

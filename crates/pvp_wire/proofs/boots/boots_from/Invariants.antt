@@ -1,5 +1,5 @@
 use Rattle.std.proofs.Common.{◌≡◌, ◌-◌, false, length}
-use Rattle.pvp_wire.specs.Reading.{number_at, items_from}
+use Rattle.pvp_wire.specs.Shape.{number_at, items_from}
 use Rattle.pvp_wire.proofs.Loop.{with_front}
 use Rattle.pvp_wire.proofs.boots.boots_from.Given as goal
 

@@ -1,7 +1,7 @@
 use Rattle.std.proofs.Common.{◌≡◌, ◌+◌, ◌*◌, ◌++◌, length, take}
 use Rattle.std.specs.List.{flat_map}
 use Rattle.pvp_wire.specs.Spelling.{number}
-use Rattle.pvp_wire.specs.Fits.{Fits, EachFits}
+use Rattle.pvp_wire.specs.Shape.{Fits, EachFits}
 use Rattle.pvp_wire.proofs.writing.push_boots.Given as goal
 
 abbrev pub invariant-loop-site : goal.invariant-loop-site

@@ -4,7 +4,7 @@ use Rattle.pvp_types.specs.Setup.{faults}
 use Rattle.pvp_types.specs.declared.setup.Member.{Member}
 use Rattle.pvp_types.proofs.SetupLemmas.{valid-members}
 use Rattle.headline.specs.Client.{Client, opening_client}
-use Rattle.pvp_world.specs.Client as client
+use Rattle.pvp_world.specs.Client.{ShownClient}
 use Rattle.pvp_world.specs.World.{IsClient}
 use Rattle.pvp_world.proofs.Openings.{so_far-none, so_far-more, so_far-all, same-at_first}
 use Rattle.pvp_world.proofs.opening.clients_of.Goals as goal
@@ -23,7 +23,7 @@ loop-number-preserved c =
     so_far-more (IsClient setup) _ (opening_client ∷ map (λ (member : Member). opening_client) setup.members) c.loop-number.number
     c.new.result c.push.new.self.items
     c.loop-number.invariant c.in_ok-push.ensures.items
-    (λ y at. c.new.ensures ∙ ap (λ (x : Client). let v : client.Shown = record { f = faults setup; me = c.loop-number.number; client = x } in
+    (λ y at. c.new.ensures ∙ ap (λ (x : Client). let v : ShownClient = record { f = faults setup; me = c.loop-number.number; client = x } in
     v) (same-at_first opening_client setup.members _ y at))
 
 pub returns : goal.returns

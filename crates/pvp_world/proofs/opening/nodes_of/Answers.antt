@@ -2,7 +2,7 @@ use Rattle.std.proofs.Common.{map, ap, ◌∙◌, arith}
 use Rattle.std.proofs.lemmas.List.{length-map}
 use Rattle.pvp_types.specs.declared.setup.Currency.{Currency}
 use Rattle.rtgs_node.specs.Node.{Node, opening_node}
-use Rattle.rtgs_node.specs.Shown as node
+use Rattle.rtgs_node.specs.Shown.{ShownNode}
 use Rattle.pvp_world.specs.World.{IsNode}
 use Rattle.pvp_world.proofs.Openings.{so_far-none, so_far-more, so_far-all, same-at}
 use Rattle.pvp_world.proofs.opening.nodes_of.Goals as goal
@@ -15,7 +15,7 @@ loop-ccy-preserved c =
     let setup = c.args.setup.now in
     so_far-more (IsNode setup) _ (map (λ (currency : Currency). opening_node) setup.currencies) c.loop-ccy.ccy c.in_ok-new.field-0 c.push.new.self.items
     c.loop-ccy.invariant c.in_ok-push.ensures.items
-    (λ y at. c.in_ok-new.ensures ∙ ap (λ (x : Node). let v : node.Shown = record { setup = setup; ccy = c.loop-ccy.ccy; node = x } in
+    (λ y at. c.in_ok-new.ensures ∙ ap (λ (x : Node). let v : ShownNode = record { setup = setup; ccy = c.loop-ccy.ccy; node = x } in
     v) (same-at opening_node setup.currencies _ y at))
 
 pub returns : goal.returns

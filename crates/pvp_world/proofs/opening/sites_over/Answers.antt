@@ -8,14 +8,14 @@ use Rattle.pvp_types.specs.declared.command.Cmd.{Cmd}
 use Rattle.pvp_types.specs.declared.setup.Setup.{Setup}
 use Rattle.pvp_types.specs.Setup.{faults}
 use Rattle.vr_types.specs.Site.{Site, opening_site}
-use Rattle.vr_site.specs.Replica as replica
+use Rattle.vr_site.specs.Replica.{ShownSite}
 use Rattle.pvp_world.specs.World.{IsSite}
 use Rattle.pvp_world.proofs.Openings.{so_far-none, so_far-more, so_far-all, made-at, made-more, IsPlaced-numbered, IsSite-opening}
 use Rattle.pvp_world.proofs.opening.sites_over.Goals as goal
 
 pub loop-me-init : goal.loop-me-init
 loop-me-init g c = record {
-  cells = ap (map (λ (site : replica.Shown Cmd Setup g.row.C.Denot). site.cell)) c.in_ok-sites.ensures.items;
+  cells = ap (map (λ (site : ShownSite Cmd Setup g.row.C.Denot). site.cell)) c.in_ok-sites.ensures.items;
   sites = so_far-none _ _ _ c.in_ok-sites.ensures.items;
 }
 
@@ -45,7 +45,7 @@ loop-me-preserved g c =
     c.in_ok-new.ensures.acked (c.in_ok-new.ensures.site ∙ ap (λ f. opening_site f (held cell)) c.faults-f.ensures.faults) in
     rw (length_push c.loop-me.yielded (c.in-Some.me, cell)) (record {
       cells =
-          made-more (λ (site : replica.Shown Cmd Setup g.row.C.Denot). site.cell) _ cells n site cell _ c.loop-me.invariant.cells c.in_ok-push.ensures.items
+          made-more (λ (site : ShownSite Cmd Setup g.row.C.Denot). site.cell) _ cells n site cell _ c.loop-me.invariant.cells c.in_ok-push.ensures.items
           parts.3 placed.within placed.read;
       sites =
           so_far-more (IsSite held setup) _ (map (opening_site (faults setup)) (map held cells)) n site _ c.loop-me.invariant.sites c.in_ok-push.ensures.items

@@ -20,8 +20,8 @@ returns-then-not-keeps_executed-clause-step g c = λ choose start acks cell righ
     meets_as m start f me r c.dropped.result _ _ (takes_log-stale choose f me x c.args.view c.args.done log begins)
     (drops_meets m start f me r c.dropped.result acks cell _ c.dropped.ensures h)
 
-pub execute-requires : goal.execute-requires
-execute-requires g c = c.in_ok-take_rows.ensures.ready (c.keeps_executed.ensures.keeps c.if-not-keeps_executed.false) c.requires.ready
+pub advance-requires : goal.advance-requires
+advance-requires g c = c.in_ok-take_rows.ensures.ready (c.keeps_executed.ensures.keeps c.if-not-keeps_executed.false) c.requires.ready
 
 pub returns-in_err-take_rows-clause-step : goal.returns-in_err-take_rows-clause-step
 returns-in_err-take_rows-clause-step g c = λ choose start acks cell right h.
@@ -35,8 +35,8 @@ returns-in_err-take_rows-clause-step g c = λ choose start acks cell right h.
     err_follows m start f me _ c.from_residual.result _ c.from_residual.ensures.0
     (ap (λ s. s.ending) (takes_log-is choose f me x c.args.view c.args.done log _ begins refl))
 
-pub returns-in_err-execute-clause-step : goal.returns-in_err-execute-clause-step
-returns-in_err-execute-clause-step g c = λ choose start acks cell right h.
+pub returns-in_err-advance-clause-step : goal.returns-in_err-advance-clause-step
+returns-in_err-advance-clause-step g c = λ choose start acks cell right h.
     let m = g.M.Machine in
     let f = c.args.config.f in
     let me = c.args.config.me in
@@ -44,7 +44,7 @@ returns-in_err-execute-clause-step g c = λ choose start acks cell right h.
     let x = site_of r acks cell in
     let log = take c.args.base r.kept.log ++ c.args.rows in
     let begins : begins_with_executed choose.same x log ≡ true = sym (c.keeps_executed.ensures.same f choose right) ∙ c.if-not-keeps_executed.false in
-    err_follows m start f me _ c.from_residual-in_err-execute.result _ c.from_residual-in_err-execute.ensures.0
+    err_follows m start f me _ c.from_residual-in_err-advance.result _ c.from_residual-in_err-advance.ensures.0
     (ap (λ s. s.ending) (takes_log-is choose f me x c.args.view c.args.done log _ begins refl))
 
 pub returns-then-running-len-clause-step : goal.returns-then-running-len-clause-step
@@ -57,7 +57,7 @@ returns-then-running-len-clause-step g c = λ choose start acks cell right h.
     let n = c.be_normal.new.running in
     let log = take c.args.base r.kept.log ++ c.args.rows in
     let took = c.in_ok-take_rows.ensures in
-    let ran = c.in_ok-execute.ensures in
+    let ran = c.in_ok-advance.ensures in
     let now = c.be_normal.ensures in
     let keeps = c.keeps_executed.ensures.keeps c.if-not-keeps_executed.false in
     let begins : begins_with_executed choose.same x log ≡ true = sym (c.keeps_executed.ensures.same f choose right) ∙ c.if-not-keeps_executed.false in
@@ -86,7 +86,7 @@ returns-else-running-len-clause-step g c = λ choose start acks cell right h.
     let n = c.be_normal.new.running in
     let log = take c.args.base r.kept.log ++ c.args.rows in
     let took = c.in_ok-take_rows.ensures in
-    let ran = c.in_ok-execute.ensures in
+    let ran = c.in_ok-advance.ensures in
     let now = c.be_normal.ensures in
     let keeps = c.keeps_executed.ensures.keeps c.if-not-keeps_executed.false in
     let begins : begins_with_executed choose.same x log ≡ true = sym (c.keeps_executed.ensures.same f choose right) ∙ c.if-not-keeps_executed.false in
@@ -115,7 +115,7 @@ returns-then-running-len-clause-sound g c =
     let keeps = c.keeps_executed.ensures.keeps c.if-not-keeps_executed.false in
     let gave = now.nothing in
     let kept : (start : _) → IsKept m start r.kept → IsKept m start n.kept =
-    λ start was. subst (IsKept m start) (sym now.kept) (c.in_ok-execute.ensures.kept start (c.in_ok-take_rows.ensures.kept start keeps was)) in
+    λ start was. subst (IsKept m start) (sym now.kept) (c.in_ok-advance.ensures.kept start (c.in_ok-take_rows.ensures.kept start keeps was)) in
     on_ok c.acknowledge_log.result _
     (λ start s. (gave_up_sound m start f r n gave (ap is_running now.status) now.sites (ap length now.known) (kept start s.kept) s).sound)
 
@@ -129,5 +129,5 @@ returns-else-running-len-clause-sound g c =
     let keeps = c.keeps_executed.ensures.keeps c.if-not-keeps_executed.false in
     let gave = now.nothing in
     let kept : (start : _) → IsKept m start r.kept → IsKept m start n.kept =
-    λ start was. subst (IsKept m start) (sym now.kept) (c.in_ok-execute.ensures.kept start (c.in_ok-take_rows.ensures.kept start keeps was)) in
+    λ start was. subst (IsKept m start) (sym now.kept) (c.in_ok-advance.ensures.kept start (c.in_ok-take_rows.ensures.kept start keeps was)) in
     (λ start s. (gave_up_sound m start f r n gave (ap is_running now.status) now.sites (ap length now.known) (kept start s.kept) s).sound)

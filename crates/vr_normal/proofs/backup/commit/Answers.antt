@@ -47,8 +47,8 @@ returns-then-lags-clause-step g c = λ start acks cell h.
     follows_as m start f me r c.ask_state.result _ _ (on_commit-later f me x c.args.from c.args.msg p here new later)
     (does_follows m start f me r c.ask_state.result x _ c.ask_state.ensures h refl)
 
-pub returns-in_err-execute-clause-step : goal.returns-in_err-execute-clause-step
-returns-in_err-execute-clause-step g c = λ start acks cell h.
+pub returns-in_err-advance-clause-step : goal.returns-in_err-advance-clause-step
+returns-in_err-advance-clause-step g c = λ start acks cell h.
     let m = g.M.Machine in
     let f = c.args.config.f in
     let me = c.args.config.me in
@@ -64,7 +64,7 @@ returns-in_err-execute-clause-step g c = λ start acks cell h.
 pub returns-then-len-msg-clause-sound : goal.returns-then-len-msg-clause-sound
 returns-then-len-msg-clause-sound g c =
     on_ok c.ask_state-then-len-msg.result _ (λ start s. record {
-      kept = c.in_ok-execute.ensures.kept start s.kept;
+      kept = c.in_ok-advance.ensures.kept start s.kept;
       sites = s.sites;
       known = s.known;
       up = s.up;
@@ -78,7 +78,7 @@ returns-then-len-msg-clause-step g c = λ start acks cell h.
     let me = c.args.config.me in
     let r = c.args.running.now in
     let x = site_of r acks cell in
-    let now = c.in_ok-execute.ensures in
+    let now = c.in_ok-advance.ensures in
     let y = executed_to c.args.msg.done x in
     let p : (primary f c.args.msg.view == c.args.from) ≡ true = eq-eqb _ _ (sym c.primary_of.ensures.site ∙ c.if-primary_of-from.false) in
     let here = running_is_here r.status h.sound.up in
@@ -97,7 +97,7 @@ returns-then-len-msg-clause-step g c = λ start acks cell h.
 
 pub returns-else-len-msg-clause-sound : goal.returns-else-len-msg-clause-sound
 returns-else-len-msg-clause-sound g c =
-    λ start s. record { kept = c.in_ok-execute.ensures.kept start s.kept; sites = s.sites; known = s.known; up = s.up; votes = s.votes }
+    λ start s. record { kept = c.in_ok-advance.ensures.kept start s.kept; sites = s.sites; known = s.known; up = s.up; votes = s.votes }
 
 pub returns-else-len-msg-clause-step : goal.returns-else-len-msg-clause-step
 returns-else-len-msg-clause-step g c = λ start acks cell h.
@@ -106,7 +106,7 @@ returns-else-len-msg-clause-step g c = λ start acks cell h.
     let me = c.args.config.me in
     let r = c.args.running.now in
     let x = site_of r acks cell in
-    let now = c.in_ok-execute.ensures in
+    let now = c.in_ok-advance.ensures in
     let y = executed_to c.args.msg.done x in
     let p : (primary f c.args.msg.view == c.args.from) ≡ true = eq-eqb _ _ (sym c.primary_of.ensures.site ∙ c.if-primary_of-from.false) in
     let here = running_is_here r.status h.sound.up in

@@ -7,7 +7,7 @@ use Rattle.vr_normal.proofs.backup.take_row.Goals as goal
 pub returns-then-len-msg-clause-sound : goal.returns-then-len-msg-clause-sound
 returns-then-len-msg-clause-sound g c =
     on_ok c.ask_state.result _ (λ start s. record {
-      kept = c.in_ok-execute.ensures.kept start (c.in_ok-append_next.ensures.kept start s.kept);
+      kept = c.in_ok-advance.ensures.kept start (c.in_ok-append_next.ensures.kept start s.kept);
       sites = s.sites;
       known = s.known;
       up = s.up;
@@ -17,7 +17,7 @@ returns-then-len-msg-clause-sound g c =
 pub returns-else-len-msg-clause-sound : goal.returns-else-len-msg-clause-sound
 returns-else-len-msg-clause-sound g c =
     on_ok c.acknowledge_log.result _ (λ start s. record {
-      kept = c.in_ok-execute.ensures.kept start (c.in_ok-append_next.ensures.kept start s.kept);
+      kept = c.in_ok-advance.ensures.kept start (c.in_ok-append_next.ensures.kept start s.kept);
       sites = s.sites;
       known = s.known;
       up = s.up;
@@ -32,7 +32,7 @@ returns-then-len-msg-clause-step g c = λ start acks cell h.
     let r = c.args.running.now in
     let x = site_of r acks cell in
     let put = c.in_ok-append_next.ensures in
-    let now = c.in_ok-execute.ensures in
+    let now = c.in_ok-advance.ensures in
     let log = if c.args.msg.place == length r.kept.log + 1 then r.kept.log ++ c.args.msg.row ∷ [] else r.kept.log in
     let y = prepared c.args.msg x in
     let missing : length r.kept.log + 1 < c.args.msg.place = omega (arith, c.len-len.ensures.length, c.if-len-msg.true) in
@@ -60,7 +60,7 @@ returns-else-len-msg-clause-step g c = λ start acks cell h.
     let r = c.args.running.now in
     let x = site_of r acks cell in
     let put = c.in_ok-append_next.ensures in
-    let now = c.in_ok-execute.ensures in
+    let now = c.in_ok-advance.ensures in
     let log = if c.args.msg.place == length r.kept.log + 1 then r.kept.log ++ c.args.msg.row ∷ [] else r.kept.log in
     let y = prepared c.args.msg x in
     let enough : c.args.msg.place ≤ length r.kept.log + 1 = omega (arith, c.len-len.ensures.length, c.if-len-msg.false) in

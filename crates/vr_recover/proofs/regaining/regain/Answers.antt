@@ -26,7 +26,7 @@ returns-clause-running g c =
     record {
       sound =
           record {
-            kept = c.in_ok-execute.ensures.kept (g.M.Machine.start c.args.setup.now) c.in_ok-kept.ensures.kept;
+            kept = c.in_ok-advance.ensures.kept (g.M.Machine.start c.args.setup.now) c.in_ok-kept.ensures.kept;
             sites = sites;
             known = c.requires.known;
             up = refl;

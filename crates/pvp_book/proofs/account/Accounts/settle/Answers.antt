@@ -1,6 +1,6 @@
 use Rattle.std.proofs.Common.{◌≡◌, Bool, true, false, refl, ap, ◌∙◌}
 use Rattle.std.specs.Prelude.{◌&&◌}
-use Rattle.pvp_book.specs.Kept.{traded, passes_with}
+use Rattle.pvp_book.specs.Kept.{after_trade, passes_with}
 use Rattle.pvp_book.proofs.KeptLemmas.{account-read}
 use Rattle.pvp_book.proofs.account.Accounts.settle.Goals.{else-passes-via-then-passes+else-passes-2, else-passes-via-else-passes}
 use Rattle.pvp_book.proofs.account.Accounts.settle.Goals as goal
@@ -13,10 +13,10 @@ returns-then-passes-2-clause-passed c =
     let second =
     account-read c.args.self.now.members.items c.from-other.result c.args.pair.now.second c.index-2.result.now c.index-2.ensures
     c.from-other.ensures c.requires.can.second in
-    (λ i. (c.if-passes.ensures ∙ ap (passes_with c.args.setup.now c.args.pair.now.first) (c.traded-first.ensures
-    ∙ ap (traded c.args.setup.now.currencies c.args.pair.now.sell c.args.pair.now.sell_amt c.args.pair.now.buy c.args.pair.now.buy_amt) first)) i
-    && (c.if-passes-2.ensures ∙ ap (passes_with c.args.setup.now c.args.pair.now.second) (c.traded-second.ensures
-    ∙ ap (traded c.args.setup.now.currencies c.args.pair.now.buy c.args.pair.now.buy_amt c.args.pair.now.sell c.args.pair.now.sell_amt) second)) i)
+    (λ i. (c.if-passes.ensures ∙ ap (passes_with c.args.setup.now c.args.pair.now.first) (c.after_trade-first.ensures
+    ∙ ap (after_trade c.args.setup.now.currencies c.args.pair.now.sell c.args.pair.now.sell_amt c.args.pair.now.buy c.args.pair.now.buy_amt) first)) i
+    && (c.if-passes-2.ensures ∙ ap (passes_with c.args.setup.now c.args.pair.now.second) (c.after_trade-second.ensures
+    ∙ ap (after_trade c.args.setup.now.currencies c.args.pair.now.buy c.args.pair.now.buy_amt c.args.pair.now.sell c.args.pair.now.sell_amt) second)) i)
 
 no-second : (a : Bool) → false ≡ (a && false)
 no-second true = refl
@@ -31,14 +31,14 @@ returns-clause-passed c =
     account-read c.args.self.now.members.items c.from-other.result c.args.pair.now.second c.index-2.result.now c.index-2.ensures
     c.from-other.ensures c.requires.can.second in
     let one =
-    c.traded-first.ensures ∙ ap (traded c.args.setup.now.currencies c.args.pair.now.sell c.args.pair.now.sell_amt c.args.pair.now.buy
+    c.after_trade-first.ensures ∙ ap (after_trade c.args.setup.now.currencies c.args.pair.now.sell c.args.pair.now.sell_amt c.args.pair.now.buy
     c.args.pair.now.buy_amt) first in
     let other =
-    c.traded-second.ensures ∙ ap (traded c.args.setup.now.currencies c.args.pair.now.buy c.args.pair.now.buy_amt c.args.pair.now.sell
+    c.after_trade-second.ensures ∙ ap (after_trade c.args.setup.now.currencies c.args.pair.now.buy c.args.pair.now.buy_amt c.args.pair.now.sell
     c.args.pair.now.sell_amt) second in
     elim c.else-passes.branch [
       | else-passes-via-then-passes+else-passes-2 w ↦
-          no-second (passes_with c.args.setup.now c.args.pair.now.first c.traded-first.result)
+          no-second (passes_with c.args.setup.now c.args.pair.now.first c.after_trade-first.result)
           ∙ (λ i. passes_with c.args.setup.now c.args.pair.now.first (one i)
           && (w.if-passes-2.ensures ∙ ap (passes_with c.args.setup.now c.args.pair.now.second) other) i)
       | else-passes-via-else-passes w ↦

@@ -3,7 +3,7 @@ use Rattle.std.specs.Map.{lookup}
 use Rattle.std.specs.Option.{option_map}
 use Rattle.pvp_book.specs.Pairs.{pairs, pair_of}
 use Rattle.pvp_book.specs.KeptPair.{kept_pair}
-use Rattle.pvp_book.specs.Settlement.{settled}
+use Rattle.pvp_book.specs.Settlement.{settled_pairs}
 use Rattle.pvp_book.specs.Ledger.{Ledger}
 use Rattle.pvp_book.proofs.RecordLemmas.{lookup-kept, pair-back, each-kept}
 use Rattle.pvp_book.proofs.book.Book.kept_pair_of.Goals as goal
@@ -19,9 +19,9 @@ is c =
 pub returns-clause-pair : goal.returns-clause-pair
 returns-clause-pair c =
     ap (option_map (λ k. k.pair)) (is c)
-    ∙ pair-back c.args.self.now.entries (settled c.args.self.now.setup c.args.self.now.entries) (pair_of c.args.self.now.entries c.args.reference)
+    ∙ pair-back c.args.self.now.entries (settled_pairs c.args.self.now.setup c.args.self.now.entries) (pair_of c.args.self.now.entries c.args.reference)
 
 pub returns-clause-same : goal.returns-clause-same
 returns-clause-same c =
-    each-kept c.args.self.now.entries (settled c.args.self.now.setup c.args.self.now.entries) (pair_of c.args.self.now.entries c.args.reference)
+    each-kept c.args.self.now.entries (settled_pairs c.args.self.now.setup c.args.self.now.entries) (pair_of c.args.self.now.entries c.args.reference)
     c.copied.result (is c)

@@ -1,5 +1,5 @@
 use Rattle.std.proofs.Common.{◌≤◌, ◌∙◌, ap, sym, subst, arith, length}
-use Rattle.pvp_book.specs.Ledger.{Ledger, outstanding}
+use Rattle.pvp_book.specs.Ledger.{Ledger, outstanding_orders}
 use Rattle.pvp_book.specs.Open.{outstanding_at}
 use Rattle.pvp_book.proofs.LedgerLemmas.{length-open-le}
 use Rattle.pvp_book.proofs.book.Book.open_count.Goals as goal
@@ -17,4 +17,4 @@ pub returns : goal.returns
 returns c =
     c.count_outstanding.ensures
     ∙ (λ i. length (outstanding_at (λ ccy. c.self.invariant.orders.outstanding ccy i) 0 (c.currency_count.ensures.count i)))
-    ∙ ap (λ (held : Ledger). length (outstanding held.setup held.entries)) c.self.view_is
+    ∙ ap (λ (held : Ledger). length (outstanding_orders held.setup held.entries)) c.self.view_is

@@ -1,5 +1,5 @@
 use Rattle.std.proofs.Common.{◌≡◌}
-use Rattle.pvp_book.specs.Settlement.{settled}
+use Rattle.pvp_book.specs.Settlement.{settled_pairs}
 use Rattle.pvp_book.proofs.WalkingLemmas.{IsUnderWay}
 use Rattle.pvp_book.proofs.book.Book.settle.Given as goal
 
@@ -7,7 +7,7 @@ use Rattle.pvp_book.proofs.book.Book.settle.Given as goal
 abbrev pub invariant-loop-pair : goal.invariant-loop-pair
 invariant-loop-pair l = record {
   walking : IsUnderWay l.initial.self-inside.setup l.initial.self-inside.entries.items
-      (settled l.initial.self-inside.setup l.initial.self-inside.entries.items) l.pair-items l.most l.pair-index l.count
+      (settled_pairs l.initial.self-inside.setup l.initial.self-inside.entries.items) l.pair-items l.most l.pair-index l.count
       l.self-inside.pairs.entries l.self-inside.accounts.members.items l.self-inside.tally;
   setup : l.self-inside.setup ≡ l.initial.self-inside.setup;
   entries : l.self-inside.entries ≡ l.initial.self-inside.entries;

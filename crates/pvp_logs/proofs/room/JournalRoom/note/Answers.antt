@@ -1,7 +1,7 @@
 use Rattle.std.proofs.Common.{◌≡◌, Bool, refl, sym, subst}
 use Rattle.pvp_audit.specs.Runs.{Follows}
 use Rattle.pvp_rooms.specs.Histories.{Takes}
-use Rattle.pvp_logs.specs.Rooms.{Held, Keeps, NotedOne, Past, noted, with_pending}
+use Rattle.pvp_logs.specs.Rooms.{Held, Keeps, NotedOne, Past, unstamped_record, with_pending}
 use Rattle.pvp_logs.proofs.Going.{noted_one}
 use Rattle.pvp_logs.proofs.room.JournalRoom.note.Goals as goal
 
@@ -22,7 +22,7 @@ invariant_of-ahead g c =
     } in
     let kept = c.ahead.invariant in
     let P : Bool → m.State → Type 0 = λ can x. Follows m.comes m.after x c.args.event c.args.outcome (m.shows c.follow.new.self) can in (
-      with_pending kept.0 (noted c.args.event c.in-Some.next c.args.outcome),
+      with_pending kept.0 (unstamped_record c.args.event c.in-Some.next c.args.outcome),
       rw (c.push_reserved.ensures.items, c.reserve.ensures.items, c.in_ok-ahead-inside.ensures.sum, c.in_ok-ahead-inside.ensures.written)
           (noted_one m g.A.Journaled.texts g.L.Log.seen held c.follow.new.self c.args.event c.in-Some.next c.args.outcome
           (λ x shows. subst (λ can. P can x) c.if-not-branch.false (c.in_ok-follow.ensures.step x shows))

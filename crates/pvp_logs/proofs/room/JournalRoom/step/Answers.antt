@@ -2,7 +2,7 @@ use Rattle.std.proofs.Common.{◌≡◌, Err, ap, sym, subst}
 use Rattle.std.proofs.lemmas.Result.{err_from_is_err_and}
 use Rattle.pvp_journal.specs.declared.fault.WriteFault.TheVariants.{Unfit}
 use Rattle.pvp_rooms.specs.Rooms.{Took, receipt}
-use Rattle.pvp_logs.specs.Rooms.{HasNoText, Held, Keeps, TookOne, shown, with_pending}
+use Rattle.pvp_logs.specs.Rooms.{HasNoText, Held, Keeps, TookOne, shown_room, with_pending}
 use Rattle.pvp_logs.proofs.Batches.{taken}
 use Rattle.pvp_logs.proofs.room.JournalRoom.step.Goals as goal
 
@@ -56,7 +56,7 @@ returns-clause-ok g c = λ past keeps.
     let kept = subst (λ room. Keeps g.A.Actor g.A.Journaled.texts g.L.Log.seen room past) (sym c.room.view_is) keeps in
     let outcome = c.in-Ok-take.copies.answered in
     let r = receipt c.args.input c.in-Some.clock outcome in
-    let both : Took g.A.Actor c.args.input (shown held past) (shown new (with_pending past r)) c.in-Some.clock outcome
+    let both : Took g.A.Actor c.args.input (shown_room held past) (shown_room new (with_pending past r)) c.in-Some.clock outcome
     × Keeps g.A.Actor g.A.Journaled.texts g.L.Log.seen new (with_pending past r) =
     rw (c.push_reserved.ensures.items, c.reserve.ensures.items, c.in_ok-room-inside.ensures.sum, c.in_ok-room-inside.ensures.written, c.in-Ok.ensures.copy)
     (taken g.A.Actor g.A.Journaled.texts g.L.Log.seen held c.take.new.self c.args.input c.in-Some.clock outcome past kept

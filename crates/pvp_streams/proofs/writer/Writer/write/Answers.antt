@@ -17,7 +17,7 @@ returns-then-is_err g c =
     let out = c.index_mut.result.now in
     let taken = record out { stream = c.write_frame.new.stream } in
     let place =
-    ap (λ f. place_of old f.envelope.to) (sym c.stamped-stamped.ensures.is) ∙ ap (λ l. place_of l c.stamped-stamped.result.now.envelope.to)
+    ap (λ f. place_of old f.envelope.to) (sym c.stamped_envelope-stamped.ensures.is) ∙ ap (λ l. place_of l c.stamped_envelope-stamped.result.now.envelope.to)
     (sym c.as_slice.ensures.value) ∙ sym c.place_of.ensures ∙ c.in-Some.is in
     let within = (position-Some (λ o. o.to == frame.envelope.to) old at out place).0 in
     let there = slice_get_read old (length old) at out refl within c.index_mut.ensures.value in
@@ -31,7 +31,7 @@ returns g c =
     let at = c.in-Some.at in
     let out = c.index_mut.result.now in
     let place =
-    ap (λ f. place_of old f.envelope.to) (sym c.stamped-stamped.ensures.is) ∙ ap (λ l. place_of l c.stamped-stamped.result.now.envelope.to)
+    ap (λ f. place_of old f.envelope.to) (sym c.stamped_envelope-stamped.ensures.is) ∙ ap (λ l. place_of l c.stamped_envelope-stamped.result.now.envelope.to)
     (sym c.as_slice.ensures.value) ∙ sym c.place_of.ensures ∙ c.in-Some.is in
     let within = (position-Some (λ o. o.to == frame.envelope.to) old at out place).0 in
     record {
@@ -41,7 +41,7 @@ returns g c =
       there = slice_get_read old (length old) at out refl within c.index_mut.ensures.value;
       after = c.write_frame.new.stream;
       bytes =
-          subst (λ f. Appends (g.W.Write.contents out.stream) (g.W.Write.contents c.write_frame.new.stream) (spelling f)) c.stamped-stamped.ensures.is
+          subst (λ f. Appends (g.W.Write.contents out.stream) (g.W.Write.contents c.write_frame.new.stream) (spelling f)) c.stamped_envelope-stamped.ensures.is
           (done_well c.write_frame.result (sym c.if-is_err.ensures.value) c.write_frame.ensures);
       streams = refl;
     }

@@ -4,7 +4,7 @@ use Rattle.std.proofs.lemmas.List.{drop_more, length-append}
 use Rattle.pvp_text.specs.declared.script.fields.Value.{Value}
 use Rattle.pvp_text.specs.declared.script.table.Field.TheVariants.{First}
 use Rattle.pvp_text.specs.declared.script.fields.WordFault.{WordFault}
-use Rattle.pvp_text.specs.ScriptFields.{graver}
+use Rattle.pvp_text.specs.ScriptFields.{graver_fault}
 use Rattle.pvp_text.specs.ScriptWords.{words}
 use Rattle.pvp_text.proofs.ScriptValues.{goes_on, goes_wrong}
 use Rattle.pvp_text.proofs.script.reading.read_words.Goals as goal
@@ -31,8 +31,8 @@ loop-field-preserved c =
             counted = rw held (omega (arith, c.loop-field.invariant.counted, length-append c.loop-field.values.items (w.in-Ok.value ∷ [])));
           }
       | in-Err w ↦
-          let fault : c.match-value_of.fault ≡ Some (graver c.loop-field.fault w.in-Err.found) =
-          w.fault-is ∙ ap (λ (f : WordFault). Some f) w.graver.ensures in
+          let fault : c.match-value_of.fault ≡ Some (graver_fault c.loop-field.fault w.in-Err.found) =
+          w.fault-is ∙ ap (λ (f : WordFault). Some f) w.graver_fault.ensures in
           let held : c.match-value_of.values.items ≡ c.loop-field.values.items = ap (λ (v : ArrayVec Value). v.items) w.values-is in
           record {
             so_far = rw (fault, w.rest-is)

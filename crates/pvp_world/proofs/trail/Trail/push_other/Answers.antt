@@ -8,7 +8,7 @@ pub returns : goal.returns
 returns c =
     let others = c.self.inside.others.items in
     let entries = c.self.inside.entries.items in
-    let grown : c.push-pushed.new.self.items ≡ others ++ c.args.made ∷ [] = search rules in
-    let longer : c.push-entered.new.self.items ≡ entries ++ Other (length others) ∷ [] = search rules in
-    ap (λ os. map (move_of os) c.push-entered.new.self.items) grown ∙ ap (map (move_of (others ++ c.args.made ∷ []))) longer
+    let grown : c.push_reserved.new.self.items ≡ others ++ c.args.made ∷ [] = search rules in
+    let longer : c.push_reserved-2.new.self.items ≡ entries ++ Other (length others) ∷ [] = search rules in
+    ap (λ os. map (move_of os) c.push_reserved-2.new.self.items) grown ∙ ap (map (move_of (others ++ c.args.made ∷ []))) longer
     ∙ push-other others entries c.args.made c.self.invariant ∙ ap (λ ms. ms ++ c.args.made ∷ []) (search rules)

@@ -8,12 +8,12 @@ use Rattle.vr_types.specs.Actors.{id_of}
 use Rattle.vr_types.specs.declared.actors.ActorId.{ActorId}
 use Rattle.vr_types.specs.declared.actors.ActorId.TheVariants as actor_id
 use Rattle.headline.specs.Bank.{delivery, turn_at}
-use Rattle.pvp_world.specs.World.{Shown}
+use Rattle.pvp_world.specs.World.{ShownWorld}
 use Rattle.pvp_world.specs.Steps.{has_actor, has_number, IsTurn}
 use Rattle.pvp_world.proofs.world.World.arrival.Goals as goal
 
 -- an envelope's turn is that of the actor that it is addressed to
-has_actor-delivery : {B : Type 0} (world : Shown B) (e : Envelope) → has_actor world (delivery e) ≡ has_number world e.to
+has_actor-delivery : {B : Type 0} (world : ShownWorld B) (e : Envelope) → has_actor world (delivery e) ≡ has_number world e.to
 has_actor-delivery world e = by (id_of e.to)
   where
     by : (id : ActorId) → has_actor world (turn_at id (Deliver e) (node.Takes e) (client.Takes e)) ≡ has_actor world (turn_at id Beat node.Beats client.Beats)
@@ -27,7 +27,7 @@ delivered : (is_none : Bool) (found : Option Envelope) (e : Envelope) → Some e
 delivered true found e is = absurd (cc)
 delivered false found e is = ap (option_map delivery) (sym is)
 
-IsTurn-delivery : {B : Type 0} (world : Shown B) (number : ℕ) (e : Envelope) (is_there : Bool)
+IsTurn-delivery : {B : Type 0} (world : ShownWorld B) (number : ℕ) (e : Envelope) (is_there : Bool)
     → Some e ≡ (if number == 0 then None else slice_get world.post (number - 1)) → is_there ≡ has_number world e.to
     → IsTurn world (Delivers number) is_there
 IsTurn-delivery world number e is_there is there = record {

@@ -91,7 +91,7 @@ returns-in-Err-clause-applies g c =
     ∙ ap (λ k. Some (OfClient k c.args.event)) (sym c.from.ensures) in
     subst (λ told. IsRefused g.C.BootCell.held c.args.self.now
     (world_of w.setup w.opening.items w.sites.items w.nodes.items (slice_set w.clients.items c.from.result c.handle.new.self) c.make_room.new.post.items
-    c.make_room.new.trail.items) c.args.step told) (sym c.told_as.ensures)
+    c.make_room.new.trail.items) c.args.step told) (sym c.of_client.ensures)
     (subst (λ v. IsRefused g.C.BootCell.held v (world_of w.setup w.opening.items w.sites.items w.nodes.items
     (slice_set w.clients.items c.from.result c.handle.new.self) c.make_room.new.post.items c.make_room.new.trail.items) c.args.step
     (told_as c.in-Err.fault)) c.self.view_is

@@ -1,7 +1,7 @@
 use Rattle.std.proofs.Common.{ap, ◌≤◌, ◌∙◌, subst}
 use Rattle.std.specs.Prelude.{map, slice_index_or, vec_capacity}
 use Rattle.pvp_types.specs.declared.setup.Member.{Member}
-use Rattle.rtgs_node.proofs.KeptLemmas.{IsKept-opening}
+use Rattle.rtgs_node.proofs.KeptLemmas.{IsKeptNode-opening}
 use Rattle.rtgs_node.proofs.node.Node.new.Goals as goal
 
 pub invariant_of-result : goal.invariant_of-result
@@ -18,4 +18,4 @@ invariant_of-result c =
       members,
       c.new-5.ensures.empty,
     )
-    (IsKept-opening c.args.setup.now c.args.ccy _ c.requires.valid c.requires.known room)
+    (IsKeptNode-opening c.args.setup.now c.args.ccy _ c.requires.valid c.requires.known room)

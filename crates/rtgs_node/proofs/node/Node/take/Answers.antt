@@ -11,18 +11,18 @@ use Rattle.pvp_book.specs.Ledger.{node_of}
 use Rattle.rtgs_node.specs.declared.event.NodeEvent.TheVariants.{Takes}
 use Rattle.rtgs_node.specs.declared.fault.NodeFault.TheVariants.{NotMine}
 use Rattle.rtgs_node.specs.Node.{Envelope, NodeStep, on_message, refuses}
-use Rattle.rtgs_node.specs.Shown.{Shown, step_of}
+use Rattle.rtgs_node.specs.Shown.{ShownNode, step_of}
 use Rattle.rtgs_node.proofs.node.Node.take.Goals as goal
 
 -- what is neither an answer nor an order is not a node's
-other-message : (x : Shown) (msg : MsgOf Cmd Answer PaymentOrder) → ((reply : ReplyOf Answer) → msg ≡ Reply reply → ⊥)
+other-message : (x : ShownNode) (msg : MsgOf Cmd Answer PaymentOrder) → ((reply : ReplyOf Answer) → msg ≡ Reply reply → ⊥)
     → ((order : PaymentOrder) → msg ≡ PayOrder order → ⊥)
     → (on_message x.setup (faults x.setup) x.ccy x.node msg).fault ≡ Some NotMine
 other-message x (Reply reply) not_reply not_order = absurd (not_reply reply refl)
 other-message x (PayOrder order) not_reply not_order = absurd (not_order order refl)
 other-message x _ not_reply not_order = refl
 
-other-envelope : (x : Shown) (e : Envelope) → ((reply : ReplyOf Answer) → e.msg ≡ Reply reply → ⊥)
+other-envelope : (x : ShownNode) (e : Envelope) → ((reply : ReplyOf Answer) → e.msg ≡ Reply reply → ⊥)
     → ((order : PaymentOrder) → e.msg ≡ PayOrder order → ⊥) → (step_of x (Takes e)).fault ≡ Some NotMine
 unfolding step_of
 other-envelope x e not_reply not_order = by (not (e.to == node_of x.ccy))

@@ -1,5 +1,0 @@
-use Rattle.pvp_journal.proofs.Journaled.{journal_whole}
-use Rattle.pvp_journal.proofs.laws.whole.Goals as goal
-
-pub returns : goal.returns
-returns c = journal_whole

@@ -1,0 +1,5 @@
+use Rattle.pvp_journal.proofs.Journaled.{journal_whole}
+use Rattle.pvp_journal.proofs.laws.whole_reads_back.Goals as goal
+
+pub returns : goal.returns
+returns c = journal_whole

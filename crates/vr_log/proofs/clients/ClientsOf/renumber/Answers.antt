@@ -1,0 +1,13 @@
+use Rattle.std.proofs.Common.{◌==◌, [], if◌then◌else◌, ap, ◌∙◌}
+use Rattle.vr_log.proofs.Rows.{newest_next}
+use Rattle.vr_log.proofs.clients.ClientsOf.renumber.Goals as goal
+
+pub loop-at-preserved : goal.loop-at-preserved
+loop-at-preserved g c =
+    let at = c.loop-at.at in
+    let row = c.row-row.result in (
+      λ was q. c.in_ok-note.ensures.ok q
+          ∙ ap (λ n. if row.client == q then row.number else n) (c.loop-at.invariant.0 was q)
+          ∙ newest_next [] c.args.log.now at row q c.row-row.ensures,
+      λ q. c.note.ensures.replies q ∙ c.loop-at.invariant.1 q,
+    )
