@@ -1,18 +1,12 @@
 //! Which part of a setup breaks a rule, and why.
 
 ghost use Rattle.std.specs.Prelude.{◌≡◌, ◌+◌, ◌^◌, ◌<◌, [], Some, None, bytes_eq, IfNone, IfSome};
-ghost use Rattle.std.specs.List.{list_all, list_any};
-ghost use Rattle.pvp_types.specs.Setup.{is_capital, is_capital_or_digit, is_code, is_name};
+ghost use Rattle.std.specs.List.{list_any};
 ghost use Rattle.pvp_codes.specs.Parts as spec;
 
+use pvp_types::check::{DEPOSIT, LIMIT, is_code, is_name};
 use pvp_types::{Currency, Member, Setup, SetupFault};
 use std::fmt;
-
-/// The most that a limit may be.
-const LIMIT: u64 = 1_000_000_000_000_000_000;
-
-/// The most that a deposit may be.
-const DEPOSIT: u64 = 1_000_000_000_000_000;
 
 /// Why a currency or a member breaks a rule of a setup.
 #[derive(Clone, Copy, Debug, PartialEq, Eq)]
@@ -232,39 +226,4 @@ fn has_name(name: &str, members: &[Member]) -> bool
     ensures { result ≡ list_any (λ other. bytes_eq other.name name.now) members.now }
 {
     members.iter().any(|other| other.name.as_str() == name)
-}
-
-fn is_code(code: &str) -> bool
-    ensures { result ≡ is_code code.now }
-{
-    code.len() == 3 && are_capitals(code.as_bytes())
-}
-
-fn are_capitals(text: &[u8]) -> bool
-    ensures { result ≡ list_all is_capital text.now }
-{
-    text.iter().all(|c| (b'A'..=b'Z').contains(c))
-}
-
-fn is_name(name: &str) -> bool
-    ensures { result ≡ is_name name.now }
-{
-    match name.as_bytes() {
-        [] => false,
-        [first, rest @ ..] => {
-            (b'A'..=b'Z').contains(first) && rest.len() <= 7 && are_capitals_or_digits(rest)
-        }
-    }
-}
-
-fn are_capitals_or_digits(text: &[u8]) -> bool
-    ensures { result ≡ list_all is_capital_or_digit text.now }
-{
-    text.iter().all(|c| is_capital_or_digit(*c))
-}
-
-fn is_capital_or_digit(c: u8) -> bool
-    ensures { result ≡ is_capital_or_digit c }
-{
-    (b'A'..=b'Z').contains(&c) || (b'0'..=b'9').contains(&c)
 }

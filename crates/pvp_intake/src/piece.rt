@@ -1,7 +1,8 @@
 //! What stands at the front of what came over a link.
 ghost use Rattle.std.specs.Prelude.{◌≡◌, ◌≤◌, ◌+◌, length, IfOk, IfSome};
 ghost use Rattle.pvp_intake.specs.Sealing.{tag_size};
-ghost use Rattle.pvp_intake.specs.Fronts.{Gives, Finds, front_where, size_at, is_length, said_in, of_wire, addressed_envelope};
+ghost use Rattle.pvp_wire.specs.Reading.{Finds};
+ghost use Rattle.pvp_intake.specs.Fronts.{Gives, front_where, size_at, is_length, said_in, of_wire, addressed_envelope};
 ghost use Rattle.pvp_intake.specs.Intakes.{said_with_size, said_by};
 
 use crate::arrival::{Arrival, Piece};

@@ -255,12 +255,8 @@ body_at me bytes = entry_at me bytes >>= all_read
 
 -- ---- what a function returned
 
--- What a function that takes no memory returned, seen by view, is what reading gives.
-abbrev pub Finds : {X Y E : Type 0} → (X → Y) → Result X E → Result Y E → Type 0
-Finds view (Ok x) read = read ≡ Ok (view x)
-Finds view (Err fault) read = read ≡ Err fault
-
--- The same of one that takes memory: only where it was refused may another fault be told.
+-- What a function that takes memory returned, seen by view, is what reading gives: only where it was refused may
+-- another fault be told.
 abbrev pub Tells : {X Y : Type 0} → (X → Y) → Result X WireFault → Result Y WireFault → Type 0
 Tells view (Ok x) read = read ≡ Ok (view x)
 Tells view (Err fault) read = (read ≡ Err fault) ⊎ (fault ≡ NoMemory)

@@ -4,7 +4,8 @@ ghost use Rattle.vr_types.specs.declared.event.EventOf.TheVariants.{Deliver};
 ghost use Rattle.rtgs_node.specs.declared.event.NodeEvent.TheVariants as node_event;
 ghost use Rattle.headline.specs.declared.step.ClientEvent.TheVariants as client_event;
 ghost use Rattle.pvp_parties.specs.declared.party.PartyEvent.TheVariants.{OfSite, OfNode, OfClient};
-ghost use Rattle.pvp_journal.specs.Reading.{Finds, Tells, delivered_at, command_in, submitted_at, pays_in_at, closes_at, submits_at, event_at};
+ghost use Rattle.pvp_wire.specs.Reading.{Finds};
+ghost use Rattle.pvp_journal.specs.Reading.{Tells, delivered_at, command_in, submitted_at, pays_in_at, closes_at, submits_at, event_at};
 
 use crate::sent::{BankEnvelope, sent_at, stamped_at};
 use headline::ClientEvent;

@@ -1,6 +1,7 @@
 //! The head of a journal.
 ghost use Rattle.std.specs.Prelude.{◌≡◌};
-ghost use Rattle.pvp_journal.specs.Reading.{Finds, opening_at, bank_at, fields_at, head_at};
+ghost use Rattle.pvp_wire.specs.Reading.{Finds};
+ghost use Rattle.pvp_journal.specs.Reading.{opening_at, bank_at, fields_at, head_at};
 
 use crate::fault::JournalWhy;
 use byteorder::{BigEndian, ByteOrder};

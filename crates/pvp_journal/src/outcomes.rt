@@ -1,6 +1,7 @@
 //! How a record says that an event came out.
 ghost use Rattle.std.specs.Prelude.{◌≡◌};
-ghost use Rattle.pvp_journal.specs.Reading.{Finds, Tells, site_fault_at, node_fault_at, client_fault_at, why_at, did_at, refused_at, fell_at, node_told_at, node_refused_at, client_told_at, client_refused_at, outcome_at};
+ghost use Rattle.pvp_wire.specs.Reading.{Finds};
+ghost use Rattle.pvp_journal.specs.Reading.{Tells, site_fault_at, node_fault_at, client_fault_at, why_at, did_at, refused_at, fell_at, node_told_at, node_refused_at, client_told_at, client_refused_at, outcome_at};
 
 use crate::sent::all_sent_at;
 use headline::ClientFault;

@@ -69,7 +69,7 @@ IsOfField fault = (fault ≡ Field) ⊎ (fault ≡ Length)
 -- ---- what a function returned
 
 -- What a function that takes no memory returned, seen by view, is what reading gives.
-abbrev pub Finds : {X Y : Type 0} → (X → Y) → Result X WireFault → Result Y WireFault → Type 0
+abbrev pub Finds : {X Y E : Type 0} → (X → Y) → Result X E → Result Y E → Type 0
 Finds view (Ok x) read = read ≡ Ok (view x)
 Finds view (Err fault) read = read ≡ Err fault
 
