@@ -68,7 +68,7 @@ F4  no message has this kind
 F5  a field has a value that it may not have
 F6  the fields end before the frame does, or after it
 F7  memory was refused
-E1  a seat of a live run did not come back, so its actors could not be audited
+E1  a live run lost a seat, or a site of it had not begun with a new cell, so its actors could not be audited
 M1  the bytes do not begin with PVPJ
 M2  the version is not 1
 M3  the head is cut off, or its opening has another flag

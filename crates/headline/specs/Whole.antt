@@ -13,7 +13,7 @@ pub record Headline {setup : Setup} {f : ℕ} (early : LegalList setup f) (late 
   -- each pair settled on both legs or neither
   pub legs : PairsAreWhole setup early.bank
   pub figures : FiguresAreCovered setup early.bank
-  -- each payment was credited or debited once
+  -- each payment was credited or debited at most once, and what was not is on the way
   pub credited_once : CreditedOnce setup early.bank
   pub paid_in : CreditsWerePaidIn setup early.bank
   pub done_once : DoneOnce early.bank

@@ -94,7 +94,8 @@ wire_meaning wire.NoMemory = codes "memory was refused"
 
 -- of a live run whose actors cannot be audited
 abbrev pub seats_meaning : List ℕ
-seats_meaning = codes "a seat of a live run did not come back, so its actors could not be audited"
+seats_meaning =
+    codes "a live run lost a seat, or a site of it had not begun with a new cell, so its actors could not be audited"
 
 abbrev pub journal_meaning : JournalWhy → List ℕ
 journal_meaning journal.Magic = codes "the bytes do not begin with PVPJ"

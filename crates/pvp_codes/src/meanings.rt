@@ -128,7 +128,7 @@ pub fn wire_meaning(fault: WireFault) -> &'static str
 pub fn seats_meaning() -> &'static str
     ensures { result.now ≡ spec.seats_meaning }
 {
-    "a seat of a live run did not come back, so its actors could not be audited"
+    "a live run lost a seat, or a site of it had not begun with a new cell, so its actors could not be audited"
 }
 
 /// What it means that bytes are no journal.

@@ -32,7 +32,7 @@ pub enum Fault {
     /// The connections of a live run could not be made.
     #[error("fault net")]
     Net,
-    /// E1: a seat of a live run did not come back.
+    /// E1: a live run lost a seat, or a site of it had not begun with a new cell.
     #[error("fault E1")]
     Seats,
     /// M1 to M6: the journal at a place, counted from 1, is damaged or none, where the head or record at this byte begins.

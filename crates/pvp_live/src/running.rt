@@ -36,7 +36,7 @@ pub enum LiveFault {
     Net,
     /// Memory was refused.
     NoMemory,
-    /// A seat did not come back, or a site had not begun with a new cell.
+    /// E1: a seat was lost, or a site had not begun with a new cell.
     Seats,
 }
 
