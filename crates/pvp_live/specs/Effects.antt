@@ -10,7 +10,7 @@ use Rattle.pvp_rooms.specs.declared.site.CameOf.TheVariants as came
 use Rattle.pvp_parties.specs.declared.party.PartyOutcome.{PartyOutcome}
 use Rattle.pvp_parties.specs.declared.party.PartyOutcome.TheVariants as party
 use Rattle.pvp_live.specs.declared.effects.Effect.{Effect}
-use Rattle.pvp_live.specs.declared.effects.Effect.TheVariants.{Sent, Dropped, Refused, Stray, ClockSpent}
+use Rattle.pvp_live.specs.declared.effects.Effect.TheVariants.{Sent, Dropped, Refused, ClockSpent}
 
 -- a client's refusal as the world tells it
 abbrev pub client_told : ClientFault → WorldFault
@@ -18,7 +18,7 @@ client_told client.Outstanding = world.Outstanding
 client_told client.Spent = world.Spent
 client_told client.NoMemory = world.NoMemory
 
--- what an event did that came out so
+-- what an event did that came out so; a stray was posted at an actor of another kind, as the line's own is not there
 abbrev pub effect_of : PartyOutcome → Effect
 effect_of (party.OfSite (came.Did sent None)) = Sent (length sent)
 effect_of (party.OfSite (came.Did sent (Some why))) = Dropped why
@@ -28,7 +28,7 @@ effect_of (party.OfNode (Ok sent)) = Sent (length sent)
 effect_of (party.OfNode (Err fault)) = Refused (world.Node fault)
 effect_of (party.OfClient (Ok sent)) = Sent (length sent)
 effect_of (party.OfClient (Err fault)) = Refused (client_told fault)
-effect_of party.Stray = Stray
+effect_of party.Stray = Refused world.NoSuchActor
 
 -- what the event of a line did; where there is no answer, there is no such actor
 abbrev pub line_effect : Option (Answer PartyOutcome) → Effect
@@ -37,11 +37,9 @@ line_effect (Some answer.NoMemory) = Refused world.NoMemory
 line_effect (Some answer.ClockSpent) = ClockSpent
 line_effect None = Refused world.NoSuchActor
 
--- THE FAULT for which a line was refused. A stray and a spent clock have none: no line of a script that was read is a
--- stray, and the world has no clocks.
+-- THE FAULT for which a line was refused. A spent clock is none: the world has no clocks.
 abbrev pub fault_of : Effect → Option WorldFault
 fault_of (Refused fault) = Some fault
 fault_of (Sent count) = None
 fault_of (Dropped why) = None
-fault_of Stray = None
 fault_of ClockSpent = None

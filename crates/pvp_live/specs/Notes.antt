@@ -52,5 +52,4 @@ abbrev pub effect_text : Effect → List ℕ
 effect_text (did.Sent count) = count_text count
 effect_text (did.Dropped why) = codes "dropped, " ++ why_text why
 effect_text (did.Refused fault) = refusal_text fault
-effect_text did.Stray = codes "it is no event of this actor"
 effect_text did.ClockSpent = codes "there is no greater clock"

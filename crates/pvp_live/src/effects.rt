@@ -17,8 +17,6 @@ pub enum Effect {
     Dropped(Why),
     /// It was refused, or its site fell at it.
     Refused(WorldFault),
-    /// It is of another kind of actor.
-    Stray,
     /// There is no greater clock at its actor.
     ClockSpent,
 }
@@ -35,7 +33,7 @@ pub fn line_effect(answer: Option<&Answer<PartyOutcome>>) -> Effect
     }
 }
 
-/// What an event did that came out so.
+/// What an event did that came out so. A stray was posted at an actor of another kind, as the line's own is not there.
 fn effect_of(outcome: &PartyOutcome) -> Effect
     ensures { result ≡ effect_of outcome.now }
 {
@@ -60,7 +58,7 @@ fn effect_of(outcome: &PartyOutcome) -> Effect
         }
         PartyOutcome::OfNode(Err(fault)) => Effect::Refused(WorldFault::Node(*fault)),
         PartyOutcome::OfClient(Err(fault)) => Effect::Refused(client_told(*fault)),
-        PartyOutcome::Stray => Effect::Stray,
+        PartyOutcome::Stray => Effect::Refused(WorldFault::NoSuchActor),
     }
 }
 
@@ -75,13 +73,12 @@ fn client_told(fault: ClientFault) -> WorldFault
     }
 }
 
-/// The fault for which a line was refused whose event did this. A stray and a spent clock have none: no line of a script
-/// that was read is a stray, and the world has no clocks.
+/// The fault for which a line was refused whose event did this. A spent clock is none: the world has no clocks.
 pub fn fault_of(effect: Effect) -> Option<WorldFault>
     ensures { result ≡ fault_of effect }
 {
     match effect {
         Effect::Refused(fault) => Some(fault),
-        Effect::Sent(_) | Effect::Dropped(_) | Effect::Stray | Effect::ClockSpent => None,
+        Effect::Sent(_) | Effect::Dropped(_) | Effect::ClockSpent => None,
     }
 }

@@ -267,7 +267,6 @@ fn push_effect(text: &mut String, effect: Effect) -> Result<(), AllocError>
             write!(text, "dropped, {reason}")
         }
         Effect::Refused(fault) => push_fault(text, fault),
-        Effect::Stray => text.push_str("it is no event of this actor"),
         Effect::ClockSpent => text.push_str("there is no greater clock"),
     }
 }
