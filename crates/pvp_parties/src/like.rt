@@ -67,6 +67,7 @@ pub fn are_alike_nodes(a: &Node, b: &Node) -> bool
 {
     a.account() == b.account()
         && a.returned_count() == b.returned_count()
+        && a.unanswered_count() == b.unanswered_count()
         && same_pay_ins(a.pay_ins(), b.pay_ins())
         && same_pay_outs(a.pay_outs(), b.pay_outs())
         && hold_the_same(a, b)

@@ -1,5 +1,5 @@
 -- A node as an actor: a state is what it shows.
-use Rattle.std.specs.Prelude.{◌≡◌, ◌⊎◌, ℕ, true, List, length, Some, Result, Ok, Err, IfErr}
+use Rattle.std.specs.Prelude.{◌≡◌, ◌⊎◌, ◌-◌, ℕ, true, List, length, Some, Result, Ok, Err, IfErr}
 use Rattle.pvp_book.specs.Answer.{has_member}
 use Rattle.rtgs_node.specs.declared.event.NodeEvent.{NodeEvent}
 use Rattle.rtgs_node.specs.declared.event.NodeEvent.TheVariants.{PaysIn, Closes, Takes, Beats}
@@ -33,7 +33,8 @@ Brings Beats = ⊥
 abbrev pub Opens : ShownNode → ShownNode → Type 0
 Opens v x = x ≡ record v { node = opening_node }
 
--- what the node's reading calls show is of this state: of the returned orders they show how many there are
+-- what the node's reading calls show is of this state: of the returned orders, and of the notices that are not
+-- answered, they show how many there are
 pub record Reads (v x : ShownNode) : Type 0 where
   pub account : account v.node ≡ account x.node
   pub count : length v.setup.members ≡ length x.setup.members
@@ -42,3 +43,4 @@ pub record Reads (v x : ShownNode) : Type 0 where
   pub pay_ins : v.node.pay_ins ≡ x.node.pay_ins
   pub pay_outs : v.node.pay_outs ≡ x.node.pay_outs
   pub returned : length v.node.returned ≡ length x.node.returned
+  pub unanswered : length v.node.notices - v.node.answered ≡ length x.node.notices - x.node.answered
