@@ -1,13 +1,20 @@
 -- Rooms that go on by some events.
-use Rattle.std.proofs.Common.{◌≡◌, ℕ, Result, Ok, Err, List, [], ◌∷◌, ◌++◌, Option, Some, None, refl, sym, ◌∙◌, subst, append_assoc}
+use Rattle.std.proofs.Common.{◌≡◌, ◌⊎◌, inl, inr, ℕ, zero, suc, ◌+◌, ◌-◌, ◌<◌, ◌≤◌, Result, Ok, Err, List, [], ◌∷◌, ◌++◌, map, Option, Some, None, refl, sym, ap, ◌∙◌, subst, arith, append_assoc}
 use Rattle.std.specs.Prelude.{IfOk}
-use Rattle.std.proofs.lemmas.List.{append-nil}
+use Rattle.std.specs.List.{range_with_len}
+use Rattle.std.proofs.lemmas.Bool.{cases_lt}
+use Rattle.std.proofs.lemmas.List.{append-nil, map-append}
+use Rattle.vr_types.specs.declared.cell.Boot.{Boot}
 use Rattle.pvp_rooms.specs.declared.actor.Actor.{Ghosts}
 use Rattle.pvp_rooms.specs.declared.message.Recorded.{Recorded}
 use Rattle.pvp_rooms.specs.Histories.{Takes}
 use Rattle.pvp_rooms.specs.Rooms.{receipt, clock_after}
 use Rattle.pvp_parties.specs.declared.party.PartyOf.{PartyOf}
-use Rattle.pvp_logs.specs.Resumed.{room_over}
+use Rattle.pvp_parties.specs.Made.{memory}
+use Rattle.pvp_parties.specs.Parties.{Party, PartyState, Opens, Shows, Comes, Reads, Tells, Brings, after}
+use Rattle.pvp_parties.specs.declared.party.PartyEvent.{PartyEvent}
+use Rattle.pvp_parties.specs.declared.party.PartyOutcome.{PartyOutcome}
+use Rattle.pvp_logs.specs.Resumed.{room_over, a_fall, falls_between}
 use Rattle.pvp_logs.specs.Rooms.{Texts, Held, Past, letter, Keeps, TookOne, with_pending, unstamped_record, NotedOne, Mark, AreMarked, with_all, WentOn, GoesOn}
 use Rattle.pvp_logs.proofs.Batches.{taken}
 
@@ -105,12 +112,12 @@ module _ {N A B E O L : Type 0} (m : Ghosts A N E O) (n : Ghosts B N E O) (texts
       goes_on m m n texts seen old down new crash (restart ∷ []) crashed
       (goes_on m n n texts seen down over new [] (restart ∷ []) moved restarted)
 
-  pub falls : (old down fell : Held N A O L) (over new : Held N B O L) (crash : List (Mark E O)) (fall restart : Mark E O)
-      → GoesOn m m texts seen old down crash → GoesOn m m texts seen down fell (fall ∷ []) → GoesOn m n texts seen fell over []
-      → GoesOn n n texts seen over new (restart ∷ []) → GoesOn m n texts seen old new (crash ++ fall ∷ restart ∷ [])
-  falls old down fell over new crash fall restart crashed fallen moved restarted =
-      goes_on m m n texts seen old down new crash (fall ∷ restart ∷ []) crashed
-      (restarts down fell over new (fall ∷ []) restart fallen moved restarted)
+  pub falls : (old down fell : Held N A O L) (over new : Held N B O L) (crash falls_of : List (Mark E O)) (restart : Mark E O)
+      → GoesOn m m texts seen old down crash → GoesOn m m texts seen down fell falls_of → GoesOn m n texts seen fell over []
+      → GoesOn n n texts seen over new (restart ∷ []) → GoesOn m n texts seen old new (crash ++ (falls_of ++ restart ∷ []))
+  falls old down fell over new crash falls_of restart crashed fallen moved restarted =
+      goes_on m m n texts seen old down new crash (falls_of ++ restart ∷ []) crashed
+      (restarts down fell over new falls_of restart fallen moved restarted)
 
 pub if_ok : {T F : Type 0} {P Q : T → Type 0} (r : Result T F) → ((x : T) → P x → Q x) → IfOk r P → IfOk r Q
 if_ok (Ok x) by had = by x had
@@ -119,3 +126,75 @@ if_ok (Err fault) by had = tt
 pub over_opening : {N B D O L : Type 0} (room : Held N (PartyOf B) O L) (cell : D) (new : Held N (PartyOf D) O L)
     → new ≡ room_over room cell → new.opening ≡ room.opening
 over_opening room cell new is = cc
+
+-- a restart that saved so many boots and fell
+abbrev pub fall : ℕ → Mark PartyEvent PartyOutcome
+fall n = a_fall (record { boots = n })
+
+range_more : (a k : ℕ) → range_with_len a (k + 1) ≡ range_with_len a k ++ (a + k) ∷ []
+range_more a zero = let e : a ≡ a + 0 = omega arith in ap (λ k. k ∷ []) e
+range_more a (suc k) =
+    let e : suc k + 1 ≡ suc (k + 1) = omega arith in
+    let last : a + 1 + k ≡ a + suc k = omega arith in
+    rw e (ap (λ xs. a ∷ xs) (range_more (a + 1) k ∙ ap (λ j. range_with_len (a + 1) k ++ j ∷ []) last))
+
+-- the falls up to one more are those before it and that one
+falls_next : (known n : ℕ) → known ≤ n → falls_between known (n + 1) ≡ falls_between known n ++ fall (n + 1) ∷ []
+falls_next known n le =
+    let e : n + 1 - known ≡ n - known + 1 = omega arith in
+    let last : known + 1 + (n - known) ≡ n + 1 = omega arith in
+    ap (map fall) (ap (range_with_len (known + 1)) e ∙ range_more (known + 1) (n - known)
+    ∙ ap (λ k. range_with_len (known + 1) (n - known) ++ k ∷ []) last)
+    ∙ map-append fall (range_with_len (known + 1) (n - known)) ((n + 1) ∷ [])
+
+-- there are none up to what was known
+falls_none : (known held : ℕ) → held ≤ known → falls_between known held ≡ []
+falls_none known held le = let e : held - known ≡ 0 = omega arith in ap (λ k. map fall (range_with_len (known + 1) k)) e
+
+-- a count that ends the loop over them is as good as the last
+falls_same : (known b held : ℕ) → held ≤ b → (known ≤ held → b ≤ held) → (held ≤ known → b ≡ known)
+    → falls_between known b ≡ falls_between known held
+falls_same known b held least most none = by (cases_lt known held)
+  where
+    by : (known < held) ⊎ (held ≤ known) → falls_between known b ≡ falls_between known held
+    by (inl less) = let top : b ≤ held = most (omega arith) in let e : b ≡ held = omega arith in ap (falls_between known) e
+    by (inr le) =
+        let e : b ≡ known = none le in
+        ap (falls_between known) e ∙ falls_none known known (omega arith) ∙ sym (falls_none known held le)
+
+module _ {N A L : Type 0} (m : Ghosts A N PartyEvent PartyOutcome) (texts : ℕ → Texts PartyEvent PartyOutcome) (seen : L → Option (List ℕ)) where
+  -- by none of them
+  pub fell_none : (room : Held N A PartyOutcome L) (known held : ℕ) → held ≤ known
+      → GoesOn m m texts seen room room (falls_between known held)
+  fell_none room known held le =
+      subst (λ marks. GoesOn m m texts seen room room marks) (sym (falls_none known held le))
+      (stays m m texts seen room room refl (λ past kept. kept))
+
+  -- by one more
+  pub fell_more : (old mid new : Held N A PartyOutcome L) (known n : ℕ) → known ≤ n
+      → GoesOn m m texts seen old mid (falls_between known n) → GoesOn m m texts seen mid new (fall (n + 1) ∷ [])
+      → GoesOn m m texts seen old new (falls_between known (n + 1))
+  fell_more old mid new known n le first second =
+      subst (λ marks. GoesOn m m texts seen old new marks) (sym (falls_next known n le))
+      (goes_on m m m texts seen old mid new (falls_between known n) (fall (n + 1) ∷ []) first second)
+
+  -- by all of them
+  pub fell_all : (old new : Held N A PartyOutcome L) (known b held : ℕ) → held ≤ b → (known ≤ held → b ≤ held)
+      → (held ≤ known → b ≡ known) → GoesOn m m texts seen old new (falls_between known b)
+      → GoesOn m m texts seen old new (falls_between known held)
+  fell_all old new known b held least most none gone =
+      subst (λ marks. GoesOn m m texts seen old new marks) (falls_same known b held least most none) gone
+
+-- the ghost members of an actor of the bank over a cell in memory
+abbrev pub in_memory : Ghosts Party (Option Boot) PartyEvent PartyOutcome
+in_memory =
+    record {
+      State = PartyState;
+      opens = Opens;
+      shows = Shows memory;
+      comes = Comes;
+      after = after;
+      reads = Reads memory;
+      tells = λ old new event told. Tells memory told old new event;
+      brings = Brings;
+    }

@@ -1,5 +1,6 @@
 -- A history that is taken again, and a room that goes on behind it.
-use Rattle.std.specs.Prelude.{◌≡◌, ◌==◌, ℕ, ◌+◌, Bool, true, false, not, List, [], ◌∷◌, ◌++◌, Option, Some, None, IfSome, if◌then◌else◌}
+use Rattle.std.specs.Prelude.{◌≡◌, ◌==◌, ℕ, ◌+◌, ◌-◌, nat_lt, Bool, true, false, not, List, [], ◌∷◌, ◌++◌, map, Option, Some, None, IfSome, if◌then◌else◌}
+use Rattle.std.specs.List.{range_with_len}
 use Rattle.vr_types.specs.declared.cell.Boot.{Boot}
 use Rattle.vr_types.specs.declared.event.EventOf.TheVariants.{Crash, Restart}
 use Rattle.vr_types.specs.declared.event.SiteFault.TheVariants.{CellFault}
@@ -93,11 +94,11 @@ room_over room cell = record {
 }
 
 -- HOW A SITE COMES BACK: its journal knows of so many boots, and its cell holds so many. A restart saves before it is
--- recorded, so the cell may be one ahead; by more, or behind, it is another site's.
+-- recorded, and a journal may lose its end, so the cell may be ahead. One that is behind is another site's, or older.
 abbrev pub way_back : Boot → Boot → Bool → Option WayBack
 way_back known held trusted =
     if held.boots == known.boots then Some (if trusted then Again else Restarts)
-    else if held.boots == known.boots + 1 then Some FellAndRestarts
+    else if nat_lt known.boots held.boots then Some FellAndRestarts
     else None
 
 abbrev pub is_again : WayBack → Bool
@@ -128,8 +129,18 @@ a_restart = record { event = OfSite Restart; came = None }
 abbrev pub a_fall : Boot → Mark PartyEvent PartyOutcome
 a_fall held = record { event = OfSite Restart; came = Some (SiteTold (Fell CellFault held)) }
 
--- THE EVENTS BY WHICH A SITE COMES BACK, over a cell that holds this
-abbrev pub events_back : WayBack → Bool → Boot → List (Mark PartyEvent PartyOutcome)
-events_back Again up held = []
-events_back Restarts up held = crash_of up ++ a_restart ∷ []
-events_back FellAndRestarts up held = crash_of up ++ a_fall held ∷ a_restart ∷ []
+-- behind so many boots, up to so many, each restart saved and fell
+abbrev pub falls_between : ℕ → ℕ → List (Mark PartyEvent PartyOutcome)
+falls_between known held = map (λ n. a_fall (record { boots = n })) (range_with_len (known + 1) (held - known))
+
+-- of so many boots an actor knows that comes over a cell which holds this; who has no cell has missed none
+abbrev pub boots_known : Option Boot → Boot → ℕ
+boots_known (Some known) held = known.boots
+boots_known None held = held.boots
+
+-- THE EVENTS BY WHICH A SITE COMES BACK, whose own cell holds this, over one that holds that
+abbrev pub events_back : WayBack → Bool → Option Boot → Boot → List (Mark PartyEvent PartyOutcome)
+events_back Again up known held = []
+events_back Restarts up known held = crash_of up ++ a_restart ∷ []
+events_back FellAndRestarts up known held =
+    crash_of up ++ (falls_between (boots_known known held) held.boots ++ a_restart ∷ [])

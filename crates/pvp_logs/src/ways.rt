@@ -4,7 +4,7 @@ ghost use Rattle.std.specs.Prelude.{◌≡◌, ◌↔◌, [], ◌∷◌, IsTrue,
 ghost use Rattle.pvp_parties.specs.Made.{memory};
 ghost use Rattle.pvp_parties.specs.Parties.{held_of};
 ghost use Rattle.pvp_logs.specs.Rooms.{GoesOn, bank_texts};
-ghost use Rattle.pvp_logs.specs.Resumed.{IsWay, a_fall, crash_of, events_back, is_again, is_up, way_back};
+ghost use Rattle.pvp_logs.specs.Resumed.{IsWay, a_fall, boots_known, crash_of, events_back, falls_between, is_again, is_up, way_back};
 
 use crate::journaled::Journaled;
 use crate::log::Log;
@@ -23,7 +23,7 @@ pub enum WayBack {
     Again,
     /// Its journal may miss events, which others may have seen: it crashes, and restarts.
     Restarts,
-    /// Its last restart saved its cell and was not recorded: that one fell, and it restarts once more.
+    /// Restarts saved its cell and are not recorded: each of them fell, and it restarts once more.
     FellAndRestarts,
 }
 
@@ -50,7 +50,7 @@ pub fn way_back(known: Boot, held: Boot, trusted: bool) -> Option<WayBack>
             WayBack::Restarts
         });
     }
-    if held.boots > known.boots && held.boots - known.boots == 1 {
+    if held.boots > known.boots {
         return Some(WayBack::FellAndRestarts);
     }
     None
@@ -67,10 +67,11 @@ pub fn restart<C: BootCell, L: Log>(
     ensures way { IfOk result (λ back. IsWay way (held_of memory room.actor) (C.held cell)) }
     ensures goes_on { IfOk result (λ back.
         GoesOn ⟦<Party as Actor>⟧ ⟦<PartyOf<C> as Actor>⟧ bank_texts L.seen room back
-        (events_back way (is_up room.actor) (C.held cell))) }
+        (events_back way (is_up room.actor) (held_of memory room.actor) (C.held cell))) }
 {
     let held = cell.load();
-    if !is_way(way, room.actor().held_boot(), held) {
+    let known = room.actor().held_boot();
+    if !is_way(way, known, held) {
         return Err(RestartFault::Misfit);
     }
     match way {
@@ -82,7 +83,7 @@ pub fn restart<C: BootCell, L: Log>(
         }
         WayBack::FellAndRestarts => {
             let down = room_after_crash(alloc, room)?;
-            let fell = room_after_fall(alloc, down, held)?;
+            let fell = room_after_falls(alloc, down, boots_known(known, held), held.boots)?;
             let over = over_same(fell, cell)?;
             room_after_event(alloc, over, PartyEvent::OfSite(EventOf::Restart))
         }
@@ -162,6 +163,34 @@ fn is_up(actor: &Party) -> bool
         },
         _ => false,
     }
+}
+
+/// Of how many boots an actor knows that comes over a cell which holds this: who has no cell has missed none.
+fn boots_known(known: Option<Boot>, held: Boot) -> u32
+    ensures { result ≡ boots_known known held }
+{
+    match known {
+        Some(known) => known.boots,
+        None => held.boots,
+    }
+}
+
+/// The room once each restart of its site behind so many boots, up to so many, has fallen.
+fn room_after_falls<L: Log>(
+    alloc: Global,
+    room: JournalRoom<Party, L>,
+    known: u32,
+    held: u32,
+) -> Result<JournalRoom<Party, L>, RestartFault>
+    ensures { IfOk result (λ fell.
+        GoesOn ⟦<Party as Actor>⟧ ⟦<Party as Actor>⟧ bank_texts L.seen room fell
+        (falls_between known held)) }
+{
+    let mut room = room;
+    for boots in known..held {
+        room = room_after_fall(alloc, room, Boot { boots: boots + 1 })?;
+    }
+    Ok(room)
 }
 
 /// The room once a restart of its site has fallen, over a cell that holds this.

@@ -225,7 +225,8 @@ fn a_way_back_goes_by_the_boots_and_by_trust(rt: HostRuntime) -> Result<(), Fail
     goes(&rt, (3, 3), false, Some(WayBack::Restarts));
     goes(&rt, (3, 4), true, Some(WayBack::FellAndRestarts));
     goes(&rt, (3, 4), false, Some(WayBack::FellAndRestarts));
-    goes(&rt, (3, 5), true, None);
+    goes(&rt, (3, 5), true, Some(WayBack::FellAndRestarts));
+    goes(&rt, (3, 5), false, Some(WayBack::FellAndRestarts));
     goes(&rt, (3, 2), true, None);
     goes(&rt, (u32::MAX, 0), false, None);
     Ok(())
@@ -259,6 +260,19 @@ fn a_site_crashes_and_restarts(rt: HostRuntime) -> Result<(), Fail> {
 fn a_restart_that_was_not_recorded_fell(rt: HostRuntime) -> Result<(), Fail> {
     let cell = MemCell::of(Boot { boots: 1 });
     let says = [Said::Crashed, Said::Fell(1), Said::Asked(2)];
+    comes_so(&rt, 0, cell, WayBack::FellAndRestarts, &says)
+}
+
+#[test]
+fn each_restart_that_was_not_recorded_fell(rt: HostRuntime) -> Result<(), Fail> {
+    let cell = MemCell::of(Boot { boots: 3 });
+    let says = [
+        Said::Crashed,
+        Said::Fell(1),
+        Said::Fell(2),
+        Said::Fell(3),
+        Said::Asked(4),
+    ];
     comes_so(&rt, 0, cell, WayBack::FellAndRestarts, &says)
 }
 
