@@ -1,7 +1,8 @@
 -- Who may talk over a stream, and by which key.
-use Rattle.std.specs.Prelude.{◌≡◌, ◌≢◌, ℕ, List, Option, Some, None, Result, Ok, Err}
+use Rattle.std.specs.Prelude.{◌≡◌, ◌≢◌, ℕ, true, List, Option, Some, None, Result, Ok, Err}
 use Rattle.pvp_intake.specs.declared.link.Link.{Link}
 use Rattle.pvp_intake.specs.Fronts.{caller_at}
+use Rattle.pvp_intake.specs.Intakes.{TakesHello}
 use Rattle.pvp_places.specs.declared.keys.Keys.{Keys}
 use Rattle.pvp_places.specs.declared.serving.Paper.TheVariants as papers
 use Rattle.pvp_places.specs.declared.serving.ServeFault.{ServeFault}
@@ -20,9 +21,13 @@ abbrev pub KnownBy : Option Keys → ℕ → Option (List ℕ) → Type 0
 KnownBy None caller key = key ≡ None
 KnownBy (Some keys) caller key = (key_with keys.shared.items caller ≡ key) × (key ≢ None)
 
--- WHO IS LET IN: who says so in a hello of this bank, over a link that may be and by the key that the two share
-pub record IsLetIn (door : Door) (held : List ℕ) (link : Link) : Type 0 where
+-- WHO CALLS: who says so in a hello of this bank, over a link that may be and by the key that the two share
+pub record IsCaller (door : Door) (held : List ℕ) (link : Link) : Type 0 where
   pub me : link.me ≡ door.me
   pub bank : link.bank ≡ door.bank
   pub said : caller_at door.bank held ≡ Ok (Some link.peer)
   pub known : KnownBy door.keys link.peer link.key
+
+-- WHO IS LET IN: a caller whose whole hello came, with its tag; and these bytes came behind it
+abbrev pub IsLetIn : Door → Link → List ℕ → Type 0
+IsLetIn door link rest = (held : List ℕ) × IsCaller door held link × TakesHello link held (Ok true) rest

@@ -1,6 +1,6 @@
 //! Streams that others open to a site.
 ghost use Rattle.std.specs.Prelude.{IfOk, IfSome};
-ghost use Rattle.pvp_serve.specs.Doors.{IsLetIn};
+ghost use Rattle.pvp_serve.specs.Doors.{IsCaller, IsLetIn};
 
 use crate::host::Wires;
 use crate::inbox::{Inbox, tell};
@@ -176,7 +176,9 @@ fn attend<R: Wires>(
     intake: &mut Intake,
     door: &Door,
     inbox: &Sender<Inbox>,
-) -> Result<Link, LinkFault> {
+) -> Result<Link, LinkFault>
+    ensures { IfOk result (λ link. IsLetIn door.now link intake.new) }
+{
     let wait = Some(Duration::from_secs(HELLO_SECONDS));
     if stream.set_read_timeout(wait).is_err() {
         return Err(LinkFault::Hello);
@@ -202,18 +204,14 @@ fn hear<R: Wires>(
     stream: &mut TcpStream,
     intake: &mut Intake,
     door: &Door,
-) -> Result<Link, LinkFault> {
+) -> Result<Link, LinkFault>
+    ensures { IfOk result (λ link. IsLetIn door.now link intake.new) }
+{
     let mut buffer = [0u8; HELLO_BYTES];
-    let mut link: Option<Link> = None;
     let began = rt.monotonic();
     for _ in 0..HELLO_BYTES {
-        if link.is_none() {
-            link = caller_of(intake, door)?;
-        }
-        if let Some(link) = link {
-            if intake.take_hello(&link)? {
-                return Ok(link);
-            }
+        if let Some(link) = take_hello(intake, door)? {
+            return Ok(link);
         }
         match stream.read(&mut buffer) {
             Ok(got) if got > 0 => {
@@ -230,6 +228,20 @@ fn hear<R: Wires>(
     Err(LinkFault::Hello)
 }
 
+/// Takes a caller's hello off the front, with its tag, and answers the link that it opens. `None` where more bytes are
+/// wanted.
+fn take_hello(intake: &mut Intake, door: &Door) -> Result<Option<Link>, LinkFault>
+    ensures { IfOk result (λ found. IfSome found (λ link. IsLetIn door.now link intake.new)) }
+{
+    let Some(link) = caller_of(intake, door)? else {
+        return Ok(None);
+    };
+    match intake.take_hello(&link)? {
+        true => Ok(Some(link)),
+        false => Ok(None),
+    }
+}
+
 /// Whether a stranger has had its time.
 fn is_late<R: Wires>(rt: R, began: &io::Result<Duration>) -> bool {
     match (began, rt.monotonic()) {
@@ -240,7 +252,7 @@ fn is_late<R: Wires>(rt: R, began: &io::Result<Duration>) -> bool {
 
 /// The link that a caller opens, once it is known who it is.
 fn caller_of(intake: &Intake, door: &Door) -> Result<Option<Link>, LinkFault>
-    ensures { IfOk result (λ found. IfSome found (λ link. IsLetIn door.now intake.now link)) }
+    ensures { IfOk result (λ found. IfSome found (λ link. IsCaller door.now intake.now link)) }
 {
     let Some(caller) = intake.caller(&door.bank)? else {
         return Ok(None);

@@ -1,8 +1,9 @@
 //! What is done before an actor is served: from its folder to its room.
-ghost use Rattle.std.specs.Prelude.{◌≡◌, None, Some, IfOk, IfErr};
+ghost use Rattle.std.specs.Prelude.{◌≡◌, None, Some, IfOk, IfErr, IsTrue};
 ghost use Rattle.pvp_types.specs.Setup.{IsValid};
 ghost use Rattle.pvp_journal.specs.Journals.{IsRead};
 ghost use Rattle.pvp_journal.specs.declared.journal.Left.TheVariants.{Nothing};
+ghost use Rattle.pvp_logs.specs.Log.{OutlivesAll};
 ghost use Rattle.pvp_logs.specs.Resumed.{IsAgain, IsOpened};
 ghost use Rattle.pvp_serve.specs.Serving.{log_told};
 ghost use Rattle.pvp_serve.specs.Opening.{
@@ -106,18 +107,26 @@ pub fn settle<R: Host, A: Journaled, L: Log>(
     rt: R,
     place: &Place<'_>,
     opened: Result<JournalRoom<A, L>, ServeFault>,
-) -> Result<JournalRoom<A, L>, ServeFault> {
+) -> Result<JournalRoom<A, L>, ServeFault>
+    ensures synced { IfOk result (λ room. IsTrue place.now.syncs →
+        OutlivesAll (L.seen room.log) (L.synced room.log)) }
+{
     match opened?.flush(rt.alloc(), place.syncs) {
         Ok((room, _letters)) => mark_room(rt, place, room),
         Err(fault) => Err(log_fault(fault)),
     }
 }
 
+/// Marks the folder of a room. A folder whose batches are synced is marked so only where all that was written outlives the
+/// machine: a site that came back by less would have forgotten what it told.
 fn mark_room<R: Host, A: Journaled, L: Log>(
     rt: R,
     place: &Place<'_>,
     room: JournalRoom<A, L>,
-) -> Result<JournalRoom<A, L>, ServeFault> {
+) -> Result<JournalRoom<A, L>, ServeFault>
+    requires { IsTrue place.now.syncs → OutlivesAll (L.seen room.log) (L.synced room.log) }
+    ensures { IfOk result (λ marked. marked ≡ room) }
+{
     match put_mark(rt, place.folder, place.syncs) {
         Ok(()) => Ok(room),
         Err(fault) => Err(fault),
