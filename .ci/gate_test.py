@@ -716,7 +716,7 @@ def sees_live(seen):
         live.ran, live.example = bank.ran, bank.example
         with contextlib.redirect_stdout(io.StringIO()) as told:
             status = live.main()
-        is_told_green = bool(re.fullmatch(r"34 passed, 0 failed", last(told.getvalue())))
+        is_told_green = bool(re.fullmatch(r"37 passed, 0 failed", last(told.getvalue())))
         seen.look(f"live, {name}", (status == 0, is_told_green) == (is_green, is_green), told.getvalue())
 
 
