@@ -312,6 +312,15 @@ fn fails<R: Abort + AllocGlobal>(
 fn a_cell_of_another_site_is_refused(rt: HostRuntime) -> Result<(), Fail> {
     let misfit = Some(RestartFault::Misfit);
     for way in [WayBack::Again, WayBack::Restarts, WayBack::FellAndRestarts] {
+        fails(&rt, site(rt.alloc(), 3)?, 2, way, misfit);
+    }
+    Ok(())
+}
+
+#[test]
+fn a_site_whose_cell_is_ahead_does_not_just_go_on(rt: HostRuntime) -> Result<(), Fail> {
+    let misfit = Some(RestartFault::Misfit);
+    for way in [WayBack::Again, WayBack::Restarts] {
         fails(&rt, site(rt.alloc(), 0)?, 2, way, misfit);
     }
     Ok(())
