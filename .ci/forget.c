@@ -6,7 +6,8 @@
      moved PATH BEFORE    a file got this name; what had it before stands in BEFORE, or `-` where nothing did
      names                the folder was synced, so all names are kept
 
-   Nothing is synced in truth, since the machine goes on, but a sync takes some milliseconds, as one does. FORGET_RUN names the file that is read as the name of this run of the machine. */
+   Nothing is synced in truth, since the machine goes on, but a sync takes some milliseconds, as one does, or so many as FORGET_MS says.
+   FORGET_RUN names the file that is read as the name of this run of the machine. */
 #define _GNU_SOURCE
 #include <errno.h>
 #include <fcntl.h>
@@ -22,8 +23,6 @@
 #include <unistd.h>
 
 static const char run_of_machine[] = "/proc/sys/kernel/random/boot_id";
-
-static const struct timespec sync_takes = {0, 3000000};
 
 static void note(const char *form, ...) {
   char line[4096];
@@ -72,6 +71,8 @@ int rename(const char *from, const char *to) {
 static int synced(int fd) {
   struct stat it;
   if (fstat(fd, &it)) return -1;
+  const char *ms = getenv("FORGET_MS");
+  const struct timespec sync_takes = {0, 1000000L * (ms ? atol(ms) : 3)};
   nanosleep(&sync_takes, NULL);
   if (S_ISDIR(it.st_mode)) note("names\n");
   else note("kept %ju %jd\n", (uintmax_t)it.st_ino, (intmax_t)it.st_size);

@@ -15,8 +15,8 @@ def shim_in(folder):
 class Machine:
     """A machine with a folder of one process: a run of it goes on until its power is cut."""
 
-    def __init__(self, shim, folder):
-        self.shim, self.folder = shim, folder
+    def __init__(self, shim, folder, sync_ms=3):
+        self.shim, self.folder, self.sync_ms = shim, folder, sync_ms
         self.notes, self.run = f"{folder}.notes", f"{folder}.run"
         self.starts()
 
@@ -26,7 +26,7 @@ class Machine:
 
     def world(self):
         """What the environment of its process has."""
-        return {"LD_PRELOAD": self.shim, "FORGET": self.notes, "FORGET_RUN": self.run}
+        return {"LD_PRELOAD": self.shim, "FORGET": self.notes, "FORGET_RUN": self.run, "FORGET_MS": str(self.sync_ms)}
 
     def noted(self):
         """How long each file has to be, by its inode, and which names need not be kept, with what had them before."""

@@ -6,7 +6,7 @@ import sys
 
 sys.path.append(os.path.join(os.path.dirname(os.path.abspath(__file__)), ".."))
 
-import records  # noqa: E402
+import journal_bytes  # noqa: E402
 from plays import NEW_SITE  # noqa: E402
 from program import FOUR_SITES, SETUP, Runs  # noqa: E402
 
@@ -47,7 +47,7 @@ def head(actor, setup=SETUP, life=LIFE, opening=None):
 
 def journal(actor, *events, **of):
     """The journal of an actor that took these events, each with its clock and how it came out."""
-    return records.journal(head(actor, **of), [struct.pack(">Q", clock) + event + outcome for clock, event, outcome in events])
+    return journal_bytes.journal(head(actor, **of), [struct.pack(">Q", clock) + event + outcome for clock, event, outcome in events])
 
 
 def name(actor):

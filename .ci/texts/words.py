@@ -105,6 +105,10 @@ X4  the end of the journal may be lost, and a node or a client cannot recover it
 X5  the boot cell and the journal are not of one site
 X6  no actor can have taken what the journal tells
 X7  without keys a site listens on this machine alone, unless the network is trusted
+X8  the folder has no actor: `pvpsim begin` makes one, once; one that was lost may not be made anew
+X9  an actor was begun in the folder before, and may not be begun again
+X10  the client has used up its share of the log's rows: what is left of them is for letting money out
+X11  the rows that the log has left are for letting money out
 """
 
 

@@ -1,5 +1,5 @@
 //! Files that are not read, and writers that fail.
-use pvp_command::{FileFault, Files, Piped, Unread, command, no_words};
+use pvp_command::{FileFault, Files, Piped, Source, Unread, command, no_words};
 use std::alloc::Global;
 use std::io;
 use std::io::{ErrorKind, Write};
@@ -28,7 +28,7 @@ impl Files for Script<'_> {
 
     ghost fails = { λ _ _ _. Unit {0} };
 
-    fn read(&self, alloc: Global, name: &str) -> Result<Vec<u8>, FileFault> {
+    fn read(&self, alloc: Global, _source: Source, name: &str) -> Result<Vec<u8>, FileFault> {
         let text = match name {
             "setup.json" => SETUP,
             "script.txt" => self.text,

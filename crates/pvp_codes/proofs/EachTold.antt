@@ -16,7 +16,8 @@ use Rattle.pvp_evidence.specs.declared.gather.EvidenceWhy.TheVariants as evidenc
 use Rattle.pvp_evidence.specs.declared.shelf.ShelfFault.TheVariants as shelf
 use Rattle.pvp_places.specs.declared.fault.PlaceWhy.TheVariants as place
 use Rattle.pvp_places.specs.declared.fault.FolderWhy.TheVariants as folder
-use Rattle.pvp_codes.specs.declared.code.Code.TheVariants.{Setup, Line, Refusal, Step, Audit, Frame, Seats, Journal, Record, Cell, Evidence, Shelf, Place, Folder}
+use Rattle.pvp_places.specs.declared.fault.TerminalWhy.TheVariants as terminal
+use Rattle.pvp_codes.specs.declared.code.Code.TheVariants.{Setup, Line, Refusal, Step, Audit, Frame, Seats, Journal, Record, Cell, Evidence, Shelf, Place, Folder, Terminal}
 use Rattle.pvp_codes.specs.Codes.{EachIsTold}
 
 pub each-told : EachIsTold
@@ -120,3 +121,7 @@ each-told (Folder folder.Unsynced) other = refl
 each-told (Folder folder.Cell) other = refl
 each-told (Folder folder.History) other = refl
 each-told (Folder folder.Open) other = refl
+each-told (Folder folder.Unbegun) other = refl
+each-told (Folder folder.Begun) other = refl
+each-told (Terminal terminal.Share) other = refl
+each-told (Terminal terminal.Full) other = refl

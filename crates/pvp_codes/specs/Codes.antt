@@ -41,10 +41,12 @@ use Rattle.pvp_places.specs.declared.fault.PlaceWhy.{PlaceWhy}
 use Rattle.pvp_places.specs.declared.fault.PlaceWhy.TheVariants as place
 use Rattle.pvp_places.specs.declared.fault.FolderWhy.{FolderWhy}
 use Rattle.pvp_places.specs.declared.fault.FolderWhy.TheVariants as folder
-use Rattle.pvp_places.specs.Fault.{place_code, folder_code}
+use Rattle.pvp_places.specs.declared.fault.TerminalWhy.{TerminalWhy}
+use Rattle.pvp_places.specs.declared.fault.TerminalWhy.TheVariants.{Share, Full}
+use Rattle.pvp_places.specs.Fault.{place_code, folder_code, terminal_code}
 use Rattle.pvp_codes.specs.declared.code.Code.{Code}
-use Rattle.pvp_codes.specs.declared.code.Code.TheVariants.{Setup, Line, Refusal, Step, Audit, Frame, Seats, Journal, Record, Cell, Evidence, Shelf, Place, Folder}
-use Rattle.pvp_codes.specs.Meanings.{text_meaning, line_meaning, reason_meaning, audit_meaning, wire_meaning, seats_meaning, journal_meaning, record_meaning, cell_meaning, evidence_meaning, shelf_meaning, place_meaning, folder_meaning}
+use Rattle.pvp_codes.specs.declared.code.Code.TheVariants.{Setup, Line, Refusal, Step, Audit, Frame, Seats, Journal, Record, Cell, Evidence, Shelf, Place, Folder, Terminal}
+use Rattle.pvp_codes.specs.Meanings.{text_meaning, line_meaning, reason_meaning, audit_meaning, wire_meaning, seats_meaning, journal_meaning, record_meaning, cell_meaning, evidence_meaning, shelf_meaning, place_meaning, folder_meaning, terminal_meaning}
 
 -- ---- a code and its meaning
 
@@ -79,6 +81,7 @@ code_text (Evidence why) = evidence_code why
 code_text (Shelf fault) = shelf_code fault
 code_text (Place why) = place_code why
 code_text (Folder why) = folder_code why
+code_text (Terminal why) = terminal_code why
 
 -- WHAT IT MEANS
 abbrev pub meaning : Code → List ℕ
@@ -96,6 +99,7 @@ meaning (Evidence why) = evidence_meaning why
 meaning (Shelf fault) = shelf_meaning fault
 meaning (Place why) = place_meaning why
 meaning (Folder why) = folder_meaning why
+meaning (Terminal why) = terminal_meaning why
 
 -- ---- all of them
 
@@ -150,7 +154,11 @@ place_whys = place.Form ∷ place.Name ∷ place.Address ∷ place.Key ∷ place
 
 abbrev pub folder_whys : List FolderWhy
 folder_whys =
-    folder.Actor ∷ folder.Failed ∷ folder.Locked ∷ folder.Unsynced ∷ folder.Cell ∷ folder.History ∷ folder.Open ∷ []
+    folder.Actor ∷ folder.Failed ∷ folder.Locked ∷ folder.Unsynced ∷ folder.Cell ∷ folder.History ∷ folder.Open
+    ∷ folder.Unbegun ∷ folder.Begun ∷ []
+
+abbrev pub terminal_whys : List TerminalWhy
+terminal_whys = Share ∷ Full ∷ []
 
 -- setups, scripts, commands, steps of the world, of sites, nodes and clients, audits, frames, live runs, journals,
 -- records, boot cells, the journals of one bank, and where they are put
@@ -171,6 +179,7 @@ all_codes =
     ++ map (λ fault. Shelf fault) shelf_faults
     ++ map (λ why. Place why) place_whys
     ++ map (λ why. Folder why) folder_whys
+    ++ map (λ why. Terminal why) terminal_whys
 
 -- a line: the code, two spaces, its meaning
 abbrev pub code_line : Code → List ℕ

@@ -27,6 +27,8 @@ use Rattle.pvp_places.specs.declared.fault.PlaceWhy.{PlaceWhy}
 use Rattle.pvp_places.specs.declared.fault.PlaceWhy.TheVariants as place
 use Rattle.pvp_places.specs.declared.fault.FolderWhy.{FolderWhy}
 use Rattle.pvp_places.specs.declared.fault.FolderWhy.TheVariants as folder
+use Rattle.pvp_places.specs.declared.fault.TerminalWhy.{TerminalWhy}
+use Rattle.pvp_places.specs.declared.fault.TerminalWhy.TheVariants as terminal
 use Rattle.pvp_places.specs.declared.serving.ServeFault.{ServeFault}
 use Rattle.pvp_places.specs.declared.serving.ServeFault.TheVariants as serve
 
@@ -149,6 +151,15 @@ folder_meaning folder.Unsynced =
 folder_meaning folder.Cell = codes "the boot cell and the journal are not of one site"
 folder_meaning folder.History = codes "no actor can have taken what the journal tells"
 folder_meaning folder.Open = codes "without keys a site listens on this machine alone, unless the network is trusted"
+folder_meaning folder.Unbegun =
+    codes "the folder has no actor: `pvpsim begin` makes one, once; one that was lost may not be made anew"
+folder_meaning folder.Begun = codes "an actor was begun in the folder before, and may not be begun again"
+
+-- what a terminal does not ask for
+abbrev pub terminal_meaning : TerminalWhy → List ℕ
+terminal_meaning terminal.Share =
+    codes "the client has used up its share of the log's rows: what is left of them is for letting money out"
+terminal_meaning terminal.Full = codes "the rows that the log has left are for letting money out"
 
 -- why a process does not serve, whatever code tells it
 abbrev pub served_meaning : ServeFault → List ℕ
@@ -162,6 +173,7 @@ served_meaning (serve.Other why) = evidence_meaning why
 served_meaning (serve.Cell fault) = cell_meaning fault
 served_meaning (serve.Log fault) = shelf_meaning fault
 served_meaning serve.Unfit = record_meaning write.Unfit
+served_meaning serve.Output = codes "standard output could not be written: an answer is still owed"
 served_meaning serve.Net = codes "there is no thread to be had, or no listener at the site's address"
 served_meaning serve.Clock = codes "there is no greater clock"
 served_meaning serve.NoMemory = codes "memory was refused"

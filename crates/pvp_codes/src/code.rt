@@ -5,14 +5,14 @@ ghost use Rattle.pvp_codes.specs.Codes.{audit_code as code_of_test};
 
 use crate::meanings::{
     audit_meaning, cell_meaning, evidence_meaning, folder_meaning, journal_meaning, line_meaning,
-    place_meaning, reason_meaning, record_meaning, seats_meaning, shelf_meaning, text_meaning,
-    wire_meaning,
+    place_meaning, reason_meaning, record_meaning, seats_meaning, shelf_meaning, terminal_meaning,
+    text_meaning, wire_meaning,
 };
 use pvp_audit::AuditTest;
 use pvp_cell::OpenFault;
 use pvp_evidence::{EvidenceWhy, ShelfFault};
 use pvp_journal::{JournalWhy, WriteFault};
-use pvp_places::{FolderWhy, PlaceWhy};
+use pvp_places::{FolderWhy, PlaceWhy, TerminalWhy};
 use pvp_text::{LineCode, TextFault};
 use pvp_trace::meanings::meaning;
 use pvp_types::Reason;
@@ -49,8 +49,10 @@ pub enum Code {
     Shelf(ShelfFault),
     /// Q1 to Q6: of a line of a peers file or a keys file.
     Place(PlaceWhy),
-    /// X1 to X7: of an actor or its folder that no process can serve.
+    /// X1 to X9: of an actor or its folder that no process can serve.
     Folder(FolderWhy),
+    /// X10 and X11: of what a terminal asks for.
+    Terminal(TerminalWhy),
 }
 
 impl Code {
@@ -75,6 +77,7 @@ impl Code {
             Code::Shelf(fault) => shelf_meaning(fault),
             Code::Place(why) => place_meaning(why),
             Code::Folder(why) => folder_meaning(why),
+            Code::Terminal(why) => terminal_meaning(why),
         }
     }
 }
@@ -105,6 +108,7 @@ impl fmt::Display for Code {
             Code::Shelf(fault) => write!(f, "{fault}"),
             Code::Place(why) => write!(f, "{why}"),
             Code::Folder(why) => write!(f, "{why}"),
+            Code::Terminal(why) => write!(f, "{why}"),
         }
     }
 }

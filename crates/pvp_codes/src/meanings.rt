@@ -8,7 +8,7 @@ use pvp_audit::AuditTest;
 use pvp_cell::OpenFault;
 use pvp_evidence::{EvidenceWhy, ShelfFault};
 use pvp_journal::{JournalWhy, WriteFault};
-use pvp_places::{FolderWhy, PlaceWhy, ServeFault};
+use pvp_places::{FolderWhy, PlaceWhy, ServeFault, TerminalWhy};
 use pvp_text::{LineCode, TextFault};
 use pvp_types::{Reason, SetupFault};
 use pvp_wire::WireFault;
@@ -224,6 +224,20 @@ pub fn folder_meaning(why: FolderWhy) -> &'static str
         FolderWhy::History => "no actor can have taken what the journal tells",
         FolderWhy::Open =>
             "without keys a site listens on this machine alone, unless the network is trusted",
+        FolderWhy::Unbegun =>
+            "the folder has no actor: `pvpsim begin` makes one, once; one that was lost may not be made anew",
+        FolderWhy::Begun => "an actor was begun in the folder before, and may not be begun again",
+    }
+}
+
+/// Why a terminal does not ask its actor for what it was told to.
+pub fn terminal_meaning(why: TerminalWhy) -> &'static str
+    ensures { result.now ≡ spec.terminal_meaning why }
+{
+    match why {
+        TerminalWhy::Share =>
+            "the client has used up its share of the log's rows: what is left of them is for letting money out",
+        TerminalWhy::Full => "the rows that the log has left are for letting money out",
     }
 }
 
@@ -242,6 +256,7 @@ pub fn served_meaning(fault: ServeFault) -> &'static str
         ServeFault::Cell(fault) => cell_meaning(fault),
         ServeFault::Log(fault) => shelf_meaning(fault),
         ServeFault::Unfit => record_meaning(WriteFault::Unfit),
+        ServeFault::Output => "standard output could not be written: an answer is still owed",
         ServeFault::Net => "there is no thread to be had, or no listener at the site's address",
         ServeFault::Clock => "there is no greater clock",
         ServeFault::NoMemory => "memory was refused",

@@ -11,7 +11,7 @@ use pvp_audit::AuditTest;
 use pvp_cell::OpenFault;
 use pvp_evidence::{EvidenceWhy, ShelfFault};
 use pvp_journal::{JournalWhy, WriteFault};
-use pvp_places::{FolderWhy, PlaceWhy};
+use pvp_places::{FolderWhy, PlaceWhy, TerminalWhy};
 use pvp_text::book::{RunFault, write_text};
 use pvp_text::{LineCode, TextFault};
 use pvp_types::{Reason, SetupFault};
@@ -23,7 +23,7 @@ use std::io::Write;
 use vr_types::SiteFault;
 
 /// All codes, in the order in which they are told. M6 stands once, whatever is wrong in a record.
-const CODES: [Code; 99] = [
+const CODES: [Code; 103] = [
     Code::Setup(TextFault::NotJson),
     Code::Setup(TextFault::BadMember),
     Code::Setup(TextFault::BadSetup(SetupFault::SiteCount)),
@@ -123,6 +123,10 @@ const CODES: [Code; 99] = [
     Code::Folder(FolderWhy::Cell),
     Code::Folder(FolderWhy::History),
     Code::Folder(FolderWhy::Open),
+    Code::Folder(FolderWhy::Unbegun),
+    Code::Folder(FolderWhy::Begun),
+    Code::Terminal(TerminalWhy::Share),
+    Code::Terminal(TerminalWhy::Full),
 ];
 
 /// Writes a line for each code that the program or one of its parts prints: the code, and what it means. Where memory is

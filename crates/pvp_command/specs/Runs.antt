@@ -26,7 +26,7 @@ Writes known (Audit how setup journals) old new status =
     IfSome (known setup.now) (λ rules. AuditWrites how known rules
     (map (λ name. name.now) journals.items) old new status)
 Writes known (Keys setup secret folder) old new status = ⊥
-Writes known (Serve order) old new status = ⊥
+Writes known (Serve task) old new status = ⊥
 Writes known Codes old new status = (status ≡ 0) × Appends old new codes_text
 
 -- on any machine, where journals may be put on a shelf too
@@ -66,7 +66,7 @@ Tells known fails (Audit how setup journals) old new told =
     IfSome (known setup.now) (λ rules. AuditTells known fails setup.now rules
     (map (λ name. name.now) journals.items) old new told)
 Tells known fails (Keys setup secret folder) old new told = (told ≡ Output) × (new ≡ old)
-Tells known fails (Serve order) old new told = (told ≡ Net) × (new ≡ old)
+Tells known fails (Serve task) old new told = (told ≡ Net) × (new ≡ old)
 Tells known fails Codes old new told = (told ≡ NoMemory) ⊎ (told ≡ Output)
 
 -- which fault it tells on any machine

@@ -1,5 +1,6 @@
 -- What a request reads.
 use denote.Ref.{Bor}
+use Rattle.pvp_places.specs.Orders.{setup_of}
 use Rattle.std.specs.Prelude.{ℕ, List, [], map, Option, Some, None, option_map}
 use Rattle.pvp_text.specs.declared.script.Kind.{Kind}
 use Rattle.pvp_text.specs.declared.script.Kind.TheVariants as kinds
@@ -51,6 +52,6 @@ sources_of (asked.Audit how setup journals) =
     })
 sources_of (asked.Keys setup secret folder) =
     Some (record { kind = kinds.Book; setup = setup.now; script = None; journals = [] })
-sources_of (asked.Serve order) =
-    Some (record { kind = kinds.Live; setup = order.setup.now; script = None; journals = [] })
+sources_of (asked.Serve task) =
+    Some (record { kind = kinds.Live; setup = setup_of task; script = None; journals = [] })
 sources_of asked.Codes = None

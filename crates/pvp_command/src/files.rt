@@ -1,6 +1,6 @@
 //! Files that are read by name.
 
-ghost use Rattle.std.specs.Prelude.{◌≡◌, ◌≢◌, IfOk, IfErr, IfSome};
+ghost use Rattle.std.specs.Prelude.{◌≡◌, ◌≢◌, ◌<◌, ◌-◌, ◌^◌, IfOk, IfErr, IfSome};
 ghost use Rattle.pvp_command.specs.Files.{file_fault_of, unread_of};
 ghost use Rattle.pvp_command.specs.Request.{TellsFile};
 
@@ -96,7 +96,7 @@ pub enum Source {
     Secret,
 }
 
-/// The most bytes that a file may have.
+/// The most bytes that a file may have, but for a journal, which is read whatever its size.
 pub const MOST_BYTES: u64 = 1 << 26;
 
 /// Files that are read by name.
@@ -110,8 +110,8 @@ pub trait Files {
     /// Holds of a name and of why its file may not be read.
     ghost fails: { Self → List ℕ → FileFault → Type 0 };
 
-    /// All bytes of a file.
-    fn read(&self, alloc: Global, name: &str) -> Result<Vec<u8>, FileFault>
+    /// All bytes of the file that a command reads as this.
+    fn read(&self, alloc: Global, source: Source, name: &str) -> Result<Vec<u8>, FileFault>
         ensures ok { IfSome (known self.now name.now)
             (λ bytes. IfOk result (λ found. found.items ≡ bytes)) }
         ensures err { IfErr result (fails self.now name.now) };
@@ -130,9 +130,13 @@ impl<R: std::rt::Files + AllocGlobal> Files for Disk<'_, R> {
 
     ghost fails = { λ _ _ _. Unit {0} };
 
-    fn read(&self, alloc: Global, name: &str) -> Result<Vec<u8>, FileFault> {
-        let bytes = read_front(self.rt, alloc, name).map_err(|it| FileFault::of(it.kind()))?;
-        if bytes.len() as u64 > MOST_BYTES {
+    fn read(&self, alloc: Global, source: Source, name: &str) -> Result<Vec<u8>, FileFault> {
+        let most = match source {
+            Source::Journal(_) => u64::MAX - 1,
+            _ => MOST_BYTES,
+        };
+        let bytes = read_front(self.rt, alloc, name, most).map_err(|it| FileFault::of(it.kind()))?;
+        if bytes.len() as u64 > most {
             return Err(FileFault::Unread(Unread::Size));
         }
         Ok(bytes)
@@ -140,11 +144,16 @@ impl<R: std::rt::Files + AllocGlobal> Files for Disk<'_, R> {
 }
 
 /// The bytes of a file; of one that is too large one more than it may have, so that no memory is asked for without end.
-fn read_front<R: std::rt::Files>(rt: &R, alloc: Global, name: &str) -> io::Result<Vec<u8>> {
+fn read_front<R: std::rt::Files>(
+    rt: &R,
+    alloc: Global,
+    name: &str,
+    most: u64,
+) -> io::Result<Vec<u8>>
+    requires { most < 2 ^ 64 - 1 }
+{
     let mut bytes = Vec::new(alloc);
-    fs::open(rt, name)?
-        .take(MOST_BYTES + 1)
-        .read_to_end(&mut bytes)?;
+    fs::open(rt, name)?.take(most + 1).read_to_end(&mut bytes)?;
     Ok(bytes)
 }
 
@@ -159,7 +168,7 @@ pub(crate) fn read_source<F: Files>(
         (λ bytes. IfOk result (λ found. found.items ≡ bytes)) }
     ensures err { IfErr result (TellsFile source (F.fails files.now name.now)) }
 {
-    match files.read(alloc, name) {
+    match files.read(alloc, source, name) {
         Ok(bytes) => Ok(bytes),
         Err(fault) => Err(Fault::of_file(source, fault)),
     }

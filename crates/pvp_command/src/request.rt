@@ -8,11 +8,11 @@ use crate::audits::Auditing;
 use crate::explain::Sources;
 use crate::fails::read_fails;
 use crate::lives::{Ending, Told};
-use crate::serves::{NO_ORDER, order_at};
+use crate::serves::{NO_TASK, task_at};
 use crate::shows::{Show, show_at};
 use clap::error::ErrorKind;
 use clap::{Arg, ArgAction, ArgMatches, Command, Error};
-use pvp_places::Order;
+use pvp_places::Task;
 use pvp_play::{Fail, Telling};
 use pvp_text::Kind;
 use std::alloc::{AllocError, Global};
@@ -55,8 +55,8 @@ pub enum Request<'a> {
         secret: &'a str,
         folder: &'a str,
     },
-    /// One actor of a bank, served as a process of its own.
-    Serve(Order<'a>),
+    /// One actor of a bank, begun, or served as a process of its own.
+    Serve(Task<'a>),
     /// What each fault code means.
     Codes,
 }
@@ -75,7 +75,7 @@ impl Request<'_> {
             Request::Book { setup, script } => (Kind::Book, *setup, Some(*script)),
             Request::Play { setup, script, .. } => (Kind::Play, *setup, Some(*script)),
             Request::Live { setup, script, .. } => (Kind::Live, *setup, Some(*script)),
-            Request::Serve(order) => (Kind::Live, order.setup, None),
+            Request::Serve(task) => (Kind::Live, task.setup(), None),
             Request::Codes => return None,
         };
         Some(Sources {
@@ -143,9 +143,9 @@ fn parse_command<'a>(
         "live" => Ok(parse_live(words)),
         "audit" => parse_audit(alloc, words),
         "keys" => Ok(parse_keys(words)),
-        "serve" => match order_at(words) {
-            Some(order) => Ok(Some(Request::Serve(order))),
-            None => Err(program.error(ErrorKind::ValueValidation, NO_ORDER)?),
+        "begin" | "serve" => match task_at(name, words) {
+            Some(task) => Ok(Some(Request::Serve(task))),
+            None => Err(program.error(ErrorKind::ValueValidation, NO_TASK)?),
         },
         _ => Ok(None),
     }
@@ -330,19 +330,25 @@ const INTO_HELP: &str = "The folder for the keys files, which is new or empty; e
 const SERVE_ABOUT: &str =
     "Serves one actor of a bank as a process of its own: takes what comes from other processes and from the terminal, writes it into its journal, and only then sends what came of it";
 
-const SITE_HELP: &str = "Serves the site of this number";
+const BEGIN_ABOUT: &str =
+    "Begins one actor of a bank, once in its life: leaves in its folder what `serve` serves it from. Cut off, it can be said again; a folder in which \
+an actor was begun is refused. An actor that lost its folder may not be begun anew: docs/operating.md says what to do";
+
+const LIFE_HELP: &str =
+    "The file that tells where the sites listen, where it has a line `bank NAME` for a name of this life of the bank";
+
+const SITE_HELP: &str = "The site of this number";
 
 const NODE_HELP: &str =
-    "Serves the node of this currency: takes `payin MEMBER CCY AMT` and `close MEMBER CCY` at the terminal";
+    "The node of this currency: served, it takes `payin MEMBER CCY AMT` and `close MEMBER CCY` at the terminal";
 
 const CLIENT_HELP: &str =
-    "Serves OP or the member of this name: takes commands at the terminal, as they stand behind `do NAME` in a script, and prints the number and the answer of each";
+    "OP or the member of this name: served, it takes commands at the terminal, as they stand behind `do NAME` in a script, and prints the number and the answer of each";
 
 const PEERS_HELP: &str =
     "Where the sites listen: a line `s0 HOST:PORT` for each, and `bank NAME` for a name of this life of the bank";
 
-const DATA_HELP: &str =
-    "The folder of the actor, in which its journal stands; it is made where it is not there";
+const DATA_HELP: &str = "The folder of the actor, in which its journal stands";
 
 const KEYS_HELP: &str =
     "The keys that the actor shares with others: a line `NAME HEX` for each; then each frame is tagged by one";
@@ -376,6 +382,7 @@ fn program<'a>(alloc: Global) -> Result<Command<'a>, AllocError> {
         .subcommand(with_ending(alloc)?)?
         .subcommand(with_journals(alloc)?)?
         .subcommand(with_secret(alloc)?)?
+        .subcommand(with_beginning(alloc)?)?
         .subcommand(with_order(alloc)?)
 }
 
@@ -434,14 +441,31 @@ fn with_secret<'a>(alloc: Global) -> Result<Command<'a>, AllocError> {
         .arg(value(alloc, "into", "DIR", INTO_HELP))
 }
 
-/// The serving of one actor.
-fn with_order<'a>(alloc: Global) -> Result<Command<'a>, AllocError> {
-    with_setup(alloc, "serve", SERVE_ABOUT)?
+/// A command that names one actor and its folder.
+fn with_actor<'a>(
+    alloc: Global,
+    name: &'a str,
+    about: &'a str,
+    peers: Arg<'a>,
+) -> Result<Command<'a>, AllocError> {
+    with_setup(alloc, name, about)?
         .arg(value(alloc, "site", "I", SITE_HELP))?
         .arg(value(alloc, "node", "CCY", NODE_HELP))?
         .arg(value(alloc, "client", "NAME", CLIENT_HELP))?
-        .arg(value(alloc, "peers", "FILE", PEERS_HELP).required(true))?
-        .arg(value(alloc, "data", "DIR", DATA_HELP).required(true))?
+        .arg(peers)?
+        .arg(value(alloc, "data", "DIR", DATA_HELP).required(true))
+}
+
+/// The beginning of one actor.
+fn with_beginning<'a>(alloc: Global) -> Result<Command<'a>, AllocError> {
+    let peers = value(alloc, "peers", "FILE", LIFE_HELP);
+    with_actor(alloc, "begin", BEGIN_ABOUT, peers)
+}
+
+/// The serving of one actor.
+fn with_order<'a>(alloc: Global) -> Result<Command<'a>, AllocError> {
+    let peers = value(alloc, "peers", "FILE", PEERS_HELP).required(true);
+    with_actor(alloc, "serve", SERVE_ABOUT, peers)?
         .arg(value(alloc, "keys", "FILE", KEYS_HELP))?
         .arg(value(alloc, "beat", "MS", BEAT_HELP))?
         .arg(value(alloc, "patience", "N", PATIENCE_HELP))?

@@ -1,4 +1,4 @@
-//! The words that ask for an actor to be served, and what is told where it is served no longer.
+//! The words that ask for an actor to be begun or served, and what is told where it is not, or no longer.
 
 ghost use Rattle.std.specs.Prelude.{◌≡◌, true, map, IfErr, IfSome, OnOk};
 ghost use Rattle.pvp_command.specs.Codes.{begins_with_serve};
@@ -6,19 +6,19 @@ ghost use Rattle.pvp_command.specs.Codes.{begins_with_serve};
 use crate::request::{Asked, Request, parse};
 use clap::ArgMatches;
 use pvp_codes::meanings::served_meaning;
-use pvp_places::{Order, ServeFault, Who};
+use pvp_places::{Beginning, Order, ServeFault, Task, Who};
 use std::alloc::Global;
 use std::convert::AsStr;
 use std::io::Write;
 
-/// What is to be served, and whether a fault is to be explained.
+/// What is to be done with an actor, and whether a fault is to be explained.
 #[derive(Clone, Copy, Debug)]
 pub struct Served<'a> {
-    pub order: Order<'a>,
+    pub task: Task<'a>,
     pub explains: bool,
 }
 
-/// What the words ask to be served; `None` where they ask for something else, or for nothing.
+/// What the words ask to be begun or served; `None` where they ask for something else, or for nothing.
 pub fn served_by<'a, S: AsStr>(alloc: Global, words: &'a [S]) -> Option<Served<'a>>
     ensures { IfSome result (λ served. begins_with_serve (map S.text words.now) ≡ true) }
 {
@@ -29,27 +29,28 @@ pub fn served_by<'a, S: AsStr>(alloc: Global, words: &'a [S]) -> Option<Served<'
         Ok(
             Some(
                 Asked {
-                    request: Request::Serve(order),
+                    request: Request::Serve(task),
                     explains,
                 },
             ),
-        ) => Some(Served { order, explains }),
+        ) => Some(Served { task, explains }),
         _ => None,
     }
 }
 
-/// Whether the first word behind the program's own name is `serve`: others are not read here, as they are read elsewhere.
+/// Whether the first word behind the program's own name is `serve` or `begin`: others are not read here, as they are read
+/// elsewhere.
 fn begins_with_serve<S: AsStr>(words: &[S]) -> bool
     ensures { result ≡ begins_with_serve (map S.text words.now) }
 {
     match words {
-        [_, first, ..] => first.as_str() == "serve",
+        [_, first, ..] => first.as_str() == "serve" || first.as_str() == "begin",
         _ => false,
     }
 }
 
-/// Tells why an actor is served no longer, and where that is asked for what it means. Answers the status: 0 where its terminal
-/// has ended, and 1 for a fault.
+/// Tells why an actor is not begun, or served no longer, and where that is asked for what it means. Answers the status: 0
+/// where it was begun or its terminal has ended, and 1 for a fault.
 pub fn tell_served<E: Write>(told: Result<(), ServeFault>, explains: bool, err: &mut E) -> u8
     ensures ok { OnOk told (result ≡ 0) }
     ensures err { IfErr told (λ fault. result ≡ 1) }
@@ -65,8 +66,8 @@ pub fn tell_served<E: Write>(told: Result<(), ServeFault>, explains: bool, err: 
 }
 
 /// What is told of words that name no actor, or no number where one stands.
-pub const NO_ORDER: &str =
-    "`serve` takes one of `--site I`, `--node CCY` and `--client NAME`; `--beat` a number from 5 to 60000, and `--patience` one from 2 \
+pub const NO_TASK: &str =
+    "`begin` and `serve` take one of `--site I`, `--node CCY` and `--client NAME`; `--beat` a number from 5 to 60000, and `--patience` one from 2 \
 to 1000, without a leading zero";
 
 /// The least and the most milliseconds from beat to beat, and those that are meant where none stand.
@@ -75,8 +76,21 @@ const BEATS: (u32, u32, u32) = (5, 60_000, 50);
 /// The same of a site's patience.
 const PATIENCES: (u32, u32, u32) = (2, 1000, 6);
 
+/// What the words behind this command ask to be done with an actor.
+pub fn task_at<'a>(command: &str, words: &ArgMatches<'a>) -> Option<Task<'a>> {
+    if command == "begin" {
+        return Some(Task::Begin(Beginning {
+            who: who_at(words)?,
+            setup: words.get_str("setup")?,
+            peers: words.get_str("peers"),
+            data: words.get_str("data")?,
+        }));
+    }
+    Some(Task::Serve(order_at(words)?))
+}
+
 /// What the words ask to be served, and how.
-pub fn order_at<'a>(words: &ArgMatches<'a>) -> Option<Order<'a>> {
+fn order_at<'a>(words: &ArgMatches<'a>) -> Option<Order<'a>> {
     Some(Order {
         who: who_at(words)?,
         setup: words.get_str("setup")?,

@@ -15,6 +15,6 @@ pub use file::FileLog;
 pub use journaled::Journaled;
 pub use log::{Log, LogFault};
 pub use memory::MemLog;
-pub use resume::{Replayed, come_back, replay, rising_clock};
+pub use resume::{Pace, Replayed, Untold, come_back, replay, rising_clock};
 pub use room::{JournalRoom, Letter, Posted};
 pub use ways::{RestartFault, WayBack, restart, way_back};

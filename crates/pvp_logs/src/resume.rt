@@ -44,12 +44,27 @@ impl<C: BootCell> Replayed<PartyOf<C>> {
     }
 }
 
-/// Takes a history again at the actor as it opened. `None` where an event cannot come out as it is recorded, or a clock is
-/// not above the one before it and its stamp's; `Err` where memory is refused.
-pub fn replay<A: Audited>(
+/// Whoever is told how far a history was taken again.
+pub trait Pace {
+    /// So many events of so many were taken.
+    fn passes(&mut self, taken: usize, all: usize);
+}
+
+/// Nobody is told.
+#[derive(Drop)]
+pub struct Untold;
+
+impl Pace for Untold {
+    fn passes(&mut self, _taken: usize, _all: usize) {}
+}
+
+/// Takes a history again at the actor as it opened, and tells how far it came. `None` where an event cannot come out as it is
+/// recorded, or a clock is not above the one before it and its stamp's; `Err` where memory is refused.
+pub fn replay<A: Audited, P: Pace>(
     alloc: Global,
     actor: A,
     history: &[Recorded<A::Event, A::Outcome>],
+    pace: &mut P,
 ) -> Result<Option<Replayed<A>>, AllocError>
     ensures found { IfOk result (λ found. Replays A.Actor actor history.now found) }
     ensures again { IfOk result (λ found. IfSome found (λ again. (opening : A.Opening) →
@@ -59,7 +74,10 @@ pub fn replay<A: Audited>(
         return Ok(None);
     };
     let mut actor = actor;
+    let mut taken = 0usize;
     for r in history {
+        pace.passes(taken, history.len());
+        taken = taken.saturating_add(1);
         if !actor.follow(alloc, &r.event, &r.outcome)? {
             return Ok(None);
         }

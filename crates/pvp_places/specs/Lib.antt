@@ -3,6 +3,7 @@ pub mod Keys
 pub mod Serving
 pub mod Names
 pub mod Mark
+pub mod Orders
 pub mod Address
 pub mod Reading
 pub mod KeysFile

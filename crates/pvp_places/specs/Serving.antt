@@ -21,5 +21,6 @@ fault_line (serve.Cell fault) = codes "fault cell " ++ cell_code fault
 fault_line (serve.Log fault) = codes "fault journals " ++ shelf_code fault
 fault_line serve.Unfit = codes "fault journals M8"
 fault_line serve.Net = codes "fault net"
+fault_line serve.Output = codes "fault output"
 fault_line serve.Clock = codes "fault clock"
 fault_line serve.NoMemory = codes "fault memory"

@@ -121,9 +121,13 @@ pub enum FolderWhy {
     History,
     /// X7: the site would listen beyond this machine without keys.
     Open,
+    /// X8: the folder does not have what `begin` leaves there, so no actor can be served from it.
+    Unbegun,
+    /// X9: an actor was begun in the folder before.
+    Begun,
 }
 
-/// Writes the code as `X1` to `X7`.
+/// Writes the code as `X1` to `X9`.
 impl fmt::Display for FolderWhy {
     ghost use Rattle.std.specs.Prelude.{Some};
     ghost use Rattle.pvp_places.specs.Fault.{folder_code};
@@ -139,6 +143,32 @@ impl fmt::Display for FolderWhy {
             FolderWhy::Cell => "X5",
             FolderWhy::History => "X6",
             FolderWhy::Open => "X7",
+            FolderWhy::Unbegun => "X8",
+            FolderWhy::Begun => "X9",
+        })
+    }
+}
+
+/// Why a terminal does not ask its actor for what it was told to.
+#[derive(Clone, Copy, Debug, PartialEq, Eq)]
+pub enum TerminalWhy {
+    /// X10: the client has used up its share of the log's rows.
+    Share,
+    /// X11: the rows that the log has left are for what lets money out.
+    Full,
+}
+
+/// Writes the code as `X10` or `X11`.
+impl fmt::Display for TerminalWhy {
+    ghost use Rattle.std.specs.Prelude.{Some};
+    ghost use Rattle.pvp_places.specs.Fault.{terminal_code};
+
+    ghost output = { λ why. Some (terminal_code why) };
+
+    fn fmt<W: fmt::Write>(&self, f: &mut fmt::Formatter<W>) -> fmt::Result {
+        f.write_str(match self {
+            TerminalWhy::Share => "X10",
+            TerminalWhy::Full => "X11",
         })
     }
 }

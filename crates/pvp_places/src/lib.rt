@@ -13,10 +13,10 @@ pub mod serving;
 pub mod words;
 
 pub use address::Address;
-pub use fault::{FolderWhy, LineFault, PlaceFault, PlaceWhy};
+pub use fault::{FolderWhy, LineFault, PlaceFault, PlaceWhy, TerminalWhy};
 pub use keys::{Keys, read_keys, write_keys};
 pub use mark::{Mark, read_mark};
 pub use names::{actor_asked, actor_named};
-pub use order::{Order, Who};
+pub use order::{Beginning, Order, Task, Who};
 pub use peers::{Peers, Place, read_peers};
 pub use serving::{Paper, ServeFault};

@@ -1,12 +1,14 @@
-//! The mark of a folder: how far the journal there can be trusted.
+//! The mark of a folder: whether its actor was begun, and how far the journal there can be trusted.
 ghost use Rattle.std.specs.Prelude.{◌≡◌, ◌≢◌, ◌↔◌, IfOk, IfSome, IfNone, IsTrue};
 ghost use Rattle.pvp_places.specs.Mark.{IsWhole, Said, mark_text, said_by};
 
 use std::alloc::{AllocError, Global};
 
-/// How far a journal can be trusted that was written while this mark stood.
+/// What a folder's mark says: that its actor is being begun, or how far a journal can be trusted that was written since.
 #[derive(Clone, Copy, Debug, PartialEq, Eq)]
 pub enum Mark<'a> {
+    /// The actor is being begun: not all of its folder stands yet, and nothing of it was sent.
+    Begun,
     /// All of it was synced before anything that it tells of left the process.
     Synced,
     /// What the system was told to write; so it is whole while this run of the machine lasts.
@@ -19,6 +21,7 @@ impl Mark<'_> {
         ensures { IsTrue result ↔ IsWhole (said_by self.now) run.now }
     {
         match self {
+            Mark::Begun => false,
             Mark::Synced => true,
             Mark::Written(other) => !run.is_empty() && *other == run,
         }
@@ -30,6 +33,7 @@ impl Mark<'_> {
     {
         let mut text = Vec::new(alloc);
         match self {
+            Mark::Begun => text.extend_from_slice(b"begun\n")?,
             Mark::Synced => text.extend_from_slice(b"synced\n")?,
             Mark::Written(run) => {
                 text.extend_from_slice(b"written ")?;
@@ -46,6 +50,9 @@ pub fn read_mark(text: &[u8]) -> Option<Mark<'_>>
     ensures some { IfSome result (λ mark. mark_text (said_by mark) ≡ text.now) }
     ensures none { IfNone result ((said : Said) → mark_text said ≢ text.now) }
 {
+    if text == b"begun\n".as_slice() {
+        return Some(Mark::Begun);
+    }
     if text == b"synced\n".as_slice() {
         return Some(Mark::Synced);
     }

@@ -1,4 +1,6 @@
-//! What a process is asked to serve, and how.
+//! What a process is asked for: to begin an actor, or to serve one, and how.
+ghost use Rattle.std.specs.Prelude.{◌≡◌};
+ghost use Rattle.pvp_places.specs.Orders.{setup_of};
 
 /// Whom a process serves, by the words of its command line.
 #[derive(Clone, Copy, Debug)]
@@ -33,4 +35,36 @@ pub struct Order<'a> {
     pub stays: bool,
     /// Whether a site may listen beyond this machine without keys.
     pub trusts_network: bool,
+}
+
+/// Which actor is begun, and where.
+#[derive(Clone, Copy, Debug)]
+pub struct Beginning<'a> {
+    pub who: Who<'a>,
+    /// The text of the setup.
+    pub setup: &'a str,
+    /// The file that names this life of the bank, where one does.
+    pub peers: Option<&'a str>,
+    /// The folder of the actor, which is made where it is not there.
+    pub data: &'a str,
+}
+
+/// What a process does with an actor.
+#[derive(Clone, Copy, Debug)]
+pub enum Task<'a> {
+    /// It leaves in a folder what the actor is served from.
+    Begin(Beginning<'a>),
+    Serve(Order<'a>),
+}
+
+impl<'a> Task<'a> {
+    /// The text of the setup of the actor's bank.
+    pub fn setup(&self) -> &'a str
+        ensures { result.now ≡ setup_of self.now }
+    {
+        match self {
+            Task::Begin(beginning) => beginning.setup,
+            Task::Serve(order) => order.setup,
+        }
+    }
 }

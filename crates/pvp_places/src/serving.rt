@@ -35,7 +35,7 @@ pub enum ServeFault {
         paper: Paper,
         actor: u16,
     },
-    /// X1 to X7: the actor or its folder is none that can be served.
+    /// X1 to X9: the actor or its folder is none that can be served.
     Folder(FolderWhy),
     /// M1 to M6: its journal is damaged where the head or record at this byte begins.
     Journal {
@@ -52,6 +52,8 @@ pub enum ServeFault {
     Unfit,
     /// There is no listener to be had at its address, or no thread.
     Net,
+    /// Its standard output failed, so an answer is still owed.
+    Output,
     /// There is no greater clock.
     Clock,
     NoMemory,
@@ -76,6 +78,7 @@ impl fmt::Display for ServeFault {
             ServeFault::Log(fault) => write!(f, "fault journals {fault}"),
             ServeFault::Unfit => f.write_str("fault journals M8"),
             ServeFault::Net => f.write_str("fault net"),
+            ServeFault::Output => f.write_str("fault output"),
             ServeFault::Clock => f.write_str("fault clock"),
             ServeFault::NoMemory => f.write_str("fault memory"),
         }

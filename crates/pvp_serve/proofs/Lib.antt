@@ -1,2 +1,4 @@
 pub mod Taking
 pub mod Terminals
+mod Outdated
+mod Unowed

@@ -4,8 +4,14 @@ use Rattle.std.specs.Option.{option_map_or}
 use Rattle.vr_types.specs.Actors.{id_of, number_of}
 use Rattle.vr_types.specs.declared.actors.ActorId.{ActorId}
 use Rattle.vr_types.specs.declared.actors.ActorId.TheVariants.{Client, Node, Site}
+use Rattle.vr_types.specs.declared.message.EnvelopeOf.{EnvelopeOf}
 use Rattle.vr_types.specs.declared.message.MsgOf.{MsgOf}
-use Rattle.vr_types.specs.declared.message.MsgOf.TheVariants.{Prepare, Commit, StartView, NewState}
+use Rattle.vr_types.specs.declared.message.MsgOf.TheVariants.{Prepare, PrepareOk, Commit, StartViewChange, DoViewChange, StartView, GetState, NewState}
+use Rattle.vr_types.specs.declared.event.Why.{Why}
+use Rattle.vr_types.specs.Choice.{Choice}
+use Rattle.vr_types.specs.Handling.{on_message}
+use Rattle.vr_types.specs.Site.{Site as AnySite, is_change, is_normal, is_running}
+use Rattle.vr_types.specs.Step.{drops}
 use Rattle.pvp_types.specs.declared.setup.Setup.{Setup}
 use Rattle.pvp_types.specs.declared.command.Reply.{Reply}
 use Rattle.pvp_types.specs.declared.step.Step.{Step}
@@ -24,9 +30,7 @@ use Rattle.pvp_text.specs.declared.script.Statement.TheVariants.{Do}
 use Rattle.pvp_text.specs.Script.{script_at}
 use Rattle.vr_types.specs.declared.cell.Boot.{Boot}
 use Rattle.vr_types.specs.declared.event.EventOf.TheVariants as event
-use Rattle.vr_types.specs.declared.event.Why.TheVariants.{Full}
 use Rattle.pvp_rooms.specs.declared.actor.Actor.{Ghosts}
-use Rattle.pvp_rooms.specs.declared.site.CameOf.TheVariants.{Did}
 use Rattle.pvp_parties.specs.declared.party.PartyOf.{PartyOf}
 use Rattle.pvp_parties.specs.declared.party.PartyEvent.{PartyEvent}
 use Rattle.pvp_parties.specs.declared.party.PartyEvent.TheVariants.{OfSite, OfNode, OfClient}
@@ -34,7 +38,11 @@ use Rattle.pvp_parties.specs.declared.party.PartyOutcome.{PartyOutcome}
 use Rattle.pvp_parties.specs.declared.party.PartyOutcome.TheVariants as outcome
 use Rattle.pvp_logs.specs.declared.room.Letter.{Letter}
 use Rattle.pvp_logs.specs.Rooms.{Held, Texts}
+use Rattle.pvp_places.specs.declared.fault.TerminalWhy.{TerminalWhy}
+use Rattle.pvp_places.specs.declared.fault.TerminalWhy.TheVariants.{Full}
 use Rattle.pvp_places.specs.declared.serving.ServeFault.{ServeFault}
+use Rattle.pvp_serve.specs.declared.admission.Admission.{Admission}
+use Rattle.pvp_serve.specs.Admission.{is_shut, refusal_of}
 use Rattle.pvp_serve.specs.declared.inbox.Inbox.{Inbox}
 use Rattle.pvp_serve.specs.declared.inbox.Inbox.TheVariants.{Frame, Came, Gone, Tick, End}
 use Rattle.pvp_serve.specs.declared.lanes.Lane.{Lane}
@@ -49,9 +57,10 @@ use Rattle.pvp_serve.specs.declared.serving.Serving.{Serving}
 use Rattle.pvp_serve.specs.declared.desk.Told.{Told}
 use Rattle.pvp_serve.specs.declared.desk.Told.TheVariants.{Nothing, Done, Refused, Misplaced}
 use Rattle.pvp_serve.specs.declared.desk.TheConstants.{TELLING_TICKS}
+use Rattle.pvp_serve.specs.declared.serving.Lost.{Lost}
 use Rattle.pvp_serve.specs.declared.serving.Request.{Request}
 use Rattle.pvp_serve.specs.declared.serving.Standing.{Standing}
-use Rattle.pvp_serve.specs.Patience.{up_to_most}
+use Rattle.pvp_serve.specs.Patience.{has_asked, heard_site, up_to_most}
 use Rattle.pvp_serve.specs.Serving.{TakesIn, HasFlushed, IsRefused, has_orders_in, lost_with, own_input, standing_in}
 
 -- a line that is empty or begins with # asks for nothing
@@ -120,7 +129,10 @@ is_primary (Some standing) sites actor = primary_of standing.view sites == actor
 abbrev pub look_of : Bool → ℕ → ℕ → Standing → Look
 look_of has_orders sites me standing = record {
   status = standing.status;
+  view = standing.view;
+  primary = primary_of standing.view sites;
   is_primary = primary_of standing.view sites == me;
+  log = standing.log;
   done = standing.done;
   owes = has_orders || nat_lt standing.done standing.log;
 }
@@ -135,6 +147,12 @@ is_node (Client client) = false
 is_node (Node ccy) = true
 is_node (Site site) = false
 
+-- AN ACTOR IS A SITE
+abbrev pub is_site : ActorId → Bool
+is_site (Site site) = true
+is_site (Client client) = false
+is_site (Node ccy) = false
+
 -- WHAT COUNTS AS HEARD of a primary: a message by which it serves its view. Who asks for what it lost does not serve it
 abbrev pub serves_view : {C R O : Type 0} → MsgOf C R O → Bool
 serves_view (Prepare m) = true
@@ -146,6 +164,12 @@ serves_view _ = false
 -- what a site knows of time once it heard of its primary, or of another
 abbrev pub heard_from : Bool → Patience → Patience
 heard_from is_primary patience = if is_primary then record patience { quiet = 0 } else patience
+
+-- and once it heard an actor: of clients and nodes it learns nothing
+abbrev pub heard_actor : ActorId → ℕ → Patience → Patience
+heard_actor (Site site) actor patience = heard_site actor patience
+heard_actor (Client client) actor patience = patience
+heard_actor (Node ccy) actor patience = patience
 
 -- and once a stream has ended: it was the one that stood to its primary, or another
 abbrev pub missed_by : Bool → Patience → Patience
@@ -192,9 +216,77 @@ pub record BeatsClient {N A L : Type 0} (m : Ghosts A N PartyEvent PartyOutcome)
 
 -- WHAT COMES TO THE ACTOR ITSELF: an envelope, or a tick
 abbrev pub comes_to_actor : Inbox → Bool
-comes_to_actor (Frame arrival) = true
+comes_to_actor (Frame arrival latest) = true
 comes_to_actor Tick = true
 comes_to_actor _ = false
+
+-- the view of which a message is, where it is of one
+abbrev pub view_of : {C R O : Type 0} → MsgOf C R O → Option ℕ
+view_of (Prepare m) = Some m.view
+view_of (PrepareOk m) = Some m.view
+view_of (Commit m) = Some m.view
+view_of (StartViewChange m) = Some m.view
+view_of (DoViewChange m) = Some m.view
+view_of (StartView m) = Some m.view
+view_of (GetState m) = Some m.view
+view_of (NewState m) = Some m.view
+view_of _ = None
+
+-- A MESSAGE IS OUT OF DATE at a site that runs: it is of a view below the site's own, so the site's rules drop it
+abbrev pub is_outdated : {C R O : Type 0} → Option Standing → MsgOf C R O → Bool
+is_outdated None msg = false
+is_outdated (Some standing) msg =
+    is_running standing.status && option_map_or (λ view. nat_lt view standing.view) (view_of msg) false
+
+-- the rules of a site drop a message of an actor
+abbrev pub IsDropped : {C R O : Type 0} → Choice C → ℕ → ℕ → AnySite C → ℕ → MsgOf C R O → Type 0
+IsDropped choose f me x actor msg = (why : Why) × (on_message choose f me x actor msg ≡ drops x why)
+
+-- A SITE LAGS BEHIND what this actor says of a view: it is the view's primary, and the site is not in that view yet, or
+-- lacks a row in it
+abbrev pub lags : ℕ → Standing → ℕ → ℕ → Bool → Bool
+lags sites standing from view lacks =
+    is_running standing.status && (primary_of view sites == from)
+    && (nat_lt standing.view view || ((view == standing.view) && (is_change standing.status || lacks)))
+
+-- A MESSAGE HAS A SITE ASK for the state: by a PREPARE or a COMMIT it learns that it lags behind
+abbrev pub asks_at : {C R O : Type 0} → ℕ → Standing → ℕ → MsgOf C R O → Bool
+asks_at sites standing from (Prepare m) = lags sites standing from m.view (nat_lt (standing.log + 1) m.place)
+asks_at sites standing from (Commit m) = lags sites standing from m.view (nat_lt standing.log m.done)
+asks_at sites standing from _ = false
+
+abbrev pub asks_state : {C R O : Type 0} → ℕ → Option Standing → EnvelopeOf C R O → Bool
+asks_state sites None envelope = false
+asks_state sites (Some standing) envelope = asks_at sites standing envelope.from envelope.msg
+
+-- a site is the primary of a normal view
+abbrev pub leads_now : ℕ → ℕ → Option Standing → Bool
+leads_now sites me None = false
+leads_now sites me (Some standing) = is_normal standing.status && (primary_of standing.view sites == me)
+
+-- WHAT A SITE LOSES before it is an event: what it does not admit, what is out of date, and what would have it ask for
+-- a state again that may still come
+abbrev pub is_passed_over : {C R O : Type 0} → Admission → ℕ → Option Standing → Patience → EnvelopeOf C R O → Bool
+is_passed_over admission sites standing patience envelope =
+    is_shut admission || is_outdated standing envelope.msg
+    || (asks_state sites standing envelope && not (patience.lag == 0))
+
+-- what a site knows of time once it took what may have it ask for the state
+abbrev pub log_len : Option Standing → ℕ
+log_len None = 0
+log_len (Some standing) = standing.log
+
+abbrev pub asked_by_site : Bool → Option Standing → Patience → Patience
+asked_by_site asks standing patience = if asks then has_asked (log_len standing) patience else patience
+
+-- WHAT A SITE KNOWS OF TIME after an envelope: it heard its sender, and its primary serve its view, and it may have
+-- asked for the state
+abbrev pub after_envelope : {C R O : Type 0} → ℕ → Option Standing → EnvelopeOf C R O → Patience → Patience
+after_envelope sites standing envelope patience =
+    let from = envelope.from in
+    let heard = heard_from (serves_view envelope.msg && is_primary standing sites from)
+    (heard_actor (id_of from) from patience) in
+    asked_by_site (asks_state sites standing envelope && (patience.lag == 0)) standing heard
 
 -- THE STREAMS THAT STAND after an item: one that came does, one that has ended does not
 abbrev pub lanes_after : Inbox → List Lane → List Lane
@@ -202,19 +294,19 @@ lanes_after (Came lane) all = with_lane lane all
 lanes_after (Gone peer stream end) all = without_lane peer stream all
 lanes_after _ all = all
 
--- HOW MANY FRAMES WERE LOST after an item: one whose clock is too far ahead is
-abbrev pub lost_after : {N A O L : Type 0} → Inbox → Option (Held N A O L) → ℕ → ℕ
-lost_after (Frame arrival) room lost = lost_with room arrival.stamped.stamp.clock lost
-lost_after _ room lost = lost
+-- THE FRAMES THAT WERE LOST after an item: one whose clock is not believed is
+abbrev pub lost_after : Inbox → Lost → Lost
+lost_after (Frame arrival latest) lost = lost_with latest arrival.stamped.stamp lost
+lost_after _ lost = lost
 
 -- ALL ELSE STAYS of what is served: its room alone may change, and its streams
 abbrev pub IsElseAsItWas : {B L O : Type 0} → Serving B L O → Serving B L O → Type 0
 IsElseAsItWas old new = new ≡ record old { room = new.room; out = new.out }
 
--- and after an item how many frames were lost
+-- and after an item the frames that were lost
 abbrev pub IsElseAsAfter : {B L O : Type 0} → Inbox → Serving B L O → Serving B L O → Type 0
 IsElseAsAfter item old new =
-    new ≡ record old { room = new.room; out = new.out; unbelieved = lost_after item old.room old.unbelieved }
+    new ≡ record old { room = new.room; out = new.out; lost = lost_after item old.lost }
 
 -- the terminal has ended
 abbrev pub is_end : Inbox → Bool
@@ -257,18 +349,19 @@ abbrev pub waits_told : Option Request → Told → Bool → Bool
 waits_told request Misplaced waits = awaits request
 waits_told request _ waits = waits
 
--- a site dropped what it took as its log has no room
-abbrev pub is_full : PartyOutcome → Bool
-is_full (outcome.OfSite (Did sent (Some Full))) = true
-is_full _ = false
+-- how many requests of its own an actor made
+abbrev pub made : Option Request → ℕ
+made None = 0
+made (Some request) = request.number
 
--- THE NEWEST of these events came behind so many others, and found no room
-abbrev pub found_full : ℕ → List (Letter PartyOutcome) → Bool
-found_full before letters =
-    nat_lt before (length letters)
-    && option_map_or (λ letter. is_full letter.outcome) (slice_get letters (length letters - 1)) false
+-- a site tells that the log is full, which a terminal notes once
+abbrev pub full_after : Option Request → TerminalDesk → TerminalDesk
+full_after request desk = if is_some desk.full then desk else record desk { full = Some (made request) }
 
--- the request of a client that waits is told as one that found no room, once
-abbrev pub full_after : Option Request → TerminalDesk → ℕ
-full_after None desk = desk.full
-full_after (Some request) desk = if desk.waits then request.number else desk.full
+-- WHY A TERMINAL DOES NOT ASK its actor for what a line says: a client's share of the log is used up (X10), or it was
+-- told that the log is full, and this lets no money out (X11). A node that was told so pays nothing in
+abbrev pub refusal : ℕ → TerminalDesk → Option Request → PartyEvent → Option TerminalWhy
+refusal me desk (Some request) (OfClient (Submits cmd)) =
+    refusal_of me desk.full (length desk.setup.members) request.number cmd
+refusal me desk request (OfNode (PaysIn member amt)) = if is_some desk.full then Some Full else None
+refusal me desk request event = None

@@ -1,5 +1,11 @@
 -- Which stream an envelope of an actor goes over.
-use Rattle.std.specs.Prelude.{◌==◌, ◌&&◌, ◌++◌, ◌∷◌, Bool, false, not, ℕ, List, [], Option, Some, None, filter, find, is_some, if◌then◌else◌}
+use Rattle.std.specs.Prelude.{◌==◌, ◌&&◌, ◌++◌, ◌∷◌, Bool, true, false, not, ℕ, List, [], Option, Some, None, filter, find, is_some, if◌then◌else◌}
+use Rattle.vr_types.specs.declared.actors.ActorId.{ActorId}
+use Rattle.vr_types.specs.declared.actors.ActorId.TheVariants.{Site}
+use Rattle.vr_types.specs.declared.message.MsgOf.{MsgOf}
+use Rattle.vr_types.specs.declared.message.MsgOf.TheVariants.{Request}
+use Rattle.pvp_intake.specs.declared.arrival.Piece.{Piece}
+use Rattle.pvp_intake.specs.declared.arrival.Piece.TheVariants.{Frame, Ping}
 use Rattle.pvp_intake.specs.Sealing.{ping_text}
 use Rattle.pvp_text.specs.ScriptWords.{is_empty}
 use Rattle.pvp_serve.specs.declared.lanes.Lane.{Lane}
@@ -38,6 +44,17 @@ is_kept_from peer (Some site) all = not (site == peer) && is_some (lane_to site 
 abbrev pub lane_for : ℕ → Lanes → Option Lane
 lane_for peer lanes =
     if is_kept_from peer lanes.favoured lanes.all.items then None else lane_to peer lanes.all.items
+
+-- a message is a REQUEST
+abbrev pub is_request : {C R O : Type 0} → MsgOf C R O → Bool
+is_request (Request m) = true
+is_request _ = false
+
+-- A PIECE IS NONE that an actor says to a site: a client or a node says REQUESTs alone
+abbrev pub is_beyond : ActorId → Piece → Bool
+is_beyond (Site site) piece = false
+is_beyond who (Frame arrival) = not (is_request arrival.stamped.envelope.msg)
+is_beyond who Ping = false
 
 -- what is put on a stream for a frame: a ping where it is empty
 abbrev pub piece_text : List ℕ → List ℕ

@@ -4,6 +4,8 @@ pub mod Doors
 pub mod Lanes
 pub mod Desks
 pub mod Terminals
+pub mod Sifting
+pub mod Admission
 pub mod Sites
 pub mod Telling
 pub mod Attending

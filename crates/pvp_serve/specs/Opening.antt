@@ -1,5 +1,5 @@
 -- What is found in an actor's folder as it is opened.
-use Rattle.std.specs.Prelude.{◌≡◌, ℕ, ◌==◌, not, List, take, Option, Some, None, Result, Ok, Err, bytes_eq, if◌then◌else◌}
+use Rattle.std.specs.Prelude.{◌≡◌, ℕ, ◌==◌, Bool, true, false, not, List, take, Option, Some, None, Result, Ok, Err, bytes_eq, codes, if◌then◌else◌}
 use Rattle.std.specs.declared.alloc.AllocError.{AllocError}
 use Rattle.pvp_journal.specs.declared.head.Head.{Head}
 use Rattle.pvp_journal.specs.declared.journal.Journal.{Journal}
@@ -13,10 +13,49 @@ use Rattle.pvp_evidence.specs.declared.gather.EvidenceWhy.{EvidenceWhy}
 use Rattle.pvp_evidence.specs.declared.gather.EvidenceWhy.TheVariants as evidence
 use Rattle.pvp_logs.specs.declared.ways.RestartFault.{RestartFault}
 use Rattle.pvp_logs.specs.declared.ways.RestartFault.TheVariants.{Misfit, ClockSpent, Unwritten}
+use Rattle.vr_types.specs.declared.cell.Boot.{Boot}
+use Rattle.pvp_cell.specs.declared.fault.OpenFault.{OpenFault}
+use Rattle.pvp_cell.specs.declared.fault.OpenFault.TheVariants as opens
 use Rattle.pvp_places.specs.declared.fault.FolderWhy.TheVariants as folder
 use Rattle.pvp_places.specs.declared.serving.ServeFault.{ServeFault}
 use Rattle.pvp_places.specs.declared.serving.ServeFault.TheVariants as serve
 use Rattle.pvp_places.specs.Told.{write_told}
+use Rattle.pvp_serve.specs.declared.folder.Marked.{Marked}
+use Rattle.pvp_serve.specs.declared.folder.Marked.TheVariants as marked
+
+-- what a mark that is there says of its folder's actor: it is being begun, or was
+abbrev pub marked_by : List ℕ → Marked
+marked_by text = if bytes_eq text (codes "begun\n") then marked.Begun else marked.Served
+
+-- AN ACTOR MAY BE BEGUN in a folder of such a mark, where some of its files stand or none: nothing stands there, or it
+-- was begun before and cut off
+abbrev pub may_begin : Marked → Bool → Bool
+may_begin marked.Never has_files = not has_files
+may_begin marked.Begun has_files = true
+may_begin marked.Served has_files = false
+
+-- AN ACTOR MAY BE SERVED from a folder: it was begun to its end, and not all of it is lost
+abbrev pub may_serve : Marked → Bool → Bool
+may_serve marked.Never has_files = has_files
+may_serve marked.Begun has_files = false
+may_serve marked.Served has_files = has_files
+
+-- it is begun, or refused as one that was begun before (X9)
+abbrev pub begins_so : Bool → Result (Unit {0}) ServeFault
+begins_so true = Ok tt
+begins_so false = Err (serve.Folder folder.Begun)
+
+-- it is served, or refused as one that was not begun (X8)
+abbrev pub serves_so : Bool → Result (Unit {0}) ServeFault
+serves_so true = Ok tt
+serves_so false = Err (serve.Folder folder.Unbegun)
+
+-- WHETHER A BOOT CELL STANDS that was read so, whole or damaged; a store that fails and memory that is refused are told
+abbrev pub cell_stands : Result Boot OpenFault → Result Bool ServeFault
+cell_stands (Err opens.Lost) = Ok false
+cell_stands (Err opens.Store) = Err (serve.Cell opens.Store)
+cell_stands (Err opens.NoMemory) = Err serve.NoMemory
+cell_stands read = Ok true
 
 -- why a site does not come back, as it is told
 abbrev pub restart_told : RestartFault → ServeFault

@@ -1,9 +1,13 @@
 -- What an actor that is served takes, and what leaves it.
-use Rattle.std.specs.Prelude.{◌≡◌, ◌≢◌, ◌⊎◌, ◌+◌, ◌-◌, ◌^◌, ◌&&◌, ◌||◌, Bool, true, false, not, min, nat_lt, ℕ, List, [], length, map, slice_get, Option, Some, None, IfSome, IsSome, is_some, Result, Ok, Err, IfErr, IsOk, IsTrue, OnOk, if◌then◌else◌}
+use Rattle.std.specs.Prelude.{◌≡◌, ◌≢◌, ◌⊎◌, ◌+◌, ◌-◌, ◌^◌, ◌&&◌, ◌||◌, Bool, true, false, not, min, nat_le, nat_lt, ℕ, List, [], length, map, slice_get, Option, Some, None, IfSome, IsSome, is_some, Result, Ok, Err, IfErr, IsOk, IsTrue, OnOk, if◌then◌else◌, take}
 use Rattle.std.specs.Global.{Vec}
 use Rattle.std.specs.List.{list_any}
+use Rattle.vr_types.specs.Actors.{id_of}
+use Rattle.vr_types.specs.declared.actors.ActorId.{ActorId}
+use Rattle.vr_types.specs.declared.actors.ActorId.TheVariants.{Client, Node, Site}
 use Rattle.vr_types.specs.declared.cell.Boot.{Boot}
 use Rattle.vr_types.specs.Handling.{machine_of}
+use Rattle.vr_types.specs.Rows.{newest}
 use Rattle.vr_types.specs.Site.{is_running}
 use Rattle.vr_site.specs.Replica.{site_shown}
 use Rattle.pvp_book.specs.Ledger.{Ledger, opening}
@@ -29,9 +33,10 @@ use Rattle.pvp_logs.specs.declared.log.LogFault.TheVariants as log
 use Rattle.pvp_logs.specs.Rooms.{Texts, Held, Steps, Flushes}
 use Rattle.pvp_logs.specs.declared.room.Letter.{Letter}
 use Rattle.pvp_logs.specs.declared.room.Posted.TheVariants.{Done}
+use Rattle.pvp_serve.specs.declared.admission.Seen.{Seen}
 use Rattle.pvp_serve.specs.declared.serving.Request.{Request}
 use Rattle.pvp_serve.specs.declared.serving.Standing.{Standing}
-use Rattle.pvp_serve.specs.declared.serving.TheConstants.{HORIZON}
+use Rattle.pvp_serve.specs.declared.serving.Lost.{Lost}
 
 -- an envelope that came, with its stamp
 abbrev pub input_of : Stamped → Input PartyEvent
@@ -76,14 +81,58 @@ abbrev pub has_orders_in : {N B O L : Type 0} → (B → Boot) → Option (Held 
 has_orders_in held None = false
 has_orders_in held (Some room) = has_orders_of held room.actor
 
--- a clock is further ahead of the room's own than an actor believes
-abbrev pub is_far : {N A O L : Type 0} → Option (Held N A O L) → ℕ → Bool
-is_far None clock = false
-is_far (Some room) clock = nat_lt (room.clock + HORIZON) clock
+-- WHAT THE SITE THAT IS SERVED KNOWS as a request of a client comes
+abbrev pub count_open : Ledger → ℕ
+count_open ledger = length (book.orders ledger)
 
--- how many frames were lost since their clocks were too far ahead, with one of this clock
-abbrev pub lost_with : {N A O L : Type 0} → Option (Held N A O L) → ℕ → ℕ → ℕ
-lost_with room clock lost = if is_far room clock then min (lost + 1) (2 ^ 64 - 1) else lost
+abbrev pub orders_of : {B : Type 0} → (B → Boot) → PartyOf B → ℕ
+orders_of held (party.Site p) =
+    if is_running p.now.volatile.status then
+    count_open (machine_of book (opening p.now.setup) (site_shown held p.now []))
+    else 0
+orders_of held (party.Node p) = 0
+orders_of held (party.Client p) = 0
+
+abbrev pub seen_by : {B : Type 0} → (B → Boot) → ℕ → PartyOf B → Option Seen
+seen_by held client (party.Site p) = let now = p.now.volatile in
+    Some (record {
+      log = length now.log;
+      done = now.done;
+      newest = newest now.log client;
+      answered = newest (take now.done now.log) client;
+      orders = orders_of held (party.Site p);
+    })
+seen_by held client (party.Node p) = None
+seen_by held client (party.Client p) = None
+
+abbrev pub seen_in : {N B O L : Type 0} → (B → Boot) → ℕ → Option (Held N (PartyOf B) O L) → Option Seen
+seen_in held client None = None
+seen_in held client (Some room) = seen_by held client room.actor
+
+-- HOW OFTEN THE SITE WAS RESTARTED that is served, by its cell: the nonce of its recovery. 0 of another actor
+abbrev pub nonce_of : {B : Type 0} → (B → Boot) → PartyOf B → ℕ
+nonce_of held (party.Site p) = (held p.now.cell).boots
+nonce_of held (party.Node p) = 0
+nonce_of held (party.Client p) = 0
+
+abbrev pub nonce_in : {N B O L : Type 0} → (B → Boot) → Option (Held N (PartyOf B) O L) → ℕ
+nonce_in held None = 0
+nonce_in held (Some room) = nonce_of held room.actor
+
+-- A CLOCK IS BEYOND what an actor believes of whoever stamped it: a site is believed below 2 ^ 63, and all others up to
+-- this clock, which the time gives
+abbrev pub is_far_of : ActorId → ℕ → ℕ → Bool
+is_far_of (Site site) latest clock = nat_le (2 ^ 63) clock
+is_far_of (Client client) latest clock = nat_lt latest clock
+is_far_of (Node ccy) latest clock = nat_lt latest clock
+
+abbrev pub is_far : ℕ → Stamp → Bool
+is_far latest stamp = is_far_of (id_of stamp.actor) latest stamp.clock
+
+-- the frames that were lost so, with one of this stamp: how many, and who sent the last
+abbrev pub lost_with : ℕ → Stamp → Lost → Lost
+lost_with latest stamp lost =
+    if is_far latest stamp then record { count = min (lost.count + 1) (2 ^ 64 - 1); last = Some stamp.actor } else lost
 
 -- there is no greater clock than the room's own and the stamp's
 abbrev pub IsSpent : {N A O L : Type 0} → Option (Held N A O L) → Option Stamp → Type 0
@@ -114,13 +163,13 @@ pub record TakesIn {N A E O L : Type 0} (m : Ghosts A N E O) (texts : ℕ → Te
   pub has : new ≡ Some after
   pub steps : Steps m texts seen input before after (Done clock)
 
--- AN ENVELOPE COMES to the room, with its stamp: one of a clock that is not believed is lost, another is taken or
--- refused
+-- AN ENVELOPE COMES to the room, with its stamp, where clocks are believed up to this one: with a clock beyond it is
+-- lost, else it is taken or refused
 pub record Comes {N A O L : Type 0} (m : Ghosts A N PartyEvent O) (texts : ℕ → Texts PartyEvent O)
-    (seen : L → Option (List ℕ)) (stamped : Stamped) (old new : Option (Held N A O L))
+    (seen : L → Option (List ℕ)) (latest : ℕ) (stamped : Stamped) (old new : Option (Held N A O L))
     (result : Result (Unit {0}) ServeFault) : Type 0 where
-  pub far : is_far old stamped.stamp.clock ≡ true → IsOk result × (new ≡ old)
-  pub near : is_far old stamped.stamp.clock ≡ false → OnOk result (TakesIn m texts seen (input_of stamped) old new)
+  pub far : is_far latest stamped.stamp ≡ true → IsOk result × (new ≡ old)
+  pub near : is_far latest stamped.stamp ≡ false → OnOk result (TakesIn m texts seen (input_of stamped) old new)
   pub refused : IfErr result (λ fault. IsRefused (Some stamped.stamp) old new fault)
 
 -- THE BATCH IS WRITTEN: of each event in it this came, and its record stands in the log

@@ -2,7 +2,6 @@
 use Rattle.std.specs.Prelude.{ℕ, ◌+◌, ◌-◌, ◌^◌, ◌==◌, ◌&&◌, Bool, not, min, nat_le, List, Option, Some, None, is_some, codes, if◌then◌else◌}
 use Rattle.vr_types.specs.declared.event.Status.{Status}
 use Rattle.vr_types.specs.declared.event.Status.TheVariants.{Normal, Change, Recovering, Down}
-use Rattle.vr_types.specs.declared.limits.TheConstants.{MAX_ROWS}
 use Rattle.pvp_types.specs.declared.setup.Setup.{Setup}
 use Rattle.pvp_intake.specs.declared.hearing.LinkEnd.{LinkEnd}
 use Rattle.pvp_intake.specs.declared.hearing.LinkEnd.TheVariants.{Wrong}
@@ -11,12 +10,20 @@ use Rattle.pvp_serve.specs.declared.serving.Standing.{Standing}
 use Rattle.pvp_serve.specs.declared.telling.Stood.{Stood}
 use Rattle.pvp_serve.specs.declared.telling.Teller.{Teller}
 use Rattle.pvp_serve.specs.declared.telling.TheConstants.{TELLING_TICKS}
+use Rattle.pvp_serve.specs.Admission.{is_full_at}
 use Rattle.pvp_serve.specs.Patience.{up_to_most}
 
 -- what a site of a bank has told that has told nothing
 abbrev pub fresh_teller : Setup → Teller
-fresh_teller setup =
-    record { setup = setup; stood = None; ended = None; away = 0; why = None; told = (0, 0); ticks = 0 }
+fresh_teller setup = record {
+  setup = setup;
+  stood = None;
+  ended = None;
+  away = 0;
+  why = None;
+  told = record { away = 0; lost = 0; flood = 0 };
+  ticks = 0;
+}
 
 -- the word for where a site stands
 abbrev pub status_word : Status → List ℕ
@@ -36,20 +43,23 @@ ended_after peer (Wrong why) last = Some (peer, why)
 ended_after peer _ last = last
 
 -- more was turned away or lost than was told, and it is time to tell
-abbrev pub is_to_tell : Teller → ℕ → Bool
-is_to_tell teller lost =
-    nat_le TELLING_TICKS (up_to_most (teller.ticks + 1)) && not (teller.away == teller.told.0 && lost == teller.told.1)
+abbrev pub is_to_tell : Teller → ℕ → ℕ → Bool
+is_to_tell teller lost flood =
+    nat_le TELLING_TICKS (up_to_most (teller.ticks + 1))
+    && not (teller.away == teller.told.away && lost == teller.told.lost && flood == teller.told.flood)
 
--- WHAT IS TOLD AFTER A TICK of the streams that were turned away and of so many frames that were lost
-abbrev pub told_after : Teller → ℕ → Teller
-told_after teller lost =
-    if is_to_tell teller lost then record teller { ticks = 0; told = (teller.away, lost) }
+-- WHAT IS TOLD AFTER A TICK of the streams that were turned away, and of so many frames that were lost as their clocks
+-- were far, and so many in a flood
+abbrev pub told_after : Teller → ℕ → ℕ → Teller
+told_after teller lost flood =
+    if is_to_tell teller lost flood then
+    record teller { ticks = 0; told = record { away = teller.away; lost = lost; flood = flood } }
     else record teller { ticks = up_to_most (teller.ticks + 1) }
 
 -- what is told of where a site stands
 abbrev pub stood_at : Standing → Stood
 stood_at standing =
-    record { status = standing.status; view = standing.view; is_full = nat_le MAX_ROWS standing.log }
+    record { status = standing.status; view = standing.view; is_full = is_full_at standing.log }
 
 abbrev pub stood_after : Option Standing → Option Stood → Option Stood
 stood_after None last = last

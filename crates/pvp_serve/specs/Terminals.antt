@@ -19,13 +19,14 @@ use Rattle.pvp_parties.specs.declared.party.PartyOutcome.{PartyOutcome}
 use Rattle.pvp_logs.specs.declared.room.Letter.{Letter}
 use Rattle.pvp_logs.specs.Rooms.{Held, Texts}
 use Rattle.pvp_places.specs.declared.serving.ServeFault.{ServeFault}
-use Rattle.pvp_places.specs.declared.serving.ServeFault.TheVariants.{NoMemory}
+use Rattle.pvp_places.specs.declared.fault.TerminalWhy.{TerminalWhy}
+use Rattle.pvp_places.specs.declared.serving.ServeFault.TheVariants.{NoMemory, Output}
 use Rattle.pvp_serve.specs.declared.inbox.Inbox.{Inbox}
 use Rattle.pvp_serve.specs.declared.inbox.Inbox.TheVariants.{Frame, Ping, Came, Tick, Line, End}
 use Rattle.pvp_serve.specs.declared.desk.Asked.{Asked}
 use Rattle.pvp_serve.specs.declared.desk.TerminalDesk.{TerminalDesk}
 use Rattle.pvp_serve.specs.declared.serving.Request.{Request}
-use Rattle.pvp_serve.specs.Desks.{BeatsClient, BeatsNode, after_hearing, event_of, full_after, is_busy, is_done, is_node, last_told, next_wait, waits_told}
+use Rattle.pvp_serve.specs.Desks.{BeatsClient, BeatsNode, after_hearing, event_of, full_after, is_busy, is_done, is_node, last_told, next_wait, refusal, waits_told}
 use Rattle.pvp_serve.specs.Patience.{up_to_most}
 use Rattle.pvp_serve.specs.Serving.{Comes, HasFlushed, IsRefused, IsUnwritten, TakesIn, own_input, request_in}
 
@@ -84,12 +85,35 @@ module _ {N B L : Type 0} (m : Ghosts (PartyOf B) N PartyEvent PartyOutcome)
   abbrev pub IsUndone : PartyEvent → RoomOf N B L → RoomOf N B L → ServeFault → Type 0
   IsUndone event old new fault = IsRefused None old new fault ⊎ IsUnkept event old new fault
 
-  -- WHY A LINE IS NOT DONE: memory to read it was refused, or what it asks for was not done
-  abbrev pub IsLineLost : Result (Option PartyEvent) LineCode → RoomOf N B L → RoomOf N B L → ServeFault → Type 0
-  IsLineLost (Ok (Some event)) old new fault =
-      ((fault ≡ NoMemory) × (new ≡ old)) ⊎ IsUndone event old new fault
-  IsLineLost (Ok None) old new fault = (fault ≡ NoMemory) × (new ≡ old)
-  IsLineLost (Err code) old new fault = (fault ≡ NoMemory) × (new ≡ old)
+  -- it was taken and written, and could not be told
+  pub record IsUntold (event : PartyEvent) (old new : RoomOf N B L) (fault : ServeFault) : Type 0 where
+    pub between : RoomOf N B L
+    pub letters : List (Letter PartyOutcome)
+    pub takes : TakesIn m texts seen (own_input event) old between
+    pub written : HasFlushed m texts seen between new letters
+    pub told : fault ≡ Output
+
+  -- WHY AN EVENT IS NOT SERVED: it was not done, or not told
+  abbrev pub IsUnserved : PartyEvent → RoomOf N B L → RoomOf N B L → ServeFault → Type 0
+  IsUnserved event old new fault = IsUndone event old new fault ⊎ IsUntold event old new fault
+
+  -- or its refusal could not be told
+  abbrev pub IsEventLost : Option TerminalWhy → PartyEvent → RoomOf N B L → RoomOf N B L → ServeFault → Type 0
+  IsEventLost None event old new fault = IsUnserved event old new fault
+  IsEventLost (Some why) event old new fault = (fault ≡ Output) × (new ≡ old)
+
+  -- WHY A LINE IS NOT DONE: memory to read it was refused, or what it asks for was not done or not told
+  abbrev pub IsLineLost : ℕ → TerminalDesk → Result (Option PartyEvent) LineCode → RoomOf N B L → RoomOf N B L
+      → ServeFault → Type 0
+  IsLineLost me desk (Ok (Some event)) old new fault =
+      ((fault ≡ NoMemory) × (new ≡ old)) ⊎ IsEventLost (refusal me desk (request_in old) event) event old new fault
+  IsLineLost me desk (Ok None) old new fault = (fault ≡ NoMemory) × (new ≡ old)
+  IsLineLost me desk (Err code) old new fault = (fault ≡ NoMemory) × (new ≡ old)
+
+  -- WHY AN ANSWER IS NOT TOLD: what came is not written; or it is, and could not be printed
+  abbrev pub IsNotPaid : RoomOf N B L → RoomOf N B L → ServeFault → Type 0
+  IsNotPaid old new fault = (IsUnwritten old fault × (new ≡ None))
+      ⊎ ((letters : List (Letter PartyOutcome)) × HasFlushed m texts seen old new letters × (fault ≡ Output))
 
   -- A TICK GOES BY: an actor that waits for nothing does nothing, a node beats, a client waits a tick and then beats
   pub record Beats (who : ActorId) (from to : At N B L) : Type 0 where
@@ -120,19 +144,19 @@ module _ {N B L : Type 0} (m : Ghosts (PartyOf B) N PartyEvent PartyOutcome)
 
   -- WHAT IS DONE WITH AN ITEM before anything is asked for
   abbrev pub Handles : ℕ → Inbox → At N B L → At N B L → Type 0
-  Handles me (Frame arrival) from to =
-      Comes m texts seen arrival.stamped from.room to.room (Ok tt)
+  Handles me (Frame arrival latest) from to =
+      Comes m texts seen latest arrival.stamped from.room to.room (Ok tt)
       × (to.desk ≡ after_hearing (request_in to.room) from.desk)
   Handles me Tick from to = Beats (id_of me) from to
   Handles me (Ping peer) from to =
-      to ≡ record from { desk = record from.desk { full = full_after (request_in from.room) from.desk } }
+      to ≡ record from { desk = full_after (request_in from.room) from.desk }
   Handles me (Line text) from to = (to.room ≡ from.room) × IsPutBehind text from.desk to.desk
   Handles me End from to = to ≡ record from { desk = record from.desk { ended = true } }
   Handles me _ from to = to ≡ from
 
   -- WHY AN ITEM IS NOT HANDLED: its envelope or its tick was refused, or memory for a stream or a line was
   abbrev pub IsUnhandled : ℕ → Inbox → RoomOf N B L → RoomOf N B L → ServeFault → Type 0
-  IsUnhandled me (Frame arrival) old new fault = IsRefused (Some arrival.stamped.stamp) old new fault
+  IsUnhandled me (Frame arrival latest) old new fault = IsRefused (Some arrival.stamped.stamp) old new fault
   IsUnhandled me Tick old new fault = IsUnbeaten (id_of me) old new fault
   IsUnhandled me (Came lane) old new fault = (fault ≡ NoMemory) × (new ≡ old)
   IsUnhandled me (Line text) old new fault = (fault ≡ NoMemory) × (new ≡ old)
@@ -152,18 +176,25 @@ module _ {N B L : Type 0} (m : Ghosts (PartyOf B) N PartyEvent PartyOutcome)
     pub left : after
         ≡ record desk { owes = None; waits = waits_told (request_in new) (last_told letters) true }
 
-  -- A LINE IS DONE: what it asks for is, and one that asks for nothing or is at fault changes nothing
-  abbrev pub IsLineDone : Result (Option PartyEvent) LineCode → RoomOf N B L → RoomOf N B L → TerminalDesk
+  -- or it is refused, and nothing changes
+  abbrev pub IsDoneUnless : Option TerminalWhy → PartyEvent → RoomOf N B L → RoomOf N B L → TerminalDesk
       → TerminalDesk → Type 0
-  IsLineDone (Ok (Some event)) old new desk after = IsDone event old new desk after
-  IsLineDone (Ok None) old new desk after = (new ≡ old) × (after ≡ desk)
-  IsLineDone (Err code) old new desk after = (new ≡ old) × (after ≡ desk)
+  IsDoneUnless None event old new desk after = IsDone event old new desk after
+  IsDoneUnless (Some why) event old new desk after = (new ≡ old) × (after ≡ desk)
+
+  -- A LINE IS DONE: what it asks for is or is refused, and one that asks for nothing or is at fault changes nothing
+  abbrev pub IsLineDone : ℕ → Result (Option PartyEvent) LineCode → RoomOf N B L → RoomOf N B L → TerminalDesk
+      → TerminalDesk → Type 0
+  IsLineDone me (Ok (Some event)) old new desk after =
+      IsDoneUnless (refusal me desk (request_in old) event) event old new desk after
+  IsLineDone me (Ok None) old new desk after = (new ≡ old) × (after ≡ desk)
+  IsLineDone me (Err code) old new desk after = (new ≡ old) × (after ≡ desk)
 
   -- THESE LINES OF AN ACTOR ARE DONE, one after another
   pub record IsNextDone (me : ℕ) (asked : Asked) (from to : At N B L) : Type 0 where
     pub left : TerminalDesk
     pub next : IsNext asked from left
-    pub done : IsLineDone (event_of from.desk.setup me asked.text.items) from.room to.room left to.desk
+    pub done : IsLineDone me (event_of from.desk.setup me asked.text.items) from.room to.room left to.desk
 
   abbrev pub AreDone : ℕ → List Asked → At N B L → At N B L → Type 0
   AreDone me [] from to = to ≡ from
@@ -183,7 +214,8 @@ module _ {N B L : Type 0} (m : Ghosts (PartyOf B) N PartyEvent PartyOutcome)
     pub are_done : AreDone me done from between
     pub asked : Asked
     pub next : IsNext asked between to.desk
-    pub lost : IsLineLost m texts seen (event_of between.desk.setup me asked.text.items) between.room to.room fault
+    pub lost :
+        IsLineLost m texts seen me to.desk (event_of between.desk.setup me asked.text.items) between.room to.room fault
 
   -- THE ANSWER THAT IS OWED IS TOLD, once all that was taken is written, safe where that is asked for
   abbrev pub Pays : Option (ℕ × Answer) → At N B L → At N B L → Type 0
@@ -202,7 +234,7 @@ module _ {N B L : Type 0} (m : Ghosts (PartyOf B) N PartyEvent PartyOutcome)
     pub goes : goes_on ≡ not (is_done (request_in to.room) to.desk)
 
   -- WHY THE PROCESS ENDS at an item, and what is left: the item was not handled and the desk is as it was, or a line
-  -- was not done behind it, or what came is not written and still owed
+  -- was not done behind it, or what came is not written or not printed, and still owed
   pub record IsUnasked (me : ℕ) (item : Inbox) (from to : At N B L) (fault : ServeFault) : Type 0 where
     pub handled : At N B L
     pub handles : Handles m texts seen me item from handled
@@ -214,8 +246,8 @@ module _ {N B L : Type 0} (m : Ghosts (PartyOf B) N PartyEvent PartyOutcome)
     pub handles : Handles m texts seen me item from handled
     pub asks : AsksAll me handled asked
     pub owes : IsSome asked.desk.owes
-    pub unwritten : IsUnwritten asked.room fault
-    pub left : to ≡ record { desk = asked.desk; room = None }
+    pub lost : IsNotPaid m texts seen asked.room to.room fault
+    pub left : to.desk ≡ asked.desk
 
   abbrev pub IsTrouble : ℕ → Inbox → At N B L → At N B L → ServeFault → Type 0
   IsTrouble me item from to fault =

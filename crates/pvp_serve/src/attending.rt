@@ -1,7 +1,7 @@
 //! What a loop does with what comes.
-ghost use Rattle.std.specs.Prelude.{◌≡◌};
+ghost use Rattle.std.specs.Prelude.{◌≡◌, IfOk};
 ghost use Rattle.pvp_logs.specs.Rooms.{bank_texts};
-ghost use Rattle.pvp_serve.specs.Attending.{DeskTakes};
+ghost use Rattle.pvp_serve.specs.Attending.{DeskTakes, sifted_for};
 ghost use Rattle.pvp_serve.specs.Desks.{IsElseAsAfter};
 ghost use Rattle.pvp_serve.specs.Serving.{IsSafeIn};
 
@@ -15,6 +15,7 @@ use pvp_logs::Log;
 use pvp_parties::PartyOf;
 use pvp_places::ServeFault;
 use pvp_rooms::Actor;
+use std::alloc::Global;
 use vr_types::BootCell;
 
 /// What decides of each item what becomes of it, by the kind of the actor.
@@ -26,6 +27,21 @@ pub enum Desk {
 }
 
 impl Desk {
+    /// What is worked off of the items that wait, which are for a site that was restarted so often, or for another actor.
+    pub fn sift(
+        &mut self,
+        alloc: Global,
+        nonce: u32,
+        items: Vec<Inbox>,
+    ) -> Result<Vec<Inbox>, ServeFault>
+        ensures { IfOk result (λ kept. kept.items ≡ sifted_for self.old nonce items.items) }
+    {
+        match self {
+            Desk::Site(desk) => desk.sift(alloc, nonce, items),
+            Desk::Terminal(_) => Ok(items),
+        }
+    }
+
     /// Takes what came. `false` where the process is to end.
     pub fn take<R: Host, C: BootCell, L: Log>(
         &mut self,
@@ -35,7 +51,7 @@ impl Desk {
     ) -> Result<bool, ServeFault>
         ensures takes { DeskTakes ⟦<PartyOf<C> as Actor>⟧ bank_texts L.seen
             (IsSafeIn L.seen L.synced serving.old.syncs) C.held serving.old.me
-            serving.old.out.all.items serving.old.unbelieved item self.old self.new
+            serving.old.out.all.items serving.old.lost item self.old self.new
             serving.old.room serving.new.room result }
         ensures rest { IsElseAsAfter item serving.old serving.new }
     {

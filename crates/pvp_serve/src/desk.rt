@@ -7,6 +7,7 @@ ghost use Rattle.std.specs.Prelude.{
   ◌+◌,
   ◌++◌,
   ◌∷◌,
+  ◌↔◌,
   [],
   None,
   false,
@@ -26,7 +27,7 @@ ghost use Rattle.vr_types.specs.Actors.{id_of};
 ghost use Rattle.rtgs_node.specs.declared.event.NodeEvent.TheVariants as node_event;
 ghost use Rattle.headline.specs.declared.step.ClientEvent.TheVariants as client_event;
 ghost use Rattle.pvp_parties.specs.declared.party.PartyEvent.TheVariants.{OfClient, OfNode};
-ghost use Rattle.pvp_places.specs.declared.serving.ServeFault.TheVariants.{NoMemory};
+ghost use Rattle.pvp_places.specs.declared.serving.ServeFault.TheVariants.{NoMemory, Output};
 ghost use Rattle.pvp_serve.specs.Patience.{up_to_most};
 ghost use Rattle.pvp_logs.specs.Rooms.{bank_texts};
 ghost use Rattle.pvp_serve.specs.Desks.{
@@ -47,8 +48,10 @@ ghost use Rattle.pvp_serve.specs.Desks.{
   lanes_after,
   last_may_say_more,
   last_told,
+  made,
   may_say_more,
   next_wait,
+  refusal,
   says_nothing,
   script_of,
   told_of,
@@ -62,20 +65,25 @@ ghost use Rattle.pvp_serve.specs.Terminals.{
   Handles,
   IsAsItWas,
   IsDone,
+  IsDoneUnless,
+  IsEventLost,
   IsLineDone,
   IsLineLost,
+  IsNotPaid,
   IsPutBehind,
   IsTrouble,
   IsUnbeaten,
   IsUndone,
   IsUnhandled,
   IsUnsaid,
+  IsUnserved,
   Pays,
   TakesItem,
   asked_next,
   after_hearing_if,
 };
 
+use crate::admission::refusal_of;
 use crate::host::Host;
 use crate::inbox::Inbox;
 use crate::lanes::Lanes;
@@ -85,7 +93,7 @@ use pvp_book::Book;
 use pvp_intake::Arrival;
 use pvp_logs::{Letter, Log};
 use pvp_parties::{PartyEvent, PartyOf, PartyOutcome};
-use pvp_places::ServeFault;
+use pvp_places::{ServeFault, TerminalWhy};
 use pvp_rooms::Actor;
 use pvp_text::script::{Kind, LineCode, Statement, read_script};
 use pvp_trace::names::push_actor;
@@ -93,6 +101,7 @@ use pvp_types::{Reply, Setup, Step};
 use rtgs_node::{NodeEvent, NodeFault};
 use std::alloc::{AllocError, Global};
 use std::collections::VecDeque;
+use std::io;
 use vr_types::{ActorId, BootCell, Envelope, MsgOf};
 
 /// At every which tick a client that waits says so.
@@ -120,13 +129,13 @@ pub struct TerminalDesk {
     ticks: u32,
     /// The number and the answer of a request, where it came and is not told yet.
     owes: Option<(u32, Reply)>,
-    /// The number of the last request of which it told that it found no room; 0 before the first.
-    full: u32,
+    /// How many requests its actor had made as a site told that the log is full; `None` where none did.
+    full: Option<u32>,
 }
 
 impl TerminalDesk {
-    /// The desk of an actor that was asked for nothing at this terminal. It says there where a client stands.
-    pub fn new<R: Host>(rt: R, setup: Setup, stays: bool, request: Option<Request>) -> Self
+    /// The desk of an actor that was asked for nothing at this terminal.
+    pub fn new(alloc: Global, setup: Setup, stays: bool, request: Option<Request>) -> Self
         ensures waits { result.waits ≡ awaits request }
         ensures lines { result.lines.items ≡ [] }
         ensures rest { result ≡ record {
@@ -138,22 +147,20 @@ impl TerminalDesk {
           stays = stays;
           ticks = 0;
           owes = None;
-          full = 0;
+          full = None;
         } }
     {
-        let desk = TerminalDesk {
+        TerminalDesk {
             setup,
-            lines: VecDeque::new(rt.alloc()),
+            lines: VecDeque::new(alloc),
             number: 0,
             waits: awaits(request),
             ended: false,
             stays,
             ticks: 0,
             owes: None,
-            full: 0,
-        };
-        greet(rt, request);
-        desk
+            full: None,
+        }
     }
 
     /// Whether nothing is left to be done at this terminal.
@@ -169,8 +176,9 @@ impl TerminalDesk {
         rt: R,
         serving: &mut Serving<C, L, Lanes>,
         arrival: Arrival,
+        latest: u64,
     ) -> Result<(), ServeFault>
-        ensures comes { Comes ⟦<PartyOf<C> as Actor>⟧ bank_texts L.seen arrival.stamped
+        ensures comes { Comes ⟦<PartyOf<C> as Actor>⟧ bank_texts L.seen latest arrival.stamped
             serving.old.room serving.new.room result }
         ensures desk { self.new ≡ after_hearing_if result (request_in serving.new.room) self.old }
         ensures rest { serving.new ≡ record serving.old {
@@ -179,12 +187,11 @@ impl TerminalDesk {
             favoured = asked_next (id_of serving.old.me) arrival.stamped.envelope
                 serving.old.out.favoured;
           };
-          unbelieved = lost_with serving.old.room arrival.stamped.stamp.clock
-              serving.old.unbelieved;
+          lost = lost_with latest arrival.stamped.stamp serving.old.lost;
         } }
     {
         asks_next(serving, &arrival.stamped_envelope().envelope);
-        serving.take_frame(rt.alloc(), arrival)?;
+        serving.take_frame(rt.alloc(), arrival, latest)?;
         self.hears(serving.request());
         Ok(())
     }
@@ -201,15 +208,6 @@ impl TerminalDesk {
             self.waits = false;
             self.ticks = 0;
             self.owes = Some((request.number, reply));
-        }
-    }
-
-    /// Tells the answer that came. It is in the journal.
-    fn tell_answer<R: Host>(&mut self, rt: R)
-        ensures { self.new ≡ record self.old { owes = None } }
-    {
-        if let Some((number, reply)) = self.owes.take() {
-            let _told = println!(rt; "{number} {reply}");
         }
     }
 
@@ -305,17 +303,30 @@ impl TerminalDesk {
         }
     }
 
-    /// A site pings a client whose request found no room in the log: that is told once.
+    /// A site pings a client or a node where the log is full: that is told once.
     fn tell_full<R: Host>(&mut self, rt: R, request: Option<Request>)
-        ensures { self.new ≡ record self.old { full = full_after request self.old } }
+        ensures { self.new ≡ full_after request self.old }
     {
-        let Some(request) = request else {
+        if self.full.is_some() {
             return;
-        };
-        let number = request.number;
-        if self.waits && self.full != number {
-            self.full = number;
-            let _told = eprintln!(rt; "full {number}");
+        }
+        self.full = Some(made(request));
+        let _told = eprintln!(rt; "full");
+    }
+
+    /// Why this terminal does not ask for an event of its actor, whose last request this is.
+    fn refusal(&self, me: u16, request: Option<Request>, event: &PartyEvent) -> Option<TerminalWhy>
+        ensures { result ≡ refusal me self.now request event.now }
+    {
+        match (event, request) {
+            (PartyEvent::OfClient(ClientEvent::Submits(cmd)), Some(request)) => {
+                let members = self.setup.members.len();
+                refusal_of(me, self.full, members, request.number, *cmd)
+            }
+            (PartyEvent::OfNode(NodeEvent::PaysIn { .. }), _) if self.full.is_some() => {
+                Some(TerminalWhy::Full)
+            }
+            _ => None,
         }
     }
 
@@ -376,11 +387,11 @@ impl TerminalDesk {
     ) -> Result<(), ServeFault>
         ensures done { OnOk result (
             IsLineDone ⟦<PartyOf<C> as Actor>⟧ bank_texts L.seen
-            (IsSafeIn L.seen L.synced serving.old.syncs)
+            (IsSafeIn L.seen L.synced serving.old.syncs) serving.old.me
             (event_of self.old.setup serving.old.me asked.now.text.items)
             serving.old.room serving.new.room self.old self.new) }
         ensures refused { IfErr result (λ fault.
-            IsLineLost ⟦<PartyOf<C> as Actor>⟧ bank_texts L.seen
+            IsLineLost ⟦<PartyOf<C> as Actor>⟧ bank_texts L.seen serving.old.me self.old
             (event_of self.old.setup serving.old.me asked.now.text.items)
             serving.old.room serving.new.room fault) }
         ensures stays { OnErr result (self.new ≡ self.old) }
@@ -392,13 +403,38 @@ impl TerminalDesk {
         };
         match read {
             Ok(None) => Ok(()),
-            Ok(Some(event)) => self.do_asked(rt, serving, event),
+            Ok(Some(event)) => self.ask_for(rt, serving, event),
             Err(code) => {
                 let number = asked.number;
                 let _told = eprintln!(rt; "fault line {number} {code}");
                 Ok(())
             }
         }
+    }
+
+    /// Does what a line asks for, unless it is refused.
+    fn ask_for<R: Host, C: BootCell, L: Log>(
+        &mut self,
+        rt: R,
+        serving: &mut Serving<C, L, Lanes>,
+        event: PartyEvent,
+    ) -> Result<(), ServeFault>
+        ensures done { OnOk result (
+            IsDoneUnless ⟦<PartyOf<C> as Actor>⟧ bank_texts L.seen
+            (IsSafeIn L.seen L.synced serving.old.syncs)
+            (refusal serving.old.me self.old (request_in serving.old.room) event) event
+            serving.old.room serving.new.room self.old self.new) }
+        ensures refused { IfErr result (λ fault.
+            IsEventLost ⟦<PartyOf<C> as Actor>⟧ bank_texts L.seen
+            (refusal serving.old.me self.old (request_in serving.old.room) event) event
+            serving.old.room serving.new.room fault) }
+        ensures stays { OnErr result (self.new ≡ self.old) }
+        ensures rest { IsElseAsItWas serving.old serving.new }
+    {
+        if let Some(why) = self.refusal(serving.me(), serving.request(), &event) {
+            return tell_refusal(rt, why);
+        }
+        self.do_asked(rt, serving, event)
     }
 
     /// Does what was asked for, and tells how it came out.
@@ -413,36 +449,19 @@ impl TerminalDesk {
             (IsSafeIn L.seen L.synced serving.old.syncs) event
             serving.old.room serving.new.room self.old self.new) }
         ensures refused { IfErr result (λ fault.
-            IsUndone ⟦<PartyOf<C> as Actor>⟧ bank_texts L.seen event
+            IsUnserved ⟦<PartyOf<C> as Actor>⟧ bank_texts L.seen event
             serving.old.room serving.new.room fault) }
         ensures stays { OnErr result (self.new ≡ self.old) }
         ensures rest { IsElseAsItWas serving.old serving.new }
     {
         serving.take_event(rt.alloc(), event)?;
         let letters = serving.flush(&rt, rt.alloc(), true)?;
-        self.tell_answer(rt);
-        self.waits = true;
-        self.tell_outcome(rt, serving.request(), last_told(letters.as_slice()));
+        let told = last_told(letters.as_slice());
+        tell_owed(rt, self.owes)?;
+        tell_outcome(rt, told)?;
+        self.owes = None;
+        self.waits = waits_told(serving.request(), told);
         Ok(())
-    }
-
-    /// Tells how what was asked for came out at a node, or that a client may not ask for it.
-    fn tell_outcome<R: Host>(&mut self, rt: R, request: Option<Request>, told: Told)
-        ensures { self.new ≡ record self.old { waits = waits_told request told self.old.waits } }
-    {
-        match told {
-            Told::Nothing => {}
-            Told::Done => {
-                let _told = println!(rt; "done");
-            }
-            Told::Refused(fault) => {
-                let _told = println!(rt; "refused {fault}");
-            }
-            Told::Misplaced => {
-                self.waits = awaits(request);
-                let _told = println!(rt; "refused");
-            }
-        }
     }
 
     /// Takes what came.
@@ -465,7 +484,7 @@ impl TerminalDesk {
             ≡ lanes_after item serving.old.out.all.items) }
     {
         match item {
-            Inbox::Frame(arrival) => self.take_frame(rt, serving, arrival),
+            Inbox::Frame(arrival, latest) => self.take_frame(rt, serving, arrival, latest),
             Inbox::Tick => self.tick(rt, serving),
             Inbox::Came(lane) => serving.out_mut().meets(lane),
             Inbox::Gone { peer, stream, .. } => {
@@ -511,13 +530,15 @@ impl TerminalDesk {
             (record { desk = self.old; room = serving.old.room })
             (record { desk = self.new; room = serving.new.room })) }
         ensures refused { IfErr result (λ fault. IsSome self.old.owes
-            × IsUnwritten serving.old.room fault × (serving.new.room ≡ None)) }
+            × IsNotPaid ⟦<PartyOf<C> as Actor>⟧ bank_texts L.seen
+            serving.old.room serving.new.room fault) }
         ensures stays { OnErr result (self.new ≡ self.old) }
         ensures rest { IsElseAsItWas serving.old serving.new }
     {
         if self.owes.is_some() {
             let _letters = serving.flush(&rt, rt.alloc(), true)?;
-            self.tell_answer(rt);
+            tell_owed(rt, self.owes)?;
+            self.owes = None;
         }
         Ok(())
     }
@@ -564,15 +585,29 @@ fn asks_next<C: BootCell, L: Log>(serving: &mut Serving<C, L, Lanes>, envelope: 
     }
 }
 
-/// Says how a client's last request stands.
-fn greet<R: Host>(rt: R, request: Option<Request>) {
+/// Says how a client's last request stands, where it made one.
+pub fn greet<R: Host>(rt: R, request: Option<Request>) -> Result<(), ServeFault>
+    ensures { IfErr result (λ fault. (fault ≡ Output) × IsSome request) }
+{
     let Some(Request { number, answer }) = request else {
-        return;
+        return Ok(());
     };
     if let Some(reply) = answer {
-        let _told = println!(rt; "last {number} {reply}");
+        printed(println!(rt; "last {number} {reply}"))
     } else if number > 0 {
-        let _told = println!(rt; "waits {number}");
+        printed(println!(rt; "waits {number}"))
+    } else {
+        Ok(())
+    }
+}
+
+/// How many requests of its own an actor made.
+fn made(request: Option<Request>) -> u32
+    ensures { result ≡ made request }
+{
+    match request {
+        Some(request) => request.number,
+        None => 0,
     }
 }
 
@@ -583,6 +618,56 @@ fn awaits(request: Option<Request>) -> bool
     match request {
         Some(request) => request.number > 0 && request.answer.is_none(),
         None => true,
+    }
+}
+
+/// Tells the answer that is owed, where one is. It is in the journal.
+fn tell_owed<R: Host>(rt: R, owes: Option<(u32, Reply)>) -> Result<(), ServeFault>
+    ensures refused { IfErr result (λ fault. (fault ≡ Output) × IsSome owes) }
+{
+    match owes {
+        Some((number, reply)) => printed(println!(rt; "{number} {reply}")),
+        None => Ok(()),
+    }
+}
+
+/// Tells how what was asked for came out at a node, or that a client may not ask for it.
+fn tell_outcome<R: Host>(rt: R, told: Told) -> Result<(), ServeFault>
+    ensures { IfErr result (λ fault. fault ≡ Output) }
+{
+    match told {
+        Told::Nothing => Ok(()),
+        Told::Done => printed(println!(rt; "done")),
+        Told::Refused(fault) => printed(println!(rt; "refused {fault}")),
+        Told::Misplaced => printed(println!(rt; "refused")),
+    }
+}
+
+/// Tells why this is not asked for.
+fn tell_refusal<R: Host>(rt: R, why: TerminalWhy) -> Result<(), ServeFault>
+    ensures { IfErr result (λ fault. fault ≡ Output) }
+{
+    printed(println!(rt; "refused {why}"))
+}
+
+/// What could not be printed is a fault.
+fn printed(told: io::Result<()>) -> Result<(), ServeFault>
+    ensures told { IsOk result ↔ IsOk told }
+    ensures refused { IfErr result (λ fault. fault ≡ Output) }
+{
+    match told {
+        Ok(()) => Ok(()),
+        Err(_) => Err(ServeFault::Output),
+    }
+}
+
+/// Whether an answer is awaited once that was told: of a client that may not ask, what was before.
+fn waits_told(request: Option<Request>, told: Told) -> bool
+    ensures { result ≡ waits_told request told true }
+{
+    match told {
+        Told::Misplaced => awaits(request),
+        _ => true,
     }
 }
 

@@ -103,8 +103,9 @@ fn hold<R: Wires>(
         return Err(io::Error::from(ErrorKind::OutOfMemory));
     };
     let read = *link;
+    let ended = outgoing.ended()?;
     let reader = thread::spawn(&rt, move || {
-        read_all(rt, theirs, number, read, Intake::new(alloc), told)
+        read_all(rt, theirs, number, read, Intake::new(alloc), told, ended)
     });
     if reader.is_err() {
         return Err(io::Error::from(ErrorKind::OutOfMemory));

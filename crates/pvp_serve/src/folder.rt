@@ -1,6 +1,7 @@
 //! The folder of an actor: who serves it, what stands there, and how far that can be trusted.
 ghost use Rattle.std.specs.Prelude.{◌≡◌, ◌++◌, IfOk, IfErr, codes, string_bytes};
 ghost use Rattle.pvp_places.specs.declared.serving.ServeFault.TheVariants.{NoMemory};
+ghost use Rattle.pvp_serve.specs.Opening.{marked_by, may_begin, may_serve};
 
 use crate::host::Host;
 use pvp_places::{FolderWhy, Mark, Paper, ServeFault, read_mark};
@@ -162,13 +163,68 @@ pub fn is_whole<R: Host>(rt: R, folder: &str) -> Result<bool, ServeFault> {
 }
 
 /// Marks a folder for what is written from now on.
-pub fn put_mark<R: Host>(rt: R, folder: &str, syncs: bool) -> Result<(), ServeFault> {
+pub fn mark_written<R: Host>(rt: R, folder: &str, syncs: bool) -> Result<(), ServeFault> {
     let run = run_of_machine(rt);
-    let mark = if syncs {
-        Mark::Synced
+    if syncs {
+        put_mark(rt, folder, Mark::Synced)
     } else {
-        Mark::Written(run.as_slice())
-    };
+        put_mark(rt, folder, Mark::Written(run.as_slice()))
+    }
+}
+
+/// Puts a mark into a folder.
+pub fn put_mark<R: Host>(rt: R, folder: &str, mark: Mark<'_>) -> Result<(), ServeFault> {
     let text = mark.text(rt.alloc())?;
     put_in(rt, folder, "mark", text.as_slice())
+}
+
+/// What the mark of a folder says of its actor.
+#[derive(Clone, Copy, Debug)]
+pub enum Marked {
+    /// There is no mark.
+    Never,
+    /// The actor is being begun.
+    Begun,
+    /// It was begun, and may have been served.
+    Served,
+}
+
+/// What the mark of a folder says of its actor.
+pub fn mark_in<R: Host>(rt: R, folder: &str) -> Result<Marked, ServeFault> {
+    match read_in(rt, folder, "mark")? {
+        None => Ok(Marked::Never),
+        Some(text) => Ok(marked_by(text.as_slice())),
+    }
+}
+
+fn marked_by(text: &[u8]) -> Marked
+    ensures { result ≡ marked_by text.now }
+{
+    if text == b"begun\n".as_slice() {
+        Marked::Begun
+    } else {
+        Marked::Served
+    }
+}
+
+/// Whether an actor may be begun in a folder of such a mark, where some of its files stand or none: nothing stands there, or
+/// it was begun before and cut off.
+pub fn may_begin(mark: Marked, has_files: bool) -> bool
+    ensures { result ≡ may_begin mark has_files }
+{
+    match mark {
+        Marked::Never => !has_files,
+        Marked::Begun => true,
+        Marked::Served => false,
+    }
+}
+
+/// Whether an actor can be served from such a folder.
+pub fn may_serve(mark: Marked, has_files: bool) -> bool
+    ensures { result ≡ may_serve mark has_files }
+{
+    match mark {
+        Marked::Begun => false,
+        _ => has_files,
+    }
 }

@@ -8,9 +8,9 @@ use std::sync::Wait;
 /// What the loop takes, one after another.
 #[derive(Drop)]
 pub enum Inbox {
-    /// An envelope that came over a link.
-    Frame(Arrival),
-    /// This site serves its view; to a client it says that its request found no room.
+    /// An envelope that came over a link, and up to which clock a client or a node was believed then.
+    Frame(Arrival, u64),
+    /// This site serves its view; to a client or a node it says that the log is full.
     Ping(u16),
     /// A stream between this actor and another stands, and frames can be sent over it.
     Came(Lane),

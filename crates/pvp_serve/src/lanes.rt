@@ -1,6 +1,9 @@
 //! Frames on their way to the streams of an actor.
 ghost use Rattle.std.specs.Prelude.{
   ◌≡◌,
+  ◌+◌,
+  ◌-◌,
+  ◌^◌,
   [],
   ◌∷◌,
   None,
@@ -9,6 +12,8 @@ ghost use Rattle.std.specs.Prelude.{
   OnOk,
   OnErr,
   is_some,
+  length,
+  min,
   option_copied,
 };
 ghost use Rattle.std.specs.List.{list_any};
@@ -32,12 +37,19 @@ use pvp_peers::Outbox;
 use pvp_places::ServeFault;
 use pvp_wire::{Stamp, Stamped, encode, wireable};
 use std::alloc::{AllocError, Global};
-use std::sync::atomic::{AtomicU64, Ordering};
+use std::sync::atomic::{AtomicBool, AtomicU64, Ordering};
 use std::sync::{Arc, Wait};
 use vr_types::{ActorId, Envelope};
 
 /// How many bytes may wait for a stream before further frames are lost.
 const MOST_WAITING: u64 = 1 << 24;
+
+/// How much a frame that waits counts: its bytes, and what a ping takes too.
+fn weight(frame: &[u8]) -> u64
+    ensures { result ≡ min (length frame.now + 32) (2 ^ 64 - 1) }
+{
+    (frame.len() as u64).saturating_add(32)
+}
 
 /// The way to one stream, as the loop has it. Once it is let go the stream ends.
 #[derive(Drop)]
@@ -54,6 +66,8 @@ pub struct Lane {
 pub struct Outgoing {
     from: Receiver<Vec<u8>>,
     waiting: Arc<AtomicU64, Global>,
+    /// Whether the lane was let go, which the stream's reader looks at.
+    ended: Arc<AtomicBool, Global>,
 }
 
 /// A lane to a peer, and its other end.
@@ -75,6 +89,7 @@ pub fn lane_to(alloc: Global, peer: u16, stream: u64) -> Result<(Lane, Outgoing)
         Outgoing {
             from,
             waiting: theirs,
+            ended: Arc::new(alloc, AtomicBool::new(false))?,
         },
     ))
 }
@@ -96,7 +111,7 @@ impl Lane {
 
     /// Hands a frame to the stream; an empty one is a ping. Where too much waits, or memory is refused, it is lost.
     fn send<T: Wait>(&self, rt: &T, frame: Vec<u8>) {
-        let size = frame.len() as u64;
+        let size = weight(&frame);
         if self.waiting.load(Ordering::SeqCst) >= MOST_WAITING {
             return;
         }
@@ -211,10 +226,19 @@ impl Lanes {
         }
     }
 
-    /// Says to an actor, where a stream stands to it, that its request found no room, which is no event.
+    /// Says to an actor, where a stream stands to it, that the log is full, which is no event.
     pub fn ping<T: Wait>(&self, rt: &T, alloc: Global, peer: u16) {
         if let Some(lane) = self.lane(peer) {
             lane.send(rt, Vec::new(alloc));
+        }
+    }
+
+    /// Says to all clients and nodes to which a stream stands that the log is full, which is no event.
+    pub fn ping_others<T: Wait>(&self, rt: &T, alloc: Global) {
+        for lane in self.all.as_slice() {
+            if let ActorId::Client(_) | ActorId::Node(_) = ActorId::of(lane.peer) {
+                lane.send(rt, Vec::new(alloc));
+            }
         }
     }
 
@@ -292,8 +316,18 @@ impl Outgoing {
         }
     }
 
+    /// Where the stream's reader sees that the lane was let go.
+    pub fn ended(&self) -> Result<Arc<AtomicBool, Global>, AllocError> {
+        Arc::try_clone(&self.ended)
+    }
+
+    /// The lane was let go, or a write failed.
+    pub fn ends(&self) {
+        self.ended.store(true, Ordering::SeqCst);
+    }
+
     fn release_frame(&self, frame: Vec<u8>) -> Vec<u8> {
-        self.waiting.fetch_sub(frame.len() as u64, Ordering::SeqCst);
+        self.waiting.fetch_sub(weight(&frame), Ordering::SeqCst);
         frame
     }
 }

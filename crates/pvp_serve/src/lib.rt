@@ -2,6 +2,7 @@
 //! terminal, writes that into its journal, and only then sends what came of it.
 #![tactic(auto)]
 
+pub mod admission;
 pub mod attending;
 pub mod desk;
 pub mod dialing;
@@ -9,15 +10,18 @@ pub mod folder;
 pub mod host;
 pub mod inbox;
 pub mod lanes;
+pub mod laws;
 pub mod listening;
 pub mod opening;
 pub mod patience;
 pub mod process;
+pub mod reading;
 pub mod serving;
+pub mod sifting;
 pub mod site;
 pub mod streams;
 pub mod telling;
 pub mod ticking;
 
 pub use host::Host;
-pub use process::serve;
+pub use process::{begin, serve};

@@ -160,15 +160,16 @@ fn welcome<R: Wires>(
             let _closed = stream.shutdown(Shutdown::Both);
             Err(why)
         }
-        Ok(link) => {
+        Ok((link, ended)) => {
             is_known.store(true, Ordering::SeqCst);
-            read_all(rt, stream, number, link, intake, inbox);
+            read_all(rt, stream, number, link, intake, inbox, ended);
             Ok(())
         }
     }
 }
 
-/// Hears who speaks, has the loop know of the stream, and has a thread write it.
+/// Hears who speaks, has the loop know of the stream, and has a thread write it. Answers the link, and where its reader sees that
+/// another stream has taken the place of this one.
 fn attend<R: Wires>(
     rt: R,
     stream: &mut TcpStream,
@@ -176,8 +177,8 @@ fn attend<R: Wires>(
     intake: &mut Intake,
     door: &Door,
     inbox: &Sender<Inbox>,
-) -> Result<Link, LinkFault>
-    ensures { IfOk result (λ link. IsLetIn door.now link intake.new) }
+) -> Result<(Link, Arc<AtomicBool, Global>), LinkFault>
+    ensures { IfOk result (λ heard. IsLetIn door.now heard.0 intake.new) }
 {
     let wait = Some(Duration::from_secs(HELLO_SECONDS));
     if stream.set_read_timeout(wait).is_err() {
@@ -192,8 +193,11 @@ fn attend<R: Wires>(
     let Some(outgoing) = announce(rt, inbox, link.peer(), number) else {
         return Err(LinkFault::NoMemory);
     };
+    let Ok(ended) = outgoing.ended() else {
+        return Err(LinkFault::NoMemory);
+    };
     match thread::spawn(&rt, move || write_all(rt, theirs, link, outgoing)) {
-        Ok(_thread) => Ok(link),
+        Ok(_thread) => Ok((link, ended)),
         Err(_) => Err(LinkFault::NoMemory),
     }
 }

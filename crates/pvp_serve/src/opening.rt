@@ -9,27 +9,36 @@ ghost use Rattle.pvp_serve.specs.Serving.{log_told};
 ghost use Rattle.pvp_serve.specs.Opening.{
   IsDamaged,
   IsUntorn,
+  begins_so,
   came_again,
   came_back,
+  cell_stands,
   journal_told,
   kept_of,
+  may_begin,
+  may_serve,
   restart_told,
+  serves_so,
   wrong_in,
 };
 
-use crate::folder::{is_whole, open_journal, put_in, put_mark, read_in};
+use crate::folder::{
+    Marked, is_whole, mark_in, mark_written, may_begin, may_serve, open_journal, put_in, put_mark,
+    read_in,
+};
 use crate::host::Host;
 use crate::lanes::Lanes;
+use crate::reading::Reading;
 use crate::serving::Serving;
-use pvp_cell::{DirStore, FileCell, OpenFault, read_cell};
+use pvp_cell::{DirStore, FileCell, OpenFault, create_cell, read_cell, settle_cell};
 use pvp_evidence::{EvidenceWhy, ShelfFault};
 use pvp_journal::{Entry, Head, Journal, JournalFault, JournalWhy, Left, read_journal, write_head};
 use pvp_logs::{
-    FileLog, JournalRoom, Journaled, Log, LogFault, Replayed, RestartFault, WayBack, come_back,
-    replay, restart, way_back,
+    FileLog, JournalRoom, Journaled, Log, LogFault, Pace, Replayed, RestartFault, WayBack,
+    come_back, replay, restart, way_back,
 };
 use pvp_parties::{Party, PartyOf};
-use pvp_places::{FolderWhy, ServeFault};
+use pvp_places::{FolderWhy, Mark, ServeFault};
 use pvp_rooms::Actor;
 use pvp_types::Setup;
 use std::alloc::{AllocError, Global};
@@ -76,27 +85,95 @@ impl<'a> Place<'a> {
     }
 }
 
-/// The room of a site: as its journal left it, or by a crash and a restart where that may not be whole; a new one where
-/// the site was never there.
+/// Begins the actor of a place, once in its life: leaves in its folder what it is served from, synced. The mark says that it
+/// is being begun until all stands there, so where this was cut off it can be said again. `Err` with X9 where an actor was begun
+/// there before.
+pub fn begin<R: Host>(rt: R, place: &Place<'_>) -> Result<(), ServeFault> {
+    let has_files = has_cell(rt, place)? || read_in(rt, place.folder, "journal")?.is_some();
+    require_unbegun(mark_in(rt, place.folder)?, has_files)?;
+    put_mark(rt, place.folder, Mark::Begun)?;
+    let opening = match ActorId::of(place.me) {
+        ActorId::Site(_) => Some(new_cell(rt, place)?),
+        _ => None,
+    };
+    let (_size, _sum) = put_head(rt, place, opening)?;
+    put_mark(rt, place.folder, Mark::Synced)
+}
+
+/// The boot cell of a site that is being begun, on its disk.
+fn new_cell<R: Host>(rt: R, place: &Place<'_>) -> Result<Boot, ServeFault> {
+    let alloc = rt.alloc();
+    let mut store = DirStore::new(rt, alloc, place.folder)?;
+    match settle_cell(alloc, &mut store) {
+        Err(OpenFault::Lost) => create_cell(alloc, &mut store)?,
+        Err(fault) => return Err(fault.into()),
+        Ok(boot) => return Ok(boot),
+    }
+    Ok(Boot::new())
+}
+
+/// Whether a folder has a boot cell.
+fn has_cell<R: Host>(rt: R, place: &Place<'_>) -> Result<bool, ServeFault> {
+    let mut store = DirStore::new(rt, rt.alloc(), place.folder)?;
+    stands(read_cell(rt.alloc(), &mut store))
+}
+
+/// Whether a boot cell stands that was read so, whole or damaged.
+fn stands(read: Result<Boot, OpenFault>) -> Result<bool, ServeFault>
+    ensures { result ≡ cell_stands read }
+{
+    match read {
+        Err(OpenFault::Lost) => Ok(false),
+        Err(OpenFault::Store) => Err(ServeFault::Cell(OpenFault::Store)),
+        Err(OpenFault::NoMemory) => Err(ServeFault::NoMemory),
+        _ => Ok(true),
+    }
+}
+
+/// Nothing, where an actor may be begun in a folder of such a mark, with files or without; else `Err` with X9.
+fn require_unbegun(mark: Marked, has_files: bool) -> Result<(), ServeFault>
+    ensures { result ≡ begins_so (may_begin mark has_files) }
+{
+    if may_begin(mark, has_files) {
+        Ok(())
+    } else {
+        Err(ServeFault::Folder(FolderWhy::Begun))
+    }
+}
+
+/// Nothing, where an actor may be served from such a folder; else `Err` with X8.
+fn require_begun(mark: Marked, has_files: bool) -> Result<(), ServeFault>
+    ensures { result ≡ serves_so (may_serve mark has_files) }
+{
+    if may_serve(mark, has_files) {
+        Ok(())
+    } else {
+        Err(ServeFault::Folder(FolderWhy::Unbegun))
+    }
+}
+
+/// The room of a site: as its journal left it, or by a crash and a restart where that may not be whole.
 pub fn open_site<R: Host>(
     rt: R,
     place: &Place<'_>,
     site: u16,
 ) -> Result<Room<SiteCell<R>>, ServeFault> {
+    let journal = read_in(rt, place.folder, "journal")?;
+    let has_files = journal.is_some() || has_cell(rt, place)?;
+    require_begun(mark_in(rt, place.folder)?, has_files)?;
     let store = DirStore::new(rt, rt.alloc(), place.folder)?;
-    match read_in(rt, place.folder, "journal")? {
-        None => open_new(rt, place, site, store),
+    match journal {
+        None => open_forgetful(rt, place, site, store),
         Some(bytes) => open_again(rt, place, bytes, store),
     }
 }
 
-/// The room of a node or of a client, as its journal left it; a new one where there is none.
+/// The room of a node or of a client, as its journal left it.
 pub fn open_other<R: Host>(rt: R, place: &Place<'_>) -> Result<Room<MemCell>, ServeFault> {
-    match read_in(rt, place.folder, "journal")? {
-        None => {
-            let (log, sum) = begin(rt, place, None)?;
-            new_other(rt.alloc(), place, log, sum)
-        }
+    let journal = read_in(rt, place.folder, "journal")?;
+    require_begun(mark_in(rt, place.folder)?, journal.is_some())?;
+    match journal {
+        None => Err(ServeFault::Folder(FolderWhy::Unbegun)),
         Some(bytes) => open_same(rt, place, bytes),
     }
 }
@@ -127,7 +204,7 @@ fn mark_room<R: Host, A: Journaled, L: Log>(
     requires { IsTrue place.now.syncs → OutlivesAll (L.seen room.log) (L.synced room.log) }
     ensures { IfOk result (λ marked. marked ≡ room) }
 {
-    match put_mark(rt, place.folder, place.syncs) {
+    match mark_written(rt, place.folder, place.syncs) {
         Ok(()) => Ok(room),
         Err(fault) => Err(fault),
     }
@@ -154,33 +231,6 @@ fn fault_of(fault: RestartFault) -> ServeFault
     }
 }
 
-/// The room of a site that has no journal. One that has a cell was there before.
-fn open_new<R: Host>(
-    rt: R,
-    place: &Place<'_>,
-    site: u16,
-    store: DirStore<R>,
-) -> Result<Room<SiteCell<R>>, ServeFault> {
-    let mut store = store;
-    match read_cell(rt.alloc(), &mut store) {
-        Err(OpenFault::Lost) => open_first(rt, place, site, store),
-        _ => open_forgetful(rt, place, site, store),
-    }
-}
-
-/// The room of a site that was never there. Its cell is made before its journal.
-fn open_first<R: Host>(
-    rt: R,
-    place: &Place<'_>,
-    site: u16,
-    store: DirStore<R>,
-) -> Result<Room<SiteCell<R>>, ServeFault> {
-    let alloc = rt.alloc();
-    let cell = FileCell::create(alloc, store)?;
-    let (log, sum) = begin(rt, place, Some(cell.load()))?;
-    new_site(alloc, place, site, cell, log, sum)
-}
-
 /// The room of a site that has a cell and no journal: it has forgotten what it told, and restarts.
 fn open_forgetful<R: Host>(
     rt: R,
@@ -191,7 +241,7 @@ fn open_forgetful<R: Host>(
     let alloc = rt.alloc();
     let cell = FileCell::open(alloc, store)?;
     let boot = cell.load();
-    let (log, sum) = begin(rt, place, Some(boot))?;
+    let (log, sum) = begin_journal(rt, place, Some(boot))?;
     match new_site(alloc, place, site, MemCell::of(boot), log, sum) {
         Ok(room) => restart_result(restart(alloc, room, cell, WayBack::Restarts)),
         Err(fault) => Err(fault),
@@ -275,17 +325,6 @@ fn new_site<C: BootCell>(
     Ok(JournalRoom::new(alloc, place.me, opening, party, log, sum))
 }
 
-/// The room of a node or a client, at a new journal.
-fn new_other(
-    alloc: Global,
-    place: &Place<'_>,
-    log: FileLog<File>,
-    sum: u64,
-) -> Result<Room<MemCell>, ServeFault> {
-    let party = other_party(alloc, place)?;
-    Ok(JournalRoom::new(alloc, place.me, None, party, log, sum))
-}
-
 /// The site of this number, over a cell.
 fn site_party<C: BootCell>(
     alloc: Global,
@@ -316,13 +355,25 @@ fn other_party(alloc: Global, place: &Place<'_>) -> Result<Party, ServeFault>
     }
 }
 
-/// Begins a journal of an actor that opens over this, and answers its log and its checksum. The mark goes before the journal:
-/// so a journal that a kill leaves here can be trusted, and an actor whose start was killed starts again.
-fn begin<R: Host>(
+/// Begins a journal of an actor that opens over this, and answers its log and its checksum. The mark goes before the journal,
+/// so a journal that a kill leaves here can be trusted.
+fn begin_journal<R: Host>(
     rt: R,
     place: &Place<'_>,
     opening: Option<Boot>,
 ) -> Result<(FileLog<File>, u64), ServeFault> {
+    mark_written(rt, place.folder, place.syncs)?;
+    let (size, sum) = put_head(rt, place, opening)?;
+    let file = open_journal(rt, place.folder, size)?;
+    Ok((FileLog::new(file), sum))
+}
+
+/// Puts the journal of an actor there that opens over this and took nothing, and answers its size and its checksum.
+fn put_head<R: Host>(
+    rt: R,
+    place: &Place<'_>,
+    opening: Option<Boot>,
+) -> Result<(usize, u64), ServeFault> {
     let alloc = rt.alloc();
     let head = Head {
         actor: place.me,
@@ -331,10 +382,8 @@ fn begin<R: Host>(
     };
     let mut bytes = Vec::new(alloc);
     let sum = write_head(alloc, &head, &mut bytes)?;
-    put_mark(rt, place.folder, place.syncs)?;
     put_in(rt, place.folder, "journal", bytes.as_slice())?;
-    let file = open_journal(rt, place.folder, bytes.len())?;
-    Ok((FileLog::new(file), sum))
+    Ok((bytes.len(), sum))
 }
 
 /// The bytes of a journal without the record that was cut off at their end.
@@ -432,33 +481,36 @@ fn again_at<R: Host>(
     requires whole { journal.now.left ≡ Nothing }
 {
     let file = open_journal(rt, place.folder, bytes.len())?;
-    match again_of(rt.alloc(), place, journal) {
+    let mut reading = Reading::new(rt, bytes.len());
+    match again_of(rt.alloc(), place, journal, &mut reading) {
         Ok(again) => Ok(come_back(rt.alloc(), bytes, journal, again, FileLog::new(file))),
         Err(fault) => Err(fault),
     }
 }
 
 /// The actor of a place after the history of its journal.
-fn again_of(
+fn again_of<P: Pace>(
     alloc: Global,
     place: &Place<'_>,
     journal: &Journal,
+    pace: &mut P,
 ) -> Result<Replayed<Party>, ServeFault>
     ensures { IfOk result (λ again. IsAgain ⟦<Party as Actor>⟧ journal.now.head.opening again
         journal.now.history.items) }
 {
     let history = journal.history.as_slice();
     match journal.head.opening {
-        Some(boot) => site_again(alloc, place, boot, history),
-        None => other_again(alloc, place, history),
+        Some(boot) => site_again(alloc, place, boot, history, pace),
+        None => other_again(alloc, place, history, pace),
     }
 }
 
 /// The node or the client of a place after a history.
-fn other_again(
+fn other_again<P: Pace>(
     alloc: Global,
     place: &Place<'_>,
     history: &[Entry],
+    pace: &mut P,
 ) -> Result<Replayed<Party>, ServeFault>
     ensures { IfOk result (λ again. IsAgain ⟦<Party as Actor>⟧ None again history.now) }
 {
@@ -466,15 +518,16 @@ fn other_again(
         return Err(ServeFault::Other(EvidenceWhy::Stranger));
     }
     let party = other_party(alloc, place)?;
-    replay_result(replay(alloc, party, history))
+    replay_result(replay(alloc, party, history, pace))
 }
 
 /// The site of a place after a history.
-fn site_again(
+fn site_again<P: Pace>(
     alloc: Global,
     place: &Place<'_>,
     boot: Boot,
     history: &[Entry],
+    pace: &mut P,
 ) -> Result<Replayed<Party>, ServeFault>
     ensures { IfOk result (λ again. IsAgain ⟦<Party as Actor>⟧ (Some boot) again history.now) }
 {
@@ -482,7 +535,7 @@ fn site_again(
         return Err(ServeFault::Other(EvidenceWhy::Stranger));
     };
     let party = site_party(alloc, place, site, MemCell::of(boot))?;
-    replay_result(replay(alloc, party, history))
+    replay_result(replay(alloc, party, history, pace))
 }
 
 /// The actor that took its history again, or why it did not, as that is told.

@@ -6,14 +6,15 @@ ghost use Rattle.pvp_places.specs.Names.{actor_asked};
 ghost use Rattle.pvp_serve.specs.Doors.{IsKeyWith};
 
 use crate::attending::Desk;
-use crate::desk::TerminalDesk;
+use crate::desk::{TerminalDesk, greet};
 use crate::dialing::{Dialed, addresses_of, dial};
 use crate::folder::{read_paper, take_folder};
 use crate::host::{Host, Wires};
 use crate::inbox::Inbox;
 use crate::lanes::Lanes;
 use crate::listening::{Door, accept_all};
-use crate::opening::{Place, Process, Room, SiteCell, open_other, open_site, settle};
+use crate::opening::{self, Place, Process, Room, SiteCell, open_other, open_site, settle};
+use crate::patience::Patience;
 use crate::serving::Serving;
 use crate::site::SiteDesk;
 use crate::ticking::{read_lines, tick};
@@ -21,8 +22,8 @@ use crossbeam_channel::{Receiver, Sender, bounded};
 use pvp_evidence::bank_of;
 use pvp_intake::Link;
 use pvp_places::{
-    Address, FolderWhy, Keys, Order, Paper, Peers, ServeFault, Who, actor_asked, read_keys,
-    read_peers,
+    Address, Beginning, FolderWhy, Keys, Order, Paper, Peers, ServeFault, Who, actor_asked,
+    read_keys, read_peers,
 };
 use pvp_tags::hmac;
 use pvp_text::read_setup;
@@ -75,6 +76,22 @@ pub fn serve<R: Host, L: BufRead + Drop + Send + 'static>(
     let text = read_paper(rt, Paper::Setup, order.setup)?;
     let bank = bank_at(rt, order, text.as_slice())?;
     serve_bank(rt, terminal, order, &bank)
+}
+
+/// Begins one actor of a bank, once in its life: leaves in its folder what `serve` serves it from. `Err` with X9 where an actor
+/// was begun there before.
+pub fn begin<R: Host>(rt: R, beginning: &Beginning<'_>) -> Result<(), ServeFault> {
+    let text = read_paper(rt, Paper::Setup, beginning.setup)?;
+    let setup = read_setup(rt.alloc(), text.as_slice())?;
+    let life = match beginning.peers {
+        Some(name) => peers_of(rt, &setup, name)?.life,
+        None => Vec::new(rt.alloc()),
+    };
+    let id = bank_of(text.as_slice(), life_of(life.as_slice()));
+    let me = actor_of(&setup, beginning.who)?;
+    let _lock = take_folder(rt, beginning.data)?;
+    let place = Place::new(&setup, id, me, beginning.data, true);
+    opening::begin(rt, &place)
 }
 
 /// What the bank of a setup with this text is.
@@ -184,7 +201,8 @@ fn host_site<R: Host, L: BufRead + Drop + Send + 'static, C: BootCell>(
     let inbox = open_streams(rt, duty, site, sources)?;
     let Duty { order, bank, .. } = duty;
     let sites = 2 * bank.setup.faults() + 1;
-    let desk = SiteDesk::new(bank.setup.copy()?, sites, order.patience, order.stays);
+    let patience = Patience::new(order.patience, order.beat);
+    let desk = SiteDesk::new(bank.setup.copy()?, sites, patience, order.stays);
     let mut desk = Desk::Site(desk);
     attend_site(rt, &inbox, &mut desk, serving)
 }
@@ -298,7 +316,8 @@ fn host_other<R: Host, L: BufRead + Drop + Send + 'static, C: BootCell>(
 ) -> Result<(), ServeFault> {
     let inbox = dial_all(rt, duty, terminal, keys)?;
     let setup = duty.bank.setup.copy()?;
-    let desk = TerminalDesk::new(rt, setup, duty.order.stays, serving.request());
+    greet(rt, serving.request())?;
+    let desk = TerminalDesk::new(rt.alloc(), setup, duty.order.stays, serving.request());
     let mut desk = Desk::Terminal(desk);
     attend(rt, &inbox, &mut desk, serving)
 }
@@ -327,7 +346,9 @@ fn attend<R: Host, C: BootCell>(
         let Ok(first) = inbox.recv(&rt) else {
             break;
         };
-        let goes_on = take_batch(rt, inbox, first, desk, serving)?;
+        let batch = batch_behind(rt, inbox, first)?;
+        let batch = desk.sift(rt.alloc(), serving.nonce(), batch)?;
+        let goes_on = take_batch(rt, batch, desk, serving)?;
         let _letters = serving.flush(&rt, rt.alloc(), false)?;
         desk.tell(rt, serving.standing());
         if !goes_on {
@@ -337,22 +358,37 @@ fn attend<R: Host, C: BootCell>(
     Ok(())
 }
 
-/// Takes what waits, up to a batch. `false` where the desk is done.
-fn take_batch<R: Host, C: BootCell>(
+/// An item and what waits behind it, up to a batch. Ticks that waited behind other work count once.
+fn batch_behind<R: Host>(
     rt: R,
     inbox: &Receiver<Inbox>,
     first: Inbox,
-    desk: &mut Desk,
-    serving: &mut Process<C>,
-) -> Result<bool, ServeFault> {
-    if !desk.take(rt, serving, first)? {
-        return Ok(false);
-    }
+) -> Result<Vec<Inbox>, ServeFault> {
+    let mut has_tick = matches!(first, Inbox::Tick);
+    let mut batch = Vec::new(rt.alloc());
+    batch.push(first)?;
     for _ in 1..BATCH {
         let Ok(next) = inbox.try_recv(&rt) else {
             break;
         };
-        if !desk.take(rt, serving, next)? {
+        let is_tick = matches!(next, Inbox::Tick);
+        if !(is_tick && has_tick) {
+            batch.push(next)?;
+        }
+        has_tick |= is_tick;
+    }
+    Ok(batch)
+}
+
+/// Takes a batch. `false` where the desk is done.
+fn take_batch<R: Host, C: BootCell>(
+    rt: R,
+    batch: Vec<Inbox>,
+    desk: &mut Desk,
+    serving: &mut Process<C>,
+) -> Result<bool, ServeFault> {
+    for item in batch {
+        if !desk.take(rt, serving, item)? {
             return Ok(false);
         }
     }

@@ -33,15 +33,18 @@ ghost use Rattle.pvp_serve.specs.Serving.{
   is_far,
   leaves,
   lost_with,
+  nonce_in,
   own_input,
   puts_in,
   puts_of,
   request_in,
+  seen_in,
   sends,
   standing_in,
   waiting_in,
 };
 
+use crate::admission::Seen;
 use crate::opening::log_fault;
 use pvp_intake::Arrival;
 use pvp_logs::{JournalRoom, Journaled, Letter, Log, Posted};
@@ -50,14 +53,21 @@ use pvp_peers::{Outbox, Served};
 use pvp_places::ServeFault;
 use pvp_rooms::{Actor, Input};
 use pvp_types::Reply;
-use pvp_wire::Stamped;
+use pvp_wire::{Stamp, Stamped};
 use std::alloc::Global;
 use std::sync::Wait;
-use vr_types::{BootCell, Status};
+use vr_types::{ActorId, BootCell, Status};
 
-/// How far ahead of its own clock an actor believes a stamp: what is further is lost, so that nobody can spend the clocks
-/// of the whole bank with one frame.
-const HORIZON: u64 = 1 << 40;
+/// Below which clock a site is believed: far beyond what any actor comes to, and far from the end of clocks.
+const SITE_CLOCKS: u64 = 1 << 63;
+
+/// Frames that were lost since their clocks were not believed.
+#[derive(Clone, Copy, Debug)]
+pub struct Lost {
+    pub count: u64,
+    /// Who stamped the last of them.
+    pub last: Option<u16>,
+}
 
 /// The last request of a client.
 #[derive(Clone, Copy, Debug)]
@@ -85,8 +95,8 @@ pub struct Serving<C: BootCell, L: Log, O: Outbox + Drop> {
     /// It is gone once it could not be written.
     room: Option<JournalRoom<PartyOf<C>, L>>,
     out: O,
-    /// How many frames were lost since their clocks were too far ahead.
-    unbelieved: u64,
+    /// The frames that were lost since their clocks were not believed.
+    lost: Lost,
 }
 
 impl<C: BootCell, L: Log, O: Outbox + Drop> Serving<C, L, O> {
@@ -97,7 +107,7 @@ impl<C: BootCell, L: Log, O: Outbox + Drop> Serving<C, L, O> {
           syncs = syncs;
           room = Some room;
           out = out;
-          unbelieved = 0;
+          lost = record { count = 0; last = None };
         } }
     {
         Serving {
@@ -105,7 +115,10 @@ impl<C: BootCell, L: Log, O: Outbox + Drop> Serving<C, L, O> {
             syncs,
             room: Some(room),
             out,
-            unbelieved: 0,
+            lost: Lost {
+                count: 0,
+                last: None,
+            },
         }
     }
 
@@ -185,6 +198,37 @@ impl<C: BootCell, L: Log, O: Outbox + Drop> Serving<C, L, O> {
         }
     }
 
+    /// What the site that is served knows as a request of a client comes; `None` of another actor, or where the room is gone.
+    pub fn seen_of(&self, client: u16) -> Option<Seen>
+        ensures { result ≡ seen_in C.held client self.now.room }
+    {
+        let Some(PartyOf::Site(party)) = self.actor() else {
+            return None;
+        };
+        let site = party.replica();
+        let orders = match site.machine() {
+            Some(book) => book.open_count(),
+            None => 0,
+        };
+        Some(Seen {
+            log: site.log_len(),
+            done: site.done(),
+            newest: site.newest(client),
+            answered: site.answered(client),
+            orders,
+        })
+    }
+
+    /// How often the site was restarted that is served, by its cell; 0 of another actor, or where the room is gone.
+    pub fn nonce(&self) -> u32
+        ensures { result ≡ nonce_in C.held self.now.room }
+    {
+        match self.actor() {
+            Some(PartyOf::Site(party)) => party.held_boot().boots,
+            _ => 0,
+        }
+    }
+
     /// What waits for a flush, in order; nothing where the room is gone.
     pub fn waiting_letters(&self) -> &[Letter<PartyOutcome>]
         ensures { result.now ≡ waiting_in self.now.room }
@@ -195,26 +239,33 @@ impl<C: BootCell, L: Log, O: Outbox + Drop> Serving<C, L, O> {
         }
     }
 
-    /// How many frames were lost since their clocks were too far ahead.
-    pub fn unbelieved_count(&self) -> u64
-        ensures { result ≡ self.now.unbelieved }
+    /// The frames that were lost since their clocks were not believed.
+    pub fn lost(&self) -> Lost
+        ensures { result ≡ self.now.lost }
     {
-        self.unbelieved
+        self.lost
     }
 }
 
 impl<C: BootCell, L: Log, O: Outbox + Drop> Serving<C, L, O> {
-    /// Takes an envelope that came, with its stamp; one with a clock too far ahead is lost. What it sends waits for `flush`.
-    pub fn take_frame(&mut self, alloc: Global, arrival: Arrival) -> Result<(), ServeFault>
-        ensures comes { Comes ⟦<PartyOf<C> as Actor>⟧ bank_texts L.seen arrival.stamped
+    /// Takes an envelope that came, with its stamp, and sees to it that what it sends waits for `flush`. With a clock beyond what
+    /// is believed of who stamped it, it is lost: of a site below 2^63, of a client or a node up to this clock. So whoever
+    /// pushes the clocks of a bank gets no further than the time, and a site that heard of it is believed by all others.
+    pub fn take_frame(
+        &mut self,
+        alloc: Global,
+        arrival: Arrival,
+        latest: u64,
+    ) -> Result<(), ServeFault>
+        ensures comes { Comes ⟦<PartyOf<C> as Actor>⟧ bank_texts L.seen latest arrival.stamped
             self.old.room self.new.room result }
         ensures rest { self.new ≡ record self.old {
           room = self.new.room;
-          unbelieved = lost_with self.old.room arrival.stamped.stamp.clock self.old.unbelieved;
+          lost = lost_with latest arrival.stamped.stamp self.old.lost;
         } }
     {
         let Stamped { stamp, envelope } = arrival.into_stamped();
-        let is_far = self.counts(stamp.clock);
+        let is_far = self.counts(stamp, latest);
         let input = Input {
             event: PartyOf::<C>::deliver(envelope),
             stamp: Some(stamp),
@@ -222,16 +273,17 @@ impl<C: BootCell, L: Log, O: Outbox + Drop> Serving<C, L, O> {
         step_unless(is_far, &mut self.room, alloc, input)
     }
 
-    /// Whether a frame of this clock is lost, which is counted.
-    fn counts(&mut self, clock: u64) -> bool
-        ensures far { result ≡ is_far self.old.room clock }
+    /// Whether a frame of this stamp is lost since its clock is not believed, which is counted.
+    pub fn counts(&mut self, stamp: Stamp, latest: u64) -> bool
+        ensures far { result ≡ is_far latest stamp }
         ensures lost { self.new ≡ record self.old {
-          unbelieved = lost_with self.old.room clock self.old.unbelieved;
+          lost = lost_with latest stamp self.old.lost;
         } }
     {
-        let is_far = self.is_far(clock);
+        let is_far = is_far(latest, stamp);
         if is_far {
-            self.unbelieved = self.unbelieved.saturating_add(1);
+            self.lost.count = self.lost.count.saturating_add(1);
+            self.lost.last = Some(stamp.actor);
         }
         is_far
     }
@@ -245,16 +297,6 @@ impl<C: BootCell, L: Log, O: Outbox + Drop> Serving<C, L, O> {
         ensures rest { self.new ≡ record self.old { room = self.new.room } }
     {
         step_in(&mut self.room, alloc, Input { event, stamp: None })
-    }
-
-    /// Whether a clock is too far ahead of the actor's own to be believed.
-    fn is_far(&self, clock: u64) -> bool
-        ensures { result ≡ is_far self.now.room clock }
-    {
-        match &self.room {
-            Some(room) => clock > room.clock().saturating_add(HORIZON),
-            None => false,
-        }
     }
 
     /// Writes what was taken into the journal, has it synced where asked and where something leaves, and only then hands out
@@ -297,6 +339,16 @@ impl<C: BootCell, L: Log, O: Outbox + Drop> Serving<C, L, O> {
             let sent = PartyOf::<C>::sent_envelopes(&letter.outcome);
             self.out.put(rt, alloc, self.me, letter.clock, sent);
         }
+    }
+}
+
+/// Whether a stamp's clock is not believed, where clients and nodes are up to this one.
+fn is_far(latest: u64, stamp: Stamp) -> bool
+    ensures { result ≡ is_far latest stamp }
+{
+    match ActorId::of(stamp.actor) {
+        ActorId::Site(_) => stamp.clock >= SITE_CLOCKS,
+        _ => stamp.clock > latest,
     }
 }
 

@@ -1,18 +1,23 @@
 //! A stream between two actors: one thread reads it, another writes it.
-ghost use Rattle.std.specs.Prelude.{◌≡◌, ◌++◌, OnOk, OnErr};
+ghost use Rattle.std.specs.Prelude.{◌≡◌, ◌+◌, ◌++◌, None, Some, OnOk, OnErr, min, nat_lt, if◌then◌else◌};
 ghost use Rattle.pvp_intake.specs.Sealing.{sealed_text};
-ghost use Rattle.pvp_serve.specs.Lanes.{piece_text};
+ghost use Rattle.vr_types.specs.Actors.{id_of};
+ghost use Rattle.pvp_serve.specs.Lanes.{is_beyond, piece_text};
 
 use crate::host::Wires;
 use crate::inbox::{Inbox, tell};
 use crate::lanes::{Outgoing, lane_to};
+use crate::ticking::latest_clock;
 use crossbeam_channel::Sender;
 use pvp_intake::{Hearer, Intake, Link, Piece, hear_all, put_frame, put_ping};
-use std::alloc::AllocError;
+use std::alloc::{AllocError, Global};
 use std::io::{self, Write};
 use std::net::{Shutdown, TcpStream};
-use std::sync::Wait;
-use std::time::Duration;
+use std::sync::atomic::{AtomicBool, Ordering};
+use std::sync::{Arc, Wait};
+use std::thread;
+use std::time::{Clock, Duration, Instant};
+use vr_types::{ActorId, MsgOf};
 
 /// How many bytes go in one write, or a few more.
 const MOST_BYTES: usize = 65_536;
@@ -56,6 +61,7 @@ pub fn write_all<R: Wires>(rt: R, stream: TcpStream, link: Link, outgoing: Outgo
             break;
         }
     }
+    outgoing.ends();
     let _closed = stream.shutdown(Shutdown::Both);
 }
 
@@ -93,25 +99,113 @@ fn put(link: &Link, frame: &[u8], bytes: &mut Vec<u8>) -> Result<(), AllocError>
     }
 }
 
-/// Who hands what comes over a link to the loop.
-#[derive(Drop)]
-struct ToLoop<'a> {
-    peer: u16,
-    inbox: &'a Sender<Inbox>,
+/// How many pieces of a client or a node are handed on one after another before its stream rests: many more than any that waits
+/// for its answers sends. What it sends meanwhile waits in the system's buffers, so a flood takes no time from others.
+const MOST_PIECES: u32 = 96;
+
+/// How long it rests then, and how long it takes for the count to begin anew.
+const REST_MS: u64 = 15;
+
+/// How long it rests at first. By then one that has taken its place ends it, so that calling again and again gains nothing.
+const FIRST_REST_MS: u64 = 50;
+
+/// How many pieces of a stream were handed on since a time.
+#[derive(Clone, Copy)]
+struct Rate {
+    since: Option<Instant>,
+    count: u32,
 }
 
-/// Nothing more is wanted once the loop has ended, or where memory is refused.
-impl Hearer for ToLoop<'_> {
+impl Rate {
+    /// None was handed on.
+    fn new() -> Self
+        ensures { result ≡ record { since = None; count = 0 } }
+    {
+        Rate {
+            since: None,
+            count: 0,
+        }
+    }
+
+    /// A piece is handed on now, where the time in which they are counted is over or not. Answers whether that makes too many.
+    fn counts(&mut self, now: Instant, is_over: bool) -> bool
+        ensures since { self.new.since ≡ (if is_over then Some now else self.old.since) }
+        ensures count { self.new.count ≡ (if is_over then 1 else
+            min (self.old.count + 1) 4294967295) }
+        ensures many { result ≡ nat_lt MOST_PIECES self.new.count }
+    {
+        if is_over {
+            self.since = Some(now);
+            self.count = 0;
+        }
+        self.count = self.count.saturating_add(1);
+        self.count > MOST_PIECES
+    }
+
+    /// Whether the time in which pieces are counted is over.
+    fn is_over(&self, now: Instant) -> bool {
+        match self.since {
+            Some(since) => now.duration_since(since) >= Duration::from_millis(REST_MS),
+            None => true,
+        }
+    }
+}
+
+/// Who hands what comes over a link to the loop, with the time at which it came.
+#[derive(Drop)]
+struct ToLoop<'a, R: Clock + Drop> {
+    clock: R,
+    rate: Rate,
+    peer: u16,
+    inbox: &'a Sender<Inbox>,
+    /// Whether another stream of the peer has taken the place of this one.
+    ended: &'a AtomicBool,
+}
+
+impl<R: Clock + Drop> ToLoop<'_, R> {
+    /// A client's or a node's stream rests where too many pieces came of it one after another.
+    fn rests(&mut self) {
+        if let ActorId::Site(_) = ActorId::of(self.peer) {
+            return;
+        }
+        let Ok(now) = Instant::now(&self.clock) else {
+            return;
+        };
+        let is_over = self.rate.is_over(now);
+        if self.rate.counts(now, is_over) {
+            thread::sleep(&self.clock, Duration::from_millis(REST_MS));
+        }
+    }
+}
+
+/// Nothing more is wanted once the loop has ended, or where memory is refused, nor of a client or a node that says something
+/// else than a REQUEST, which may be long.
+impl<R: Clock + Drop> Hearer for ToLoop<'_, R> {
     /// Nothing is known of what has come through.
     ghost got = { λ to all. Unit {0} };
 
     fn hear<T: Wait>(&mut self, rt: &T, piece: Piece) -> bool {
+        if is_beyond(self.peer, &piece) || self.ended.load(Ordering::SeqCst) {
+            return false;
+        }
         let item = match piece {
             Piece::Ping => Inbox::Ping(self.peer),
-            Piece::Frame(arrival) => Inbox::Frame(arrival),
+            Piece::Frame(arrival) => Inbox::Frame(arrival, latest_clock(&self.clock)),
         };
+        self.rests();
         tell(rt, self.inbox, item)
     }
+}
+
+/// Whether a piece is none that an actor says to a site: a client or a node says REQUESTs alone. All else is said by sites.
+fn is_beyond(peer: u16, piece: &Piece) -> bool
+    ensures { result ≡ is_beyond (id_of peer) piece.now }
+{
+    let (ActorId::Client(_) | ActorId::Node(_), Piece::Frame(arrival)) = (ActorId::of(peer), piece)
+    else {
+        return false;
+    };
+    !matches!(&arrival.stamped_envelope().envelope.msg, MsgOf::Request(_))
 }
 
 /// Reads a stream to its end, or to what is none of its link's, and hands each frame and ping to the loop; then tells it that
@@ -123,12 +217,19 @@ pub fn read_all<R: Wires>(
     link: Link,
     intake: Intake,
     inbox: Sender<Inbox>,
+    ended: Arc<AtomicBool, Global>,
 ) {
     let mut stream = stream;
     let peer = link.peer();
+    if !matches!(ActorId::of(peer), ActorId::Site(_)) {
+        thread::sleep(&rt, Duration::from_millis(FIRST_REST_MS));
+    }
     let mut to_loop = ToLoop {
+        clock: rt,
+        rate: Rate::new(),
         peer,
         inbox: &inbox,
+        ended: &ended,
     };
     let end = hear_all(&rt, rt.alloc(), &link, intake, &mut stream, &mut to_loop);
     let _closed = stream.shutdown(Shutdown::Both);

@@ -1,5 +1,5 @@
 //! What a site tells its operator: on standard error where that is new, and on standard output where it is asked.
-ghost use Rattle.std.specs.Prelude.{◌≡◌};
+ghost use Rattle.std.specs.Prelude.{◌≡◌, length};
 ghost use Rattle.pvp_serve.specs.Telling.{
   ended_after,
   fresh_teller,
@@ -11,14 +11,15 @@ ghost use Rattle.pvp_serve.specs.Telling.{
   turned_away,
 };
 
+use crate::admission::is_full_at;
 use crate::host::Host;
 use crate::lanes::Lane;
-use crate::serving::Standing;
+use crate::serving::{Lost, Standing};
 use pvp_intake::{LinkEnd, LinkFault};
 use pvp_trace::names::push_actor;
 use pvp_types::Setup;
 use std::alloc::{AllocError, Global};
-use vr_types::{MAX_ROWS, Status};
+use vr_types::Status;
 
 /// At every which tick it tells what was turned away or lost since.
 const TELLING_TICKS: u32 = 100;
@@ -41,9 +42,17 @@ pub struct Teller {
     /// How many streams were turned away, and why the last.
     away: u64,
     why: Option<LinkFault>,
-    /// How many of them, and how many lost frames, were told.
-    told: (u64, u64),
+    /// What was told of them and of lost frames.
+    told: Tally,
     ticks: u32,
+}
+
+/// How many streams were turned away, and how many frames were lost as their clocks were far, and as too many came of one.
+#[derive(Clone, Copy, Debug, PartialEq, Eq)]
+struct Tally {
+    away: u64,
+    lost: u64,
+    flood: u64,
 }
 
 impl Teller {
@@ -57,7 +66,11 @@ impl Teller {
             ended: None,
             away: 0,
             why: None,
-            told: (0, 0),
+            told: Tally {
+                away: 0,
+                lost: 0,
+                flood: 0,
+            },
             ticks: 0,
         }
     }
@@ -83,37 +96,66 @@ impl Teller {
             return;
         }
         self.ended = Some((peer, why));
-        let mut name = String::new(rt.alloc());
-        let _named = push_actor(&mut name, &self.setup, peer);
+        let name = self.name_of(rt.alloc(), peer);
         let _told = eprintln!(rt; "stream of {} ends: {why}", name.as_str());
     }
 
     /// A tick goes by: now and then it tells how many streams were turned away, and how many frames were lost since their
-    /// clocks were too far ahead, where that is more than was told.
-    pub fn ticks<R: Host>(&mut self, rt: R, unbelieved: u64)
-        ensures { self.new ≡ told_after self.old unbelieved }
+    /// clocks were not believed or too many came of one, where that is more than was told; and how many were passed over by
+    /// then.
+    pub fn ticks<R: Host>(&mut self, rt: R, lost: Lost, flood: Lost, passed: u64)
+        ensures { self.new ≡ told_after self.old lost.count flood.count }
     {
-        let away = self.away;
-        if !self.is_to_tell(unbelieved) {
+        let (away, far, many) = (self.away, lost.count, flood.count);
+        if !self.is_to_tell(far, many) {
             self.ticks = self.ticks.saturating_add(1);
             return;
         }
         self.ticks = 0;
-        self.told = (away, unbelieved);
+        self.told = Tally {
+            away,
+            lost: far,
+            flood: many,
+        };
         let _told = eprintln!(rt;
-            "turned away {away} streams, lost {unbelieved} frames of far clocks"
+            "turned away {away} streams, lost {far} frames of far clocks and {many} in floods, passed over {passed}"
         );
         if let Some(why) = self.why {
             let _also = eprintln!(rt; "turned away the last: {why}");
         }
+        self.names(rt, "far clock", lost.last);
+        self.names(rt, "flood", flood.last);
+    }
+
+    /// Names whose the last frame was that was lost so.
+    fn names<R: Host>(&self, rt: R, what: &str, last: Option<u16>) {
+        if let Some(last) = last {
+            let name = self.name_of(rt.alloc(), last);
+            let _told = eprintln!(rt; "the last {what} was of {}", name.as_str());
+        }
+    }
+
+    /// The name of an actor, or as much of it as memory holds.
+    fn name_of(&self, alloc: Global, actor: u16) -> String {
+        let mut name = String::new(alloc);
+        let _named = push_actor(&mut name, &self.setup, actor);
+        name
     }
 
     /// Whether it is time to tell how many streams were turned away and how many frames were lost.
-    fn is_to_tell(&self, unbelieved: u64) -> bool
-        ensures { result ≡ is_to_tell self.now unbelieved }
+    fn is_to_tell(&self, lost: u64, flood: u64) -> bool
+        ensures { result ≡ is_to_tell self.now lost flood }
     {
-        self.ticks.saturating_add(1) >= TELLING_TICKS
-            && !(self.away == self.told.0 && unbelieved == self.told.1)
+        let Tally { away, .. } = self.told;
+        let is_told = self.away == away && lost == self.told.lost && flood == self.told.flood;
+        self.ticks.saturating_add(1) >= TELLING_TICKS && !is_told
+    }
+
+    /// How many members the bank has.
+    pub fn members(&self) -> usize
+        ensures { result ≡ length self.now.setup.members }
+    {
+        self.setup.members.len()
     }
 
     /// Tells where the site stands, where that is new.
@@ -174,7 +216,7 @@ fn stood_at(standing: Standing) -> Stood
     Stood {
         status: standing.status,
         view: standing.view,
-        is_full: standing.log >= MAX_ROWS,
+        is_full: is_full_at(standing.log),
     }
 }
 

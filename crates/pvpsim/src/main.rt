@@ -1,10 +1,10 @@
-//! `pvpsim`: runs scripts on a settlement bank and prints its books, and serves actors of a bank.
+//! `pvpsim`: runs scripts on a settlement bank and prints its books, and begins and serves actors of a bank.
 #![tactic(auto)]
 
 use pvp_command::{Disk, Piped, Served, command_on, no_words, served_by, tell_served};
 use pvp_evidence::DiskShelf;
-use pvp_places::ServeFault;
-use pvp_serve::serve;
+use pvp_places::{ServeFault, Task};
+use pvp_serve::{begin, serve};
 use std::io::BufReader;
 use std::process::ExitCode;
 use std::{env, io};
@@ -14,10 +14,13 @@ fn main(rt: HostRuntime) -> ExitCode {
         Ok(words) => words,
         Err(refusal) => return ExitCode::from(no_words(refusal.kind(), &mut rt.stderr())),
     };
-    if let Some(Served { order, explains }) = served_by(rt.alloc(), words.as_slice()) {
-        let told = match BufReader::new(rt.alloc(), rt.stdin()) {
-            Ok(terminal) => serve(rt, terminal, &order),
-            Err(_) => Err(ServeFault::NoMemory),
+    if let Some(Served { task, explains }) = served_by(rt.alloc(), words.as_slice()) {
+        let told = match task {
+            Task::Begin(beginning) => begin(rt, &beginning),
+            Task::Serve(order) => match BufReader::new(rt.alloc(), rt.stdin()) {
+                Ok(terminal) => serve(rt, terminal, &order),
+                Err(_) => Err(ServeFault::NoMemory),
+            },
         };
         return ExitCode::from(tell_served(told, explains, &mut rt.stderr()));
     }

@@ -1,9 +1,10 @@
-ghost use Rattle.std.specs.Prelude.{◌≡◌, ◌≢◌, ◌+◌, ◌-◌, ◌==◌, ◌&&◌, not, ◌⊎◌, [], List, All, IfOk, OnOk, IfErr, OnErr, IsOk, IsErrOf, Some, None, true, length, slice_get, IsSome, IfSome, ◌↔◌, if◌then◌else◌};
+ghost use Rattle.std.specs.Prelude.{◌≡◌, ◌≢◌, ◌+◌, ◌-◌, ◌==◌, ◌&&◌, not, ◌⊎◌, [], List, All, IfOk, OnOk, IfErr, OnErr, IsOk, IsErrOf, Some, None, true, length, slice_get, IsSome, IfSome, ◌↔◌, if◌then◌else◌, take};
 ghost use Rattle.vr_types.specs.declared.cell.Boot.{Boot};
 ghost use Rattle.vr_types.specs.declared.event.EventOf.{EventOf as AnyEvent};
 ghost use Rattle.vr_types.specs.Choice.{Choice, IsRight};
 ghost use Rattle.vr_types.specs.Handling.{machine_of};
 ghost use Rattle.vr_types.specs.Cell.{HasRisen, max_number};
+ghost use Rattle.vr_types.specs.Rows.{newest};
 ghost use Rattle.vr_types.specs.Site.{Ack, boot_of, is_down, is_recovering, is_running, no_boots, over};
 ghost use Rattle.vr_types.specs.Group.{is_mine as is_addressed};
 ghost use Rattle.vr_log.specs.declared.running.Running.{Running as AnyRunning};
@@ -477,6 +478,29 @@ impl<M: Machine, C: BootCell> Replica<M, C> {
         match &self.life {
             Life::Up(running) => running.kept.log.get(at),
             _ => None,
+        }
+    }
+
+    /// The number of a client's newest row, 0 for none.
+    pub fn newest(&self, client: u16) -> u32
+        ensures { result ≡ newest self.now.volatile.log client }
+    {
+        match &self.life {
+            Life::Up(running) => running.kept.clients.newest(client),
+            _ => 0,
+        }
+    }
+
+    /// The number of a client's newest row that is executed, 0 for none: it may be answered again.
+    pub fn answered(&self, client: u16) -> u32
+        ensures { result ≡ newest (take self.now.volatile.done self.now.volatile.log) client }
+    {
+        let Life::Up(running) = &self.life else {
+            return 0;
+        };
+        match running.kept.clients.reply(client) {
+            Some(last) => last.0,
+            None => 0,
         }
     }
 

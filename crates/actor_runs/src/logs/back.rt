@@ -10,8 +10,8 @@ use headline::{ClientEvent, ClientFault};
 use pvp_audit::Audited;
 use pvp_journal::{Entry, Head, Journal, Left, read_journal, write_head};
 use pvp_logs::{
-    JournalRoom, Journaled, Log, MemLog, Replayed, RestartFault, WayBack, come_back, replay,
-    restart, way_back,
+    JournalRoom, Journaled, Log, MemLog, Replayed, RestartFault, Untold, WayBack, come_back,
+    replay, restart, way_back,
 };
 use pvp_parties::{Party, PartyEvent, PartyOutcome};
 use pvp_rooms::{Actor, CameOf};
@@ -119,7 +119,7 @@ fn operator_again(alloc: Global, history: &[Entry]) -> Result<Replayed<Party>, F
     ensures { IfOk result (λ again. IsAgain ⟦<Party as Actor>⟧ None again history.now) }
 {
     let actor = Party::client(&three_currencies(alloc)?, 0)?;
-    match replay(alloc, actor, history)? {
+    match replay(alloc, actor, history, &mut Untold)? {
         Some(again) => Ok(again),
         None => Err(Fail::new("it cannot have come so")),
     }
@@ -130,7 +130,7 @@ fn site_again(alloc: Global, boot: Boot, history: &[Entry]) -> Result<Replayed<P
     ensures { IfOk result (λ again. IsAgain ⟦<Party as Actor>⟧ (Some boot) again history.now) }
 {
     let actor = Party::site(alloc, &three_currencies(alloc)?, 0, MemCell::of(boot))?;
-    match replay(alloc, actor, history)? {
+    match replay(alloc, actor, history, &mut Untold)? {
         Some(again) => Ok(again),
         None => Err(Fail::new("it cannot have come so")),
     }

@@ -3,7 +3,7 @@
 use crate::logs::rooms::{Operator, operator, settle, written};
 use fixtures::setup::three_currencies;
 use pvp_journal::{Entry, read_journal};
-use pvp_logs::{Replayed, replay};
+use pvp_logs::{Replayed, Untold, replay};
 use pvp_parties::{Party, PartyOutcome};
 use std::alloc::Global;
 use std::process::Abort;
@@ -52,7 +52,7 @@ fn clock_after(alloc: Global, clocks: u64, is_stray: bool) -> Result<Option<u64>
 /// The last clock of a history of the operator; `None` where it cannot have come so.
 fn again(alloc: Global, history: &[Entry]) -> Result<Option<u64>, Fail> {
     let actor = Party::client(&three_currencies(alloc)?, 0)?;
-    match replay(alloc, actor, history)? {
+    match replay(alloc, actor, history, &mut Untold)? {
         Some(again) => Ok(Some(clock_of(again))),
         None => Ok(None),
     }

@@ -20,8 +20,8 @@ returns-in_err-pay_answer-clause-refused g c =
       handles = c.in_ok-handle.ensures.handles;
       asks = rw c.handle.ensures.rest at c.in_ok-ask.ensures.asks;
       owes = c.in_err-pay_answer.ensures.refused.0;
-      unwritten = c.in_err-pay_answer.ensures.refused.1;
-      left = rw (c.in_err-pay_answer.ensures.stays, c.in_err-pay_answer.ensures.refused.2) refl;
+      lost = c.in_err-pay_answer.ensures.refused.1;
+      left = c.in_err-pay_answer.ensures.stays;
     })))
 
 pub returns-clause-takes : goal.returns-clause-takes

@@ -1,1 +1,0 @@
-"""Wrong bodies: their texts, how they are tried, and what was seen of them."""

@@ -1,3 +1,0 @@
-//! Tags by the vectors of RFC 4231.
-
-mod vectors;

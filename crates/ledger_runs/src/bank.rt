@@ -1,0 +1,7 @@
+//! The bank's book and its nodes, one site that keeps the book, and a run of the whole world. What else several sites do is told by
+//! plays of the built program.
+
+mod book;
+mod nodes;
+mod one_site;
+mod world;
