@@ -52,7 +52,7 @@ abbrev pub late_share : ℕ → ℕ
 late_share members = LATE_ROWS / (min members MOST_MEMBERS + 1)
 
 -- a request is within its sender's share of the rows before the reserve: a client numbers its rows from 1. The operator
--- (client 0) and the nodes are not limited
+-- (client 0) may take any of these rows, and a node any row
 abbrev pub is_early : ActorId → ℕ → Seen → ℕ → Bool
 is_early (Client client) members seen number =
     nat_lt seen.log (MAX_ROWS - RESERVE) && ((client == 0) || nat_le number (share_of members))
@@ -145,7 +145,7 @@ abbrev pub share_for : ℕ → Cmd → ℕ
 share_for members cmd = if lets_out cmd then share_of members + late_share members else share_of members
 
 -- a client has used up its shares behind so many requests, or its share of the reserve, where it was told that the log
--- is full as it had made so many
+-- is full as it had made so many. Of the reserve are the next request, those since then, and the one on its way then
 abbrev pub has_used_up : Option ℕ → ℕ → ℕ → Cmd → Bool
 has_used_up None members number cmd = nat_le (share_for members cmd) number
 has_used_up (Some full) members number cmd =

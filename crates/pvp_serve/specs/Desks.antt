@@ -54,8 +54,8 @@ use Rattle.pvp_serve.specs.declared.patience.Patience.{Patience}
 use Rattle.pvp_serve.specs.declared.patience.TheConstants.{TICKS_LEFT}
 use Rattle.pvp_serve.specs.declared.desk.TerminalDesk.{TerminalDesk}
 use Rattle.pvp_serve.specs.declared.serving.Serving.{Serving}
-use Rattle.pvp_serve.specs.declared.desk.Told.{Told}
-use Rattle.pvp_serve.specs.declared.desk.Told.TheVariants.{Nothing, Done, Refused, Misplaced}
+use Rattle.pvp_serve.specs.declared.answers.Told.{Told}
+use Rattle.pvp_serve.specs.declared.answers.Told.TheVariants.{Nothing, Done, Refused, Misplaced}
 use Rattle.pvp_serve.specs.declared.desk.TheConstants.{TELLING_TICKS}
 use Rattle.pvp_serve.specs.declared.serving.Lost.{Lost}
 use Rattle.pvp_serve.specs.declared.serving.Request.{Request}

@@ -268,7 +268,7 @@ fn rows_of(cmd: Cmd) -> usize
     }
 }
 
-/// How many clients share the log, of so many members.
+/// A client's share of the rows before the reserve, in a bank of so many members.
 fn share_of(members: usize) -> usize
     ensures { result ≡ share_of members }
 {

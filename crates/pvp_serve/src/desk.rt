@@ -1,17 +1,12 @@
-//! A node or a client that is served: what it is asked for at a terminal, and what it answers there.
+//! A node or a client that is served: what its loop keeps beside the actor, and what it does with what comes.
 ghost use Rattle.std.specs.Prelude.{
   ◌≡◌,
-  ◌≢◌,
   ◌⊎◌,
   true,
-  ◌+◌,
-  ◌++◌,
   ◌∷◌,
-  ◌↔◌,
   [],
   None,
   false,
-  codes,
   IfErr,
   IfNone,
   IfOk,
@@ -22,13 +17,11 @@ ghost use Rattle.std.specs.Prelude.{
   OnErr,
   OnOk,
 };
-ghost use Rattle.pvp_trace.specs.Names.{actor_text};
 ghost use Rattle.vr_types.specs.Actors.{id_of};
 ghost use Rattle.rtgs_node.specs.declared.event.NodeEvent.TheVariants as node_event;
 ghost use Rattle.headline.specs.declared.step.ClientEvent.TheVariants as client_event;
 ghost use Rattle.pvp_parties.specs.declared.party.PartyEvent.TheVariants.{OfClient, OfNode};
-ghost use Rattle.pvp_places.specs.declared.serving.ServeFault.TheVariants.{NoMemory, Output};
-ghost use Rattle.pvp_serve.specs.Patience.{up_to_most};
+ghost use Rattle.pvp_places.specs.declared.serving.ServeFault.TheVariants.{NoMemory};
 ghost use Rattle.pvp_logs.specs.Rooms.{bank_texts};
 ghost use Rattle.pvp_serve.specs.Desks.{
   BeatsClient,
@@ -36,8 +29,6 @@ ghost use Rattle.pvp_serve.specs.Desks.{
   IsElseAsAfter,
   IsElseAsItWas,
   after_hearing,
-  asked_by,
-  asked_of,
   awaits,
   comes_to_actor,
   event_of,
@@ -52,12 +43,9 @@ ghost use Rattle.pvp_serve.specs.Desks.{
   may_say_more,
   next_wait,
   refusal,
-  says_nothing,
-  script_of,
-  told_of,
   waits_told,
 };
-ghost use Rattle.pvp_serve.specs.Serving.{Comes, IsSafeIn, IsUnwritten, lost_with, request_in};
+ghost use Rattle.pvp_serve.specs.Serving.{Comes, IsSafeIn, lost_with, request_in};
 ghost use Rattle.pvp_serve.specs.Terminals.{
   AsksAll,
   AsksUntil,
@@ -84,9 +72,11 @@ ghost use Rattle.pvp_serve.specs.Terminals.{
 };
 
 use crate::admission::refusal_of;
+use crate::answers::{Told, last_told, tell_outcome, tell_owed, tell_refusal};
 use crate::host::Host;
 use crate::inbox::Inbox;
 use crate::lanes::Lanes;
+use crate::lines::event_of;
 use crate::serving::{Request, Serving};
 use headline::ClientEvent;
 use pvp_book::Book;
@@ -95,13 +85,10 @@ use pvp_logs::{Letter, Log};
 use pvp_parties::{PartyEvent, PartyOf, PartyOutcome};
 use pvp_places::{ServeFault, TerminalWhy};
 use pvp_rooms::Actor;
-use pvp_text::script::{Kind, LineCode, Statement, read_script};
-use pvp_trace::names::push_actor;
-use pvp_types::{Reply, Setup, Step};
-use rtgs_node::{NodeEvent, NodeFault};
-use std::alloc::{AllocError, Global};
+use pvp_types::{Reply, Setup};
+use rtgs_node::NodeEvent;
+use std::alloc::Global;
 use std::collections::VecDeque;
-use std::io;
 use vr_types::{ActorId, BootCell, Envelope, MsgOf};
 
 /// At every which tick a client that waits says so.
@@ -585,22 +572,6 @@ fn asks_next<C: BootCell, L: Log>(serving: &mut Serving<C, L, Lanes>, envelope: 
     }
 }
 
-/// Says how a client's last request stands, where it made one.
-pub fn greet<R: Host>(rt: R, request: Option<Request>) -> Result<(), ServeFault>
-    ensures { IfErr result (λ fault. (fault ≡ Output) × IsSome request) }
-{
-    let Some(Request { number, answer }) = request else {
-        return Ok(());
-    };
-    if let Some(reply) = answer {
-        printed(println!(rt; "last {number} {reply}"))
-    } else if number > 0 {
-        printed(println!(rt; "waits {number}"))
-    } else {
-        Ok(())
-    }
-}
-
 /// How many requests of its own an actor made.
 fn made(request: Option<Request>) -> u32
     ensures { result ≡ made request }
@@ -621,46 +592,6 @@ fn awaits(request: Option<Request>) -> bool
     }
 }
 
-/// Tells the answer that is owed, where one is. It is in the journal.
-fn tell_owed<R: Host>(rt: R, owes: Option<(u32, Reply)>) -> Result<(), ServeFault>
-    ensures refused { IfErr result (λ fault. (fault ≡ Output) × IsSome owes) }
-{
-    match owes {
-        Some((number, reply)) => printed(println!(rt; "{number} {reply}")),
-        None => Ok(()),
-    }
-}
-
-/// Tells how what was asked for came out at a node, or that a client may not ask for it.
-fn tell_outcome<R: Host>(rt: R, told: Told) -> Result<(), ServeFault>
-    ensures { IfErr result (λ fault. fault ≡ Output) }
-{
-    match told {
-        Told::Nothing => Ok(()),
-        Told::Done => printed(println!(rt; "done")),
-        Told::Refused(fault) => printed(println!(rt; "refused {fault}")),
-        Told::Misplaced => printed(println!(rt; "refused")),
-    }
-}
-
-/// Tells why this is not asked for.
-fn tell_refusal<R: Host>(rt: R, why: TerminalWhy) -> Result<(), ServeFault>
-    ensures { IfErr result (λ fault. fault ≡ Output) }
-{
-    printed(println!(rt; "refused {why}"))
-}
-
-/// What could not be printed is a fault.
-fn printed(told: io::Result<()>) -> Result<(), ServeFault>
-    ensures told { IsOk result ↔ IsOk told }
-    ensures refused { IfErr result (λ fault. fault ≡ Output) }
-{
-    match told {
-        Ok(()) => Ok(()),
-        Err(_) => Err(ServeFault::Output),
-    }
-}
-
 /// Whether an answer is awaited once that was told: of a client that may not ask, what was before.
 fn waits_told(request: Option<Request>, told: Told) -> bool
     ensures { result ≡ waits_told request told true }
@@ -668,38 +599,6 @@ fn waits_told(request: Option<Request>, told: Told) -> bool
     match told {
         Told::Misplaced => awaits(request),
         _ => true,
-    }
-}
-
-/// How what was asked for came out, as the terminal is told.
-#[derive(Clone, Copy, Debug)]
-enum Told {
-    /// A client made its request: its answer is told once it comes.
-    Nothing,
-    Done,
-    Refused(NodeFault),
-    /// A client waits for another answer, or may not ask for that.
-    Misplaced,
-}
-
-/// How the last event came out, as the terminal is told.
-fn last_told(letters: &[Letter<PartyOutcome>]) -> Told
-    ensures { result ≡ last_told letters.now }
-{
-    match letters.last() {
-        Some(letter) => told_of(&letter.outcome),
-        None => Told::Nothing,
-    }
-}
-
-fn told_of(outcome: &PartyOutcome) -> Told
-    ensures { result ≡ told_of outcome.now }
-{
-    match outcome {
-        PartyOutcome::OfNode(Ok(_)) => Told::Done,
-        PartyOutcome::OfNode(Err(fault)) => Told::Refused(*fault),
-        PartyOutcome::OfClient(Err(_)) => Told::Misplaced,
-        _ => Told::Nothing,
     }
 }
 
@@ -720,92 +619,5 @@ fn may_say_more(outcome: &PartyOutcome) -> bool
     match outcome {
         PartyOutcome::OfNode(Ok(sent)) => !sent.is_empty(),
         _ => true,
-    }
-}
-
-/// What a line asks this actor for; `Ok(None)` for a line that asks for nothing, `Err` with what is wrong with it. A client's
-/// line is what stands behind its name in a script.
-fn event_of(
-    alloc: Global,
-    setup: &Setup,
-    me: u16,
-    line: &[u8],
-) -> Result<Result<Option<PartyEvent>, LineCode>, AllocError>
-    ensures { IfOk result (λ asked. asked ≡ event_of setup.now me line.now) }
-{
-    let text = script_of(alloc, setup, me, line)?;
-    let lines = match read_script(alloc, setup, Kind::Live, text.as_slice()) {
-        Ok(lines) => lines,
-        Err(fault) if fault.code == LineCode::NoMemory => return Err(AllocError),
-        Err(fault) => return Ok(Err(fault.code)),
-    };
-    match lines.first() {
-        Some(first) => Ok(asked_by(me, first.statement)),
-        None => Ok(Ok(None)),
-    }
-}
-
-/// What a line of a script asks this actor for.
-fn asked_by(me: u16, statement: Statement) -> Result<Option<PartyEvent>, LineCode>
-    ensures { result ≡ asked_by me statement }
-{
-    let Statement::Do(step) = statement else {
-        return Err(LineCode::UnknownWord);
-    };
-    match asked_of(me, step) {
-        Some(event) => Ok(Some(event)),
-        None => Err(LineCode::UnknownWord),
-    }
-}
-
-/// What a step asks this actor for; `None` where it is another's, or none that is asked for at a terminal.
-fn asked_of(me: u16, step: Step) -> Option<PartyEvent>
-    ensures { result ≡ asked_of me step }
-{
-    match (ActorId::of(me), step) {
-        (ActorId::Client(_), Step::Submit { client, cmd }) if client == me => {
-            Some(PartyEvent::OfClient(ClientEvent::Submits(cmd)))
-        }
-        (ActorId::Node(own), Step::PayIn { ccy, member, amt }) if u16::from(ccy) == own => {
-            Some(PartyEvent::OfNode(NodeEvent::PaysIn { member, amt }))
-        }
-        (ActorId::Node(own), Step::Close { ccy, member }) if u16::from(ccy) == own => {
-            Some(PartyEvent::OfNode(NodeEvent::Closes(member)))
-        }
-        _ => None,
-    }
-}
-
-/// The line of a script that a line at a terminal stands for.
-fn script_of(alloc: Global, setup: &Setup, me: u16, line: &[u8]) -> Result<Vec<u8>, AllocError>
-    ensures { IfOk result (λ text. text.items ≡ script_of setup.now me line.now) }
-{
-    let mut text = Vec::new(alloc);
-    if let (ActorId::Client(_), false) = (ActorId::of(me), says_nothing(line)) {
-        put_who(alloc, setup, me, &mut text)?;
-    }
-    text.extend_from_slice(line)?;
-    Ok(text)
-}
-
-/// Puts there who does what follows.
-fn put_who(alloc: Global, setup: &Setup, me: u16, text: &mut Vec<u8>) -> Result<(), AllocError>
-    ensures { OnOk result (text.new.items
-        ≡ text.old.items ++ codes "do " ++ actor_text setup.now me ++ codes " ") }
-{
-    let mut name = String::new(alloc);
-    push_actor(&mut name, setup, me)?;
-    text.extend_from_slice(b"do ")?;
-    text.extend_from_slice(name.as_str().as_bytes())?;
-    text.extend_from_slice(b" ")
-}
-
-/// Whether a line asks for nothing: it is empty, or begins with `#`.
-fn says_nothing(line: &[u8]) -> bool
-    ensures { result ≡ says_nothing line.now }
-{
-    match line.first() {
-        Some(first) => *first == b'#',
-        None => true,
     }
 }

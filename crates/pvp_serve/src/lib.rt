@@ -3,6 +3,7 @@
 #![tactic(auto)]
 
 pub mod admission;
+pub mod answers;
 pub mod attending;
 pub mod desk;
 pub mod dialing;
@@ -11,6 +12,7 @@ pub mod host;
 pub mod inbox;
 pub mod lanes;
 pub mod laws;
+pub mod lines;
 pub mod listening;
 pub mod opening;
 pub mod patience;

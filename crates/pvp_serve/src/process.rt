@@ -5,8 +5,9 @@ ghost use Rattle.pvp_types.specs.Setup.{IsValid};
 ghost use Rattle.pvp_places.specs.Names.{actor_asked};
 ghost use Rattle.pvp_serve.specs.Doors.{IsKeyWith};
 
+use crate::answers::greet;
 use crate::attending::Desk;
-use crate::desk::{TerminalDesk, greet};
+use crate::desk::TerminalDesk;
 use crate::dialing::{Dialed, addresses_of, dial};
 use crate::folder::{read_paper, take_folder};
 use crate::host::{Host, Wires};
