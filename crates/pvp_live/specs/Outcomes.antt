@@ -18,7 +18,7 @@ clock_text None = []
 abbrev pub answer_text : Option (Answer PartyOutcome) → List ℕ
 answer_text answer = clock_text answer ++ codes ": " ++ effect_text (line_effect answer)
 
--- what came of the event that a line posted at an actor
+-- the outcome of the event that a line posted at an actor
 abbrev pub posted_text : Setup → ℕ → ℕ → Option (Answer PartyOutcome) → List ℕ
 posted_text setup line actor answer =
     codes "line " ++ decimal line ++ codes ": " ++ actor_text setup actor ++ answer_text answer ++ codes "\n"

@@ -8,7 +8,7 @@ use std::alloc::{AllocError, Global};
 use std::sync::Wait;
 use vr_types::{BootCell, Status, is_site};
 
-/// What is seen of a site: where it stands.
+/// What is seen of a site: its status.
 #[derive(Clone, Copy, Debug, PartialEq, Eq)]
 pub struct Sighting {
     /// Its number as an actor.

@@ -16,7 +16,7 @@ use Rattle.pvp_serve.specs.Sifting.{sifted}
 use Rattle.pvp_serve.specs.Sites.{SiteTakes}
 use Rattle.pvp_serve.specs.Terminals.{RoomOf, IsTrouble, TakesItem}
 
--- what is worked off of what waits, by the kind of the actor
+-- which of the items that wait are processed, by the kind of the actor
 abbrev pub sifted_for : Desk → ℕ → List Inbox → List Inbox
 sifted_for (Site desk) nonce items = sifted nonce items
 sifted_for (Terminal desk) nonce items = items
