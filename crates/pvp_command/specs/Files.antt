@@ -1,4 +1,4 @@
--- Why a file of a command is not read, in words, and when an output has no reader any more.
+-- Why a file of a command is not read, in words, and when an output no longer has a reader.
 use Rattle.std.specs.Prelude.{ℕ, Bool, true, false, List, ◌++◌, codes}
 use Rattle.std.specs.declared.io.ErrorKind.{ErrorKind}
 use Rattle.std.specs.declared.io.ErrorKind.TheVariants as kinds

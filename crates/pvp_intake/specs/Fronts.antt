@@ -1,4 +1,4 @@
--- What stands at the front of what came over a link, and what is wrong with it: the first of the tests that fails.
+-- What is at the front of the bytes from a link, and what is wrong with it: the first of the tests that fails.
 use Rattle.std.specs.Prelude.{ℕ, ◌+◌, ◌≤◌, ◌==◌, ◌&&◌, ◌||◌, ◌≡◌, ◌⊎◌, ◌++◌, Bool, true, false, not, nat_lt, nat_le, List, length, take, drop, Option, Some, None, Result, Ok, Err, if◌then◌else◌}
 use Rattle.std.specs.Str.{bytes_eq}
 use Rattle.byteorder.specs.Endian.{big_number}

@@ -1,4 +1,4 @@
--- What the event of a line came to, in words.
+-- The outcome of a line's event, in words.
 use Rattle.std.specs.Prelude.{ℕ, List, [], ◌++◌, Option, Some, None, codes, decimal}
 use Rattle.pvp_types.specs.declared.setup.Setup.{Setup}
 use Rattle.pvp_trace.specs.Names.{actor_text}

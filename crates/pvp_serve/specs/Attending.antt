@@ -1,4 +1,4 @@
--- What a desk does with what comes, of its kind.
+-- What a desk does with what comes, by its kind.
 use Rattle.std.specs.Prelude.{ℕ, Bool, List, Option, Result, IfOk, IfErr}
 use Rattle.vr_types.specs.declared.cell.Boot.{Boot}
 use Rattle.pvp_rooms.specs.declared.actor.Actor.{Ghosts}

@@ -1,4 +1,4 @@
--- What a line at a terminal asks an actor for, and what the loop of a process takes from where its actor stands.
+-- What a line at a terminal asks an actor for, and what the loop of a process takes from its actor's state.
 use Rattle.std.specs.Prelude.{◌≡◌, ℕ, ◌+◌, ◌-◌, ◌%◌, ◌==◌, ◌&&◌, ◌||◌, ◌++◌, Bool, true, false, not, max, nat_lt, List, [], ◌∷◌, length, slice_get, Option, Some, None, is_none, is_some, option_map, Result, Ok, Err, codes, if◌then◌else◌}
 use Rattle.std.specs.Option.{option_map_or}
 use Rattle.vr_types.specs.Actors.{id_of, number_of}
