@@ -1,4 +1,4 @@
-//! Where the sites stand while a run goes on, as each is seen under its lock.
+//! The status of the sites during a run, as each is seen under its lock.
 ghost use Rattle.std.specs.Prelude.{◌≡◌, IfOk};
 ghost use Rattle.pvp_live.specs.Sightings.{AreLooks, IsLook, sighting_of};
 

@@ -1,4 +1,4 @@
-//! One actor whose history is no data in memory.
+//! One actor whose history is in its journal and not in memory.
 ghost use Rattle.std.specs.Prelude.{◌≡◌, ◌==◌, Err, IfOk, IfSome, OnOk, IsTrue, length};
 ghost use Rattle.pvp_parties.specs.Parties.{held_of};
 ghost use Rattle.pvp_logs.specs.Log.{OutlivesAll, with_more};

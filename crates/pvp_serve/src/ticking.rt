@@ -1,4 +1,5 @@
-//! What comes to the loop of itself: beats of the clock, the time, and lines of the terminal.
+//! What comes to the loop from its own machine: beats of the clock, the time, and lines of the
+//! terminal.
 
 use crate::host::Wires;
 use crate::inbox::{Inbox, tell};
