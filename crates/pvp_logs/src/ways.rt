@@ -1,5 +1,6 @@
-//! The ways back of a site whose process was gone. Its cell outlives a power cut, which the end of its journal may not, and
-//! a restart saves before it is recorded: so the cell may be ahead of the journal.
+//! How a site comes back whose process was gone. Its cell outlives a power cut, which the end of
+//! its journal may not, and a restart saves before it is recorded: so the cell may be ahead of the
+//! journal.
 ghost use Rattle.std.specs.Prelude.{◌≡◌, ◌↔◌, [], ◌∷◌, IsTrue, IfOk, IfSome, None, Some};
 ghost use Rattle.pvp_parties.specs.Made.{memory};
 ghost use Rattle.pvp_parties.specs.Parties.{held_of};

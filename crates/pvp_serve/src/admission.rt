@@ -1,5 +1,5 @@
-//! Which requests of clients and nodes a primary admits. What it does not admit is lost mail, and none of it comes into the
-//! journal: a flood ends at the door, and the log ends in order.
+//! Which requests of clients and nodes a primary admits. What it does not admit is lost, and does
+//! not come into the journal: a flood ends there, and the log ends in order.
 ghost use Rattle.std.specs.Prelude.{◌≡◌};
 ghost use Rattle.pvp_serve.specs.Admission.{
   admission,
