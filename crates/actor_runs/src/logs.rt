@@ -1,4 +1,5 @@
-//! Rooms whose history stands in a journal, over a log in memory that fails, ways back, and histories that are judged.
+//! Rooms whose history is in a journal, over a log in memory that fails, ways back, and histories
+//! that are judged.
 
 mod back;
 mod histories;

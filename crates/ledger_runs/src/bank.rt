@@ -1,5 +1,5 @@
-//! The bank's book and its nodes, one site that keeps the book, and a run of the whole world. What else several sites do is told by
-//! plays of the built program.
+//! The bank's book and its nodes, one site that keeps the book, and a run of the whole world. What
+//! else several sites do is tested by plays of the built program.
 
 mod book;
 mod nodes;

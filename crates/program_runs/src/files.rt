@@ -60,7 +60,8 @@ impl Write for Failing {
     }
 }
 
-/// Runs the program over a writer that takes so many writes, and compares its status and what it tells.
+/// Runs the program over a writer that takes so many writes, and compares its status and what it
+/// reports.
 pub fn ends<R: Abort + AllocGlobal>(
     rt: &R,
     words: &[&str],
@@ -72,7 +73,7 @@ pub fn ends<R: Abort + AllocGlobal>(
     ends_over(rt, words, script, Failing { left, with }, want)
 }
 
-/// Runs the program over a writer, and compares its status and what it tells.
+/// Runs the program over a writer, and compares its status and what it reports.
 fn ends_over<R: Abort + AllocGlobal>(
     rt: &R,
     words: &[&str],
@@ -118,7 +119,7 @@ const PRINTS: &[(&[&str], &str, u32)] = &[
     (&["pvpsim", "help", "codes"], "", 1),
 ];
 
-/// A writer that fails at any of these writes is told; one that takes them all is not.
+/// A writer that fails at any of these writes is reported; one that takes them all is not.
 #[test]
 fn tells_that_the_writer_failed(rt: HostRuntime) -> Result<(), Fail> {
     for (words, script, writes) in PRINTS {
@@ -130,7 +131,7 @@ fn tells_that_the_writer_failed(rt: HostRuntime) -> Result<(), Fail> {
     Ok(())
 }
 
-/// A writer whose reader has left fails too, and nothing is told.
+/// A writer whose reader has left fails too, and nothing is reported.
 #[test]
 fn tells_nothing_to_a_reader_who_has_left(rt: HostRuntime) -> Result<(), Fail> {
     for (words, script, writes) in PRINTS {
@@ -142,7 +143,7 @@ fn tells_nothing_to_a_reader_who_has_left(rt: HostRuntime) -> Result<(), Fail> {
     Ok(())
 }
 
-/// Words of which a file has no memory, and words of no file, with what is told of them.
+/// Words of which a file has no memory, and words of no file, with what is reported of them.
 const UNREAD: &[(&[&str], &str)] = &[
     (&["pvpsim", "check", "too large"], "fault memory\n"),
     (&["pvpsim", "check", "no such"], "fault file\n"),

@@ -1,5 +1,5 @@
-//! Live runs: on a machine without a net, what is told while one runs, and as the script that one is told as. `.ci/live` runs
-//! the program.
+//! Live runs: on a machine without a net, what is reported while one runs, and the script as which
+//! one is printed. `.ci/live` runs the program.
 ghost use Rattle.std.specs.Prelude.{◌≡◌, length, IfOk};
 
 use crate::files::{SETUP, ends};
@@ -20,7 +20,7 @@ use std::thread::Threads;
 use std::time::Clock;
 use vr_types::MemCell;
 
-/// Words of a live run, its script, and what is told of them without a net.
+/// Words of a live run, its script, and what is reported of them without a net.
 const WITHOUT_A_NET: &[(&[&str], &str, &str)] = &[
     (
         &["pvpsim", "live", "setup.json", "script.txt"],
@@ -44,7 +44,7 @@ const WITHOUT_A_NET: &[(&[&str], &str, &str)] = &[
     ),
 ];
 
-/// Without a net that is told, once the setup and the script read right.
+/// Without a net that is reported, once the setup and the script read right.
 #[test]
 fn a_net_that_is_not_there(rt: HostRuntime) -> Result<(), Fail> {
     for (words, script, told) in WITHOUT_A_NET {
@@ -65,8 +65,8 @@ do ALFA instruct 1 BETA USD 1100 EUR 1000\nrest 4\ndo BETA instruct 1 ALFA EUR 1
 do OP settle 10\nrest 4\nbeat s0\nrest 4\ncrash s0\ntimer s1\nrest 8\ndo ALFA payout USD 100\nrest 4\n\
 beat s1\nrestart s0\nrest 8\nbeat s1\nrest 4\n";
 
-/// What the threads did, played again as the script that it is told as, gives the books that it left. How the threads'
-/// turns fell is another thing each time, so it is done some times.
+/// What the threads did, played again as the script as which it is printed, gives the books that it
+/// left. How the threads' turns fell differs each time, so it is done some times.
 #[test]
 fn a_run_is_played_again(rt: HostRuntime) -> Result<(), Fail> {
     are_played_again::<_, MemCell>(&rt, LIVE, 3)
@@ -122,7 +122,7 @@ where
     is_played_again(rt, &lived.judgement)
 }
 
-/// The script that a run is told as leaves the books that the run left.
+/// The script as which a run is printed leaves the books that the run left.
 fn is_played_again<R: Abort + AllocGlobal>(rt: &R, judgement: &Judgement) -> Result<(), Fail> {
     let alloc = rt.alloc();
     let mut books: Vec<u8> = Vec::new(alloc);
@@ -134,7 +134,7 @@ fn is_played_again<R: Abort + AllocGlobal>(rt: &R, judgement: &Judgement) -> Res
     Ok(())
 }
 
-/// What a live run of a script leaves; what goes on is told to `notes`.
+/// What a live run of a script leaves; what goes on is reported to `notes`.
 fn ran<R, C: Fresh + Send, N: Write>(rt: &R, script: &str, notes: &mut N) -> Result<Lived, Fail>
 where
     R: AllocGlobal + Threads + Wait + Clock + Net + Sync,
@@ -173,14 +173,14 @@ fn played(alloc: Global, script: &[u8]) -> Result<Vec<u8>, Fail> {
     Ok(printed)
 }
 
-/// A run in which up to line 5 no actor sends anything, so that all that is told of these lines is known. Lines 2, 6
-/// and 7 are refused: site 2 is down, there is no site 9, and 0 is no amount. The restart sends 2 RECOVERYs, and from
-/// then on it is for the threads what comes when.
+/// A run in which up to line 5 no actor sends anything, so that all that is reported of these lines
+/// is known. Lines 2, 6 and 7 are refused: site 2 is down, there is no site 9, and 0 is no amount.
+/// The restart sends 2 RECOVERYs, and from then on it is for the threads what comes when.
 const TOLD: &str = "crash s2\nbeat s2\nrest 1\nbeat s1\nrestart s2\ncrash s9\npayin ALFA USD 0\n\
 do ALFA payout USD 5\nbeat s0\nrest 30\ntimer s1\nrest 30\ncrash s0\n";
 
-/// What is told of it, line by line. `#` is a number; of parts between commas that may be told in several ways each stands
-/// behind `|`.
+/// What is reported of it, line by line. `#` is a number; of parts between commas that may be
+/// worded in several ways each stands behind `|`.
 const LINES: &[&str] = &[
     "42 connections between 9 actors",
     "line 1: s2 at clock 1: sends 0",
@@ -214,7 +214,7 @@ s2 recovering|s2 normal in view #|s2 in change to view 1, # frames sent, # came"
     "",
 ];
 
-/// The lines that are told of a run which is judged yes are these.
+/// The lines that are reported of a run which is judged yes are these.
 fn tells_lines(rt: &impl Abort, told: &str) {
     for (line, wanted) in told.split('\n').zip(LINES) {
         assert!(rt; is_told(line, *wanted), "{line}, not {wanted}");
@@ -232,7 +232,7 @@ fn tells_what_goes_on_over_files(rt: HostRuntime) -> Result<(), Fail> {
     tells::<_, Filed>(&rt)
 }
 
-/// A run over such cells is judged yes, and tells what goes on and which lines were refused.
+/// A run over such cells is judged yes, and reports what goes on and which lines were refused.
 fn tells<R, C: Fresh + Send>(rt: &R) -> Result<(), Fail>
 where
     R: Abort + AllocGlobal + Threads + Wait + Clock + Net + Sync,
@@ -258,7 +258,7 @@ fn tells_refused<R: Abort + AllocGlobal>(rt: &R, refused: Option<Refused>) -> Re
     Ok(())
 }
 
-/// Whether a line is told as one of these has it, part by part.
+/// Whether a line reads as one of these has it, part by part.
 fn is_told(line: &str, wanted: &str) -> bool {
     let mut parts = wanted.split(", ");
     for part in line.split(", ") {

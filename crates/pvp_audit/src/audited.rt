@@ -1,10 +1,11 @@
+//! What an actor needs so that its history can be replayed and its envelopes found.
 ghost use Rattle.std.specs.Prelude.{◌≡◌, Option, List, Bool, IfOk, IsTrue, ◌↔◌};
 ghost use Rattle.pvp_audit.specs.Runs.{Follows, Sends, is_some};
 
 use pvp_rooms::Actor;
 use std::alloc::{AllocError, Global};
 
-/// An actor whose history can be taken again.
+/// An actor whose history can be replayed, by `follow`, and whose outcomes say what they sent.
 pub trait Audited: Actor {
     /// What is sent and delivered.
     ghost Letter: { Type 0 };

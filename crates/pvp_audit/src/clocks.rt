@@ -1,3 +1,4 @@
+//! The test A2: clocks rise.
 ghost use Rattle.std.specs.Prelude.{◌≡◌, ℕ, ◌+◌, ◌<◌, OnOk, IfErr, length, take};
 ghost use Rattle.pvp_rooms.specs.Histories.{IsRising, stamp_clock};
 

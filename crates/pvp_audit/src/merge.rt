@@ -1,3 +1,4 @@
+//! The order of all events of a run: by clock, and then by actor number.
 ghost use Rattle.std.specs.Prelude.{◌≡◌, ℕ, ◌≤◌, IfSome, IfNone, length, slice_index};
 ghost use Rattle.pvp_audit.specs.Runs.{AreInOrder, history_of};
 ghost use Rattle.pvp_audit.specs.Merging.{IsNextActor};

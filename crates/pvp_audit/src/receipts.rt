@@ -1,3 +1,4 @@
+//! The test A5: the receipts of an actor's seats are its history.
 ghost use Rattle.std.specs.Prelude.{◌≡◌, ◌≢◌, ℕ, ◌+◌, ◌<◌, ◌≤◌, ◌↔◌, IsTrue, IfOk, IfSome, IfNone, Option, Some, length, slice_get, slice_index, replicate};
 ghost use Rattle.pvp_rooms.specs.Seats.{Held};
 ghost use Rattle.pvp_audit.specs.Verdicts.{AreReceived, ReceiptsFail};

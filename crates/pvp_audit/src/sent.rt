@@ -1,3 +1,4 @@
+//! The test A1 of one envelope: whether its stamp's actor sent it then, in this place.
 ghost use Rattle.std.specs.Prelude.{◌≡◌, ◌↔◌, IsTrue, length};
 ghost use Rattle.pvp_rooms.specs.Histories.{IsRising};
 ghost use Rattle.pvp_audit.specs.Runs.{AreInOrder};

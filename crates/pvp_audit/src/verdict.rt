@@ -1,3 +1,4 @@
+//! The tests of an audit, and those that look at one actor alone.
 ghost use Rattle.std.specs.Prelude.{IfOk, IfSome, IfNone};
 ghost use Rattle.pvp_audit.specs.Alone.{AloneNo};
 ghost use Rattle.pvp_audit.specs.Verdicts.{HoldOfAll, IsAlone, HasRisingClocks, ClocksRise, ClockFails, FailsAlone};
@@ -25,7 +26,7 @@ pub enum AuditTest {
     NoMemory,
 }
 
-/// What an audit says.
+/// What an audit says, in definitions and tests. Calls answer a `Judgement` of `pvp_judge`.
 #[derive(Clone, Copy, Debug, PartialEq, Eq)]
 pub enum Verdict {
     /// All that the actors left is one run.

@@ -1,4 +1,4 @@
-//! A store in memory, which can be told to fail and to crash.
+//! A store in memory, which can be made to fail and to crash.
 ghost use Rattle.std.specs.Prelude.{◌≡◌, ◌≤◌, ◌↔◌, Some, None, true, false, length, take, OnOk, OnErr, IsOk, IsErr, IsErrOf, if◌then◌else◌};
 ghost use Rattle.vr_types.specs.Cell.{HasRisen};
 

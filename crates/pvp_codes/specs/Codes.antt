@@ -1,4 +1,4 @@
--- All codes that the program or its parts print, and the text that tells each with its meaning.
+-- All codes that the program or its parts print, and the text that has each with its meaning.
 use Rattle.std.specs.Prelude.{◌≡◌, ◌≢◌, ℕ, true, List, [], ◌∷◌, ◌++◌, map, codes}
 use Rattle.std.specs.List.{flat_map}
 use Rattle.pvp_types.specs.declared.command.Reason.{Reason}
@@ -50,7 +50,7 @@ use Rattle.pvp_codes.specs.Meanings.{text_meaning, line_meaning, reason_meaning,
 
 -- ---- a code and its meaning
 
--- the program tells J3 as `fault memory`, and so no line of the table has it
+-- the program prints J3 as `fault memory`, and so no line of the table has it
 abbrev pub setup_code : TextFault → List ℕ
 setup_code text.NotJson = codes "J1"
 setup_code text.BadMember = codes "J2"
@@ -191,7 +191,7 @@ codes_text = flat_map code_line all_codes
 
 -- ---- what holds of the table
 
--- each code stands in it, but J3, which the program tells as `fault memory`
+-- each code stands in it, but J3, which the program prints as `fault memory`
 abbrev pub EachIsTold : Type 0
 EachIsTold = (code : Code) → code ≢ Setup text.NoMemory → is_among (code_text code) (map code_text all_codes) ≡ true
 

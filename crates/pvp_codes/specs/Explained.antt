@@ -63,12 +63,12 @@ which_told count said = if nat_lt count (length said) then codes "too many words
 abbrev pub counted_told : ℕ → List (List ℕ) → List ℕ
 counted_told count said = which_told count said ++ codes ", the form has " ++ decimal count
 
--- too few words may tell no form
+-- too few words may have no form
 abbrev pub count_told : List Field → List (List ℕ) → List ℕ
 count_told [] said = codes "too few words"
 count_told (field ∷ form) said = counted_told (length (field ∷ form)) said
 
--- the rule of a line's words; of their count it is told which it is
+-- the rule of a line's words; for their count it is said which it is
 abbrev pub rule_told : LineCode → List (List ℕ) → List ℕ
 rule_told Byte said = line_meaning Byte
 rule_told UnknownWord said = line_meaning UnknownWord
@@ -109,20 +109,21 @@ unprinted_told line None = line_meaning Byte
 abbrev pub length_told : LineCode → ℕ → List ℕ
 length_told code count = line_meaning code ++ codes ": " ++ decimal count
 
--- what is told of a line by no word of it: its first byte that is no printed character, or how long it is
+-- what is said of a line that does not concern a word of it: its first byte that is no printed character, or how long
+-- it is
 abbrev pub bytes_told : LineCode → List ℕ → List ℕ
 bytes_told Byte line = unprinted_told line (first_unprinted line)
 bytes_told LineLength line = length_told LineLength (length line)
 bytes_told code line = line_meaning code
 
--- what is told of a line: its words where they are at fault and can be shown, else its bytes or the rule
+-- what is said of a line: its words where they are at fault and can be shown, else its bytes or the rule
 abbrev pub line_told : LineCode → Kind → Setup → List ℕ → List ℕ
 line_told code kind setup line =
     if is_of_words code && is_shown line
     then found_told code line (first_broken (breaks code kind setup) (form_fields (form_of (words line))) (words line))
     else bytes_told code line
 
--- THE FAULT OF A SCRIPT in words: its line's number, and what is told of the line
+-- THE FAULT OF A SCRIPT in words: its line's number, and what is said of the line
 abbrev pub line_explained : LineFault → Kind → Setup → List ℕ → List ℕ
 line_explained fault kind setup script =
     codes "line " ++ decimal fault.line ++ codes ": " ++ line_told fault.code kind setup
@@ -142,7 +143,7 @@ alone_told fault = codes "setup: " ++ text_meaning fault
 abbrev pub amount_told : SetupFault → ℕ → List ℕ
 amount_told rule amount = alone_told (BadSetup rule) ++ codes ": " ++ decimal amount
 
--- a currency by its number, as a script tells it, and why it breaks the rule
+-- a currency by its number, as a script names it, and why it breaks the rule
 abbrev pub currency_told : SetupFault → Option (ℕ × Currency × PartWhy) → List ℕ
 currency_told rule (Some found) =
     codes "currency " ++ decimal found.0 ++ name_told found.1.code ++ codes ": " ++ part_text found.2
@@ -176,7 +177,7 @@ abbrev pub wrong_told : Found → List ℕ
 wrong_told (Some found) = codes "setup: " ++ path_told found.0 ++ flaw_text found.1
 wrong_told None = alone_told BadMember
 
--- what is told of a text that is no setup
+-- what is said of a text that is no setup
 abbrev pub setup_told : TextFault → List ℕ → List ℕ
 setup_told (BadSetup rule) bytes = broken_part_told rule (parts_where None bytes)
 setup_told BadMember bytes = wrong_told (wrong_in bytes)

@@ -161,7 +161,7 @@ terminal_meaning terminal.Share =
     codes "the client has used up its share of the log's rows: what is left of them is for letting money out"
 terminal_meaning terminal.Full = codes "the rows that the log has left are for letting money out"
 
--- why a process does not serve, whatever code tells it
+-- why a process does not serve, whatever its code is
 abbrev pub served_meaning : ServeFault → List ℕ
 served_meaning (serve.Setup fault) = text_meaning fault
 served_meaning (serve.File paper) = codes "a file that it needs could not be read"

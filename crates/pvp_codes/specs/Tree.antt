@@ -110,7 +110,7 @@ wrong_of (Err fault) = None
 abbrev pub wrong_in : List ℕ → Found
 wrong_in bytes = wrong_of (tree None bytes)
 
--- what a search answers that finds this; want of memory may come in place of it
+-- what a search answers that finds this; lack of memory may come in place of it
 abbrev pub Tells : {A : Type 0} → Result A Fault → Found → Type 0
 Tells (Ok _) found = found ≡ None
 Tells (Err (Wrong path flaw)) found = found ≡ Some (string_bytes path, flaw)

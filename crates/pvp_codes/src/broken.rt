@@ -88,7 +88,7 @@ fn breaks(code: LineCode, kind: Kind, setup: &Setup, field: Field, word: &[u8]) 
     }
 }
 
-/// Why a word is unknown that is to tell a form.
+/// Why a word is unknown that is to name a form.
 fn unknown_word(kind: Kind, field: Field, word: &[u8]) -> Option<Breach>
     ensures { result ≡ spec.unknown_word kind field word.now }
 {

@@ -21,7 +21,7 @@ use std::alloc::{AllocError, Global};
 /// how, or how many there are; of a part that is missing or of the wrong type, the path to the first in the order of
 /// reading, with places in lists counted from 0, and what is wrong; else the rule.
 ///
-/// The text is read once more for it.
+/// The text is read again for it.
 pub fn explain_setup(alloc: Global, fault: TextFault, bytes: &[u8]) -> Result<Vec<u8>, AllocError>
     ensures { IfOk result (λ text. text.items ≡ spec.setup_explained fault bytes.now) }
 {
@@ -202,7 +202,8 @@ pub fn explain_line(
     Ok(bytes)
 }
 
-/// Appends what is told of a line: its words where they are at fault and can be shown, else the rule.
+/// Appends what is said of a line: its words where they are at fault and can be shown, else the
+/// rule.
 fn push_line(
     alloc: Global,
     text: &mut Vec<u8>,
@@ -224,7 +225,7 @@ fn push_line(
     }
 }
 
-/// Appends what is told of a line by no word of it.
+/// Appends what is said of a line that does not concern a word of it.
 fn push_bytes(
     alloc: Global,
     text: &mut Vec<u8>,

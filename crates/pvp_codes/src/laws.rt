@@ -3,7 +3,7 @@ ghost use Rattle.pvp_codes.specs.Codes.{EachIsTold, NoneIsToldTwice};
 ghost use Rattle.pvp_codes.specs.Explained.{IsLineCounted};
 ghost use Rattle.pvp_codes.specs.Finding.{IsAWord, FindsWhereItFails, CountsWhereItFails, FindsAByte, FindsAPart, FindsNoPart};
 
-/// The table has each code, but J3, which the program tells as `fault memory`, and none twice.
+/// The table has each code, but J3, which the program prints as `fault memory`, and none twice.
 pub fn table()
     ensures each { EachIsTold }
     ensures once { NoneIsToldTwice }
@@ -14,8 +14,9 @@ pub fn lines()
     ensures { IsLineCounted }
 {}
 
-/// The word that an explanation quotes is one of the line's, and one is found wherever the reader of lines fails at a word; where
-/// it fails by the count of words, these are more or fewer than the form has that the explanation tells.
+/// The word that an explanation quotes is one of the line's, and one is found wherever the reader
+/// of lines fails at a word; where it fails by the count of words, these are more or fewer than the
+/// form that the explanation gives has.
 pub fn words()
     ensures word { IsAWord }
     ensures finds { FindsWhereItFails }

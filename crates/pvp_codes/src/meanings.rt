@@ -230,7 +230,7 @@ pub fn folder_meaning(why: FolderWhy) -> &'static str
     }
 }
 
-/// Why a terminal does not ask its actor for what it was told to.
+/// Why a terminal does not ask its actor for what a line asks.
 pub fn terminal_meaning(why: TerminalWhy) -> &'static str
     ensures { result.now ≡ spec.terminal_meaning why }
 {
@@ -241,7 +241,7 @@ pub fn terminal_meaning(why: TerminalWhy) -> &'static str
     }
 }
 
-/// Why a process does not serve, whatever code tells it.
+/// Why a process does not serve, whatever its code is.
 pub fn served_meaning(fault: ServeFault) -> &'static str
     ensures { result.now ≡ spec.served_meaning fault }
 {

@@ -37,7 +37,7 @@ fn is_slip(word: &[u8], known: &[u8]) -> bool
     has_slip(&word[at..], &known[at..])
 }
 
-/// The same of two words that differ in their first byte, if they differ.
+/// Whether two words that differ in their first byte, if they differ, are one slip apart.
 fn has_slip(word: &[u8], known: &[u8]) -> bool
     ensures { result ≡ spec.has_slip word.now known.now }
 {

@@ -22,7 +22,7 @@ use std::alloc::{AllocError, Global};
 use std::io::Write;
 use vr_types::SiteFault;
 
-/// All codes, in the order in which they are told. M6 stands once, whatever is wrong in a record.
+/// All codes, in the order in which they are listed. M6 stands once, whatever is wrong in a record.
 const CODES: [Code; 103] = [
     Code::Setup(TextFault::NotJson),
     Code::Setup(TextFault::BadMember),

@@ -1,4 +1,4 @@
--- What an audit of journals writes, and which fault it tells, where the bytes of its files are known.
+-- What an audit of journals writes, and which fault it reports, where the bytes of its files are known.
 use Rattle.std.specs.Prelude.{◌≡◌, ◌⊎◌, ℕ, ◌+◌, Bool, true, false, List, [], ◌∷◌, ◌++◌, take, slice_get, Option, Some, Result, Ok, Err, codes, decimal, IfSome}
 use Rattle.std.specs.Io.KnownBytes.{Appends}
 use Rattle.pvp_types.specs.declared.setup.Setup.{Setup}
@@ -35,7 +35,7 @@ AreReadFrom known [] [] = Unit {0}
 AreReadFrom known (name ∷ names) (journal ∷ more) = ReadsFile known name journal × AreReadFrom known names more
 AreReadFrom known _ _ = ⊥
 
--- the file of a name is not read, or its bytes are no journal, or want of memory is told
+-- the file of a name is not read, or its bytes are no journal, or lack of memory is reported
 abbrev pub IsBadFile : (List ℕ → Option (List ℕ)) → (List ℕ → FileFault → Type 0) → ℕ → List ℕ → Fault → Type 0
 IsBadFile known fails place name told =
     TellsFile (OfJournal place) (fails name) told

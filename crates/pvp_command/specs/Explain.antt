@@ -1,4 +1,4 @@
--- The line that explains a fault, and what hinders that it is had.
+-- The line that explains a fault, and why there may be none.
 use Rattle.std.specs.Prelude.{◌≡◌, ◌⊎◌, ℕ, ◌-◌, ◌==◌, List, ◌++◌, Option, Some, None, Result, Ok, Err, codes, decimal, option_map, slice_get, IsSome, IfSome, IsOk, if◌then◌else◌}
 use Rattle.pvp_types.specs.declared.setup.Setup.{Setup}
 use Rattle.pvp_text.specs.SetupText.{setup_text}
@@ -45,7 +45,7 @@ actor_line actor = codes "actor " ++ decimal actor ++ codes ": " ++ meaning (cod
 abbrev pub folder_line : List ℕ → List ℕ
 folder_line why = codes "folder: " ++ why ++ codes "\n"
 
--- that of the journal at a place, of which this is told
+-- that of the journal at a place, of which this is said
 abbrev pub line_of_journal : Names → ℕ → Code → Option (List ℕ)
 line_of_journal sources place told =
     option_map (λ name. journal_line name (meaning told)) (name_of sources (OfJournal place))
@@ -84,9 +84,9 @@ Explains known sources (told.Shelf fault) line = line ≡ Some (folder_line (mea
 Explains known sources told.Unfit line = line ≡ Some (folder_line (meaning (code.Record Unfit)))
 Explains known sources told.NoMemory line = line ≡ None
 
--- ---- what hinders that it is had
+-- ---- why there may be none
 
--- a file that cannot be read again, or want of memory
+-- a file that cannot be read again, or lack of memory
 abbrev pub HindersFile : Source → (FileFault → Type 0) → Fault → Type 0
 HindersFile source fails why = TellsFile source fails why ⊎ (why ≡ told.NoMemory)
 

@@ -24,7 +24,7 @@ keep_at word =
     else if bytes_eq word (codes "old") then Some false
     else None
 
--- the save that three fields name, where each of them is told; saves are counted from 1
+-- the save that three fields name, where each of them is given; saves are counted from 1
 abbrev pub fail_told : Option ℕ → Option ℕ → Option Bool → Option Fail
 fail_told None at keep = None
 fail_told (Some site) None keep = None

@@ -19,7 +19,7 @@ use Rattle.pvp_live.specs.declared.running.LiveFault.{LiveFault}
 use Rattle.pvp_live.specs.declared.running.LiveFault.TheVariants as live
 use Rattle.pvp_command.specs.declared.files.FileFault.TheVariants as file
 
--- a setup's fault; want of memory is the same in whichever part
+-- a setup's fault; lack of memory is the same in whichever part
 abbrev pub text_told : TextFault → Fault
 text_told text.NotJson = Setup text.NotJson
 text_told text.BadMember = Setup text.BadMember
@@ -40,7 +40,7 @@ live_told live.Net = Net
 live_told live.NoMemory = NoMemory
 live_told live.Seats = Seats
 
--- what is wrong with the bytes of the journal at a place; want of memory is the same of each
+-- what is wrong with the bytes of the journal at a place; lack of memory is the same of each
 abbrev pub wrong_told : ℕ → ℕ → JournalWhy → Fault
 wrong_told place at bytes.NoMemory = NoMemory
 wrong_told place at why = Journal place why at

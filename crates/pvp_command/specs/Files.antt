@@ -1,4 +1,4 @@
--- Why a file of a command is not read, in words, and when an output has no reader any more.
+-- Why a file of a command is not read, in words, and when an output no longer has a reader.
 use Rattle.std.specs.Prelude.{ℕ, Bool, true, false, List, ◌++◌, codes}
 use Rattle.std.specs.declared.io.ErrorKind.{ErrorKind}
 use Rattle.std.specs.declared.io.ErrorKind.TheVariants as kinds
@@ -9,7 +9,7 @@ use Rattle.pvp_command.specs.declared.files.Unread.TheVariants.{Missing, Forbidd
 use Rattle.pvp_command.specs.declared.files.Source.{Source}
 use Rattle.pvp_command.specs.declared.files.Source.TheVariants.{Setup, Script, Journal, Secret}
 
--- what an error of the system tells of a file
+-- what an error of the system says of a file
 abbrev pub unread_of : ErrorKind → Unread
 unread_of kinds.NotFound = Missing
 unread_of kinds.PermissionDenied = Forbidden
@@ -24,7 +24,7 @@ abbrev pub is_gone : ErrorKind → Bool
 is_gone kinds.BrokenPipe = true
 is_gone _ = false
 
--- want of memory is no fault of the file
+-- lack of memory is no fault of the file
 abbrev pub file_fault_of : ErrorKind → FileFault
 file_fault_of kinds.OutOfMemory = fault.NoMemory
 file_fault_of kind = fault.Unread (unread_of kind)

@@ -1,4 +1,4 @@
--- What a live run writes, and which fault it tells, where the bytes of its files are known.
+-- What a live run writes, and which fault it reports, where the bytes of its files are known.
 use Rattle.std.specs.Prelude.{◌≡◌, ◌⊎◌, ℕ, List, Option, Some, None, Ok, IsOk, IfSome, length, map, option_map}
 use Rattle.std.specs.Io.KnownBytes.{Appends}
 use Rattle.pvp_types.specs.declared.setup.Setup.{Setup}
@@ -78,7 +78,7 @@ abbrev pub IsPutFault : Fault → Type 0
 IsPutFault told = (fault : PutFault) × (told ≡ put_told fault)
 
 -- what may end a live run once its script is read: that it could not be run, or its journals not be kept, and then
--- nothing is written; want of memory, or that the writer failed
+-- nothing is written; lack of memory, or that the writer failed
 abbrev pub LifeStops : {W : Type 0} → W → W → Fault → Type 0
 LifeStops old new told = (((told ≡ Net) ⊎ (told ≡ Seats) ⊎ IsPutFault told) × (new ≡ old)) ⊎ IsTextFault told
 

@@ -1,4 +1,4 @@
--- What a request writes, and which fault it tells, where the bytes of its files are known.
+-- What a request writes, and which fault it reports, where the bytes of its files are known.
 use Rattle.std.specs.Prelude.{◌≡◌, ◌⊎◌, ℕ, List, Option, Some, None, Result, Ok, Err, codes, IsOk, IfSome}
 use Rattle.std.specs.Io.KnownBytes.{Appends}
 use Rattle.pvp_types.specs.declared.setup.Setup.{Setup}
@@ -29,7 +29,7 @@ use Rattle.pvp_play.specs.Lines.{IsOpening, ArePlayed}
 use Rattle.pvp_command.specs.declared.shows.Show.{Show}
 use Rattle.pvp_command.specs.declared.shows.Show.TheVariants.{Told, Drawn}
 
--- a setup that meets the rules is told so
+-- a setup that meets the rules is reported so
 abbrev pub CheckWrites : List ℕ → Option (List ℕ) → Option (List ℕ) → Type 0
 CheckWrites setup old new = IsOk (setup_text setup) × Appends old new (codes "setup ok\n")
 
@@ -41,7 +41,7 @@ BooksScript s script old new =
 abbrev pub BookWrites : List ℕ → List ℕ → Option (List ℕ) → Option (List ℕ) → Type 0
 BookWrites setup script old new = (s : Setup) × (setup_text setup ≡ Ok s) × BooksScript s script old new
 
--- what the lines of a play tell, from a new world of the setup on, over new cells of which these saves are to fail:
+-- what the lines of a play write, from a new world of the setup on, over new cells of which these saves are to fail:
 -- what they print, or the steps that they try
 abbrev pub PlaysScript : Telling → Setup → List Fail → List ℕ → Option (List ℕ) → Option (List ℕ) → Type 0
 PlaysScript telling s fails script old new =
@@ -80,7 +80,7 @@ CheckTells fails setup old new told =
     ((TellsFile OfSetup fails told ⊎ TellsSetup setup told) × (new ≡ old)) ⊎ (IsOk (setup_text setup) × (told ≡ Output))
 
 -- The fault of a run of what a script was read as: its first faulty line, and then nothing is written; of one that
--- reads right, that the writer failed; or want of memory, which may come anywhere.
+-- reads right, that the writer failed; or lack of memory, which may come anywhere.
 abbrev pub RunStops : {W : Type 0} → Result (List Line) LineFault → RunFault → W → W → Type 0
 RunStops read (run.Line fault) old new = (read ≡ Err fault) × (new ≡ old)
 RunStops read run.Output old new = IsOk read

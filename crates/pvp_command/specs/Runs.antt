@@ -1,4 +1,4 @@
--- What a request comes to, by the bytes of its files where these are known.
+-- How a request ends, by the bytes of its files where these are known.
 use Rattle.std.specs.Prelude.{◌≡◌, ◌⊎◌, ℕ, List, map, Option, IfSome}
 use Rattle.std.specs.Io.KnownBytes.{Appends}
 use Rattle.pvp_codes.specs.Codes.{codes_text}
@@ -48,7 +48,7 @@ abbrev pub HasEnded : (List ℕ → Option (List ℕ)) → Option (List File) �
     → Option (List ℕ) → ℕ → Type 0
 HasEnded known before after old new status = (request : Request) × Ends known request before after old new status
 
--- which fault it tells on a machine without threads and net, and where nothing is written then
+-- which fault it reports on a machine without threads and net, and where nothing is written then
 abbrev pub Tells : {W : Type 0} → (List ℕ → Option (List ℕ)) → (List ℕ → FileFault → Type 0) → Request → W → W → Fault
     → Type 0
 Tells known fails (Check setup) old new told =
@@ -69,7 +69,7 @@ Tells known fails (Keys setup secret folder) old new told = (told ≡ Output) ×
 Tells known fails (Serve task) old new told = (told ≡ Net) × (new ≡ old)
 Tells known fails Codes old new told = (told ≡ NoMemory) ⊎ (told ≡ Output)
 
--- which fault it tells on any machine
+-- which fault it reports on any machine
 abbrev pub Stops : {W : Type 0} → (List ℕ → Option (List ℕ)) → (List ℕ → FileFault → Type 0) → Request → W → W → Fault
     → Type 0
 Stops known fails (Live told_how setup script) old new told =

@@ -37,7 +37,7 @@ steps_of (Some from) None = None
 steps_of (Some from) (Some to) = let steps : Steps = record { from = from; to = to } in
     if are_in_order steps then Some steps else None
 
--- steps are told where none is named
+-- steps are printed where none is named
 abbrev pub told_at : Option (List ℕ) → Option (List ℕ) → Option Show
 told_at None None = Some (Told telling.Steps)
 told_at None (Some to) = None

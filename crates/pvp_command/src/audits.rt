@@ -29,8 +29,8 @@ pub struct Auditing {
     pub cuts: bool,
 }
 
-/// Judges the journals of all actors of a bank, prints how they were judged as a live run does, and answers the status.
-/// `err` is told of records that are torn, and how many events were cut off.
+/// Judges the journals of all actors of a bank, prints how they were judged as a live run does, and
+/// answers the status. Torn records, and how many events were cut off, are reported to `err`.
 pub fn audit<F: Files, O: Write, E: Write>(
     alloc: Global,
     files: &F,
@@ -141,7 +141,7 @@ fn judge_bank<O: Write, E: Write>(
     tell(alloc, how.ending, &judgement, out)
 }
 
-/// The greatest cut of histories; `err` is told how many events of whom are cut off.
+/// The greatest cut of histories; how many events of whom are cut off is reported to `err`.
 fn cut_told<E: Write>(
     alloc: Global,
     setup: &Setup,

@@ -26,7 +26,7 @@ pub struct Sources<'a> {
     pub journals: Option<&'a [&'a str]>,
 }
 
-/// What is told of a live run whose connections could not be made.
+/// What is said of a live run whose connections could not be made.
 const NET: &str =
     "net: a listener could not be opened, or a connection not be made, over the loopback of this machine; each actor has a \
 listener, each site two connections with each other actor, and each connection two of the files that `ulimit -n` allows\n";

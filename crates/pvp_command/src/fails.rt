@@ -63,7 +63,7 @@ fn read_fail(word: &[u8]) -> Option<Fail>
     fail_told(read_number(site), read_number(at), read_keep(keep))
 }
 
-/// The save that three fields name, where each of them is told.
+/// The save that three fields name, where each of them is given.
 fn fail_told(site: Option<u16>, at: Option<u16>, keep: Option<bool>) -> Option<Fail>
     ensures { result ≡ fail_told site at keep }
 {

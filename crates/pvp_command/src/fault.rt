@@ -1,4 +1,4 @@
-//! What ends a run of the program, as it is told on standard error.
+//! What ends a run of the program, as it is reported on standard error.
 
 use crate::files::{FileFault, Source, Unread};
 use pvp_evidence::{EvidenceFault, EvidenceWhy, PutFault, ShelfFault};
@@ -8,7 +8,7 @@ use pvp_text::{LineCode, RunFault, TextFault};
 use std::alloc::{AllocError, AllocFailed};
 use thiserror::Error;
 
-/// Why a run ended, printed as the line that tells it.
+/// Why a run ended, printed as the line that reports it.
 #[derive(Clone, Copy, Debug, PartialEq, Eq, Error)]
 pub enum Fault {
     /// The setup is no JSON, or breaks a rule.

@@ -45,12 +45,12 @@ pub enum Unread {
     Name,
     /// It is larger than `MOST_BYTES`, or has no end.
     Size,
-    /// The system tells another reason.
+    /// The system gives another reason.
     Other,
 }
 
 impl Unread {
-    /// What an error of this kind tells of a file.
+    /// What an error of this kind says of a file.
     fn of(kind: ErrorKind) -> Self
         ensures { result ≡ unread_of kind }
     {

@@ -1,4 +1,4 @@
-//! Banks that run by themselves.
+//! Live runs of banks.
 ghost use Rattle.std.specs.Prelude.{◌≡◌, OnOk, IfOk, IfErr, IfSome, option_map};
 ghost use Rattle.std.specs.Io.KnownBytes.{Appends};
 ghost use Rattle.pvp_types.specs.Setup.{IsValid};
@@ -27,20 +27,20 @@ use std::time::Clock;
 /// The status of a live run whose audit says no.
 const AUDIT_NO: u8 = 3;
 
-/// How a live run is told at its end.
+/// What a live run prints at its end.
 #[derive(Clone, Copy, Debug, PartialEq, Eq)]
 pub enum Ending {
-    /// By the books that it left.
+    /// The books that it left.
     Books,
-    /// As the script of a play that leaves the same books.
+    /// The script of a play that leaves the same books.
     Script,
 }
 
-/// How a live run is told.
+/// The options of a live run.
 #[derive(Clone, Copy, Debug)]
 pub struct Told<'a> {
     pub ending: Ending,
-    /// Whether it is told what goes on.
+    /// Whether it reports what goes on.
     pub verbose: bool,
     /// The folder into which the journals of its actors are put.
     pub journal: Option<&'a str>,
@@ -53,9 +53,10 @@ pub(crate) struct Rules<'a> {
     pub text: &'a [u8],
 }
 
-/// Runs a bank by itself while a script is played, prints how it was judged, and answers the status. Where a folder is named
-/// the journals of its actors are put there first. At the end `err` is told which lines were refused, and where that is asked
-/// for it is told what goes on, while it does.
+/// Runs a bank by itself while a script is played, prints how it was judged, and answers the
+/// status. Where a folder is named the journals of its actors are put there first. At the end it
+/// reports to `err` which lines were refused, and where that is asked for what goes on, while it
+/// does.
 pub fn live<R, F: Files, K: Shelf, O: Write, E: Write>(
     rt: &R,
     alloc: Global,
@@ -89,7 +90,8 @@ where
     live_script(rt, alloc, files, shelf, told, rules, script, out, err)
 }
 
-/// Judges setup and script of a bank that is to run by itself, and then tells that there is no net.
+/// Judges setup and script of a bank that is to run by itself, and then reports that there is no
+/// net.
 pub fn without_net<F: Files, O>(
     alloc: Global,
     files: &F,
@@ -109,7 +111,7 @@ pub fn without_net<F: Files, O>(
     script_without_net(alloc, files, &setup, script, _out)
 }
 
-/// Judges the script of such a bank, and then tells that there is no net.
+/// Judges the script of such a bank, and then reports that there is no net.
 fn script_without_net<F: Files, O>(
     alloc: Global,
     files: &F,

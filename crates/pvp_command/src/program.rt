@@ -44,17 +44,18 @@ use std::time::Clock;
 /// The status of a run that ended as it should.
 const DONE: u8 = 0;
 
-/// The status of a run that a fault ended, which is told in one line.
+/// The status of a run that a fault ended, which is reported in one line.
 const FAULT: u8 = 1;
 
 /// The status of words that ask for nothing that the program does.
 const NO_FORM: u8 = 2;
 
-/// Does what the words ask for, and answers the status of the program: 0, or 1 for a fault, or 2 for words of no form,
-/// for help and for the version, or 3 where an audit says no. Faults, and why words have no form, go to `err`, the
-/// journals of a live run and keys to `shelf`, all else to `out`. An actor is served by another call: words that ask
-/// for that are told as `fault net` here. Where the reader of `out` is gone, as that of a closed pipe is, nothing is
-/// told. At 0 and at 3 the whole text of a request is written, where the bytes of its files are known; that it is the
+/// Does what the words ask for, and answers the status of the program: 0, or 1 for a fault, or 2
+/// for words of no form, for help and for the version, or 3 where an audit says no. Faults, and why
+/// words have no form, go to `err`, the journals of a live run and keys to `shelf`, all else to
+/// `out`. An actor is served by another call: words that ask for that get `fault net` here. Where
+/// the reader of `out` is gone, as that of a closed pipe is, nothing is reported. At 0 and at 3 the
+/// whole text of a request is written, where the bytes of its files are known; that it is the
 /// request which the words ask for is not said here.
 pub fn command_on<R, S: AsStr, F: Files, K: Shelf, O: Write + Audience, E: Write>(
     rt: &R,
@@ -86,8 +87,8 @@ where
     }
 }
 
-/// Does what the words ask for as `command_on` does, on a machine without threads and net: a live run whose setup and
-/// script read right is told as `fault net`.
+/// Does what the words ask for as `command_on` does, on a machine without threads and net: a live
+/// run whose setup and script read right gets `fault net`.
 pub fn command<S: AsStr, F: Files, O: Write + Audience, E: Write>(
     alloc: Global,
     words: &[S],
@@ -146,7 +147,7 @@ fn tell<E: Write>(told: Result<u8, Fault>, err: &mut E) -> u8
     status_of(told)
 }
 
-/// Tells a fault as `tell` does, and where that is asked for the line that explains it.
+/// Prints a fault as `tell` does, and where that is asked for the line that explains it.
 fn tell_more<F: Files, E: Write>(
     alloc: Global,
     told: Result<u8, Fault>,

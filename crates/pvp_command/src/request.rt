@@ -37,7 +37,7 @@ pub enum Request<'a> {
         script: &'a str,
         fails: Vec<Fail>,
     },
-    /// A bank that runs by itself while a script is played, and how that is told.
+    /// A bank that runs by itself while a script is played, and how that is reported.
     Live {
         told: Told<'a>,
         setup: &'a str,
@@ -167,7 +167,7 @@ fn parse_live<'a>(words: &ArgMatches<'a>) -> Option<Request<'a>> {
     })
 }
 
-/// How a run is to be told at its end.
+/// What a run is to print at its end.
 fn ending_at(words: &ArgMatches<'_>) -> Ending {
     if words.get_flag("script-again") {
         Ending::Script
@@ -268,7 +268,7 @@ const FAIL_HELP: &str =
     "Lets a save of a site's boot cell fail; may stand once for each site. SITE is the number of a site, AT counts its saves \
 from 1 and is at most 65535, and the cell then holds the new value at `new` and the one before at `old`. Numbers have no leading zero";
 
-/// What is told of words that name no saves.
+/// The error for words that name no saves.
 const NO_FAILS: &str =
     "`--fail` takes SITE:AT:KEEP, and each site once: SITE and AT are numbers up to 65535 without a leading zero, AT is \
 not 0, and KEEP is `new` or `old`";
@@ -287,7 +287,7 @@ const FROM_HELP: &str =
 
 const TO_HELP: &str = "With --svg: the last step that is drawn; else 60 at most are";
 
-/// What is told of words that name no steps.
+/// The error for words that name no steps.
 const NO_STEPS: &str =
     "`--from` and `--to` stand beside `--svg` and take a number of a step, from 1 to 4294967295 without a leading zero, \
 and the last step is not before the first";
@@ -418,7 +418,7 @@ fn with_picture<'a>(alloc: Global) -> Result<Command<'a>, AllocError> {
         .arg(step(alloc, "to", TO_HELP))
 }
 
-/// The live run, which may be told as a script.
+/// The live run, which may be printed as a script.
 fn with_ending<'a>(alloc: Global) -> Result<Command<'a>, AllocError> {
     with_script(alloc, "live", LIVE_ABOUT)?
         .arg(flag(alloc, "script-again", AGAIN_HELP).long("script"))?

@@ -1,4 +1,5 @@
-//! The words that ask for an actor to be begun or served, and what is told where it is not, or no longer.
+//! The words that ask for an actor to be begun or served, and what is reported where it is not, or
+//! no longer.
 
 ghost use Rattle.std.specs.Prelude.{◌≡◌, true, map, IfErr, IfSome, OnOk};
 ghost use Rattle.pvp_command.specs.Codes.{begins_with_serve};
@@ -65,7 +66,7 @@ pub fn tell_served<E: Write>(told: Result<(), ServeFault>, explains: bool, err: 
     1
 }
 
-/// What is told of words that name no actor, or no number where one stands.
+/// The error for words that name no actor, or no number where one stands.
 pub const NO_TASK: &str =
     "`begin` and `serve` take one of `--site I`, `--node CCY` and `--client NAME`; `--beat` a number from 5 to 60000, and `--patience` one from 2 \
 to 1000, without a leading zero";
@@ -73,7 +74,7 @@ to 1000, without a leading zero";
 /// The least and the most milliseconds from beat to beat, and those that are meant where none stand.
 const BEATS: (u32, u32, u32) = (5, 60_000, 50);
 
-/// The same of a site's patience.
+/// The least and the most beats of a site's patience, and those that are meant where none stand.
 const PATIENCES: (u32, u32, u32) = (2, 1000, 6);
 
 /// What the words behind this command ask to be done with an actor.

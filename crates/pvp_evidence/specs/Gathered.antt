@@ -1,4 +1,4 @@
--- Which journals are those of one bank, and what is told of others.
+-- Which journals are those of one bank, and what is reported of others.
 use Rattle.std.specs.Prelude.{◌≡◌, ◌*◌, ℕ, ◌+◌, ◌==◌, Bool, false, not, nat_le, nat_lt, List, ◌++◌, length, map, take, slice_get, Option, Some, None, codes, IsPermutation, if◌then◌else◌}
 use Rattle.std.specs.List.{list_any, find, range_with_len}
 use Rattle.std.specs.List.Sorted.{IsNonDecreasingBy}
@@ -94,7 +94,7 @@ pub record AreOneBank (setup : Setup) (mark : List ℕ) (journals : List Kept) (
   pub same : IsPermutation (map history_of journals) histories
   pub order : IsNonDecreasingBy (λ history. history.actor) histories
 
--- what is told of journals that are not: of several things the first, and memory is asked for last
+-- what is reported of journals that are not: of several things the first, and memory is asked for last
 abbrev pub GatherFails : Setup → List ℕ → List Kept → EvidenceFault → Type 0
 GatherFails setup mark journals (Journal place it) = IsWrongAt setup mark journals place it
 GatherFails setup mark journals (Missing actor) =

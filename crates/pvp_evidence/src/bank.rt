@@ -18,7 +18,7 @@ pub fn bank_of(setup: &[u8], life: [u8; 16]) -> [u8; 32]
     bank
 }
 
-/// What tells the text of a setup from others.
+/// What distinguishes the text of a setup from others.
 #[tactic(auto, unfolding(crate::specs::Bank::mark_of))]
 pub(crate) fn mark_of(setup: &[u8]) -> [u8; 16]
     ensures { result ≡ mark_of setup.now }

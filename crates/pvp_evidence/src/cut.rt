@@ -1,4 +1,5 @@
-//! The greatest cut of histories that were copied while their actors went on, or of which one lost its end.
+//! The greatest cut of histories that were copied while their actors still ran, or one of which was
+//! truncated.
 ghost use Rattle.std.specs.Prelude.{◌≡◌, ◌<◌, ◌≤◌, IfOk, length, map, false, true};
 ghost use Rattle.pvp_types.specs.declared.setup.Setup.{Setup};
 ghost use Rattle.pvp_evidence.specs.Actors.{AreOfTheBank};

@@ -1,4 +1,4 @@
-//! The journals of one bank, told from those that are not.
+//! The journals of one bank, distinguished from others.
 ghost use Rattle.std.specs.Prelude.{◌≡◌, ◌+◌, ◌<◌, ◌^◌, IfOk, IfErr, map};
 ghost use Rattle.std.specs.List.{find};
 ghost use Rattle.pvp_types.specs.Setup.{IsValid};
@@ -83,8 +83,8 @@ impl<T: Drop> From<AllocFailed<T>> for EvidenceFault {
 /// The histories of journals that are those of all actors of a bank with this setup, which has this text, in order of the
 /// actors' numbers.
 ///
-/// The first journal that is wrong is told, by the first of V1 to V4 that is wrong with it behind those before it; then
-/// V5, with the first actor who has none. Memory is asked for last.
+/// The first journal that is wrong is reported, by the first of V1 to V4 that is wrong with it
+/// behind those before it; then V5, with the first actor who has none. Memory is asked for last.
 pub fn gather(
     alloc: Global,
     setup: &Setup,

@@ -143,7 +143,8 @@ fn fault_of(fault: io::Error) -> ShelfFault
     }
 }
 
-/// What a file's owner may do with it, and nobody else: a journal tells the whole business of an actor, and keys speak for it.
+/// What a file's owner may do with it, and nobody else: a journal has the whole business of an
+/// actor, and keys speak for it.
 const OWNERS: u32 = 0o600;
 
 /// Writes a file that is not there yet.
@@ -189,9 +190,10 @@ impl<R: Files + Alloc + Clone + Drop> Shelf for DiskShelf<R> {
     }
 }
 
-/// Puts the journals of these actors of a bank into a folder that was opened, each in a file of the actor's name and
-/// `.journal`: their heads with this id of the bank, and all that they took. The first fault ends it: V6 to V8 as the
-/// shelf has just told it, M8 where an event that one of them took has no text.
+/// Puts the journals of these actors of a bank into a folder that was opened, each in a file of the
+/// actor's name and `.journal`: their heads with this id of the bank, and all that they took. The
+/// first fault ends it: V6 to V8 as the shelf has just reported it, M8 where an event that one of
+/// them took cannot be encoded.
 pub fn put_journals<S: Shelf>(
     alloc: Global,
     shelf: &mut S,

@@ -1,4 +1,4 @@
--- What stands at the front of what came over a link, and what is wrong with it: the first of the tests that fails.
+-- What is at the front of the bytes from a link, and what is wrong with it: the first of the tests that fails.
 use Rattle.std.specs.Prelude.{ℕ, ◌+◌, ◌≤◌, ◌==◌, ◌&&◌, ◌||◌, ◌≡◌, ◌⊎◌, ◌++◌, Bool, true, false, not, nat_lt, nat_le, List, length, take, drop, Option, Some, None, Result, Ok, Err, if◌then◌else◌}
 use Rattle.std.specs.Str.{bytes_eq}
 use Rattle.byteorder.specs.Endian.{big_number}
@@ -133,7 +133,7 @@ pub record IsHeard (link : Link) (stamped : Stamped) (size : ℕ) (bytes : List 
 -- ---- what a function returned
 
 -- what a function that takes memory for rows returned, seen by view, is what stands there: only where one has to be
--- kept may it tell that memory was refused
+-- kept may it report that memory was refused
 abbrev pub Gives : {X Y : Type 0} → (X → Y) → Result X LinkFault → (Bool → Result Y LinkFault) → Type 0
 Gives view (Ok x) read = read false ≡ Ok (view x)
 Gives view (Err why) read = (read false ≡ Err why) ⊎ ((why ≡ fault.NoMemory) × (read true ≡ Err fault.NoMemory))

@@ -1,4 +1,4 @@
--- What an intake does with the bytes that came over a stream and are not taken yet.
+-- What an intake does with a stream's bytes that are not taken yet.
 use Rattle.std.specs.Prelude.{ℕ, ◌+◌, ◌≡◌, ◌⊎◌, Bool, true, false, List, drop, Option, Some, None, Result, Ok, Err}
 use Rattle.pvp_intake.specs.declared.fault.LinkFault.{LinkFault}
 use Rattle.pvp_intake.specs.declared.fault.LinkFault.TheVariants as fault

@@ -1,4 +1,4 @@
--- Why a stream is read no longer, in words.
+-- Why a stream is no longer read, in words.
 use Rattle.std.specs.Prelude.{ℕ, List, codes}
 use Rattle.pvp_wire.specs.Fault.{fault_code_text}
 use Rattle.pvp_intake.specs.declared.fault.LinkFault.{LinkFault}

@@ -1,4 +1,4 @@
-//! Why a stream is read no longer.
+//! Why a stream is no longer read.
 
 use pvp_wire::WireFault;
 use std::fmt;

@@ -46,7 +46,8 @@ pub fn lasts()
         hello_at link (bytes ++ more) ≡ hello_at link bytes }
 {}
 
-/// Want of memory is no fault of a stream: it is told only where memory was refused for the rows of a frame.
+/// Lack of memory is no fault of a stream: it is reported only where memory was refused for the
+/// rows of a frame.
 pub fn memory()
     ensures { (link : Link) (bytes : List ℕ) → front link bytes ≢ Err LinkFault.NoMemory }
 {}

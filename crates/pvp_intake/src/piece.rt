@@ -1,4 +1,4 @@
-//! What stands at the front of what came over a link.
+//! What is at the front of the bytes from a link.
 ghost use Rattle.std.specs.Prelude.{◌≡◌, ◌≤◌, ◌+◌, length, IfOk, IfSome};
 ghost use Rattle.pvp_intake.specs.Sealing.{tag_size};
 ghost use Rattle.pvp_wire.specs.Reading.{Finds};

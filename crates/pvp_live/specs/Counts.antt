@@ -1,4 +1,4 @@
--- What is told of a live run when it has ended: how many envelopes were sent, how many came, and where the sites stand.
+-- What a live run reports at its end: how many envelopes were sent, how many came, and the status of the sites.
 use Rattle.std.specs.Prelude.{ℕ, ◌+◌, ◌-◌, ◌^◌, min, Bool, true, false, not, List, [], ◌∷◌, ◌++◌, length, option_to_list, Option, Some, None, codes, decimal}
 use Rattle.std.specs.List.{sum_by, count_by, flat_map}
 use Rattle.pvp_types.specs.declared.setup.Setup.{Setup}

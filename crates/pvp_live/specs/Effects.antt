@@ -12,7 +12,7 @@ use Rattle.pvp_parties.specs.declared.party.PartyOutcome.TheVariants as party
 use Rattle.pvp_live.specs.declared.effects.Effect.{Effect}
 use Rattle.pvp_live.specs.declared.effects.Effect.TheVariants.{Sent, Dropped, Refused, ClockSpent}
 
--- a client's refusal as the world tells it
+-- a client's refusal as the world reports it
 abbrev pub client_told : ClientFault → WorldFault
 client_told client.Outstanding = world.Outstanding
 client_told client.Spent = world.Spent

@@ -11,7 +11,7 @@ use Rattle.pvp_live.specs.Seating.{BankSeat}
 use Rattle.pvp_live.specs.declared.running.LiveFault.{LiveFault}
 use Rattle.pvp_live.specs.declared.running.LiveFault.TheVariants.{Net, NoMemory, Seats}
 
--- what a fault of the net is told as
+-- how a fault of the net is reported
 abbrev pub net_told : NetFault → LiveFault
 net_told net.Net = Net
 net_told net.NoMemory = NoMemory
@@ -32,8 +32,8 @@ pub record AreConnected (S : Type 0) (actors : List ℕ) : Type 0 where
   pub streams : List (Incoming S)
   pub all : ends_of streams ≡ links actors actors
 
--- WHY A RUN HAS NO JUDGEMENT. The net: then nothing was told yet, and no line was played. A seat or a cell: then the
--- actors had been connected. Memory may be refused at any time.
+-- WHY A RUN HAS NO JUDGEMENT. The net: then nothing was reported yet, and no line was played. A seat or a cell: then
+-- the actors had been connected. Memory may be refused at any time.
 abbrev pub Ends : {N : Type 0} → (S : Type 0) → List ℕ → N → N → LiveFault → Type 0
 Ends S actors old new Net = new ≡ old
 Ends S actors old new Seats = AreConnected S actors

@@ -1,4 +1,4 @@
--- What is told of a live run while it runs, in words.
+-- What a live run reports while it runs, in words.
 use Rattle.std.specs.Prelude.{ℕ, List, [], ◌++◌, Option, Some, None, codes, decimal}
 use Rattle.std.specs.List.{flat_map}
 use Rattle.pvp_types.specs.declared.setup.Setup.{Setup}
@@ -25,7 +25,7 @@ end_text Down view = codes "down"
 abbrev pub sighting_text : Setup → Sighting → List ℕ
 sighting_text setup sighting = actor_text setup sighting.actor ++ codes " " ++ end_text sighting.status sighting.view
 
--- one of several looks: of an actor that is no site nothing is told
+-- one of several looks: of an actor that is no site nothing is reported
 abbrev pub look_text : Setup → Option Sighting → List ℕ
 look_text setup (Some sighting) = sighting_text setup sighting ++ codes ", "
 look_text setup None = []
@@ -33,7 +33,7 @@ look_text setup None = []
 abbrev pub frames_text : Frames → List ℕ
 frames_text frames = decimal frames.sent ++ codes " frames sent, " ++ decimal frames.came ++ codes " came\n"
 
--- what is told behind a line
+-- what is reported behind a line
 abbrev pub sites_text : Setup → ℕ → List (Option Sighting) → Frames → List ℕ
 sites_text setup line looks frames =
     codes "line " ++ decimal line ++ codes ": " ++ flat_map (look_text setup) looks ++ frames_text frames

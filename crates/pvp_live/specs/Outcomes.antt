@@ -1,4 +1,4 @@
--- What the event of a line came to, in words.
+-- The outcome of a line's event, in words.
 use Rattle.std.specs.Prelude.{ℕ, List, [], ◌++◌, Option, Some, None, codes, decimal}
 use Rattle.pvp_types.specs.declared.setup.Setup.{Setup}
 use Rattle.pvp_trace.specs.Names.{actor_text}
@@ -18,7 +18,7 @@ clock_text None = []
 abbrev pub answer_text : Option (Answer PartyOutcome) → List ℕ
 answer_text answer = clock_text answer ++ codes ": " ++ effect_text (line_effect answer)
 
--- what came of the event that a line posted at an actor
+-- the outcome of the event that a line posted at an actor
 abbrev pub posted_text : Setup → ℕ → ℕ → Option (Answer PartyOutcome) → List ℕ
 posted_text setup line actor answer =
     codes "line " ++ decimal line ++ codes ": " ++ actor_text setup actor ++ answer_text answer ++ codes "\n"

@@ -10,7 +10,7 @@ refused_after before line None = before
 refused_after None line (Some fault) = Some (record { count = 1; line = line; fault = fault })
 refused_after (Some first) line (Some fault) = Some (record first { count = min (first.count + 1) 4294967295 })
 
--- how it is told
+-- how it is reported
 abbrev pub refused_text : Refused → List ℕ
 refused_text refused =
     if refused.count == 1

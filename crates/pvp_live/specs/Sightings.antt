@@ -1,4 +1,4 @@
--- Where the sites of a live run stand, as each is seen under its lock.
+-- The status of each site of a live run, as it is seen under its lock.
 use Rattle.std.specs.Prelude.{◌≡◌, List, length, Option, Some, None}
 use Rattle.std.specs.List.{All, filter}
 use Rattle.vr_types.specs.Actors.{is_site}

@@ -62,7 +62,7 @@ fn effect_of(outcome: &PartyOutcome) -> Effect
     }
 }
 
-/// A client's refusal as the world tells it.
+/// A client's refusal as the world reports it.
 fn client_told(fault: ClientFault) -> WorldFault
     ensures { result ≡ client_told fault }
 {

@@ -1,5 +1,5 @@
-//! A bank that runs by itself: each actor behind its own lock and its own listener on this machine, frames between them,
-//! and at the end a judgement of all that they did.
+//! A bank on threads: each actor behind its own lock and its own listener on this machine, frames
+//! between them, and at the end a verdict on their run.
 #![tactic(auto)]
 
 pub mod actors;

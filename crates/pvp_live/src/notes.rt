@@ -1,4 +1,5 @@
-//! What goes on in a live run, told line by line while it runs. Who listens may be slow or gone: what cannot be told is not.
+//! Reports of a live run, line by line while it runs. Who reads them may be slow or gone: what
+//! cannot be written is left out.
 
 ghost use Rattle.std.specs.Prelude.{◌≡◌, ◌++◌, true, OnOk, option_copied, string_bytes};
 ghost use Rattle.std.specs.List.{flat_map};
@@ -31,7 +32,8 @@ pub fn tell_rest<N: Write>(notes: &mut N, line: u32, milliseconds: u32) {
     let _ = write!(notes, "line {line}: rests {milliseconds} ms\n");
 }
 
-/// Tells what came of the event that a line posted at an actor; where there is no answer, there is no such actor.
+/// Reports the outcome of the event that a line posted at an actor; where there is none, there is
+/// no such actor.
 pub fn tell_posted<N: Write>(
     alloc: Global,
     notes: &mut N,
@@ -135,7 +137,7 @@ fn push_look(text: &mut String, setup: &Setup, look: Option<Sighting>) -> Result
     text.push_str(", ")
 }
 
-/// Appends where a site stands.
+/// Appends a site's status.
 fn push_sighting(text: &mut String, setup: &Setup, sighting: Sighting) -> Result<(), AllocError>
     ensures { OnOk result (string_bytes text.new
         ≡ string_bytes text.old ++ sighting_text setup.now sighting) }
@@ -190,7 +192,7 @@ fn push_ends(text: &mut String, setup: &Setup, closed: &[Closed<Party>]) -> Resu
     text.push_str("\n")
 }
 
-/// Appends where a site stands, the first of several or another.
+/// Appends a site's status, the first of several or another.
 fn push_next(
     text: &mut String,
     setup: &Setup,
@@ -218,7 +220,7 @@ fn push_end(text: &mut String, status: Status, view: u32) -> Result<(), AllocErr
     }
 }
 
-/// Appends what came of the event that a line posted.
+/// Appends the outcome of the event that a line posted.
 fn push_posted(
     text: &mut String,
     setup: &Setup,

@@ -38,7 +38,8 @@ impl Gate for Open {
     fn leave<A: Actor>(&mut self, _actor: u16, _room: &Room<A>, _answer: &Answer<A::Outcome>) {}
 }
 
-/// Posts what the lines of a script say, one after another, and tells what came of each, and where the sites stand.
+/// Posts what the lines of a script say, one after another, and reports the outcome of each, and
+/// the status of the sites.
 #[derive(Drop)]
 pub struct LinePlayer<'a, R, N, C: BootCell> {
     pub rt: &'a R,
@@ -80,8 +81,9 @@ impl<R: Wait + Clock, N: Write, C: BootCell> LinePlayer<'_, R, N, C> {
         }
     }
 
-    /// Posts the event of a line, and hands on what that sends. What came of it is told before, and behind a line at a site
-    /// where all sites stand, so that nothing of this rests on what is handed on.
+    /// Posts the event of a line, and hands on what that sends. Its outcome is reported before, and
+    /// behind a line at a site the status of all sites, so that nothing of this depends on what is
+    /// handed on.
     fn post<O: Outbox>(&mut self, line: Line, post: Post, out: &mut O)
         ensures posted { HandsOver self.old.cells.now line.number (Some post)
             (keeps self.old.seats.items self.old.refused)
@@ -113,8 +115,8 @@ impl<R: Wait + Clock, N: Write, C: BootCell> LinePlayer<'_, R, N, C> {
         Some(cell.post(self.rt, self.alloc, seat, input, &mut Open))
     }
 
-    /// Tells what came of the event that a line posted, and behind one at a site where all sites stand. A line that was
-    /// refused is counted.
+    /// Reports the outcome of the event that a line posted, and behind one at a site the status of
+    /// all sites. A line that was refused is counted.
     fn note(&mut self, line: u32, actor: u16, answer: Option<&Answer<PartyOutcome>>)
         ensures refused { self.new.refused
             ≡ refused_after self.old.refused line
@@ -148,7 +150,7 @@ impl<R: Wait + Clock, N: Write, C: BootCell> LinePlayer<'_, R, N, C> {
         }
     }
 
-    /// Looks at the sites, and tells where they stand, and how many frames went over the streams.
+    /// Looks at the sites, and reports their status, and how many frames went over the streams.
     fn tell(&mut self, line: u32)
         ensures seats { self.new.seats ≡ self.old.seats }
         ensures refused { self.new.refused ≡ self.old.refused }

@@ -55,7 +55,7 @@ impl From<AllocError> for LiveFault {
     }
 }
 
-/// A refusal of memory is told as that.
+/// A refusal of memory is reported as that.
 impl<T: Drop> From<AllocFailed<T>> for LiveFault {
     ghost use Rattle.std.specs.Prelude.{◌≡◌};
     ghost use Rattle.pvp_live.specs.declared.running.LiveFault.TheVariants.{NoMemory};
@@ -103,11 +103,12 @@ pub struct Lived {
     pub refused: Option<Refused>,
 }
 
-/// Runs a bank by itself while a script is played, and judges what its actors did. Each site stands over one of these boot
-/// cells, in their order, of which each has to be new. Each actor has a lock of its own and a stream from each other that
-/// may send to it. At the script's end the writers stop, all workers end, and the actors are judged; a refused step of the
-/// script stands in the history, and which lines were refused is told beside the judgement. What goes on is told to
-/// `notes` while it runs.
+/// Runs a bank by itself while a script is played, and judges what its actors did. Each site stands
+/// over one of these boot cells, in their order, of which each has to be new. Each actor has a lock
+/// of its own and a stream from each other that may send to it. At the script's end the writers
+/// stop, all workers end, and the actors are judged; a refused step of the script stands in the
+/// history, and which lines were refused is reported beside the judgement. What goes on is reported
+/// to `notes` while it runs.
 pub fn live<R, C: BootCell + Send, N: Write>(
     rt: &R,
     alloc: Global,
@@ -195,7 +196,7 @@ fn judge_left(
     }
 }
 
-/// The lines to play, and who is told what goes on.
+/// The lines to play, and who hears what goes on.
 #[derive(Drop)]
 struct Script<'a, N> {
     setup: &'a Setup,

@@ -1,4 +1,4 @@
-//! Where the sites stand while a run goes on, as each is seen under its lock.
+//! The status of the sites during a run, as each is seen under its lock.
 ghost use Rattle.std.specs.Prelude.{◌≡◌, IfOk};
 ghost use Rattle.pvp_live.specs.Sightings.{AreLooks, IsLook, sighting_of};
 
@@ -8,7 +8,7 @@ use std::alloc::{AllocError, Global};
 use std::sync::Wait;
 use vr_types::{BootCell, Status, is_site};
 
-/// What is seen of a site: where it stands.
+/// What is seen of a site: its status.
 #[derive(Clone, Copy, Debug, PartialEq, Eq)]
 pub struct Sighting {
     /// Its number as an actor.

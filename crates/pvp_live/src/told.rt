@@ -11,8 +11,9 @@ use pvp_text::book::{RunFault, write_text};
 use std::alloc::{AllocError, Global};
 use std::io::Write;
 
-/// Writes the books of a Yes and `audit yes`, or of a No the one line `audit no ACTOR EVENT CODE`. Where memory is refused
-/// nothing is written; how much was where the writer fails is not said.
+/// Writes the books of a Yes and `audit yes`, or of a No the one line `audit no ACTOR EVENT CODE`.
+/// Where memory is refused nothing is written; how much was written where the writer fails is not
+/// said.
 pub fn print_judgement<W: Write>(
     alloc: Global,
     judgement: &Judgement,

@@ -1,4 +1,4 @@
--- A history that is taken again, and a room that goes on behind it.
+-- A replayed history, and the room that continues behind it.
 use Rattle.std.specs.Prelude.{◌≡◌, ◌==◌, ℕ, ◌+◌, ◌-◌, nat_lt, Bool, true, false, not, List, [], ◌∷◌, ◌++◌, map, Option, Some, None, IfSome, if◌then◌else◌}
 use Rattle.std.specs.List.{range_with_len}
 use Rattle.vr_types.specs.declared.cell.Boot.{Boot}

@@ -18,8 +18,8 @@ pub fn is_a_journal()
         ≡ journal_text head history }
 {}
 
-/// What a power cut leaves of such a log, where its head was synced, reads as a front of the history, with what is left
-/// told as torn and never as damaged.
+/// What a power cut leaves of such a log, where its head was synced, reads as a front of the
+/// history, with what is left reported as torn and never as damaged.
 pub fn after_a_cut()
     ensures { (head : Head) (history : List Entry) (synced : ℕ) (left : List ℕ) →
         AreJournalable head history →

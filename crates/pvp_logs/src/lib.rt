@@ -1,5 +1,5 @@
-//! Actors whose history is no data in memory: it stands in a journal, on a log that only grows, written before anything
-//! that an actor sent leaves it.
+//! Actors whose history is not in memory but in a journal, on a log that only grows. A record is
+//! written there before anything that its event sent leaves the actor.
 #![tactic(auto)]
 
 pub mod file;

@@ -1,4 +1,4 @@
-//! Coming back: a history is taken again, which is no event, and its room goes on.
+//! Coming back: a history is replayed, which is no event, and its room goes on.
 ghost use Rattle.std.specs.Prelude.{◌≡◌, List, Option, IfOk, IfSome, IfNone};
 ghost use Rattle.vr_types.specs.declared.cell.Boot.{Boot};
 ghost use Rattle.pvp_rooms.specs.Histories.{IsRising, last_clock, stamp_clock};
@@ -20,7 +20,7 @@ use pvp_wire::Stamp;
 use std::alloc::{AllocError, Global};
 use vr_types::BootCell;
 
-/// An actor that took a history again, and the last clock of that; 0 where it is empty.
+/// An actor that replayed a history, and the last clock of that; 0 where it is empty.
 #[derive(Drop)]
 pub struct Replayed<A> {
     pub actor: A,
@@ -44,13 +44,13 @@ impl<C: BootCell> Replayed<PartyOf<C>> {
     }
 }
 
-/// Whoever is told how far a history was taken again.
+/// Hears how far a history was replayed.
 pub trait Pace {
-    /// So many events of so many were taken.
+    /// So many events of all were taken.
     fn passes(&mut self, taken: usize, all: usize);
 }
 
-/// Nobody is told.
+/// Nobody hears it.
 #[derive(Drop)]
 pub struct Untold;
 
@@ -58,8 +58,9 @@ impl Pace for Untold {
     fn passes(&mut self, _taken: usize, _all: usize) {}
 }
 
-/// Takes a history again at the actor as it opened, and tells how far it came. `None` where an event cannot come out as it is
-/// recorded, or a clock is not above the one before it and its stamp's; `Err` where memory is refused.
+/// Replays a history at the actor as it opened, and reports its progress. `None` where an event
+/// cannot come out as it is recorded, or a clock is not above the one before it and its stamp's;
+/// `Err` where memory is refused.
 pub fn replay<A: Audited, P: Pace>(
     alloc: Global,
     actor: A,

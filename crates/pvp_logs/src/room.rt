@@ -1,4 +1,4 @@
-//! One actor whose history is no data in memory.
+//! One actor whose history is in its journal and not in memory.
 ghost use Rattle.std.specs.Prelude.{◌≡◌, ◌==◌, Err, IfOk, IfSome, OnOk, IsTrue, length};
 ghost use Rattle.pvp_parties.specs.Parties.{held_of};
 ghost use Rattle.pvp_logs.specs.Log.{OutlivesAll, with_more};
@@ -105,8 +105,8 @@ impl<A: Journaled, L: Log> JournalRoom<A, L> {
         }
     }
 
-    /// The room of an actor that took a history again, over the log that holds the records of that history behind the head
-    /// of its journal, with this checksum after them. It takes no memory.
+    /// The room of an actor that replayed a history, over the log that holds the records of that
+    /// history behind the head of its journal, with this checksum after them. It takes no memory.
     pub fn resume(
         alloc: Global,
         number: u16,

@@ -1,5 +1,6 @@
-//! The ways back of a site whose process was gone. Its cell outlives a power cut, which the end of its journal may not, and
-//! a restart saves before it is recorded: so the cell may be ahead of the journal.
+//! How a site comes back whose process was gone. Its cell outlives a power cut, which the end of
+//! its journal may not, and a restart saves before it is recorded: so the cell may be ahead of the
+//! journal.
 ghost use Rattle.std.specs.Prelude.{◌≡◌, ◌↔◌, [], ◌∷◌, IsTrue, IfOk, IfSome, None, Some};
 ghost use Rattle.pvp_parties.specs.Made.{memory};
 ghost use Rattle.pvp_parties.specs.Parties.{held_of};
@@ -16,14 +17,14 @@ use pvp_rooms::{Actor, CameOf, Input};
 use std::alloc::Global;
 use vr_types::{Boot, BootCell, EventOf, SiteFault, Status};
 
-/// How a site comes back that took its journal again.
+/// How a site comes back that replayed its journal.
 #[derive(Clone, Copy, Debug, PartialEq, Eq)]
 pub enum WayBack {
     /// It is as it was, and goes on: nothing of its journal is missing.
     Again,
     /// Its journal may miss events, which others may have seen: it crashes, and restarts.
     Restarts,
-    /// Restarts saved its cell and are not recorded: each of them fell, and it restarts once more.
+    /// Restarts saved its cell and are not recorded: each of them fell, and it restarts again.
     FellAndRestarts,
 }
 
@@ -56,8 +57,9 @@ pub fn way_back(known: Boot, held: Boot, trusted: bool) -> Option<WayBack>
     None
 }
 
-/// Brings an actor back that took its journal again over a cell in memory: what is missing of a site's history goes behind
-/// it, and its cell stands where the one in memory stood. Whether the restart succeeds, its record says.
+/// Brings an actor back that replayed its journal over a cell in memory: what is missing of a
+/// site's history goes behind it, and its cell stands where the one in memory stood. Whether the
+/// restart succeeds, its record says.
 pub fn restart<C: BootCell, L: Log>(
     alloc: Global,
     room: JournalRoom<Party, L>,

@@ -32,7 +32,7 @@ read_from says x number [] = Ok x
 read_from says x number (line ∷ more) =
     at_line number (with_line says x line) >>= λ now. read_from says now (number + 1) more
 
--- why a file is not read, of whose line this is told
+-- why a file is not read, where this is said of its line
 abbrev pub fault_at : ℕ → LineFault → PlaceFault
 fault_at number (Wrong why) = Line number why
 fault_at number Refused = NoMemory

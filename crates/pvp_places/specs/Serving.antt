@@ -1,4 +1,4 @@
--- How the fault is printed that ends a process of the bank.
+-- How the fault that ends a process of the bank is printed.
 use Rattle.std.specs.Prelude.{ℕ, List, ◌++◌, codes, decimal}
 use Rattle.pvp_text.specs.SetupText.{fault_text}
 use Rattle.pvp_journal.specs.Fault.{why_code as journal_code}

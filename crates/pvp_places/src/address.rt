@@ -51,7 +51,7 @@ fn begins_with_bracket(text: &[u8]) -> bool
     text.first() == Some(&b'[')
 }
 
-/// The same of a text behind its bracket.
+/// The host and the port in a text, behind its opening bracket.
 fn parts_behind_bracket(text: &[u8]) -> (&[u8], &[u8])
     ensures host { result.0.now ≡ (parts_behind_bracket text.now).0 }
     ensures digits { result.1.now ≡ (parts_behind_bracket text.now).1 }

@@ -1,4 +1,4 @@
-//! What is wrong with a file that tells a process of its surroundings.
+//! What is wrong with a file of a process's configuration.
 ghost use Rattle.std.specs.Prelude.{◌≡◌};
 ghost use Rattle.pvp_places.specs.Reading.{fault_at};
 
@@ -117,7 +117,7 @@ pub enum FolderWhy {
     Unsynced,
     /// X5: the boot cell does not fit the journal.
     Cell,
-    /// X6: no actor can have taken what the journal tells.
+    /// X6: no actor can have taken what the journal says.
     History,
     /// X7: the site would listen beyond this machine without keys.
     Open,
@@ -149,7 +149,7 @@ impl fmt::Display for FolderWhy {
     }
 }
 
-/// Why a terminal does not ask its actor for what it was told to.
+/// Why a terminal does not ask its actor for what a line asks.
 #[derive(Clone, Copy, Debug, PartialEq, Eq)]
 pub enum TerminalWhy {
     /// X10: the client has used up its share of the log's rows.

@@ -48,8 +48,8 @@ fn shared_with(shared: &[Shared], actor: u16) -> Option<Shared>
     shared.iter().copied().find(|one| one.actor == actor)
 }
 
-/// Reads a keys file: a line `NAME HEX` for each actor that shares a key with this one. Lines without words and those that
-/// begin with `#` say nothing. The first line that is wrong is told.
+/// Reads a keys file: a line `NAME HEX` for each actor that shares a key with this one. Lines
+/// without words and those that begin with `#` are skipped. The first wrong line is reported.
 pub fn read_keys(alloc: Global, setup: &Setup, bytes: &[u8]) -> Result<Keys, PlaceFault>
     ensures { Reads shared_in result (keys_in setup.now bytes.now) }
 {

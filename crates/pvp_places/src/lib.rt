@@ -1,5 +1,5 @@
-//! What a process of the bank is told of its surroundings: where the sites listen, by which keys frames are tagged, and
-//! whether the journal in its folder is whole.
+//! The configuration of a process of the bank: where the sites listen, by which keys frames are
+//! tagged, and whether the journal in its folder is whole.
 #![tactic(auto)]
 
 pub mod address;

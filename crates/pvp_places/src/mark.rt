@@ -9,9 +9,9 @@ use std::alloc::{AllocError, Global};
 pub enum Mark<'a> {
     /// The actor is being begun: not all of its folder stands yet, and nothing of it was sent.
     Begun,
-    /// All of it was synced before anything that it tells of left the process.
+    /// All of it was synced before anything that depends on it left the process.
     Synced,
-    /// What the system was told to write; so it is whole while this run of the machine lasts.
+    /// It was handed to the system to write, so it is whole until the machine reboots.
     Written(&'a [u8]),
 }
 

@@ -19,7 +19,7 @@ pub struct Order<'a> {
     pub who: Who<'a>,
     /// The text of the setup.
     pub setup: &'a str,
-    /// The file that tells where the sites listen.
+    /// The file that says where the sites listen.
     pub peers: &'a str,
     /// The folder of the actor, in which its journal stands.
     pub data: &'a str,

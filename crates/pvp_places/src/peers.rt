@@ -31,7 +31,7 @@ pub struct Place {
     pub address: Address,
 }
 
-/// What a peers file tells.
+/// What a peers file says.
 #[derive(Debug, Drop)]
 pub struct Peers {
     /// A place for each site, in the order of the file.
@@ -40,9 +40,9 @@ pub struct Peers {
     pub life: Vec<u8>,
 }
 
-/// Reads a peers file: a line `s0 HOST:PORT` for each site of the bank, and at most one `bank NAME`, which names this life
-/// of the bank. Lines without words and those that begin with `#` say nothing. The first line that is wrong is told, then
-/// the first site that has none.
+/// Reads a peers file: a line `s0 HOST:PORT` for each site of the bank, and at most one `bank
+/// NAME`, which names this life of the bank. Lines without words and those that begin with `#` are
+/// skipped. The first wrong line is reported, then the first site that has none.
 pub fn read_peers(alloc: Global, setup: &Setup, bytes: &[u8]) -> Result<Peers, PlaceFault>
     ensures { Reads read_as result (peers_in setup.now bytes.now) }
 {

@@ -17,7 +17,7 @@ pub enum Paper {
     Journal,
 }
 
-/// Why a process does not serve, printed as the line that tells it.
+/// Why a process does not serve, printed as the line that reports it.
 #[derive(Clone, Copy, Debug, PartialEq, Eq)]
 pub enum ServeFault {
     /// The setup is no JSON, or breaks a rule.

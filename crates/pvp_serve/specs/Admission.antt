@@ -60,7 +60,7 @@ is_early (Node ccy) members seen number = true
 is_early (Site site) members seen number = true
 
 -- or within its share of the reserve, of which it took so many rows: but for the first, by what lets money out. So a
--- client that was not told in time that the log is full does not wait for ever
+-- client that did not hear in time that the log is full does not wait for ever
 abbrev pub is_late : ActorId → ℕ → ℕ → Cmd → Bool
 is_late (Client client) members late cmd =
     (lets_out cmd || (late == 0)) && ((client == 0) || nat_lt late (late_share members))
@@ -110,7 +110,7 @@ quota_after Again actor quota = record quota { known = counted actor quota.known
 quota_after Known actor quota = record quota { known = counted actor quota.known }
 quota_after _ actor quota = quota
 
--- and after a tick: now and then the count of known requests begins anew
+-- and after a tick: from time to time the count of known requests begins anew
 abbrev pub quota_ticked : Quota → Quota
 quota_ticked quota =
     if nat_lt quota.ticks (KNOWN_TICKS - 1) then record quota { ticks = quota.ticks + 1 }
@@ -136,7 +136,7 @@ abbrev pub flood_after : Admission → ℕ → Lost → Lost
 flood_after Floods actor lost = record { count = min (lost.count + 1) (2 ^ 64 - 1); last = Some actor }
 flood_after _ actor lost = lost
 
--- A LOG OF SO MANY ROWS IS FULL but for its reserve, or will be soon, of which clients and nodes are told
+-- A LOG OF SO MANY ROWS IS FULL but for its reserve, or will be soon, which is reported to clients and nodes
 abbrev pub is_full_at : ℕ → Bool
 is_full_at log = nat_le (MAX_ROWS - RESERVE - WARNED) log
 
@@ -144,14 +144,14 @@ is_full_at log = nat_le (MAX_ROWS - RESERVE - WARNED) log
 abbrev pub share_for : ℕ → Cmd → ℕ
 share_for members cmd = if lets_out cmd then share_of members + late_share members else share_of members
 
--- a client has used up its shares behind so many requests, or its share of the reserve, where it was told that the log
--- is full as it had made so many. Of the reserve are the next request, those since then, and the one on its way then
+-- a client has used up its shares behind so many requests, or its share of the reserve, where it knows that the log
+-- was full when it had made so many: the next request, those since then, and the one on its way then
 abbrev pub has_used_up : Option ℕ → ℕ → ℕ → Cmd → Bool
 has_used_up None members number cmd = nat_le (share_for members cmd) number
 has_used_up (Some full) members number cmd =
     nat_le (share_for members cmd) number || nat_lt (late_share members) (number - full + 2)
 
--- WHY A CLIENT IS NOT ASKED for a command behind so many requests, where it was told that the log is full or was not
+-- WHY A CLIENT IS NOT ASKED for a command behind so many requests, where it knows that the log is full, or does not
 abbrev pub refusal_of : ℕ → Option ℕ → ℕ → ℕ → Cmd → Option TerminalWhy
 refusal_of client full members number cmd =
     if is_some full && not (lets_out cmd) then Some why.Full

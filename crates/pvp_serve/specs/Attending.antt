@@ -1,4 +1,4 @@
--- What a desk does with what comes, of its kind.
+-- What a desk does with what comes, by its kind.
 use Rattle.std.specs.Prelude.{ℕ, Bool, List, Option, Result, IfOk, IfErr}
 use Rattle.vr_types.specs.declared.cell.Boot.{Boot}
 use Rattle.pvp_rooms.specs.declared.actor.Actor.{Ghosts}
@@ -16,7 +16,7 @@ use Rattle.pvp_serve.specs.Sifting.{sifted}
 use Rattle.pvp_serve.specs.Sites.{SiteTakes}
 use Rattle.pvp_serve.specs.Terminals.{RoomOf, IsTrouble, TakesItem}
 
--- what is worked off of what waits, by the kind of the actor
+-- which of the items that wait are processed, by the kind of the actor
 abbrev pub sifted_for : Desk → ℕ → List Inbox → List Inbox
 sifted_for (Site desk) nonce items = sifted nonce items
 sifted_for (Terminal desk) nonce items = items

@@ -1,4 +1,4 @@
--- What a line at a terminal asks an actor for, and what the loop of a process takes from where its actor stands.
+-- What a line at a terminal asks an actor for, and what the loop of a process takes from its actor's state.
 use Rattle.std.specs.Prelude.{◌≡◌, ℕ, ◌+◌, ◌-◌, ◌%◌, ◌==◌, ◌&&◌, ◌||◌, ◌++◌, Bool, true, false, not, max, nat_lt, List, [], ◌∷◌, length, slice_get, Option, Some, None, is_none, is_some, option_map, Result, Ok, Err, codes, if◌then◌else◌}
 use Rattle.std.specs.Option.{option_map_or}
 use Rattle.vr_types.specs.Actors.{id_of, number_of}
@@ -294,7 +294,7 @@ lanes_after (Came lane) all = with_lane lane all
 lanes_after (Gone peer stream end) all = without_lane peer stream all
 lanes_after _ all = all
 
--- THE FRAMES THAT WERE LOST after an item: one whose clock is not believed is
+-- THE FRAMES THAT WERE LOST after an item: one whose clock is too far ahead is
 abbrev pub lost_after : Inbox → Lost → Lost
 lost_after (Frame arrival latest) lost = lost_with latest arrival.stamped.stamp lost
 lost_after _ lost = lost
@@ -313,8 +313,8 @@ abbrev pub is_end : Inbox → Bool
 is_end End = true
 is_end _ = false
 
--- WHAT A TERMINAL IS OWED once its actor heard something: a client that waits tells the answer that came, and a node's
--- beat may say something again
+-- WHAT A TERMINAL IS OWED once its actor heard something: a client that waits prints the answer that came, and a node's
+-- beat may send something again
 abbrev pub after_answer : ℕ → Option Reply → Bool → TerminalDesk → TerminalDesk
 after_answer number (Some reply) true desk = record desk { waits = false; ticks = 0; owes = Some (number, reply) }
 after_answer number (Some reply) false desk = desk
@@ -334,7 +334,7 @@ is_done request desk =
 abbrev pub next_wait : ℕ → ℕ
 next_wait ticks = if nat_lt (up_to_most (ticks + 1)) TELLING_TICKS then up_to_most (ticks + 1) else 0
 
--- HOW WHAT WAS ASKED FOR CAME OUT, as the terminal is told: of a client's request its answer is told, once it comes
+-- THE OUTCOME OF WHAT WAS ASKED FOR, as the terminal prints it: of a client's request the answer, once it comes
 abbrev pub told_of : PartyOutcome → Told
 told_of (outcome.OfNode (Ok sent)) = Done
 told_of (outcome.OfNode (Err fault)) = Refused fault
@@ -344,7 +344,7 @@ told_of _ = Nothing
 abbrev pub last_told : List (Letter PartyOutcome) → Told
 last_told letters = option_map_or (λ letter. told_of letter.outcome) (slice_get letters (length letters - 1)) Nothing
 
--- what is awaited once that was told: of a client that may not ask, what was before
+-- what is awaited once that was printed: of a client that may not ask, what was before
 abbrev pub waits_told : Option Request → Told → Bool → Bool
 waits_told request Misplaced waits = awaits request
 waits_told request _ waits = waits
@@ -354,12 +354,12 @@ abbrev pub made : Option Request → ℕ
 made None = 0
 made (Some request) = request.number
 
--- a site tells that the log is full, which a terminal notes once
+-- a site reports that the log is full, which a terminal notes once
 abbrev pub full_after : Option Request → TerminalDesk → TerminalDesk
 full_after request desk = if is_some desk.full then desk else record desk { full = Some (made request) }
 
--- WHY A TERMINAL DOES NOT ASK its actor for what a line says: a client's share of the log is used up (X10), or it was
--- told that the log is full, and this lets no money out (X11). A node that was told so pays nothing in
+-- WHY A TERMINAL DOES NOT ASK its actor for what a line says: a client's share of the log is used up (X10), or it
+-- knows that the log is full, and this lets no money out (X11). A node that knows so pays nothing in
 abbrev pub refusal : ℕ → TerminalDesk → Option Request → PartyEvent → Option TerminalWhy
 refusal me desk (Some request) (OfClient (Submits cmd)) =
     refusal_of me desk.full (length desk.setup.members) request.number cmd

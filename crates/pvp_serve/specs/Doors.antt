@@ -10,7 +10,7 @@ use Rattle.pvp_places.specs.declared.serving.ServeFault.TheVariants.{Missing}
 use Rattle.pvp_places.specs.KeysFile.{key_with}
 use Rattle.pvp_serve.specs.declared.listening.Door.{Door}
 
--- the key with a peer: none where frames are not tagged; and a peer without a key is told (Q6)
+-- the key with a peer: none where frames are not tagged; and a peer without a key is reported (Q6)
 abbrev pub IsKeyWith : Option Keys → ℕ → Result (Option (List ℕ)) ServeFault → Type 0
 IsKeyWith None peer result = result ≡ Ok None
 IsKeyWith (Some keys) peer (Ok key) = (key_with keys.shared.items peer ≡ key) × (key ≢ None)

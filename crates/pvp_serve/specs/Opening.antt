@@ -50,14 +50,14 @@ abbrev pub serves_so : Bool → Result (Unit {0}) ServeFault
 serves_so true = Ok tt
 serves_so false = Err (serve.Folder folder.Unbegun)
 
--- WHETHER A BOOT CELL STANDS that was read so, whole or damaged; a store that fails and memory that is refused are told
+-- WHETHER A BOOT CELL STANDS that was read so, whole or damaged; a store that fails and refused memory are reported
 abbrev pub cell_stands : Result Boot OpenFault → Result Bool ServeFault
 cell_stands (Err opens.Lost) = Ok false
 cell_stands (Err opens.Store) = Err (serve.Cell opens.Store)
 cell_stands (Err opens.NoMemory) = Err serve.NoMemory
 cell_stands read = Ok true
 
--- why a site does not come back, as it is told
+-- why a site does not come back, as the fault that is reported
 abbrev pub restart_told : RestartFault → ServeFault
 restart_told Misfit = serve.Folder folder.Cell
 restart_told ClockSpent = serve.Clock
@@ -68,14 +68,15 @@ abbrev pub came_back : {A : Type 0} → Result A RestartFault → Result A Serve
 came_back (Ok back) = Ok back
 came_back (Err fault) = Err (restart_told fault)
 
--- an actor that took its history again, or why it did not: its events cannot have come out so, or memory was refused
+-- an actor that replayed its history, or why it did not: its events cannot have come out so, or memory was refused
 abbrev pub came_again : {A : Type 0} → Result (Option A) AllocError → Result A ServeFault
 came_again (Ok (Some again)) = Ok again
 came_again (Ok None) = Err (serve.Folder folder.History)
 came_again (Err refused) = Err serve.NoMemory
 
 -- WHAT IS WRONG WITH THE HEAD OF A JOURNAL in the folder of an actor of a bank: it is of another setup (V1), of another
--- life of the bank (V2) or of another actor (V3). The first 16 bytes of a bank tell its setup, and the others its life
+-- life of the bank (V2) or of another actor (V3). The first 16 bytes of a bank's id are of its setup, and the others
+-- its life
 abbrev pub wrong_in : List ℕ → ℕ → Head → Option EvidenceWhy
 wrong_in bank me head =
     if not (bytes_eq (take 16 head.bank) (take 16 bank)) then Some evidence.Setup
@@ -91,7 +92,7 @@ kept_of bytes (Torn at) = take at bytes
 abbrev pub IsUntorn : List ℕ → List ℕ → Type 0
 IsUntorn bytes kept = (journal : Journal) × IsRead bytes journal × (kept ≡ kept_of bytes journal.left)
 
--- why a journal is not read, as it is told
+-- why a journal is not read, as the fault that is reported
 abbrev pub why_told : JournalWhy → ℕ → ServeFault
 why_told why.NoMemory at = serve.NoMemory
 why_told why at = serve.Journal why at
@@ -99,6 +100,6 @@ why_told why at = serve.Journal why at
 abbrev pub journal_told : JournalFault → ServeFault
 journal_told fault = why_told fault.why fault.at
 
--- these bytes are no journal, for the reason that is told
+-- these bytes are no journal, for the reason that is reported
 abbrev pub IsDamaged : List ℕ → ServeFault → Type 0
 IsDamaged bytes told = (fault : JournalFault) × ReadsJournal bytes (Err fault) × (told ≡ journal_told fault)

@@ -209,7 +209,7 @@ pub record IsTicked (look : Look) (old new : Patience) : Type 0 where
   pub drawn : IsDrawn (due old look) (after_tick old look).drawn new.drawn
   pub after : new ≡ record (after_tick old look) { drawn = new.drawn }
 
--- A SITE IS HEARD: the one whose view was left was alive, so its silence was too short to tell anything
+-- A SITE IS HEARD: the one whose view was left was alive, so its silence was too short to mean anything
 abbrev pub is_left : Patience → ℕ → Bool
 is_left p site = option_map_or (λ left. left == site) p.left false
 

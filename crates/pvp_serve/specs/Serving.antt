@@ -119,8 +119,8 @@ abbrev pub nonce_in : {N B O L : Type 0} → (B → Boot) → Option (Held N (Pa
 nonce_in held None = 0
 nonce_in held (Some room) = nonce_of held room.actor
 
--- A CLOCK IS BEYOND what an actor believes of whoever stamped it: a site is believed below 2 ^ 63, and all others up to
--- this clock, which the time gives
+-- A CLOCK IS BEYOND what an actor accepts from whoever stamped it: a site is accepted below 2 ^ 63, and all others up
+-- to this clock, which the time gives
 abbrev pub is_far_of : ActorId → ℕ → ℕ → Bool
 is_far_of (Site site) latest clock = nat_le (2 ^ 63) clock
 is_far_of (Client client) latest clock = nat_lt latest clock
@@ -145,7 +145,7 @@ HasClock None stamp = ⊥
 HasClock (Some room) stamp = IsSome (clock_after room.clock stamp)
 
 -- WHY AN INPUT IS NOT TAKEN, and what is left of the room. There is no greater clock, or memory was refused, and it is
--- as it was; or the record could not be written, and it is gone. Where it was gone before, that is told as M8
+-- as it was; or the record could not be written, and it is gone. Where it was gone before, that is reported as M8
 abbrev pub IsRefused : {N A O L : Type 0} → Option Stamp → Option (Held N A O L) → Option (Held N A O L) → ServeFault
     → Type 0
 IsRefused stamp old new serve.Clock = IsSpent old stamp × (new ≡ old)
@@ -163,7 +163,7 @@ pub record TakesIn {N A E O L : Type 0} (m : Ghosts A N E O) (texts : ℕ → Te
   pub has : new ≡ Some after
   pub steps : Steps m texts seen input before after (Done clock)
 
--- AN ENVELOPE COMES to the room, with its stamp, where clocks are believed up to this one: with a clock beyond it is
+-- AN ENVELOPE COMES to the room, with its stamp, where clocks are accepted up to this one: with a clock beyond it is
 -- lost, else it is taken or refused
 pub record Comes {N A O L : Type 0} (m : Ghosts A N PartyEvent O) (texts : ℕ → Texts PartyEvent O)
     (seen : L → Option (List ℕ)) (latest : ℕ) (stamped : Stamped) (old new : Option (Held N A O L))
@@ -190,12 +190,12 @@ waiting_in (Some room) = room.waiting
 abbrev pub IsIdle : {N A O L : Type 0} → Option (Held N A O L) → Type 0
 IsIdle room = IsSome room × (waiting_in room ≡ [])
 
--- why a log did not take a batch, as it is told (V6 or V7)
+-- why a log did not take a batch, as it is reported (V6 or V7)
 abbrev pub log_told : LogFault → ServeFault
 log_told log.Full = serve.Log shelf.Full
 log_told log.Failed = serve.Log shelf.Failed
 
--- WHY A BATCH IS NOT WRITTEN: the log refused what waited; or the room was gone before, which is told as M8
+-- WHY A BATCH IS NOT WRITTEN: the log refused what waited; or the room was gone before, which is reported as M8
 abbrev pub IsUnwritten : {N A O L : Type 0} → Option (Held N A O L) → ServeFault → Type 0
 IsUnwritten None told = told ≡ serve.Unfit
 IsUnwritten (Some room) told = (fault : LogFault) × (told ≡ log_told fault) × (room.waiting ≢ [])
@@ -212,7 +212,7 @@ IsSafeIn seen synced syncs room = IsTrue syncs → OutlivesIn seen synced room
 abbrev pub sends : Letter PartyOutcome → Bool
 sends letter = not (is_empty (sent_envelopes letter.outcome))
 
--- SOMETHING LEAVES: what happened is told, or an event sent something
+-- SOMETHING LEAVES: what happened is printed, or an event sent something
 abbrev pub leaves : Bool → List (Letter PartyOutcome) → Bool
 leaves is_told letters = is_told || list_any sends letters
 

@@ -1,4 +1,4 @@
--- What of the frames that wait for a site is not worked off.
+-- Which of the frames that wait for a site are skipped.
 use Rattle.std.specs.Prelude.{ℕ, ◌==◌, ◌&&◌, ◌||◌, Bool, true, false, not, nat_lt, List, Option, Some, None, option_map, filter, filter_map, if◌then◌else◌}
 use Rattle.std.specs.List.{list_any}
 use Rattle.std.specs.Option.{option_map_or}
@@ -29,7 +29,7 @@ same_kind State State = true
 same_kind Response Response = true
 same_kind _ _ = false
 
--- what tells frames of such a kind from one another
+-- what distinguishes frames of such a kind from one another
 abbrev pub marked : Stamped → Kind → Mark
 marked stamped kind =
     record { from = stamped.envelope.from; kind = kind; clock = stamped.stamp.clock; index = stamped.stamp.index }

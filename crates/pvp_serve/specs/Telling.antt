@@ -1,4 +1,4 @@
--- What a site has told its operator.
+-- What a site has reported to its operator.
 use Rattle.std.specs.Prelude.{ℕ, ◌+◌, ◌-◌, ◌^◌, ◌==◌, ◌&&◌, Bool, not, min, nat_le, List, Option, Some, None, is_some, codes, if◌then◌else◌}
 use Rattle.vr_types.specs.declared.event.Status.{Status}
 use Rattle.vr_types.specs.declared.event.Status.TheVariants.{Normal, Change, Recovering, Down}
@@ -13,7 +13,7 @@ use Rattle.pvp_serve.specs.declared.telling.TheConstants.{TELLING_TICKS}
 use Rattle.pvp_serve.specs.Admission.{is_full_at}
 use Rattle.pvp_serve.specs.Patience.{up_to_most}
 
--- what a site of a bank has told that has told nothing
+-- what a site of a bank has reported at first: nothing
 abbrev pub fresh_teller : Setup → Teller
 fresh_teller setup = record {
   setup = setup;
@@ -25,7 +25,7 @@ fresh_teller setup = record {
   ticks = 0;
 }
 
--- the word for where a site stands
+-- the word for a site's status
 abbrev pub status_word : Status → List ℕ
 status_word Normal = codes "normal"
 status_word Change = codes "change"
@@ -42,7 +42,7 @@ abbrev pub ended_after : ℕ → LinkEnd → Option (ℕ × LinkFault) → Optio
 ended_after peer (Wrong why) last = Some (peer, why)
 ended_after peer _ last = last
 
--- more was turned away or lost than was told, and it is time to tell
+-- more was turned away or lost than was reported, and it is time to report
 abbrev pub is_to_tell : Teller → ℕ → ℕ → Bool
 is_to_tell teller lost flood =
     nat_le TELLING_TICKS (up_to_most (teller.ticks + 1))
@@ -56,7 +56,7 @@ told_after teller lost flood =
     record teller { ticks = 0; told = record { away = teller.away; lost = lost; flood = flood } }
     else record teller { ticks = up_to_most (teller.ticks + 1) }
 
--- what is told of where a site stands
+-- what is reported of a site's status
 abbrev pub stood_at : Standing → Stood
 stood_at standing =
     record { status = standing.status; view = standing.view; is_full = is_full_at standing.log }

@@ -85,7 +85,7 @@ module _ {N B L : Type 0} (m : Ghosts (PartyOf B) N PartyEvent PartyOutcome)
   abbrev pub IsUndone : PartyEvent → RoomOf N B L → RoomOf N B L → ServeFault → Type 0
   IsUndone event old new fault = IsRefused None old new fault ⊎ IsUnkept event old new fault
 
-  -- it was taken and written, and could not be told
+  -- it was taken and written, and could not be printed
   pub record IsUntold (event : PartyEvent) (old new : RoomOf N B L) (fault : ServeFault) : Type 0 where
     pub between : RoomOf N B L
     pub letters : List (Letter PartyOutcome)
@@ -93,16 +93,16 @@ module _ {N B L : Type 0} (m : Ghosts (PartyOf B) N PartyEvent PartyOutcome)
     pub written : HasFlushed m texts seen between new letters
     pub told : fault ≡ Output
 
-  -- WHY AN EVENT IS NOT SERVED: it was not done, or not told
+  -- WHY AN EVENT IS NOT SERVED: it was not done, or not printed
   abbrev pub IsUnserved : PartyEvent → RoomOf N B L → RoomOf N B L → ServeFault → Type 0
   IsUnserved event old new fault = IsUndone event old new fault ⊎ IsUntold event old new fault
 
-  -- or its refusal could not be told
+  -- or its refusal could not be printed
   abbrev pub IsEventLost : Option TerminalWhy → PartyEvent → RoomOf N B L → RoomOf N B L → ServeFault → Type 0
   IsEventLost None event old new fault = IsUnserved event old new fault
   IsEventLost (Some why) event old new fault = (fault ≡ Output) × (new ≡ old)
 
-  -- WHY A LINE IS NOT DONE: memory to read it was refused, or what it asks for was not done or not told
+  -- WHY A LINE IS NOT DONE: memory to read it was refused, or what it asks for was not done or not printed
   abbrev pub IsLineLost : ℕ → TerminalDesk → Result (Option PartyEvent) LineCode → RoomOf N B L → RoomOf N B L
       → ServeFault → Type 0
   IsLineLost me desk (Ok (Some event)) old new fault =
@@ -165,8 +165,8 @@ module _ {N B L : Type 0} (m : Ghosts (PartyOf B) N PartyEvent PartyOutcome)
 module _ {N B L : Type 0} (m : Ghosts (PartyOf B) N PartyEvent PartyOutcome)
     (texts : ℕ → Texts PartyEvent PartyOutcome) (seen : L → Option (List ℕ))
     (safe : RoomOf N B L → Type 0) where
-  -- AN EVENT IS DONE, and told with what was owed: it is taken, and all that waited is written with it, safe where that
-  -- is asked for
+  -- AN EVENT IS DONE, and printed with what was owed: it is taken, and all that waited is written with it, safe where
+  -- that is asked for
   pub record IsDone (event : PartyEvent) (old new : RoomOf N B L) (desk after : TerminalDesk) : Type 0 where
     pub between : RoomOf N B L
     pub letters : List (Letter PartyOutcome)
@@ -223,7 +223,7 @@ module _ {N B L : Type 0} (m : Ghosts (PartyOf B) N PartyEvent PartyOutcome)
   Pays (Some owed) from to = (letters : List (Letter PartyOutcome)) × HasFlushed m texts seen from.room to.room letters
       × (letters ≢ [] → safe to.room) × (to.desk ≡ record from.desk { owes = None })
 
-  -- WHAT A TERMINAL TAKES: an item is handled, it is asked for what is next, and the answer that came is told. The
+  -- WHAT A TERMINAL TAKES: an item is handled, it is asked for what is next, and the answer that came is printed. The
   -- process goes on unless nothing is left to be done
   pub record TakesItem (me : ℕ) (item : Inbox) (from to : At N B L) (goes_on : Bool) : Type 0 where
     pub handled : At N B L

@@ -1,5 +1,5 @@
-//! Which requests of clients and nodes a primary admits. What it does not admit is lost mail, and none of it comes into the
-//! journal: a flood ends at the door, and the log ends in order.
+//! Which requests of clients and nodes a primary admits. What it does not admit is lost, and does
+//! not come into the journal: a flood ends there, and the log ends in order.
 ghost use Rattle.std.specs.Prelude.{◌≡◌};
 ghost use Rattle.pvp_serve.specs.Admission.{
   admission,
@@ -38,7 +38,7 @@ const RESERVE: usize = 8192;
 /// How many of them clients share.
 const LATE_ROWS: usize = 4096;
 
-/// So many rows before the reserve clients and nodes are told that the log is full.
+/// So many rows before the reserve the log is reported to clients and nodes as full.
 const WARNED: usize = 1024;
 
 /// How many requests of a client or a node may not be executed yet: who waits for its answers has one.
@@ -333,8 +333,8 @@ pub fn is_full_at(log: usize) -> bool
     log >= MAX_ROWS - RESERVE - WARNED
 }
 
-/// Why a client of a bank with so many members, whose last request has this number, is not asked for a command, where it was told
-/// that the log is full as it had made so many requests, or was not.
+/// Why a client of a bank with so many members, whose last request has this number, may not ask for
+/// a command, where it knows that the log was full when it had made so many requests, or does not.
 pub fn refusal_of(
     client: u16,
     full: Option<u32>,

@@ -12,10 +12,10 @@ use pvp_types::Reply;
 use rtgs_node::NodeFault;
 use std::io;
 
-/// How what was asked for came out, as the terminal is told.
+/// The outcome of what was asked for, as the terminal prints it.
 #[derive(Clone, Copy, Debug)]
 pub enum Told {
-    /// A client made its request: its answer is told once it comes.
+    /// A client made its request: its answer is printed once it comes.
     Nothing,
     Done,
     Refused(NodeFault),
@@ -39,7 +39,7 @@ pub fn greet<R: Host>(rt: R, request: Option<Request>) -> Result<(), ServeFault>
     }
 }
 
-/// Tells the answer that is owed, where one is. It is in the journal.
+/// Prints the answer that is owed, where one is. It is in the journal.
 pub fn tell_owed<R: Host>(rt: R, owes: Option<(u32, Reply)>) -> Result<(), ServeFault>
     ensures refused { IfErr result (λ fault. (fault ≡ Output) × IsSome owes) }
 {
@@ -49,7 +49,7 @@ pub fn tell_owed<R: Host>(rt: R, owes: Option<(u32, Reply)>) -> Result<(), Serve
     }
 }
 
-/// Tells how what was asked for came out at a node, or that a client may not ask for it.
+/// Prints the outcome of what was asked for at a node, or that a client may not ask for it.
 pub fn tell_outcome<R: Host>(rt: R, told: Told) -> Result<(), ServeFault>
     ensures { IfErr result (λ fault. fault ≡ Output) }
 {
@@ -61,7 +61,7 @@ pub fn tell_outcome<R: Host>(rt: R, told: Told) -> Result<(), ServeFault>
     }
 }
 
-/// Tells why this is not asked for.
+/// Prints why this is not asked for.
 pub fn tell_refusal<R: Host>(rt: R, why: TerminalWhy) -> Result<(), ServeFault>
     ensures { IfErr result (λ fault. fault ≡ Output) }
 {
@@ -79,7 +79,7 @@ fn printed(told: io::Result<()>) -> Result<(), ServeFault>
     }
 }
 
-/// How the last event came out, as the terminal is told.
+/// The outcome of the last event, as the terminal prints it.
 pub fn last_told(letters: &[Letter<PartyOutcome>]) -> Told
     ensures { result ≡ last_told letters.now }
 {

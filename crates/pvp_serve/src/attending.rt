@@ -27,7 +27,8 @@ pub enum Desk {
 }
 
 impl Desk {
-    /// What is worked off of the items that wait, which are for a site that was restarted so often, or for another actor.
+    /// Which of the items that wait are processed, which are for a site that was restarted so
+    /// often, or for another actor.
     pub fn sift(
         &mut self,
         alloc: Global,
@@ -61,7 +62,7 @@ impl Desk {
         }
     }
 
-    /// Tells where a site stands, where that is new. Others tell at once, as things come.
+    /// Reports a site's status, where it has changed. Others report at once, as things come.
     pub fn tell<R: Host>(&mut self, rt: R, standing: Option<Standing>) {
         if let Desk::Site(desk) = self {
             desk.tell(rt, standing);

@@ -114,9 +114,10 @@ pub struct TerminalDesk {
     stays: bool,
     /// How many beats a client has waited.
     ticks: u32,
-    /// The number and the answer of a request, where it came and is not told yet.
+    /// The number and the answer of a request, where it came and is not printed yet.
     owes: Option<(u32, Reply)>,
-    /// How many requests its actor had made as a site told that the log is full; `None` where none did.
+    /// How many requests its actor had made as a site reported that the log is full; `None` where
+    /// none did.
     full: Option<u32>,
 }
 
@@ -275,7 +276,7 @@ impl TerminalDesk {
         Ok(())
     }
 
-    /// Tells now and then that a client waits.
+    /// Reports from time to time that a client waits.
     fn tell_waiting<R: Host>(&mut self, rt: R, request: Option<Request>)
         ensures { self.new ≡ record self.old { ticks = next_wait self.old.ticks } }
     {
@@ -290,7 +291,7 @@ impl TerminalDesk {
         }
     }
 
-    /// A site pings a client or a node where the log is full: that is told once.
+    /// A site pings a client or a node where the log is full: that is printed once.
     fn tell_full<R: Host>(&mut self, rt: R, request: Option<Request>)
         ensures { self.new ≡ full_after request self.old }
     {
@@ -365,7 +366,7 @@ impl TerminalDesk {
         request.is_some() && self.waits
     }
 
-    /// Does what a line asks for, or tells what is wrong with it.
+    /// Does what a line asks for, or reports what is wrong with it.
     fn ask_one<R: Host, C: BootCell, L: Log>(
         &mut self,
         rt: R,
@@ -424,7 +425,7 @@ impl TerminalDesk {
         self.do_asked(rt, serving, event)
     }
 
-    /// Does what was asked for, and tells how it came out.
+    /// Does what was asked for, and prints the outcome.
     fn do_asked<R: Host, C: BootCell, L: Log>(
         &mut self,
         rt: R,
@@ -592,7 +593,7 @@ fn awaits(request: Option<Request>) -> bool
     }
 }
 
-/// Whether an answer is awaited once that was told: of a client that may not ask, what was before.
+/// Whether an answer is awaited once that was printed: of a client that may not ask, what was before.
 fn waits_told(request: Option<Request>, told: Told) -> bool
     ensures { result ≡ waits_told request told true }
 {

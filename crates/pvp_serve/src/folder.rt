@@ -1,4 +1,4 @@
-//! The folder of an actor: who serves it, what stands there, and how far that can be trusted.
+//! The folder of an actor: who serves it, what is in it, and how far that can be trusted.
 ghost use Rattle.std.specs.Prelude.{◌≡◌, ◌++◌, IfOk, IfErr, codes, string_bytes};
 ghost use Rattle.pvp_places.specs.declared.serving.ServeFault.TheVariants.{NoMemory};
 ghost use Rattle.pvp_serve.specs.Opening.{marked_by, may_begin, may_serve};

@@ -8,7 +8,8 @@ use std::sync::Wait;
 /// What the loop takes, one after another.
 #[derive(Drop)]
 pub enum Inbox {
-    /// An envelope that came over a link, and up to which clock a client or a node was believed then.
+    /// An envelope that came over a link, and up to which clock a client or a node was accepted
+    /// then.
     Frame(Arrival, u64),
     /// This site serves its view; to a client or a node it says that the log is full.
     Ping(u16),
@@ -30,7 +31,7 @@ pub enum Inbox {
     End,
 }
 
-/// Tells a loop. `false` where it has ended or memory is refused: then what was told is lost.
+/// Sends to a loop. `false` where it has ended or memory is refused: then the item is lost.
 pub fn tell<T: Wait, M: Drop>(rt: &T, inbox: &Sender<M>, item: M) -> bool {
     inbox.send(rt, item).is_ok()
 }

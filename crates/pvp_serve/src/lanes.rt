@@ -51,11 +51,11 @@ fn weight(frame: &[u8]) -> u64
     (frame.len() as u64).saturating_add(32)
 }
 
-/// The way to one stream, as the loop has it. Once it is let go the stream ends.
+/// The way to one stream, as the loop has it. Once it is dropped the stream ends.
 #[derive(Drop)]
 pub struct Lane {
     pub peer: u16,
-    /// The number of the stream, by which its end is told from that of a later one.
+    /// The number of the stream, by which its end is distinguished from that of a later one.
     pub stream: u64,
     to: Sender<Vec<u8>>,
     waiting: Arc<AtomicU64, Global>,
@@ -158,14 +158,16 @@ impl Lanes {
         }
     }
 
-    /// Mail goes to this site alone, or to each receiver again. What is kept from others is lost mail, which a beat says again.
+    /// Envelopes go to this site only, or to each receiver again. Those kept from others are lost,
+    /// and a beat sends them again.
     pub fn favours(&mut self, site: Option<u16>)
         ensures { self.new ≡ record self.old { favoured = site } }
     {
         self.favoured = site;
     }
 
-    /// A stream stands. One that stood between the same two is let go. `Err` where memory is refused: then none stands there.
+    /// A stream is open. An earlier one between the same two is dropped. `Err` where memory is
+    /// refused: then there is none.
     pub fn meets(&mut self, lane: Lane) -> Result<(), ServeFault>
         ensures stands { OnOk result (self.new.all.items ≡ with_lane lane self.old.all.items) }
         ensures refused { IfErr result (λ fault. (fault ≡ NoMemory)
@@ -300,7 +302,7 @@ impl Outbox for Lanes {
 }
 
 impl Outgoing {
-    /// The next frame; `None` once the lane is let go.
+    /// The next frame; `None` once the lane is dropped.
     pub fn next<R: Wires>(&self, rt: R) -> Option<Vec<u8>> {
         match self.from.recv(&rt) {
             Ok(frame) => Some(self.release_frame(frame)),

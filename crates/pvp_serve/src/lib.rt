@@ -1,5 +1,6 @@
-//! One actor of the bank as a process of its own: a loop owns it, takes what comes over streams, from a clock and from the
-//! terminal, writes that into its journal, and only then sends what came of it.
+//! One actor of the bank as a process of its own: a loop owns it, takes what comes over streams,
+//! from a clock and from the terminal, writes that into its journal, and only then sends what that
+//! caused.
 #![tactic(auto)]
 
 pub mod admission;

@@ -126,7 +126,7 @@ fn take<R: Wires>(
     Ok(())
 }
 
-/// Serves a stream, and tells the loop where it is turned away.
+/// Serves a stream, and informs the loop where it is turned away.
 fn receive<R: Wires>(
     rt: R,
     stream: TcpStream,

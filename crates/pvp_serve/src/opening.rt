@@ -194,8 +194,9 @@ pub fn settle<R: Host, A: Journaled, L: Log>(
     }
 }
 
-/// Marks the folder of a room. A folder whose batches are synced is marked so only where all that was written outlives the
-/// machine: a site that came back by less would have forgotten what it told.
+/// Marks the folder of a room. A folder whose batches are synced is marked so only where all that
+/// was written outlives the machine: a site that came back by less would have forgotten what it
+/// sent.
 fn mark_room<R: Host, A: Journaled, L: Log>(
     rt: R,
     place: &Place<'_>,
@@ -231,7 +232,7 @@ fn fault_of(fault: RestartFault) -> ServeFault
     }
 }
 
-/// The room of a site that has a cell and no journal: it has forgotten what it told, and restarts.
+/// The room of a site that has a cell and no journal: it has forgotten what it sent, and restarts.
 fn open_forgetful<R: Host>(
     rt: R,
     place: &Place<'_>,
@@ -248,7 +249,7 @@ fn open_forgetful<R: Host>(
     }
 }
 
-/// The room of a site that took its journal again, over its own cell.
+/// The room of a site that replayed its journal, over its own cell.
 fn open_again<R: Host>(
     rt: R,
     place: &Place<'_>,
@@ -265,7 +266,7 @@ fn open_again<R: Host>(
     }
 }
 
-/// The room of a node or a client that took its journal again, which has to be whole.
+/// The room of a node or a client that replayed its journal, which has to be whole.
 fn open_same<R: Host>(
     rt: R,
     place: &Place<'_>,
@@ -288,7 +289,7 @@ fn require_whole<R: Host, T: Drop>(
     }
 }
 
-/// The way back of a site over its own cell. Where there is none, it is told of the cell.
+/// The way back of a site over its own cell. Where there is none, the cell is reported.
 fn bring_back<C: BootCell>(
     alloc: Global,
     is_whole: bool,
@@ -301,7 +302,7 @@ fn bring_back<C: BootCell>(
     restart_result(restart(alloc, room, cell, way))
 }
 
-/// What came back, or why it does not, as that is told.
+/// What came back, or the fault that is reported instead.
 fn restart_result<T>(came: Result<T, RestartFault>) -> Result<T, ServeFault>
     ensures { result ≡ came_back came }
 {
@@ -406,7 +407,7 @@ fn journal_of(alloc: Global, bytes: &[u8]) -> Result<Journal, ServeFault>
     }
 }
 
-/// Why a journal is not read, as it is told.
+/// Why a journal is not read, as the fault that is reported.
 fn journal_fault(fault: JournalFault) -> ServeFault
     ensures { result ≡ journal_told fault }
 {
@@ -443,13 +444,13 @@ fn wrong_in(place: &Place<'_>, head: &Head) -> Option<EvidenceWhy>
     None
 }
 
-/// The room of an actor that took the journal of these bytes again in memory.
+/// The room of an actor that replayed the journal in these bytes in memory.
 fn again<R: Host>(rt: R, place: &Place<'_>, bytes: &[u8]) -> Result<Room<MemCell>, ServeFault> {
     let journal = journal_of(rt.alloc(), bytes)?;
     again_in(rt, place, bytes, &journal)
 }
 
-/// The same of a journal that was read from these bytes.
+/// That room, of the journal that was read from these bytes: it has to be this actor's, and whole.
 fn again_in<R: Host>(
     rt: R,
     place: &Place<'_>,
@@ -470,7 +471,7 @@ fn again_in<R: Host>(
     }
 }
 
-/// The same of one that was read to their end.
+/// That room, of a whole journal of this actor, whose records are all replayed.
 fn again_at<R: Host>(
     rt: R,
     place: &Place<'_>,
@@ -538,7 +539,7 @@ fn site_again<P: Pace>(
     replay_result(replay(alloc, party, history, pace))
 }
 
-/// The actor that took its history again, or why it did not, as that is told.
+/// The actor that replayed its history, or the fault that is reported instead.
 fn replay_result<T>(came: Result<Option<T>, AllocError>) -> Result<T, ServeFault>
     ensures { result ≡ came_again came }
 {

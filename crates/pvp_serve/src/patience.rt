@@ -39,7 +39,7 @@ ghost use Rattle.pvp_serve.specs.Patience.{
 
 use vr_types::Status;
 
-/// For how many beats after its last change a primary says where it stands.
+/// For how many beats after its last change a primary reports its status.
 const BEATS_AFTER: u32 = 6;
 
 /// After how many ticks a recovering site asks again for the first time: each answer may be a whole log.

@@ -1,4 +1,7 @@
 //! A process of the bank, from its words to its end.
+//!
+//! Functions hand on what they own as their last step, and `match` where `?` would drop an owned
+//! value on a branch: that keeps their proofs cheap (docs/working.md, "How long things take").
 ghost use Rattle.std.specs.Prelude.{◌≡◌, codes, ok_or, take};
 ghost use Rattle.pvp_tags.specs.Hmac.{hmac};
 ghost use Rattle.pvp_types.specs.Setup.{IsValid};
@@ -43,7 +46,7 @@ const MOST_ITEMS: usize = 1024;
 /// How many items go into one batch.
 const BATCH: u32 = 512;
 
-/// What a process was told of its bank.
+/// What a process knows of its bank.
 #[derive(Drop)]
 struct Bank {
     setup: Setup,
@@ -130,7 +133,7 @@ fn actor_of(setup: &Setup, who: Who<'_>) -> Result<u16, ServeFault>
     }
 }
 
-/// What tells this life of the bank from others, by its name.
+/// What distinguishes this life of the bank from others, by its name.
 fn life_of(name: &[u8]) -> [u8; 16]
     ensures { result ≡ take 16 (hmac (codes "life") name.now) }
 {

@@ -1,4 +1,4 @@
-//! What a start tells of the journal that it reads.
+//! How a start reports its progress in the journal that it reads.
 
 use pvp_logs::Pace;
 use std::io::Eprint;

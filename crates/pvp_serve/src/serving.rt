@@ -58,10 +58,11 @@ use std::alloc::Global;
 use std::sync::Wait;
 use vr_types::{ActorId, BootCell, Status};
 
-/// Below which clock a site is believed: far beyond what any actor comes to, and far from the end of clocks.
+/// Below which clock a site's frames are accepted: far beyond what any actor reaches, and far from
+/// the end of clocks.
 const SITE_CLOCKS: u64 = 1 << 63;
 
-/// Frames that were lost since their clocks were not believed.
+/// Frames that were dropped because their clocks were too far ahead.
 #[derive(Clone, Copy, Debug)]
 pub struct Lost {
     pub count: u64,
@@ -77,7 +78,7 @@ pub struct Request {
     pub answer: Option<Reply>,
 }
 
-/// Where a site stands.
+/// A site's status.
 #[derive(Clone, Copy, Debug)]
 pub struct Standing {
     pub status: Status,
@@ -95,7 +96,7 @@ pub struct Serving<C: BootCell, L: Log, O: Outbox + Drop> {
     /// It is gone once it could not be written.
     room: Option<JournalRoom<PartyOf<C>, L>>,
     out: O,
-    /// The frames that were lost since their clocks were not believed.
+    /// The frames that were dropped because their clocks were too far ahead.
     lost: Lost,
 }
 
@@ -169,7 +170,7 @@ impl<C: BootCell, L: Log, O: Outbox + Drop> Serving<C, L, O> {
         })
     }
 
-    /// Where the site stands that is served; `None` of another actor, or where the room is gone.
+    /// The status of the site that is served; `None` of another actor, or where the room is gone.
     pub fn standing(&self) -> Option<Standing>
         ensures { result ≡ standing_in self.now.room }
     {
@@ -239,7 +240,7 @@ impl<C: BootCell, L: Log, O: Outbox + Drop> Serving<C, L, O> {
         }
     }
 
-    /// The frames that were lost since their clocks were not believed.
+    /// The frames that were dropped because their clocks were too far ahead.
     pub fn lost(&self) -> Lost
         ensures { result ≡ self.now.lost }
     {
@@ -248,9 +249,11 @@ impl<C: BootCell, L: Log, O: Outbox + Drop> Serving<C, L, O> {
 }
 
 impl<C: BootCell, L: Log, O: Outbox + Drop> Serving<C, L, O> {
-    /// Takes an envelope that came, with its stamp, and sees to it that what it sends waits for `flush`. With a clock beyond what
-    /// is believed of who stamped it, it is lost: of a site below 2^63, of a client or a node up to this clock. So whoever
-    /// pushes the clocks of a bank gets no further than the time, and a site that heard of it is believed by all others.
+    /// Takes an envelope that came, with its stamp, and sees to it that what it sends waits for
+    /// `flush`. With a clock beyond what is accepted from who stamped it, it is dropped: of a site
+    /// below 2^63, of a client or a node up to this clock. So whoever pushes the clocks of a bank
+    /// gets no further than the time, and frames of a site that heard of it are accepted by all
+    /// others.
     pub fn take_frame(
         &mut self,
         alloc: Global,
@@ -273,7 +276,8 @@ impl<C: BootCell, L: Log, O: Outbox + Drop> Serving<C, L, O> {
         step_unless(is_far, &mut self.room, alloc, input)
     }
 
-    /// Whether a frame of this stamp is lost since its clock is not believed, which is counted.
+    /// Whether a frame of this stamp is dropped because its clock is too far ahead, which is
+    /// counted.
     pub fn counts(&mut self, stamp: Stamp, latest: u64) -> bool
         ensures far { result ≡ is_far latest stamp }
         ensures lost { self.new ≡ record self.old {
@@ -299,9 +303,10 @@ impl<C: BootCell, L: Log, O: Outbox + Drop> Serving<C, L, O> {
         step_in(&mut self.room, alloc, Input { event, stamp: None })
     }
 
-    /// Writes what was taken into the journal, has it synced where asked and where something leaves, and only then hands out
-    /// what came of it. Something leaves where an event sent something, and where what was taken is told at the terminal.
-    /// Answers how the events came out. After `Err` the room is gone, and nothing of the batch was handed out.
+    /// Writes what was taken into the journal, has it synced where asked and where something
+    /// leaves, and only then hands out what it caused. Something leaves where an event sent
+    /// something, and where what was taken is printed at the terminal. Answers how the events came
+    /// out. After `Err` the room is gone, and nothing of the batch was handed out.
     pub fn flush<T: Wait>(
         &mut self,
         rt: &T,
@@ -342,7 +347,7 @@ impl<C: BootCell, L: Log, O: Outbox + Drop> Serving<C, L, O> {
     }
 }
 
-/// Whether a stamp's clock is not believed, where clients and nodes are up to this one.
+/// Whether a stamp's clock is too far ahead, where clients and nodes are accepted up to this one.
 fn is_far(latest: u64, stamp: Stamp) -> bool
     ensures { result ≡ is_far latest stamp }
 {
@@ -429,7 +434,7 @@ fn put_back<T: Drop>(stands: &mut Option<T>, taken: T)
     *stands = Some(taken);
 }
 
-/// Whether something leaves: what happened is told, or an event sent something.
+/// Whether something leaves: what happened is printed, or an event sent something.
 fn leaves(is_told: bool, letters: &[Letter<PartyOutcome>]) -> bool
     ensures { result ≡ leaves is_told letters.now }
 {

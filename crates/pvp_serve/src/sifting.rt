@@ -1,5 +1,5 @@
-//! What of the frames that wait for a site is not worked off: a vote, a log or a state that its sender has replaced by now. That
-//! is lost mail, and none of it comes into the journal.
+//! Which of the frames that wait for a site are skipped: a vote, a log or a state that its sender
+//! has replaced by now. That is lost, and does not come into the journal.
 ghost use Rattle.std.specs.Prelude.{◌≡◌, ◌++◌, IfOk, filter_map};
 ghost use Rattle.pvp_serve.specs.Sifting.{
   is_kept,
@@ -33,7 +33,7 @@ enum Kind {
     Response,
 }
 
-/// What tells a frame of such a kind from others.
+/// What distinguishes a frame of such a kind from others.
 #[derive(Clone, Copy, Debug)]
 struct Mark {
     from: u16,
@@ -42,8 +42,9 @@ struct Mark {
     index: u32,
 }
 
-/// Of what waits for a site that was restarted so often, what is worked off: of one sender and one kind of message that a later
-/// one replaces, the one with the greatest stamp. `Err` where memory is refused.
+/// Of what waits for a site that was restarted so often, what is processed: of one sender and one
+/// kind of message that a later one replaces, the one with the greatest stamp. `Err` where memory
+/// is refused.
 pub fn sift(alloc: Global, nonce: u32, items: Vec<Inbox>) -> Result<Vec<Inbox>, AllocError>
     ensures { IfOk result (λ kept. kept.items ≡ sifted nonce items.items) }
 {

@@ -111,7 +111,7 @@ impl SiteDesk {
         }
     }
 
-    /// What is worked off of the items that wait for a site that was restarted so often.
+    /// Which of the items that wait are processed, for a site that was restarted so often.
     pub fn sift(
         &mut self,
         alloc: Global,
@@ -170,8 +170,8 @@ impl SiteDesk {
         serving.take_frame(rt.alloc(), arrival, latest)
     }
 
-    /// What becomes of an envelope at the door. Who comes into the reserve is told before it has its answer that the log is full,
-    /// so that it asks for nothing that would wait for ever.
+    /// What becomes of an envelope at the door. Who comes into the reserve hears that the log is
+    /// full before it has its answer, so that it asks for nothing that would wait for ever.
     fn admits<R: Host, C: BootCell, L: Log>(
         &self,
         rt: R,
@@ -302,7 +302,7 @@ impl SiteDesk {
         }
     }
 
-    /// The primary of a normal view tells clients and nodes where the log is full, by a ping.
+    /// The primary of a normal view reports a full log to clients and nodes, by a ping.
     fn tell_full<R: Host, C: BootCell, L: Log>(&self, rt: R, serving: &Serving<C, L, Lanes>) {
         let standing = serving.standing();
         if leads_now(self.sites, serving.me(), standing) && is_full_at(log_len(standing)) {
@@ -388,7 +388,7 @@ impl SiteDesk {
         }
     }
 
-    /// A line came, which may ask where the site stands.
+    /// A line came, which may ask for the site's status.
     fn answers<R: Host, C: BootCell, L: Log>(
         &self,
         rt: R,
@@ -439,7 +439,7 @@ impl SiteDesk {
         Ok(goes_on)
     }
 
-    /// Tells on standard error where the site stands, where that is new.
+    /// Reports the site's status on standard error, where it has changed.
     pub fn tell<R: Host>(&mut self, rt: R, standing: Option<Standing>)
         ensures { self.new ≡ record self.old {
           teller = record self.old.teller {

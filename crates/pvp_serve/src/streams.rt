@@ -46,7 +46,7 @@ pub fn announce<R: Wires>(
     Some(outgoing)
 }
 
-/// Writes what comes until the lane is let go or a write fails, and then closes the stream.
+/// Writes what comes until the lane is dropped or a write fails, and then closes the stream.
 pub fn write_all<R: Wires>(rt: R, stream: TcpStream, link: Link, outgoing: Outgoing) {
     let mut stream = stream;
     let mut bytes: Vec<u8> = Vec::new(rt.alloc());
@@ -208,8 +208,8 @@ fn is_beyond(peer: u16, piece: &Piece) -> bool
     !matches!(&arrival.stamped_envelope().envelope.msg, MsgOf::Request(_))
 }
 
-/// Reads a stream to its end, or to what is none of its link's, and hands each frame and ping to the loop; then tells it that
-/// the stream has ended, and why.
+/// Reads a stream to its end, or to what is none of its link's, and hands each frame and ping to
+/// the loop; then reports that the stream has ended, and why.
 pub fn read_all<R: Wires>(
     rt: R,
     stream: TcpStream,

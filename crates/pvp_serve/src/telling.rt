@@ -1,4 +1,5 @@
-//! What a site tells its operator: on standard error where that is new, and on standard output where it is asked.
+//! What a site reports to its operator: changes on standard error, and its status on standard
+//! output where asked.
 ghost use Rattle.std.specs.Prelude.{◌≡◌, length};
 ghost use Rattle.pvp_serve.specs.Telling.{
   ended_after,
@@ -21,10 +22,10 @@ use pvp_types::Setup;
 use std::alloc::{AllocError, Global};
 use vr_types::Status;
 
-/// At every which tick it tells what was turned away or lost since.
+/// After how many ticks it reports what was turned away or lost since.
 const TELLING_TICKS: u32 = 100;
 
-/// What is told of where a site stands.
+/// What is reported of a site's status.
 #[derive(Clone, Copy, Debug, PartialEq, Eq)]
 struct Stood {
     status: Status,
@@ -32,7 +33,7 @@ struct Stood {
     is_full: bool,
 }
 
-/// What a site has told, so that it does not tell it again.
+/// What a site has reported, so that it does not report it again.
 #[derive(Drop)]
 pub struct Teller {
     setup: Setup,
@@ -42,12 +43,13 @@ pub struct Teller {
     /// How many streams were turned away, and why the last.
     away: u64,
     why: Option<LinkFault>,
-    /// What was told of them and of lost frames.
+    /// What was reported of them and of lost frames.
     told: Tally,
     ticks: u32,
 }
 
-/// How many streams were turned away, and how many frames were lost as their clocks were far, and as too many came of one.
+/// How many streams were turned away, and how many frames were lost for clocks too far ahead, and
+/// in floods of one sender.
 #[derive(Clone, Copy, Debug, PartialEq, Eq)]
 struct Tally {
     away: u64,
@@ -56,7 +58,7 @@ struct Tally {
 }
 
 impl Teller {
-    /// That of a site of a bank of this setup, which has told nothing.
+    /// That of a site of a bank of this setup, which has reported nothing.
     pub fn new(setup: Setup) -> Self
         ensures { result ≡ fresh_teller setup }
     {
@@ -85,7 +87,7 @@ impl Teller {
         }
     }
 
-    /// A stream has ended: what was wrong with it is told, but not the same again and again.
+    /// A stream has ended: what was wrong with it is reported, but not the same twice in a row.
     pub fn ends<R: Host>(&mut self, rt: R, peer: u16, end: LinkEnd)
         ensures { self.new ≡ record self.old { ended = ended_after peer end self.old.ended } }
     {
@@ -100,9 +102,9 @@ impl Teller {
         let _told = eprintln!(rt; "stream of {} ends: {why}", name.as_str());
     }
 
-    /// A tick goes by: now and then it tells how many streams were turned away, and how many frames were lost since their
-    /// clocks were not believed or too many came of one, where that is more than was told; and how many were passed over by
-    /// then.
+    /// A tick: from time to time it reports how many streams were turned away, and how many frames
+    /// were lost as their clocks were too far ahead or too many came from one, where that is more
+    /// than was reported; and how many were skipped by then.
     pub fn ticks<R: Host>(&mut self, rt: R, lost: Lost, flood: Lost, passed: u64)
         ensures { self.new ≡ told_after self.old lost.count flood.count }
     {
@@ -142,7 +144,8 @@ impl Teller {
         name
     }
 
-    /// Whether it is time to tell how many streams were turned away and how many frames were lost.
+    /// Whether it is time to report how many streams were turned away and how many frames were
+    /// lost.
     fn is_to_tell(&self, lost: u64, flood: u64) -> bool
         ensures { result ≡ is_to_tell self.now lost flood }
     {
@@ -158,7 +161,7 @@ impl Teller {
         self.setup.members.len()
     }
 
-    /// Tells where the site stands, where that is new.
+    /// Reports the site's status, where it has changed.
     pub fn stands<R: Host>(&mut self, rt: R, standing: Option<Standing>)
         ensures { self.new ≡ record self.old { stood = stood_after standing self.old.stood } }
     {
@@ -176,7 +179,7 @@ impl Teller {
         let _told = eprintln!(rt; "{word} view {view} log {log}{full}");
     }
 
-    /// Answers where the site stands, and with whom it has a stream.
+    /// Prints the site's status, and who has a stream to it.
     pub fn answers<R: Host>(&self, rt: R, standing: Option<Standing>, lanes: &[Lane]) {
         let Some(
             Standing {
@@ -198,7 +201,7 @@ impl Teller {
         }
     }
 
-    /// The names of those with whom a stream stands, each behind a space.
+    /// The names of those who have a stream, each behind a space.
     fn peers_of(&self, alloc: Global, lanes: &[Lane]) -> Result<String, AllocError> {
         let mut names = String::new(alloc);
         for lane in lanes {
@@ -209,7 +212,7 @@ impl Teller {
     }
 }
 
-/// What is told of where a site stands.
+/// What is reported of a site's status.
 fn stood_at(standing: Standing) -> Stood
     ensures { result ≡ stood_at standing }
 {
@@ -220,7 +223,7 @@ fn stood_at(standing: Standing) -> Stood
     }
 }
 
-/// The word for where a site stands.
+/// The word for a site's status.
 fn word_of(status: Status) -> &'static str
     ensures { result.now ≡ status_word status }
 {

@@ -1,4 +1,5 @@
-//! What comes to the loop of itself: beats of the clock, the time, and lines of the terminal.
+//! What comes to the loop from its own machine: beats of the clock, the time, and lines of the
+//! terminal.
 
 use crate::host::Wires;
 use crate::inbox::{Inbox, tell};
@@ -10,8 +11,9 @@ use std::time::{Clock, Duration, SystemTime, UNIX_EPOCH};
 /// How far ahead of the time a client or a node may be, in microseconds: a day.
 const AHEAD_US: u64 = 86_400_000_000;
 
-/// Up to which clock a client or a node is believed now: the microseconds since 1970 by the date of this machine, and a day
-/// more. An actor's clock counts its events, so no honest one comes near it, however long it spoke alone.
+/// Up to which clock frames of a client or a node are accepted now: the microseconds since 1970 by
+/// the date of this machine, and a day more. An actor's clock counts its events, so no honest one
+/// comes near it, however long it spoke alone.
 pub fn latest_clock<R: Clock>(clock: &R) -> u64 {
     let Ok(now) = SystemTime::now(clock) else {
         return AHEAD_US;

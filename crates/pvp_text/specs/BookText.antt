@@ -95,16 +95,16 @@ LinesEnd held lines (Err RunFaults.NoMemory) old new =
 LinesEnd held lines (Err RunFaults.Output) old new = lines ≢ []
 LinesEnd held lines (Err (RunFaults.Line fault)) old new = ⊥
 
--- how a script is read: where memory is refused to a line, and that is told so, or where none is refused
+-- how a script is read: where memory is refused to a line, which is reported, or where none is refused
 abbrev pub ScriptReading : Type 0
 ScriptReading = Option LineFault → Result (List Line) LineFault
 
--- reading the script may tell that memory was refused
+-- reading the script may report that memory was refused
 abbrev pub MayTellMemory : ScriptReading → Type 0
 MayTellMemory read =
     (fault : LineFault) × (line_fault_is_memory fault ≡ true) × Faults line_fault_is_memory fault read
 
--- what is told of a faulty script: its faulty line, or that memory was refused to one before it
+-- what is reported of a faulty script: its faulty line, or that memory was refused to one before it
 abbrev pub Tells : ScriptReading → LineFault → Result (Unit {0}) RunFault → Type 0
 Tells read fault (Ok _) = ⊥
 Tells read fault (Err (RunFaults.Line told)) = told ≡ fault

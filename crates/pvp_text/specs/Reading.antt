@@ -7,8 +7,8 @@ abbrev pub ◌>>=◌ : {A B E : Type 0} → Result A E → (A → Result B E) �
 (Ok x) >>= f = f x
 (Err e) >>= f = Err e
 
--- Something is kept, which takes memory. Reading is told by what is read where no memory is refused (None), and by what
--- is read where it is refused and this fault is told of it.
+-- Something is kept, which takes memory. Reading is defined by what is read where no memory is refused (None), and by
+-- what is read where it is refused and reported as this fault.
 abbrev pub value_or_refusal : {A E : Type 0} → Option E → A → Result A E
 value_or_refusal None x = Ok x
 value_or_refusal (Some refusal) x = Err refusal
@@ -22,7 +22,7 @@ abbrev pub Faults : {A E : Type 0} → (E → Bool) → E → (Option E → Resu
 Faults is_memory fault read = (read None ≡ Err fault) ⊎ IsRefused is_memory fault read
 
 -- A reader answers what is read where no memory is refused: the value, which is the view of its own, or the same
--- fault. In place of either it may tell that memory was refused, but only where reading takes memory.
+-- fault. In place of either it may report that memory was refused, but only where reading takes memory.
 abbrev pub Reads : {X A E : Type 0} → (X → A) → (E → Bool) → Result X E → (Option E → Result A E) → Type 0
 Reads view is_memory (Ok x) read = read None ≡ Ok (view x)
 Reads view is_memory (Err fault) read = Faults is_memory fault read

@@ -54,7 +54,7 @@ command_of word.Paid values = Paid (as_currency (said_at values 3)) (as_number (
 command_of word.Returned values = Returned (as_currency (said_at values 3)) (as_number (said_at values 4))
 command_of _ values = Instruct (instruction_of values)
 
--- a step of the form of this word: what has none of its own tells a client's command
+-- a step of the form of this word: any other word is a client's command
 abbrev pub step_of : Word → List Value → Step
 step_of word.Deliver values = Deliver (as_number (said_at values 1))
 step_of word.PayIn values =
@@ -79,7 +79,7 @@ statement_of word values = Do (step_of word values)
 
 -- ---- all lines
 
--- the word that tells a form, where scripts of this kind have its lines
+-- the word of a form, where scripts of this kind have its lines
 abbrev pub known_in : Kind → Form → Result Word LineCode
 known_in kind (Of word) = if has (kinds_of word) kind then Ok word else Err UnknownWord
 known_in kind NoCommand = Err UnknownWord
@@ -91,7 +91,7 @@ abbrev pub line_values : Kind → Setup → List Field → List (List ℕ) → R
 line_values kind setup fields said =
     if length said == length fields then values_at kind setup fields said else Err WordCount
 
--- WHAT THE WORDS OF A LINE SAY: first its form is told, then its words are counted, then their numbers are read and
+-- WHAT THE WORDS OF A LINE SAY: first its form is found, then its words are counted, then their numbers are read and
 -- last their names looked up
 unfoldable pub statement_at : Kind → Setup → List (List ℕ) → Result Statement LineCode
 statement_at kind setup said = do
@@ -153,7 +153,7 @@ abbrev pub is_memory_code : LineCode → Bool
 is_memory_code NoMemory = true
 is_memory_code _ = false
 
--- a fault for want of memory
+-- a fault for lack of memory
 abbrev pub line_fault_is_memory : LineFault → Bool
 line_fault_is_memory fault = is_memory_code fault.code
 

@@ -94,8 +94,8 @@ actor_at word =
     if slice_index word 0 == 115 then (number_within 255 (drop 1 word) >>= λ n. Ok (numbered (FIRST_SITE + n)))
     else reference_at 65535 word
 
--- A site, where no other actor may stand: `s` and its number. Neither `@` nor a name tells one: what begins with `@` is
--- a malformed number, and what begins otherwise is nothing's name.
+-- A site, where no other actor may stand: `s` and its number. Neither `@` nor a name stands for one: what begins with
+-- `@` is a malformed number, and what begins otherwise is nothing's name.
 abbrev pub site_at : List ℕ → Result ℕ WordFault
 site_at word =
     if slice_index word 0 == 115 then number_within 255 (drop 1 word)
@@ -115,18 +115,18 @@ client_of setup fault who = number_of (client_number setup) (λ _. fault) who
 abbrev pub operator_or_member : Setup → List ℕ → Option ℕ
 operator_or_member setup name = if bytes_eq name (codes "OP") then Some 0 else member_number setup name
 
--- Who may be told by name to send a command: on one book any client. Elsewhere the nodes stand in the bank themselves,
--- and send what they have to say by their own steps.
+-- Who may be named as the sender of a command: on one book any client. Elsewhere the nodes stand in the bank
+-- themselves, and send their commands by their own steps.
 abbrev pub sender_number : Kind → Setup → List ℕ → Option ℕ
 sender_number Book setup name = client_number setup name
 sender_number Play setup name = operator_or_member setup name
 sender_number Live setup name = operator_or_member setup name
 
--- where nodes send their own commands, a currency's code tells a node, which is no sender
+-- where nodes send their own commands, a currency's code names a node, which is no sender
 abbrev pub no_sender : Kind → Setup → List ℕ → WordFault
 no_sender kind setup name = if is_some (currency_number setup name) then OfNode kind else NoSender
 
--- who sends a command, which a line may tell by any number
+-- who sends a command, whom a line may name by any number
 abbrev pub sender_of : Kind → Setup → Spelled → Result ℕ WordFault
 sender_of kind setup who = number_of (sender_number kind setup) (no_sender kind setup) who
 
@@ -161,12 +161,12 @@ value_at kind setup fields.Actor word =
     actor_at word >>= λ who. client_of setup NoActor who >>= λ n. Ok (values.Actor n)
 value_at kind setup fields.Site word = site_at word >>= λ n. Ok (values.Actor n)
 
--- where a name is unknown, a malformed number behind it is told all the same
+-- where a name is unknown, a malformed number behind it is reported all the same
 abbrev pub unknown_before : Result (List Value) LineCode → Result (List Value) LineCode
 unknown_before (Ok others) = Err UnknownName
 unknown_before (Err code) = Err code
 
--- the fault of a word and what the words behind it say: a malformed number is told before an unknown name
+-- the fault of a word and what the words behind it say: a malformed number is reported before an unknown name
 abbrev pub wrong_before : WordFault → Result (List Value) LineCode → Result (List Value) LineCode
 wrong_before fault later = if is_of_name fault then unknown_before later else Err Number
 
@@ -203,7 +203,7 @@ abbrev pub values_in : Result (ArrayVec Value) LineCode → Result (List Value) 
 values_in (Ok found) = Ok found.items
 values_in (Err code) = Err code
 
--- of two faults of a line's words a malformed number is told, wherever it stands
+-- of two faults of a line's words a malformed number is reported, wherever it stands
 abbrev pub graver_fault : Option WordFault → WordFault → WordFault
 graver_fault None found = found
 graver_fault (Some before) found = if is_of_name before then found else before

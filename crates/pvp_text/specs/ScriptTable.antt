@@ -1,5 +1,5 @@
--- The forms of a script's lines: of each the word that tells it, the kinds of script that have it, and what its words
--- are to be.
+-- The forms of a script's lines: of each the word by which it is known, the kinds of script that have it, and what its
+-- words are to be.
 use Rattle.std.specs.Prelude.{ℕ, ◌&&◌, Bool, true, false, not, List, [], ◌∷◌, find, Option, Some, None, codes, bytes_eq}
 use Rattle.pvp_text.specs.declared.script.Kind.{Kind}
 use Rattle.pvp_text.specs.declared.script.Kind.TheVariants as script
@@ -129,7 +129,7 @@ kinds_text Live = codes "a live run"
 abbrev pub find_word : List ℕ → List Word → Option Word
 find_word word words = find (λ one. bytes_eq word (text_of one)) words
 
--- the form that a command tells, where it is one
+-- the form of a command, where it is one
 abbrev pub told_by_command : Option Word → Form
 told_by_command (Some word) = Of word
 told_by_command None = NoCommand
@@ -139,18 +139,18 @@ abbrev pub command_form : List (List ℕ) → Form
 command_form (who ∷ command ∷ fields) = told_by_command (find_word command commands)
 command_form _ = TooFew
 
--- the form that a first word tells, with what stands behind it
+-- the form of a line with this first word, and this behind it
 abbrev pub told_by_first : Option Word → List (List ℕ) → Form
 told_by_first (Some Do) rest = command_form rest
 told_by_first (Some word) rest = Of word
 told_by_first None rest = NoLine
 
--- THE FORM that the words of a line tell
+-- THE FORM of a line with these words
 abbrev pub form_of : List (List ℕ) → Form
 form_of [] = TooFew
 form_of (first ∷ rest) = told_by_first (find_word first firsts) rest
 
--- what each word is to be, as far as the form is told
+-- what each word is to be, as far as the form is known
 abbrev pub form_fields : Form → List Field
 form_fields (Of word) = fields_of word
 form_fields NoCommand = fields_of Do

@@ -106,11 +106,11 @@ parts_where refused bytes = do
 abbrev pub setup_text : List ℕ → Result Setup TextFault
 setup_text bytes = setup_where None bytes
 
--- what is told of an error of the JSON reader
+-- how an error of the JSON reader is reported
 abbrev pub Tells : Error → TextFault → Type 0
 Tells error fault = (IsMemory error × (fault ≡ NoMemory)) ⊎ ((¬ IsMemory error) × (fault ≡ NotJson))
 
--- a fault for want of memory
+-- a fault for lack of memory
 abbrev pub text_fault_is_memory : TextFault → Bool
 text_fault_is_memory NotJson = false
 text_fault_is_memory BadMember = false

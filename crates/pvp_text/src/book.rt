@@ -36,10 +36,10 @@ impl From<AllocError> for RunFault {
 
 /// Runs a script on a book of its own, and writes what its lines print.
 ///
-/// The script is read whole first, so that a faulty one writes nothing, and its first faulty line is
-/// told, or that memory was refused to keep a line before that. Where memory is refused in the run, what
-/// was written is what the script's first lines print, and not all of it. How much was written where the
-/// writer fails is not said.
+/// The script is read whole first, so that a faulty one writes nothing, and its first faulty line
+/// is reported, or that memory was refused to keep a line before that. Where memory is refused in
+/// the run, what was written is what the script's first lines print, and not all of it. How much
+/// was written where the writer fails is not said.
 pub fn run_book<W: Write>(
     alloc: Global,
     setup: &Setup,

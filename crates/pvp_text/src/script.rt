@@ -38,9 +38,10 @@
 //! to 65535 for a client and up to 255 for a currency, in the setup or not. In a play and in a live run
 //! the nodes send their own commands: there a currency's code is no WHO, though a node's number is read.
 //!
-//! SITE is `s` and a site's number up to 255. ACTOR is a client or a site, and `@` tells an actor by its
-//! number: that of a client is its own, and that of site K is 200 + K. What begins with `@`, or with `s`
-//! where a site may stand, is judged as a number: `@200` is no SITE, and as malformed as `s256`.
+//! SITE is `s` and a site's number up to 255. ACTOR is a client or a site, and `@` names an actor
+//! by its number: that of a client is its own, and that of site K is 200 + K. What begins with `@`,
+//! or with `s` where a site may stand, is judged as a number: `@200` is no SITE, and as malformed
+//! as `s256`.
 ghost use Rattle.std.specs.Prelude.{◌≡◌, ◌≤◌, Some, length};
 ghost use Rattle.pvp_text.specs.Script.{script_where, lines_at, of_line, line_fault_is_memory, lines_in};
 ghost use Rattle.pvp_text.specs.ScriptTable.{prints, has_actors, kind_text};
@@ -84,7 +85,7 @@ impl Kind {
         }
     }
 
-    /// Whether a script of this kind may have the lines that actors are told by.
+    /// Whether a script of this kind may have the lines that give actors events.
     fn has_actors(self) -> bool
         ensures { result ≡ has_actors self }
     {
@@ -203,10 +204,11 @@ impl From<AllocFailed<Line>> for LineFault {
 /// How many lines a script may have.
 const LINES: usize = 65_535;
 
-/// The lines of a script that are not skipped, in their order. An `Err` tells L7 and line 65,536 where
-/// there are too many lines, and else the first faulty line and the first of its faults in the order
-/// L6, L1, L2, L3, L4, L5. L8 may stand in place of the lines, or of a fault, at a line before it that
-/// asks for something: such a line is kept, which alone takes memory. So it never stands in place of L7.
+/// The lines of a script that are not skipped, in their order. An `Err` has L7 and line 65,536
+/// where there are too many lines, and else the first faulty line and the first of its faults in
+/// the order L6, L1, L2, L3, L4, L5. L8 may stand in place of the lines, or of a fault, at a line
+/// before it that asks for something: such a line is kept, which alone takes memory. So it never
+/// stands in place of L7.
 #[tactic(auto, unfolding(crate::specs::Script::script_where))]
 pub fn read_script(
     alloc: Global,

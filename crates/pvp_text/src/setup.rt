@@ -51,7 +51,7 @@ impl From<serde_json::Error> for TextFault {
     }
 }
 
-/// Prints what the program tells of the fault: `json J1`, `json J2`, `memory`, or `setup` and the
+/// Prints what the program reports of the fault: `json J1`, `json J2`, `memory`, or `setup` and the
 /// rule's code.
 impl fmt::Display for TextFault {
     ghost use Rattle.std.specs.Prelude.{Some};

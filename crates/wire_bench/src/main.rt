@@ -36,7 +36,7 @@ const TIMES: u16 = 1_000;
 /// How many bytes a piece has.
 const PIECES: [usize; 3] = [1, 64, 65_536];
 
-/// Why there is no time to tell.
+/// Why no time was measured.
 #[derive(Clone, Copy, Debug, PartialEq, Eq)]
 enum BenchFault {
     /// Memory was refused, the clock or the output failed.
@@ -81,7 +81,7 @@ fn log(alloc: Global, count: u16) -> Result<RowsOf<Cmd>, AllocError> {
     Ok(rows)
 }
 
-/// What a site sends that tells a log of so many rows.
+/// What a site sends with a log of so many rows.
 fn sent(alloc: Global, rows: u16) -> Result<Stamped, AllocError> {
     Ok(Stamped {
         stamp: Stamp {

@@ -34,7 +34,7 @@ fn taken(
     Ok(intake.take_hello(link))
 }
 
-/// The stream that begins so is opened by this one, or is told so.
+/// The stream that begins so is opened by this one, or has this fault.
 fn is_called<R: Abort + AllocGlobal>(
     rt: &R,
     bytes: &[u8],
@@ -45,7 +45,8 @@ fn is_called<R: Abort + AllocGlobal>(
     Ok(())
 }
 
-/// The hello of a link is taken off the front of such a stream, or is waited for, or is told so.
+/// The hello of a link is taken off the front of such a stream, or is waited for, or has this
+/// fault.
 fn is_taken<R: Abort + AllocGlobal>(
     rt: &R,
     front: &[u8],

@@ -112,7 +112,8 @@ fn tells_each_fault(rt: HostRuntime) -> Result<(), Fail> {
 /// What is found where the tag is another.
 const ANOTHER_TAG: Heard = Heard::Wrong(LinkFault::Tag);
 
-/// The tag is looked at behind the length, and before anything is decoded: so whatever is altered is told as the tag.
+/// The tag is looked at behind the length, and before anything is decoded: so whatever is altered
+/// is reported as the tag.
 #[test]
 fn a_tag_comes_first(rt: HostRuntime) -> Result<(), Fail> {
     let link = link(201, 200, KEY)?;
@@ -206,7 +207,7 @@ fn come_at_once<R: Abort + AllocGlobal>(
     Ok(())
 }
 
-/// A wrong length comes, and is told twice.
+/// A wrong length comes, and is reported twice.
 fn comes_wrong<R: Abort + AllocGlobal>(
     rt: &R,
     intake: &mut Intake,
@@ -218,7 +219,8 @@ fn comes_wrong<R: Abort + AllocGlobal>(
     Ok(())
 }
 
-/// Pieces that came at once are found one by one, also where more come in between; a fault is told again and again.
+/// Pieces that came at once are found one by one, also where more come in between; a fault is
+/// reported again and again.
 #[test]
 fn pieces_are_found_in_order(rt: HostRuntime) -> Result<(), Fail> {
     let link = link(201, 200, None)?;

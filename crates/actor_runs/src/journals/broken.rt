@@ -12,7 +12,7 @@ const SIZE: usize = 249;
 /// What the records say.
 const BODIES: [&[u8]; 3] = [&DELIVERED, &TIMER, &DELIVERED];
 
-/// What is told of the head where it is cut off behind so many bytes.
+/// What is reported of the head where it is cut off behind so many bytes.
 fn told_of_head(size: usize) -> Answer {
     let why = match size {
         0..=3 => JournalWhy::Magic,
@@ -32,7 +32,7 @@ fn whole_in(size: usize) -> (usize, usize) {
     }
 }
 
-/// What is told of the journal where it is cut off behind so many bytes.
+/// What is reported of the journal where it is cut off behind so many bytes.
 fn told_of_front(size: usize) -> Answer {
     if size < HEAD.len() {
         return told_of_head(size);
@@ -45,12 +45,12 @@ fn told_of_front(size: usize) -> Answer {
     }
 }
 
-/// Of these bytes, which were altered or cut at this place, this is told.
+/// Of these bytes, which were altered or cut at this place, this is reported.
 fn is_told<R: Abort + AllocGlobal>(rt: &R, bytes: &[u8], want: Answer, at: usize) {
     assert_eq!(rt; told(rt.alloc(), bytes), want, "at {at}");
 }
 
-/// The journal in these bytes is told as it should be where it is cut off at each of them.
+/// The journal in these bytes is reported as it should be where it is cut off at each of them.
 fn is_told_at_each_cut<R: Abort + AllocGlobal>(rt: &R, bytes: &[u8]) {
     for size in 0..=bytes.len() {
         is_told(rt, &bytes[..size], told_of_front(size), size);
@@ -65,8 +65,9 @@ fn is_cut_at_each_byte(rt: HostRuntime) -> Result<(), Fail> {
     Ok(())
 }
 
-/// What is told of the journal where one byte of it has another highest bit. The flag of the opening is then none;
-/// what else the head says, the checksum of the first record tells.
+/// What is reported of the journal where one byte of it has another highest bit. The flag of the
+/// opening is then none; what else of the head is altered shows in the checksum of the first
+/// record.
 fn told_of_altered(at: usize) -> Answer {
     match at {
         0..=3 => Answer::Fault(JournalWhy::Magic, 0),
@@ -77,7 +78,7 @@ fn told_of_altered(at: usize) -> Answer {
     }
 }
 
-/// The journal in these bytes is told as it should be where each of them is altered.
+/// The journal in these bytes is reported as it should be where each of them is altered.
 fn is_told_at_each_byte<R: Abort + AllocGlobal>(rt: &R, bytes: &mut [u8]) {
     for at in 0..bytes.len() {
         let byte = bytes[at];
@@ -95,8 +96,9 @@ fn is_altered_at_each_byte(rt: HostRuntime) -> Result<(), Fail> {
     Ok(())
 }
 
-/// What is told of the journal where it ends with this byte, which has another highest bit: what has come of a complement
-/// or of a checksum is damaged, and what else is altered cannot be known before they come.
+/// What is reported of the journal where it ends with this byte, which has another highest bit:
+/// what has come of a complement or of a checksum is damaged, and what else is altered cannot be
+/// known before they come.
 fn told_of_altered_end(at: usize) -> Answer {
     let (count, start) = whole_in(at);
     match at {
@@ -106,7 +108,7 @@ fn told_of_altered_end(at: usize) -> Answer {
     }
 }
 
-/// The journal in these bytes is told as it should be where it ends with each of them, altered.
+/// The journal in these bytes is reported as it should be where it ends with each of them, altered.
 fn is_told_at_each_end<R: Abort + AllocGlobal>(rt: &R, bytes: &mut [u8]) {
     for at in HEAD.len()..bytes.len() {
         let byte = bytes[at];

@@ -10,7 +10,7 @@ use std::process::Abort;
 use std::test::Fail;
 use vr_types::EventOf;
 
-/// Bytes that begin with no head, and what is told of each.
+/// Bytes that begin with no head, and the fault of each.
 const NO_HEADS: &[(&[u8], JournalWhy)] = &[
     (&[], JournalWhy::Magic),
     (b"PVPK", JournalWhy::Magic),
@@ -67,7 +67,7 @@ const NO_ENTRIES: &[(&[u8], WireFault)] = &[
     ),
 ];
 
-/// Of bytes that begin with no head this is told.
+/// Bytes that begin with no head have this fault.
 fn is_no_head<R: Abort + AllocGlobal>(rt: &R, bytes: &[u8], why: JournalWhy) {
     assert_eq!(rt; told(rt.alloc(), bytes), Answer::Fault(why, 0), "{bytes:?}");
 }
@@ -80,7 +80,7 @@ fn tells_each_fault_of_a_head(rt: HostRuntime) -> Result<(), Fail> {
     Ok(())
 }
 
-/// Of a second record that says these bytes this is told.
+/// A second record with these bytes has this fault.
 fn is_no_entry<R: Abort + AllocGlobal>(rt: &R, body: &[u8], why: WireFault) -> Result<(), Fail> {
     let bytes = journal_of(rt.alloc(), &[&TIMER, body])?;
     let want = Answer::Fault(JournalWhy::Record(why), 75);
@@ -126,14 +126,14 @@ fn stray(event: PartyEvent, stamp: Option<Stamp>) -> Entry {
     }
 }
 
-/// What writing its record tells, and how many bytes there are then.
+/// What writing its record returns, and how many bytes there are then.
 fn tells(alloc: Global, entry: &Entry) -> (Option<WriteFault>, usize) {
     let mut bytes = Vec::new(alloc);
     let fault = write_record(alloc, 200, 0, entry, &mut bytes).err();
     (fault, bytes.len())
 }
 
-/// Writing the record of a timer with this stamp tells this, and then there are so many bytes.
+/// Writing the record of a timer with this stamp returns this, and then there are so many bytes.
 fn is_written<R: Abort + AllocGlobal>(
     rt: &R,
     stamp: Option<Stamp>,

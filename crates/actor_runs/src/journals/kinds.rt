@@ -94,8 +94,8 @@ fn dropped(number: u8) -> [u8; 15] {
     [0, 0, 0, 0, 0, 0, 0, 5, 3, 1, 0, 0, 0, 0, number]
 }
 
-/// Whether a journal of one record comes back, where what that says is known; or else is told of a field that has a value
-/// which it may not have.
+/// Whether a journal of one record comes back, where what that says is known; or else a field is
+/// reported that has a value which it may not have.
 fn is_right(alloc: Global, bytes: &[u8], known: bool) -> Result<bool, Fail> {
     if known {
         comes_back(alloc, bytes, 1)

@@ -54,14 +54,14 @@ pub fn journal_of(alloc: Global, bodies: &[&[u8]]) -> Result<Vec<u8>, Fail> {
     Ok(out)
 }
 
-/// What reading tells: how many records, and what is left; or the fault.
+/// What reading returns: how many records, and what is left; or the fault.
 #[derive(Clone, Copy, Debug, PartialEq, Eq)]
 pub enum Answer {
     Read(usize, Left),
     Fault(JournalWhy, usize),
 }
 
-/// What reading these bytes tells.
+/// What reading these bytes returns.
 pub fn told(alloc: Global, bytes: &[u8]) -> Answer {
     match read_journal(alloc, bytes) {
         Ok(journal) => Answer::Read(journal.history.len(), journal.left),
@@ -69,7 +69,7 @@ pub fn told(alloc: Global, bytes: &[u8]) -> Answer {
     }
 }
 
-/// Of these bytes this is told.
+/// These bytes read so.
 pub fn reads_as<R: Abort + AllocGlobal>(rt: &R, bytes: &[u8], want: Answer) {
     assert_eq!(rt; told(rt.alloc(), bytes), want);
 }

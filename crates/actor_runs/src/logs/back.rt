@@ -364,7 +364,7 @@ fn told_of(alloc: Global, bytes: &[u8]) -> Result<(usize, Left, u64), Fail> {
     Ok((journal.history.len(), journal.left, clock))
 }
 
-/// The last clock of a history that was taken again.
+/// The last clock of a history that was replayed.
 fn last_clock(alloc: Global, journal: &Journal) -> Result<u64, Fail> {
     Ok(clock_of(again(alloc, journal)?))
 }

@@ -61,7 +61,8 @@ fn judged_at_rest(alloc: Global, actors: &[ActorId]) -> Result<Option<Verdict>, 
     judged(alloc, at_rest(alloc, actors)?)
 }
 
-/// How a bank at rest is judged but for one event of its first member: a beat at this clock, told as a stray.
+/// How a bank at rest is judged but for one event of its first member: a beat at this clock,
+/// recorded as a stray.
 fn judged_with_a_stray(alloc: Global, clock: u64) -> Result<Option<Verdict>, Fail> {
     let mut histories = at_rest(alloc, &ACTORS)?;
     if let Some(history) = histories.get_mut(1) {
@@ -113,7 +114,8 @@ fn is_no_run<R: Abort + AllocGlobal>(rt: &R, clock: u64, why: AuditTest) -> Resu
     Ok(())
 }
 
-/// The first test that fails is told, of a clock that does not rise and of what cannot come out so.
+/// The first test that fails is reported, of a clock that does not rise and of what cannot come out
+/// so.
 #[test]
 fn a_history_that_cannot_be_is_told(rt: HostRuntime) -> Result<(), Fail> {
     is_no_run(&rt, 0, AuditTest::Clock)?;

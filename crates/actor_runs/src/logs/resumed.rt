@@ -1,4 +1,4 @@
-//! The history of a room whose process was killed is taken again.
+//! The history of a room whose process was killed is replayed.
 
 use crate::logs::rooms::{Operator, operator, settle, written};
 use fixtures::setup::three_currencies;
@@ -58,12 +58,13 @@ fn again(alloc: Global, history: &[Entry]) -> Result<Option<u64>, Fail> {
     }
 }
 
-/// The last clock of what was taken again.
+/// The last clock of what was replayed.
 pub(crate) fn clock_of<A: Drop>(again: Replayed<A>) -> u64 {
     again.clock
 }
 
-/// The history of the operator, altered so, is taken again up to this clock; `None` where it cannot have come so.
+/// The history of the operator, altered so, is replayed up to this clock; `None` where it cannot
+/// have come so.
 fn comes_to<R: Abort + AllocGlobal>(
     rt: &R,
     clocks: u64,

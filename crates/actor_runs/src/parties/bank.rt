@@ -119,7 +119,7 @@ fn left_after<A: Actor>(
     left_by(alloc, three)
 }
 
-/// Whom an envelope tells what was answered.
+/// Who gets an answer by an envelope.
 fn told(letter: &Envelope<Book>) -> Option<(u16, Reply)> {
     match &letter.msg {
         MsgOf::Reply(msg) => Some((letter.to, msg.reply)),
@@ -127,7 +127,7 @@ fn told(letter: &Envelope<Book>) -> Option<(u16, Reply)> {
     }
 }
 
-/// The operator is told of a run that settled nothing.
+/// The operator hears of a run that settled nothing.
 fn is_answered<R: Abort + Wait + AllocGlobal, C: Fresh>(
     rt: &R,
     three: &mut Three<PartyOf<C>>,

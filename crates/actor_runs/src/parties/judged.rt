@@ -11,14 +11,16 @@ use std::sync::Wait;
 use std::test::Fail;
 use vr_types::{EventOf, MemCell, SiteFault};
 
-/// What a site left whose first save failed: it crashed, fell as it was restarted, and was restarted once more.
+/// What a site left whose first save failed: it crashed, fell as it was restarted, and was
+/// restarted again.
 fn fallen<R: Wait + AllocGlobal>(rt: &R, keeps_new: bool) -> Result<Closed<Party>, Fail> {
     let mut site = Place::site_over(rt.alloc(), 1, MemCell::failing(1, keeps_new), 1)?;
     let came = falls(rt, &mut site, u32::from(keeps_new));
     close_after(came, site)
 }
 
-/// A site crashes, falls at a restart over a cell that then holds so many boots, and is restarted once more.
+/// A site crashes, falls at a restart over a cell that then holds so many boots, and is restarted
+/// again.
 fn falls<R: Wait + AllocGlobal>(rt: &R, site: &mut Place<Party>, boots: u32) -> Result<(), Fail> {
     site.take(rt, PartyEvent::OfSite(EventOf::Crash))?;
     falls_over(rt, site, boots)?;

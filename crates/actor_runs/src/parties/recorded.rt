@@ -21,7 +21,7 @@ use vr_types::{Boot, EventOf, SentOf, SiteFault, Why};
 enum Took {
     /// A client asks for a settlement run.
     Asks,
-    /// A client says again what may have been lost.
+    /// A client sends again what may have been lost.
     SaysAgain,
     /// ALFA pays so much in at a node.
     PaysIn(u64),
@@ -237,7 +237,7 @@ fn a_node_can_refuse(rt: HostRuntime) -> Result<(), Fail> {
     are_right(&rt, 101, ROWS)
 }
 
-/// It tells three sites of a pay-in that it can take.
+/// It sends three sites the notice of a pay-in that it can take.
 #[test]
 fn a_node_cannot_have_done_so(rt: HostRuntime) -> Result<(), Fail> {
     const ROWS: &[Row] = &[
@@ -264,7 +264,8 @@ fn a_site_can_refuse_and_fall(rt: HostRuntime) -> Result<(), Fail> {
     are_right(&rt, 200, ROWS)
 }
 
-/// It takes a beat of which it tells two others, refuses a restart while it is up, and falls over no other value.
+/// It takes a beat at which it sends to two others, refuses a restart while it is up, and falls
+/// over no other value.
 #[test]
 fn a_site_cannot_have_done_so(rt: HostRuntime) -> Result<(), Fail> {
     const ROWS: &[Row] = &[
@@ -344,8 +345,8 @@ fn retimed<R: Wait + AllocGlobal>(rt: &R) -> Result<Vec<Closed<Party>>, Fail> {
     after(came, some)
 }
 
-/// Of two receipts of one record the first seat's goes first, though the other's would leave each its own: what then is no
-/// seat's next is told before the clock that stands still.
+/// Of two receipts of one record the first seat's goes first, though the other's would leave each
+/// its own: what then is no seat's next is reported before the clock that stands still.
 #[test]
 fn a_receipt_is_missed_before_a_clock_is(rt: HostRuntime) -> Result<(), Fail> {
     let told = Verdict::No {

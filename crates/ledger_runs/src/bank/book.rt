@@ -1,5 +1,6 @@
-//! What a book of the small bank shows of the commands that came: each of its calls once. What commands are answered, in which
-//! order their faults are told, and histories drawn at random: `.ci/texts`.
+//! What a book of the small bank shows of the commands that came: each of its calls once. What
+//! commands are answered, in which order their faults are found, and histories drawn at random:
+//! `.ci/texts`.
 use self::Asks::{Fund, Instruct, Paid, PayOut, Rescind, Returned, Settle};
 use self::BookReading::{
     Applied, At, Balance, Count, Entries, Figure, First, Open, OpenCount, Orders, PaidIn, Pair,
@@ -34,7 +35,7 @@ const USD: u8 = 1;
 /// What a client asks of the book.
 #[derive(Clone, Copy)]
 enum Asks {
-    /// It tells a pay-in: the currency, the number, the member and the amount.
+    /// It reports a pay-in: the currency, the number, the member and the amount.
     Fund(u8, u32, u16, u64),
     /// It would exchange: the reference, the other member, and what it sells and buys, each a currency and an amount.
     Instruct(u32, u16, (u8, u64), (u8, u64)),

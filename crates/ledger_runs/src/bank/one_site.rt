@@ -1,3 +1,4 @@
+//! One site that keeps the bank's book: where its log is full it drops a request.
 use fixtures::setup::three_currencies;
 use pvp_book::Book;
 use pvp_types::Cmd;

@@ -110,7 +110,7 @@ fn a_cell_goes_on_after_a_save_that_failed(rt: HostRuntime) -> Result<(), Fail> 
     Ok(())
 }
 
-/// Whether an opening of which a call fails tells that of the store.
+/// Whether an opening of which a call fails reports that of the store.
 fn is_not_opened<S: Store>(alloc: Global, store: &mut S) -> bool {
     pvp_cell::settle_cell(alloc, store) == Err(OpenFault::Store)
 }
@@ -130,7 +130,7 @@ fn each_call_of_an_opening_fails_in_turn(rt: HostRuntime) -> Result<(), Fail> {
     Ok(())
 }
 
-/// Saves the next count in a cell of any kind, and tells whether it did.
+/// Saves the next count in a cell of any kind, and returns whether it did.
 fn is_raised<C: BootCell>(cell: &mut C) -> bool {
     match cell.load().raised() {
         Some(boot) => cell.save(boot).is_ok(),
@@ -138,7 +138,7 @@ fn is_raised<C: BootCell>(cell: &mut C) -> bool {
     }
 }
 
-/// Whether a new cell of any kind saves each count to 9, and tells of no failure.
+/// Whether a new cell of any kind saves each count to 9, and reports no failure.
 fn saves_all<C: BootCell>(cell: &mut C) -> bool {
     let mut all = cell.load().boots == 0;
     for _ in 1..10 {

@@ -12,8 +12,8 @@ use vr_types::{
 /// An event, unless memory for it was refused.
 pub type Given = Result<Event<Tally>, AllocError>;
 
-/// What comes to a site: of a message its receiver, its sender, and what it tells. Rows are told by the numbers of client
-/// 5's requests, and boots by a number for each site.
+/// What comes to a site: of a message its receiver, its sender, and its content. Rows are given by
+/// the numbers of client 5's requests, and boots by a number for each site.
 #[derive(Clone, Copy)]
 pub enum Comes {
     Timer,
@@ -22,7 +22,7 @@ pub enum Comes {
     Restart,
     /// Client 5's request to add 3, to this receiver: the number.
     Request(u16, u32),
-    /// Client 5's request to tell the sum, to this receiver: the number.
+    /// Client 5's request for the sum, to this receiver: the number.
     Total(u16, u32),
     /// The view, the place, how many rows are executed. The row is the request that has the place's number.
     Prepare(u16, u16, u32, u16, u16),
@@ -36,9 +36,10 @@ pub enum Comes {
     DoViewChange(u16, u16, u32, Ballot, &'static [u32]),
     /// The view, how many rows are executed, the rows.
     StartView(u16, u16, u32, u16, &'static [u32]),
-    /// The view, the rows before which are had.
+    /// The view, the rows that its sender already has.
     GetState(u16, u16, u32, u16),
-    /// Of site 1, to this receiver: the view, the rows before those that are told, how many are executed, the rows.
+    /// Of site 1, to this receiver: the view, the rows before those sent, how many are executed,
+    /// the rows.
     NewState(u16, u32, u16, u16, &'static [u32]),
     /// The nonce.
     Recovery(u16, u16, u32),

@@ -221,7 +221,7 @@ fn cell_fails_once_and_counts_it(rt: HostRuntime) -> Result<(), Fail> {
     Ok(())
 }
 
-/// What is told is behind at the first site, and is not at the last.
+/// The message is behind the first site, and is not at the last.
 fn is_outdated(rt: &impl Abort, mine: &Known, told: &Known) {
     assert!(rt; mine.is_outdated(0, told) && !mine.is_outdated(2, told));
 }

@@ -104,8 +104,8 @@ pub enum Step {
     Refuses(Comes, SiteFault),
     /// The site falls by the event with this fault, over a cell that then counts so many restarts.
     Falls(Comes, SiteFault, u32),
-    /// The event is handled, or the site falls by it for want of memory; its cell then counts so many restarts, or as
-    /// many as before.
+    /// The event is handled, or the site falls by it for lack of memory; its cell then counts so
+    /// many restarts, or as many as before.
     Stands(Comes, u32),
     /// The site shows this.
     Is(Shows),
@@ -246,7 +246,8 @@ impl Trial {
         self.site.refuses(&event)
     }
 
-    /// Whether the event is handled over a cell that then counts so many restarts, or the site is down for want of memory.
+    /// Whether the event is handled over a cell that then counts so many restarts, or the site is
+    /// down for lack of memory.
     fn stands(&mut self, event: Comes, boots: u32) -> bool {
         let before = self.site.boot().boots;
         if self.site.status() == Status::Down && before == boots {

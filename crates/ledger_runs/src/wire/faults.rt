@@ -22,7 +22,7 @@ fn of_sites(count: u8) -> [u8; 39] {
     bytes
 }
 
-/// Fronts of frames, and what is told of each.
+/// Fronts of frames, and the fault of each.
 const FRONTS: [(&[u8], WireFault); 4] = [
     (&[], WireFault::Short),
     (&[0, 64, 0, 0], WireFault::Short),
@@ -62,7 +62,7 @@ fn tells_each_fault(rt: HostRuntime) -> Result<(), Fail> {
     Ok(())
 }
 
-/// Boots of 1 to 7 sites are told; the frame ends where its length says, whatever their count is.
+/// Boots of 1 to 7 sites are sent; the frame ends where its length says, whatever their count is.
 #[test]
 fn counts_the_sites_of_boots(rt: HostRuntime) -> Result<(), Fail> {
     let alloc = rt.alloc();
@@ -143,7 +143,7 @@ fn a_stranger_is_not_wireable(rt: HostRuntime) -> Result<(), Fail> {
     Ok(())
 }
 
-/// A STARTVIEWCHANGE that tells of as many boots.
+/// A STARTVIEWCHANGE with so many boots.
 fn change(boots: &[u32]) -> Message {
     MsgOf::StartViewChange(StartViewChange {
         view: 1,
@@ -190,7 +190,8 @@ fn is_written(left: u32) -> Result<bool, Fail> {
     Ok(encode(&commit, &mut Failing { left }).is_ok())
 }
 
-/// A writer that fails at its first write or in the middle of a frame is told; one that takes all writes is not.
+/// A writer that fails at its first write or in the middle of a frame is reported; one that takes
+/// all writes is not.
 #[test]
 fn a_failing_writer_is_told(rt: HostRuntime) -> Result<(), Fail> {
     for (left, want) in [(0, false), (1, false), (2, true)] {

@@ -29,7 +29,7 @@ impl Stream {
         Ok((frames.len(), self.feeder.held()))
     }
 
-    /// The fault that is told at a piece.
+    /// The fault that is reported at a piece.
     fn fault(&mut self, piece: &[u8]) -> Option<WireFault> {
         self.feeder.feed(piece).err()
     }
@@ -105,7 +105,8 @@ fn one_piece_may_have_many_frames(rt: HostRuntime) -> Result<(), Fail> {
     has_many_frames(&rt, &mut Stream::new(rt.alloc()), piece.as_slice())
 }
 
-/// A piece has one frame, and a fault behind it: that is told at the next piece, and at each one after it.
+/// A piece has one frame, and a fault behind it: that is reported at the next piece, and at each
+/// one after it.
 fn tells_its_fault_later(rt: &impl Abort, stream: &mut Stream, piece: &[u8]) -> Result<(), Fail> {
     let (frames, _) = stream.take(piece)?;
     assert!(rt; frames == 1);
@@ -121,7 +122,7 @@ fn a_fault_is_told_after_the_frames_before_it(rt: HostRuntime) -> Result<(), Fai
     tells_its_fault_later(&rt, &mut Stream::new(rt.alloc()), piece.as_slice())
 }
 
-/// The fault that is told at the first piece of a stream.
+/// The fault that is reported at the first piece of a stream.
 fn first_fault(alloc: Global, piece: &[u8]) -> Option<WireFault> {
     Stream::new(alloc).fault(piece)
 }

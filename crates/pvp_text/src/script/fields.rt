@@ -14,7 +14,7 @@ use vr_types::FIRST_SITE;
 /// How many turns chaos may take.
 const TURNS: u64 = 1_000_000;
 
-/// The greatest numbers that `@` may tell of a client and of a currency, and `s` of a site.
+/// The greatest numbers that `@` may give for a client and of a currency, and `s` of a site.
 const MOST_OF_CLIENT: u64 = 65_535;
 
 const MOST_OF_CURRENCY: u64 = 255;
@@ -32,7 +32,7 @@ pub enum WordFault {
     NotDigits,
     /// A number above the one that may stand there.
     Above(u64),
-    /// It begins with `@`, where only a site may stand, which is told by `s`.
+    /// It begins with `@`, where only a site may stand, which is named by `s`.
     NotBySite,
     /// No client has the name that may send a command.
     NoSender,
@@ -313,7 +313,7 @@ fn site_number(digits: &[u8]) -> Result<u8, WordFault>
     Ok(number as u8)
 }
 
-/// The number of a client, or this fault. One that is told by number is not looked up.
+/// The number of a client, or this fault. One that is named by number is not looked up.
 fn client_of(setup: &Setup, fault: WordFault, who: Reference<u16>) -> Result<u16, WordFault>
     ensures { result ≡ client_of setup.now fault (spelling_of who.entry) }
 {
@@ -323,7 +323,7 @@ fn client_of(setup: &Setup, fault: WordFault, who: Reference<u16>) -> Result<u16
     }
 }
 
-/// The number of a client that sends a command. One that is told by number is not looked up.
+/// The number of a client that sends a command. One that is named by number is not looked up.
 fn sender_of(kind: Kind, setup: &Setup, who: Reference<u16>) -> Result<u16, WordFault>
     ensures { result ≡ sender_of kind setup.now (spelling_of who.entry) }
 {
@@ -365,7 +365,7 @@ fn no_sender(kind: Kind, setup: &Setup, name: &[u8]) -> WordFault
     }
 }
 
-/// The number of a currency. One that is told by number is not looked up.
+/// The number of a currency. One that is named by number is not looked up.
 fn currency_named(setup: &Setup, ccy: Reference<u8>) -> Result<u8, WordFault>
     ensures { result ≡ currency_named setup.now (spelling_of ccy.entry) }
 {

@@ -45,8 +45,8 @@ fn are_printable(line: &[u8]) -> bool
     line.iter().all(|b| (32..=126).contains(b))
 }
 
-/// What the words of a line say: first its form is told, then its words are counted, then their numbers are
-/// read and their names looked up.
+/// What the words of a line say: first its form is found, then its words are counted, then their
+/// numbers are read and their names looked up.
 #[tactic(auto, unfolding(crate::specs::Script::statement_at))]
 fn read_statement(kind: Kind, setup: &Setup, line: &[u8]) -> Result<Statement, LineCode>
     ensures { result ≡ statement_at kind setup.now (words line.now) }
@@ -56,7 +56,7 @@ fn read_statement(kind: Kind, setup: &Setup, line: &[u8]) -> Result<Statement, L
     Ok(statement(word, values.as_slice()))
 }
 
-/// The word that tells a form, where scripts of this kind have its lines.
+/// The word of a form, where scripts of this kind have its lines.
 fn known_word(kind: Kind, form: Form) -> Result<Word, LineCode>
     ensures { result ≡ known_in kind form }
 {
@@ -67,8 +67,8 @@ fn known_word(kind: Kind, form: Form) -> Result<Word, LineCode>
     }
 }
 
-/// What the words of a line say, which are to be as many as these. A malformed number is told before a name
-/// that nothing has, wherever they stand.
+/// What the words of a line say, which are to be as many as these. A malformed number is reported
+/// before a name that nothing has, wherever they stand.
 fn read_words(kind: Kind, setup: &Setup, fields: &[Field], line: &[u8]) -> Result<Values, LineCode>
     requires { length fields.now ≤ 9 }
     ensures { values_in result ≡ line_values kind setup.now fields.now (words line.now) }
@@ -92,7 +92,8 @@ fn read_words(kind: Kind, setup: &Setup, fields: &[Field], line: &[u8]) -> Resul
     end(fault, values)
 }
 
-/// Which of two faults of a line's words is told: the one that was before, if any, and the one that was found.
+/// Which of two faults of a line's words is reported: the one that was before, if any, and the one
+/// that was found.
 fn graver_fault(before: Option<WordFault>, found: WordFault) -> WordFault
     ensures { result ≡ graver_fault before found }
 {

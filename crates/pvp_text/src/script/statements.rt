@@ -8,7 +8,7 @@ use crate::script::fields::Value;
 use crate::script::table::Word;
 use pvp_types::{Cmd, Instruction, Step};
 
-/// What a line says whose form this word tells. Each value stands at the place of its word, and the first
+/// What a line of this word's form says. Each value stands at the place of its word, and the first
 /// word's place is 0.
 pub fn statement(word: Word, values: &[Value]) -> Statement
     ensures { result ≡ statement_of word values.now }

@@ -1,5 +1,6 @@
-//! The forms of a script's lines, in one table: of each the word that tells it, the kinds of script that
-//! have it, and what each word of its lines is to be. Scripts are read by it, and their faults explained.
+//! The forms of a script's lines, in one table: of each the word by which it is known, the kinds of
+//! script that have it, and what each word of its lines is to be. Scripts are read by it, and their
+//! faults explained.
 ghost use Rattle.std.specs.Prelude.{◌≡◌, ◌≤◌, Some, length};
 ghost use Rattle.pvp_text.specs.ScriptTable as spec;
 ghost use Rattle.pvp_text.specs.ScriptWords.{words};
@@ -73,7 +74,8 @@ impl fmt::Display for Kinds {
     }
 }
 
-/// A word that tells the form of a line: its first one or, behind `do` and who sends it, a command.
+/// A word by which the form of a line is known: its first one or, behind `do` and who sends it, a
+/// command.
 #[derive(Clone, Copy, Debug, PartialEq, Eq)]
 pub enum Word {
     Do,
@@ -223,7 +225,7 @@ pub fn commands() -> &'static [Word]
     ]
 }
 
-/// What the words of a line tell of its form.
+/// What the words of a line say about its form.
 #[derive(Clone, Copy, Debug, PartialEq, Eq)]
 pub enum Form {
     /// It is that of this word.
@@ -232,12 +234,12 @@ pub enum Form {
     NoCommand,
     /// The first word begins no line.
     NoLine,
-    /// There are too few words to tell.
+    /// There are too few words to know.
     TooFew,
 }
 
 impl Form {
-    /// The form that the words of a line tell, for any kind of script.
+    /// The form of a line with these words, for any kind of script.
     pub fn of(line: &[u8]) -> Self
         ensures { result ≡ spec.form_of (words line.now) }
     {
@@ -251,7 +253,7 @@ impl Form {
         }
     }
 
-    /// The form that who sends a command and the command tell.
+    /// The form of a line with this sender and command.
     fn of_command(rest: &[u8]) -> Self
         ensures { result ≡ spec.command_form (words rest.now) }
     {
@@ -267,7 +269,7 @@ impl Form {
         }
     }
 
-    /// What each word of the line is to be, as far as the form is told.
+    /// What each word of the line is to be, as far as the form is known.
     pub fn fields(self) -> &'static [Field]
         ensures { result.now ≡ spec.form_fields self }
     {
