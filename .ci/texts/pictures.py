@@ -28,6 +28,16 @@ class Pictures(Runs):
             self.assertIn(text, picture)
         self.assertNotIn(">OP</text>", picture)
 
+    def test_red_is_what_went_wrong(self):
+        """A drop at a backup is grey, a refusal and a crash are red, and so is an envelope that a line skipped. The legend has one of
+        each sign."""
+        for script, signs in [
+            (SCRIPT, {"dropped": 1, "faint": 1, "lost": 1, "cross": 1, "crash": 1, "dot": 1, "gone": 0, "wrong": 0, "stub": 2, "ring": 2}),
+            ("do ALFA payout USD 5\nskip 3\n", {"dropped": 0, "faint": 0, "lost": 0, "cross": 0, "dot": 1, "gone": 3, "wrong": 3, "ring": 0}),
+        ]:
+            picture = self.printed(PICTURE, script=script)
+            self.assertEqual({sign: picture.count(f'class="{sign}"') - 1 for sign in signs}, signs)
+
     def test_some_steps_are_drawn(self):
         """The first step that is drawn, and the last; what stands before and after is counted."""
         for words, told in [

@@ -1,7 +1,7 @@
 //! Envelopes: an arrow for each way that one went, and a stub for one that never came.
 
 use crate::escape::push_escaped;
-use crate::labels::{Stack, why_name};
+use crate::labels::{Stack, why_class, why_name};
 use crate::layout::{Stroke, column_of, row_of};
 use crate::lifeline::push_line;
 use crate::scene::{Ending, Flight, Passed, Scene};
@@ -108,7 +108,7 @@ fn push_arrow(
     let stroke = stroke_of(scene, flight, came);
     match flight.ending {
         Ending::Taken => push_line(text, "arrow", stroke),
-        Ending::Dropped(_) | Ending::Refused(_) => push_crossed(text, stroke),
+        Ending::Dropped(_) | Ending::Refused(_) => push_crossed(text, flight.ending, stroke),
     }
 }
 
@@ -134,27 +134,33 @@ fn push_head(
     let mut stack = Stack::new(column_of(scene, came), y, flight.from <= flight.to);
     match flight.ending {
         Ending::Taken => {}
-        Ending::Dropped(why) => stack.push(text, "why", why_name(why))?,
+        Ending::Dropped(why) => stack.push(text, why_class(flight.ending), why_name(why))?,
         Ending::Refused(fault) => stack.push_code(text, fault)?,
     }
     stack.push_number(text, "number", "", flight.number)
 }
 
 /// Writes a line that ends in a cross.
-fn push_crossed(text: &mut String, stroke: Stroke) -> Result<(), AllocError> {
-    push_line(text, "lost", stroke)?;
-    push_cross(text, stroke.x2, stroke.y2)
+fn push_crossed(text: &mut String, ending: Ending, stroke: Stroke) -> Result<(), AllocError> {
+    let class = if ending.is_wrong() { "lost" } else { "dropped" };
+    push_line(text, class, stroke)?;
+    push_cross(text, cross_class(ending), stroke.x2, stroke.y2)
+}
+
+/// The class of the cross for what came of a step.
+pub fn cross_class(ending: Ending) -> &'static str {
+    if ending.is_wrong() { "cross" } else { "faint" }
 }
 
 /// Writes a cross.
-pub fn push_cross(text: &mut String, x: usize, y: usize) -> Result<(), AllocError> {
+pub fn push_cross(text: &mut String, class: &str, x: usize, y: usize) -> Result<(), AllocError> {
     let left = x.saturating_sub(5);
     let right = x.saturating_add(5);
     let top = y.saturating_sub(5);
     let low = y.saturating_add(5);
     write!(
         text,
-        "<path class=\"cross\" d=\"M{left} {top}L{right} {low}M{left} {low}L{right} {top}\"/>\n"
+        "<path class=\"{class}\" d=\"M{left} {top}L{right} {low}M{left} {low}L{right} {top}\"/>\n"
     )
 }
 
@@ -173,8 +179,12 @@ fn push_stub(text: &mut String, scene: &Scene, flight: &Flight) -> Result<(), Al
     if flight.came.is_some() {
         return push_line(text, "later", stub);
     }
+    if flight.is_lost() {
+        push_line(text, "gone", stub)?;
+        return push_ring(text, "wrong", x, end);
+    }
     push_line(text, "stub", stub)?;
-    push_ring(text, x, end)
+    push_ring(text, "ring", x, end)
 }
 
 /// How far from the top a stub ends.
@@ -203,16 +213,17 @@ fn push_stub_number(text: &mut String, scene: &Scene, flight: &Flight) -> Result
     let y = stub_end(scene, flight).saturating_add(4);
     let number = flight.number;
     let passed = passed_name(flight.passed);
+    let class = if flight.is_lost() { "why" } else { "number" };
     write!(
         text,
-        "<text class=\"number\" text-anchor=\"end\" x=\"{x}\" y=\"{y}\">{number}{passed}</text>\n"
+        "<text class=\"{class}\" text-anchor=\"end\" x=\"{x}\" y=\"{y}\">{number}{passed}</text>\n"
     )
 }
 
 /// Writes a ring.
-pub fn push_ring(text: &mut String, x: usize, y: usize) -> Result<(), AllocError> {
+pub fn push_ring(text: &mut String, class: &str, x: usize, y: usize) -> Result<(), AllocError> {
     write!(
         text,
-        "<circle class=\"ring\" cx=\"{x}\" cy=\"{y}\" r=\"3\"/>\n"
+        "<circle class=\"{class}\" cx=\"{x}\" cy=\"{y}\" r=\"3\"/>\n"
     )
 }

@@ -24,6 +24,9 @@ text{font-family:'DejaVu Sans',Verdana,sans-serif;font-size:11px;fill:#111;paint
 .status{fill:#333}
 .leads{font-weight:bold}
 .why{fill:#8a0000;font-weight:bold}
+.usual{fill:#707070}
+.dot{fill:#111}
+.crash{fill:#8a0000}
 .plain{stroke:#555;stroke-width:1.5}
 .normal{stroke:#00406b;stroke-width:6}
 .change{stroke:#c05a00;stroke-width:6;stroke-dasharray:10 4}
@@ -37,9 +40,13 @@ text{font-family:'DejaVu Sans',Verdana,sans-serif;font-size:11px;fill:#111;paint
 .arrow{stroke:#333;stroke-width:1.3;marker-end:url(#head)}
 .lost{stroke:#8a0000;stroke-width:1.3;stroke-dasharray:6 3}
 .cross{stroke:#8a0000;stroke-width:2.5;fill:none}
+.dropped{stroke:#9a9a9a;stroke-width:1.1;stroke-dasharray:6 3}
+.faint{stroke:#8c8c8c;stroke-width:1.5;fill:none}
 .stub{stroke:#333;stroke-width:1.3;stroke-dasharray:2 2}
 .later{stroke:#333;stroke-width:1.3;stroke-dasharray:2 2;marker-end:url(#head)}
 .ring{fill:#fff;stroke:#333;stroke-width:1.3}
+.gone{stroke:#8a0000;stroke-width:1.3;stroke-dasharray:2 2}
+.wrong{fill:#fff;stroke:#8a0000;stroke-width:2}
 </style>
 ";
 

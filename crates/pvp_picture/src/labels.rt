@@ -1,7 +1,7 @@
 //! The words and signs that stand at a point of a lifeline.
 
 use crate::escape::push_escaped;
-use crate::scene::Snapshot;
+use crate::scene::{Ending, Snapshot};
 use pvp_world::WorldFault;
 use std::alloc::AllocError;
 use vr_types::{Status, Why};
@@ -150,12 +150,26 @@ pub fn push_status(
     if stack.above {
         push_leads(text, stack, snapshot)?;
         push_view(text, stack, snapshot)?;
-        stack.push(text, "status", status_name(snapshot.status))
+        push_status_name(text, stack, snapshot.status)
     } else {
-        stack.push(text, "status", status_name(snapshot.status))?;
+        push_status_name(text, stack, snapshot.status)?;
         push_view(text, stack, snapshot)?;
         push_leads(text, stack, snapshot)
     }
+}
+
+/// Writes the name of a status.
+fn push_status_name(
+    text: &mut String,
+    stack: &mut Stack,
+    status: Status,
+) -> Result<(), AllocError> {
+    let class = if status == Status::Down {
+        "why"
+    } else {
+        "status"
+    };
+    stack.push(text, class, status_name(status))
 }
 
 /// Writes a snapshot's view, where the site runs.
@@ -182,6 +196,11 @@ pub fn status_name(status: Status) -> &'static str {
         Status::Recovering => "recovering",
         Status::Down => "down",
     }
+}
+
+/// The class of the words for what came of a step.
+pub fn why_class(ending: Ending) -> &'static str {
+    if ending.is_wrong() { "why" } else { "usual" }
 }
 
 /// Why a site dropped an event, in one word.

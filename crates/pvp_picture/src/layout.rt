@@ -15,7 +15,7 @@ pub const ROW: usize = 104;
 pub const TOP: usize = 300;
 
 /// What stands below the last lifeline: room for its labels, then the legend.
-pub const LEGEND: usize = 212;
+pub const LEGEND: usize = 256;
 
 /// How wide the picture is at least, so that the legend has room.
 const LEAST_WIDTH: usize = 1080;

@@ -27,7 +27,7 @@ pub fn push_legend(text: &mut String, scene: &Scene) -> Result<(), AllocError> {
     push_signs(text, top)?;
     push_reasons(
         text,
-        top.saturating_add(LINE.saturating_mul(7)).saturating_add(8),
+        top.saturating_add(LINE.saturating_mul(9)).saturating_add(8),
     )
 }
 
@@ -41,7 +41,7 @@ fn sample(x: usize, y: usize) -> Stroke {
     }
 }
 
-/// Writes the styles of lifelines, a dot and a band.
+/// Writes the styles of lifelines, dots and a band.
 fn push_statuses(text: &mut String, top: usize) -> Result<(), AllocError> {
     push_status(
         text,
@@ -67,17 +67,24 @@ fn push_statuses(text: &mut String, top: usize) -> Result<(), AllocError> {
     )?;
     push_status(text, top, 3, "down", "a site that is down")?;
     push_status(text, top, 4, "plain", "a client or a node")?;
-    let y = top.saturating_add(LINE.saturating_mul(5));
-    push_dot(text, SIGN.saturating_add(21), y)?;
+    push_dots(text, top.saturating_add(LINE.saturating_mul(5)))?;
+    let low = top.saturating_add(LINE.saturating_mul(7));
+    push_band(text, SIGN, SIGN.saturating_add(42), low)?;
+    push_below(text, WORDS, low, "an actor that is cut off from all others")
+}
+
+/// Writes what dots mean.
+fn push_dots(text: &mut String, y: usize) -> Result<(), AllocError> {
+    let low = y.saturating_add(LINE);
+    push_dot(text, "dot", SIGN.saturating_add(21), y)?;
     push_below(
         text,
         WORDS,
         y,
         "a step that delivers nothing; its name stands above",
     )?;
-    let low = y.saturating_add(LINE);
-    push_band(text, SIGN, SIGN.saturating_add(42), low)?;
-    push_below(text, WORDS, low, "an actor that is cut off from all others")
+    push_dot(text, "crash", SIGN.saturating_add(21), low)?;
+    push_below(text, WORDS, low, "a crash")
 }
 
 /// Writes the two thin lines of a primary.
@@ -113,43 +120,61 @@ fn push_envelopes(text: &mut String, top: usize) -> Result<(), AllocError> {
         "arrow",
         "an envelope, from the step that sent it to the step that delivered it; its number at the head",
     )?;
+    push_crosses(text, top)?;
+    push_rings(text, top)?;
     push_status_too(
         text,
         top,
-        1,
-        "lost",
-        "an envelope that came and was dropped or refused: a cross, and why",
-    )?;
-    push_cross(text, SIGN_TOO.saturating_add(42), top.saturating_add(LINE))?;
-    push_status_too(
-        text,
-        top,
-        2,
-        "stub",
-        "an envelope that no step delivered; skip: a line passed over it, cut: a cut held it up",
-    )?;
-    push_ring(
-        text,
-        SIGN_TOO.saturating_add(42),
-        top.saturating_add(LINE.saturating_mul(2)),
-    )?;
-    push_status_too(
-        text,
-        top,
-        3,
+        5,
         "later",
         "an envelope that a step after these delivers; those of steps before come from the left edge",
     )
 }
 
+/// Writes what crosses mean.
+fn push_crosses(text: &mut String, top: usize) -> Result<(), AllocError> {
+    let x = SIGN_TOO.saturating_add(42);
+    push_status_too(
+        text,
+        top,
+        1,
+        "dropped",
+        "an envelope that came and was dropped, as the protocol has it: a cross, and why",
+    )?;
+    push_cross(text, "faint", x, top.saturating_add(LINE))?;
+    push_status_too(
+        text,
+        top,
+        2,
+        "lost",
+        "what went wrong is red: an envelope or a step that was refused, and its code",
+    )?;
+    push_cross(text, "cross", x, top.saturating_add(LINE.saturating_mul(2)))
+}
+
+/// Writes what rings mean.
+fn push_rings(text: &mut String, top: usize) -> Result<(), AllocError> {
+    let x = SIGN_TOO.saturating_add(42);
+    push_status_too(
+        text,
+        top,
+        3,
+        "gone",
+        "an envelope that was lost; skip: a line passed over it, cut: a cut held it up",
+    )?;
+    push_ring(text, "wrong", x, top.saturating_add(LINE.saturating_mul(3)))?;
+    push_status_too(text, top, 4, "stub", "an envelope that no step delivered")?;
+    push_ring(text, "ring", x, top.saturating_add(LINE.saturating_mul(4)))
+}
+
 /// Writes the signs of rows and saves.
 fn push_signs(text: &mut String, top: usize) -> Result<(), AllocError> {
-    push_tick(text, top.saturating_add(LINE.saturating_mul(4)))?;
-    push_save(text, top.saturating_add(LINE.saturating_mul(5)))?;
+    push_tick(text, top.saturating_add(LINE.saturating_mul(6)))?;
+    push_save(text, top.saturating_add(LINE.saturating_mul(7)))?;
     push_below(
         text,
         WORDS_TOO,
-        top.saturating_add(LINE.saturating_mul(6)),
+        top.saturating_add(LINE.saturating_mul(8)),
         "the whole of a message is shown where the pointer rests on it",
     )
 }

@@ -105,6 +105,7 @@ fn shown_step(alloc: Global, run: &Run, place: usize) -> Result<ShownStep, Alloc
         short,
         words,
         ending: ending_of(attempt.result),
+        crashes: matches!(attempt.step, Step::Crash(_)),
         delivers: matches!(attempt.step, Step::Deliver(_)),
         from_below: is_from_below(run.world, attempt.step),
         snapshots: snapshots_at(alloc, run, place + 1)?,
