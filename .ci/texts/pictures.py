@@ -1,5 +1,7 @@
 """Pictures: which words ask for one, how one ends, and some of what it tells. What pictures of the example plays show is held
 against their traces by `.ci/pictures`."""
+import re
+
 from program import FOUR_SITES, NO_SITE_3, SETUP, TRACE, Runs
 
 PICTURE = [*TRACE, "--svg"]
@@ -37,6 +39,14 @@ class Pictures(Runs):
         ]:
             picture = self.printed(PICTURE, script=script)
             self.assertEqual({sign: picture.count(f'class="{sign}"') - 1 for sign in signs}, signs)
+
+    def test_kinds_stand_where_arrows_begin(self):
+        """A kind stands once where a step sends many of it, and an order whole."""
+        picture = self.printed(PICTURE, script=SCRIPT)
+        for kind in ["REQUEST", "PREPARE"]:
+            self.assertEqual(len(re.findall(rf'class="kind"[^>]*>{kind}</text>', picture)), 1)
+        script = "payin ALFA USD 500\ndrain 99\ndo ALFA payout USD 5\ndrain 99\n"
+        self.assertRegex(self.printed(PICTURE, script=script), r'class="kind"[^>]*>PAYORDER USD 1 ALFA 5</text>')
 
     def test_some_steps_are_drawn(self):
         """The first step that is drawn, and the last; what stands before and after is counted."""

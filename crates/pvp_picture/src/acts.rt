@@ -1,37 +1,34 @@
-//! Steps that deliver nothing: a dot at whose turn it was, or a cross and why nothing came of it.
+//! Steps that deliver nothing: a dot at whose turn it was, or a cross where nothing came of it.
 
 use crate::arrows::{cross_class, push_cross};
-use crate::labels::{Stack, why_class, why_name};
-use crate::layout::row_of;
-use crate::scene::{Ending, Scene, ShownStep};
+use crate::layout::Sheet;
+use crate::scene::{Ending, ShownStep};
 use std::alloc::AllocError;
 
-/// Writes a step that delivers nothing, where there is the actor whose turn it was.
+/// Writes the sign of a step that delivers nothing, where the actor whose turn it was has a lifeline.
 pub fn push_act(
     text: &mut String,
-    scene: &Scene,
+    sheet: &Sheet,
     x: usize,
     step: &ShownStep,
 ) -> Result<(), AllocError> {
-    let Some(actor) = step.actor else {
+    if step.delivers.is_some() {
+        return Ok(());
+    }
+    let Some(y) = turn_row(sheet, step) else {
         return Ok(());
     };
-    if step.delivers {
-        return Ok(());
-    }
-    let y = row_of(scene.actors.as_slice(), actor);
-    let mut stack = Stack::new(x, y, true);
     match step.ending {
         Ending::Taken => push_dot(text, dot_class(step), x, y),
-        Ending::Dropped(why) => {
-            push_cross(text, cross_class(step.ending), x, y)?;
-            stack.push(text, why_class(step.ending), why_name(why))
-        }
-        Ending::Refused(fault) => {
-            push_cross(text, cross_class(step.ending), x, y)?;
-            stack.push_code(text, fault)
+        Ending::Dropped(_) | Ending::Refused(_) => {
+            push_cross(text, cross_class(step.ending), x, y)
         }
     }
+}
+
+/// How far from the top the lifeline stands of whoever's turn a step is.
+fn turn_row(sheet: &Sheet, step: &ShownStep) -> Option<usize> {
+    sheet.row_of(step.actor?)
 }
 
 /// The class of the dot of a step.

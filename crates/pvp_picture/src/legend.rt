@@ -2,10 +2,8 @@
 
 use crate::acts::push_dot;
 use crate::arrows::{push_cross, push_ring};
-use crate::labels::push_words;
-use crate::layout::{Stroke, legend_top};
-use crate::lifeline::{push_band, push_line, push_square};
-use crate::scene::Scene;
+use crate::layout::Stroke;
+use crate::lifeline::{push_band, push_line, push_square, push_words};
 use std::alloc::AllocError;
 
 /// How far from the left signs and words of the two columns stand, and how far one line is from the next.
@@ -19,9 +17,8 @@ const WORDS_TOO: usize = 546;
 
 const LINE: usize = 22;
 
-/// Writes the legend.
-pub fn push_legend(text: &mut String, scene: &Scene) -> Result<(), AllocError> {
-    let top = legend_top(scene);
+/// Writes the legend, so far from the top.
+pub fn push_legend(text: &mut String, top: usize) -> Result<(), AllocError> {
     push_statuses(text, top)?;
     push_envelopes(text, top)?;
     push_signs(text, top)?;
@@ -118,7 +115,7 @@ fn push_envelopes(text: &mut String, top: usize) -> Result<(), AllocError> {
         top,
         0,
         "arrow",
-        "an envelope, from the step that sent it to the step that delivered it; its number at the head",
+        "an envelope, from the step that sent it (its kind) to the step that delivered it (its number)",
     )?;
     push_crosses(text, top)?;
     push_rings(text, top)?;

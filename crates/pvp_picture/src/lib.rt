@@ -11,6 +11,7 @@ pub mod layout;
 pub mod legend;
 pub mod lifeline;
 pub mod picture;
+pub mod piles;
 pub mod plays;
 pub mod replay;
 pub mod scene;

@@ -64,12 +64,23 @@ pub struct ShownStep {
     pub ending: Ending,
     /// Whether it is a crash.
     pub crashes: bool,
-    /// Whether it delivers an envelope.
-    pub delivers: bool,
+    /// The number of the envelope that it delivers, where it does.
+    pub delivers: Option<usize>,
     /// Whether it delivers an envelope of an actor whose lifeline stands below.
     pub from_below: bool,
+    /// What it sent, each kind once.
+    pub sendings: Vec<Sending>,
     /// Where each site stands after it.
     pub snapshots: Vec<Snapshot>,
+}
+
+/// Envelopes of one kind that a step sent.
+#[derive(Debug, Drop)]
+pub struct Sending {
+    /// Whether the first of them goes to an actor whose lifeline stands above.
+    pub upwards: bool,
+    /// Their kind; of orders all that they say.
+    pub words: String,
 }
 
 /// A stretch of a run in which an actor is cut off.
