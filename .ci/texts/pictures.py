@@ -48,6 +48,13 @@ class Pictures(Runs):
         script = "payin ALFA USD 500\ndrain 99\ndo ALFA payout USD 5\ndrain 99\n"
         self.assertRegex(self.printed(PICTURE, script=script), r'class="kind"[^>]*>PAYORDER USD 1 ALFA 5</text>')
 
+    def test_rows_are_told_with_what_they_came_to(self):
+        """At the first site that executes them, and at the others by their places."""
+        script = "payin ALFA USD 500\ndrain 99\ndo OP settle 10\ndrain 99\nbeat s0\ndrain 99\n"
+        picture = self.printed(PICTURE, script=script)
+        self.assertEqual(re.findall(r'class="money"[^>]*>(.*)</text>', picture), ["row 1 fund USD 1 ALFA 500: done", "row 2 settle 10: settled 0"])
+        self.assertEqual(sorted(re.findall(r'class="row"[^>]*>(.*)</text>', picture)), ["row 1", "row 1", "row 2", "row 2"])
+
     def test_some_steps_are_drawn(self):
         """The first step that is drawn, and the last; what stands before and after is counted."""
         for words, told in [

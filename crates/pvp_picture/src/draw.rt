@@ -24,6 +24,7 @@ text{font-family:'DejaVu Sans',Verdana,sans-serif;font-size:11px;fill:#111;paint
 .number{font-weight:bold}
 .status{fill:#333}
 .kind{font-size:9px;fill:#333}
+.money{fill:#00406b}
 .leads{font-weight:bold}
 .why{fill:#8a0000;font-weight:bold}
 .usual{fill:#707070}

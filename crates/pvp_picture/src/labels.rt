@@ -1,7 +1,7 @@
 //! The words that stand beside lifelines: what each says, and how it looks.
 
 use crate::escape::push_escaped;
-use crate::scene::{Ending, Passed, Scene, ShownStep};
+use crate::scene::{Ending, Passed, Scene};
 use std::alloc::AllocError;
 use vr_types::{Status, Why};
 
@@ -17,6 +17,8 @@ pub enum Said {
         first: usize,
         last: usize,
     },
+    /// A row that no site executed before, and what it came to, by its place among those of its step.
+    Row(usize),
     /// What a boot cell holds.
     Cell(u32),
     Status(Status),
@@ -94,6 +96,7 @@ fn class_of(said: Said) -> &'static str {
         Said::Number(_) => "number",
         Said::Came(ending) => why_class(ending.is_wrong()),
         Said::Rows { .. } => "row",
+        Said::Row(_) => "money",
         Said::Cell(_) => "cell",
         Said::Status(Status::Down) => "why",
         Said::Status(_) | Said::View(_) => "status",
@@ -118,20 +121,13 @@ pub fn push_said(text: &mut String, scene: &Scene, label: Label) -> Result<(), A
         Said::Status(status) => text.push_str(status_name(status)),
         Said::View(view) => write!(text, "view {view}"),
         Said::Leads => text.push_str("PRIMARY"),
-        Said::Sending(place) => match step_of(scene, label) {
-            Some(step) => push_sending(text, step, place),
-            None => Ok(()),
-        },
+        Said::Row(place) => push_found(text, row_at(scene, label, place)),
+        Said::Sending(place) => push_found(text, sending_at(scene, label, place)),
         Said::Stub { number, passed, .. } => {
             write!(text, "{number}")?;
             text.push_str(passed_name(passed))
         }
     }
-}
-
-/// The step at which a label stands.
-fn step_of(scene: &Scene, label: Label) -> Option<&ShownStep> {
-    scene.steps.get(label.spot.step?)
 }
 
 /// Appends why nothing came of a step.
@@ -152,10 +148,22 @@ fn push_span(text: &mut String, first: usize, last: usize) -> Result<(), AllocEr
     }
 }
 
-/// Appends what a step sent.
-fn push_sending(text: &mut String, step: &ShownStep, place: usize) -> Result<(), AllocError> {
-    match step.sendings.get(place) {
-        Some(sending) => push_escaped(text, sending.words.as_str()),
+/// A row that the step of a label executed.
+fn row_at(scene: &Scene, label: Label, place: usize) -> Option<&str> {
+    let step = scene.steps.get(label.spot.step?)?;
+    Some(step.rows.get(place)?.as_str())
+}
+
+/// What the step of a label sent.
+fn sending_at(scene: &Scene, label: Label, place: usize) -> Option<&str> {
+    let step = scene.steps.get(label.spot.step?)?;
+    Some(step.sendings.get(place)?.words.as_str())
+}
+
+/// Appends words, if there are any.
+fn push_found(text: &mut String, words: Option<&str>) -> Result<(), AllocError> {
+    match words {
+        Some(words) => push_escaped(text, words),
         None => Ok(()),
     }
 }

@@ -203,7 +203,7 @@ fn push_tick(text: &mut String, y: usize) -> Result<(), AllocError> {
         text,
         WORDS_TOO,
         y,
-        "rows executed, with their places in the log",
+        "rows executed, with their places; at the first site that does, what they came to",
     )
 }
 

@@ -6,6 +6,7 @@ pub mod apart;
 pub mod arrows;
 pub mod draw;
 pub mod escape;
+pub mod executed;
 pub mod labels;
 pub mod layout;
 pub mod legend;

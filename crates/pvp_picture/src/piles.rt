@@ -7,6 +7,12 @@ use crate::scene::{Ending, Flight, Scene, ShownStep, Snapshot};
 use std::alloc::{AllocError, Global};
 use vr_types::Status;
 
+/// How many rows of a step are told one by one.
+const MOST_ROWS: usize = 6;
+
+/// How many lines beside a lifeline have no long words.
+const SHORT: usize = 2;
+
 /// How many lines of each side are written.
 #[derive(Clone, Copy, Debug, PartialEq, Eq)]
 struct Piles {
@@ -24,6 +30,14 @@ impl Piles {
             row,
             above: 0,
             below: 0,
+        }
+    }
+
+    /// Leaves the first lines of a side to what is short.
+    fn keep_off(&mut self, side: Side) {
+        match side {
+            Side::Above => self.above = self.above.max(SHORT),
+            Side::Below => self.below = self.below.max(SHORT),
         }
     }
 
@@ -46,6 +60,15 @@ impl Piles {
             Side::Below => self.below = self.below.saturating_add(1),
         }
         Ok(())
+    }
+}
+
+/// The side from which no envelope comes at a step.
+fn news_side(step: &ShownStep) -> Side {
+    if step.from_below {
+        Side::Above
+    } else {
+        Side::Below
     }
 }
 
@@ -109,7 +132,8 @@ fn push_step(labels: &mut Vec<Label>, scene: &Scene, place: usize) -> Result<(),
     let mut piles = Piles::new(Some(place), row);
     push_came(labels, &mut piles, step)?;
     push_news(labels, &mut piles, scene, place)?;
-    push_sendings(labels, &mut piles, step)
+    push_sendings(labels, &mut piles, step)?;
+    push_rows(labels, &mut piles, step)
 }
 
 /// Adds the number of the envelope that came, and why nothing came of it, on the side from which it comes.
@@ -145,26 +169,59 @@ fn push_news(
     let Some((old, new)) = snapshots_at(scene, piles.row, place) else {
         return Ok(());
     };
-    let side = if step.from_below {
-        Side::Above
-    } else {
-        Side::Below
-    };
-    if new.done > old.done {
-        piles.push(
-            labels,
-            side,
-            Said::Rows {
-                first: old.done.saturating_add(1),
-                last: new.done,
-            },
-        )?;
-    }
+    let side = news_side(step);
+    let known = new.done.saturating_sub(told_count(step));
+    push_known(labels, piles, side, old.done, known)?;
     if new.boots != old.boots {
         piles.push(labels, side, Said::Cell(new.boots))?;
     }
     if old.status != new.status || old.view != new.view || old.leads != new.leads {
         push_status(labels, piles, side, new)?;
+    }
+    Ok(())
+}
+
+/// Adds the rows that a step executed, from one count to another, but for those that are told one by one.
+fn push_known(
+    labels: &mut Vec<Label>,
+    piles: &mut Piles,
+    side: Side,
+    before: usize,
+    after: usize,
+) -> Result<(), AllocError> {
+    if before < after {
+        let first = before.saturating_add(1);
+        piles.push(labels, side, Said::Rows { first, last: after })?;
+    }
+    Ok(())
+}
+
+/// How many rows of a step are told one by one: those that no site executed before, unless they are many.
+fn told_count(step: &ShownStep) -> usize {
+    if step.rows.len() <= MOST_ROWS {
+        step.rows.len()
+    } else {
+        0
+    }
+}
+
+/// Adds the rows that a step executed and none before it, further out than what is short, so that this has room at the steps
+/// beside it.
+fn push_rows(
+    labels: &mut Vec<Label>,
+    piles: &mut Piles,
+    step: &ShownStep,
+) -> Result<(), AllocError> {
+    let side = news_side(step);
+    let count = told_count(step);
+    piles.keep_off(side);
+    for place in 0..count {
+        // what stands above is read from the top too
+        let next = match side {
+            Side::Above => count.saturating_sub(place).saturating_sub(1),
+            Side::Below => place,
+        };
+        piles.push(labels, side, Said::Row(next))?;
     }
     Ok(())
 }

@@ -68,6 +68,8 @@ pub struct ShownStep {
     pub delivers: Option<usize>,
     /// Whether it delivers an envelope of an actor whose lifeline stands below.
     pub from_below: bool,
+    /// The rows that it executed and no step before it, in words, each with what it came to.
+    pub rows: Vec<String>,
     /// What it sent, each kind once.
     pub sendings: Vec<Sending>,
     /// Where each site stands after it.
