@@ -1,5 +1,7 @@
 """Pictures: which words ask for one, how one ends, and some of what it tells. What pictures of the example plays show is held
 against their traces by `.ci/pictures`."""
+import re
+
 from program import FOUR_SITES, NO_SITE_3, SETUP, TRACE, Runs
 
 PICTURE = [*TRACE, "--svg"]
@@ -27,6 +29,31 @@ class Pictures(Runs):
         ]:
             self.assertIn(text, picture)
         self.assertNotIn(">OP</text>", picture)
+
+    def test_red_is_what_went_wrong(self):
+        """A drop at a backup is grey, a refusal and a crash are red, and so is an envelope that a line skipped. The legend has one of
+        each sign."""
+        for script, signs in [
+            (SCRIPT, {"dropped": 1, "faint": 1, "lost": 1, "cross": 1, "crash": 1, "dot": 1, "gone": 0, "wrong": 0, "stub": 2, "ring": 2}),
+            ("do ALFA payout USD 5\nskip 3\n", {"dropped": 0, "faint": 0, "lost": 0, "cross": 0, "dot": 1, "gone": 3, "wrong": 3, "ring": 0}),
+        ]:
+            picture = self.printed(PICTURE, script=script)
+            self.assertEqual({sign: picture.count(f'class="{sign}"') - 1 for sign in signs}, signs)
+
+    def test_kinds_stand_where_arrows_begin(self):
+        """A kind stands once where a step sends many of it, and an order whole."""
+        picture = self.printed(PICTURE, script=SCRIPT)
+        for kind in ["REQUEST", "PREPARE"]:
+            self.assertEqual(len(re.findall(rf'class="kind"[^>]*>{kind}</text>', picture)), 1)
+        script = "payin ALFA USD 500\ndrain 99\ndo ALFA payout USD 5\ndrain 99\n"
+        self.assertRegex(self.printed(PICTURE, script=script), r'class="kind"[^>]*>PAYORDER USD 1 ALFA 5</text>')
+
+    def test_rows_are_told_with_what_they_came_to(self):
+        """At the first site that executes them, and at the others by their places."""
+        script = "payin ALFA USD 500\ndrain 99\ndo OP settle 10\ndrain 99\nbeat s0\ndrain 99\n"
+        picture = self.printed(PICTURE, script=script)
+        self.assertEqual(re.findall(r'class="money"[^>]*>(.*)</text>', picture), ["row 1 fund USD 1 ALFA 500: done", "row 2 settle 10: settled 0"])
+        self.assertEqual(sorted(re.findall(r'class="row"[^>]*>(.*)</text>', picture)), ["row 1", "row 1", "row 2", "row 2"])
 
     def test_some_steps_are_drawn(self):
         """The first step that is drawn, and the last; what stands before and after is counted."""

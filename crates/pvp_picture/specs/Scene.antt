@@ -1,8 +1,9 @@
 -- Which steps of a run a scene shows, and what it has of each, and of envelopes.
-use Rattle.std.specs.Prelude.{◌≡◌, ℕ, ◌+◌, ◌-◌, List, [], length, min, slice_get, Option, Some, None, option_map, unwrap_or, Result, Ok, Err, All, string_bytes}
+use Rattle.std.specs.Prelude.{◌≡◌, Bool, true, false, ℕ, ◌+◌, ◌-◌, List, [], length, min, slice_get, Option, Some, None, option_map, unwrap_or, Result, Ok, Err, All, string_bytes}
 use Rattle.pvp_types.specs.declared.setup.Setup.{Setup}
 use Rattle.rtgs_node.specs.Node.{Envelope}
 use Rattle.vr_types.specs.declared.event.Why.{Why}
+use Rattle.vr_types.specs.declared.event.Why.TheVariants as why
 use Rattle.pvp_world.specs.declared.fault.WorldFault.{WorldFault}
 use Rattle.pvp_world.specs.declared.report.Report.{Report}
 use Rattle.pvp_trace.specs.declared.attempt.Attempt.{Attempt}
@@ -24,6 +25,18 @@ dropped_for (Some why) = Dropped why
 abbrev pub ending_of : Result Report WorldFault → Ending
 ending_of (Ok report) = dropped_for report.dropped
 ending_of (Err fault) = Refused fault
+
+-- an event for which a log has no room
+abbrev pub is_full : Why → Bool
+is_full why.Full = true
+is_full other = false
+
+-- WHAT WENT WRONG: a step that was refused, or by which a site fell, and an event for which a log has no room; all else
+-- that a site drops is as the protocol has it
+abbrev pub is_wrong : Ending → Bool
+is_wrong Taken = false
+is_wrong (Dropped reason) = is_full reason
+is_wrong (Refused fault) = true
 
 -- where sites stood after so many steps
 abbrev pub snapshots_after : List (List Snapshot) → ℕ → List Snapshot

@@ -1,43 +1,45 @@
-//! Steps that deliver nothing: a dot at whose turn it was, or a cross and why nothing came of it.
+//! Steps that deliver nothing: a dot at whose turn it was, or a cross where nothing came of it.
 
-use crate::arrows::push_cross;
-use crate::labels::{Stack, why_name};
-use crate::layout::row_of;
-use crate::scene::{Ending, Scene, ShownStep};
+use crate::arrows::{cross_class, push_cross};
+use crate::layout::Sheet;
+use crate::scene::{Ending, ShownStep};
 use std::alloc::AllocError;
 
-/// Writes a step that delivers nothing, where there is the actor whose turn it was.
+/// Writes the sign of a step that delivers nothing, where the actor whose turn it was has a lifeline.
 pub fn push_act(
     text: &mut String,
-    scene: &Scene,
+    sheet: &Sheet,
     x: usize,
     step: &ShownStep,
 ) -> Result<(), AllocError> {
-    let Some(actor) = step.actor else {
-        return Ok(());
-    };
-    if step.delivers {
+    if step.delivers.is_some() {
         return Ok(());
     }
-    let y = row_of(scene.actors.as_slice(), actor);
-    let mut stack = Stack::new(x, y, true);
+    let Some(y) = turn_row(sheet, step) else {
+        return Ok(());
+    };
     match step.ending {
-        Ending::Taken => push_dot(text, x, y),
-        Ending::Dropped(why) => {
-            push_cross(text, x, y)?;
-            stack.push(text, "why", why_name(why))
-        }
-        Ending::Refused(fault) => {
-            push_cross(text, x, y)?;
-            stack.push_code(text, fault)
+        Ending::Taken => push_dot(text, dot_class(step), x, y),
+        Ending::Dropped(_) | Ending::Refused(_) => {
+            push_cross(text, cross_class(step.ending), x, y)
         }
     }
 }
 
+/// How far from the top the lifeline stands of whoever's turn a step is.
+fn turn_row(sheet: &Sheet, step: &ShownStep) -> Option<usize> {
+    sheet.row_of(step.actor?)
+}
+
+/// The class of the dot of a step.
+fn dot_class(step: &ShownStep) -> &'static str {
+    if step.crashes { "crash" } else { "dot" }
+}
+
 /// Writes a dot.
-pub fn push_dot(text: &mut String, x: usize, y: usize) -> Result<(), AllocError> {
+pub fn push_dot(text: &mut String, class: &str, x: usize, y: usize) -> Result<(), AllocError> {
     write!(
         text,
-        "<circle cx=\"{x}\" cy=\"{y}\" r=\"4.5\" fill=\"#111\"/>\n"
+        "<circle class=\"{class}\" cx=\"{x}\" cy=\"{y}\" r=\"4.5\"/>\n"
     )
 }

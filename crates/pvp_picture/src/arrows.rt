@@ -1,45 +1,39 @@
 //! Envelopes: an arrow for each way that one went, and a stub for one that never came.
 
 use crate::escape::push_escaped;
-use crate::labels::{Stack, why_name};
-use crate::layout::{Stroke, column_of, row_of};
+use crate::labels::Side;
+use crate::layout::{Sheet, Stroke, line_at, shown_end};
 use crate::lifeline::push_line;
-use crate::scene::{Ending, Flight, Passed, Scene};
+use crate::scene::{Ending, Flight, Passed};
 use pvp_trace::meanings::{meaning, reason};
 use std::alloc::AllocError;
 
 /// How far from a lifeline an arrow ends.
 const GAP: usize = 10;
 
-/// How much further each stub of a step goes than the one before it; the first goes twice as far.
-const STUB: usize = 13;
+/// How far a stub ends above the foot of its words.
+const MIDDLE: usize = 4;
 
 /// Writes all envelopes.
-pub fn push_flights(text: &mut String, scene: &Scene) -> Result<(), AllocError> {
-    for flight in scene.flights.iter() {
-        push_flight(text, scene, flight)?;
+pub fn push_flights(text: &mut String, sheet: &Sheet) -> Result<(), AllocError> {
+    for flight in sheet.scene.flights.iter() {
+        push_flight(text, sheet, flight)?;
     }
     Ok(())
 }
 
-/// Writes one way of an envelope.
-fn push_flight(text: &mut String, scene: &Scene, flight: &Flight) -> Result<(), AllocError> {
+/// Writes one way of an envelope, where both of its actors have a lifeline.
+fn push_flight(text: &mut String, sheet: &Sheet, flight: &Flight) -> Result<(), AllocError> {
+    let Some(stroke) = stroke_of(sheet, flight) else {
+        return Ok(());
+    };
     text.push_str("<g>")?;
     push_words_of(text, flight)?;
-    match shown_end(scene, flight) {
-        Some(came) => push_arrow(text, scene, flight, came)?,
-        None => push_stub(text, scene, flight)?,
+    match shown_end(sheet.scene, flight) {
+        Some(_came) => push_arrow(text, flight.ending, stroke)?,
+        None => push_stub(text, flight, stroke)?,
     }
     text.push_str("</g>\n")
-}
-
-/// The step among those that are shown by which an envelope came, if one did.
-fn shown_end(scene: &Scene, flight: &Flight) -> Option<usize> {
-    let last = scene.earlier.saturating_add(scene.steps.len());
-    match flight.came {
-        Some(came) if came <= last => Some(came),
-        _ => None,
-    }
 }
 
 /// Writes what a browser shows of an envelope under the pointer: its number, the whole message, and what came of it.
@@ -82,137 +76,96 @@ pub fn push_ending(text: &mut String, ending: Ending) -> Result<(), AllocError> 
     }
 }
 
-/// Where an arrow goes from and to: short of the lifeline that it comes to.
-fn stroke_of(scene: &Scene, flight: &Flight, came: usize) -> Stroke {
-    let to = row_of(scene.actors.as_slice(), flight.to);
-    let y2 = if flight.from > flight.to {
-        to.saturating_add(GAP)
-    } else {
-        to.saturating_sub(GAP)
+/// Where the arrow or the stub of an envelope goes from and to.
+fn stroke_of(sheet: &Sheet, flight: &Flight) -> Option<Stroke> {
+    let from = sheet.row_of(flight.from)?;
+    let to = sheet.row_of(flight.to)?;
+    let x1 = sheet.column_of(flight.sent);
+    let side = side_of(flight);
+    let (x2, y2) = match shown_end(sheet.scene, flight) {
+        Some(came) => (sheet.column_of(came), beside(to, side)),
+        None => (x1, stub_end(from, side, flight.rank)),
     };
-    Stroke {
-        x1: column_of(scene, flight.sent),
-        y1: row_of(scene.actors.as_slice(), flight.from),
-        x2: column_of(scene, came),
+    Some(Stroke {
+        x1,
+        y1: from,
+        x2,
         y2,
+    })
+}
+
+/// On which side of its sender's lifeline an envelope leaves.
+pub fn side_of(flight: &Flight) -> Side {
+    if flight.from > flight.to {
+        Side::Above
+    } else {
+        Side::Below
     }
+}
+
+/// Short of a lifeline, for an arrow that left its own on this side.
+fn beside(to: usize, side: Side) -> usize {
+    match side {
+        Side::Above => to.saturating_add(GAP),
+        Side::Below => to.saturating_sub(GAP),
+    }
+}
+
+/// How far from the top a stub ends, which so many stubs of its step stand before: beside its words.
+fn stub_end(from: usize, side: Side, rank: usize) -> usize {
+    line_at(from, side, rank.saturating_add(1)).saturating_sub(MIDDLE)
 }
 
 /// Writes the arrow of an envelope that came, with a cross where nothing came of it.
-fn push_arrow(
-    text: &mut String,
-    scene: &Scene,
-    flight: &Flight,
-    came: usize,
-) -> Result<(), AllocError> {
-    let stroke = stroke_of(scene, flight, came);
-    match flight.ending {
+fn push_arrow(text: &mut String, ending: Ending, stroke: Stroke) -> Result<(), AllocError> {
+    match ending {
         Ending::Taken => push_line(text, "arrow", stroke),
-        Ending::Dropped(_) | Ending::Refused(_) => push_crossed(text, stroke),
+        Ending::Dropped(_) | Ending::Refused(_) => push_crossed(text, ending, stroke),
     }
-}
-
-/// Writes the numbers of all envelopes, and why some were dropped or refused, over all lines.
-pub fn push_numbers(text: &mut String, scene: &Scene) -> Result<(), AllocError> {
-    for flight in scene.flights.iter() {
-        match shown_end(scene, flight) {
-            Some(came) => push_head(text, scene, flight, came)?,
-            None => push_stub_number(text, scene, flight)?,
-        }
-    }
-    Ok(())
-}
-
-/// Writes what stands at the head of an arrow.
-fn push_head(
-    text: &mut String,
-    scene: &Scene,
-    flight: &Flight,
-    came: usize,
-) -> Result<(), AllocError> {
-    let y = row_of(scene.actors.as_slice(), flight.to);
-    let mut stack = Stack::new(column_of(scene, came), y, flight.from <= flight.to);
-    match flight.ending {
-        Ending::Taken => {}
-        Ending::Dropped(why) => stack.push(text, "why", why_name(why))?,
-        Ending::Refused(fault) => stack.push_code(text, fault)?,
-    }
-    stack.push_number(text, "number", "", flight.number)
 }
 
 /// Writes a line that ends in a cross.
-fn push_crossed(text: &mut String, stroke: Stroke) -> Result<(), AllocError> {
-    push_line(text, "lost", stroke)?;
-    push_cross(text, stroke.x2, stroke.y2)
+fn push_crossed(text: &mut String, ending: Ending, stroke: Stroke) -> Result<(), AllocError> {
+    let class = if ending.is_wrong() { "lost" } else { "dropped" };
+    push_line(text, class, stroke)?;
+    push_cross(text, cross_class(ending), stroke.x2, stroke.y2)
+}
+
+/// The class of the cross for what came of a step.
+pub fn cross_class(ending: Ending) -> &'static str {
+    if ending.is_wrong() { "cross" } else { "faint" }
 }
 
 /// Writes a cross.
-pub fn push_cross(text: &mut String, x: usize, y: usize) -> Result<(), AllocError> {
+pub fn push_cross(text: &mut String, class: &str, x: usize, y: usize) -> Result<(), AllocError> {
     let left = x.saturating_sub(5);
     let right = x.saturating_add(5);
     let top = y.saturating_sub(5);
     let low = y.saturating_add(5);
     write!(
         text,
-        "<path class=\"cross\" d=\"M{left} {top}L{right} {low}M{left} {low}L{right} {top}\"/>\n"
+        "<path class=\"{class}\" d=\"M{left} {top}L{right} {low}M{left} {low}L{right} {top}\"/>\n"
     )
 }
 
 /// Writes the stub of an envelope that no step which is shown delivered, towards the one that it is for: a ring where no step
 /// ever did, and an arrow where a later one does.
-fn push_stub(text: &mut String, scene: &Scene, flight: &Flight) -> Result<(), AllocError> {
-    let x = column_of(scene, flight.sent);
-    let y = row_of(scene.actors.as_slice(), flight.from);
-    let end = stub_end(scene, flight);
-    let stub = Stroke {
-        x1: x,
-        y1: y,
-        x2: x,
-        y2: end,
-    };
+fn push_stub(text: &mut String, flight: &Flight, stub: Stroke) -> Result<(), AllocError> {
     if flight.came.is_some() {
         return push_line(text, "later", stub);
     }
+    if flight.is_lost() {
+        push_line(text, "gone", stub)?;
+        return push_ring(text, "wrong", stub.x2, stub.y2);
+    }
     push_line(text, "stub", stub)?;
-    push_ring(text, x, end)
-}
-
-/// How far from the top a stub ends.
-fn stub_end(scene: &Scene, flight: &Flight) -> usize {
-    let y = row_of(scene.actors.as_slice(), flight.from);
-    let far = STUB.saturating_mul(flight.rank.saturating_add(2));
-    if flight.from > flight.to {
-        y.saturating_sub(far)
-    } else {
-        y.saturating_add(far)
-    }
-}
-
-/// Why an envelope was passed over, in one word.
-fn passed_name(passed: Option<Passed>) -> &'static str {
-    match passed {
-        Some(Passed::Skipped) => " skip",
-        Some(Passed::HeldBack) => " cut",
-        None => "",
-    }
-}
-
-/// Writes the number of an envelope to the left of its stub, and why it was passed over.
-fn push_stub_number(text: &mut String, scene: &Scene, flight: &Flight) -> Result<(), AllocError> {
-    let x = column_of(scene, flight.sent).saturating_sub(6);
-    let y = stub_end(scene, flight).saturating_add(4);
-    let number = flight.number;
-    let passed = passed_name(flight.passed);
-    write!(
-        text,
-        "<text class=\"number\" text-anchor=\"end\" x=\"{x}\" y=\"{y}\">{number}{passed}</text>\n"
-    )
+    push_ring(text, "ring", stub.x2, stub.y2)
 }
 
 /// Writes a ring.
-pub fn push_ring(text: &mut String, x: usize, y: usize) -> Result<(), AllocError> {
+pub fn push_ring(text: &mut String, class: &str, x: usize, y: usize) -> Result<(), AllocError> {
     write!(
         text,
-        "<circle class=\"ring\" cx=\"{x}\" cy=\"{y}\" r=\"3\"/>\n"
+        "<circle class=\"{class}\" cx=\"{x}\" cy=\"{y}\" r=\"3\"/>\n"
     )
 }

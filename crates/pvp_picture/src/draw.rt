@@ -1,19 +1,20 @@
 //! The whole picture of a scene.
 
 use crate::acts::push_act;
-use crate::arrows::{push_ending, push_flights, push_numbers};
+use crate::arrows::{push_ending, push_flights};
 use crate::escape::{push_cut, push_escaped};
-use crate::layout::{Stroke, TOP, column, height, legend_top, width};
+use crate::labels::{Label, look_of, push_said};
+use crate::layout::{MOST_SIGNS, Sheet, Stroke, lay_out};
 use crate::legend::push_legend;
-use crate::lifeline::{push_all_news, push_cuts, push_lifelines, push_line};
+use crate::lifeline::{push_all_marks, push_cuts, push_lifelines, push_line};
 use crate::scene::{Scene, ShownStep};
 use std::alloc::{AllocError, Global};
 
-/// How many signs of a step are shown above it.
-const MOST_SIGNS: usize = 38;
+/// How far a step's name begins above the line that leads down from it.
+const RISE: usize = 6;
 
-/// How far above the first lifeline the steps' names begin.
-const NAMES: usize = 48;
+/// How far above the legend those lines end.
+const FOOT: usize = 30;
 
 /// The look of each class. Statuses differ in dashes and in lightness, and every one is also told in words.
 const STYLE: &str = "<style>
@@ -22,8 +23,13 @@ text{font-family:'DejaVu Sans',Verdana,sans-serif;font-size:11px;fill:#111;paint
 .actor{font-size:14px;font-weight:bold}
 .number{font-weight:bold}
 .status{fill:#333}
+.kind{font-size:9px;fill:#333}
+.money{fill:#00406b}
 .leads{font-weight:bold}
 .why{fill:#8a0000;font-weight:bold}
+.usual{fill:#707070}
+.dot{fill:#111}
+.crash{fill:#8a0000}
 .plain{stroke:#555;stroke-width:1.5}
 .normal{stroke:#00406b;stroke-width:6}
 .change{stroke:#c05a00;stroke-width:6;stroke-dasharray:10 4}
@@ -37,9 +43,13 @@ text{font-family:'DejaVu Sans',Verdana,sans-serif;font-size:11px;fill:#111;paint
 .arrow{stroke:#333;stroke-width:1.3;marker-end:url(#head)}
 .lost{stroke:#8a0000;stroke-width:1.3;stroke-dasharray:6 3}
 .cross{stroke:#8a0000;stroke-width:2.5;fill:none}
+.dropped{stroke:#9a9a9a;stroke-width:1.1;stroke-dasharray:6 3}
+.faint{stroke:#8c8c8c;stroke-width:1.5;fill:none}
 .stub{stroke:#333;stroke-width:1.3;stroke-dasharray:2 2}
 .later{stroke:#333;stroke-width:1.3;stroke-dasharray:2 2;marker-end:url(#head)}
 .ring{fill:#fff;stroke:#333;stroke-width:1.3}
+.gone{stroke:#8a0000;stroke-width:1.3;stroke-dasharray:2 2}
+.wrong{fill:#fff;stroke:#8a0000;stroke-width:2}
 </style>
 ";
 
@@ -50,25 +60,26 @@ const HEAD: &str =
 
 /// The picture of a scene, as one SVG that stands alone. `Err` where memory is refused.
 pub fn picture_of(alloc: Global, scene: &Scene) -> Result<String, AllocError> {
+    let sheet = lay_out(alloc, scene)?;
     let mut text = String::new(alloc);
-    push_opening(&mut text, scene)?;
+    push_opening(&mut text, &sheet)?;
     push_heading(&mut text, scene)?;
-    push_guides(&mut text, scene)?;
-    push_cuts(&mut text, scene)?;
-    push_lifelines(&mut text, scene)?;
-    push_flights(&mut text, scene)?;
-    push_names(&mut text, scene)?;
-    push_all_news(&mut text, scene)?;
-    push_numbers(&mut text, scene)?;
-    push_legend(&mut text, scene)?;
+    push_guides(&mut text, &sheet)?;
+    push_cuts(&mut text, &sheet)?;
+    push_lifelines(&mut text, &sheet)?;
+    push_flights(&mut text, &sheet)?;
+    push_names(&mut text, &sheet)?;
+    push_all_marks(&mut text, &sheet)?;
+    push_labels(&mut text, &sheet)?;
+    push_legend(&mut text, sheet.legend)?;
     text.push_str("</svg>\n")?;
     Ok(text)
 }
 
 /// Writes what stands before all else: how large the picture is, its looks and its ground.
-fn push_opening(text: &mut String, scene: &Scene) -> Result<(), AllocError> {
-    let width = width(scene);
-    let height = height(scene);
+fn push_opening(text: &mut String, sheet: &Sheet) -> Result<(), AllocError> {
+    let width = sheet.width;
+    let height = sheet.height();
     text.push_str("<svg xmlns=\"http://www.w3.org/2000/svg\" role=\"img\"")?;
     write!(
         text,
@@ -114,41 +125,34 @@ fn push_more(text: &mut String, count: usize, side: &str) -> Result<(), AllocErr
 }
 
 /// Writes a pale line below the name of each step, down to the last lifeline.
-fn push_guides(text: &mut String, scene: &Scene) -> Result<(), AllocError> {
-    let low = legend_top(scene).saturating_sub(50);
-    for place in 0..scene.steps.len() {
-        let x = column(place);
+fn push_guides(text: &mut String, sheet: &Sheet) -> Result<(), AllocError> {
+    for x in sheet.columns.iter() {
         push_line(
             text,
             "guide",
             Stroke {
-                x1: x,
-                y1: TOP.saturating_sub(NAMES),
-                x2: x,
-                y2: low,
+                x1: *x,
+                y1: sheet.sill.saturating_add(RISE),
+                x2: *x,
+                y2: sheet.legend.saturating_sub(FOOT),
             },
         )?;
     }
     Ok(())
 }
 
-/// Writes the names of steps, and crosses for those that were refused and delivered nothing.
-fn push_names(text: &mut String, scene: &Scene) -> Result<(), AllocError> {
-    for (place, step) in scene.steps.iter().enumerate() {
-        push_name(text, scene, place, step)?;
+/// Writes the names of steps, and the signs of those that deliver nothing.
+fn push_names(text: &mut String, sheet: &Sheet) -> Result<(), AllocError> {
+    for (place, step) in sheet.scene.steps.iter().enumerate() {
+        let x = sheet.column(place);
+        push_name(text, x, sheet.sill, step)?;
+        push_act(text, sheet, x, step)?;
     }
     Ok(())
 }
 
 /// Writes the name of a step, leaning, with all of it under the pointer.
-fn push_name(
-    text: &mut String,
-    scene: &Scene,
-    place: usize,
-    step: &ShownStep,
-) -> Result<(), AllocError> {
-    let x = column(place);
-    let y = TOP.saturating_sub(NAMES).saturating_sub(6);
+fn push_name(text: &mut String, x: usize, y: usize, step: &ShownStep) -> Result<(), AllocError> {
     let number = step.number;
     write!(
         text,
@@ -157,8 +161,29 @@ fn push_name(
     push_step_title(text, step)?;
     write!(text, "<tspan font-weight=\"bold\">{number}</tspan> ")?;
     push_cut(text, step.short.as_str(), MOST_SIGNS)?;
-    text.push_str("</text></g>\n")?;
-    push_act(text, scene, x, step)
+    text.push_str("</text></g>\n")
+}
+
+/// Writes all labels, over all lines.
+fn push_labels(text: &mut String, sheet: &Sheet) -> Result<(), AllocError> {
+    for label in sheet.labels.iter() {
+        push_label(text, sheet, *label)?;
+    }
+    Ok(())
+}
+
+/// Writes a label.
+fn push_label(text: &mut String, sheet: &Sheet, label: Label) -> Result<(), AllocError> {
+    let (x, y) = sheet.spot(label);
+    let class = look_of(label.said).class;
+    write!(text, "<text class=\"{class}\" x=\"{x}\" y=\"{y}\"")?;
+    text.push_str(if label.spot.ends {
+        " text-anchor=\"end\">"
+    } else {
+        ">"
+    })?;
+    push_said(text, sheet.scene, label)?;
+    text.push_str("</text>\n")
 }
 
 /// Writes what a browser shows of a step under the pointer.

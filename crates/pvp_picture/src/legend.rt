@@ -2,10 +2,8 @@
 
 use crate::acts::push_dot;
 use crate::arrows::{push_cross, push_ring};
-use crate::labels::push_words;
-use crate::layout::{Stroke, legend_top};
-use crate::lifeline::{push_band, push_line, push_square};
-use crate::scene::Scene;
+use crate::layout::Stroke;
+use crate::lifeline::{push_band, push_line, push_square, push_words};
 use std::alloc::AllocError;
 
 /// How far from the left signs and words of the two columns stand, and how far one line is from the next.
@@ -19,15 +17,14 @@ const WORDS_TOO: usize = 546;
 
 const LINE: usize = 22;
 
-/// Writes the legend.
-pub fn push_legend(text: &mut String, scene: &Scene) -> Result<(), AllocError> {
-    let top = legend_top(scene);
+/// Writes the legend, so far from the top.
+pub fn push_legend(text: &mut String, top: usize) -> Result<(), AllocError> {
     push_statuses(text, top)?;
     push_envelopes(text, top)?;
     push_signs(text, top)?;
     push_reasons(
         text,
-        top.saturating_add(LINE.saturating_mul(7)).saturating_add(8),
+        top.saturating_add(LINE.saturating_mul(9)).saturating_add(8),
     )
 }
 
@@ -41,7 +38,7 @@ fn sample(x: usize, y: usize) -> Stroke {
     }
 }
 
-/// Writes the styles of lifelines, a dot and a band.
+/// Writes the styles of lifelines, dots and a band.
 fn push_statuses(text: &mut String, top: usize) -> Result<(), AllocError> {
     push_status(
         text,
@@ -67,17 +64,24 @@ fn push_statuses(text: &mut String, top: usize) -> Result<(), AllocError> {
     )?;
     push_status(text, top, 3, "down", "a site that is down")?;
     push_status(text, top, 4, "plain", "a client or a node")?;
-    let y = top.saturating_add(LINE.saturating_mul(5));
-    push_dot(text, SIGN.saturating_add(21), y)?;
+    push_dots(text, top.saturating_add(LINE.saturating_mul(5)))?;
+    let low = top.saturating_add(LINE.saturating_mul(7));
+    push_band(text, SIGN, SIGN.saturating_add(42), low)?;
+    push_below(text, WORDS, low, "an actor that is cut off from all others")
+}
+
+/// Writes what dots mean.
+fn push_dots(text: &mut String, y: usize) -> Result<(), AllocError> {
+    let low = y.saturating_add(LINE);
+    push_dot(text, "dot", SIGN.saturating_add(21), y)?;
     push_below(
         text,
         WORDS,
         y,
         "a step that delivers nothing; its name stands above",
     )?;
-    let low = y.saturating_add(LINE);
-    push_band(text, SIGN, SIGN.saturating_add(42), low)?;
-    push_below(text, WORDS, low, "an actor that is cut off from all others")
+    push_dot(text, "crash", SIGN.saturating_add(21), low)?;
+    push_below(text, WORDS, low, "a crash")
 }
 
 /// Writes the two thin lines of a primary.
@@ -111,45 +115,63 @@ fn push_envelopes(text: &mut String, top: usize) -> Result<(), AllocError> {
         top,
         0,
         "arrow",
-        "an envelope, from the step that sent it to the step that delivered it; its number at the head",
+        "an envelope, from the step that sent it (its kind) to the step that delivered it (its number)",
     )?;
+    push_crosses(text, top)?;
+    push_rings(text, top)?;
     push_status_too(
         text,
         top,
-        1,
-        "lost",
-        "an envelope that came and was dropped or refused: a cross, and why",
-    )?;
-    push_cross(text, SIGN_TOO.saturating_add(42), top.saturating_add(LINE))?;
-    push_status_too(
-        text,
-        top,
-        2,
-        "stub",
-        "an envelope that no step delivered; skip: a line passed over it, cut: a cut held it up",
-    )?;
-    push_ring(
-        text,
-        SIGN_TOO.saturating_add(42),
-        top.saturating_add(LINE.saturating_mul(2)),
-    )?;
-    push_status_too(
-        text,
-        top,
-        3,
+        5,
         "later",
         "an envelope that a step after these delivers; those of steps before come from the left edge",
     )
 }
 
+/// Writes what crosses mean.
+fn push_crosses(text: &mut String, top: usize) -> Result<(), AllocError> {
+    let x = SIGN_TOO.saturating_add(42);
+    push_status_too(
+        text,
+        top,
+        1,
+        "dropped",
+        "an envelope that came and was dropped, as the protocol has it: a cross, and why",
+    )?;
+    push_cross(text, "faint", x, top.saturating_add(LINE))?;
+    push_status_too(
+        text,
+        top,
+        2,
+        "lost",
+        "what went wrong is red: an envelope or a step that was refused, and its code",
+    )?;
+    push_cross(text, "cross", x, top.saturating_add(LINE.saturating_mul(2)))
+}
+
+/// Writes what rings mean.
+fn push_rings(text: &mut String, top: usize) -> Result<(), AllocError> {
+    let x = SIGN_TOO.saturating_add(42);
+    push_status_too(
+        text,
+        top,
+        3,
+        "gone",
+        "an envelope that was lost; skip: a line passed over it, cut: a cut held it up",
+    )?;
+    push_ring(text, "wrong", x, top.saturating_add(LINE.saturating_mul(3)))?;
+    push_status_too(text, top, 4, "stub", "an envelope that no step delivered")?;
+    push_ring(text, "ring", x, top.saturating_add(LINE.saturating_mul(4)))
+}
+
 /// Writes the signs of rows and saves.
 fn push_signs(text: &mut String, top: usize) -> Result<(), AllocError> {
-    push_tick(text, top.saturating_add(LINE.saturating_mul(4)))?;
-    push_save(text, top.saturating_add(LINE.saturating_mul(5)))?;
+    push_tick(text, top.saturating_add(LINE.saturating_mul(6)))?;
+    push_save(text, top.saturating_add(LINE.saturating_mul(7)))?;
     push_below(
         text,
         WORDS_TOO,
-        top.saturating_add(LINE.saturating_mul(6)),
+        top.saturating_add(LINE.saturating_mul(8)),
         "the whole of a message is shown where the pointer rests on it",
     )
 }
@@ -181,7 +203,7 @@ fn push_tick(text: &mut String, y: usize) -> Result<(), AllocError> {
         text,
         WORDS_TOO,
         y,
-        "rows executed, with their places in the log",
+        "rows executed, with their places; at the first site that does, what they came to",
     )
 }
 

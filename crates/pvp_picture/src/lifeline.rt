@@ -1,36 +1,30 @@
 //! The lifelines of actors: a site's has the style of its status from step to step.
 
-use crate::labels::{ASIDE, Stack, push_news, push_status, push_words, status_name};
-use crate::layout::{LEFT, Stroke, behind, column, lifeline_end, row};
-use crate::scene::{Actor, Cut, Scene, ShownStep, Snapshot};
+use crate::escape::push_escaped;
+use crate::labels::status_name;
+use crate::layout::{LEFT, NAMES, Sheet, Stroke, place_of};
+use crate::scene::{Actor, Cut, Snapshot};
 use std::alloc::AllocError;
-
-/// How far from the left actors' names stand.
-const NAMES: usize = 14;
 
 /// How far a band reaches above and below its lifeline.
 const BAND: usize = 14;
 
 /// Writes a band behind the lifeline of each actor that is cut off, from step to step.
-pub fn push_cuts(text: &mut String, scene: &Scene) -> Result<(), AllocError> {
-    for cut in scene.cuts.iter() {
-        if let Some(place) = scene
-            .actors
-            .iter()
-            .position(|actor| actor.number == cut.actor)
-        {
-            push_cut(text, scene, row(place), *cut)?;
+pub fn push_cuts(text: &mut String, sheet: &Sheet) -> Result<(), AllocError> {
+    for cut in sheet.scene.cuts.iter() {
+        if let Some(place) = place_of(sheet.scene.actors.as_slice(), Some(cut.actor)) {
+            push_cut(text, sheet, sheet.row(place), *cut)?;
         }
     }
     Ok(())
 }
 
 /// Writes the band of a cut, where it is among the steps that are shown.
-fn push_cut(text: &mut String, scene: &Scene, y: usize, cut: Cut) -> Result<(), AllocError> {
-    let start = behind(scene, cut.after);
+fn push_cut(text: &mut String, sheet: &Sheet, y: usize, cut: Cut) -> Result<(), AllocError> {
+    let start = sheet.behind(cut.after);
     let end = match cut.until {
-        Some(until) => behind(scene, until),
-        None => lifeline_end(scene),
+        Some(until) => sheet.behind(until),
+        None => sheet.lifeline_end(),
     };
     if start < end {
         push_band(text, start, end, y)?;
@@ -50,9 +44,9 @@ pub fn push_band(text: &mut String, start: usize, end: usize, y: usize) -> Resul
 }
 
 /// Writes every lifeline, with its actor's name.
-pub fn push_lifelines(text: &mut String, scene: &Scene) -> Result<(), AllocError> {
-    for (place, actor) in scene.actors.iter().enumerate() {
-        push_lifeline(text, scene, place, actor)?;
+pub fn push_lifelines(text: &mut String, sheet: &Sheet) -> Result<(), AllocError> {
+    for (place, actor) in sheet.scene.actors.iter().enumerate() {
+        push_lifeline(text, sheet, sheet.row(place), actor)?;
     }
     Ok(())
 }
@@ -60,11 +54,10 @@ pub fn push_lifelines(text: &mut String, scene: &Scene) -> Result<(), AllocError
 /// Writes the lifeline of an actor.
 fn push_lifeline(
     text: &mut String,
-    scene: &Scene,
-    place: usize,
+    sheet: &Sheet,
+    y: usize,
     actor: &Actor,
 ) -> Result<(), AllocError> {
-    let y = row(place);
     push_words(
         text,
         "actor",
@@ -73,8 +66,8 @@ fn push_lifeline(
         actor.name.as_str(),
     )?;
     match actor.site {
-        Some(site) => push_statuses(text, scene, site, y),
-        None => push_line(text, "plain", level(LEFT, lifeline_end(scene), y)),
+        Some(site) => push_statuses(text, sheet, site, y),
+        None => push_line(text, "plain", level(LEFT, sheet.lifeline_end(), y)),
     }
 }
 
@@ -103,21 +96,21 @@ pub fn push_line(text: &mut String, class: &str, line: Stroke) -> Result<(), All
 /// Writes the lifeline of a site, piece by piece.
 fn push_statuses(
     text: &mut String,
-    scene: &Scene,
+    sheet: &Sheet,
     site: usize,
     y: usize,
 ) -> Result<(), AllocError> {
     let mut start = LEFT;
-    let mut last = scene.opening.get(site).copied();
-    for (place, step) in scene.steps.iter().enumerate() {
+    let mut last = sheet.scene.opening.get(site).copied();
+    for (place, step) in sheet.scene.steps.iter().enumerate() {
         let next = step.snapshots.get(site).copied();
         if next != last {
-            push_piece(text, last, start, column(place), y)?;
-            start = column(place);
+            push_piece(text, last, start, sheet.column(place), y)?;
+            start = sheet.column(place);
             last = next;
         }
     }
-    push_piece(text, last, start, lifeline_end(scene), y)
+    push_piece(text, last, start, sheet.lifeline_end(), y)
 }
 
 /// Writes a piece of a site's lifeline, along which the site stands so.
@@ -138,61 +131,50 @@ fn push_piece(
     push_line(text, status_name(snapshot.status), level(start, end, y))
 }
 
-/// Writes what is new at each site, at the steps where it is, and how the sites stood at first.
-pub fn push_all_news(text: &mut String, scene: &Scene) -> Result<(), AllocError> {
-    for (place, actor) in scene.actors.iter().enumerate() {
+/// Writes the marks of each site, at the steps where it executes rows or saves its cell.
+pub fn push_all_marks(text: &mut String, sheet: &Sheet) -> Result<(), AllocError> {
+    for (place, actor) in sheet.scene.actors.iter().enumerate() {
         if let Some(site) = actor.site {
-            push_opening(text, scene, site, row(place))?;
-            push_news_of(text, scene, site, row(place))?;
+            push_marks_of(text, sheet, site, sheet.row(place))?;
         }
     }
     Ok(())
 }
 
-/// Writes how a site stood at first, below its name.
-fn push_opening(text: &mut String, scene: &Scene, site: usize, y: usize) -> Result<(), AllocError> {
-    let mut stack = Stack::new(NAMES.saturating_sub(ASIDE), y, false);
-    match scene.opening.get(site) {
-        Some(snapshot) => push_status(text, &mut stack, *snapshot),
-        None => Ok(()),
-    }
-}
-
-/// Writes what is new at a site, at the steps where it is.
-fn push_news_of(text: &mut String, scene: &Scene, site: usize, y: usize) -> Result<(), AllocError> {
-    let mut last = scene.opening.get(site).copied();
-    for (place, step) in scene.steps.iter().enumerate() {
+/// Writes the marks of a site.
+fn push_marks_of(
+    text: &mut String,
+    sheet: &Sheet,
+    site: usize,
+    y: usize,
+) -> Result<(), AllocError> {
+    let mut last = sheet.scene.opening.get(site).copied();
+    for (place, step) in sheet.scene.steps.iter().enumerate() {
         let next = step.snapshots.get(site).copied();
         if let (Some(old), Some(new)) = (last, next) {
-            push_point(text, place, step, (old, new), y)?;
+            push_mark(text, sheet.column(place), y, (old, new))?;
         }
         last = next;
     }
     Ok(())
 }
 
-/// Writes what a step changed at a site, on the side from which no envelope comes.
-fn push_point(
+/// Writes a tick where a step executed rows, and a square where it saved the cell.
+fn push_mark(
     text: &mut String,
-    place: usize,
-    step: &ShownStep,
-    snapshots: (Snapshot, Snapshot),
+    x: usize,
     y: usize,
+    snapshots: (Snapshot, Snapshot),
 ) -> Result<(), AllocError> {
     let (old, new) = snapshots;
-    let x = column(place);
     if new.done > old.done {
-        push_line(
-            text,
-            "tick",
-            upright_line(x, y.saturating_sub(9), y.saturating_add(9)),
-        )?;
+        let tick = upright_line(x, y.saturating_sub(9), y.saturating_add(9));
+        push_line(text, "tick", tick)?;
     }
     if new.boots != old.boots {
         push_square(text, x.saturating_sub(5), y.saturating_sub(5))?;
     }
-    let mut stack = Stack::new(x, y, step.from_below);
-    push_news(text, &mut stack, old, new)
+    Ok(())
 }
 
 /// An upright line.
@@ -211,4 +193,17 @@ pub fn push_square(text: &mut String, x: usize, y: usize) -> Result<(), AllocErr
         text,
         "<rect class=\"save\" x=\"{x}\" y=\"{y}\" width=\"10\" height=\"10\"/>\n"
     )
+}
+
+/// Writes words at a point.
+pub fn push_words(
+    text: &mut String,
+    class: &str,
+    x: usize,
+    y: usize,
+    words: &str,
+) -> Result<(), AllocError> {
+    write!(text, "<text class=\"{class}\" x=\"{x}\" y=\"{y}\">")?;
+    push_escaped(text, words)?;
+    text.push_str("</text>\n")
 }

@@ -7,6 +7,7 @@ ghost use Rattle.pvp_text.specs.Script.{script_where};
 ghost use Rattle.pvp_picture.specs.Picture.{PictureEnds};
 
 use crate::draw::picture_of;
+use crate::executed::Executions;
 use crate::plays::{Play, new_world, play_all};
 use crate::replay::snapshots;
 use crate::scene::Scene;
@@ -82,11 +83,14 @@ fn scene_of(
     requires { IsValid setup.now }
 {
     let Play { player, apart } = play_all(alloc, new_world(alloc, setup, fails)?, lines)?;
-    let snapshots = snapshots(alloc, new_world(alloc, setup, fails)?, player.notes())?;
+    let mut executions = Executions::new(alloc, setup)?;
+    let again = new_world(alloc, setup, fails)?;
+    let snapshots = snapshots(alloc, again, player.notes(), &mut executions)?;
     let run = Run {
         world: player.world(),
         noted: player.notes(),
         snapshots: snapshots.as_slice(),
+        executions: &executions,
         apart: &apart,
     };
     stage(alloc, &run, steps.first(), steps.end())

@@ -4,26 +4,31 @@ ghost use Rattle.std.specs.Prelude.{◌≡◌, ◌++◌, [], map, IfOk, OnOk};
 ghost use Rattle.std.specs.List.{cons_option};
 ghost use Rattle.pvp_picture.specs.Replay.{ComesAgain, snapshot_at, snapshots_of, StandAlong};
 
+use crate::executed::Executions;
 use crate::scene::Snapshot;
 use pvp_trace::{Attempt, try_step};
 use pvp_world::World;
 use std::alloc::{AllocError, Global};
 use vr_types::{MemCell, Status};
 
-/// Where the sites of a world stand before the steps of a run, and after each of them. `Err` where memory is refused, and
+/// Where the sites of a world stand before the steps of a run, and after each of them; what they execute is noted. `Err`
+/// where memory is refused, and
 /// where it was refused to one of the two runs and not to the other, so that a step came out otherwise.
 pub fn snapshots(
     alloc: Global,
     mut world: World<MemCell>,
     noted: &[Attempt],
+    executions: &mut Executions,
 ) -> Result<Vec<Vec<Snapshot>>, AllocError>
     ensures { IfOk result (λ all. StandAlong world noted.now
         (map (λ snapshots. snapshots.items) all.items)) }
 {
     let mut all = Vec::new(alloc);
+    executions.note(&world)?;
     all.push(snapshots_of(alloc, &world)?)?;
     for attempt in noted {
         take_again(alloc, &mut world, *attempt)?;
+        executions.note(&world)?;
         all.push(snapshots_of(alloc, &world)?)?;
     }
     Ok(all)

@@ -1,5 +1,8 @@
 //! What happened in a run, as data: a picture is drawn from it alone.
 
+ghost use Rattle.std.specs.Prelude.{◌≡◌};
+ghost use Rattle.pvp_picture.specs.Scene.{is_wrong};
+
 use pvp_world::WorldFault;
 use vr_types::{Status, Why};
 
@@ -26,6 +29,19 @@ pub enum Ending {
     Refused(WorldFault),
 }
 
+impl Ending {
+    /// Whether something went wrong: what a site drops is as the protocol has it, unless its log is full.
+    pub fn is_wrong(self) -> bool
+        ensures { result ≡ is_wrong self }
+    {
+        match self {
+            Ending::Taken => false,
+            Ending::Dropped(why) => why == Why::Full,
+            Ending::Refused(_) => true,
+        }
+    }
+}
+
 /// An actor that has a lifeline.
 #[derive(Debug, Drop)]
 pub struct Actor {
@@ -46,12 +62,27 @@ pub struct ShownStep {
     pub short: String,
     pub words: String,
     pub ending: Ending,
-    /// Whether it delivers an envelope.
-    pub delivers: bool,
+    /// Whether it is a crash.
+    pub crashes: bool,
+    /// The number of the envelope that it delivers, where it does.
+    pub delivers: Option<usize>,
     /// Whether it delivers an envelope of an actor whose lifeline stands below.
     pub from_below: bool,
+    /// The rows that it executed and no step before it, in words, each with what it came to.
+    pub rows: Vec<String>,
+    /// What it sent, each kind once.
+    pub sendings: Vec<Sending>,
     /// Where each site stands after it.
     pub snapshots: Vec<Snapshot>,
+}
+
+/// Envelopes of one kind that a step sent.
+#[derive(Debug, Drop)]
+pub struct Sending {
+    /// Whether the first of them goes to an actor whose lifeline stands above.
+    pub upwards: bool,
+    /// Their kind; of orders all that they say.
+    pub words: String,
 }
 
 /// A stretch of a run in which an actor is cut off.
@@ -99,6 +130,13 @@ pub struct Flight {
     pub rank: usize,
     /// The whole message, and between whom.
     pub words: String,
+}
+
+impl Flight {
+    /// Whether the play passed over it, and no step ever delivered it.
+    pub fn is_lost(&self) -> bool {
+        self.came.is_none() && self.passed.is_some()
+    }
 }
 
 /// A run, or some steps of it.

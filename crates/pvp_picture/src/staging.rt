@@ -4,23 +4,27 @@ ghost use Rattle.std.specs.Prelude.{◌≡◌, ◌<◌, ◌≤◌, ◌-◌, leng
 ghost use Rattle.pvp_picture.specs.Scene.{ending_of, snapshots_after, IsShownStep, AreShownSteps, IsFlight, ShowsPart};
 
 use crate::apart::{Apart, Passing};
-use crate::scene::{Actor, Ending, Flight, Passed, Scene, ShownStep, Snapshot};
+use crate::executed::Executions;
+use crate::scene::{Actor, Ending, Flight, Passed, Scene, Sending, ShownStep, Snapshot};
+use pvp_book::Book;
 use pvp_trace::Attempt;
 use pvp_trace::attempt::push_step;
-use pvp_trace::messages::{kind_name, push_envelope};
+use pvp_trace::messages::{kind_name, push_envelope, push_message};
 use pvp_trace::names::push_actor;
+use pvp_trace::words::push_command;
 use pvp_types::Step;
 use pvp_world::{Report, World, WorldFault};
 use std::alloc::{AllocError, Global};
-use vr_types::{ActorId, FIRST_SITE, MemCell};
+use vr_types::{ActorId, Envelope, FIRST_SITE, MemCell, MsgOf};
 
-/// A run: its world at the end, its steps, where the sites stood before the first and after each, and what its lines did
-/// apart from steps.
+/// A run: its world at the end, its steps, where the sites stood before the first and after each, the rows that they executed,
+/// and what its lines did apart from steps.
 #[derive(Drop)]
 pub struct Run<'a> {
     pub world: &'a World<MemCell>,
     pub noted: &'a [Attempt],
     pub snapshots: &'a [Vec<Snapshot>],
+    pub executions: &'a Executions,
     pub apart: &'a Apart,
 }
 
@@ -105,10 +109,87 @@ fn shown_step(alloc: Global, run: &Run, place: usize) -> Result<ShownStep, Alloc
         short,
         words,
         ending: ending_of(attempt.result),
-        delivers: matches!(attempt.step, Step::Deliver(_)),
+        crashes: matches!(attempt.step, Step::Crash(_)),
+        delivers: delivered_by(attempt.step),
         from_below: is_from_below(run.world, attempt.step),
+        rows: rows_at(alloc, run, place)?,
+        sendings: sendings_of(alloc, run.world, attempt)?,
         snapshots: snapshots_at(alloc, run, place + 1)?,
     })
+}
+
+/// The number of the envelope that a step delivers, where it does.
+fn delivered_by(step: Step) -> Option<usize> {
+    match step {
+        Step::Deliver(number) => Some(number),
+        _ => None,
+    }
+}
+
+/// The rows that the step at a place executed and none before it, in words.
+fn rows_at(alloc: Global, run: &Run, place: usize) -> Result<Vec<String>, AllocError> {
+    let (before, after) = run.executions.counts_at(place);
+    let mut rows = Vec::new(alloc);
+    for row in before..after {
+        rows.push(row_words(alloc, run, row.saturating_add(1))?)?;
+    }
+    Ok(rows)
+}
+
+/// The row at a place of the log, counted from 1, and what it came to.
+fn row_words(alloc: Global, run: &Run, place: usize) -> Result<String, AllocError> {
+    let mut words = String::new(alloc);
+    write!(words, "row {place}")?;
+    if let Some(executed) = run.executions.row(place) {
+        words.push_str(" ")?;
+        push_command(&mut words, run.world.setup(), executed.row.cmd)?;
+        let reply = executed.reply;
+        write!(words, ": {reply}")?;
+    }
+    Ok(words)
+}
+
+/// What a step sent, each kind once.
+fn sendings_of(
+    alloc: Global,
+    world: &World<MemCell>,
+    attempt: Attempt,
+) -> Result<Vec<Sending>, AllocError> {
+    let mut sendings = Vec::new(alloc);
+    for place in attempt.before..attempt.after {
+        if let Some(envelope) = world.envelope(place.saturating_add(1)) {
+            add_sending(&mut sendings, sending_of(alloc, world, envelope)?)?;
+        }
+    }
+    Ok(sendings)
+}
+
+/// What an envelope adds to what its step sent.
+fn sending_of(
+    alloc: Global,
+    world: &World<MemCell>,
+    envelope: &Envelope<Book>,
+) -> Result<Sending, AllocError> {
+    let mut words = String::new(alloc);
+    match &envelope.msg {
+        MsgOf::PayOrder(_) => push_message(&mut words, world.setup(), &envelope.msg)?,
+        msg => words.push_str(kind_name(msg))?,
+    }
+    Ok(Sending {
+        upwards: envelope.from > envelope.to,
+        words,
+    })
+}
+
+/// Adds what was sent, unless it is there.
+fn add_sending(sendings: &mut Vec<Sending>, sending: Sending) -> Result<(), AllocError> {
+    if !sendings
+        .iter()
+        .any(|other| other.words.as_str() == sending.words.as_str())
+    {
+        sendings.push(sending)?;
+    }
+    Ok(())
 }
 
 /// By which steps the envelopes of a run were sent and delivered.
