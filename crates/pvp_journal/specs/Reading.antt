@@ -256,7 +256,7 @@ body_at me bytes = entry_at me bytes >>= all_read
 -- ---- what a function returned
 
 -- What a function that takes memory returned, seen by view, is what reading gives: only where it was refused may
--- another fault be told.
+-- another fault be returned.
 abbrev pub Tells : {X Y : Type 0} → (X → Y) → Result X WireFault → Result Y WireFault → Type 0
 Tells view (Ok x) read = read ≡ Ok (view x)
 Tells view (Err fault) read = (read ≡ Err fault) ⊎ (fault ≡ NoMemory)

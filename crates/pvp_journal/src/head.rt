@@ -27,8 +27,9 @@ pub struct Head {
 
 /// Reads the head at the front of the bytes, and answers the bytes after it. It takes no memory.
 ///
-/// Of several faults the first is told: M1 fewer than four bytes, or others than PVPJ; M2 no version, or another than 1;
-/// M3 the bytes end within the head, or its opening has another flag than 0 and 1.
+/// Of several faults the first is returned: M1 fewer than four bytes, or others than PVPJ; M2 no
+/// version, or another than 1; M3 the bytes end within the head, or its opening has another flag
+/// than 0 and 1.
 #[tactic(auto, unfolding(crate::specs::Reading::head_at))]
 pub(crate) fn head_at(bytes: &[u8]) -> Result<(Head, &[u8]), JournalWhy>
     ensures { Finds (λ x. (x.0, x.1.now)) result (head_at bytes.now) }

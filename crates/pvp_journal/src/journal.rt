@@ -54,9 +54,9 @@ struct Stop {
 
 /// Reads a journal: its head, and its records up to the end of the bytes, or to a record that their end cuts off.
 ///
-/// Of several faults the first is told, with the byte at which the head or the record begins that is at fault. So what
-/// stands behind a damaged record is never taken for a torn end. Memory is taken for whole records alone, so M7 comes
-/// only where one stands.
+/// Of several faults the first is returned, with the byte at which the head or the record begins
+/// that is at fault. So what stands behind a damaged record is never taken for a torn end. Memory
+/// is taken for whole records alone, so M7 comes only where one stands.
 pub fn read_journal(alloc: Global, bytes: &[u8]) -> Result<Journal, JournalFault>
     ensures { ReadsJournal bytes.now result }
 {

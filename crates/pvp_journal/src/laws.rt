@@ -26,9 +26,10 @@ pub fn read()
         × (end.sum ≡ journal_sum head history) }
 {}
 
-/// Bytes read as one head and one history alone, up to where no record stands. None does where nothing is left or a
-/// record is torn, and none where something is wrong but for want of memory. So of what `read_journal` may answer by its
-/// contract no two answers differ, unless memory was refused.
+/// Bytes read as one head and one history alone, up to where no record stands. None does where
+/// nothing is left or a record is torn, and none where something is wrong but for lack of memory.
+/// So of what `read_journal` may answer by its contract no two answers differ, unless memory was
+/// refused.
 pub fn only_one_reading()
     ensures reading { (bytes : List ℕ) (head other : Head) (history more : List Entry)
         (end stop : Place) → ReadsAs bytes head history end → NoRecord head.actor end →
@@ -47,8 +48,9 @@ pub fn one()
         journal_text head history ≡ journal_text other more → (head ≡ other) × (history ≡ more) }
 {}
 
-/// A journal that was cut off anywhere behind its head is the journal of a front of its history, and behind that nothing or
-/// a torn record. It reads so, and by `only_one_reading` in no other way: it is never told as damaged.
+/// A journal that was cut off anywhere behind its head is the journal of a front of its history,
+/// and behind that nothing or a torn record. It reads so, and by `only_one_reading` in no other
+/// way: it is never reported as damaged.
 pub fn cut()
     ensures { (head : Head) (history : List Entry) (size : ℕ) → AreJournalable head history →
         length (head_text head) ≤ size →

@@ -116,7 +116,7 @@ fn put_opening(opening: Option<Boot>, out: &mut Vec<u8>) -> Result<(), AllocErro
     }
 }
 
-/// A byte that tells what follows, or which of some it is.
+/// A byte that says what follows, or which of some it is.
 fn put_tag(tag: u8, out: &mut Vec<u8>) -> Result<(), AllocError>
     ensures { OnOk result (out.new.items ≡ out.old.items ++ tag ∷ []) }
 {

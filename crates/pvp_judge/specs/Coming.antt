@@ -1,5 +1,5 @@
--- Whether the bank to which a list leads takes a step so, and whether an event comes out at a world's actor as it is
--- recorded.
+-- Whether a step has this outcome in the bank to which a list leads, and whether an event comes out at a world's actor
+-- as it is recorded.
 use Rattle.std.specs.Prelude.{◌≡◌, ◌↔◌, ℕ, IsTrue, Bool, List, ◌++◌, slice_get, Option, Some, Result}
 use Rattle.pvp_types.specs.declared.setup.Setup.{Setup}
 use Rattle.pvp_types.specs.declared.command.Cmd.{Cmd}

@@ -119,7 +119,7 @@ fn world_answer(
     }
 }
 
-/// Whether this is want of memory.
+/// Whether this is lack of memory.
 fn is_want(fault: WorldFault) -> bool
     ensures { result ≡ wants fault }
 {
@@ -131,7 +131,7 @@ fn is_want(fault: WorldFault) -> bool
     }
 }
 
-/// Whether a fall was not taken for want of memory.
+/// Whether a fall was not taken for lack of memory.
 fn is_want_in_fall(fault: FallFault) -> bool
     ensures { result ≡ wants_fall fault }
 {

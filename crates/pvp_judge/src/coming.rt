@@ -87,7 +87,7 @@ fn is_stray(outcome: &PartyOutcome) -> bool
     }
 }
 
-/// The same of a site.
+/// Takes an event of a site in the world, and says whether it came out as it is recorded.
 fn site_comes(
     alloc: Global,
     world: &mut World<MemCell>,
@@ -126,7 +126,7 @@ fn site_comes(
     }
 }
 
-/// The same of a node.
+/// Takes an event of a node in the world, and says whether it came out as it is recorded.
 fn node_comes(
     alloc: Global,
     world: &mut World<MemCell>,
@@ -161,7 +161,8 @@ fn node_comes(
     }
 }
 
-/// The same of a client, to which what comes is addressed.
+/// Takes an event of a client, to which what comes is addressed, in the world, and says whether it
+/// came out as it is recorded.
 fn client_comes(
     alloc: Global,
     world: &mut World<MemCell>,
@@ -224,7 +225,7 @@ fn is_of_fall(why: SiteFault) -> bool
     }
 }
 
-/// Whether a node refused for want of memory.
+/// Whether a node refused for lack of memory.
 fn is_want(fault: NodeFault) -> bool
     ensures { IsTrue result ↔ (fault ≡ NodeFault.NoMemory) }
 {
@@ -234,7 +235,7 @@ fn is_want(fault: NodeFault) -> bool
     }
 }
 
-/// Whether a client refused for want of memory.
+/// Whether a client refused for lack of memory.
 fn is_clients_want(fault: ClientFault) -> bool
     ensures { IsTrue result ↔ (fault ≡ ClientFault.NoMemory) }
 {

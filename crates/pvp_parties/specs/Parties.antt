@@ -104,7 +104,7 @@ Reads c (Node p) (AtNode x) = nodes.Reads p.now x
 Reads c (Client p) (AtClient x) = clients.Reads p.now x
 Reads _ _ _ = ⊥
 
--- a fall or a want of memory of an actor has its cause; a stray changes nothing
+-- a fall or a lack of memory of an actor has its cause; a stray changes nothing
 abbrev pub Tells : {B : Type 0} → Cell B → PartyOutcome → PartyOf B → PartyOf B → PartyEvent → Type 0
 Tells c Stray old new event = new ≡ old
 Tells c (SiteTold came) (Site p) (Site q) (OfSite event) = sites.Tells book c p.now q.now event came

@@ -1,4 +1,4 @@
-//! An actor of the bank whose history can be taken again.
+//! An actor of the bank whose history can be replayed.
 ghost use Rattle.std.specs.Prelude.{◌≡◌, ◌↔◌, IsTrue};
 
 use crate::letters::{letter_at, letter_of};

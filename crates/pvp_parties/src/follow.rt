@@ -58,7 +58,7 @@ fn follow_node_step(
     }
 }
 
-/// Takes an event at a node, and says whether it can refuse it so. Want of memory may always be.
+/// Takes an event at a node, and says whether it can refuse it so. Lack of memory may always be.
 fn follow_node_refusal(
     node: &mut Node,
     alloc: Global,
@@ -114,7 +114,7 @@ fn follow_client_step(
     }
 }
 
-/// Takes an event at a client, and says whether it can refuse it so. Want of memory may always be.
+/// Takes an event at a client, and says whether it can refuse it so. Lack of memory may always be.
 fn follow_client_refusal(
     client: &mut Client,
     alloc: Global,

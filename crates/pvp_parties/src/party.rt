@@ -103,7 +103,7 @@ impl<C: BootCell> Actor for PartyOf<C> {
     }
 }
 
-/// How an event came out at a site, three times.
+/// The outcome of an event at a site, for answer, history and receipt.
 fn of_site(copies: Copies<Came<Book>>) -> Copies<PartyOutcome>
     ensures answered { result.answered ≡ PartyOutcome.OfSite copies.answered }
     ensures recorded { result.recorded ≡ PartyOutcome.OfSite copies.recorded }
@@ -121,7 +121,7 @@ fn of_site(copies: Copies<Came<Book>>) -> Copies<PartyOutcome>
     }
 }
 
-/// How an event came out at a node, three times.
+/// The outcome of an event at a node, for answer, history and receipt.
 fn of_node(copies: Copies<Told<NodeFault>>) -> Copies<PartyOutcome>
     ensures answered { result.answered ≡ PartyOutcome.OfNode copies.answered }
     ensures recorded { result.recorded ≡ PartyOutcome.OfNode copies.recorded }
@@ -139,7 +139,7 @@ fn of_node(copies: Copies<Told<NodeFault>>) -> Copies<PartyOutcome>
     }
 }
 
-/// How an event came out at a client, three times.
+/// The outcome of an event at a client, for answer, history and receipt.
 fn of_client(copies: Copies<Told<ClientFault>>) -> Copies<PartyOutcome>
     ensures answered { result.answered ≡ PartyOutcome.OfClient copies.answered }
     ensures recorded { result.recorded ≡ PartyOutcome.OfClient copies.recorded }
@@ -157,7 +157,7 @@ fn of_client(copies: Copies<Told<ClientFault>>) -> Copies<PartyOutcome>
     }
 }
 
-/// A stray, three times.
+/// The outcome of a stray, for answer, history and receipt.
 fn stray_copies() -> Copies<PartyOutcome>
     ensures answered { result.answered ≡ PartyOutcome.Stray }
     ensures recorded { result.recorded ≡ PartyOutcome.Stray }

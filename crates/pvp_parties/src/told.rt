@@ -1,4 +1,4 @@
-//! Whether two events, or what came of two, are the same.
+//! Whether two events, or their outcomes, are the same.
 ghost use Rattle.std.specs.Prelude.{◌≡◌, ◌↔◌, IsTrue};
 
 use headline::{ClientEvent, ClientFault};
@@ -55,7 +55,7 @@ pub fn same_client_event(a: &ClientEvent, b: &ClientEvent) -> bool
     }
 }
 
-/// Whether two events came out the same at a site.
+/// Whether two outcomes at a site are the same.
 pub fn same_came(a: &Came<Book>, b: &Came<Book>) -> bool
     ensures { IsTrue result ↔ (a.now ≡ b.now) }
 {
@@ -80,7 +80,7 @@ pub fn same_came(a: &Came<Book>, b: &Came<Book>) -> bool
     }
 }
 
-/// Whether two events came out the same at a node.
+/// Whether two outcomes at a node are the same.
 pub fn same_node_told(a: &Told<NodeFault>, b: &Told<NodeFault>) -> bool
     ensures { IsTrue result ↔ (a.now ≡ b.now) }
 {
@@ -98,7 +98,7 @@ pub fn same_node_fault(a: NodeFault, b: NodeFault) -> bool
     a == b
 }
 
-/// Whether two events came out the same at a client.
+/// Whether two outcomes at a client are the same.
 pub fn same_client_told(a: &Told<ClientFault>, b: &Told<ClientFault>) -> bool
     ensures { IsTrue result ↔ (a.now ≡ b.now) }
 {

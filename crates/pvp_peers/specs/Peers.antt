@@ -70,7 +70,7 @@ pub record HasRead {E O : Type 0} (delivery : EnvelopeOf Cmd Reply PayOrder → 
   pub receipts : AreReceiptsOf delivery gained posted
   pub end : EndsSo why after left rest
 
--- and of so many frames as are told
+-- and of so many frames as are reported
 pub record IsServed {E O : Type 0} (delivery : EnvelopeOf Cmd Reply PayOrder → E) (before after : Option (List ℕ))
     (old new : Held E O) (end : PeerEnd) : Type 0 where
   pub stream : HasRead delivery before after old new end.why

@@ -33,7 +33,7 @@ refusal_passages actor = Enters actor ∷ Wanted actor ∷ []
 abbrev pub spent_passages : ℕ → List Passing
 spent_passages actor = Enters actor ∷ Spent actor ∷ []
 
--- how the last step was told by whose want of memory or of a clock posting ends
+-- what was reported of the last step, by whose lack of memory or of a clock posting ends
 abbrev pub LastOf : ℕ → StreamEnd → List Passing → Type 0
 LastOf actor Memory last = last ≡ refusal_passages actor
 LastOf actor Clock last = last ≡ spent_passages actor
@@ -46,8 +46,8 @@ abbrev pub LastPosted : ℕ → Option StreamEnd → List Passing → Type 0
 LastPosted actor None last = last ≡ []
 LastPosted actor (Some why) last = LastOf actor why last
 
--- A clock is told as spent only where the actor's step said so, and memory where it did, or where none was asked: then
--- it was refused to read.
+-- A clock is reported as spent only where the actor's step said so, and memory where it did, or where none was asked:
+-- then it was refused to read.
 abbrev pub LastRead : ℕ → StreamEnd → List Passing → Type 0
 LastRead actor Memory last = (last ≡ refusal_passages actor) ⊎ (last ≡ [])
 LastRead actor Clock last = last ≡ spent_passages actor

@@ -1,4 +1,4 @@
--- What was sent where an event came out so.
+-- What was sent where an event had this outcome.
 use Rattle.std.specs.Prelude.{List, [], Result, Ok, Err}
 use Rattle.pvp_types.specs.declared.command.Cmd.{Cmd}
 use Rattle.pvp_types.specs.declared.command.Reply.{Reply}

@@ -63,7 +63,8 @@ pub fn serve_peer<A: Served, R: Read, G: Gate, O: Outbox, T: Wait>(
     }
 }
 
-/// Reads a stream to its end and posts each frame. An empty piece is fed too, so that a fault that waits is told.
+/// Reads a stream to its end and posts each frame. An empty piece is fed too, so that a fault that
+/// waits is returned.
 fn read_all<A: Served, R: Read, G: Gate, O: Outbox, T: Wait>(
     rt: &T,
     alloc: Global,

@@ -62,7 +62,7 @@ Stops c (Heal actor) old new = ⊥
 Stops c (Chaos seed turns) old new = RageStops c seed turns old new
 Stops c (Rest milliseconds) old new = ⊥
 
--- WHAT IT PRINTS where books are told: what was refused, and by `print` the books
+-- WHAT IT PRINTS where books are asked for: what was refused, and by `print` the books
 
 abbrev pub refused_text : ℕ → Option WorldFault → List ℕ
 refused_text number None = []
@@ -91,7 +91,7 @@ Prints Steps line told old new =
     (told ≢ None) ⊎ (length (notes old.noted) < length (notes new.noted))
     ⊎ (passing_text line.statement told old.cursor new ≢ [])
 
--- A LINE IS PLAYED. Over cells whose saves do not fail it tells no failed save, and leaves them so.
+-- A LINE IS PLAYED. Over cells whose saves do not fail it reports no failed save, and leaves them so.
 pub record PlaysLine {B : Type 0} (c : Cell B) (telling : Telling) (line : Line) (old new : Position B) (text : List ℕ)
     : Type 0 where
   pub told : Option WorldFault
@@ -150,7 +150,7 @@ LinesEnd c telling first lines last (Err run.NoMemory) old new = AreStopped c te
 LinesEnd c telling first lines last (Err run.Output) old new = lines ≢ []
 LinesEnd c telling first lines last (Err (run.Line fault)) old new = ⊥
 
--- notes are made where steps are told, and there are none at first
+-- notes are made where steps are asked for, and there are none at first
 abbrev pub no_notes : Telling → Option (List Attempt)
 no_notes Books = None
 no_notes Steps = Some []

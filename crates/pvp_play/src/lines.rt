@@ -41,10 +41,11 @@ pub fn play<W: Write>(
 /// Plays a script in a new world of the setup, over new cells some of whose saves are to fail, and writes what its lines
 /// print. What is to fail of a site that the setup lacks never does, and of a site that is named twice the first counts.
 ///
-/// The script is read whole first, so that a faulty one writes nothing, and its first faulty line is
-/// told, or that memory was refused to keep a line before that. A line that is refused, or that refuses its step, prints
-/// so, and the play goes on; but where memory is refused it ends, and what was written is what the script's first lines
-/// print, and not all of it. How much was written where the writer fails is not said.
+/// The script is read whole first, so that a faulty one writes nothing, and its first faulty line
+/// is reported, or that memory was refused to keep a line before that. A line that is refused, or
+/// that refuses its step, prints so, and the play goes on; but where memory is refused it ends, and
+/// what was written is what the script's first lines print, and not all of it. How much was written
+/// where the writer fails is not said.
 pub fn play_failing<W: Write>(
     alloc: Global,
     setup: &Setup,
@@ -79,7 +80,7 @@ pub fn trace<W: Write>(
     play_telling(alloc, setup, fails, Telling::Steps, script, writer)
 }
 
-/// Plays a script in a new world of the setup, and writes what its lines tell.
+/// Plays a script in a new world of the setup, and writes what its lines print.
 fn play_telling<W: Write>(
     alloc: Global,
     setup: &Setup,
@@ -113,7 +114,7 @@ fn new_player(
     Ok(player_of(alloc, world, telling))
 }
 
-/// A player of a world, who makes the notes that are told.
+/// A player of a world, who makes the notes that are printed.
 fn player_of<C: BootCell>(alloc: Global, world: World<C>, telling: Telling) -> Player<C>
     ensures { result ≡ beginning (no_notes telling) world }
 {
@@ -163,7 +164,7 @@ fn play_line<C: BootCell>(
     }
 }
 
-/// What a line prints where books are told. `Err` where memory is refused.
+/// What a line prints where books are asked for. `Err` where memory is refused.
 fn books_told<C: BootCell>(
     alloc: Global,
     world: &World<C>,
@@ -179,8 +180,8 @@ fn books_told<C: BootCell>(
     Ok(text)
 }
 
-/// What a line prints where steps are told: its steps, and what it did to the cuts, and to the cursor that stood at `from`
-/// before it. `Err` where memory is refused.
+/// What a line prints where steps are asked for: its steps, and what it did to the cuts, and to the
+/// cursor that stood at `from` before it. `Err` where memory is refused.
 fn line_told<C: BootCell>(
     alloc: Global,
     player: &Player<C>,

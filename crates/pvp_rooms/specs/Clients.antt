@@ -13,12 +13,12 @@ abbrev pub after : ShownClient → ClientEvent → Result (List Envelope) Client
 after x event (Ok sent) = record x { client = (step_of x event).client }
 after x event (Err fault) = x
 
--- how an event can come out: as the client's step sends, or as it refuses; want of memory may always be
+-- how an event can come out: as the client's step sends, or as it refuses; lack of memory may always be
 abbrev pub Comes : ShownClient → ClientEvent → Result (List Envelope) ClientFault → Type 0
 Comes x event (Ok sent) = IsStep x (after x event (Ok sent)) (step_of x event) sent
 Comes x event (Err fault) = (fault ≡ NoMemory) ⊎ ((step_of x event).fault ≡ Some fault)
 
--- a refusal is the step's; want of memory is told only where the step takes memory
+-- a refusal is the step's; lack of memory is reported only where the step takes memory
 abbrev pub Tells : ShownClient → ShownClient → ClientEvent → Result (List Envelope) ClientFault → Type 0
 Tells old new event told = IfErr told (IsRefusal old new (step_of old event))
 

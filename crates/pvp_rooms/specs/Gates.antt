@@ -1,4 +1,4 @@
--- What a gate is told of the steps of actors.
+-- What a gate hears of the steps of actors.
 use Rattle.std.specs.Prelude.{ℕ, List, [], ◌∷◌, ◌++◌}
 use Rattle.pvp_rooms.specs.declared.message.Answer.{Answer}
 use Rattle.pvp_rooms.specs.declared.message.Answer.TheVariants.{Done, NoMemory, ClockSpent}

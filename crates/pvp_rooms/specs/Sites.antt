@@ -78,15 +78,15 @@ pub record IsHandled {H C R O : Type 0} (x : SiteState H C) (event : EventOf C R
   pub no_crash : event ≢ Crash
   pub handled : (step_in x event).ending ≡ Handled
 
--- A FALL HAS ITS CAUSE: a crash fells no site, nor does an event that is dropped; that the cell did not save is told
--- where a save failed, and only there
+-- A FALL HAS ITS CAUSE: a crash fells no site, nor does an event that is dropped; that the cell did not save is
+-- reported where a save failed, and only there
 pub record HasCause {H C R O S B : Type 0} (m : Ghosts H C R O S) (c : Cell B) (old new : ShownSite C S B)
     (event : EventOf C R O) (why : SiteFault) : Type 0 where
   pub handled : (x : SiteState H C) → Shows m c old x → IsHandled x event
   pub failed : why ≡ CellFault → HasRisen (c.faults old.cell) (c.faults new.cell)
   pub counted : why ≢ CellFault → c.faults new.cell ≡ c.faults old.cell
 
--- what is told of an event that came out so: a refusal changes nothing, and no save failed that is not told
+-- what is reported of an event with this outcome: a refusal changes nothing, and no save failed that is not reported
 abbrev pub Tells : {H C R O S B : Type 0} → Ghosts H C R O S → Cell B → ShownSite C S B → ShownSite C S B
     → EventOf C R O → CameOf C R O → Type 0
 Tells m c old new event (Did sent dropped) = c.faults new.cell ≡ c.faults old.cell

@@ -1,3 +1,4 @@
+//! What it is to be an actor.
 ghost use Rattle.std.specs.Prelude.{◌≡◌, IfOk, OnErr};
 ghost use Rattle.pvp_rooms.specs.Histories.{Takes};
 
@@ -32,8 +33,8 @@ pub trait Actor: Drop {
     /// Whether what the actor's reading calls show is of this state.
     ghost reads: { Self → Self.State → Type 0 };
 
-    /// Whether an event that came out so may leave an actor that was as the first as the second: a fall and a want of
-    /// memory have their cause.
+    /// Whether an event that came out so may leave an actor that was as the first as the second: a
+    /// fall and a lack of memory have their cause.
     ghost tells: { Self → Self → Self.Event → Self.Outcome → Type 0 };
 
     /// Whether the event brings something that a copy of it takes memory for.
@@ -55,7 +56,7 @@ pub trait Actor: Drop {
         ensures err { OnErr result (self.new ≡ self.old) }
         ensures told { IfOk result (λ copies. tells self.old self.new event copies.answered) };
 
-    /// The same event once more. `Err` where memory is refused, which is asked for what the event brings alone.
+    /// A copy of the event. `Err` where memory is refused, which only what the event brings takes.
     fn copy_event(alloc: Global, event: &Self::Event) -> Result<Self::Event, AllocError>
         ensures copy { IfOk result (λ copy. copy ≡ event.now) }
         ensures brings { OnErr result (brings event.now) };

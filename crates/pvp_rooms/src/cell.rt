@@ -1,3 +1,4 @@
+//! An actor behind its lock, and what it leaves when it is closed.
 ghost use Rattle.std.specs.Prelude.{◌≡◌, ◌≢◌, ◌≤◌, ◌⊎◌, length, IfOk, IfErr, IsPermutation, true, false};
 ghost use Rattle.std.specs.List.Sorted.{IsNonDecreasingBy};
 ghost use Rattle.pvp_rooms.specs.Seats.{AnswersStep};
@@ -15,8 +16,8 @@ use std::alloc::{AllocError, Global};
 use std::marker::Model;
 use std::sync::{Mutex, Wait};
 
-/// An actor behind a lock of its own, which it shares with no other. That the actor is the replay of its history is so
-/// whenever the lock is got.
+/// An actor behind a lock of its own, which it shares with no other. That the actor is the replay
+/// of its history is so whenever the lock is acquired.
 #[derive(Drop)]
 pub struct ActorCell<A: Actor> {
     number: u16,
@@ -86,8 +87,9 @@ impl<A: Actor> ActorCell<A> {
         self.number
     }
 
-    /// Posts an event from a seat: once the lock is got the gate is entered, the room steps, and the gate is left. The
-    /// seat gets a receipt of what was taken; after any other answer its receipts are as they were.
+    /// Posts an event from a seat: once the lock is acquired the gate is entered, the room steps,
+    /// and the gate is left. The seat gets a receipt of what was taken; after any other answer its
+    /// receipts are as they were.
     pub fn post<R: Wait, G: Gate>(
         &self,
         rt: &R,
@@ -108,7 +110,8 @@ impl<A: Actor> ActorCell<A> {
         answer
     }
 
-    /// Looks at the actor, once the lock is got: as a history of its own leaves it, and as it stays. It takes no memory.
+    /// Looks at the actor, once the lock is acquired: as a history of its own leaves it, and as it
+    /// stays. It takes no memory.
     pub fn look<R: Wait, S: Sight<A>>(&self, rt: &R, sight: &mut S)
         ensures { IsSeen A.Actor S.sees sight.new }
     {

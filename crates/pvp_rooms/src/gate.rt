@@ -1,4 +1,4 @@
-//! What is told of an actor's steps as they begin and end.
+//! What hears of an actor's steps as they begin and end.
 ghost use Rattle.std.specs.Prelude.{List, [], ◌∷◌};
 ghost use Rattle.pvp_rooms.specs.Gates.{Passing, Enters, Hears, left_with};
 
@@ -9,7 +9,7 @@ use crate::room::Room;
 /// What is called as a step begins and as it ends. The room is lent from under its lock, so no other step of that actor
 /// is under way. Each worker has a gate of its own.
 pub trait Gate {
-    /// Whether this may be all that it was told so far, in order.
+    /// Whether this may be all that it heard so far, in order.
     ghost heard: { Self → List Passing → Type 0 };
 
     /// The step of this actor begins.

@@ -18,7 +18,7 @@ pub struct Recorded<E, O> {
     pub outcome: O,
 }
 
-/// What is told of an event that was posted.
+/// What is reported of an event that was posted.
 #[derive(Drop)]
 pub enum Answer<O> {
     /// The actor took it at this clock, and it came out so.
@@ -29,7 +29,7 @@ pub enum Answer<O> {
     ClockSpent,
 }
 
-/// How an event came out, three times.
+/// The outcome of an event, for answer, history and receipt.
 #[derive(Drop)]
 pub struct Copies<O> {
     /// For the answer.

@@ -31,7 +31,7 @@ impl SentRoom {
         })
     }
 
-    /// What was sent, three times. It takes no memory.
+    /// Three copies of what was sent, for answer, history and receipt. It takes no memory.
     pub(crate) fn copies<F>(self, alloc: Global, sent: Vec<Envelope<Book>>) -> Copies<Told<F>>
         requires room { HasRoom (length sent.items) self }
         requires fixed { All (λ envelope. has_fixed_size envelope.msg ≡ true) sent.items }
@@ -49,7 +49,7 @@ impl SentRoom {
     }
 }
 
-/// A refusal, three times.
+/// A refusal, for answer, history and receipt.
 pub(crate) fn refusal_copies<F: Copy>(fault: F) -> Copies<Told<F>>
     ensures answered { result.answered ≡ Err fault }
     ensures recorded { result.recorded ≡ Err fault }
@@ -62,7 +62,7 @@ pub(crate) fn refusal_copies<F: Copy>(fault: F) -> Copies<Told<F>>
     }
 }
 
-/// The same envelopes once more, in room for them.
+/// A copy of the envelopes, in room for them.
 fn copy_in_room(alloc: Global, sent: &[Envelope<Book>], room: Vec<Envelope<Book>>) -> Sent<Book>
     requires empty { room.items ≡ [] }
     requires room { length sent.now ≤ vec_capacity room }

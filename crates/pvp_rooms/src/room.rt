@@ -1,3 +1,4 @@
+//! An actor with its clock and its history.
 ghost use Rattle.std.specs.Prelude.{◌≡◌, ◌++◌, ◌∷◌, [], IfOk};
 ghost use Rattle.pvp_rooms.specs.Rooms.{Told, clock_after, receipts_after};
 ghost use Rattle.pvp_rooms.specs.Closing.{IsSeen};

@@ -1,3 +1,4 @@
+//! Seats, from which events are posted, with their receipts.
 ghost use Rattle.std.specs.Prelude.{◌≡◌, []};
 
 use crate::message::Recorded;

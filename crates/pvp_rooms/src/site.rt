@@ -25,7 +25,7 @@ pub enum CameOf<C, R, O> {
     },
     /// The site refused the event, and is unchanged.
     Refused(SiteFault),
-    /// The site fell, for want of memory or as a save failed; its cell then held this.
+    /// The site fell, for lack of memory or as a save failed; its cell then held this.
     Fell {
         why: SiteFault,
         cell: Boot,
@@ -119,7 +119,8 @@ impl<M: Machine, C: BootCell> ActorCell<Replica<M, C>> {
     }
 }
 
-/// What a step led to, three times. `Err` where memory is refused, which is asked for where something was sent alone.
+/// The outcome of a step, for answer, history and receipt. `Err` where memory is refused, which
+/// only a step that sent something takes.
 fn outcome_copies<M: Machine>(alloc: Global, out: Outcome<M>) -> Result<Copies<Came<M>>, AllocError>
     ensures answered { IfOk result (λ copies. copies.answered
         ≡ CameOf.Did out.sent.items out.dropped) }
@@ -144,7 +145,7 @@ fn outcome_copies<M: Machine>(alloc: Global, out: Outcome<M>) -> Result<Copies<C
     })
 }
 
-/// What was sent once more. `Err` where memory is refused, which none is where nothing was sent.
+/// A copy of what was sent. `Err` where memory is refused; none is taken where nothing was sent.
 fn copy_of<M: Machine>(alloc: Global, sent: &Sent<M>) -> Result<Sent<M>, AllocError>
     ensures copy { IfOk result (λ copy. copy ≡ sent.now) }
     ensures nothing { sent.now ≡ [] → IsOk result }
@@ -155,7 +156,7 @@ fn copy_of<M: Machine>(alloc: Global, sent: &Sent<M>) -> Result<Sent<M>, AllocEr
     sent.copy(alloc)
 }
 
-/// A refusal, three times.
+/// A refusal, for answer, history and receipt.
 fn refusal_copies<M: Machine>(why: SiteFault) -> Copies<Came<M>>
     ensures answered { result.answered ≡ CameOf.Refused why }
     ensures recorded { result.recorded ≡ result.answered }
@@ -168,7 +169,7 @@ fn refusal_copies<M: Machine>(why: SiteFault) -> Copies<Came<M>>
     }
 }
 
-/// A fall, three times.
+/// A fall, for answer, history and receipt.
 fn fall_copies<M: Machine>(why: SiteFault, cell: Boot) -> Copies<Came<M>>
     ensures answered { result.answered ≡ CameOf.Fell why cell }
     ensures recorded { result.recorded ≡ result.answered }

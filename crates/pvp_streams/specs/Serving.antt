@@ -13,8 +13,8 @@ use Rattle.pvp_peers.specs.Peers.{IsServed}
 use Rattle.pvp_peers.specs.Puts.{Put, HasPassed}
 use Rattle.pvp_streams.specs.declared.peer.Peer.{Peer}
 
--- WHAT BECAME OF A PEER: its actor is the same, its stream was served to the end that is told, and its seat has gained
--- receipts of the first frames of the bytes that were read
+-- WHAT BECAME OF A PEER: its actor is the same, its stream was served to the end that is reported, and its seat has
+-- gained receipts of the first frames of the bytes that were read
 pub record IsPeerServed {A R N E O G : Type 0} (delivery : EnvelopeOf Cmd Reply PayOrder → E)
     (remaining : R → Option (List ℕ)) (old new : Peer A R G N E O) : Type 0 where
   pub cell : new.cell ≡ old.cell

@@ -1,4 +1,4 @@
-//! What a writer is told.
+//! What a writer receives.
 ghost use Rattle.std.specs.Prelude.{◌≡◌, true, IfSome};
 ghost use Rattle.pvp_wire.specs.Spelling.{is_wireable};
 

@@ -13,7 +13,7 @@ pub struct Peer<'a, A: Actor, R, G> {
     pub cell: &'a ActorCell<A>,
     pub seat: Seat<A::Event, A::Outcome>,
     pub reader: R,
-    /// What is told of the steps for its frames.
+    /// What hears of the steps for its frames.
     pub gate: G,
     /// How the stream ended, once it has been served.
     pub end: Option<PeerEnd>,

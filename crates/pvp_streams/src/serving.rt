@@ -13,10 +13,11 @@ use std::io::{Read, Write};
 use std::sync::Wait;
 use std::thread::{self, Threads};
 
-/// Serves a whole system of actors: a worker for each incoming stream, one that writes for each actor, and the driver, who
-/// runs on the calling thread. When the driver has returned the writers are told to stop; they write what they were given
-/// before, and close their streams. It returns when all have ended. A worker for which no thread can be made runs later,
-/// on the thread that was to start it; a writer then comes before any reader, and the driver before them all.
+/// Serves a whole system of actors: a worker for each incoming stream, one that writes for each
+/// actor, and the driver, who runs on the calling thread. When the driver has returned the writers
+/// are stopped; they write what they were given before, and close their streams. It returns when
+/// all have ended. A worker for which no thread can be made runs later, on the thread that was to
+/// start it; a writer then comes before any reader, and the driver before them all.
 pub fn serve_streams<A, R, W, G, P, T>(
     rt: &T,
     alloc: Global,
@@ -79,7 +80,7 @@ fn each<X: Send, F: Fn(usize, &mut X) + Sync, T: Threads + Sync>(rt: &T, f: &F, 
     thread::for_each_mut(rt, items, threads, f);
 }
 
-/// Runs the driver beside the writers, and then tells these to stop.
+/// Runs the driver beside the writers, and then stops these.
 fn write_all<W, P, T>(rt: &T, out: &Writers, driver: &mut P, writers: &mut [Writer<W>])
 where
     W: Write + Send + Drop,
@@ -104,7 +105,7 @@ where
     thread::for_each_mut(rt, writers, threads, &|_, writer| writer.run(rt, out));
 }
 
-/// Runs the driver, and then tells the writers to stop.
+/// Runs the driver, and then stops the writers.
 fn drive<P: Driver, T: Wait>(rt: &T, out: &Writers, driver: &mut P)
     ensures { HasDriven P.drives driver.old driver.new }
 {

@@ -68,7 +68,7 @@ impl From<io::Error> for NetFault {
     }
 }
 
-/// A refusal of memory is told as that.
+/// A refusal of memory is reported as that.
 impl<T: Drop> From<AllocFailed<T>> for NetFault {
     ghost use Rattle.std.specs.Prelude.{◌≡◌};
     ghost use Rattle.pvp_streams.specs.declared.sockets.NetFault.TheVariants.{NoMemory};

@@ -57,7 +57,7 @@ impl Writers {
 }
 
 impl<W: Write + Drop> Writer<W> {
-    /// Writes until it is told to stop, and then closes its streams by letting them go.
+    /// Writes until it is stopped, and then closes its streams by dropping them.
     pub(crate) fn run<T: Wait>(&mut self, rt: &T, out: &Writers)
         ensures { self.new.streams.items ≡ [] }
     {
@@ -65,8 +65,8 @@ impl<W: Write + Drop> Writer<W> {
         self.streams.clear();
     }
 
-    /// Writes until it is told to stop. A stream to which a write failed is closed at once, since it may have taken part of
-    /// a frame; what is for it from then on is lost.
+    /// Writes until it is stopped. A stream to which a write failed is closed at once, since it may
+    /// have taken part of a frame; what is for it from then on is lost.
     fn write_on<T: Wait>(&mut self, rt: &T, out: &Writers)
         ensures { HasWritten (λ w. W.contents w) self.old.streams.items self.new.streams.items }
     {

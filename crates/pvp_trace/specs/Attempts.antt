@@ -1,4 +1,4 @@
--- Steps that were tried, in words: what each was, what came of it, what it changed of its site, and what it sent.
+-- Steps that were tried, in words: what each was, its outcome, what it changed of its site, and what it sent.
 use Rattle.std.specs.Prelude.{◌≡◌, ℕ, ◌-◌, ◌+◌, ◌==◌, List, [], ◌++◌, length, slice_get, if◌then◌else◌, Option, Some, None, option_and_then, Result, Ok, Err, codes, decimal}
 use Rattle.std.specs.List.{flat_map, range_with_len}
 use Rattle.std.specs.Option.{option_map_or}

@@ -1,4 +1,4 @@
--- Where a site stands, and in words what a step changed of that.
+-- A site's status, and in words what a step changed of it.
 use Rattle.std.specs.Prelude.{ℕ, ◌+◌, ◌==◌, ◌&&◌, Bool, nat_lt, if◌then◌else◌, List, [], ◌++◌, slice_get, Option, Some, None, option_map, option_and_then, codes, decimal}
 use Rattle.pvp_types.specs.declared.setup.Setup.{Setup}
 use Rattle.pvp_types.specs.declared.command.Cmd.{Cmd}

@@ -33,7 +33,7 @@ pub struct Attempt {
     pub after: usize,
 }
 
-/// Tries a step in a world, as `World::apply` does, and tells what came of it.
+/// Tries a step in a world, as `World::apply` does, and returns the outcome.
 pub fn try_step<C: BootCell>(alloc: Global, world: &mut World<C>, step: Step) -> Attempt
     ensures attempts { Attempts C.held world.old world.new step result }
     ensures tells { TellsFailures C.BootCell world.old world.new step result.result }
