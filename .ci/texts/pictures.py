@@ -45,7 +45,7 @@ class Pictures(Runs):
         picture = self.printed(PICTURE, script=SCRIPT)
         for kind in ["REQUEST", "PREPARE"]:
             self.assertEqual(len(re.findall(rf'class="kind"[^>]*>{kind}</text>', picture)), 1)
-        script = "payin ALFA USD 500\ndrain 99\ndo ALFA payout USD 5\ndrain 99\n"
+        script = "payin ALFA USD 500\ndrain 99\ndo ALFA payout USD 5\ndrain 99\nbeat s0\n"
         self.assertRegex(self.printed(PICTURE, script=script), r'class="kind"[^>]*>PAYORDER USD 1 ALFA 5</text>')
 
     def test_rows_are_told_with_what_they_came_to(self):

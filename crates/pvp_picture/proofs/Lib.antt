@@ -1,2 +1,3 @@
+pub mod ExecutedLemmas
 pub mod ReplayLemmas
 pub mod SceneLemmas

@@ -1,4 +1,4 @@
--- Where the sites of a world stand, and where they stood along a run.
+-- Where the sites of a world stand, and where they stood along a run; and what rows came to.
 use Rattle.std.specs.Prelude.{◌≡◌, ℕ, ◌+◌, ◌*◌, ◌==◌, ◌&&◌, true, List, [], ◌∷◌, Option, option_map, slice_get}
 use Rattle.std.specs.List.{filter_map, range_with_len}
 use Rattle.pvp_types.specs.declared.command.Cmd.{Cmd}
@@ -13,6 +13,10 @@ use Rattle.pvp_world.specs.World.{ShownWorld}
 use Rattle.pvp_trace.specs.declared.attempt.Attempt.{Attempt}
 use Rattle.pvp_trace.specs.contracts.attempt.AttemptPartialEq.TheImpl.{ghosts as equal}
 use Rattle.pvp_trace.specs.Attempts.{Attempts}
+use Rattle.pvp_book.specs.Ledger.{Ledger}
+use Rattle.pvp_book.specs.Answer.{answer_to, after}
+use Rattle.pvp_picture.specs.declared.executed.Executed.{Executed}
+use Rattle.pvp_picture.specs.declared.executed.Executions.{Executions}
 use Rattle.pvp_picture.specs.declared.scene.Snapshot.{Snapshot}
 
 -- where a site stands: it leads where it is normal, in a view of which it is the primary
@@ -55,3 +59,16 @@ StandUpTo first attempts last all =
 -- WHERE SITES STAND along a run of attempts from this world on
 abbrev pub StandAlong : ShownWorld MemCell → List Attempt → List (List Snapshot) → Type 0
 StandAlong first attempts all = (last : ShownWorld MemCell) × StandUpTo first attempts last all
+
+-- ROWS ARE ANSWERED one after another, each as a book answers it that went through those before it; and the book after
+-- them
+abbrev pub AreAnswered : Ledger → List Executed → Ledger → Type 0
+AreAnswered first [] last = last ≡ first
+AreAnswered first (executed ∷ others) last =
+    (executed.reply ≡ answer_to first executed.row.client executed.row.cmd)
+    × AreAnswered (after first executed.row.client executed.row.cmd) others last
+
+-- so are those that are there later, where those that were there before are
+abbrev pub StayAnswered : Executions → Executions → Type 0
+StayAnswered old new =
+    (first : Ledger) → AreAnswered first old.rows.items old.book → AreAnswered first new.rows.items new.book

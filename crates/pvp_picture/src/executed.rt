@@ -1,6 +1,9 @@
 //! The rows that were executed along a run, and what each came to.
 
+ghost use Rattle.std.specs.Prelude.{◌≡◌, [], IfOk, OnOk};
 ghost use Rattle.pvp_types.specs.Setup.{IsValid};
+ghost use Rattle.pvp_book.specs.Ledger.{opening};
+ghost use Rattle.pvp_picture.specs.Replay.{StayAnswered};
 
 use pvp_book::Book;
 use pvp_types::{Cmd, Reply, Setup};
@@ -30,6 +33,8 @@ impl Executions {
     /// None yet, of a bank of this setup. `Err` where memory is refused.
     pub fn new(alloc: Global, setup: &Setup) -> Result<Self, AllocError>
         requires { IsValid setup.now }
+        ensures rows { IfOk result (λ executions. executions.rows.items ≡ []) }
+        ensures book { IfOk result (λ executions. executions.book ≡ opening setup.now) }
     {
         Ok(Executions {
             book: Book::fresh(alloc, setup)?,
@@ -39,7 +44,9 @@ impl Executions {
     }
 
     /// Notes what the sites of a world have executed after one more step. `Err` where memory is refused.
-    pub fn note(&mut self, world: &World<MemCell>) -> Result<(), AllocError> {
+    pub fn note(&mut self, world: &World<MemCell>) -> Result<(), AllocError>
+        ensures { OnOk result (StayAnswered self.old self.new) }
+    {
         for number in 0..2 * world.setup().faults() + 1 {
             if let Some(site) = world.site(number) {
                 self.note_site(site)?;
@@ -50,7 +57,9 @@ impl Executions {
     }
 
     /// Notes the rows that a site has executed and none did before.
-    fn note_site(&mut self, site: &Replica<Book, MemCell>) -> Result<(), AllocError> {
+    fn note_site(&mut self, site: &Replica<Book, MemCell>) -> Result<(), AllocError>
+        ensures { OnOk result (StayAnswered self.old self.new) }
+    {
         for place in self.rows.len()..site.done() {
             if let Some(row) = site.row(place + 1) {
                 self.execute(row)?;
@@ -60,7 +69,9 @@ impl Executions {
     }
 
     /// Executes one more row.
-    fn execute(&mut self, row: RowOf<Cmd>) -> Result<(), AllocError> {
+    fn execute(&mut self, row: RowOf<Cmd>) -> Result<(), AllocError>
+        ensures { OnOk result (StayAnswered self.old self.new) }
+    {
         if self.book.applied() as usize >= MAX_ROWS {
             return Ok(());
         }
